@@ -24,19 +24,35 @@ def file_of(crate, module):
     return ROOT / "crates" / crate / "specs" / (module + ".antt")
 
 
+def listed(text, above=""):
+    """The names of an import, each with its path: `a.{b, c.{d, e as f}}` lists a.b, a.c.d and a.c.e as f."""
+    head, brace, inside = text.partition("{")
+    if not brace:
+        return [above + text]
+    parts, depth = [""], 0
+    for letter in inside[: inside.rindex("}")]:
+        depth += {"{": 1, "}": -1}.get(letter, 0)
+        if letter == "," and not depth:
+            parts.append("")
+        else:
+            parts[-1] += letter
+    return [it for part in parts for it in listed(part.strip(), above + head)]
+
+
 @functools.lru_cache(maxsize=None)
 def imports(path):
     """What the names of a file of definitions mean: crate, module and name; and the modules that it names anew."""
     names, modules = {}, {}
-    shape = r"^(?:pub )?use Rattle\.(bq_\w+)\.specs\.([\w.]+?)(?:\.\{([^}]*)\}| as (\w+))$"
-    for crate, module, wanted, alias in re.findall(shape, path.read_text(), re.M):
-        variants = module.endswith(".TheVariants")
-        module = module.replace(".TheVariants", "").replace(".", "/")
-        if alias:
-            modules[alias] = (crate, module, variants)
-        for it in filter(None, re.split(r",\s*", wanted)):
+    for crate, wanted in re.findall(r"^(?:pub )?use Rattle\.(bq_\w+)\.specs\.(.+)$", path.read_text(), re.M):
+        for it in listed(wanted):
             given, _, own = it.partition(" as ")
-            names[own or given] = (crate, module, module.rsplit("/", 1)[-1] if variants else given)
+            if own and "{" not in wanted:
+                modules[own] = (crate, given.replace(".TheVariants", "").replace(".", "/"), given.endswith(".TheVariants"))
+                continue
+            module, _, name = given.rpartition(".")
+            variants = module.endswith(".TheVariants")
+            module = module.replace(".TheVariants", "").replace(".", "/")
+            names[own or name] = (crate, module, module.rsplit("/", 1)[-1] if variants else name)
     return names, modules
 
 

@@ -1,22 +1,17 @@
 -- What a command leaves: all that every part of a step keeps, and at most one client more that waits or
 -- is answered.
 use Rattle.std.proofs.Common.{◌⊎◌, ℕ, zero, suc, ◌≡◌, ◌≤◌, ◌+◌, Bool, true, not, cond, List, [], ◌∷◌, map, arith, refl, ap, ◌∙◌, inl, inr, Option, Some, None}
-use Rattle.std.specs.Prelude.{count_by, ◌==◌}
-use Rattle.std.specs.List.{AllByRecursion as All, Contains}
-use Rattle.std.proofs.lemmas.Bool.{cases_Bool, and_from, or_right, cond_both, eqb-true}
-use Rattle.std.proofs.lemmas.Grind.{common_steps}
-use Rattle.bq_job.specs.Types.{Answer, Job, Request, Step}
-use Rattle.bq_job.specs.declared.answer.Answer.TheVariants as answers
+use Rattle.std.proofs.lemmas.{Bool.{and_from, cases_Bool, cond_both, eqb-true, or_right}, Grind.common_steps}
+use Rattle.std.specs.{List.{AllByRecursion as All, Contains}, Prelude.{◌==◌, count_by}}
 use Rattle.bq_job.specs.machine.{Effect, Machine.Machine, SeatRecord, after_close, after_connect, after_delete, after_put, effect}
-use Rattle.bq_job.specs.machine.{empty_seat, is_held_by, is_waiting, new_job, numbers, raised, reserve_effect, silent}
-use Rattle.bq_job.specs.machine.{state_once_left, telling, waiting_from, with_end, with_pause, with_seat, with_tube}
-use Rattle.bq_job.specs.beside.{waiting_count}
+use Rattle.bq_job.specs.{beside.waiting_count, machine.{empty_seat, is_held_by, is_waiting, new_job, numbers, raised}}
+use Rattle.bq_job.specs.machine.{reserve_effect, silent, state_once_left, telling, waiting_from, with_end, with_pause}
+use Rattle.bq_job.specs.{machine.{with_seat, with_tube}, Types.{Answer, Job, Request, Step}}
+use Rattle.bq_job.specs.declared.answer.Answer.TheVariants as answers
 use Rattle.bq_job.proofs.KeptLemmas.{IsMild, Keeps, has_holder, kept_of_close, kept_of_drain, kept_of_filter, kept_of_jobs, kept_of_push, kept_of_seat, numbers_above, only_seat}
-use Rattle.bq_job.proofs.ListLemmas.{all_always, all_weaker, count_cons, count_of_map, list_any_with}
-use Rattle.bq_job.proofs.BecomeLemmas.{free_by_delay}
-use Rattle.bq_job.proofs.CommandKinds.{kind_of}
-use Rattle.bq_job.proofs.EachEvent.{IsSeat, each_event}
 use Rattle.bq_job.proofs.EffectKinds.{IsFreeOrOwn, Kind, adds, changes_jobs, changes_seat, changes_tube, deletes, passes, tells, waits}
+use Rattle.bq_job.proofs.{BecomeLemmas.free_by_delay, CommandKinds.kind_of, EachEvent.{IsSeat, each_event}}
+use Rattle.bq_job.proofs.ListLemmas.{all_always, all_weaker, count_cons, count_of_map, list_any_with}
 
 abbrev pub answer_count : Option Answer → ℕ
 answer_count None = 0

@@ -1,18 +1,13 @@
 -- The command's own effect, as a move: what each request and each other event does to jobs.
-use Rattle.std.proofs.Common.{ℕ, ◌≡◌, true, arith, refl, sym, ap, ◌∙◌, subst, inr}
-use Rattle.std.proofs.lemmas.Bool.{cond_both, eq-eqb}
-use Rattle.bq_job.specs.Types.{Request, Step}
-use Rattle.bq_job.specs.declared.step.Step.TheVariants as steps
+use Rattle.std.proofs.{Common.{◌∙◌, ◌≡◌, ℕ, ap, arith, inr, refl, subst, sym, true}, lemmas.Bool.{cond_both, eq-eqb}}
 use Rattle.bq_job.specs.machine.{Effect, Machine.Machine, Memory, SeatRecord, acted, after_close, delayed_by, given_back, in_state}
-use Rattle.bq_job.specs.machine.{is_held_by, is_ready_state, new_job, state_once_left}
-use Rattle.bq_job.specs.beside.{AreIdsWithin}
-use Rattle.bq_job.specs.laws.{removed}
-use Rattle.bq_job.proofs.ChangeLemmas.{Becomes, JobsAfter, becomes_itself, changed, removed_one, added, unchanged}
-use Rattle.bq_job.proofs.LookupLemmas.{found_job}
-use Rattle.bq_job.proofs.BecomeLemmas.{free_by_delay, held_not_ready, itself_told, told_if_given_up}
-use Rattle.bq_job.proofs.CommandKinds.{kind_of}
-use Rattle.bq_job.proofs.EachEvent.{each_acted}
+use Rattle.bq_job.specs.{beside.AreIdsWithin, laws.removed, machine.{is_held_by, is_ready_state, new_job}}
+use Rattle.bq_job.specs.{machine.state_once_left, Types.{Request, Step}}
+use Rattle.bq_job.specs.declared.step.Step.TheVariants as steps
 use Rattle.bq_job.proofs.EffectKinds.{Kind, adds, changes_jobs, changes_seat, changes_tube, deletes, passes, tells, waits}
+use Rattle.bq_job.proofs.BecomeLemmas.{free_by_delay, held_not_ready, itself_told, told_if_given_up}
+use Rattle.bq_job.proofs.ChangeLemmas.{Becomes, JobsAfter, added, becomes_itself, changed, removed_one, unchanged}
+use Rattle.bq_job.proofs.{CommandKinds.kind_of, EachEvent.each_acted, LookupLemmas.found_job}
 
 -- the ids of a machine's jobs
 abbrev pub Ids : Machine → Type 0

@@ -1,28 +1,20 @@
 -- Where in a step's answers each RESERVED, INSERTED and DELETED stands, and what is so then.
 use Rattle.std.proofs.Common.{ℕ, ◌≡◌, Bool, true, false, not, List, [], ◌∷◌, ◌++◌, arith, refl, sym, ap, ◌∙◌, subst, inl, inr, ◌⊎◌, Option, Some, None, append-nil}
-use Rattle.std.specs.Prelude.{IsTrue, filter, flat_map, ◌==◌}
-use Rattle.std.specs.List.{AllByRecursion as All, Contains}
-use Rattle.std.proofs.lemmas.Bool.{or_from, both_ways, cond_both, cases_Bool}
-use Rattle.std.proofs.lemmas.Bool.Decides.{nat_tests}
-use Rattle.std.proofs.lemmas.List.Elements.{Contains-append_cases}
-use Rattle.std.proofs.lemmas.List.Folds.{list_any-append}
-use Rattle.std.proofs.lemmas.Grind.{common_steps}
+use Rattle.std.proofs.lemmas.{Bool.{both_ways, cases_Bool, cond_both, or_from, Decides.nat_tests}, Grind.common_steps}
+use Rattle.std.proofs.lemmas.List.{Elements.Contains-append_cases, Folds.list_any-append}
+use Rattle.std.specs.{List.{AllByRecursion as All, Contains}, Prelude.{◌==◌, IsTrue, filter, flat_map}}
+use Rattle.bq_job.specs.machine.{Chain, DispatchTurn, Dispatches, Effect, GivenAnswer, IsHandOut, IsStep, Machine.Machine, Memory, Outcome}
+use Rattle.bq_job.specs.machine.{SeatRecord, Serves, WaitEndTurn, acted, addressed, after_timers, at_moment, end_of_wait, forgetting}
+use Rattle.bq_job.specs.machine.{granted, growth_refused, is_deadline_soon, is_held_by, is_possible, is_reserved, job_with, last_id}
+use Rattle.bq_job.specs.laws.{GivesLeast, IsDeletion, IsDispatchedLeast, IsReservedById, has_inserted, is_inserted}
+use Rattle.bq_job.specs.{machine.share_refused, promise.{GoesBy, IsTransition, Parts, Transition, parts_of}}
 use Rattle.bq_job.specs.Types.{Answer, Job, Step}
 use Rattle.bq_job.specs.declared.answer.Answer.TheVariants as answers
 use Rattle.bq_job.specs.declared.request.Request.TheVariants as requests
 use Rattle.bq_job.specs.declared.step.Step.TheVariants as steps
-use Rattle.bq_job.specs.machine.{Chain, DispatchTurn, Dispatches, Effect, GivenAnswer, IsHandOut, IsStep, Machine.Machine, Memory, Outcome}
-use Rattle.bq_job.specs.machine.{SeatRecord, Serves, WaitEndTurn, acted, addressed, after_timers, at_moment, end_of_wait, forgetting}
-use Rattle.bq_job.specs.machine.{granted, growth_refused, is_deadline_soon, is_held_by, is_possible, is_reserved, job_with, last_id}
-use Rattle.bq_job.specs.machine.{share_refused}
-use Rattle.bq_job.specs.laws.{GivesLeast, IsDeletion, IsDispatchedLeast, IsReservedById, has_inserted, is_inserted}
-use Rattle.bq_job.specs.promise.{GoesBy, IsTransition, Parts, Transition, parts_of}
-use Rattle.bq_job.proofs.DispatchLemmas.{reserved_is_least, turn_of}
-use Rattle.bq_job.proofs.LawfulLemmas.{end_of}
-use Rattle.bq_job.proofs.ListLemmas.{all_always, all_at, all_of_filter}
-use Rattle.bq_job.proofs.LookupLemmas.{found_job}
-use Rattle.bq_job.proofs.OwnAnswerLemmas.{Tells, drains_acted, tells_acted}
-use Rattle.bq_job.proofs.EffectKinds.{is_common}
+use Rattle.bq_job.proofs.{DispatchLemmas.{reserved_is_least, turn_of}, EffectKinds.is_common, LawfulLemmas.end_of}
+use Rattle.bq_job.proofs.{ListLemmas.{all_always, all_at, all_of_filter}, LookupLemmas.found_job, OwnAnswerLemmas.Tells}
+use Rattle.bq_job.proofs.OwnAnswerLemmas.{drains_acted, tells_acted}
 
 -- an element of two lists that are joined: in the first, or in the second
 pub record InFirst {X : Type 0} (xs ys early : List X) (x : X) (more : List X) : Type 0 where

@@ -1,20 +1,15 @@
 -- What becomes of a job that a command changes: who held it, and what is told of it.
 use Rattle.std.proofs.Common.{ℕ, zero, suc, ◌≡◌, Bool, true, false, ◌||◌, cond, List, [], ◌∷◌, sym, ap, ◌∙◌, refl, subst, inl, inr, Some, arith}
-use Rattle.std.specs.Prelude.{filter, take, ◌==◌}
-use Rattle.std.specs.List.{AllByRecursion as All, Contains, list_any}
 use Rattle.std.proofs.lemmas.Bool.{and_parts, or_cases, or_left, or_right, cond_both, eqb-true, eq-eqb, cases_Bool}
 use Rattle.std.proofs.lemmas.Grind.{common_steps}
-use Rattle.bq_job.specs.Types.{Job, JobState, Step}
-use Rattle.bq_job.specs.declared.job.JobState.TheVariants as states
+use Rattle.std.specs.{List.{AllByRecursion as All, Contains, list_any}, Prelude.{◌==◌, filter, take}}
 use Rattle.bq_job.specs.machine.{delayed_by, in_order, is_buried, is_buried_before, is_buried_in, is_delayed, is_delayed_in, is_due_before}
 use Rattle.bq_job.specs.machine.{is_held_by, is_ready, is_ready_state, is_reserved, job_with, kickable, kicked_first, later}
-use Rattle.bq_job.specs.machine.{put_in_order}
-use Rattle.bq_job.specs.beside.{AreIdsWithin}
-use Rattle.bq_job.specs.laws.{Happening, change, disturbs, given_up, named, taken_up}
-use Rattle.bq_job.specs.reading.TubeName.{is_same_name}
-use Rattle.bq_job.proofs.ChangeLemmas.{Becomes, becomes_itself}
-use Rattle.bq_job.proofs.ListLemmas.{all_from_members, all_of_filter, all_weaker}
-use Rattle.bq_job.proofs.LookupLemmas.{job_found}
+use Rattle.bq_job.specs.{beside.AreIdsWithin, laws.{Happening, change, disturbs, given_up, named, taken_up}}
+use Rattle.bq_job.specs.{machine.put_in_order, reading.TubeName.is_same_name, Types.{Job, JobState, Step}}
+use Rattle.bq_job.specs.declared.job.JobState.TheVariants as states
+use Rattle.bq_job.proofs.{ChangeLemmas.{Becomes, becomes_itself}, ListLemmas.{all_from_members, all_of_filter}}
+use Rattle.bq_job.proofs.{ListLemmas.all_weaker, LookupLemmas.job_found}
 
 -- a job that is ready or delayed is held by nobody
 pub free_by_delay : (delay moment : ℕ) → is_reserved (delayed_by delay moment) ≡ false

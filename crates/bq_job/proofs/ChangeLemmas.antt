@@ -1,18 +1,15 @@
 -- What a command does to the list of jobs, and the happenings that are told of it.
 use Rattle.std.proofs.Common.{ℕ, suc, ◌≡◌, Bool, true, false, not, cond, List, [], ◌∷◌, ◌++◌, map, arith, refl, sym, ap, ◌∙◌, subst, inl, inr, ◌⊎◌, Option, Some, None, rules}
+use Rattle.std.proofs.lemmas.Bool.{or_left, or_right, or_cases, both_ways, cond_both, eqb-true, eq-eqb, false_from_ne_true, cases_Bool}
+use Rattle.std.proofs.lemmas.{Grind.common_steps, List.Folds.list_any-append}
 use Rattle.std.specs.Prelude.{filter, flat_map, is_none, option_map, ◌==◌}
 use Rattle.std.specs.List.{AllByRecursion as All, Contains, list_any}
-use Rattle.std.proofs.lemmas.Bool.{or_left, or_right, or_cases, both_ways, cond_both, eqb-true, eq-eqb, false_from_ne_true, cases_Bool}
-use Rattle.bq_job.specs.Types.{Job, JobState, Step}
-use Rattle.bq_job.specs.machine.{Machine.Machine, is_full, is_ready, is_reserved, job_with}
-use Rattle.bq_job.specs.laws.{Happening, change, change_or_removal, changes, deleted, disturbs, given_up, named, put}
-use Rattle.bq_job.specs.laws.{removed, taken_up}
-use Rattle.bq_job.specs.beside.{AreIdsWithin}
+use Rattle.bq_job.specs.{beside.AreIdsWithin, laws.{Happening, change, change_or_removal, changes, deleted, disturbs}}
+use Rattle.bq_job.specs.{laws.{given_up, named, put, removed, taken_up}, machine.{is_full, is_ready, is_reserved}}
+use Rattle.bq_job.specs.{machine.{job_with, Machine.Machine}, Types.{Job, JobState, Step}}
 use Rattle.bq_job.proofs.JobMoves.{Fate, GoesOnAs, Move, quiet, putting, is_plain}
 use Rattle.bq_job.proofs.ListLemmas.{all_from_members, all_of_append, all_of_filter, all_of_map, all_weaker, list_any_with}
 use Rattle.bq_job.proofs.LookupLemmas.{found_job, job_found, job_in_map, job_in_more, job_in_rest}
-use Rattle.std.proofs.lemmas.List.Folds.{list_any-append}
-use Rattle.std.proofs.lemmas.Grind.{common_steps}
 
 -- By the command a job becomes this one: of the same id, tube and body. If it was ready, it is ready as
 -- before, and if it was held, it is held, or else what happened to it is told.

@@ -1,13 +1,8 @@
 -- The first of those that pass a test: it is one of the list, it passes, and none that passes comes before it.
 use Rattle.std.proofs.Common.{ℕ, ◌≡◌, Bool, true, false, ◌&&◌, ◌||◌, List, [], ◌∷◌, Option, Some, None, arith, refl, sym, ap, ◌∙◌, subst, inl, inr, ◌⊎◌}
-use Rattle.std.specs.Prelude.{is_some, IfSome, fold}
-use Rattle.std.specs.Cmp.{IsStrictWeakOrder}
-use Rattle.std.specs.List.{AllByRecursion, Contains, list_any}
-use Rattle.std.proofs.lemmas.Bool.{cases_Bool, and_parts, and_cases, both_ways}
-use Rattle.std.proofs.lemmas.Bool.Decides.{nat_tests}
-use Rattle.std.proofs.lemmas.List.Elements.{All-from_recursion, All-contains}
-use Rattle.std.proofs.lemmas.List.Folds.{list_any-from_Any}
-use Rattle.std.proofs.lemmas.Grind.{common_steps}
+use Rattle.std.proofs.lemmas.{Bool.{and_cases, and_parts, both_ways, cases_Bool, Decides.nat_tests}, Grind.common_steps}
+use Rattle.std.proofs.lemmas.List.{Elements.{All-contains, All-from_recursion}, Folds.list_any-from_Any}
+use Rattle.std.specs.{Cmp.IsStrictWeakOrder, List.{AllByRecursion, Contains, list_any}, Prelude.{IfSome, fold, is_some}}
 use Rattle.bq_job.specs.machine.{better_of, first_of, is_pair_before}
 use Rattle.bq_job.proofs.ListLemmas.{contains_head, contains_tail}
 

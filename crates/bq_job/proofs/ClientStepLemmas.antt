@@ -1,27 +1,21 @@
 -- What a step gives to one client: to the one that takes it, and to every other.
 use Rattle.std.proofs.Common.{ℕ, ◌≡◌, ◌<◌, ◌+◌, Bool, true, false, ◌&&◌, ◌||◌, not, cond, List, [], ◌∷◌, ◌++◌, map, length, length-append, append_assoc, arith, refl, sym, ap, ◌∙◌, subst, inl, inr, Option, Some, None}
-use Rattle.std.specs.List.{AllByRecursion as All}
-use Rattle.std.specs.Prelude.{◌==◌, IsTrue}
-use Rattle.std.proofs.lemmas.Bool.{cases_Bool, and_parts, and_right, both_ways, cond_both, eq-eqb}
-use Rattle.std.proofs.lemmas.Grind.{common_steps}
-use Rattle.bq_job.specs.Types.{Answer, Job, Request, Step}
-use Rattle.bq_job.specs.declared.answer.Answer.TheVariants as answers
-use Rattle.bq_job.specs.declared.step.Step.TheVariants as steps
+use Rattle.std.proofs.lemmas.{Bool.{and_parts, and_right, both_ways, cases_Bool, cond_both, eq-eqb}, Grind.common_steps}
+use Rattle.std.specs.{List.AllByRecursion as All, Prelude.{◌==◌, IsTrue}}
 use Rattle.bq_job.specs.machine.{Chain, Effect, GivenAnswer, IsHandOut, IsStep, Machine.Machine, Memory, Outcome, SeatRecord}
-use Rattle.bq_job.specs.machine.{Serves, acted, addressed, after_close, after_connect, after_timers}
 use Rattle.bq_job.specs.machine.{at_found, at_moment, close_effect, connect_effect, effect, empty_seat, end_effect, ends_waiting}
 use Rattle.bq_job.specs.machine.{forgetting, granted, growth_refused, has_closed, is_connected_at, is_deadline_soon, is_possible}
 use Rattle.bq_job.specs.machine.{is_until_over, is_wait_before, is_waiting, may_be_left_out, seat_with, share_refused, shares_body, silent}
-use Rattle.bq_job.specs.machine.{step_takes_memory, telling, with_end, with_seat}
 use Rattle.bq_job.specs.beside.{GetsAnswer, GetsAtMost, GetsClosed, GetsWhatWaits, GivesClient, IsLawful, owing}
-use Rattle.bq_job.specs.promise.{answers_to}
-use Rattle.bq_job.proofs.ChoiceLemmas.{first_of_none}
-use Rattle.bq_job.proofs.DispatchLemmas.{turn_of}
-use Rattle.bq_job.proofs.KeptLemmas.{is_open_wait}
-use Rattle.bq_job.proofs.LawfulLemmas.{end_of, step_is_lawful}
+use Rattle.bq_job.specs.machine.{Serves, acted, addressed, after_close, after_connect, after_timers, step_takes_memory}
+use Rattle.bq_job.specs.{machine.{telling, with_end, with_seat}, promise.answers_to, Types.{Answer, Job, Request, Step}}
+use Rattle.bq_job.specs.declared.answer.Answer.TheVariants as answers
+use Rattle.bq_job.specs.declared.step.Step.TheVariants as steps
 use Rattle.bq_job.proofs.ListLemmas.{all_always, all_at, all_both, all_pass, all_weaker, keys_of_map, list_any_not, none_pass}
 use Rattle.bq_job.proofs.OneClientLemmas.{Found, Passes, answers_append, changed, changed_none, changed_quiet, changed_some, connected_in, ended_in, finds, one_for, passes_serves, unclosed_append, waits_in}
-use Rattle.bq_job.proofs.ReplyLemmas.{replies_acted, replies_effect, stays_acted, told, told_elsewhere}
+use Rattle.bq_job.proofs.{ChoiceLemmas.first_of_none, DispatchLemmas.turn_of, KeptLemmas.is_open_wait}
+use Rattle.bq_job.proofs.{LawfulLemmas.{end_of, step_is_lawful}, ReplyLemmas.{replies_acted, replies_effect}}
+use Rattle.bq_job.proofs.ReplyLemmas.{stays_acted, told, told_elsewhere}
 
 -- the parts of a step, to one client
 record Parts (client : ℕ) (first last : Machine) (seat : ℕ) (what : Step) (given : List GivenAnswer) : Type 0 where

@@ -1,9 +1,7 @@
 -- What is computed is a step of the machine.
 use Rattle.std.proofs.Common.{ℕ, zero, suc, ◌≡◌, ◌≤◌, ◌<◌, true, false, ◌&&◌, ◌||◌, not, cond, arith, refl, inl, inr, Option, Some, None, append_assoc, rules}
-use Rattle.std.specs.Prelude.{◌==◌}
-use Rattle.std.specs.List.{AllByRecursion as All, Contains, list_any}
-use Rattle.std.proofs.lemmas.Bool.{cases_Bool, and_parts, and_left, eq-eqb}
-use Rattle.std.proofs.lemmas.Grind.{common_steps}
+use Rattle.std.proofs.lemmas.{Bool.{and_left, and_parts, cases_Bool, eq-eqb}, Grind.common_steps}
+use Rattle.std.specs.{List.{AllByRecursion as All, Contains, list_any}, Prelude.◌==◌}
 use Rattle.bq_job.specs.declared.answer.Answer.TheVariants as answers
 use Rattle.bq_job.specs.Types.{Job, Step}
 use Rattle.bq_job.specs.machine.{Chain, DispatchTurn, Dispatches, EndsWaits, IsStep, Machine.Machine, SeatRecord, Serves, WaitEndTurn}

@@ -1,14 +1,10 @@
 -- Answers line by line: where a list of them is cut.
-use Rattle.std.proofs.Common.{◌≡◌, ℕ, suc, ◌+◌, ◌≤◌, false, List, [], ◌∷◌, ◌++◌, length, refl, sym, ap, ◌∙◌, arith}
-use Rattle.std.proofs.lemmas.Bool.{or_parts}
-use Rattle.std.proofs.lemmas.Grind.{common_steps}
-use Rattle.bq_job.specs.Types.{Answer, Step}
+use Rattle.std.proofs.Common.{◌++◌, ◌+◌, ◌∙◌, ◌∷◌, ◌≡◌, ◌≤◌, List, [], ℕ, ap, arith, false, length, refl, suc, sym}
+use Rattle.std.proofs.lemmas.{Bool.or_parts, Grind.common_steps}
+use Rattle.bq_job.specs.{beside.AreLinesServed, machine.{has_closed, is_closed_answer}, promise.LineOver, Types.Answer}
+use Rattle.bq_job.specs.Types.{Step}
 use Rattle.bq_job.specs.declared.answer.Answer.TheVariants as answers
-use Rattle.bq_job.specs.promise.{LineOver}
-use Rattle.bq_job.specs.machine.{has_closed, is_closed_answer}
-use Rattle.bq_job.specs.beside.{AreLinesServed}
-use Rattle.bq_job.proofs.ListLemmas.{heads}
-use Rattle.bq_job.proofs.GivenLemmas.{AreParts, most_of_lines}
+use Rattle.bq_job.proofs.{GivenLemmas.{AreParts, most_of_lines}, ListLemmas.heads}
 
 -- how many `Closed` there are
 abbrev pub closes : List Answer → ℕ

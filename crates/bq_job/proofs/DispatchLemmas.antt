@@ -1,16 +1,12 @@
 -- Turns of dispatch and ends of waits: what each gives and leaves.
-use Rattle.std.proofs.Common.{ℕ, ◌≡◌, List, ap, inl, inr, Some, arith}
+use Rattle.std.proofs.{Common.{◌≡◌, List, Some, ℕ, ap, arith, inl, inr}, lemmas.{Bool.and_from, Grind.common_steps}}
 use Rattle.std.specs.List.{list_any}
-use Rattle.std.proofs.lemmas.Bool.{and_from}
-use Rattle.std.proofs.lemmas.Grind.{common_steps}
 use Rattle.bq_job.specs.declared.answer.Answer.TheVariants as answers
-use Rattle.bq_job.specs.declared.job.Job.{Job}
 use Rattle.bq_job.specs.machine.{DispatchTurn, GivenAnswer, IsHandOut, Machine.Machine, SeatRecord, is_job_before, is_waiting}
-use Rattle.bq_job.specs.machine.{is_waiting_for, may_have, next_job, next_seat}
-use Rattle.bq_job.specs.laws.{GetsLeast, IsLeastFor}
+use Rattle.bq_job.specs.{declared.job.Job.Job, laws.{GetsLeast, IsLeastFor}, machine.{is_waiting_for, may_have}}
+use Rattle.bq_job.specs.machine.{next_job, next_seat}
 use Rattle.bq_job.proofs.ChoiceLemmas.{first_of_contains, first_of_is_least, pair_order}
-use Rattle.bq_job.proofs.ComputedLemmas.{next_seat_waits}
-use Rattle.bq_job.proofs.ListLemmas.{list_any_with}
+use Rattle.bq_job.proofs.{ComputedLemmas.next_seat_waits, ListLemmas.list_any_with}
 
 -- A turn of dispatch has a next job and a next client for it.
 pub record Turn (m : Machine) (given : GivenAnswer) (next : Machine) : Type 0 where

@@ -1,14 +1,12 @@
 -- What an event can do to the machine, so that what holds of each thing is seen once to hold of its effect.
-use Rattle.std.proofs.Common.{ℕ, ◌≡◌, true, false, Some, arith}
-use Rattle.std.specs.List.{Contains}
-use Rattle.std.proofs.lemmas.Bool.{cond_both, eqb-true}
+use Rattle.std.proofs.{Common.{◌≡◌, Some, ℕ, arith, false, true}, lemmas.Bool.{cond_both, eqb-true}}
 use Rattle.std.proofs.lemmas.Grind.{common_steps}
+use Rattle.std.specs.List.{Contains}
 use Rattle.bq_job.specs.declared.answer.Answer.TheVariants as answers
-use Rattle.bq_job.specs.Types.{Request, Step}
 use Rattle.bq_job.specs.declared.step.Step.TheVariants as steps
 use Rattle.bq_job.specs.machine.{Effect, Machine.Machine, Memory, SeatRecord, acted, after_close, after_connect, ask_effect, asked}
 use Rattle.bq_job.specs.machine.{at_found, close_effect, connect_effect, effect, end_effect, granted, growth_refused, is_waiting, seat_with}
-use Rattle.bq_job.specs.machine.{share_refused, silent, telling, with_end, with_seat}
+use Rattle.bq_job.specs.{machine.{share_refused, silent, telling, with_end, with_seat}, Types.{Request, Step}}
 use Rattle.bq_job.proofs.ListLemmas.{found_passes}
 
 -- the seat of the number

@@ -1,15 +1,13 @@
 -- What a command can do: eight kinds of effect. A fact that goes over all commands is proved for each kind.
 use Rattle.std.proofs.Common.{ℕ, ◌≡◌, ◌≤◌, Bool, true, false, List, map, ◌⊎◌, Option, Some}
 use Rattle.std.specs.List.{Contains}
-use Rattle.bq_job.specs.Types.{Answer, Job, Request}
+use Rattle.bq_job.specs.machine.{Effect, Machine.Machine, SeatRecord, after_delete, after_put, greatest, is_closed_answer, is_free_for}
+use Rattle.bq_job.specs.machine.{is_full, is_held_by, is_reserved, job_with, new_job, reserve_effect, silent, telling, with_pause}
+use Rattle.bq_job.specs.{beside.{AreIdsWithin, is_refusal, watches_once}, machine.{with_seat, with_tube}}
+use Rattle.bq_job.specs.{promise.{answers_wanted, is_waiting_request}, Types.{Answer, Job, Request}}
 use Rattle.bq_job.specs.declared.answer.Answer.TheVariants as answers
 use Rattle.bq_job.specs.declared.request.Request.TheVariants as requests
 use Rattle.bq_job.specs.declared.step.Step.TheVariants as steps
-use Rattle.bq_job.specs.machine.{Effect, Machine.Machine, SeatRecord, after_delete, after_put, greatest, is_closed_answer, is_free_for}
-use Rattle.bq_job.specs.machine.{is_full, is_held_by, is_reserved, job_with, new_job, reserve_effect, silent, telling, with_pause}
-use Rattle.bq_job.specs.machine.{with_seat, with_tube}
-use Rattle.bq_job.specs.promise.{answers_wanted, is_waiting_request}
-use Rattle.bq_job.specs.beside.{AreIdsWithin, is_refusal, watches_once}
 use Rattle.bq_job.proofs.ChangeLemmas.{Becomes}
 
 -- none of RESERVED, INSERTED and DELETED

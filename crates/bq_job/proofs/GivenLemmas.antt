@@ -1,22 +1,17 @@
 -- What the seats and the core did joins: what a run gives a seat, line by line, and that this is what the
 -- seat took.
 use Rattle.std.proofs.Common.{◌≡◌, ℕ, ◌+◌, ◌≤◌, ◌<◌, Bool, true, false, ◌&&◌, not, List, [], ◌∷◌, ◌++◌, map, length, refl, sym, ap, ◌∙◌, arith, subst, inl, inr, ◌⊎◌, append_assoc, rules}
+use Rattle.std.proofs.lemmas.{Bool.{and_parts, both_ways, cases_Bool, eqb-true}, Grind.common_steps, List.length-append}
 use Rattle.std.specs.Prelude.{◌==◌}
-use Rattle.std.proofs.lemmas.Bool.{cases_Bool, and_parts, both_ways, eqb-true}
-use Rattle.std.proofs.lemmas.List.{length-append}
-use Rattle.std.proofs.lemmas.Grind.{common_steps}
-use Rattle.bq_job.specs.Types.{Answer, Request, Step}
+use Rattle.bq_job.specs.promise.{Entry, LineHeard, LineOver, MayTellEnd, Run, answered_count, answers_to, answers_wanted}
+use Rattle.bq_job.specs.beside.{AreLinesServed, GetsAtMost, GetsClosed, GetsWhatWaits, IsLawful, owing}
+use Rattle.bq_job.specs.machine.{GivenAnswer, IsStep, Outcome, Settings, has_closed, is_connected_at, Machine.Machine}
+use Rattle.bq_job.specs.{promise.{heard, is_tick, steps_at, wanted}, Types.{Answer, Request, Step}}
 use Rattle.bq_job.specs.declared.answer.Answer.TheVariants as answers
 use Rattle.bq_job.specs.declared.step.Step.TheVariants as steps
-use Rattle.bq_job.specs.machine.{GivenAnswer, IsStep, Machine.Machine, Outcome, Settings, has_closed, is_connected_at}
-use Rattle.bq_job.specs.promise.{Entry, LineHeard, LineOver, MayTellEnd, Run, answered_count, answers_to, answers_wanted}
-use Rattle.bq_job.specs.promise.{heard, is_tick, steps_at, wanted}
-use Rattle.bq_job.specs.beside.{AreLinesServed, GetsAtMost, GetsClosed, GetsWhatWaits, IsLawful, owing}
-use Rattle.bq_job.proofs.LawfulLemmas.{step_is_lawful}
-use Rattle.bq_job.proofs.OneClientLemmas.{answers_append, unclosed_append}
-use Rattle.bq_job.proofs.ListLemmas.{heads}
 use Rattle.bq_job.proofs.ClientStepLemmas.{asks_at_most, others_give, step_gives_client, step_settings, tick_gives_client}
-use Rattle.bq_job.proofs.RunLemmas.{run_first, run_of_none}
+use Rattle.bq_job.proofs.{LawfulLemmas.step_is_lawful, ListLemmas.heads, OneClientLemmas.answers_append}
+use Rattle.bq_job.proofs.{OneClientLemmas.unclosed_append, RunLemmas.{run_first, run_of_none}}
 
 -- the entry is a step of this seat
 abbrev pub is_here : ℕ → Entry → Bool

@@ -1,12 +1,10 @@
 -- The headline whole, from a history and the laws of runs.
-use Rattle.std.proofs.Common.{ℕ, Bool, List, Option, subst, arith, rules}
-use Rattle.std.proofs.lemmas.Grind.{common_steps}
+use Rattle.std.proofs.{Common.{Bool, List, Option, ℕ, arith, rules, subst}, lemmas.Grind.common_steps}
 use Rattle.bq_job.specs.laws.{AreJobsServed, HeadlineHolds, LineHeadlineHolds, happenings, parts_of_run}
 use Rattle.bq_job.specs.promise.{GoesBy, IsHistoryOf, IsHistoryOfLine, LineOver, Transition}
 use Rattle.bq_job.specs.machine.{Machine.Machine, Settings, new_machine}
 use Rattle.bq_job.proofs.AnswerPlaces.{none_after_drain, none_after_last_id, run_deletes, run_gives_least}
-use Rattle.bq_job.proofs.KeptJobLemmas.{accepted_is_kept, held_by_one_always}
-use Rattle.bq_job.proofs.RunLawLemmas.{at_most_once, in_order}
+use Rattle.bq_job.proofs.{KeptJobLemmas.{accepted_is_kept, held_by_one_always}, RunLawLemmas.{at_most_once, in_order}}
 
 jobs_served : (settings : Settings) (taken : List Transition) (last : Machine) → GoesBy (new_machine settings) taken last → AreJobsServed taken (happenings (parts_of_run taken))
 jobs_served settings taken last goes = let first : Machine = new_machine settings in

@@ -1,20 +1,16 @@
 -- A run that is computed, as part of a history; and the lines of a door, each with its steps.
 use Rattle.std.proofs.Common.{◌≡◌, ℕ, suc, Bool, true, false, List, [], ◌∷◌, ◌++◌, map, length, Option, ◌⊎◌, refl, ap, inl, arith, rules, subst}
+use Rattle.std.proofs.lemmas.{Bool.{cases_Bool, or_right}, Grind.common_steps}
 use Rattle.std.specs.List.{list_any}
-use Rattle.std.proofs.lemmas.Bool.{or_right, cases_Bool}
-use Rattle.std.proofs.lemmas.Grind.{common_steps}
-use Rattle.bq_job.specs.Types.{Answer, Request, Step}
-use Rattle.bq_job.specs.declared.request.Request.TheVariants.{Reserve}
-use Rattle.bq_job.specs.declared.step.Step.TheVariants as steps
-use Rattle.bq_job.specs.beside.{AreSameRequests, machine_after, reading, transition, transitions}
-use Rattle.bq_job.specs.declared.answer.Answer.TheVariants as answers
 use Rattle.bq_job.specs.promise.{AreAllAnswered, AreDoorsOwed, AreLinesOwed, ArePickedFrom, AreSeatsUpTo, Entry, IsControlDone}
 use Rattle.bq_job.specs.promise.{IsDoorOwed, IsLineOwed, IsOverBy, IsRun, IsStepsOfLine, IsTimedBy, IsWritten, LineOver, heard, steps_at}
-use Rattle.bq_job.specs.reading.Reading.{Reads}
+use Rattle.bq_job.specs.beside.{AreSameRequests, machine_after, reading, transition, transitions}
+use Rattle.bq_job.specs.{declared.request.Request.TheVariants.Reserve, machine.{Settings, has_closed, new_machine}}
 use Rattle.bq_job.specs.examples.HistoryExamples.{AreServedOver, given_over, readings_of, seated, usual}
-use Rattle.bq_job.specs.machine.{Machine.Machine, Settings, has_closed, new_machine}
-use Rattle.bq_job.proofs.ComputedRunLemmas.{computed_goes}
-use Rattle.bq_job.proofs.ReadsLemmas.{reading-Reads}
+use Rattle.bq_job.specs.{machine.Machine.Machine, reading.Reading.Reads, Types.{Answer, Request, Step}}
+use Rattle.bq_job.specs.declared.step.Step.TheVariants as steps
+use Rattle.bq_job.specs.declared.answer.Answer.TheVariants as answers
+use Rattle.bq_job.proofs.{ComputedRunLemmas.computed_goes, ReadsLemmas.reading-Reads}
 
 -- all of the moments are some of them
 pub picked_all : (moments : List ℕ) → ArePickedFrom moments moments

@@ -1,11 +1,9 @@
 -- What a part of a step may do to jobs, as moves: a quiet one, a put, and a job that dispatch hands out.
 use Rattle.std.proofs.Common.{ℕ, suc, ◌≡◌, ◌<◌, Bool, true, false, cond, List, [], ◌∷◌, ◌++◌, map, refl, sym, ap, ◌∙◌, subst, append_assoc, Option, Some, None}
-use Rattle.std.specs.Prelude.{◌==◌}
-use Rattle.std.specs.List.{AllByRecursion as All, Contains, list_any}
-use Rattle.bq_job.specs.declared.job.Job.{Job}
-use Rattle.bq_job.specs.machine.{Machine.Machine, is_job_before, is_ready, is_reserved, job_with, reserved_by}
-use Rattle.bq_job.specs.laws.{Happening, Part, disturbs, handed_out, happenings, is_deletion, put}
-use Rattle.bq_job.specs.beside.{AreIdsWithin}
+use Rattle.std.specs.{List.{AllByRecursion as All, Contains, list_any}, Prelude.◌==◌}
+use Rattle.bq_job.specs.{beside.AreIdsWithin, declared.job.Job.Job, laws.{Happening, Part, disturbs, handed_out}}
+use Rattle.bq_job.specs.{laws.{happenings, is_deletion, put}, machine.{is_job_before, is_ready, is_reserved, job_with}}
+use Rattle.bq_job.specs.machine.{reserved_by, Machine.Machine}
 
 -- neither a put nor a hand-out
 abbrev pub is_plain : Happening → Bool

@@ -1,23 +1,18 @@
 -- What the seats and the core did joins.
 use Rattle.std.proofs.Common.{Option, ◌≡◌, ℕ, suc, ◌+◌, ◌≤◌, ◌<◌, Bool, true, false, ◌&&◌, List, [], ◌∷◌, ◌++◌, map, length, refl, sym, ap, ◌∙◌, arith, subst, inl, inr, append-nil, append_assoc}
-use Rattle.std.specs.Prelude.{IsTrue, ◌==◌}
-use Rattle.std.specs.List.{list_any}
-use Rattle.std.proofs.lemmas.Bool.{and_right}
-use Rattle.std.proofs.lemmas.List.{length-append}
-use Rattle.std.proofs.lemmas.Grind.{common_steps}
-use Rattle.bq_job.specs.Types.{Answer, LineEnd, Request, Step}
+use Rattle.std.proofs.lemmas.{Bool.and_right, Grind.common_steps, List.length-append}
+use Rattle.std.specs.{List.list_any, Prelude.{◌==◌, IsTrue}}
+use Rattle.bq_job.specs.machine.{GivenAnswer, Machine.Machine, SeatRecord, Settings, empty_seat, has_closed, is_connected_at, is_waiting}
+use Rattle.bq_job.specs.promise.{AreAllAnswered, AreDoorsOwed, AreLinesOwed, Entry, IsHistoryOf, IsHistoryOfLine, IsLineOwed, IsWritten}
+use Rattle.bq_job.specs.beside.{AreLinesServed, AreTied, IsJoined, IsLineJoined, IsLineServed, IsNoneUnwritten, owing}
+use Rattle.bq_job.specs.{machine.{new_machine, numbers}, promise.{LineOver, Run, answered_count, answers_text}}
+use Rattle.bq_job.specs.{promise.{answers_to, ends_by_wait, steps_at}, Types.{Answer, LineEnd, Request, Step}}
 use Rattle.bq_job.specs.declared.answer.Answer.TheVariants as answers
 use Rattle.bq_job.specs.declared.line_end.LineEnd.TheVariants as ends
 use Rattle.bq_job.specs.declared.step.Step.TheVariants as steps
-use Rattle.bq_job.specs.machine.{GivenAnswer, Machine.Machine, SeatRecord, Settings, empty_seat, has_closed, is_connected_at, is_waiting}
-use Rattle.bq_job.specs.machine.{new_machine, numbers}
-use Rattle.bq_job.specs.promise.{AreAllAnswered, AreDoorsOwed, AreLinesOwed, Entry, IsHistoryOf, IsHistoryOfLine, IsLineOwed, IsWritten}
-use Rattle.bq_job.specs.promise.{LineOver, Run, answered_count, answers_text, answers_to, ends_by_wait, steps_at}
-use Rattle.bq_job.specs.beside.{AreLinesServed, AreTied, IsJoined, IsLineJoined, IsLineServed, IsNoneUnwritten, owing}
 use Rattle.bq_job.proofs.CutLemmas.{closes, closes_append, closes_unclosed, lines_close, parts_close, same_cut}
 use Rattle.bq_job.proofs.GivenLemmas.{AreParts, Serves, are_gone, gives_parts, most_of_lines, none_in}
-use Rattle.bq_job.proofs.OneClientLemmas.{unclosed_append}
-use Rattle.bq_job.proofs.LawfulLemmas.{new_is_lawful}
+use Rattle.bq_job.proofs.{LawfulLemmas.new_is_lawful, OneClientLemmas.unclosed_append}
 
 -- where all is answered, nothing comes after it
 nothing_after : (own others : List Answer) (n : ℕ) → length own ≡ n → length (own ++ others) ≤ n → own ≡ own ++ others

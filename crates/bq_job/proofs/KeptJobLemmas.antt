@@ -1,23 +1,15 @@
 -- A job that was put is there until it is deleted, and one client at most holds it.
 use Rattle.std.proofs.Common.{ℕ, ◌≡◌, ◌<◌, true, false, cond, List, [], ◌∷◌, ◌++◌, map, arith, refl, sym, ap, ◌∙◌, subst, inl, inr, ◌⊎◌, Option, Some}
-use Rattle.std.specs.Prelude.{option_map, ◌==◌}
-use Rattle.std.specs.List.{AllByRecursion as All, Contains, list_any}
-use Rattle.std.proofs.lemmas.Bool.{and_parts, and_from, or_parts, both_ways, cond_both, eqb-true, eq-eqb, cases_Bool}
-use Rattle.std.proofs.lemmas.List.Folds.{list_any-append}
-use Rattle.std.proofs.lemmas.Grind.{common_steps}
-use Rattle.bq_job.specs.Types.{Job, JobState}
+use Rattle.std.proofs.lemmas.Bool.{and_from, and_parts, both_ways, cases_Bool, cond_both, eq-eqb, eqb-true, or_parts}
+use Rattle.std.proofs.lemmas.{Grind.common_steps, List.Folds.list_any-append}
+use Rattle.std.specs.{List.{AllByRecursion as All, Contains, list_any}, Prelude.{◌==◌, option_map}}
 use Rattle.bq_job.specs.machine.{Machine.Machine, SeatRecord, Settings, is_connected_at, is_held_by, is_holder, is_reserved, job_with}
-use Rattle.bq_job.specs.machine.{new_machine, reserved_by}
 use Rattle.bq_job.specs.laws.{Happening, IsHeldByOne, IsKept, Part, happenings, is_deletion, parts_of_run, put}
-use Rattle.bq_job.specs.promise.{GoesBy, Transition}
-use Rattle.bq_job.proofs.JobMoves.{Fate, Move, Moves, quiet, putting, handing}
-use Rattle.bq_job.proofs.KeptLemmas.{Keeps}
-use Rattle.bq_job.proofs.LawfulLemmas.{new_is_lawful}
-use Rattle.bq_job.proofs.ListLemmas.{all_at, list_any_of_map}
-use Rattle.bq_job.proofs.LookupLemmas.{found_job, job_at_end, job_found}
-use Rattle.bq_job.proofs.OrderLemmas.{put_behind, put_now_or_behind}
-use Rattle.bq_job.proofs.SpentLemmas.{handed_lookup, put_lookup}
-use Rattle.bq_job.proofs.StepMoves.{ArePartsGone, parts_go, run_gone}
+use Rattle.bq_job.specs.{machine.{new_machine, reserved_by}, promise.{GoesBy, Transition}, Types.{Job, JobState}}
+use Rattle.bq_job.proofs.{JobMoves.{Fate, Move, Moves, handing, putting, quiet}, KeptLemmas.Keeps}
+use Rattle.bq_job.proofs.{LawfulLemmas.new_is_lawful, ListLemmas.{all_at, list_any_of_map}, LookupLemmas.found_job}
+use Rattle.bq_job.proofs.{LookupLemmas.{job_at_end, job_found}, OrderLemmas.{put_behind, put_now_or_behind}}
+use Rattle.bq_job.proofs.{SpentLemmas.{handed_lookup, put_lookup}, StepMoves.{ArePartsGone, parts_go, run_gone}}
 
 -- The job is there, in its tube and with its body.
 pub record IsThere (j : Job) (m : Machine) : Type 0 where

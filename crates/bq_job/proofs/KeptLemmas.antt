@@ -1,13 +1,10 @@
 -- What every part of a step keeps, and the changes of jobs and of seats that keep it.
 use Rattle.std.proofs.Common.{ℕ, zero, suc, ◌≡◌, ◌≤◌, ◌+◌, Bool, true, false, ◌&&◌, ◌||◌, not, cond, List, [], ◌∷◌, ◌++◌, map, arith, refl, sym, ◌∙◌, subst, inl, inr, Some, rules}
-use Rattle.std.specs.Prelude.{nat_le, filter, find, ◌==◌}
-use Rattle.std.specs.List.{AllByRecursion as All, list_any}
 use Rattle.std.proofs.lemmas.Bool.{cases_Bool, and_parts, and_from, or_parts, or_left, or_right, or_cases, both_ways, cond_both, eqb-true, eqb-false, leb-false}
 use Rattle.std.proofs.lemmas.Grind.{common_steps}
-use Rattle.bq_job.specs.Types.{Job, JobState}
+use Rattle.std.specs.{List.{AllByRecursion as All, list_any}, Prelude.{◌==◌, filter, find, nat_le}}
 use Rattle.bq_job.specs.machine.{Machine.Machine, SeatRecord, empty_seat, given_back, in_state, is_held_by, is_reserved, is_waiting}
-use Rattle.bq_job.specs.machine.{last_id, numbers}
-use Rattle.bq_job.specs.beside.{AreIdsWithin, IsLawful}
+use Rattle.bq_job.specs.{beside.{AreIdsWithin, IsLawful}, machine.{last_id, numbers}, Types.{Job, JobState}}
 use Rattle.bq_job.proofs.ListLemmas.{all_always, all_both, all_of_append, all_of_filter, all_of_map, all_pass, all_weaker, keys_of_map, list_any_of_map}
 
 -- Whoever holds the job is connected.

@@ -1,29 +1,22 @@
 -- The machine is lawful at the start and after every step, and a step gives few answers.
 use Rattle.std.proofs.Common.{ℕ, zero, suc, ◌≡◌, ◌≤◌, ◌<◌, ◌+◌, true, false, ◌&&◌, not, cond, List, [], ◌∷◌, map, length, arith, refl, sym, ap, ◌∙◌, subst, inl, inr, Option, Some, None, rules}
-use Rattle.std.specs.Prelude.{nat_le, ◌==◌}
-use Rattle.std.specs.Cmp.Lexicographic.{bytes_decides}
-use Rattle.std.specs.List.{Contains, list_any, list_all}
-use Rattle.std.proofs.lemmas.Bool.{eq-eqb, or_left, or_right, cond_both, le-leb, cases_Bool}
-use Rattle.std.proofs.lemmas.List.{length-map}
-use Rattle.std.proofs.lemmas.List.Sums.{count_by-le-length}
-use Rattle.std.proofs.lemmas.Grind.{common_steps}
-use Rattle.bq_job.specs.Types.{Answer, Job, Step}
-use Rattle.bq_job.specs.declared.job.JobState.TheVariants as states
+use Rattle.std.proofs.lemmas.{Bool.{cases_Bool, cond_both, eq-eqb, le-leb, or_left, or_right}, Grind.common_steps}
+use Rattle.std.proofs.lemmas.List.{length-map, Sums.count_by-le-length}
+use Rattle.std.specs.{Cmp.Lexicographic.bytes_decides, List.{Contains, list_all, list_any}, Prelude.{◌==◌, nat_le}}
 use Rattle.bq_job.specs.machine.{Chain, DispatchTurn, Dispatches, EndsWaits, GivenAnswer, IsHandOut, IsStep, Machine.Machine, Memory}
 use Rattle.bq_job.specs.machine.{Outcome, SeatRecord, Serves, Settings, TubeRecord, WaitEndTurn, acted, addressed, after_timers, at_moment}
-use Rattle.bq_job.specs.machine.{empty_seat, end_of_wait, forgetting, granted, greatest}
-use Rattle.bq_job.specs.machine.{growth_refused, in_state, is_paused, is_ready, is_tube}
 use Rattle.bq_job.specs.machine.{is_waiting, is_waiting_for, job_after_timers, new_machine, next_end, next_job, next_seat}
 use Rattle.bq_job.specs.machine.{numbers, reserved_by, share_refused, watches, with_job, with_seat, with_timeout, without_wait}
-use Rattle.bq_job.specs.beside.{IsLawful, has_open_holder, waiting_count, watches_once}
-use Rattle.bq_job.specs.reading.TubeName.{is_same_name}
-use Rattle.bq_job.proofs.ActLemmas.{Leaves, answer_count, held_here, leaves_effect}
-use Rattle.bq_job.proofs.ChoiceLemmas.{first_of_agrees, first_of_none, first_of_none_passes}
-use Rattle.bq_job.proofs.ComputedLemmas.{next_end_waits, next_seat_waits, waiting_falls}
-use Rattle.bq_job.proofs.DispatchLemmas.{turn_of}
+use Rattle.bq_job.specs.{beside.{IsLawful, has_open_holder, waiting_count, watches_once}, machine.empty_seat}
+use Rattle.bq_job.specs.machine.{end_of_wait, forgetting, granted, greatest, growth_refused, in_state, is_paused}
+use Rattle.bq_job.specs.{machine.{is_ready, is_tube}, reading.TubeName.is_same_name, Types.{Answer, Job, Step}}
+use Rattle.bq_job.specs.declared.job.JobState.TheVariants as states
 use Rattle.bq_job.proofs.KeptLemmas.{Keeps, has_holder, is_open_wait, kept_of_job, kept_of_jobs, kept_of_lawful, kept_of_seat, IsMild}
 use Rattle.bq_job.proofs.ListLemmas.{all_always, all_at, all_from_members, all_of_filter, all_of_map, all_weaker, find_in_filter, list_all_from, list_any_not, list_any_with, none_pass}
 use Rattle.bq_job.proofs.RecordLemmas.{Booked, booked_acted, booked_forgetting, booked_of_lawful, booked_served, booked_through, booked_timers}
+use Rattle.bq_job.proofs.{ActLemmas.{Leaves, answer_count, held_here, leaves_effect}, ChoiceLemmas.first_of_agrees}
+use Rattle.bq_job.proofs.{ChoiceLemmas.{first_of_none, first_of_none_passes}, ComputedLemmas.next_end_waits}
+use Rattle.bq_job.proofs.{ComputedLemmas.{next_seat_waits, waiting_falls}, DispatchLemmas.turn_of}
 
 -- what timers make of a job: ready, ready with one timeout more, or the same
 pub after_timers_is : (moment : ℕ) (j : Job) (P : Job → Type 0) → P (in_state states.Ready j) → P (record j { state = states.Ready; counts = with_timeout j.counts }) → P j → P (job_after_timers moment j)

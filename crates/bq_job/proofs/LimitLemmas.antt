@@ -1,24 +1,15 @@
 -- There are never more jobs than there may be.
 use Rattle.std.proofs.Common.{ℕ, suc, ◌≡◌, ◌≤◌, Bool, false, not, cond, List, [], ◌∷◌, length, arith, refl, sym, ap, ◌∙◌, subst, inl, inr, Option, Some}
-use Rattle.std.specs.Prelude.{filter, ◌==◌}
-use Rattle.std.specs.List.{AllByRecursion as All, Contains}
-use Rattle.std.proofs.lemmas.Bool.{cases_Bool, leb-false}
-use Rattle.std.proofs.lemmas.List.{length-map}
-use Rattle.std.proofs.lemmas.Grind.{common_steps}
-use Rattle.bq_job.specs.Types.{Job, Settings, Step}
-use Rattle.bq_job.specs.machine.{Chain, Dispatches, EndsWaits, GivenAnswer, IsHandOut, Machine.Machine, SeatRecord}
-use Rattle.bq_job.specs.machine.{acted, after_hand_out, after_timers, at_moment, forgetting, is_full, job_after_timers}
-use Rattle.bq_job.specs.machine.{new_machine, reserved_by}
-use Rattle.bq_job.specs.laws.{Part, parts_in, parts_of_run}
-use Rattle.bq_job.specs.beside.{IsLawful}
-use Rattle.bq_job.specs.promise.{GoesBy, IsTransition, Parts, Transition}
-use Rattle.bq_job.proofs.ActMoves.{After, after_acted}
-use Rattle.bq_job.proofs.ChangeLemmas.{changed, removed_one, added}
-use Rattle.bq_job.proofs.DispatchLemmas.{turn_of}
-use Rattle.bq_job.proofs.KeptLemmas.{Keeps, kept_of_lawful}
-use Rattle.bq_job.proofs.LawfulLemmas.{end_of, kept_of_timers, new_is_lawful, served, step_is_lawful}
-use Rattle.bq_job.proofs.ListLemmas.{all_at, all_of_append}
-use Rattle.bq_job.proofs.ReplyLemmas.{stays_acted}
+use Rattle.std.proofs.lemmas.{Bool.{cases_Bool, leb-false}, Grind.common_steps, List.length-map}
+use Rattle.std.specs.{List.{AllByRecursion as All, Contains}, Prelude.{◌==◌, filter}}
+use Rattle.bq_job.specs.{beside.IsLawful, laws.{Part, parts_in, parts_of_run}, machine.{Chain, Dispatches, EndsWaits}}
+use Rattle.bq_job.specs.machine.{GivenAnswer, IsHandOut, SeatRecord, acted, after_hand_out, after_timers, at_moment}
+use Rattle.bq_job.specs.machine.{forgetting, is_full, job_after_timers, new_machine, reserved_by, Machine.Machine}
+use Rattle.bq_job.specs.{promise.{GoesBy, IsTransition, Parts, Transition}, Types.{Job, Settings, Step}}
+use Rattle.bq_job.proofs.{ActMoves.{After, after_acted}, ChangeLemmas.{added, changed, removed_one}}
+use Rattle.bq_job.proofs.{DispatchLemmas.turn_of, KeptLemmas.{Keeps, kept_of_lawful}, LawfulLemmas.end_of}
+use Rattle.bq_job.proofs.{LawfulLemmas.{kept_of_timers, new_is_lawful, served, step_is_lawful}, ListLemmas.all_at}
+use Rattle.bq_job.proofs.{ListLemmas.all_of_append, ReplyLemmas.stays_acted}
 
 -- what was chosen, and no more jobs than may be by it
 record IsWithin (settings : Settings) (m : Machine) : Type 0 where

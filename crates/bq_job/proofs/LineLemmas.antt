@@ -1,8 +1,6 @@
 -- The first line of a text, and of a text that goes on.
 use Rattle.std.proofs.Common.{◌≡◌, ℕ, Bool, true, false, ◌==◌, ◌&&◌, List, [], ◌∷◌, ◌++◌, Option, Some, ◌⊎◌, inl, inr, refl, ap, arith, option_map, if◌then◌else◌, rules}
-use Rattle.std.proofs.lemmas.Bool.Decides.{nat_tests}
-use Rattle.std.proofs.lemmas.Grind.{common_steps}
-use Rattle.std.proofs.lemmas.Bool.{cases_Bool}
+use Rattle.std.proofs.lemmas.{Bool.{cases_Bool, Decides.nat_tests}, Grind.common_steps}
 use Rattle.bq_job.specs.reading.Line.{first_line, onto_line, are_line_end}
 
 -- a first line ends at the first two bytes, or behind the first byte

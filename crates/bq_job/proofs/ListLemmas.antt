@@ -1,13 +1,10 @@
 -- Facts about lists of any elements: tests, changes of each element, counts.
 use Rattle.std.proofs.Common.{◌≡◌, ◌≤◌, ◌<◌, ◌+◌, Bool, true, false, ◌&&◌, not, cond, List, [], ◌∷◌, ◌++◌, map, arith, refl, ap, ◌∙◌, subst, inl, inr}
-use Rattle.std.specs.Prelude.{Some, count_by, filter, find, flat_map}
-use Rattle.std.specs.List.{AllByRecursion as All, Contains, list_any, list_all}
 use Rattle.std.proofs.lemmas.Bool.{cases_Bool, and_parts, and_from, or_parts, or_from, or_left, or_right, or_cases, both_ways, false_from_ne_true}
-use Rattle.std.proofs.lemmas.List.Concat.{flat_map-cons}
 use Rattle.std.proofs.lemmas.List.Elements.{All-from_recursion, recursion_from_All, All-contains, All-contains_itself, Contains-append_right}
-use Rattle.std.proofs.lemmas.List.Folds.{list_any-from_Any}
-use Rattle.std.proofs.lemmas.List.Sums.{sum_by-cons}
-use Rattle.std.proofs.lemmas.Grind.{common_steps}
+use Rattle.std.proofs.{Common.{Some, count_by, filter, find, flat_map}, lemmas.Grind.common_steps}
+use Rattle.std.proofs.lemmas.List.{Concat.flat_map-cons, Folds.list_any-from_Any, Sums.sum_by-cons}
+use Rattle.std.specs.List.{AllByRecursion as All, Contains, list_any, list_all}
 
 -- the first of a list and the others
 pub heads : {A : Type 0} (x y : A) (xs ys : List A) → (x ∷ xs) ≡ (y ∷ ys) → (x ≡ y) × (xs ≡ ys)

@@ -1,12 +1,8 @@
 -- Jobs looked up by id in a list whose ids grow: after a change of each job, a removal and an addition.
 use Rattle.std.proofs.Common.{ℕ, suc, ◌≡◌, ◌≤◌, ◌<◌, false, not, cond, List, [], ◌∷◌, ◌++◌, map, arith, refl, inl, inr, Some, None, rules}
-use Rattle.std.specs.Prelude.{filter, option_map, ◌==◌}
-use Rattle.std.specs.List.{AllByRecursion as All, Contains}
-use Rattle.std.proofs.lemmas.Bool.{cases_Bool, eq-eqb, eqb-true, false_from_ne_true, both_ways}
-use Rattle.std.proofs.lemmas.Grind.{common_steps}
-use Rattle.bq_job.specs.declared.job.Job.{Job}
-use Rattle.bq_job.specs.machine.{job_with}
-use Rattle.bq_job.specs.beside.{AreIdsWithin}
+use Rattle.std.proofs.lemmas.{Bool.{both_ways, cases_Bool, eq-eqb, eqb-true, false_from_ne_true}, Grind.common_steps}
+use Rattle.std.specs.{List.{AllByRecursion as All, Contains}, Prelude.{◌==◌, filter, option_map}}
+use Rattle.bq_job.specs.{beside.AreIdsWithin, declared.job.Job.Job, machine.job_with}
 use Rattle.bq_job.proofs.ListLemmas.{all_at, found_passes, contains_head}
 
 -- what is found is in the list, with the id

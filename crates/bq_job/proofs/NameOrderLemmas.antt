@@ -1,21 +1,11 @@
 -- Names in byte order, and the tubes that are listed.
 use Rattle.std.proofs.Common.{◌≡◌, ℕ, Bool, true, false, ◌&&◌, ◌||◌, List, [], ◌∷◌, ◌++◌, refl, sym, ap, ◌∙◌, map, append_assoc, append-nil, arith, rules}
+use Rattle.std.proofs.lemmas.{Bool.cases_Bool, Cmp.nat_list_cmp_total, Grind.common_steps, Map.Lookups.exact_bytes}
 use Rattle.std.proofs.Math.Bool.{or-false}
-use Rattle.std.specs.Prelude.{fold, flat_map}
-use Rattle.std.specs.List.{AllByRecursion as All, list_any}
-use Rattle.std.specs.Cmp.Lexicographic.{slice_cmp}
-use Rattle.std.specs.Ordering.{nat_cmp, is_lt, ordering_reverse}
-use Rattle.std.specs.declared.cmp.Ordering.{Ordering}
-use Rattle.std.specs.declared.cmp.Ordering.TheVariants.{Less}
-use Rattle.std.proofs.lemmas.Cmp.{nat_list_cmp_total}
-use Rattle.std.proofs.lemmas.Map.Lookups.{exact_bytes}
-use Rattle.std.proofs.lemmas.Grind.{common_steps}
-use Rattle.std.proofs.lemmas.Bool.{cases_Bool}
-use Rattle.bq_job.specs.declared.job.Job.{Job}
+use Rattle.std.specs.{Cmp.Lexicographic.slice_cmp, List.{AllByRecursion as All, list_any}, Prelude.{flat_map, fold}}
+use Rattle.std.specs.{declared.cmp.Ordering.{Ordering, TheVariants.Less}, Ordering.{is_lt, nat_cmp, ordering_reverse}}
 use Rattle.bq_job.specs.machine.{Machine.Machine, SeatRecord, is_name_before, is_seated_at, is_tube, seated_tubes, tubes}
-use Rattle.bq_job.specs.machine.{with_name}
-use Rattle.bq_job.specs.beside.{is_in_order}
-use Rattle.bq_job.specs.reading.TubeName.{is_same_name}
+use Rattle.bq_job.specs.{beside.is_in_order, declared.job.Job.Job, machine.with_name, reading.TubeName.is_same_name}
 use Rattle.bq_job.proofs.ListLemmas.{all_weaker}
 
 both : (a b : Bool) → (a && b) ≡ true → (a ≡ true) × (b ≡ true)

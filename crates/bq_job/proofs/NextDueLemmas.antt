@@ -1,25 +1,20 @@
 -- Before the next due moment a tick changes nothing but the moment.
 use Rattle.std.proofs.Common.{ℕ, ◌≡◌, ◌<◌, ◌+◌, Bool, true, false, ◌&&◌, ◌||◌, cond, List, [], ◌∷◌, ◌++◌, map, arith, refl, sym, ap, ◌∙◌, subst, inl, inr, Option, Some, None}
+use Rattle.std.proofs.lemmas.Bool.{and_from, cases_Bool, eq-eqb, eqb-true, le-leb, leb-true, or_parts}
+use Rattle.std.proofs.{lemmas.{Bool.Decides.leb_tells, Grind.common_steps}, Math.Nat.min-eq_left}
 use Rattle.std.specs.Prelude.{◌-◌, ◌==◌, IsTrue, count_by, flat_map, nat_le, nat_lt}
 use Rattle.std.specs.List.{AllByRecursion as All, Contains}
-use Rattle.std.proofs.Math.Nat.{min-eq_left}
-use Rattle.std.proofs.lemmas.Bool.{cases_Bool, and_from, or_parts, eq-eqb, eqb-true, le-leb, leb-true}
-use Rattle.std.proofs.lemmas.Bool.Decides.{leb_tells}
-use Rattle.std.proofs.lemmas.Grind.{common_steps}
-use Rattle.bq_job.specs.Types.{Job, JobState}
-use Rattle.bq_job.specs.declared.job.JobState.TheVariants as states
-use Rattle.bq_job.specs.declared.step.Step.TheVariants as steps
 use Rattle.bq_job.specs.machine.{GivenAnswer, IsStep, Machine.Machine, Memory, Outcome, Pause, SeatRecord, Serves, TubeRecord, Wait, acted}
 use Rattle.bq_job.specs.machine.{addressed, after_timers, at_moment, ends_waiting, forgetting, granted, grown, growth_refused}
 use Rattle.bq_job.specs.machine.{is_deadline_soon, is_due, is_ending_lease, is_expired, is_past, is_possible, is_timed_out, is_until_over}
 use Rattle.bq_job.specs.machine.{is_wait_before, is_waiting, is_waiting_at, job_after_timers, next_end, next_job, pause_after_timers}
-use Rattle.bq_job.specs.machine.{share_refused, tube_after_timers}
 use Rattle.bq_job.specs.beside.{IsLawful, dues, dues_of_pause, dues_of_state, dues_of_until, dues_of_wait, earlier, earliest, is_before}
-use Rattle.bq_job.specs.beside.{next_due}
-use Rattle.bq_job.proofs.ChoiceLemmas.{first_of_none, first_of_none_passes}
+use Rattle.bq_job.specs.{beside.next_due, machine.{share_refused, tube_after_timers}, Types.{Job, JobState}}
+use Rattle.bq_job.specs.declared.job.JobState.TheVariants as states
+use Rattle.bq_job.specs.declared.step.Step.TheVariants as steps
 use Rattle.bq_job.proofs.ListLemmas.{all_at, all_from_members, all_of_flat_map, all_parts, all_weaker, count_all_not, list_any_not, list_any_with, map_all_same, none_pass}
-use Rattle.bq_job.proofs.QuietLemmas.{forgets_nothing, serves_nobody}
-use Rattle.bq_job.proofs.RecordLemmas.{booked_of_lawful}
+use Rattle.bq_job.proofs.{ChoiceLemmas.{first_of_none, first_of_none_passes}, QuietLemmas.forgets_nothing}
+use Rattle.bq_job.proofs.{QuietLemmas.serves_nobody, RecordLemmas.booked_of_lawful}
 
 not_le : (a b : ℕ) → b < a → nat_le a b ≡ false
 not_le a b h = elim (leb_tells a b) [ inl e ↦ absurd (let k = e.1 in omega arith) | inr e ↦ e.0 ]

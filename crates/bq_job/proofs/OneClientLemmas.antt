@@ -1,21 +1,16 @@
 -- What the parts of a step give to one client: turns of dispatch and ends of waits give it what it waits
 -- for, and the command's own effect gives it the answer, or makes it wait.
 use Rattle.std.proofs.Common.{ℕ, zero, suc, ◌≡◌, ◌≤◌, ◌<◌, ◌+◌, Bool, true, false, ◌&&◌, cond, List, [], ◌∷◌, ◌++◌, map, length, arith, refl, sym, ap, ◌∙◌, subst, inl, inr, Some}
-use Rattle.std.specs.Prelude.{◌==◌}
-use Rattle.std.specs.List.{AllByRecursion as All, Contains, list_any}
-use Rattle.std.proofs.lemmas.Bool.{cases_Bool, and_from, and_right, or_from, cond_both, eq-eqb, eqb-true, eqb-false}
-use Rattle.std.proofs.lemmas.List.Folds.{list_any-append}
-use Rattle.std.proofs.lemmas.Grind.{common_steps}
-use Rattle.bq_job.specs.Types.{Answer, Job}
-use Rattle.bq_job.specs.declared.answer.Answer.TheVariants as answers
+use Rattle.std.proofs.lemmas.Bool.{and_from, and_right, cases_Bool, cond_both, eq-eqb, eqb-false, eqb-true, or_from}
+use Rattle.std.proofs.lemmas.{Grind.common_steps, List.Folds.list_any-append}
+use Rattle.std.specs.{List.{AllByRecursion as All, Contains, list_any}, Prelude.◌==◌}
 use Rattle.bq_job.specs.machine.{Chain, DispatchTurn, GivenAnswer, IsHandOut, Machine.Machine, SeatRecord, Serves, WaitEndTurn, end_of_wait}
 use Rattle.bq_job.specs.machine.{has_closed, is_closed_answer, is_deadline_soon, is_waiting, next_seat, numbers, seat_with, without_wait}
-use Rattle.bq_job.specs.promise.{answers_to}
-use Rattle.bq_job.proofs.ComputedLemmas.{next_end_waits, next_seat_waits}
-use Rattle.bq_job.proofs.DispatchLemmas.{turn_of}
-use Rattle.bq_job.proofs.KeptLemmas.{only_seat}
-use Rattle.bq_job.proofs.LawfulLemmas.{end_of}
+use Rattle.bq_job.specs.{promise.answers_to, Types.{Answer, Job}}
+use Rattle.bq_job.specs.declared.answer.Answer.TheVariants as answers
 use Rattle.bq_job.proofs.ListLemmas.{all_always, all_of_map, all_weaker, found_passes, keys_of_map, list_any_not, list_any_of_map, list_any_with}
+use Rattle.bq_job.proofs.{ComputedLemmas.{next_end_waits, next_seat_waits}, DispatchLemmas.turn_of}
+use Rattle.bq_job.proofs.{KeptLemmas.only_seat, LawfulLemmas.end_of}
 
 -- whether the client at the seat waits, and whether there is one
 abbrev pub waits_in : ℕ → List SeatRecord → Bool

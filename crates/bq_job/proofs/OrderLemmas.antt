@@ -1,21 +1,14 @@
 -- Undisturbed jobs of one tube and priority are handed out in the order of their puts.
 use Rattle.std.proofs.Common.{ℕ, ◌≡◌, ◌≤◌, ◌<◌, Bool, true, false, ◌||◌, cond, List, [], ◌∷◌, ◌++◌, arith, refl, sym, ap, ◌∙◌, subst, inl, inr, ◌⊎◌, Option, Some}
-use Rattle.std.specs.Prelude.{option_map, ◌==◌}
-use Rattle.std.specs.List.{AllByRecursion as All, Contains, list_any}
-use Rattle.std.proofs.lemmas.Bool.{cases_Bool, or_parts, or_from, both_ways, eqb-true, eq-eqb}
-use Rattle.std.proofs.lemmas.Bool.Decides.{nat_tests}
-use Rattle.std.proofs.lemmas.List.Elements.{Contains-append_cases}
-use Rattle.std.proofs.lemmas.List.Folds.{list_any-append}
-use Rattle.std.proofs.lemmas.Grind.{common_steps}
-use Rattle.bq_job.specs.declared.job.Job.{Job}
-use Rattle.bq_job.specs.machine.{Machine.Machine, is_job_before, is_ready, job_with, reserved_by}
+use Rattle.std.proofs.lemmas.Bool.{both_ways, cases_Bool, eq-eqb, eqb-true, or_from, or_parts, Decides.nat_tests}
+use Rattle.std.proofs.lemmas.{Grind.common_steps, List.{Elements.Contains-append_cases, Folds.list_any-append}}
+use Rattle.std.specs.{List.{AllByRecursion as All, Contains, list_any}, Prelude.{◌==◌, option_map}}
 use Rattle.bq_job.specs.laws.{Happening, Part, buried, comes_first, deleted, disturbs, expired, given_back, handed_out, happenings}
-use Rattle.bq_job.specs.laws.{is_hand_out, is_put, put, released, reserved_by_id}
+use Rattle.bq_job.specs.{declared.job.Job.Job, laws.{is_hand_out, is_put, put, released, reserved_by_id}}
+use Rattle.bq_job.specs.machine.{is_job_before, is_ready, job_with, reserved_by, Machine.Machine}
 use Rattle.bq_job.proofs.JobMoves.{Fate, IsHandOutMove, IsPutMove, IsQuiet, Move, Moves, quiet, putting, handing, is_plain}
-use Rattle.bq_job.proofs.ListLemmas.{all_at}
-use Rattle.bq_job.proofs.LookupLemmas.{found_job, job_at_end}
-use Rattle.bq_job.proofs.SpentLemmas.{IsSpent, handed_lookup, held_is_not_ready, none_handed, none_more, put_lookup}
-use Rattle.bq_job.proofs.SpentLemmas.{spent_after, still_parts}
+use Rattle.bq_job.proofs.{ListLemmas.all_at, LookupLemmas.{found_job, job_at_end}, SpentLemmas.{IsSpent, handed_lookup}}
+use Rattle.bq_job.proofs.SpentLemmas.{held_is_not_ready, none_handed, none_more, put_lookup, spent_after, still_parts}
 
 -- What happens in a part that has neither of two things leaves their order.
 comes_behind : (one other : Happening → Bool) (happened more : List Happening) → list_any one happened ≡ false → list_any other happened ≡ false → comes_first one other (happened ++ more) ≡ comes_first one other more

@@ -1,18 +1,13 @@
 -- Where no share of a body is refused, a step has one result.
 use Rattle.std.proofs.Common.{ℕ, ◌≡◌, Bool, false, ◌||◌, List, [], ◌∷◌, refl, sym, ap, ◌∙◌, subst, Option, Some, None, arith}
+use Rattle.std.proofs.lemmas.{Bool.{cases_Bool, or_parts}, Grind.common_steps}
 use Rattle.std.specs.List.{list_any}
-use Rattle.std.proofs.lemmas.Bool.{or_parts, cases_Bool}
-use Rattle.std.proofs.lemmas.Grind.{common_steps}
 use Rattle.bq_job.specs.declared.answer.Answer.TheVariants as answers
-use Rattle.bq_job.specs.Types.{Job, Step}
 use Rattle.bq_job.specs.machine.{Chain, DispatchTurn, Effect, GivenAnswer, IsHandOut, IsStep, Machine.Machine, Memory, Outcome, SeatRecord}
 use Rattle.bq_job.specs.machine.{Serves, WaitEndTurn, acted, after_hand_out, after_timers, at_moment, forgetting, granted}
 use Rattle.bq_job.specs.machine.{growth_refused, has_refused_share, is_growth_refused, is_out_of_memory, is_share_refused, next_end}
-use Rattle.bq_job.specs.machine.{next_job, share_refused}
-use Rattle.bq_job.specs.beside.{ample, stepped}
-use Rattle.bq_job.proofs.ComputedLemmas.{stepped_is_step}
-use Rattle.bq_job.proofs.DispatchLemmas.{turn_of}
-use Rattle.bq_job.proofs.LawfulLemmas.{end_of}
+use Rattle.bq_job.specs.{beside.{ample, stepped}, machine.{next_job, share_refused}, Types.{Job, Step}}
+use Rattle.bq_job.proofs.{ComputedLemmas.stepped_is_step, DispatchLemmas.turn_of, LawfulLemmas.end_of}
 
 -- two turns from one machine: the same answer, and the same machine
 abbrev IsSame : GivenAnswer → GivenAnswer → Machine → Machine → Type 0

@@ -1,16 +1,13 @@
 -- The answers of a step: which part gives RESERVED, INSERTED and DELETED, and that draining never ends.
-use Rattle.std.proofs.Common.{ℕ, ◌≡◌, true, false, ◌||◌, not, List, refl, ap, subst, inl, inr, ◌⊎◌, Some, arith}
-use Rattle.std.specs.Prelude.{filter, nat_le, ◌==◌}
-use Rattle.std.proofs.lemmas.Bool.{or_left, or_right, cases_Bool}
-use Rattle.std.proofs.lemmas.Grind.{common_steps}
+use Rattle.std.proofs.Common.{◌==◌, ◌||◌, ◌≡◌, ◌⊎◌, List, Some, ℕ, ap, arith, false, filter, inl, inr, nat_le, not}
+use Rattle.std.proofs.{Common.{refl, subst, true}, lemmas.{Bool.{cases_Bool, or_left, or_right}, Grind.common_steps}}
 use Rattle.bq_job.specs.Types.{Answer, Job, Request, Step}
+use Rattle.bq_job.specs.machine.{Effect, Machine.Machine, Memory, SeatRecord, acted, is_held_by, is_reserved, job_with, last_id, telling}
 use Rattle.bq_job.specs.declared.answer.Answer.TheVariants as answers
 use Rattle.bq_job.specs.declared.request.Request.TheVariants as requests
 use Rattle.bq_job.specs.declared.step.Step.TheVariants as steps
-use Rattle.bq_job.specs.machine.{Effect, Machine.Machine, Memory, SeatRecord, acted, is_held_by, is_reserved, job_with, last_id, telling}
-use Rattle.bq_job.proofs.CommandKinds.{kind_of}
-use Rattle.bq_job.proofs.EachEvent.{each_acted}
 use Rattle.bq_job.proofs.EffectKinds.{SaysDone, is_common, Kind, adds, changes_jobs, changes_seat, changes_tube, deletes, passes, tells, waits}
+use Rattle.bq_job.proofs.{CommandKinds.kind_of, EachEvent.each_acted}
 
 -- what a command at the seat answers, and what is then so
 pub data Tells (m : Machine) (seat : ℕ) (what : Step) (e : Effect) : Type 0 where

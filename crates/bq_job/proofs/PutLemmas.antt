@@ -1,7 +1,5 @@
 -- What a put does: one of three things.
-use Rattle.std.proofs.Common.{ℕ, ◌≡◌, true, false, List, arith}
-use Rattle.std.proofs.lemmas.Bool.{cond_both}
-use Rattle.std.proofs.lemmas.Grind.{common_steps}
+use Rattle.std.proofs.{Common.{◌≡◌, List, ℕ, arith, false, true}, lemmas.{Bool.cond_both, Grind.common_steps}}
 use Rattle.bq_job.specs.declared.answer.Answer.TheVariants as answers
 use Rattle.bq_job.specs.machine.{Effect, Machine.Machine, SeatRecord, after_put, is_full, new_job, put_effect, telling}
 

@@ -1,8 +1,7 @@
 -- Parts of a step in which nothing happens.
 use Rattle.std.proofs.Common.{◌≡◌, true, List, [], ◌∷◌, refl, ap, subst, Option, None, arith}
-use Rattle.std.specs.Prelude.{MatchOption}
-use Rattle.std.specs.List.{list_all}
 use Rattle.std.proofs.lemmas.Grind.{common_steps}
+use Rattle.std.specs.{List.list_all, Prelude.MatchOption}
 use Rattle.bq_job.specs.machine.{Chain, GivenAnswer, Machine.Machine, Serves, TubeRecord, forgetting, is_tube}
 use Rattle.bq_job.specs.machine.{next_end, next_job}
 use Rattle.bq_job.proofs.ListLemmas.{all_pass, filter_all}

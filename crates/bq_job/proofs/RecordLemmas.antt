@@ -1,26 +1,16 @@
 -- What is kept beside jobs through a step: counts stay within their end, what is kept of tubes stays in
 -- order, and each seat watches at least one tube and none twice.
 use Rattle.std.proofs.Common.{ℕ, ◌≡◌, ◌≤◌, ◌+◌, Bool, true, cond, List, [], ◌∷◌, map, refl, sym, subst, Option, arith, rules}
-use Rattle.std.specs.Prelude.{nat_le, filter}
-use Rattle.std.specs.Cmp.Lexicographic.{bytes_decides}
-use Rattle.std.specs.List.{AllByRecursion as All}
-use Rattle.std.proofs.Math.Nat.{min-le_right}
-use Rattle.std.proofs.lemmas.Bool.{cases_Bool, cond_both, leb-true}
-use Rattle.std.proofs.lemmas.Grind.{common_steps}
-use Rattle.bq_job.specs.Types.{Job, Request, Step}
+use Rattle.std.proofs.{lemmas.{Bool.{cases_Bool, cond_both, leb-true}, Grind.common_steps}, Math.Nat.min-le_right}
+use Rattle.std.specs.{Cmp.Lexicographic.bytes_decides, List.AllByRecursion as All, Prelude.{filter, nat_le}}
 use Rattle.bq_job.specs.machine.{Chain, DispatchTurn, Effect, GivenAnswer, IsHandOut, Machine.Machine, Memory, SeatRecord, Serves}
 use Rattle.bq_job.specs.machine.{TubeRecord, WaitEndTurn, acted, after_close, after_connect, after_timers, at_moment, empty_seat}
-use Rattle.bq_job.specs.machine.{forgetting, greatest, grown, is_name_before, is_tube, reserve_effect}
-use Rattle.bq_job.specs.machine.{with_end, with_record}
-use Rattle.bq_job.specs.machine.{with_seat}
-use Rattle.bq_job.specs.beside.{IsLawful, is_in_order, watches_once}
-use Rattle.bq_job.specs.reading.TubeName.{is_same_name}
-use Rattle.bq_job.proofs.DispatchLemmas.{turn_of}
+use Rattle.bq_job.specs.{beside.{IsLawful, is_in_order, watches_once}, machine.{forgetting, greatest, grown}}
+use Rattle.bq_job.specs.machine.{is_name_before, is_tube, reserve_effect, with_end, with_record, with_seat}
+use Rattle.bq_job.specs.{reading.TubeName.is_same_name, Types.{Job, Request, Step}}
 use Rattle.bq_job.proofs.ListLemmas.{all_at, all_always, all_before_map, all_of_filter, all_of_map, all_pass, all_weaker, keys_of_map}
+use Rattle.bq_job.proofs.{CommandKinds.kind_of, DispatchLemmas.turn_of, EachEvent.each_acted, EffectKinds.Kind}
 use Rattle.bq_job.proofs.NameOrderLemmas.{after, first_of_order, in_order_from, rest_in_order}
-use Rattle.bq_job.proofs.CommandKinds.{kind_of}
-use Rattle.bq_job.proofs.EachEvent.{each_acted}
-use Rattle.bq_job.proofs.EffectKinds.{Kind}
 
 -- all that is kept beside the jobs
 pub record Books (timeouts puts connections burials tickets : ℕ) (tubes : List TubeRecord) (seats : List SeatRecord) : Type 0 where

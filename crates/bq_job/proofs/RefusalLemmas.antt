@@ -1,21 +1,13 @@
 -- A command that is refused changes nothing.
-use Rattle.std.proofs.Common.{ℕ, ◌≡◌, true, false, List, [], ◌∷◌, ◌++◌, append-nil, refl, ap, ◌∙◌, subst, Some, arith}
-use Rattle.std.specs.Prelude.{IsTrue}
-use Rattle.std.proofs.lemmas.Bool.{both_ways, cases_Bool}
-use Rattle.std.proofs.lemmas.Grind.{common_steps}
-use Rattle.bq_job.specs.Types.{Answer, Request, Step}
-use Rattle.bq_job.specs.declared.answer.Answer.TheVariants as answers
+use Rattle.std.proofs.Common.{◌++◌, ◌∙◌, ◌∷◌, ◌≡◌, IsTrue, List, Some, [], ℕ, ap, append-nil, arith, false, refl, subst}
+use Rattle.std.proofs.{Common.true, lemmas.{Bool.{both_ways, cases_Bool}, Grind.common_steps}}
 use Rattle.bq_job.specs.machine.{Effect, GivenAnswer, IsStep, Machine.Machine, Memory, Outcome, SeatRecord, Serves, acted, after_timers}
-use Rattle.bq_job.specs.machine.{at_moment, forgetting, silent, telling}
-use Rattle.bq_job.specs.beside.{ChangesNothing, IsLawful, is_refusal}
-use Rattle.bq_job.specs.promise.{parts_of}
-use Rattle.bq_job.proofs.KeptLemmas.{kept_of_lawful}
-use Rattle.bq_job.proofs.LawfulLemmas.{kept_of_timers, lawful_when_served}
-use Rattle.bq_job.proofs.QuietLemmas.{forgets_nothing, serves_nobody}
-use Rattle.bq_job.proofs.RecordLemmas.{booked_of_lawful, booked_timers}
-use Rattle.bq_job.proofs.CommandKinds.{kind_of}
-use Rattle.bq_job.proofs.EachEvent.{each_acted}
-use Rattle.bq_job.proofs.EffectKinds.{Kind}
+use Rattle.bq_job.specs.{beside.{ChangesNothing, IsLawful, is_refusal}, machine.{at_moment, forgetting, silent}}
+use Rattle.bq_job.specs.{machine.telling, promise.parts_of, Types.{Answer, Request, Step}}
+use Rattle.bq_job.specs.declared.answer.Answer.TheVariants as answers
+use Rattle.bq_job.proofs.{CommandKinds.kind_of, EachEvent.each_acted, EffectKinds.Kind, KeptLemmas.kept_of_lawful}
+use Rattle.bq_job.proofs.{LawfulLemmas.{kept_of_timers, lawful_when_served}, QuietLemmas.forgets_nothing}
+use Rattle.bq_job.proofs.{QuietLemmas.serves_nobody, RecordLemmas.{booked_of_lawful, booked_timers}}
 
 -- an effect whose answer is a refusal only where nothing was changed
 abbrev Honest : Machine → Effect → Type 0

@@ -1,16 +1,10 @@
 -- Replays: how one begins and goes on, and that a journal has one at most.
-use Rattle.std.proofs.Common.{◌≡◌, List, [], ◌∷◌, ◌++◌, map, refl, sym, ap, ◌∙◌, subst, append-nil, arith}
-use Rattle.std.specs.Prelude.{flat_map}
-use Rattle.std.proofs.lemmas.Grind.{flat_map-append}
-use Rattle.std.proofs.lemmas.List.{map-append}
-use Rattle.std.proofs.lemmas.Grind.{common_steps}
-use Rattle.bq_job.specs.declared.journal.Entry.{Entry as JournalEntry}
-use Rattle.bq_job.specs.machine.{GivenAnswer, IsStep, Machine.Machine, Outcome, Settings, new_machine}
-use Rattle.bq_job.specs.beside.{Replay.Replay, entry_of, outcome_of}
-use Rattle.bq_job.specs.promise.{Entry, GoesBy, IsTransition, Transition}
-use Rattle.bq_job.proofs.ListLemmas.{heads}
-use Rattle.bq_job.proofs.OutcomeLemmas.{one_result}
-use Rattle.bq_job.proofs.RunLemmas.{taken_as}
+use Rattle.std.proofs.Common.{◌++◌, ◌∙◌, ◌∷◌, ◌≡◌, List, [], ap, append-nil, arith, flat_map, map, refl, subst, sym}
+use Rattle.std.proofs.lemmas.{Grind.{common_steps, flat_map-append}, List.map-append}
+use Rattle.bq_job.specs.{beside.{entry_of, outcome_of, Replay.Replay}, declared.journal.Entry.Entry as JournalEntry}
+use Rattle.bq_job.specs.{machine.{GivenAnswer, IsStep, Outcome, Settings, new_machine, Machine.Machine}, promise.Entry}
+use Rattle.bq_job.specs.promise.{GoesBy, IsTransition, Transition}
+use Rattle.bq_job.proofs.{ListLemmas.heads, OutcomeLemmas.one_result, RunLemmas.taken_as}
 
 pub replay_none : (settings : Settings) → Replay settings [] [] (new_machine settings)
 replay_none settings = record { taken = []; goes = refl; history_is = refl; outcomes_are = refl; given_is = refl }

@@ -1,22 +1,18 @@
 -- What the command's own effect gives to one client: the one who asks is answered or waits, and another's
 -- seat stays as it was.
 use Rattle.std.proofs.Common.{ℕ, ◌≡◌, ◌+◌, Bool, true, false, not, cond, List, [], ◌∷◌, map, length, arith, refl, sym, ap, ◌∙◌, subst, Option, Some, None}
-use Rattle.std.specs.Prelude.{◌==◌, IsTrue, is_some}
-use Rattle.std.specs.List.{Contains}
-use Rattle.std.proofs.lemmas.Bool.{and_from, and_parts, cases_Bool}
-use Rattle.std.proofs.lemmas.Grind.{common_steps}
-use Rattle.bq_job.specs.Types.{Answer, Request, Step}
-use Rattle.bq_job.specs.declared.answer.Answer.TheVariants as answers
-use Rattle.bq_job.specs.declared.step.Step.TheVariants as steps
+use Rattle.std.proofs.lemmas.{Bool.{and_from, and_parts, cases_Bool}, Grind.common_steps}
+use Rattle.std.specs.{List.Contains, Prelude.{◌==◌, IsTrue, is_some}}
 use Rattle.bq_job.specs.machine.{Effect, Machine.Machine, Memory, SeatRecord, acted, addressed, after_close, after_connect, after_delete}
 use Rattle.bq_job.specs.machine.{after_put, ask_effect, asked, at_found, effect, empty_seat, granted, growth_refused, has_closed}
 use Rattle.bq_job.specs.machine.{is_closed_answer, is_possible, is_waiting, new_job, raised, reserve_effect, share_refused, shares_body}
 use Rattle.bq_job.specs.machine.{silent, step_takes_memory, telling, waiting_from, with_end, with_pause, with_seat, with_tube}
-use Rattle.bq_job.specs.promise.{answers_to, answers_wanted, is_waiting_request}
-use Rattle.bq_job.proofs.CommandKinds.{kind_of}
-use Rattle.bq_job.proofs.EachEvent.{IsSeat, each_acted}
+use Rattle.bq_job.specs.{promise.{answers_to, answers_wanted, is_waiting_request}, Types.{Answer, Request, Step}}
+use Rattle.bq_job.specs.declared.answer.Answer.TheVariants as answers
+use Rattle.bq_job.specs.declared.step.Step.TheVariants as steps
 use Rattle.bq_job.proofs.EffectKinds.{Kind, adds, changes_jobs, changes_seat, changes_tube, deletes, passes, tells, waits}
 use Rattle.bq_job.proofs.OneClientLemmas.{Found, changed, changed_elsewhere, changed_quiet, changed_some, connected_in, one_for, waits_in}
+use Rattle.bq_job.proofs.{CommandKinds.kind_of, EachEvent.{IsSeat, each_acted}}
 
 -- what the command itself tells the client
 abbrev pub told : Option Answer → List Answer

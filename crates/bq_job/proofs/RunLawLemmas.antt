@@ -1,18 +1,12 @@
 -- The laws of whole runs.
-use Rattle.std.proofs.Common.{ℕ, ◌≡◌, ◌≤◌, ◌<◌, Bool, true, false, List, [], ◌∷◌, arith, refl, sym, subst, inl, inr}
-use Rattle.std.specs.Prelude.{count_by, ◌==◌}
-use Rattle.std.specs.List.{Contains, list_any}
-use Rattle.std.proofs.lemmas.Bool.{cases_Bool, both_ways, eqb-true, eq-eqb}
-use Rattle.std.proofs.lemmas.Grind.{common_steps}
-use Rattle.bq_job.specs.declared.job.Job.{Job}
+use Rattle.std.proofs.Common.{◌<◌, ◌∷◌, ◌≡◌, ◌≤◌, Bool, List, [], ℕ, arith, false, inl, inr, refl, subst, sym, true}
+use Rattle.std.proofs.lemmas.{Bool.{both_ways, cases_Bool, eq-eqb, eqb-true}, Grind.common_steps}
+use Rattle.std.specs.{List.{Contains, list_any}, Prelude.{◌==◌, count_by}}
 use Rattle.bq_job.specs.laws.{Happening, IsHandedOut, IsHandedOutBefore, IsPutBefore, IsUndisturbed, comes_first, disturbs, happenings}
-use Rattle.bq_job.specs.laws.{is_hand_out, is_put, parts_of_run, put}
-use Rattle.bq_job.specs.machine.{Machine.Machine, Settings, new_machine}
-use Rattle.bq_job.specs.promise.{GoesBy, Transition}
-use Rattle.bq_job.proofs.LawfulLemmas.{new_is_lawful}
-use Rattle.bq_job.proofs.OrderLemmas.{handed_in_order, ids_in_order, put_above, unborn}
-use Rattle.bq_job.proofs.SpentLemmas.{handed_once}
-use Rattle.bq_job.proofs.StepMoves.{Goes, parts_go, run_gone}
+use Rattle.bq_job.specs.{declared.job.Job.Job, laws.{is_hand_out, is_put, parts_of_run, put}, machine.Settings}
+use Rattle.bq_job.specs.{machine.{new_machine, Machine.Machine}, promise.{GoesBy, Transition}}
+use Rattle.bq_job.proofs.{LawfulLemmas.new_is_lawful, OrderLemmas.{handed_in_order, ids_in_order, put_above, unborn}}
+use Rattle.bq_job.proofs.{SpentLemmas.handed_once, StepMoves.{Goes, parts_go, run_gone}}
 
 -- a run from the start, as moves
 run_goes : (settings : Settings) (taken : List Transition) (last : Machine) → GoesBy (new_machine settings) taken last → Goes (new_machine settings) (happenings (parts_of_run taken)) last

@@ -1,6 +1,5 @@
 -- Runs, one step at a time: what a run of no step, of a first step and of a last step is, and how two join.
-use Rattle.std.proofs.Common.{◌≡◌, List, [], ◌∷◌, ◌++◌, map, refl, sym, ap, ◌∙◌, subst, append_assoc, arith}
-use Rattle.std.specs.Prelude.{flat_map}
+use Rattle.std.proofs.Common.{◌++◌, ◌∙◌, ◌∷◌, ◌≡◌, List, [], ap, append_assoc, arith, flat_map, map, refl, subst, sym}
 use Rattle.std.proofs.lemmas.Grind.{common_steps}
 use Rattle.bq_job.specs.machine.{GivenAnswer, IsStep, Machine.Machine, Outcome}
 use Rattle.bq_job.specs.promise.{Entry, GoesBy, IsTransition, Run, Transition, parts_of}

@@ -1,17 +1,12 @@
 -- A job that is held or gone is handed out no more while nothing disturbs it.
 use Rattle.std.proofs.Common.{ℕ, ◌≡◌, ◌≤◌, ◌<◌, ◌+◌, true, false, cond, List, [], ◌∷◌, ◌++◌, arith, refl, sym, ap, ◌∙◌, subst, inl, inr, Option, Some, None}
-use Rattle.std.specs.Prelude.{option_map, count_by, ◌==◌}
-use Rattle.std.specs.List.{AllByRecursion as All, list_any}
 use Rattle.std.proofs.lemmas.Bool.{cases_Bool, or_parts, or_from, both_ways, cond_both, eqb-true, eq-eqb, false_from_ne_true}
-use Rattle.std.proofs.lemmas.List.Folds.{list_any-append}
-use Rattle.std.proofs.lemmas.List.Sums.{sum_by-append}
-use Rattle.std.proofs.lemmas.Grind.{common_steps}
-use Rattle.bq_job.specs.Types.{Job}
-use Rattle.bq_job.specs.machine.{Machine.Machine, is_ready, is_reserved, job_with, reserved_by}
-use Rattle.bq_job.specs.laws.{Happening, Part, disturbs, handed_out, happenings, is_hand_out}
-use Rattle.bq_job.proofs.JobMoves.{Fate, IsHandOutMove, IsPutMove, Move, Moves, quiet, putting, handing, is_plain}
-use Rattle.bq_job.proofs.ListLemmas.{count_cons}
-use Rattle.bq_job.proofs.LookupLemmas.{job_in_map, job_in_more}
+use Rattle.std.proofs.lemmas.{Grind.common_steps, List.{Folds.list_any-append, Sums.sum_by-append}}
+use Rattle.std.specs.{List.{AllByRecursion as All, list_any}, Prelude.{◌==◌, count_by, option_map}}
+use Rattle.bq_job.specs.{laws.{Happening, Part, disturbs, handed_out, happenings, is_hand_out}, machine.is_ready}
+use Rattle.bq_job.specs.{machine.{is_reserved, job_with, reserved_by, Machine.Machine}, Types.Job}
+use Rattle.bq_job.proofs.JobMoves.{Fate, IsHandOutMove, IsPutMove, Move, Moves, handing, is_plain, putting, quiet}
+use Rattle.bq_job.proofs.{ListLemmas.count_cons, LookupLemmas.{job_in_map, job_in_more}}
 
 -- held, or not there
 abbrev pub IsNotFree : Option Job → Type 0

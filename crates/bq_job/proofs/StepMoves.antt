@@ -1,25 +1,19 @@
 -- Each part of a step, as moves: timers, turns of dispatch, ends of waits, and the command's own effect.
 use Rattle.std.proofs.Common.{ℕ, ◌≡◌, true, false, ◌&&◌, not, cond, List, [], ◌∷◌, ◌++◌, map, refl, sym, ap, ◌∙◌, subst, inl, inr, Option, Some, None, append-nil, arith}
-use Rattle.std.specs.Prelude.{filter, option_map, ◌==◌}
-use Rattle.std.specs.List.{AllByRecursion as All, list_any}
 use Rattle.std.proofs.lemmas.Bool.{cases_Bool, and_parts, and_from, or_left, or_right, both_ways, cond_both, eq-eqb}
 use Rattle.std.proofs.lemmas.Grind.{common_steps}
-use Rattle.bq_job.specs.Types.{Job, JobState}
+use Rattle.std.specs.{List.{AllByRecursion as All, list_any}, Prelude.{◌==◌, filter, option_map}}
 use Rattle.bq_job.specs.machine.{Chain, DispatchTurn, Dispatches, EndsWaits, GivenAnswer, IsHandOut, Machine.Machine, SeatRecord}
 use Rattle.bq_job.specs.machine.{WaitEndTurn, acted, after_timers, at_moment, forgetting, is_due, is_expired, is_paused, is_ready}
 use Rattle.bq_job.specs.machine.{is_reserved, job_after_timers, job_with, may_have, next_job, next_seat, reserved_by, watches}
 use Rattle.bq_job.specs.laws.{Happening, Part, changes, disturbs, expirations, expired, hand_out, hand_outs, happenings, parts_in}
-use Rattle.bq_job.specs.laws.{parts_of_run}
-use Rattle.bq_job.specs.beside.{AreIdsWithin, IsLawful}
-use Rattle.bq_job.specs.promise.{GoesBy, IsTransition, Parts, Transition, parts_of}
-use Rattle.bq_job.proofs.ActMoves.{Ids, after_acted}
-use Rattle.bq_job.proofs.ChangeLemmas.{move_of_jobs}
-use Rattle.bq_job.proofs.DispatchLemmas.{next_is_least, turn_of}
-use Rattle.bq_job.proofs.JobMoves.{Fate, Move, Moves, quiet, handing, happenings_append, is_plain, moves_append}
-use Rattle.bq_job.proofs.KeptLemmas.{Keeps, ids_of_map, kept_of_lawful}
+use Rattle.bq_job.specs.{beside.{AreIdsWithin, IsLawful}, laws.parts_of_run, promise.{GoesBy, IsTransition, Parts}}
+use Rattle.bq_job.specs.{promise.{Transition, parts_of}, Types.{Job, JobState}}
 use Rattle.bq_job.proofs.LawfulLemmas.{after_timers_is, end_of, kept_of_timers, leaves_acted, served, step_is_lawful, turns_of_dispatches}
-use Rattle.bq_job.proofs.ListLemmas.{all_always, all_of_map, list_any_with}
-use Rattle.bq_job.proofs.LookupLemmas.{found_job, job_found, job_in_map}
+use Rattle.bq_job.proofs.{ActMoves.{Ids, after_acted}, LookupLemmas.{found_job, job_found, job_in_map}}
+use Rattle.bq_job.proofs.{ChangeLemmas.move_of_jobs, KeptLemmas.{Keeps, ids_of_map, kept_of_lawful}}
+use Rattle.bq_job.proofs.{DispatchLemmas.{next_is_least, turn_of}, ListLemmas.{all_always, all_of_map, list_any_with}}
+use Rattle.bq_job.proofs.JobMoves.{Fate, Move, Moves, handing, happenings_append, is_plain, moves_append, quiet}
 
 -- The machine goes by moves, and this happens to jobs.
 pub record Goes (m : Machine) (happened : List Happening) (n : Machine) : Type 0 where

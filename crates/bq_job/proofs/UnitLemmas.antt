@@ -1,12 +1,10 @@
 -- The first unit of a text, and units that begin texts.
 use Rattle.std.proofs.Common.{◌≡◌, ℕ, ◌<◌, List, [], ◌∷◌, ◌++◌, Option, Some, None, ◌⊎◌, inl, refl, sym, ap, arith, length, take, drop, MatchOption, length-append, append_assoc, IsTrue}
-use Rattle.std.proofs.lemmas.Bool.Decides.{nat_tests}
-use Rattle.std.proofs.lemmas.Grind.{common_steps}
-use Rattle.bq_job.specs.reading.Line.{first_line}
-use Rattle.bq_job.specs.reading.LineRead.{LineRead, Whole, PutWaits, PutLine, read_line}
-use Rattle.bq_job.specs.reading.Reading.{IsUnit, IsUnitAfter, IsPutRequest, put_with_body, BeginsNoUnit}
+use Rattle.std.proofs.lemmas.{Bool.Decides.nat_tests, Grind.common_steps}
 use Rattle.bq_job.specs.beside.{IsRefusedMemory, first_unit, had_memory, put_request, unit_after, unit_of_line}
-use Rattle.bq_job.specs.declared.request.Request.{Request}
+use Rattle.bq_job.specs.{declared.request.Request.Request, reading.{Line.first_line, LineRead.{LineRead, PutLine}}}
+use Rattle.bq_job.specs.reading.{LineRead.{PutWaits, Whole, read_line}, Reading.{BeginsNoUnit, IsPutRequest, IsUnit}}
+use Rattle.bq_job.specs.reading.Reading.{IsUnitAfter, put_with_body}
 use Rattle.bq_job.proofs.LineLemmas.{first_line-append, first_line_is, first_line_again}
 
 -- the request of a unit is the computed one, or its memory was refused

@@ -1,13 +1,9 @@
 -- The tubes that a seat watches: at least one and none twice, through a watch and an ignore.
-use Rattle.std.proofs.Common.{◌≡◌, Bool, true, false, ◌||◌, not, List, [], ◌∷◌, ◌++◌, ℕ, sym, ◌∙◌, refl, arith}
-use Rattle.std.specs.Prelude.{filter}
-use Rattle.std.specs.Cmp.Lexicographic.{bytes_decides}
-use Rattle.std.specs.List.{list_any}
-use Rattle.std.proofs.lemmas.List.Folds.{list_any-append}
 use Rattle.std.proofs.lemmas.Bool.{cases_Bool, and_parts, and_from, both_ways, cond_both, false_from_ne_true, or_from, or_parts}
-use Rattle.std.proofs.lemmas.Grind.{common_steps}
-use Rattle.bq_job.specs.beside.{has_one, none_twice, watches_once}
-use Rattle.bq_job.specs.machine.{SeatRecord, watched_with, watching}
+use Rattle.std.proofs.Common.{◌++◌, ◌||◌, ◌∙◌, ◌∷◌, ◌≡◌, Bool, List, [], ℕ, arith, false, not, refl, sym, true}
+use Rattle.std.proofs.lemmas.{Grind.common_steps, List.Folds.list_any-append}
+use Rattle.std.specs.{Cmp.Lexicographic.bytes_decides, List.list_any, Prelude.filter}
+use Rattle.bq_job.specs.{beside.{has_one, none_twice, watches_once}, machine.{SeatRecord, watched_with, watching}}
 use Rattle.bq_job.specs.reading.TubeName.{is_same_name}
 use Rattle.bq_job.proofs.ListLemmas.{all_of_filter, all_weaker, list_any_not, none_pass}
 

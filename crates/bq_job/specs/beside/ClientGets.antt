@@ -1,10 +1,9 @@
 -- What a step gives to one client.
 use Rattle.std.specs.Prelude.{ℕ, true, false, ◌≡◌, ◌+◌, ◌≤◌, if◌then◌else◌, List, [], ◌∷◌, ◌++◌, length}
-use Rattle.bq_job.specs.Types.{Answer, Request, Step}
+use Rattle.bq_job.specs.machine.{GivenAnswer, has_closed, is_connected_at, is_waiting_at, Machine.Machine}
+use Rattle.bq_job.specs.{promise.{answers_to, answers_wanted, is_waiting_request}, Types.{Answer, Request, Step}}
 use Rattle.bq_job.specs.declared.answer.Answer.TheVariants as answers
 use Rattle.bq_job.specs.declared.step.Step.TheVariants as steps
-use Rattle.bq_job.specs.machine.{GivenAnswer, Machine.Machine, has_closed, is_connected_at, is_waiting_at}
-use Rattle.bq_job.specs.promise.{answers_to, answers_wanted, is_waiting_request}
 
 -- how many answers the client waits for: one, or none
 abbrev pub owing : ℕ → Machine → ℕ

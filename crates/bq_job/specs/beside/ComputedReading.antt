@@ -1,12 +1,9 @@
 -- The reading of a text with ample memory, computed.
 use Rattle.std.specs.Prelude.{ℕ, zero, suc, ◌+◌, true, false, nat_lt, nat_le, List, [], ◌∷◌, length}
 use Rattle.std.specs.Prelude.{take, drop, Option, Some, None, if◌then◌else◌}
-use Rattle.bq_job.specs.reading.Line.{first_line}
-use Rattle.bq_job.specs.reading.LineRead.{LineRead, Whole, PutWaits, PutLine, read_line}
-use Rattle.bq_job.specs.reading.Reading.{put_with_body, is_quit}
-use Rattle.bq_job.specs.declared.request.Request.{Request}
-use Rattle.bq_job.specs.declared.request.Request.TheVariants.{Refused}
-use Rattle.bq_job.specs.declared.refusal.Refusal.TheVariants.{JobTooBig}
+use Rattle.bq_job.specs.declared.{refusal.Refusal.TheVariants.JobTooBig, request.Request.{Request, TheVariants.Refused}}
+use Rattle.bq_job.specs.reading.{Line.first_line, LineRead.{LineRead, PutLine, PutWaits, Whole, read_line}}
+use Rattle.bq_job.specs.reading.Reading.{is_quit, put_with_body}
 
 abbrev pub put_request : ℕ → PutLine → List ℕ → Request
 put_request max_job_size put bytes =

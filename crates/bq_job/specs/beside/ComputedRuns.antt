@@ -1,9 +1,8 @@
 -- A run as a function: the steps that the machine takes over a history where no memory is refused. It
 -- computes, so that worked examples are checked by evaluation; that it is a run is a law.
 use Rattle.std.specs.Prelude.{List, [], ◌∷◌, ◌++◌}
-use Rattle.bq_job.specs.beside.Computed.{after_act, after_dispatch, after_wait_ends, ample}
-use Rattle.bq_job.specs.machine.{Machine.Machine, after_timers, at_moment, forgetting, granted}
-use Rattle.bq_job.specs.promise.{Entry, Transition}
+use Rattle.bq_job.specs.{beside.Computed.{after_act, after_dispatch, after_wait_ends, ample}, machine.after_timers}
+use Rattle.bq_job.specs.{machine.{at_moment, forgetting, granted, Machine.Machine}, promise.{Entry, Transition}}
 
 abbrev pub transition : Machine → Entry → Transition
 transition m e =

@@ -1,10 +1,8 @@
 -- What holds of the machine after every step.
 use Rattle.std.specs.Prelude.{ℕ, suc, Bool, true, false, ◌≡◌, ◌≤◌, ◌&&◌, ◌||◌, not, nat_le, None, List, [], ◌∷◌, map, IsTrue}
 use Rattle.std.specs.List.{list_all, list_any}
-use Rattle.bq_job.specs.declared.job.Job.{Job}
 use Rattle.bq_job.specs.machine.{Machine.Machine, SeatRecord, greatest, is_held_by, is_reserved, is_tube, is_waiting, last_id, next_end}
-use Rattle.bq_job.specs.machine.{next_job, numbers}
-use Rattle.bq_job.specs.beside.NameOrder.{is_in_order}
+use Rattle.bq_job.specs.{beside.NameOrder.is_in_order, declared.job.Job.Job, machine.{next_job, numbers}}
 use Rattle.bq_job.specs.reading.TubeName.{is_same_name}
 
 -- The ids grow strictly along the list, are at least low and below next.

@@ -1,8 +1,7 @@
 -- The moment at which something would happen by itself.
 use Rattle.std.specs.Prelude.{ℕ, Bool, true, ◌-◌, nat_lt, min, if◌then◌else◌, List, [], ◌∷◌, ◌++◌, flat_map, Option, Some, None}
-use Rattle.bq_job.specs.declared.job.JobState.{JobState}
+use Rattle.bq_job.specs.{declared.job.JobState.JobState, machine.{Pause, Wait, is_waiting_at, Machine.Machine}}
 use Rattle.bq_job.specs.declared.job.JobState.TheVariants as states
-use Rattle.bq_job.specs.machine.{Machine.Machine, Pause, Wait, is_waiting_at}
 
 -- A delayed job becomes ready. The time to run of a reserved one ends, and a second before, the wait of
 -- the client that holds it.

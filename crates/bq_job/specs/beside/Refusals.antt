@@ -1,9 +1,7 @@
 -- Answers that say that a command was not carried out.
 use Rattle.std.specs.Prelude.{ℕ, Bool, true, false, ◌≡◌, List, [], ◌∷◌, ◌++◌}
-use Rattle.bq_job.specs.Types.{Answer, Step}
+use Rattle.bq_job.specs.{machine.{GivenAnswer, acted, Machine.Machine}, promise.Parts, Types.{Answer, Step}}
 use Rattle.bq_job.specs.declared.answer.Answer.TheVariants as answers
-use Rattle.bq_job.specs.machine.{GivenAnswer, Machine.Machine, acted}
-use Rattle.bq_job.specs.promise.{Parts}
 
 abbrev pub is_refusal : Answer → Bool
 is_refusal answers.UnknownCommand = true

@@ -1,8 +1,7 @@
 -- The replay of a journal.
 use Rattle.std.specs.Prelude.{false, List, map}
-use Rattle.bq_job.specs.declared.journal.Entry.{Entry as JournalEntry}
-use Rattle.bq_job.specs.machine.{GivenAnswer, Machine.Machine, Outcome, Settings, new_machine}
-use Rattle.bq_job.specs.promise.{Entry, RunBy}
+use Rattle.bq_job.specs.{declared.journal.Entry.Entry as JournalEntry, machine.{GivenAnswer, Outcome, Settings}}
+use Rattle.bq_job.specs.{machine.{new_machine, Machine.Machine}, promise.{Entry, RunBy}}
 
 -- the step of a history that an entry of a journal tells
 abbrev pub entry_of : JournalEntry → Entry

@@ -1,8 +1,7 @@
 -- How two readings of one text may differ.
 use Rattle.std.specs.Prelude.{◌≡◌, ◌⊎◌, Bool, true, false, IsTrue, List, [], ◌∷◌}
-use Rattle.bq_job.specs.declared.request.Request.{Request}
+use Rattle.bq_job.specs.declared.{refusal.Refusal.TheVariants.{ExpectedCrlf, OutOfMemory}, request.Request.Request}
 use Rattle.bq_job.specs.declared.request.Request.TheVariants.{Put, Refused}
-use Rattle.bq_job.specs.declared.refusal.Refusal.TheVariants.{ExpectedCrlf, OutOfMemory}
 
 -- a put whose body had its memory, with a good end or a bad one
 abbrev pub had_memory : Request → Bool

@@ -1,12 +1,9 @@
 -- What a seat did: the steps that it submitted and the answers that it took, line by line. Nothing of the
 -- core is in it.
 use Rattle.std.specs.Prelude.{ℕ, false, ◌≡◌, List, [], ◌∷◌, ◌++◌}
-use Rattle.bq_job.specs.Types.{Answer, LineEnd, Step}
-use Rattle.bq_job.specs.declared.answer.Answer.TheVariants.{Closed}
+use Rattle.bq_job.specs.{declared.{answer.Answer.TheVariants.Closed, step.Step.TheVariants.Gone}, machine.has_closed}
+use Rattle.bq_job.specs.{promise.{IsLineOwed, LineOver, answers_text}, Types.{Answer, LineEnd, Step}}
 use Rattle.bq_job.specs.declared.line_end.LineEnd.TheVariants as ends
-use Rattle.bq_job.specs.declared.step.Step.TheVariants.{Gone}
-use Rattle.bq_job.specs.promise.{IsLineOwed, LineOver, answers_text}
-use Rattle.bq_job.specs.machine.{has_closed}
 
 -- A seat writes every answer that it takes for a line. So after a read fault none of them came too late.
 abbrev pub IsNoneUnwritten : LineEnd → List Answer → List ℕ → Type 0

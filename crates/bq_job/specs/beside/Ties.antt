@@ -1,10 +1,9 @@
 -- What ties the parts of a run: what each of them did, to one history of all.
 use Rattle.std.specs.Prelude.{ℕ, suc, Bool, ◌≡◌, ◌<◌, ◌==◌, IsTrue, List, [], ◌∷◌, ◌++◌, length, Option}
 use Rattle.std.specs.List.{list_all}
-use Rattle.bq_job.specs.Types.{Answer, Step}
 use Rattle.bq_job.specs.promise.{AreSeatsUpTo, Entry, IsControlDone, IsRun, LineOver, answers_to, steps_at, without_ticks}
-use Rattle.bq_job.specs.machine.{GivenAnswer, Machine.Machine, Settings}
-use Rattle.bq_job.specs.beside.SeatDid.{AreLinesServed, IsSeatDone}
+use Rattle.bq_job.specs.{beside.SeatDid.{AreLinesServed, IsSeatDone}, machine.{GivenAnswer, Settings, Machine.Machine}}
+use Rattle.bq_job.specs.Types.{Answer, Step}
 
 -- At each seat the history has what the seat submitted, and what the run gives it is what it took
 -- and what waits for it.

@@ -1,11 +1,7 @@
 -- Short words for worked examples of runs: what happens to jobs, and in which order they are handed out.
-use Rattle.std.specs.Prelude.{ℕ, ◌≡◌, List, [], ◌∷◌, flat_map}
-use Rattle.std.specs.List.{AllByRecursion}
-use Rattle.bq_job.specs.declared.job.Job.{Job}
-use Rattle.bq_job.specs.beside.{transitions}
-use Rattle.bq_job.specs.examples.Examples.{connect, server}
-use Rattle.bq_job.specs.laws.{Happening, IsUndisturbed, handed_out, happenings, parts_of_run, put}
-use Rattle.bq_job.specs.promise.{Entry, Transition}
+use Rattle.std.specs.{List.AllByRecursion, Prelude.{◌∷◌, ◌≡◌, List, [], ℕ, flat_map}}
+use Rattle.bq_job.specs.{beside.transitions, declared.job.Job.Job, examples.Examples.{connect, server}, laws.Happening}
+use Rattle.bq_job.specs.{laws.{IsUndisturbed, handed_out, happenings, parts_of_run, put}, promise.{Entry, Transition}}
 
 -- the steps of a server with three seats, once a client has come to each of them at the moment 0
 abbrev pub taken : List Entry → List Transition

@@ -1,9 +1,8 @@
 -- Machines and jobs whose texts were written down by hand.
 use Rattle.std.specs.Prelude.{true, [], ◌∷◌, codes, None}
-use Rattle.bq_job.specs.declared.job.Job.{Job}
+use Rattle.bq_job.specs.{declared.job.Job.Job, examples.Examples.plain, machine.{Settings, default_tube, empty_seat}}
+use Rattle.bq_job.specs.machine.{new_machine, no_counts, Machine.Machine}
 use Rattle.bq_job.specs.declared.job.JobState.TheVariants as states
-use Rattle.bq_job.specs.examples.Examples.{plain}
-use Rattle.bq_job.specs.machine.{Machine.Machine, Settings, default_tube, empty_seat, new_machine, no_counts}
 
 abbrev pub one_seat : Settings
 one_seat = plain 1 65535

@@ -1,13 +1,12 @@
 -- What happens to jobs in a run: one list of happenings in their order, and the machine after each part
 -- of a step.
 use Rattle.std.specs.Prelude.{ℕ, ◌==◌, if◌then◌else◌, is_none, Option, Some, None, List, [], ◌∷◌, ◌++◌, map, filter, flat_map}
-use Rattle.bq_job.specs.Types.{Answer, Job, JobState, Step}
+use Rattle.bq_job.specs.machine.{GivenAnswer, Machine.Machine, after_timers, at_moment, forgetting, is_expired, job_with}
+use Rattle.bq_job.specs.{promise.Transition, Types.{Answer, Job, JobState, Step}}
 use Rattle.bq_job.specs.declared.answer.Answer.TheVariants as answers
 use Rattle.bq_job.specs.declared.job.JobState.TheVariants as states
 use Rattle.bq_job.specs.declared.request.Request.TheVariants as requests
 use Rattle.bq_job.specs.declared.step.Step.TheVariants as steps
-use Rattle.bq_job.specs.machine.{GivenAnswer, Machine.Machine, after_timers, at_moment, forgetting, is_expired, job_with}
-use Rattle.bq_job.specs.promise.{Transition}
 
 -- what can happen to a job; all but its put name it by its id
 pub data Happening : Type 0 where

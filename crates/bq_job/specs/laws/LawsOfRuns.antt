@@ -1,14 +1,12 @@
 -- What holds of whole runs.
 use Rattle.std.specs.Prelude.{ℕ, Bool, true, false, ◌≡◌, ◌==◌, ◌⊎◌, IsTrue, not, List, [], ◌∷◌, ◌++◌, Contains}
 use Rattle.std.specs.List.{list_any}
-use Rattle.bq_job.specs.Types.{Answer, Job}
+use Rattle.bq_job.specs.machine.{Chain, DispatchTurn, GivenAnswer, Machine.Machine, acted, addressed, after_timers, at_moment, forgetting}
+use Rattle.bq_job.specs.{laws.LeastJob.GetsLeast, machine.{is_connected_at, is_held_by, is_reserved}}
+use Rattle.bq_job.specs.{promise.Transition, Types.{Answer, Job}}
 use Rattle.bq_job.specs.declared.answer.Answer.TheVariants as answers
 use Rattle.bq_job.specs.declared.request.Request.TheVariants as requests
 use Rattle.bq_job.specs.declared.step.Step.TheVariants as steps
-use Rattle.bq_job.specs.machine.{Chain, DispatchTurn, GivenAnswer, Machine.Machine, acted, addressed, after_timers, at_moment, forgetting}
-use Rattle.bq_job.specs.machine.{is_connected_at, is_held_by, is_reserved}
-use Rattle.bq_job.specs.laws.LeastJob.{GetsLeast}
-use Rattle.bq_job.specs.promise.{Transition}
 
 -- The client gets the job as the command's own answer to its reserve-job.
 pub record IsReservedById (t : Transition) (early : List GivenAnswer) (seat id : ℕ) : Type 0 where

@@ -1,6 +1,5 @@
 -- The least job that a client may have.
-use Rattle.std.specs.Prelude.{ℕ, ◌≡◌, List, Contains, IsTrue}
-use Rattle.std.specs.Bool.{IsFalse}
+use Rattle.std.specs.{Bool.IsFalse, Prelude.{◌≡◌, Contains, IsTrue, List, ℕ}}
 use Rattle.bq_job.specs.declared.job.Job.{Job}
 use Rattle.bq_job.specs.machine.{Machine.Machine, SeatRecord, is_job_before, is_waiting, may_have}
 

@@ -1,17 +1,14 @@
 -- The headline whole: of a run that left a history, the one run of the machine along it, the bytes of each
 -- line, and what became of jobs.
-use Rattle.std.specs.Prelude.{ℕ, Bool, false, ◌≡◌, ◌≤◌, ◌==◌, List, [], ◌∷◌, ◌++◌, Option}
-use Rattle.std.specs.Prelude.{Contains, IsTrue, count_by, flat_map, length, map}
-use Rattle.std.specs.List.{list_all, list_any}
-use Rattle.bq_job.specs.declared.answer.Answer.TheVariants.{Deleted, Inserted}
-use Rattle.bq_job.specs.declared.job.Job.{Job}
-use Rattle.bq_job.specs.declared.step.Step.TheVariants.{Drain}
+use Rattle.std.specs.{List.{list_all, list_any}, Prelude.{◌++◌, ◌==◌, ◌∷◌, ◌≡◌, ◌≤◌, Bool, Contains, IsTrue, List}}
+use Rattle.std.specs.Prelude.{Option, [], ℕ, count_by, false, flat_map, length, map}
 use Rattle.bq_job.specs.promise.{AreDoorsOwed, AreLinesOwed, AreSeatsUpTo, Entry, GoesBy, IsControlDone, IsTimedBy, LineOver, Transition}
-use Rattle.bq_job.specs.promise.{answers_to, steps_at, without_ticks}
-use Rattle.bq_job.specs.machine.{GivenAnswer, Machine.Machine, Settings, last_id, new_machine}
-use Rattle.bq_job.specs.laws.Happenings.{Happening, Part, happenings, parts_of_run, put}
-use Rattle.bq_job.specs.laws.LawsOfRuns.{GivesLeast, IsDeletion, IsHeldByOne, IsKept, has_inserted}
 use Rattle.bq_job.specs.laws.Undisturbed.{IsHandedOut, IsHandedOutBefore, IsPutBefore, IsUndisturbed, is_deletion, is_hand_out}
+use Rattle.bq_job.specs.declared.{answer.Answer.TheVariants.{Deleted, Inserted}, job.Job.Job}
+use Rattle.bq_job.specs.{declared.step.Step.TheVariants.Drain, laws.Happenings.{Happening, Part, happenings}}
+use Rattle.bq_job.specs.laws.{Happenings.{parts_of_run, put}, LawsOfRuns.{GivesLeast, IsDeletion, IsHeldByOne, IsKept}}
+use Rattle.bq_job.specs.{laws.LawsOfRuns.has_inserted, machine.{GivenAnswer, Settings, last_id, new_machine}}
+use Rattle.bq_job.specs.{machine.Machine.Machine, promise.{answers_to, steps_at, without_ticks}}
 
 -- What becomes of jobs as these steps are taken, and these things happen to jobs.
 pub record AreJobsServed (taken : List Transition) (happened : List Happening) : Type 0 where

@@ -1,9 +1,7 @@
 -- What a command may do: change the machine, and answer.
 use Rattle.std.specs.Prelude.{ℕ, Bool, if◌then◌else◌, Option, Some, None}
-use Rattle.bq_job.specs.Types.{Answer, Job}
+use Rattle.bq_job.specs.{machine.{Changes.job_with, Machine.Machine}, Types.{Answer, Job}}
 use Rattle.bq_job.specs.declared.answer.Answer.TheVariants as answers
-use Rattle.bq_job.specs.machine.Changes.{job_with}
-use Rattle.bq_job.specs.machine.Machine.{Machine}
 
 -- the machine after a command, and the answer to it, if there is one
 pub record Effect : Type 0 where

@@ -1,20 +1,18 @@
 -- The command's own effect: what each request and each other event does by itself.
 use Rattle.std.specs.Prelude.{ℕ, true, ◌&&◌, not, if◌then◌else◌, Option, Some, None, map}
-use Rattle.bq_job.specs.Types.{Answer, JobState, Refusal, Request, Step}
+use Rattle.bq_job.specs.machine.JobCommands.{bury_effect, delayed_by, delete_effect, kick_effect, kick_job_effect, put_effect}
+use Rattle.bq_job.specs.machine.{Acts.{Effect, silent, telling}, Changes.{given_back, is_waiting, seat_with, with_seat}}
+use Rattle.bq_job.specs.machine.JobCommands.{release_effect, reserve_effect, reserve_job_effect, touch_effect}
+use Rattle.bq_job.specs.machine.{Limits.{later, raised}, Machine.{Machine, SeatRecord, empty_seat}}
+use Rattle.bq_job.specs.machine.StatisticsCommands.{list_tubes_effect, list_watched_effect, stats_effect}
+use Rattle.bq_job.specs.machine.{StatisticsCommands.{stats_job_effect, stats_tube_effect}, TubeCommands.ignore_effect}
+use Rattle.bq_job.specs.machine.TubeCommands.{pause_effect, peek_buried_effect, peek_delayed_effect, peek_effect}
+use Rattle.bq_job.specs.{machine.TubeCommands.{peek_ready_effect, use_effect, watch_effect}, Types.{Answer, JobState}}
+use Rattle.bq_job.specs.Types.{Refusal, Request, Step}
 use Rattle.bq_job.specs.declared.answer.Answer.TheVariants as answers
 use Rattle.bq_job.specs.declared.refusal.Refusal.TheVariants as refusals
 use Rattle.bq_job.specs.declared.request.Request.TheVariants as requests
 use Rattle.bq_job.specs.declared.step.Step.TheVariants as steps
-use Rattle.bq_job.specs.machine.Acts.{Effect, telling, silent}
-use Rattle.bq_job.specs.machine.Changes.{given_back, is_waiting, seat_with, with_seat}
-use Rattle.bq_job.specs.machine.JobCommands.{bury_effect, delayed_by, delete_effect, kick_effect, kick_job_effect, put_effect}
-use Rattle.bq_job.specs.machine.JobCommands.{release_effect, reserve_effect, reserve_job_effect, touch_effect}
-use Rattle.bq_job.specs.machine.Limits.{raised, later}
-use Rattle.bq_job.specs.machine.Machine.{Machine, SeatRecord, empty_seat}
-use Rattle.bq_job.specs.machine.StatisticsCommands.{list_tubes_effect, list_watched_effect, stats_effect}
-use Rattle.bq_job.specs.machine.StatisticsCommands.{stats_job_effect, stats_tube_effect}
-use Rattle.bq_job.specs.machine.TubeCommands.{ignore_effect, pause_effect, peek_buried_effect, peek_delayed_effect}
-use Rattle.bq_job.specs.machine.TubeCommands.{peek_effect, peek_ready_effect, use_effect, watch_effect}
 
 -- the answer to a request that the reader refused
 abbrev pub refusal_answer : Refusal → Answer

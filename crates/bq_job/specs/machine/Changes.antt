@@ -1,9 +1,8 @@
 -- Words for reading and changing parts of the machine.
 use Rattle.std.specs.Prelude.{ℕ, Bool, true, false, ◌&&◌, ◌||◌, ◌==◌, nat_lt, if◌then◌else◌, List}
 use Rattle.std.specs.Prelude.{Option, Some, None, is_some, map, fold, find}
-use Rattle.bq_job.specs.Types.{Job, JobState}
+use Rattle.bq_job.specs.{machine.Machine.{Machine, SeatRecord}, Types.{Job, JobState}}
 use Rattle.bq_job.specs.declared.job.JobState.TheVariants as states
-use Rattle.bq_job.specs.machine.Machine.{Machine, SeatRecord}
 
 -- of two that pass the test, the one that comes before the other
 abbrev pub better_of : {A : Type 0} → (A → Bool) → (A → A → Bool) → Option A → A → Option A

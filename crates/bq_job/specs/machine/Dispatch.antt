@@ -1,14 +1,11 @@
 -- Dispatch: while some waiting client may have a ready job, the least of all such jobs goes to the
 -- client that has waited longest of those that may have it.
-use Rattle.std.specs.Prelude.{ℕ, Bool, ◌≡◌, ◌&&◌, ◌⊎◌, not, Option, Some, None, MatchOption}
-use Rattle.std.specs.List.{list_any}
-use Rattle.bq_job.specs.Types.{Answer, Counts, Job}
+use Rattle.std.specs.{List.list_any, Prelude.{◌&&◌, ◌≡◌, ◌⊎◌, Bool, MatchOption, None, Option, Some, ℕ, not}}
+use Rattle.bq_job.specs.machine.Changes.{first_of, is_pair_before, is_waiting, is_ready, with_job, with_seat, without_wait}
+use Rattle.bq_job.specs.machine.{Limits.{later, raised}, Machine.{Machine, SeatRecord, Wait}, Tubes.is_paused}
+use Rattle.bq_job.specs.{machine.Tubes.watches, Types.{Answer, Counts, Job}}
 use Rattle.bq_job.specs.declared.answer.Answer.TheVariants as answers
 use Rattle.bq_job.specs.declared.job.JobState.TheVariants as states
-use Rattle.bq_job.specs.machine.Changes.{first_of, is_pair_before, is_waiting, is_ready, with_job, with_seat, without_wait}
-use Rattle.bq_job.specs.machine.Limits.{raised, later}
-use Rattle.bq_job.specs.machine.Machine.{Machine, SeatRecord, Wait}
-use Rattle.bq_job.specs.machine.Tubes.{watches, is_paused}
 
 -- an answer, and the seat that it goes to
 abbrev pub GivenAnswer : Type 0

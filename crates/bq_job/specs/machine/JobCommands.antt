@@ -1,18 +1,13 @@
 -- The commands put, reserve, delete, release, bury, touch, kick and their kin.
-use Rattle.std.specs.Prelude.{ℕ, Bool, false, ◌+◌, ◌-◌, ◌^◌, ◌&&◌, ◌||◌, ◌==◌, not, nat_le, if◌then◌else◌, max}
-use Rattle.std.specs.Prelude.{Option, None, Some, List, [], ◌∷◌, ◌++◌, map, filter, length, take}
-use Rattle.std.specs.List.{list_any}
+use Rattle.std.specs.{List.list_any, Prelude.{◌&&◌, ◌++◌, ◌+◌, ◌-◌, ◌==◌, ◌^◌, ◌||◌, ◌∷◌, if◌then◌else◌, Bool, List}}
+use Rattle.std.specs.Prelude.{None, Option, Some, [], ℕ, false, filter, length, map, max, nat_le, not, take}
 use Rattle.bq_job.specs.declared.answer.Answer.TheVariants as answers
-use Rattle.bq_job.specs.Types.{Counts, Job, JobState}
 use Rattle.bq_job.specs.declared.job.JobState.TheVariants as states
-use Rattle.bq_job.specs.machine.Acts.{Effect, telling, silent, on_job}
-use Rattle.bq_job.specs.machine.Changes.{is_held_by, with_job, with_seat, in_state}
-use Rattle.bq_job.specs.machine.Dispatch.{reserved_by}
-use Rattle.bq_job.specs.machine.JobStates.{is_reserved, is_delayed, is_buried, is_due_before, is_buried_before}
-use Rattle.bq_job.specs.machine.Limits.{raised, later}
-use Rattle.bq_job.specs.machine.Machine.{Machine, SeatRecord, TubeRecord}
-use Rattle.bq_job.specs.machine.Tubes.{with_tube}
-use Rattle.bq_job.specs.reading.TubeName.{is_same_name}
+use Rattle.bq_job.specs.machine.{Acts.{Effect, on_job, silent, telling}, Changes.{in_state, is_held_by, with_job}}
+use Rattle.bq_job.specs.machine.{Changes.with_seat, Dispatch.reserved_by, JobStates.{is_buried, is_buried_before}}
+use Rattle.bq_job.specs.machine.{JobStates.{is_delayed, is_due_before, is_reserved}, Limits.{later, raised}}
+use Rattle.bq_job.specs.machine.{Machine.{Machine, SeatRecord, TubeRecord}, Tubes.with_tube}
+use Rattle.bq_job.specs.{reading.TubeName.is_same_name, Types.{Counts, Job, JobState}}
 
 -- The last id that is given: with it the machine begins to drain, so that the next id always fits.
 abbrev pub last_id : ℕ

@@ -1,8 +1,7 @@
 -- The states of a job, and the orders of delayed and buried jobs.
 use Rattle.std.specs.Prelude.{ℕ, Bool, true, false}
-use Rattle.bq_job.specs.Types.{Job, JobState}
+use Rattle.bq_job.specs.{machine.Changes.is_pair_before, Types.{Job, JobState}}
 use Rattle.bq_job.specs.declared.job.JobState.TheVariants as states
-use Rattle.bq_job.specs.machine.Changes.{is_pair_before}
 
 abbrev pub is_reserved : JobState → Bool
 is_reserved (states.Reserved seat deadline) = true

@@ -1,10 +1,7 @@
 -- Of one client: whether it is connected and waits, and whether it was told that it is gone.
-use Rattle.std.specs.Prelude.{ℕ, Bool, true, false, ◌==◌, ◌&&◌, List}
-use Rattle.std.specs.List.{list_any}
-use Rattle.bq_job.specs.declared.answer.Answer.{Answer}
+use Rattle.std.specs.{List.list_any, Prelude.{◌&&◌, ◌==◌, Bool, List, ℕ, false, true}}
+use Rattle.bq_job.specs.{declared.answer.Answer.Answer, machine.{Changes.is_waiting, Machine.Machine}}
 use Rattle.bq_job.specs.declared.answer.Answer.TheVariants as answers
-use Rattle.bq_job.specs.machine.Changes.{is_waiting}
-use Rattle.bq_job.specs.machine.Machine.{Machine}
 
 abbrev pub is_connected_at : ℕ → Machine → Bool
 is_connected_at seat m = list_any (λ s. s.number == seat && s.connected) m.seats

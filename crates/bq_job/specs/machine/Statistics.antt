@@ -2,15 +2,11 @@
 -- now, beside the counters that the machine keeps.
 use Rattle.std.specs.Prelude.{ℕ, Bool, true, false, ◌&&◌, ◌-◌, ◌/◌, nat_lt, Option, Some, None, List}
 use Rattle.std.specs.Prelude.{[], ◌∷◌, ◌++◌, length, count_by, filter, codes}
-use Rattle.bq_job.specs.Types.{Job, JobState}
+use Rattle.bq_job.specs.machine.{Changes.{is_ready, is_waiting}, JobStates.{is_buried, is_delayed, is_reserved}}
+use Rattle.bq_job.specs.{machine.Machine.{Machine, Pause}, reading.TubeName.is_same_name, Types.{Job, JobState}}
 use Rattle.bq_job.specs.declared.job.JobState.TheVariants as states
-use Rattle.bq_job.specs.machine.Changes.{is_ready, is_waiting}
-use Rattle.bq_job.specs.machine.JobStates.{is_reserved, is_delayed, is_buried}
-use Rattle.bq_job.specs.machine.Machine.{Machine, Pause}
-use Rattle.bq_job.specs.reading.TubeName.{is_same_name}
 pub use Rattle.bq_job.specs.machine.TubeOrder.{name_list, tubes}
-use Rattle.bq_job.specs.machine.Tubes.{tube_record, watches}
-use Rattle.bq_job.specs.texts.Yaml.{KeyValue, key_number, statistics_text}
+use Rattle.bq_job.specs.{machine.Tubes.{tube_record, watches}, texts.Yaml.{KeyValue, key_number, statistics_text}}
 
 -- whole seconds from one moment to a later one, rounded down; 0 where it isn't later
 abbrev pub seconds_between : ℕ → ℕ → ℕ

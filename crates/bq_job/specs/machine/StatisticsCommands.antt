@@ -1,12 +1,9 @@
 -- The commands that answer a YAML text.
 use Rattle.std.specs.Prelude.{ℕ, if◌then◌else◌, Option, Some, None, List}
 use Rattle.bq_job.specs.declared.answer.Answer.TheVariants as answers
-use Rattle.bq_job.specs.declared.job.Job.{Job}
-use Rattle.bq_job.specs.machine.Acts.{Effect, telling}
-use Rattle.bq_job.specs.machine.Changes.{job_with}
-use Rattle.bq_job.specs.machine.Machine.{Machine, SeatRecord}
-use Rattle.bq_job.specs.machine.Statistics.{job_statistics, name_list, server_statistics, tube_statistics, tubes}
-use Rattle.bq_job.specs.machine.Tubes.{is_tube}
+use Rattle.bq_job.specs.{declared.job.Job.Job, machine.{Acts.{Effect, telling}, Changes.job_with, Machine.Machine}}
+use Rattle.bq_job.specs.machine.{Machine.SeatRecord, Statistics.{job_statistics, name_list, server_statistics}}
+use Rattle.bq_job.specs.machine.{Statistics.{tube_statistics, tubes}, Tubes.is_tube}
 
 abbrev pub job_statistics_or_not : Machine → Option Job → Effect
 job_statistics_or_not m None = telling answers.NotFound m

@@ -1,17 +1,12 @@
 -- A step of the machine: six parts, and what want of memory may change.
 use Rattle.std.specs.Prelude.{ℕ, Bool, true, false, ◌≡◌, ◌&&◌, ◌||◌, Option, Some, None, List, [], ◌∷◌, ◌++◌, IsTrue}
 use Rattle.std.specs.List.{list_any}
-use Rattle.bq_job.specs.Types.{Answer, Request, Step}
+use Rattle.bq_job.specs.machine.{Acts.{Effect, telling}, Asked.effect, Dispatch.{DispatchTurn, GivenAnswer, next_job}}
+use Rattle.bq_job.specs.machine.{Machine.Machine, Timers.{after_timers, at_moment}, Tubes.forgetting, Waits.Chain}
+use Rattle.bq_job.specs.{machine.Waits.{WaitEndTurn, next_end}, Types.{Answer, Request, Step}}
 use Rattle.bq_job.specs.declared.answer.Answer.TheVariants as answers
 use Rattle.bq_job.specs.declared.request.Request.TheVariants as requests
 use Rattle.bq_job.specs.declared.step.Step.TheVariants as steps
-use Rattle.bq_job.specs.machine.Acts.{Effect, telling}
-use Rattle.bq_job.specs.machine.Asked.{effect}
-use Rattle.bq_job.specs.machine.Dispatch.{DispatchTurn, GivenAnswer, next_job}
-use Rattle.bq_job.specs.machine.Machine.{Machine}
-use Rattle.bq_job.specs.machine.Timers.{after_timers, at_moment}
-use Rattle.bq_job.specs.machine.Tubes.{forgetting}
-use Rattle.bq_job.specs.machine.Waits.{Chain, WaitEndTurn, next_end}
 
 -- what became of the memory that a command wanted: it was given, a growth was refused, or one more
 -- owner of a body was refused

@@ -1,10 +1,8 @@
 -- The first part of a step: timers that are due fire, over the whole state at once.
 use Rattle.std.specs.Prelude.{ℕ, Bool, false, nat_le, if◌then◌else◌, Option, Some, None, map, count_by, max}
+use Rattle.bq_job.specs.machine.{Changes.in_state, Limits.{grown, raised}, Machine.{Machine, Pause, TubeRecord}}
 use Rattle.bq_job.specs.Types.{Counts, Job, JobState}
 use Rattle.bq_job.specs.declared.job.JobState.TheVariants as states
-use Rattle.bq_job.specs.machine.Changes.{in_state}
-use Rattle.bq_job.specs.machine.Limits.{grown, raised}
-use Rattle.bq_job.specs.machine.Machine.{Machine, Pause, TubeRecord}
 
 -- A moment below that of an earlier step counts as that one.
 abbrev pub at_moment : ℕ → Machine → Machine

@@ -1,16 +1,11 @@
 -- The commands that choose tubes, pause them, and show jobs.
 use Rattle.std.specs.Prelude.{ℕ, Bool, ◌&&◌, ◌==◌, not, if◌then◌else◌, Option, Some, None, List, [], ◌∷◌, ◌++◌, filter, length}
 use Rattle.bq_job.specs.declared.answer.Answer.TheVariants as answers
-use Rattle.bq_job.specs.declared.job.Job.{Job}
-use Rattle.bq_job.specs.machine.Acts.{Effect, telling, showing}
-use Rattle.bq_job.specs.machine.Changes.{first_of, is_ready, job_with, with_seat}
-use Rattle.bq_job.specs.machine.Dispatch.{is_job_before}
-use Rattle.bq_job.specs.machine.JobCommands.{is_buried_in, is_delayed_in}
-use Rattle.bq_job.specs.machine.JobStates.{is_buried_before, is_due_before}
-use Rattle.bq_job.specs.machine.Limits.{raised, later}
-use Rattle.bq_job.specs.machine.Machine.{Machine, Pause, SeatRecord, TubeRecord}
-use Rattle.bq_job.specs.machine.Tubes.{is_tube, watches, with_tube}
-use Rattle.bq_job.specs.reading.TubeName.{is_same_name}
+use Rattle.bq_job.specs.{declared.job.Job.Job, machine.{Acts.{Effect, showing, telling}, Changes.{first_of, is_ready}}}
+use Rattle.bq_job.specs.machine.{Changes.{job_with, with_seat}, Dispatch.is_job_before, JobCommands.is_buried_in}
+use Rattle.bq_job.specs.machine.{JobCommands.is_delayed_in, JobStates.{is_buried_before, is_due_before}, Limits.later}
+use Rattle.bq_job.specs.machine.{Limits.raised, Machine.{Machine, Pause, SeatRecord, TubeRecord}, Tubes.is_tube}
+use Rattle.bq_job.specs.{machine.Tubes.{watches, with_tube}, reading.TubeName.is_same_name}
 
 abbrev pub using : List ℕ → SeatRecord → SeatRecord
 using tube s = record s { used = tube }

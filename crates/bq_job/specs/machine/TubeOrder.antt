@@ -1,9 +1,7 @@
 -- The tubes that exist, and the order in which names are listed.
 use Rattle.std.specs.Prelude.{ℕ, if◌then◌else◌, List, [], ◌∷◌, ◌++◌, fold, map, flat_map, codes}
-use Rattle.bq_job.specs.machine.Machine.{Machine, SeatRecord, default_tube}
-use Rattle.bq_job.specs.reading.TubeName.{is_same_name}
-use Rattle.bq_job.specs.machine.Tubes.{is_name_before}
-use Rattle.bq_job.specs.texts.Yaml.{name_line}
+use Rattle.bq_job.specs.machine.{Machine.{Machine, SeatRecord, default_tube}, Tubes.is_name_before}
+use Rattle.bq_job.specs.{reading.TubeName.is_same_name, texts.Yaml.name_line}
 
 -- the names with this one at its place in byte order, unless it is there
 abbrev pub with_name : List (List ℕ) → List ℕ → List (List ℕ)

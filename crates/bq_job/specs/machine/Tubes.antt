@@ -1,10 +1,7 @@
 -- Which tubes exist, and what is kept of them.
-use Rattle.std.specs.Prelude.{ℕ, Bool, ◌&&◌, ◌||◌, if◌then◌else◌, List, [], ◌∷◌, None, is_some, unwrap_or, filter, find}
-use Rattle.std.specs.List.{list_any}
-use Rattle.std.specs.Cmp.Lexicographic.{slice_cmp}
-use Rattle.std.specs.Ordering.{nat_cmp, is_lt}
-use Rattle.bq_job.specs.machine.Machine.{Machine, SeatRecord, TubeRecord, default_tube}
-use Rattle.bq_job.specs.reading.TubeName.{is_same_name}
+use Rattle.std.specs.{Cmp.Lexicographic.slice_cmp, List.list_any, Ordering.{is_lt, nat_cmp}, Prelude.{◌&&◌, ◌||◌, ◌∷◌}}
+use Rattle.std.specs.Prelude.{if◌then◌else◌, Bool, List, None, [], ℕ, filter, find, is_some, unwrap_or}
+use Rattle.bq_job.specs.{machine.Machine.{Machine, SeatRecord, TubeRecord, default_tube}, reading.TubeName.is_same_name}
 
 abbrev pub watches : List ℕ → SeatRecord → Bool
 watches name s = list_any (is_same_name name) s.watched

@@ -1,13 +1,10 @@
 -- Waits that end without a job, and chains of turns.
-use Rattle.std.specs.Prelude.{ℕ, Bool, false, ◌≡◌, ◌==◌, ◌&&◌, ◌||◌, ◌+◌, nat_le, if◌then◌else◌}
-use Rattle.std.specs.Prelude.{Option, Some, None, MatchOption, List, [], ◌∷◌}
-use Rattle.std.specs.List.{list_any}
-use Rattle.bq_job.specs.Types.{Answer, JobState}
+use Rattle.std.specs.{List.list_any, Prelude.{◌&&◌, ◌+◌, ◌==◌, ◌||◌, ◌∷◌, ◌≡◌, if◌then◌else◌, Bool, List, MatchOption}}
+use Rattle.std.specs.Prelude.{None, Option, Some, [], ℕ, false, nat_le}
+use Rattle.bq_job.specs.{machine.Changes.{first_of, is_waiting, with_seat, without_wait}, Types.{Answer, JobState}}
+use Rattle.bq_job.specs.machine.{Dispatch.{GivenAnswer, is_wait_before}, Machine.{Machine, SeatRecord, Wait}}
 use Rattle.bq_job.specs.declared.answer.Answer.TheVariants as answers
 use Rattle.bq_job.specs.declared.job.JobState.TheVariants as states
-use Rattle.bq_job.specs.machine.Changes.{first_of, is_waiting, with_seat, without_wait}
-use Rattle.bq_job.specs.machine.Dispatch.{GivenAnswer, is_wait_before}
-use Rattle.bq_job.specs.machine.Machine.{Machine, SeatRecord, Wait}
 
 -- a lease of the seat that ends within a second
 abbrev pub is_ending_lease : ℕ → ℕ → JobState → Bool

@@ -1,8 +1,7 @@
 -- What the core did: from the start it took steps, each at the moment of a reading of the clock, and gave
 -- answers. No seat is in it.
 use Rattle.std.specs.Prelude.{ℕ, List, Option}
-use Rattle.bq_job.specs.machine.{GivenAnswer, Machine.Machine, Settings, new_machine}
-use Rattle.bq_job.specs.promise.History.{IsTimedBy}
+use Rattle.bq_job.specs.{machine.{GivenAnswer, Settings, new_machine, Machine.Machine}, promise.History.IsTimedBy}
 use Rattle.bq_job.specs.promise.Runs.{Entry, Run}
 
 pub record IsRun (settings : Settings) (readings : List (Option ℕ)) (history : List Entry)

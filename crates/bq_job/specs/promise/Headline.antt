@@ -1,14 +1,9 @@
 -- One history of everybody's steps, and what each client is written along it.
 use Rattle.std.specs.Prelude.{ℕ, suc, Bool, ◌≡◌, ◌==◌, IsTrue, nat_le, List, [], ◌∷◌, ◌++◌, length, Option}
 use Rattle.std.specs.List.{list_all}
-use Rattle.bq_job.specs.Types.{Answer, Step}
-use Rattle.bq_job.specs.declared.step.Step.TheVariants.{Gone}
-use Rattle.bq_job.specs.promise.ControlDid.{IsControlDone}
-use Rattle.bq_job.specs.promise.CoreDid.{IsRun}
-use Rattle.bq_job.specs.machine.{GivenAnswer, Machine.Machine, Settings}
-use Rattle.bq_job.specs.promise.History.{LineOver, steps_at, without_ticks}
-use Rattle.bq_job.specs.promise.LineOwed.{AreLinesOwed}
-use Rattle.bq_job.specs.promise.Runs.{Entry, answers_to}
+use Rattle.bq_job.specs.{declared.step.Step.TheVariants.Gone, machine.{GivenAnswer, Settings, Machine.Machine}}
+use Rattle.bq_job.specs.promise.{ControlDid.IsControlDone, CoreDid.IsRun, History.{LineOver, steps_at, without_ticks}}
+use Rattle.bq_job.specs.{promise.{LineOwed.AreLinesOwed, Runs.{Entry, answers_to}}, Types.{Answer, Step}}
 
 -- A door that is done. At its seat are the steps of its lines, in the order in which they were over, and
 -- then it is said that no more come. Each line is owed what it was written, and nothing came after that.

@@ -1,9 +1,7 @@
 -- One history of everybody's steps.
 use Rattle.std.specs.Prelude.{ℕ, Bool, true, false, ◌≡◌, ◌⊎◌, ◌==◌, not, max, List, [], ◌∷◌, map, filter, Option, Some, None}
-use Rattle.bq_job.specs.Types.{LineEnd, Step}
+use Rattle.bq_job.specs.{promise.{LineSteps.LineSeen, Runs.Entry}, Types.{LineEnd, Step}}
 use Rattle.bq_job.specs.declared.step.Step.TheVariants as steps
-use Rattle.bq_job.specs.promise.LineSteps.{LineSeen}
-use Rattle.bq_job.specs.promise.Runs.{Entry}
 
 -- a line that is over, and how
 pub record LineOver : Type 0 where

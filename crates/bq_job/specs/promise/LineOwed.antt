@@ -1,10 +1,7 @@
 -- What a client's line is owed, and the lines of a door one after another.
 use Rattle.std.specs.Prelude.{ℕ, false, ◌≡◌, List, [], ◌∷◌, ◌++◌}
-use Rattle.bq_job.specs.Types.{Answer, Step}
-use Rattle.bq_job.specs.declared.answer.Answer.TheVariants.{Closed}
-use Rattle.bq_job.specs.promise.History.{LineOver}
-use Rattle.bq_job.specs.promise.LineSteps.{AreAllAnswered, IsStepsOfLine, IsWritten, heard}
-use Rattle.bq_job.specs.machine.{has_closed}
+use Rattle.bq_job.specs.{declared.answer.Answer.TheVariants.Closed, machine.has_closed, promise.History.LineOver}
+use Rattle.bq_job.specs.{promise.LineSteps.{AreAllAnswered, IsStepsOfLine, IsWritten, heard}, Types.{Answer, Step}}
 
 -- One line that is over. These are its steps, each request was answered, and it was written exactly what it
 -- is owed of these answers.

@@ -1,13 +1,12 @@
 -- What a client's line does: its steps, and the bytes that are written to it.
 use Rattle.std.specs.Prelude.{ℕ, Bool, true, false, ◌≡◌, ◌≢◌, ◌⊎◌, ◌+◌, not, IsTrue, List, []}
 use Rattle.std.specs.Prelude.{◌∷◌, ◌++◌, map, length, flat_map, Option, Some}
-use Rattle.bq_job.specs.Types.{Answer, LineEnd, LineFault, Request, Step}
+use Rattle.bq_job.specs.{reading.Reading.{Reads, ends_by_quit}, texts.AnswerText.answer_text, Types.{Answer, LineEnd}}
+use Rattle.bq_job.specs.Types.{LineFault, Request, Step}
 use Rattle.bq_job.specs.declared.line_end.LineEnd.TheVariants as ends
 use Rattle.bq_job.specs.declared.line_end.LineFault.TheVariants as faults
 use Rattle.bq_job.specs.declared.request.Request.TheVariants as requests
 use Rattle.bq_job.specs.declared.step.Step.TheVariants as steps
-use Rattle.bq_job.specs.texts.AnswerText.{answer_text}
-use Rattle.bq_job.specs.reading.Reading.{Reads, ends_by_quit}
 
 -- a line as it tells itself: the bytes read and written, whether a read answered that no more comes, and
 -- the first fault that a read or a write answered

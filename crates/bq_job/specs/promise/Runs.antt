@@ -1,7 +1,6 @@
 -- Runs of the machine over a history.
 use Rattle.std.specs.Prelude.{ℕ, ◌≡◌, ◌==◌, List, [], ◌∷◌, map, filter, flat_map}
-use Rattle.bq_job.specs.Types.{Answer, Step}
-use Rattle.bq_job.specs.machine.{GivenAnswer, IsStep, Machine.Machine, Memory, Outcome}
+use Rattle.bq_job.specs.{machine.{GivenAnswer, IsStep, Memory, Outcome, Machine.Machine}, Types.{Answer, Step}}
 
 -- one step of a history
 pub record Entry : Type 0 where

@@ -1,10 +1,8 @@
 -- What a line asks for.
 use Rattle.std.specs.Prelude.{ℕ, nat_lt, List, [], ◌∷◌, Option, Some, None, length, option_map, unwrap_or, if◌then◌else◌}
-use Rattle.bq_job.specs.reading.Words.{words, number, job_id, tube_name}
-use Rattle.bq_job.specs.reading.CommandWords.{Command, command_named}
-use Rattle.bq_job.specs.declared.request.Request.{Request}
+use Rattle.bq_job.specs.declared.{refusal.Refusal.TheVariants.{BadFormat, UnknownCommand}, request.Request.Request}
+use Rattle.bq_job.specs.reading.{CommandWords.{Command, command_named}, Words.{job_id, number, tube_name, words}}
 use Rattle.bq_job.specs.declared.request.Request.TheVariants as requests
-use Rattle.bq_job.specs.declared.refusal.Refusal.TheVariants.{UnknownCommand, BadFormat}
 
 -- the numbers of a put's line: priority, delay and time to run as they are written, and how many
 -- bytes its body has

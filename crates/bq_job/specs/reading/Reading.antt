@@ -1,12 +1,10 @@
 -- The reading of a text into requests. It depends on how many bytes a job may have at most.
 use Rattle.std.specs.Prelude.{ℕ, ◌≡◌, ◌+◌, ◌⊎◌, Bool, true, false, ◌&&◌, not, nat_lt, IsTrue, MatchBool}
 use Rattle.std.specs.Prelude.{MatchOption, List, [], ◌∷◌, ◌++◌, length, take, drop, if◌then◌else◌}
+use Rattle.bq_job.specs.declared.refusal.Refusal.TheVariants.{ExpectedCrlf, JobTooBig, OutOfMemory}
+use Rattle.bq_job.specs.{declared.request.Request.{Request, TheVariants.{Put, Quit, Refused}}, reading.Line.first_line}
+use Rattle.bq_job.specs.reading.{Line.line_end, LineRead.{LineRead, PutLine, PutWaits, Whole, read_line}}
 use Rattle.bq_job.specs.reading.TubeName.{is_same_name}
-use Rattle.bq_job.specs.reading.Line.{first_line, line_end}
-use Rattle.bq_job.specs.reading.LineRead.{LineRead, Whole, PutWaits, PutLine, read_line}
-use Rattle.bq_job.specs.declared.request.Request.{Request}
-use Rattle.bq_job.specs.declared.request.Request.TheVariants.{Put, Quit, Refused}
-use Rattle.bq_job.specs.declared.refusal.Refusal.TheVariants.{JobTooBig, ExpectedCrlf, OutOfMemory}
 
 -- The request of a put whose body, with the two bytes after it, is given: those two must be CR LF. A
 -- time to run of 0 is left as it is written.

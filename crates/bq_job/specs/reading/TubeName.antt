@@ -1,7 +1,6 @@
 -- Which bytes are the name of a tube.
 use Rattle.std.specs.Prelude.{ℕ, Bool, false, ◌&&◌, ◌||◌, ◌==◌, not, nat_le, List, [], ◌∷◌, length, codes, ◌++◌, ◌-◌, replicate, nat_eq}
-use Rattle.std.specs.Cmp.Lexicographic.{pointwise}
-use Rattle.std.specs.List.{list_all, list_any}
+use Rattle.std.specs.{Cmp.Lexicographic.pointwise, List.{list_all, list_any}}
 
 -- a letter, a digit, or one of - + / ; . $ _ ( )
 abbrev pub name_byte : ℕ → Bool

@@ -1,7 +1,6 @@
 -- The words of a line, and the numbers and names that they can be.
-use Rattle.std.specs.Prelude.{ℕ, Bool, ◌&&◌, ◌==◌, nat_le, nat_lt, ◌+◌, ◌*◌, ◌-◌, ◌^◌, List}
-use Rattle.std.specs.Prelude.{Option, Some, None, fold, length, if◌then◌else◌}
-use Rattle.std.specs.List.{list_all, slice_split}
+use Rattle.std.specs.{List.{list_all, slice_split}, Prelude.{◌&&◌, ◌*◌, ◌+◌, ◌-◌, ◌==◌, ◌^◌, if◌then◌else◌, Bool, List}}
+use Rattle.std.specs.Prelude.{None, Option, Some, ℕ, fold, length, nat_le, nat_lt}
 use Rattle.bq_job.specs.reading.TubeName.{is_tube_name}
 
 -- a line parted at each space: words may be empty

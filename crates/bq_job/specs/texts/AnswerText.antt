@@ -1,8 +1,7 @@
 -- The text of an answer: its head, its body and its tail, one after another.
 use Rattle.std.specs.Prelude.{ℕ, List, [], ◌++◌, length, codes, decimal}
-use Rattle.bq_job.specs.declared.answer.Answer.{Answer}
+use Rattle.bq_job.specs.{declared.answer.Answer.Answer, reading.Line.line_end}
 use Rattle.bq_job.specs.declared.answer.Answer.TheVariants as answers
-use Rattle.bq_job.specs.reading.Line.{line_end}
 
 -- The first line, with its end. It tells how many bytes the body has, where there is one.
 -- A closed connection has no bytes at all.

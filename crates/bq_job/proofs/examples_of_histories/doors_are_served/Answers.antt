@@ -1,13 +1,11 @@
 use Rattle.std.proofs.Common.{List, [], ◌∷◌, ◌++◌, refl, inl, inr}
-use Rattle.std.specs.Prelude.{codes, replicate}
-use Rattle.std.specs.Fmt.{digits}
-use Rattle.bq_job.specs.declared.answer.Answer.TheVariants.{Closed, Inserted, Reserved as HandedOut}
-use Rattle.bq_job.specs.declared.request.Request.TheVariants.{Put, Quit, Reserve}
-use Rattle.bq_job.specs.declared.step.Step.TheVariants as steps
-use Rattle.bq_job.specs.examples.Examples.{ask, close, connect}
+use Rattle.std.specs.{Fmt.digits, Prelude.{codes, replicate}}
 use Rattle.bq_job.specs.examples.HistoryExamples.{drain_at, ended_line, gone, quit_line, unread_line, unwritten_line, usual}
-use Rattle.bq_job.specs.promise.{Entry, IsBeginning, IsCutOff, IsDoorOwed, IsOverBy, LineOver, heard}
-use Rattle.bq_job.specs.texts.AnswerText.{answer_text}
+use Rattle.bq_job.specs.declared.answer.Answer.TheVariants.{Closed, Inserted, Reserved as HandedOut}
+use Rattle.bq_job.specs.{declared.request.Request.TheVariants.{Put, Quit, Reserve}, examples.Examples.{ask, close}}
+use Rattle.bq_job.specs.{examples.Examples.connect, promise.{Entry, IsBeginning, IsCutOff, IsDoorOwed, IsOverBy}}
+use Rattle.bq_job.specs.{promise.{LineOver, heard}, texts.AnswerText.answer_text}
+use Rattle.bq_job.specs.declared.step.Step.TheVariants as steps
 use Rattle.bq_job.proofs.HistoryLemmas.{line_so, lines_so, picked_all, served_so}
 use Rattle.bq_job.proofs.examples_of_histories.doors_are_served.Goals as goal
 

@@ -1,6 +1,4 @@
-use Rattle.std.proofs.Common.{◌≡◌, ◌≢◌, ℕ, false, inl, inr}
-use Rattle.std.specs.Prelude.{◌==◌}
-use Rattle.std.proofs.lemmas.Bool.{cases_Bool, eqb-true}
+use Rattle.std.proofs.{Common.{◌==◌, ◌≡◌, ◌≢◌, ℕ, false, inl, inr}, lemmas.Bool.{cases_Bool, eqb-true}}
 use Rattle.bq_job.proofs.ClientStepLemmas.{others_give}
 use Rattle.bq_job.proofs.laws_of_clients.others_give_what_waits.Goals as goal
 
