@@ -3,16 +3,15 @@ use Rattle.std.proofs.Common.{◌++◌, ◌+◌, ◌<◌, ◌==◌, ◌||◌, �
 use Rattle.std.proofs.{Common.{sym, true, zero}, lemmas.{Bool.{and_parts, cases_Bool, eqb-true}, Grind.common_steps}, Math.Bool.or-false}
 use Rattle.std.specs.List.{find, list_any}
 use Rattle.bq_job.specs.declared.{answer.Answer.Answer, job.Job.Job, request.Request.Request, step.Step.Step}
-use Rattle.bq_job.specs.declared.answer.Answer.TheVariants as answers
-use Rattle.bq_job.specs.declared.step.Step.TheVariants as steps
 use Rattle.bq_job.specs.machine.{Effect, SeatRecord, after_close, after_connect, ask_effect, asked, at_found, close_effect, connect_effect, effect, end_effect, ignore_effect, is_full, is_reserved, job_with, last_id, new_job, on_job}
 use Rattle.bq_job.specs.machine.{put_effect, raised, reserve_job_effect, reserved_by, seat_with, step_takes_memory, takes_memory, telling, watch_effect, watches, watching, watching_or_refused, with_end, with_job, with_put, with_seat}
 use Rattle.bq_job.specs.{machine.{with_tube, Machine.Machine}, reading.TubeName.is_same_name}
+use Rattle.bq_job.specs.declared.answer.Answer.TheVariants as answers
+use Rattle.bq_job.specs.declared.step.Step.TheVariants as steps
 use Rattle.bq_steps.specs.Outbox.{Outbox}
 use Rattle.bq_state.specs.{JobChanges.is_passed_by, SeatChanges.AreNumbered, SeatStates.{is_asking, is_connected, is_free}}
 use Rattle.bq_state.proofs.{PartsLemmas.{changed_there, seat_there}, TubeLemmas.some_left}
-use Rattle.bq_core.specs.declared.acts.Reply.{Reply}
-use Rattle.bq_core.specs.Acting.{Acts, Replies}
+use Rattle.bq_core.specs.{Acting.{Acts, Replies}, declared.acts.Reply.Reply}
 
 -- what is found passes
 found_passes : {A : Type 0} (p : A → Bool) (xs : List A) (x : A) → find p xs ≡ Some x → p x ≡ true

@@ -2,10 +2,9 @@
 use Rattle.std.proofs.Common.{◌&&◌, ◌*◌, ◌+◌, ◌-◌, ◌<◌, ◌==◌, ◌∙◌, ◌∷◌, ◌≡◌, ◌≤◌, if◌then◌else◌, Bool, List, Some, [], ℕ, ap, arith, cond, false, inl, inr, length, map, not, refl, subst, suc, sym, true}
 use Rattle.std.proofs.{lemmas.{Bool.and_parts, Grind.common_steps, List.{length-append, Sums.sum_by-cons}, Nat.mul-le}, Math.Nat.suc-mul}
 use Rattle.std.specs.{List.{AllByRecursion as All, list_any, sum_by}, Prelude.{count_by, option_map}}
-use Rattle.bq_job.specs.declared.job.{Job.Job, JobState.JobState}
-use Rattle.bq_job.specs.declared.job.JobState.TheVariants as states
-use Rattle.bq_job.specs.beside.{AreIdsWithin, waiting_count}
 use Rattle.bq_job.specs.machine.{Chain, DispatchTurn, GivenAnswer, IsHandOut, SeatRecord, WaitEndTurn, given_back, in_state, is_held_by, is_holder, is_reserved, job_with, kicked, with_seat, without_wait, Machine.Machine}
+use Rattle.bq_job.specs.{beside.{AreIdsWithin, waiting_count}, declared.job.{Job.Job, JobState.JobState}}
+use Rattle.bq_job.specs.declared.job.JobState.TheVariants as states
 use Rattle.bq_job.proofs.{DispatchLemmas.turn_of, LawfulLemmas.end_of, ListLemmas.count_cons}
 use Rattle.bq_steps.specs.{Cost.{changed_jobs, is_gone_or_changed, is_same_job, is_same_state, tubes_watched}, Outbox.Outbox}
 use Rattle.bq_state.specs.declared.job_store.JobKind.{JobKind, TheVariants.{Buried, Delayed, Ready}}

@@ -2,9 +2,8 @@
 use Rattle.std.proofs.Common.{◌&&◌, ◌==◌, ◌||◌, ◌∙◌, ◌∷◌, ◌≡◌, if◌then◌else◌, Bool, List, None, Option, Some, [], ℕ, ap, arith, false, inl, inr, not, refl, subst, sym, true}
 use Rattle.std.proofs.lemmas.Bool.{cases_Bool, eqb-true, or_cases, or_left, or_right, Decides.nat_tests}
 use Rattle.std.specs.{List.{AllByRecursion as All, Contains, list_any}, Prelude.{fold, is_some, option_map}}
-use Rattle.bq_job.specs.declared.job.Job.{Job}
 use Rattle.bq_job.specs.{beside.AreIdsWithin, machine.{SeatRecord, TubeRecord, first_of, is_job_before, is_paused, is_ready, is_ready_in, is_wait_before, is_waiting, is_waiting_for, job_with, may_have, next_job, next_seat, Machine.Machine}}
-use Rattle.bq_job.specs.reading.TubeName.{is_same_name}
+use Rattle.bq_job.specs.{declared.job.Job.Job, reading.TubeName.is_same_name}
 use Rattle.bq_job.proofs.{ChoiceLemmas.{first_of_agrees, first_of_contains, first_of_is, first_of_is_least, first_of_is_some, first_of_none, first_of_none_passes, first_of_passes, first_of_some, pair_order}, ComputedLemmas.next_has_seat}
 use Rattle.bq_job.proofs.ListLemmas.{all_always, all_at, all_weaker, list_any_not, none_pass}
 use Rattle.bq_jobs.specs.Kept.{ranked}

@@ -2,11 +2,10 @@
 use Rattle.std.proofs.Common.{◌&&◌, ◌+◌, ◌-◌, ◌<◌, ◌==◌, ◌||◌, ◌∙◌, ◌∷◌, ◌≡◌, ◌≤◌, if◌then◌else◌, Bool, List, None, Option, Some, [], ℕ, ap, arith, false, inl, inr, map, min, refl, suc, sym, true}
 use Rattle.std.proofs.lemmas.{Bool.{cases_Bool, eqb-true, or_left, or_right, Decides.nat_tests}, Grind.common_steps}
 use Rattle.std.specs.{List.{AllByRecursion as All, list_any}, Prelude.{count_by, nat_le, option_map}}
-use Rattle.bq_job.specs.declared.job.{Job.Job, JobState.JobState}
-use Rattle.bq_job.specs.declared.job.JobState.TheVariants as states
-use Rattle.bq_job.specs.beside.{AreIdsWithin}
 use Rattle.bq_job.specs.machine.{SeatRecord, due_of, ends_waiting, first_of, given_back, greatest, grown, in_state, is_deadline_soon, is_delayed, is_due, is_ending_lease, is_expired, is_held_by, is_holder, is_pair_before, is_reserved}
 use Rattle.bq_job.specs.machine.{is_timed_out, is_timed_out_at, is_wait_before, is_waiting, job_after_timers, job_with, next_end, raised, with_job, with_timeout, Machine.Machine}
+use Rattle.bq_job.specs.{beside.AreIdsWithin, declared.job.{Job.Job, JobState.JobState}}
+use Rattle.bq_job.specs.declared.job.JobState.TheVariants as states
 use Rattle.bq_job.proofs.ChoiceLemmas.{first_of_contains, first_of_is_least, first_of_none, first_of_none_passes, first_of_passes, pair_order}
 use Rattle.bq_job.proofs.ListLemmas.{all_always, all_at, all_from_members, all_weaker, count_all_not, count_cons, list_any_not, list_any_with, map_all_same, none_pass}
 use Rattle.bq_jobs.specs.{Kept.ranked, Leases.{deadline_of, is_lease_before}}

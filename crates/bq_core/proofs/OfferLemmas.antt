@@ -1,8 +1,7 @@
 -- What a walk over those that wait finds for them.
 use Rattle.std.proofs.{Common.{◌∙◌, ◌∷◌, ◌≡◌, List, None, Option, Some, [], ℕ, ap, arith, false, refl, subst, sym}, lemmas.{Bool.Decides.nat_tests, Grind.common_steps}}
 use Rattle.std.specs.{List.sum_by, Prelude.fold}
-use Rattle.bq_job.specs.declared.job.Job.{Job}
-use Rattle.bq_job.specs.machine.{SeatRecord, TubeRecord}
+use Rattle.bq_job.specs.{declared.job.Job.Job, machine.{SeatRecord, TubeRecord}}
 use Rattle.bq_job.proofs.ChoiceLemmas.{pair_order}
 use Rattle.bq_jobs.specs.Kept.{Kept}
 use Rattle.bq_state.specs.{Asking.Asks, Cost.waited_tubes, Offers.{better_rank, with_offers}, SeatChanges.AreNumbered, WaitingTurns.{by_seat, is_turn_before, turns_of, waited_at}}

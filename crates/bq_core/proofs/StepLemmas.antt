@@ -2,14 +2,12 @@
 use Rattle.std.proofs.Common.{◌++◌, ◌+◌, ◌<◌, ◌==◌, ◌||◌, ◌∙◌, ◌∷◌, ◌≡◌, ◌≤◌, if◌then◌else◌, Bool, List, None, [], ℕ, ap, arith, false, inl, inr, length, map, refl, subst, sym, true}
 use Rattle.std.proofs.{lemmas.{Bool.and_parts, Grind.common_steps, List.{length-append, Sums.count_by-le-length}}, Math.Bool.or-false}
 use Rattle.std.specs.{List.{list_all, list_any}, Prelude.filter}
-use Rattle.bq_job.specs.declared.{job.Job.Job, step.Step.Step}
-use Rattle.bq_job.specs.beside.{IsLawful, waiting_count}
 use Rattle.bq_job.specs.machine.{Chain, DispatchTurn, GivenAnswer, IsHandOut, IsStep, SeatRecord, TubeRecord, WaitEndTurn, acted, addressed, after_hand_out, after_timers, at_moment, forgetting, has_refused_share, is_growth_refused}
 use Rattle.bq_job.specs.machine.{is_seated_at, is_share_refused, is_tube, is_waiting, job_after_timers, next_end, next_job, tube_after_timers, with_seat, without_wait, Machine.Machine}
+use Rattle.bq_job.specs.{beside.{IsLawful, waiting_count}, declared.{job.Job.Job, step.Step.Step}}
 use Rattle.bq_job.proofs.{DispatchLemmas.turn_of, KeptLemmas.{Keeps, kept_of_lawful}, LawfulLemmas.{end_of, kept_of_timers, leaves_acted, length_addressed, only_tubes, seats_many, served}}
 use Rattle.bq_steps.specs.Outbox.{Outbox}
-use Rattle.bq_state.specs.declared.core_parts.CoreParts.{CoreParts}
-use Rattle.bq_state.specs.CoreParts.{machine_of}
+use Rattle.bq_state.specs.{CoreParts.machine_of, declared.core_parts.CoreParts.CoreParts}
 use Rattle.bq_core.specs.{Acting.Acts, Serving.{NoneIsGone, ServesInto}, Turns.{Gives, HasRoom, none_refused}}
 use Rattle.bq_core.proofs.TurnLemmas.{room_kept}
 

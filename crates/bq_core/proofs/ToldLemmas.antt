@@ -1,11 +1,9 @@
 -- What a command that asks for one job shows.
 use Rattle.std.proofs.{Common.{◌≡◌, IfOk, List, Ok, Result, ℕ, arith, is_some, true}, lemmas.Grind.common_steps}
-use Rattle.bq_job.specs.declared.fault.NoMemory.{NoMemory}
+use Rattle.bq_job.specs.{declared.fault.NoMemory.NoMemory, machine.{job_with, showing, telling}}
 use Rattle.bq_job.specs.declared.answer.Answer.TheVariants as answers
-use Rattle.bq_job.specs.machine.{job_with, showing, telling}
 use Rattle.bq_jobs.specs.Seen.{IsBodyOf}
-use Rattle.bq_state.specs.declared.core_parts.CoreParts.{CoreParts}
-use Rattle.bq_state.specs.CoreParts.{OnlyCompares, machine_of}
+use Rattle.bq_state.specs.{CoreParts.{OnlyCompares, machine_of}, declared.core_parts.CoreParts.CoreParts}
 use Rattle.bq_core.proofs.{ActLemmas.{id_found, some_there}, TurnLemmas.if_ok}
 
 -- A job that is there is shown with its body.

@@ -2,15 +2,13 @@
 use Rattle.std.proofs.Common.{◌++◌, ◌<◌, ◌||◌, ◌∙◌, ◌∷◌, ◌≡◌, Bool, List, None, Option, Some, [], ℕ, ap, append-nil, arith, false, get_or, length, refl, slice_get, subst, sym, true}
 use Rattle.std.proofs.{lemmas.{Grind.common_steps, List.length-append, Option.slice_get_read}, Math.Bool.{or-false, or-true}}
 use Rattle.std.specs.{List.{Contains, list_any}, Prelude.{IfOk, Ok, Result, option_map}}
-use Rattle.bq_job.specs.declared.{answer.Answer.Answer, fault.NoMemory.NoMemory, job.Job.Job}
-use Rattle.bq_job.specs.declared.answer.Answer.TheVariants as answers
-use Rattle.bq_job.specs.beside.{waiting_count}
 use Rattle.bq_job.specs.machine.{Chain, DispatchTurn, GivenAnswer, IsHandOut, SeatRecord, WaitEndTurn, end_of_wait, has_refused_share, is_job_before, is_out_of_memory, is_waiting, is_waiting_for, next_end, next_job, next_seat, reserved_by}
+use Rattle.bq_job.specs.{beside.waiting_count, declared.{answer.Answer.Answer, fault.NoMemory.NoMemory, job.Job.Job}}
 use Rattle.bq_job.specs.machine.{with_job, with_seat, without_wait, Machine.Machine}
+use Rattle.bq_job.specs.declared.answer.Answer.TheVariants as answers
 use Rattle.bq_job.proofs.{ChoiceLemmas.first_of_none_passes, ComputedLemmas.{next_seat_waits, waiting_falls}}
 use Rattle.bq_steps.specs.Outbox.{Outbox}
-use Rattle.bq_state.specs.declared.core_parts.CoreParts.{CoreParts}
-use Rattle.bq_state.specs.CoreParts.{machine_of}
+use Rattle.bq_state.specs.{CoreParts.machine_of, declared.core_parts.CoreParts.CoreParts}
 use Rattle.bq_state.proofs.PartsLemmas.{ok_weaker}
 use Rattle.bq_core.specs.{HandOuts.{AddsHandOut, HandsOut}, Turns.{Gives, HasRoom, none_refused}, WaitEnds.AddsWaitEnd}
 

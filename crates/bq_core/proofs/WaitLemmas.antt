@@ -2,10 +2,9 @@
 use Rattle.std.proofs.Common.{◌&&◌, ◌+◌, ◌<◌, ◌==◌, ◌||◌, ◌∙◌, ◌∷◌, ◌≡◌, ◌≤◌, if◌then◌else◌, Bool, List, None, Option, Some, [], ℕ, ap, arith, cond, false, inl, inr, length, map, not, refl, slice_get, subst, sym, true}
 use Rattle.std.proofs.lemmas.{Bool.{and_parts, cases_Bool, eq-eqb, eqb-true, Decides.nat_tests}, Grind.common_steps}
 use Rattle.std.specs.{List.{AllByRecursion as All, Contains, list_any}, Prelude.count_by}
-use Rattle.bq_job.specs.declared.answer.Answer.{Answer}
-use Rattle.bq_job.specs.declared.answer.Answer.TheVariants as answers
-use Rattle.bq_job.specs.beside.{waiting_count}
 use Rattle.bq_job.specs.machine.{SeatRecord, WaitEndTurn, end_of_wait, ends_waiting, first_of, is_deadline_soon, is_pair_before, is_timed_out, is_wait_before, is_waiting, next_end, ticket_of, with_seat, without_wait, Machine.Machine}
+use Rattle.bq_job.specs.{beside.waiting_count, declared.answer.Answer.Answer}
+use Rattle.bq_job.specs.declared.answer.Answer.TheVariants as answers
 use Rattle.bq_job.proofs.{ChoiceLemmas.{first_of_contains, first_of_is, first_of_is_least, first_of_none, first_of_none_passes, first_of_passes, pair_order}, ComputedLemmas.waiting_falls, KeptLemmas.only_seat}
 use Rattle.bq_job.proofs.ListLemmas.{all_always, all_at, all_from_members, all_of_map, count_cons, found_passes, list_any_not, list_any_with, none_pass}
 use Rattle.bq_steps.specs.Outbox.{Outbox}

@@ -1,9 +1,7 @@
 -- Kicking the jobs of a kind, the first ones first.
 use Rattle.std.specs.{List.list_any, Prelude.{◌==◌, ◌≡◌, if◌then◌else◌, List, ℕ, filter, length, map, suc, take}}
-use Rattle.bq_job.specs.declared.job.Job.{Job}
-use Rattle.bq_job.specs.machine.{in_order, kicked}
-use Rattle.bq_state.specs.declared.job_store.JobKind.{JobKind}
-use Rattle.bq_state.specs.JobKinds.{is_before_of, is_of}
+use Rattle.bq_job.specs.{declared.job.Job.Job, machine.{in_order, kicked}}
+use Rattle.bq_state.specs.{declared.job_store.JobKind.JobKind, JobKinds.{is_before_of, is_of}}
 
 -- the jobs of this kind in this tube, in their order
 abbrev pub jobs_of : JobKind → List ℕ → List Job → List Job

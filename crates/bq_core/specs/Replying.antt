@@ -4,8 +4,7 @@ use Rattle.bq_job.specs.declared.answer.Answer.{Answer}
 use Rattle.bq_job.specs.machine.{Effect, SeatRecord, reserve_effect, showing, silent, telling, Machine.Machine}
 use Rattle.bq_state.specs.declared.{core_parts.CoreParts.CoreParts, job_store.JobKind.JobKind}
 use Rattle.bq_state.specs.{CoreParts.{AtSeat, machine_of}, JobKinds.first_of_kind}
-use Rattle.bq_core.specs.declared.acts.Reply.{Reply}
-use Rattle.bq_core.specs.Acting.{Replies}
+use Rattle.bq_core.specs.{Acting.Replies, declared.acts.Reply.Reply}
 
 -- a request came to this reply
 abbrev pub RepliesBy : Bool → (Machine → Effect) → CoreParts → Reply → Answer → CoreParts → Type 0

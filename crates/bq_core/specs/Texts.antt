@@ -1,7 +1,6 @@
 -- Texts of statistics and lists.
 use Rattle.std.specs.Prelude.{◌^◌, ◌≡◌, ◌≤◌, List, None, Option, Some, ℕ, decimal, length}
-use Rattle.bq_job.specs.declared.job.Job.{Job}
-use Rattle.bq_job.specs.machine.{job_statistics, Machine.Machine}
+use Rattle.bq_job.specs.{declared.job.Job.Job, machine.{job_statistics, Machine.Machine}}
 use Rattle.bq_core.specs.declared.texts.key_value.Value.{Value, TheVariants.{Number, Word}}
 
 -- a text that is being written: the bytes so far, and how many more there is room for

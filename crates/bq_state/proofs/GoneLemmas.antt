@@ -3,8 +3,7 @@ use Rattle.std.proofs.Common.{◌&&◌, ◌++◌, ◌+◌, ◌∙◌, ◌∷◌,
 use Rattle.std.proofs.lemmas.{Bool.cases_Bool, List.append-nil}
 use Rattle.std.specs.{Borrow.Bor, Cmp.Lexicographic.{nat_list_cmp_total, slice_cmp}, declared.cmp.Ordering.{Ordering, TheVariants.{Equal, Greater, Less}}, List.{AllByRecursion as All, Sorted.IsStrictlySortedBy}}
 use Rattle.std.specs.{Map.{keys_of, lookup, remove_entry}, Option.option_map, Ordering.{is_eq, is_gt, nat_cmp, ordering_reverse}, Prelude.{filter, find, fold}}
-use Rattle.bq_job.specs.declared.job.Job.{Job}
-use Rattle.bq_job.specs.{machine.{SeatRecord, greatest}, reading.TubeName.is_same_name}
+use Rattle.bq_job.specs.{declared.job.Job.Job, machine.{SeatRecord, greatest}, reading.TubeName.is_same_name}
 use Rattle.bq_index.specs.{Order.InOrder, Walk.{entry_of, seen_by}}
 use Rattle.bq_state.specs.declared.{known.Loss.TheVariants.Of, tubes.walks.HowMany.HowMany}
 use Rattle.bq_state.specs.{Crowds.{crowd_in, crowds_of, has_seats}, KeptTubes.{KeptTube, Named, crowd_kept, is_alive_at, is_alive_with, is_from, is_gone_by, is_gone_from, is_named_at, record_at, tally_kept, with_alive, with_name_of}}

@@ -2,10 +2,8 @@
 use Rattle.std.proofs.Common.{◌&&◌, ◌++◌, ◌+◌, ◌<◌, ◌==◌, ◌^◌, ◌||◌, ◌∙◌, ◌∷◌, ◌≡◌, ◌≤◌, if◌then◌else◌, Bool, List, None, Some, [], ℕ, ap, arith, false, get_or, inl, inr, length, map, refl, set, slice_get, subst, suc, sym, true, zero}
 use Rattle.std.proofs.{lemmas.{Bool.{and_from, and_parts, cases_Bool, eq-eqb, leb-false, ne_eqb, or_cases, or_left, or_right, Decides.nat_tests}, List.length-map, Option.slice_get-get_or}, Math.Bool.and-false}
 use Rattle.std.specs.{List.{AllByRecursion as All, Contains, list_any}, Prelude.{Err, IfOk, Ok, Result, filter, nat_le, nat_lt}}
-use Rattle.bq_job.specs.declared.job.Job.{Job}
-use Rattle.bq_job.specs.beside.{AreIdsWithin}
 use Rattle.bq_job.specs.machine.{SeatRecord, TubeRecord, default_tube, empty_seat, fresh_tube, greatest, is_due, is_expired, is_seated_at, job_with, numbers, raised, seat_with, tube_after_timers, watches, watching, with_record}
-use Rattle.bq_job.specs.reading.TubeName.{is_same_name}
+use Rattle.bq_job.specs.{beside.AreIdsWithin, declared.job.Job.Job, reading.TubeName.is_same_name}
 use Rattle.bq_job.proofs.ListLemmas.{all_at, all_from_members, all_weaker, found_passes, list_any_with}
 use Rattle.bq_jobs.specs.Kept.{Kept, with_added}
 use Rattle.bq_state.specs.declared.{core_parts.CoreParts.CoreParts, job_store.JobChange.{JobChange, TheVariants.{Bury, FireTimers, GiveBack, HandOut, Kick, Release, Touch}}}

@@ -1,7 +1,6 @@
 -- What is kept of tubes whose counts are those of jobs and of seats.
 use Rattle.std.specs.Prelude.{◌≡◌, List, Option, ℕ, filter}
-use Rattle.bq_job.specs.declared.job.Job.{Job}
-use Rattle.bq_job.specs.machine.{SeatRecord}
+use Rattle.bq_job.specs.{declared.job.Job.Job, machine.SeatRecord}
 use Rattle.bq_state.specs.declared.{known.{Loss.Loss, Tally.Tally}, tubes.entry.{Crowd.Crowd, Moving.Moving, Share.Share}}
 use Rattle.bq_state.specs.{Crowds.{crowds_at, crowds_at_all, crowds_of, crowds_provided, crowds_recounted_for}, KeptTubes.KeptTubes, Losses.AreAlive, Tallies.{tallies_at, tallies_of, tallies_provided}}
 use Rattle.bq_state.specs.TubeEntries.{AreInOrder, is_tube_of, provided}

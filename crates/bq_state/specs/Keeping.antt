@@ -1,7 +1,6 @@
 -- What calls keep of a state.
 use Rattle.std.specs.Prelude.{ℕ}
-use Rattle.bq_state.specs.declared.core_parts.CoreParts.{CoreParts}
-use Rattle.bq_state.specs.{Asking.Asks, CoreParts.OnlyCompares}
+use Rattle.bq_state.specs.{Asking.Asks, CoreParts.OnlyCompares, declared.core_parts.CoreParts.CoreParts}
 
 -- Jobs were looked at, by no more comparisons than in n searches, and nothing was changed.
 pub record Looks (n : ℕ) (old new : CoreParts) : Type 0 where

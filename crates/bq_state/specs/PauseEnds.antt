@@ -3,8 +3,7 @@ use Rattle.std.specs.{BTreeMap.{insert_entry, is_at}, Cmp.{IsTotalOrder, nat_cmp
 use Rattle.std.specs.{Ordering.{nat_cmp, on, then_cmp}, Prelude.{◌&&◌, ◌+◌, ◌==◌, ◌∷◌, ◌≡◌, ◌≤◌, if◌then◌else◌, Bool, List, None, Option, Some, [], ℕ, count_by, false, find, is_some, length, map, nat_le}}
 use Rattle.bq_job.specs.{machine.{Pause, TubeRecord}, reading.TubeName.is_same_name}
 use Rattle.bq_index.specs.Catalog.{CatalogSeen}
-use Rattle.bq_state.specs.declared.tubes.pauses.PauseEnd.{PauseEnd}
-use Rattle.bq_state.specs.KeptTubes.{Named, record_at}
+use Rattle.bq_state.specs.{declared.tubes.pauses.PauseEnd.PauseEnd, KeptTubes.{Named, record_at}}
 
 -- by moment, and at one moment by name
 abbrev pub end_cmp : PauseEnd → PauseEnd → Ordering

@@ -1,11 +1,10 @@
 -- What a core's state has at each moment.
 use Rattle.std.proofs.Props.{props}
 use Rattle.std.specs.{Coded.{Unit-prop, le_prop, ×_prop}, Prelude.{◌∷◌, ◌≡◌, ◌≤◌, Bool, List, [], ℕ, false}}
-use Rattle.bq_job.specs.declared.job.Job.{Job}
-use Rattle.bq_job.specs.{beside.AreIdsWithin, machine.{SeatRecord, TubeRecord, last_id}}
+use Rattle.bq_job.specs.{beside.AreIdsWithin, declared.job.Job.Job, machine.{SeatRecord, TubeRecord, last_id}}
 use Rattle.bq_state.specs.declared.known.{FirstEnd.FirstEnd, Known.Known}
-use Rattle.bq_state.specs.declared.known.FirstEnd.TheVariants as ends
 use Rattle.bq_state.specs.{FirstEnds.AreTimeouts, KeptTubes.KeptTubes, Knowledge.IsSo, SeatChanges.AreNumbered, TubeEntries.{AreEntries, AreInOrder}, WaitingTurns.{AreInTurn, WaitingTurns}}
+use Rattle.bq_state.specs.declared.known.FirstEnd.TheVariants as ends
 
 -- The fields of a state agree with one another: these jobs, seats and tubes with what is kept beside them.
 pub record Soundness (jobs : List Job) (seats : List SeatRecord) (tubes : KeptTubes) (turns : WaitingTurns) (k : Known)

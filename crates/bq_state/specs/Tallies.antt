@@ -3,8 +3,7 @@ use Rattle.std.specs.{List.{insert, prefix_len}, Prelude.{◌&&◌, ◌-◌, ◌
 use Rattle.bq_job.specs.declared.job.Job.{Job}
 use Rattle.bq_job.specs.{machine.{TubeRecord, is_buried, is_delayed, is_name_before, is_ready, is_ready_state, is_reserved, is_urgent, raised}, reading.TubeName.is_same_name}
 use Rattle.bq_jobs.specs.declared.row.{Moved.Moved, Standing.Standing}
-use Rattle.bq_state.specs.declared.known.Tally.{Tally}
-use Rattle.bq_state.specs.TubeEntries.{has_entry}
+use Rattle.bq_state.specs.{declared.known.Tally.Tally, TubeEntries.has_entry}
 
 abbrev pub tally_of : List Job → Tally
 tally_of jobs = record {

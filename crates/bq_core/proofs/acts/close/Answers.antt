@@ -1,7 +1,6 @@
 use Rattle.std.proofs.Common.{◌∙◌, ap, arith, subst, sym}
-use Rattle.bq_job.specs.declared.job.JobState.{JobState}
+use Rattle.bq_job.specs.{declared.job.JobState.JobState, machine.{is_reserved, telling, with_seat, Machine.Machine}}
 use Rattle.bq_job.specs.declared.answer.Answer.TheVariants as answers
-use Rattle.bq_job.specs.machine.{is_reserved, telling, with_seat, Machine.Machine}
 use Rattle.bq_job.proofs.BecomeLemmas.{free_by_delay}
 use Rattle.bq_jobs.specs.Kept.{Kept}
 use Rattle.bq_steps.specs.Cost.{changed_jobs}

@@ -1,6 +1,5 @@
 -- the best of the names so far
-use Rattle.std.proofs.Common.{◌≡◌, take}
-use Rattle.std.specs.Prelude.{fold}
+use Rattle.std.proofs.Common.{◌≡◌, fold, take}
 use Rattle.bq_state.specs.{Asking.Asks, Offers.with_offer}
 use Rattle.bq_core.proofs.dispatch.best_among.Given as goal
 

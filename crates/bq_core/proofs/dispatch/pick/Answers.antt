@@ -1,7 +1,6 @@
 use Rattle.std.proofs.Common.{◌∙◌, ◌≡◌, None, Some, ap, subst, sym, true}
 use Rattle.std.specs.{List.{AllByRecursion as All, list_any}, Prelude.{is_some, option_map}}
-use Rattle.bq_job.specs.declared.job.Job.{Job}
-use Rattle.bq_job.specs.machine.{SeatRecord, first_of, is_wait_before, job_with, next_seat}
+use Rattle.bq_job.specs.{declared.job.Job.Job, machine.{SeatRecord, first_of, is_wait_before, job_with, next_seat}}
 use Rattle.bq_job.proofs.ComputedLemmas.{next_has_seat}
 use Rattle.bq_state.specs.{CoreParts.machine_of, Offers.waits_at, Stirs.may_get}
 use Rattle.bq_state.proofs.PartsLemmas.{ok_weaker}

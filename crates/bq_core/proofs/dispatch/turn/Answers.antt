@@ -1,7 +1,5 @@
-use Rattle.std.proofs.Common.{◌∙◌, ◌≡◌, Some, ap, arith, refl, subst, sym}
-use Rattle.std.specs.Prelude.{IfOk, option_map}
-use Rattle.bq_job.specs.declared.job.Job.{Job}
-use Rattle.bq_job.specs.machine.{SeatRecord, next_job, next_seat, Machine.Machine}
+use Rattle.std.proofs.Common.{◌∙◌, ◌≡◌, IfOk, Some, ap, arith, option_map, refl, subst, sym}
+use Rattle.bq_job.specs.{declared.job.Job.Job, machine.{SeatRecord, next_job, next_seat, Machine.Machine}}
 use Rattle.bq_state.specs.CoreParts.{machine_held, machine_of}
 use Rattle.bq_core.specs.HandOuts.{HandsOut}
 use Rattle.bq_core.proofs.TurnLemmas.{no_next_job, somebody_waits, turn_falls, turn_given}

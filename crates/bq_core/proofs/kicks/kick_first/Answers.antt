@@ -1,7 +1,5 @@
-use Rattle.std.proofs.Common.{◌==◌, ◌∙◌, ◌≡◌, if◌then◌else◌, ap, arith, map, subst, sym}
-use Rattle.std.specs.Prelude.{count_by}
-use Rattle.bq_job.specs.declared.job.Job.{Job}
-use Rattle.bq_job.specs.machine.{first_of, kicked, Machine.Machine}
+use Rattle.std.proofs.Common.{◌==◌, ◌∙◌, ◌≡◌, if◌then◌else◌, ap, arith, count_by, map, subst, sym}
+use Rattle.bq_job.specs.{declared.job.Job.Job, machine.{first_of, kicked, Machine.Machine}}
 use Rattle.bq_state.specs.{CoreParts.{machine_held, machine_of}, JobKinds.{is_before_of, is_of}}
 use Rattle.bq_core.specs.Kicking.{KicksFirst}
 use Rattle.bq_core.proofs.{FiringLemmas.{chosen, one_fewer}, KickLemmas.{kicks_first, no_id, none_of_kind}}

@@ -1,5 +1,4 @@
-use Rattle.std.proofs.Common.{◌∙◌, ◌≡◌, ap, arith, length, take}
-use Rattle.std.specs.Prelude.{count_by}
+use Rattle.std.proofs.Common.{◌∙◌, ◌≡◌, ap, arith, count_by, length, take}
 use Rattle.bq_job.specs.machine.{after_kick, Machine.Machine}
 use Rattle.bq_jobs.specs.Kept.{Kept}
 use Rattle.bq_state.specs.{CoreParts.machine_of, JobKinds.is_of}

@@ -1,6 +1,5 @@
 -- Kicking so many of the first jobs is kicking those that are left of them.
-use Rattle.std.proofs.Common.{◌*◌, ◌+◌, ◌≡◌, ◌≤◌, ℕ, length, take}
-use Rattle.std.specs.Prelude.{count_by}
+use Rattle.std.proofs.Common.{◌*◌, ◌+◌, ◌≡◌, ◌≤◌, ℕ, count_by, length, take}
 use Rattle.bq_state.specs.{Asking.Asks, CoreParts.machine_of, JobKinds.is_of}
 use Rattle.bq_core.specs.Kicking.{all_kicked, jobs_of}
 use Rattle.bq_core.proofs.kicks.kick_some.Given as goal

@@ -1,5 +1,4 @@
-use Rattle.std.proofs.Common.{◌*◌, ◌+◌, ◌<◌, ◌∙◌, ap, arith, subst, sym}
-use Rattle.std.specs.Prelude.{count_by}
+use Rattle.std.proofs.Common.{◌*◌, ◌+◌, ◌<◌, ◌∙◌, ap, arith, count_by, subst, sym}
 use Rattle.bq_job.specs.machine.{after_timers, Machine.Machine}
 use Rattle.bq_job.proofs.LawfulLemmas.{step_is_lawful}
 use Rattle.bq_jobs.specs.Kept.{Kept}

@@ -1,5 +1,4 @@
-use Rattle.std.proofs.Common.{◌<◌, ◌∙◌, if◌then◌else◌, ap, subst, sym}
-use Rattle.std.specs.Prelude.{count_by}
+use Rattle.std.proofs.Common.{◌<◌, ◌∙◌, if◌then◌else◌, ap, count_by, subst, sym}
 use Rattle.bq_job.specs.machine.{grown, Machine.Machine}
 use Rattle.bq_state.specs.CoreParts.{machine_of}
 use Rattle.bq_core.specs.Firing.{is_ripe}

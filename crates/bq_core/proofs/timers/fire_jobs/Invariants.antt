@@ -1,6 +1,5 @@
 -- what the turns so far left to fire, and how often they asked
-use Rattle.std.proofs.Common.{◌*◌, ◌-◌, ◌≡◌, ◌≤◌}
-use Rattle.std.specs.Prelude.{count_by}
+use Rattle.std.proofs.Common.{◌*◌, ◌-◌, ◌≡◌, ◌≤◌, count_by}
 use Rattle.bq_state.specs.{Asking.Asks, CoreParts.machine_of}
 use Rattle.bq_core.specs.Firing.{after_job_timers, is_ripe}
 use Rattle.bq_core.proofs.timers.fire_jobs.Given as goal

@@ -1,6 +1,5 @@
 -- what the turns so far left to give back, and how often they asked
-use Rattle.std.proofs.Common.{◌*◌, ◌-◌, ◌≡◌, ◌≤◌}
-use Rattle.std.specs.Prelude.{count_by}
+use Rattle.std.proofs.Common.{◌*◌, ◌-◌, ◌≡◌, ◌≤◌, count_by}
 use Rattle.bq_job.specs.machine.{is_held_by}
 use Rattle.bq_state.specs.{Asking.Asks, CoreParts.machine_of}
 use Rattle.bq_core.specs.Firing.{after_giving_back}

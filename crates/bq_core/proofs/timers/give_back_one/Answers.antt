@@ -1,5 +1,4 @@
-use Rattle.std.proofs.Common.{◌<◌, ◌∙◌, ap, subst, sym}
-use Rattle.std.specs.Prelude.{count_by}
+use Rattle.std.proofs.Common.{◌<◌, ◌∙◌, ap, count_by, subst, sym}
 use Rattle.bq_job.specs.machine.{in_state, is_held_by, with_job, Machine.Machine}
 use Rattle.bq_jobs.specs.Kept.{Kept}
 use Rattle.bq_state.specs.CoreParts.{machine_of}

@@ -1,5 +1,4 @@
-use Rattle.std.proofs.Common.{◌∙◌, ◌≡◌, None, ap, sym}
-use Rattle.std.specs.Prelude.{flat_map, fold, is_some}
+use Rattle.std.proofs.Common.{◌∙◌, ◌≡◌, None, ap, flat_map, fold, is_some, sym}
 use Rattle.bq_job.specs.declared.job.Job.{Job}
 use Rattle.bq_job.specs.{beside.{dues_of_pause, dues_of_state, dues_of_wait, earliest}, machine.{SeatRecord, TubeRecord}}
 use Rattle.bq_jobs.specs.Kept.{Kept}

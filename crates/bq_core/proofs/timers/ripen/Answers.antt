@@ -1,5 +1,4 @@
-use Rattle.std.proofs.Common.{◌<◌, ◌∙◌, ap, subst, sym}
-use Rattle.std.specs.Prelude.{count_by}
+use Rattle.std.proofs.Common.{◌<◌, ◌∙◌, ap, count_by, subst, sym}
 use Rattle.bq_job.specs.machine.{job_after_timers, with_job, Machine.Machine}
 use Rattle.bq_state.specs.CoreParts.{Held, machine_held, machine_of}
 use Rattle.bq_core.specs.Firing.{after_job_timers, is_ripe}

@@ -1,5 +1,4 @@
-use Rattle.std.proofs.Common.{◌∙◌, None, ap, arith, length, subst, sym}
-use Rattle.std.specs.Prelude.{fold}
+use Rattle.std.proofs.Common.{◌∙◌, None, ap, arith, fold, length, subst, sym}
 use Rattle.bq_state.specs.{Dues.{warning_due_at, with_warning_due}, WaitingTurns.at_turn, Warnings.AreWarned}
 use Rattle.bq_state.proofs.{DueLemmas.warnings_walked, WaitingLemmas.turns_counted, WarningLemmas.{none_due, one_due, one_waits}}
 use Rattle.bq_core.proofs.AskLemmas.{asks_more}

@@ -1,5 +1,4 @@
-use Rattle.std.proofs.Common.{◌<◌, ◌∙◌, ap, length, slice_get, subst, sym}
-use Rattle.std.specs.Prelude.{find}
+use Rattle.std.proofs.Common.{◌<◌, ◌∙◌, ap, find, length, slice_get, subst, sym}
 use Rattle.bq_job.specs.machine.{first_of, is_wait_before}
 use Rattle.bq_state.specs.{EndingWaits.waits_after, WaitingTurns.is_turn_after}
 use Rattle.bq_state.proofs.WalkLemmas.{first_read, next_turn, none_first}

@@ -1,5 +1,4 @@
-use Rattle.std.proofs.Common.{◌<◌, ◌∙◌, ◌≡◌, Some, ap, arith, refl, subst, sym}
-use Rattle.std.specs.Prelude.{ℕ}
+use Rattle.std.proofs.Common.{◌<◌, ◌∙◌, ◌≡◌, Some, ℕ, ap, arith, refl, subst, sym}
 use Rattle.bq_state.specs.{CoreParts.machine_of, EndingWaits.{AreLookedAt, left_after, turn_of}}
 use Rattle.bq_core.proofs.{TurnLemmas.same_read, WaitLemmas.{here, look_falls, look_given, look_passed, none_left, one_waits, s}}
 use Rattle.bq_core.proofs.waits.turn.Goals as goal

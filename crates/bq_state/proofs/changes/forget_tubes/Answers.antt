@@ -1,5 +1,4 @@
-use Rattle.std.proofs.Common.{◌∙◌, ◌≡◌, ap, arith}
-use Rattle.std.specs.Prelude.{filter}
+use Rattle.std.proofs.Common.{◌∙◌, ◌≡◌, ap, arith, filter}
 use Rattle.bq_state.specs.{CoreParts.machine_of, TubeEntries.{counted, is_counted, is_tube_of}}
 use Rattle.bq_state.proofs.{KnowledgeLemmas.so_forgotten, PartsLemmas.entries_forgotten, TubeLemmas.filters_swap}
 use Rattle.bq_state.proofs.changes.forget_tubes.Goals as goal

@@ -1,5 +1,4 @@
-use Rattle.std.proofs.Common.{◌∙◌, ◌≡◌, ap, subst}
-use Rattle.std.specs.Prelude.{IfOk}
+use Rattle.std.proofs.Common.{◌∙◌, ◌≡◌, IfOk, ap, subst}
 use Rattle.bq_job.specs.beside.{is_in_order}
 use Rattle.bq_state.specs.{CoreParts.machine_of, Names.names_of}
 use Rattle.bq_state.proofs.{NameLemmas.{alive_are_tubes, tubes_in_order}, PartsLemmas.ok_weaker}

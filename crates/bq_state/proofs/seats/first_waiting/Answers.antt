@@ -1,5 +1,4 @@
-use Rattle.std.proofs.Common.{◌∙◌, ap, refl}
-use Rattle.std.specs.Prelude.{find, option_map}
+use Rattle.std.proofs.Common.{◌∙◌, ap, find, option_map, refl}
 use Rattle.bq_job.specs.machine.{first_of, is_wait_before}
 use Rattle.bq_state.specs.{Clients.seat_passes, Offers.waits_at, Places.item_at, WaitingTurns.passes_at}
 use Rattle.bq_state.proofs.WalkLemmas.{first_turn, item_found, number_of_turn}

@@ -1,5 +1,4 @@
-use Rattle.std.proofs.Common.{◌∙◌, ◌≡◌, [], ap, map, subst, sym}
-use Rattle.std.specs.Prelude.{IfOk, fold}
+use Rattle.std.proofs.Common.{◌∙◌, ◌≡◌, IfOk, [], ap, fold, map, subst, sym}
 use Rattle.bq_state.specs.{Crowds.crowds_of, KeptTubes.{KeptTubes, record_at, with_name_of}, Names.names_of, Tallies.tallies_of, TubeEntries.names_alive}
 use Rattle.bq_state.proofs.GoneLemmas.{AreTallied, listed_names}
 use Rattle.bq_state.proofs.tubes.Tubes.names_alive.Goals as goal

@@ -1,6 +1,5 @@
 -- What the pauses that ended so far leave to end.
-use Rattle.std.proofs.Common.{◌≡◌, map}
-use Rattle.std.specs.Prelude.{count_by}
+use Rattle.std.proofs.Common.{◌≡◌, count_by, map}
 use Rattle.bq_job.specs.machine.{tube_after_timers}
 use Rattle.bq_state.specs.{KeptTubes.{crowd_kept, record_at, tally_kept}, PauseEnds.{AreEnds, is_paused}}
 use Rattle.bq_state.proofs.tubes.pauses.end_all.Given as goal

@@ -1,6 +1,5 @@
 -- the names so far, and room for the others
-use Rattle.std.proofs.Common.{◌≡◌, ◌≤◌, [], length, take, vec_capacity, vec_len}
-use Rattle.std.specs.Prelude.{fold}
+use Rattle.std.proofs.Common.{◌≡◌, ◌≤◌, [], fold, length, take, vec_capacity, vec_len}
 use Rattle.bq_state.specs.{KeptTubes.with_name_of, Names.names_of}
 use Rattle.bq_state.proofs.tubes.walks.names_alive.Given as goal
 
