@@ -12,17 +12,11 @@ use Rattle.bq_steps.specs.Outbox.{Outbox}
 use Rattle.bq_state.specs.{JobChanges.is_passed_by, SeatChanges.AreNumbered, SeatStates.{is_asking, is_connected, is_free}}
 use Rattle.bq_state.proofs.{PartsLemmas.{changed_there, seat_there}, TubeLemmas.some_left}
 use Rattle.bq_core.specs.{Acting.{Acts, Replies}, declared.acts.Reply.Reply}
-
--- what is found passes
-found_passes : {A : Type 0} (p : A → Bool) (xs : List A) (x : A) → find p xs ≡ Some x → p x ≡ true
-found_passes p [] x h = absurd cc
-found_passes p (y ∷ ys) x h = elim (cases_Bool (p y)) [ inl passes ↦ let e : Some y ≡ Some x = rw passes at h in let same : y ≡ x = cc in rw same at passes | inr fails ↦ let e = rw fails at h in found_passes p ys x e ]
+use Rattle.bq_job.proofs.ListLemmas.{found_passes}
+use Rattle.bq_jobs.proofs.Changes.{found_id}
 
 pub number_found : (n : ℕ) (seats : List SeatRecord) (s : SeatRecord) → seat_with n seats ≡ Some s → s.number ≡ n
-number_found n seats s h = eqb-true s.number n (found_passes (λ s. s.number == n) seats s h)
-
-pub id_found : (id : ℕ) (jobs : List Job) (j : Job) → job_with id jobs ≡ Some j → j.id ≡ id
-id_found id jobs j h = eqb-true j.id id (found_passes (λ j. j.id == id) jobs j h)
+number_found n seats s h = eqb-true s.number n (found_passes (λ s. s.number == n) seats s h).0
 
 -- a client comes to a seat that is free
 connect_at : (m : Machine) (seat : ℕ) (o : Option SeatRecord) → seat_with seat m.seats ≡ o → is_free o ≡ true → (at_found connect_effect m o).machine ≡ after_connect m seat
@@ -51,7 +45,7 @@ pub on_job_found : (id : ℕ) (passes : Job → Bool) (act : Job → Effect) (m 
 on_job_found id passes act m j found pass = rw (found, pass) refl
 
 pub reserve_job_done : (m : Machine) (s : SeatRecord) (seat id : ℕ) (j : Job) → s.number ≡ seat → job_with id m.jobs ≡ Some j → is_reserved j.state ≡ false → reserve_job_effect id m s ≡ telling (answers.Reserved id j.body) (with_job id (reserved_by m.moment seat) m)
-reserve_job_done m s seat id j at found free = grind (arith, common_steps, on_job_found, id_found)
+reserve_job_done m s seat id j at found free = grind (arith, common_steps, on_job_found, found_id)
 
 -- what a put comes to that is accepted
 pub put_done : (m : Machine) (s : SeatRecord) (pri delay ttr : ℕ) (body tube : List ℕ) (j : Job) → s.used ≡ tube → m.draining ≡ false → is_full m.settings.max_jobs m.jobs ≡ false → j ≡ new_job m s pri delay ttr body → put_effect pri delay ttr body m s ≡ telling (answers.Inserted m.next_id) (record (with_tube tube with_put m) { jobs = m.jobs ++ j ∷ []; next_id = m.next_id + 1; puts = raised m.puts; draining = nat_le last_id m.next_id })
@@ -121,10 +115,6 @@ acts_told m seat what answer old new last is adds = grind (arith, common_steps, 
 pub passed_by : (p : Job → Bool) (o : Option Job) → is_passed_by p o ≡ true → (j : Job) × (o ≡ Some j) × (p j ≡ true)
 passed_by p None h = absurd cc
 passed_by p (Some j) h = (j, refl, h)
-
-pub not_true : (b : Bool) → not b ≡ true → b ≡ false
-not_true true h = absurd cc
-not_true false h = refl
 
 pub some_there : (o : Option Job) → is_some o ≡ true → (j : Job) × (o ≡ Some j)
 some_there None h = absurd cc

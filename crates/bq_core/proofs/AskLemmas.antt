@@ -6,19 +6,7 @@ use Rattle.bq_index.specs.Digits.{binary_digits, digits_up_to}
 use Rattle.bq_jobs.specs.Kept.{ComparesAtMost, Kept}
 use Rattle.bq_steps.specs.Cost.{changed_jobs}
 use Rattle.bq_state.specs.Asking.{Asks, AsksAsChanged, AsksWithin, search_among}
-
--- a smaller number has no more digits
-digits_rise : (most more n m : ℕ) → n ≤ m → m ≤ more → digits_up_to most n ≤ digits_up_to more m
-digits_rise zero more n m l u = omega arith
-digits_rise (suc most) zero n m l u = let e : (n == 0) ≡ true = grind (arith, nat_tests) in rw e (omega arith)
-digits_rise (suc most) (suc more) n m l u =
-    elim (cases_Bool (n == 0)) [
-      | inl e ↦ rw e (omega arith)
-      | inr e ↦
-          let f : (m == 0) ≡ false = grind (arith, nat_tests) in
-          let i = digits_rise most more (n / 2) (m / 2) (omega arith) (omega arith) in
-          rw (e, f) (omega (arith, i))
-    ]
+use Rattle.bq_jobs.proofs.Counting.{digits_rise}
 
 -- among more jobs a search takes no less
 pub search_grows : (i j : ℕ) → i ≤ j → search_among i ≤ search_among j

@@ -5,12 +5,12 @@ use Rattle.std.specs.{List.{AllByRecursion as All, list_any, sum_by}, Prelude.{c
 use Rattle.bq_job.specs.machine.{Chain, DispatchTurn, GivenAnswer, IsHandOut, SeatRecord, WaitEndTurn, given_back, in_state, is_held_by, is_holder, is_reserved, job_with, kicked, with_seat, without_wait, Machine.Machine}
 use Rattle.bq_job.specs.{beside.{AreIdsWithin, waiting_count}, declared.job.{Job.Job, JobState.JobState}}
 use Rattle.bq_job.specs.declared.job.JobState.TheVariants as states
-use Rattle.bq_job.proofs.{DispatchLemmas.turn_of, LawfulLemmas.end_of, ListLemmas.count_cons}
+use Rattle.bq_job.proofs.{DispatchLemmas.turn_of, LawfulLemmas.end_of, ListLemmas.count_cons, LookupLemmas.job_in_map}
 use Rattle.bq_steps.specs.{Cost.{changed_jobs, is_gone_or_changed, is_same_job, is_same_state, tubes_watched}, Outbox.Outbox}
 use Rattle.bq_state.specs.declared.job_store.JobKind.{JobKind, TheVariants.{Buried, Delayed, Ready}}
 use Rattle.bq_state.specs.{Cost.waited_tubes, JobKinds.is_of}
 use Rattle.bq_core.specs.{Kicking.all_kicked, Turns.Gives}
-use Rattle.bq_core.proofs.KickLemmas.{finds_each}
+use Rattle.bq_jobs.proofs.Changes.{all_found}
 
 -- where each change makes it no more, a sum is no more
 pub sum_falls : {X : Type 0} (f : X → ℕ) (g : X → X) → ((x : X) → f (g x) ≤ f x) → (xs : List X) → sum_by f (map g xs) ≤ sum_by f xs
@@ -62,11 +62,6 @@ given_length Turn refused first last old new gives = let long = ap length gives.
 pub one_more_turn : (n more w v : ℕ) → n < more → v ≤ w → n * (w + 9) + (v + 9) ≤ more * (w + 9)
 one_more_turn n more w v l u = omega (arith, mul-le (suc n) (w + 9) more (w + 9) (omega arith) (omega arith), suc-mul n (w + 9))
 
--- a job that was changed is found changed
-found_changed : (f : Job → Job) → ((j : Job) → (f j).id ≡ j.id) → (id : ℕ) (jobs : List Job) → job_with id (map f jobs) ≡ option_map f (job_with id jobs)
-found_changed f keeps id [] = refl
-found_changed f keeps id (j ∷ jobs) = grind (arith, common_steps, found_changed f keeps id jobs)
-
 -- where all jobs are changed by their ids, those that pass and become others are counted
 module _ (f : Job → Job) (keeps : (j : Job) → (f j).id ≡ j.id) (q : Job → Bool) (other : (j : Job) → q j ≡ true → is_same_job j (f j) ≡ false) where
   counted_among : (new jobs : List Job) → All (λ j. job_with j.id new ≡ Some (f j)) jobs → count_by q jobs ≤ count_by (λ j. is_gone_or_changed j (job_with j.id new)) jobs
@@ -83,12 +78,12 @@ module _ (f : Job → Job) (keeps : (j : Job) → (f j).id ≡ j.id) (q : Job �
 
   pub changed_of : (low next : ℕ) (jobs : List Job) → AreIdsWithin low jobs next → count_by q jobs ≤ changed_jobs jobs (map f jobs)
   changed_of low next jobs ids =
-      let few = counted_among (map f jobs) jobs (each jobs (finds_each low next jobs ids)) in
+      let few = counted_among (map f jobs) jobs (each jobs (all_found low next jobs ids)) in
       omega (arith, few)
     where
       each : (ks : List Job) → All (λ j. job_with j.id jobs ≡ Some j) ks → All (λ j. job_with j.id (map f jobs) ≡ Some (f j)) ks
       each [] all = tt
-      each (k ∷ ks) all = (found_changed f keeps k.id jobs ∙ ap (option_map f) all.0, each ks all.1)
+      each (k ∷ ks) all = (job_in_map f k.id jobs keeps ∙ ap (option_map f) all.0, each ks all.1)
 
 -- the jobs that a client gives back are changed
 pub given_back_changed : (state : JobState) (seat low next : ℕ) (jobs : List Job) → is_reserved state ≡ false → AreIdsWithin low jobs next → count_by (is_held_by seat) jobs ≤ changed_jobs jobs (map (given_back state seat) jobs)

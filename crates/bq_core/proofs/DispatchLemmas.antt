@@ -10,7 +10,10 @@ use Rattle.bq_jobs.specs.Kept.{ranked}
 use Rattle.bq_state.specs.declared.known.Stir.{Stir, TheVariants.Client}
 use Rattle.bq_state.specs.{Offers.{better_rank, is_paused_among, offered, waits_at, with_offer, with_offers}, Stirs.{AreKnown, IsKnown, may_get}}
 use Rattle.bq_state.proofs.TubeLemmas.{same_itself, same_name}
-use Rattle.bq_core.proofs.{FiringLemmas.chosen, KickLemmas.finds_each}
+use Rattle.bq_core.proofs.FiringLemmas.{chosen}
+use Rattle.bq_jobs.proofs.Changes.{all_found}
+use Rattle.bq_job.proofs.WatchedLemmas.{same_other}
+use Rattle.std.proofs.Math.Bool.{or_assoc}
 
 module _ (next : ℕ) (jobs : List Job) (ids : AreIdsWithin 1 jobs next) where
   -- the best of the jobs that pass, by its priority and its id
@@ -20,8 +23,8 @@ module _ (next : ℕ) (jobs : List Job) (ids : AreIdsWithin 1 jobs next) where
   same_job : (x y : Job) → Contains jobs x → Contains jobs y → is_job_before x y ≡ false → is_job_before y x ≡ false → y ≡ x
   same_job x y i k a b =
       let same : y.id ≡ x.id = grind (arith, nat_tests) in
-      let found = all_at (λ j. job_with j.id jobs ≡ Some j) jobs x (finds_each 1 next jobs ids) i in
-      let found_then : job_with x.id jobs ≡ Some y = ap (λ n. job_with n jobs) (sym same) ∙ all_at (λ j. job_with j.id jobs ≡ Some j) jobs y (finds_each 1 next jobs ids) k in
+      let found = all_at (λ j. job_with j.id jobs ≡ Some j) jobs x (all_found 1 next jobs ids) i in
+      let found_then : job_with x.id jobs ≡ Some y = ap (λ n. job_with n jobs) (sym same) ∙ all_at (λ j. job_with j.id jobs ≡ Some j) jobs y (all_found 1 next jobs ids) k in
       cc
 
   from_second : (x y z : Job) → is_job_before y x ≡ true → is_job_before z x ≡ false → is_job_before z y ≡ false
@@ -108,16 +111,10 @@ module _ (next : ℕ) (jobs : List Job) (ids : AreIdsWithin 1 jobs next) where
           let back : is_same_name j.tube name ≡ true = ap (is_same_name j.tube) is ∙ same_itself j.tube in
           rw (same, back, ap paused is) (bools (p j) (is_ready j) (list_any (is_same_name j.tube) names) (paused j.tube))
       | inr other ↦
-          let apart : is_same_name j.tube name ≡ false = not_back name j.tube other in
+          let apart : is_same_name j.tube name ≡ false = same_other name j.tube other in
           rw (other, apart) (bools' (p j) (is_ready j) (paused name) (list_any (is_same_name j.tube) names) (paused j.tube))
     ]
       where
-        not_back : (a b : List ℕ) → is_same_name a b ≡ false → is_same_name b a ≡ false
-        not_back a b h = elim (cases_Bool (is_same_name b a)) [
-          | inl same ↦ absurd (let e : b ≡ a = same_name b a same in let k : is_same_name a b ≡ true = ap (is_same_name a) e ∙ same_itself a in cc)
-          | inr other ↦ other
-        ]
-
         bools : (p r n d : Bool) → ((p || ((r && true) && not d)) || ((r && n) && not d)) ≡ (p || ((r && (true || n)) && not d))
         bools true r n d = refl
         bools false false n d = refl
@@ -150,11 +147,7 @@ module _ (next : ℕ) (jobs : List Job) (ids : AreIdsWithin 1 jobs next) where
       one_more_seat s seats p true e rest =
           ap (λ o. fold (with_offers jobs entries) o seats) (with_names s.watched p)
           ∙ rest (λ j. p j || ready_among s.watched j)
-          ∙ agreed (λ j. (p j || ready_among s.watched j) || list_any (is_waiting_for m j) seats) (λ j. p j || list_any (is_waiting_for m j) (s ∷ seats)) (λ j. rw (e, paused_in j.tube) (or_thrice (p j) (may_have m s j) (list_any (is_waiting_for m j) seats)))
-        where
-          or_thrice : (a b c : Bool) → ((a || b) || c) ≡ (a || (b || c))
-          or_thrice true b c = refl
-          or_thrice false b c = refl
+          ∙ agreed (λ j. (p j || ready_among s.watched j) || list_any (is_waiting_for m j) seats) (λ j. p j || list_any (is_waiting_for m j) (s ∷ seats)) (λ j. rw (e, paused_in j.tube) (or_assoc (p j) (may_have m s j) (list_any (is_waiting_for m j) seats)))
       one_more_seat s seats p false e rest =
           rest p
           ∙ agreed (λ j. p j || list_any (is_waiting_for m j) seats) (λ j. p j || list_any (is_waiting_for m j) (s ∷ seats)) (λ j. rw e refl)

@@ -10,18 +10,14 @@ use Rattle.bq_job.proofs.ChoiceLemmas.{first_of_contains, first_of_is_least, fir
 use Rattle.bq_job.proofs.ListLemmas.{all_always, all_at, all_from_members, all_weaker, count_all_not, count_cons, list_any_not, list_any_with, map_all_same, none_pass}
 use Rattle.bq_jobs.specs.{Kept.ranked, Leases.{deadline_of, is_lease_before}}
 use Rattle.bq_state.specs.EndingWaits.{has_waited, is_lease_short, is_soon}
-use Rattle.bq_state.proofs.LossLemmas.{none_with}
 use Rattle.bq_core.specs.Firing.{ExpiresOne, IsOne, after_giving_back, after_job_timers, is_ripe}
-use Rattle.bq_core.proofs.KickLemmas.{finds_each, one_of_id}
+use Rattle.bq_core.proofs.KickLemmas.{one_of_id}
+use Rattle.bq_jobs.proofs.Changes.{all_found, none_changed, others_above}
 
 -- changing one job and then all is changing all, where the second change makes up for the first
 absorbed : (f g : Job → Job) (id : ℕ) (jobs : List Job) → All (λ k. (k.id == id) ≡ true → f (g k) ≡ f k) jobs → map f (map (λ k. if k.id == id then g k else k) jobs) ≡ map f jobs
 absorbed f g id [] all = refl
 absorbed f g id (k ∷ jobs) all = grind (arith, common_steps, absorbed f g id jobs all.1)
-
-not_there : (id : ℕ) (g : Job → Job) (jobs : List Job) → All (λ k. (k.id == id) ≡ false) jobs → map (λ k. if k.id == id then g k else k) jobs ≡ jobs
-not_there id g [] all = refl
-not_there id g (k ∷ jobs) all = rw all.0 (ap (λ ks. k ∷ ks) (not_there id g jobs all.1))
 
 -- one job less passes, once the one of this id is changed
 pub one_fewer : (p : Job → Bool) (g : Job → Job) (id low next : ℕ) (jobs : List Job) (j : Job) → AreIdsWithin low jobs next → job_with id jobs ≡ Some j → p j ≡ true → p (g j) ≡ false → count_by p (map (λ k. if k.id == id then g k else k) jobs) + 1 ≡ count_by p jobs
@@ -31,7 +27,7 @@ one_fewer p g id low next (k ∷ jobs) j ids found was is = elim (cases_Bool (k.
       let e : Some k ≡ Some j = rw same at found in
       let one : k ≡ j = cc in
       let at : k.id ≡ id = eqb-true k.id id same in
-      let rest = not_there id g jobs (none_with (suc k.id) id next jobs (omega arith) ids.1) in
+      let rest = none_changed id g jobs (others_above id (suc k.id) next jobs (omega arith) ids.1) in
       let out : p (g k) ≡ false = ap (λ x. p (g x)) one ∙ is in
       let in_it : p k ≡ true = ap p one ∙ was in
       rw (same, rest, count_cons p (g k) jobs, count_cons p k jobs, out, in_it) (omega arith)
@@ -134,7 +130,7 @@ chosen p before low next jobs id ids e = go (first_of p before jobs) refl e
           job = j;
           first = f;
           id_is = is;
-          found = ap (λ n. job_with n jobs) is ∙ all_at (λ k. job_with k.id jobs ≡ Some k) jobs j (finds_each low next jobs ids) (first_of_contains p before jobs j f);
+          found = ap (λ n. job_with n jobs) is ∙ all_at (λ k. job_with k.id jobs ≡ Some k) jobs j (all_found low next jobs ids) (first_of_contains p before jobs j f);
           passes_is = first_of_passes p before jobs j f;
         }
 

@@ -5,16 +5,13 @@ use Rattle.std.specs.{List.{AllByRecursion as All, Contains, list_any}, Prelude.
 use Rattle.bq_job.specs.declared.job.Job.{Job}
 use Rattle.bq_job.specs.{beside.AreIdsWithin, machine.{first_of, in_order, is_buried_before, is_buried_in, is_pair_before, job_with, kickable, kicked, kicked_first, put_in_order}}
 use Rattle.bq_job.proofs.{ChoiceLemmas.{first_of_contains, first_of_is_least, first_of_is_some, first_of_none, first_of_passes, pair_order}, KeptLemmas.{ids_from_below, ids_of_filter}, ListLemmas.{all_at, all_from_members, list_any_with}}
+use Rattle.bq_job.proofs.{BecomeLemmas.{all_in_order, all_of_take}, ChoiceLemmas.pair_other}
 use Rattle.bq_state.specs.declared.job_store.JobKind.{JobKind, TheVariants.{Buried, Delayed}}
 use Rattle.bq_state.specs.JobKinds.{is_before_of, is_of, rank_of}
-use Rattle.bq_state.proofs.{LossLemmas.none_with, TubeLemmas.some_left}
+use Rattle.bq_state.proofs.TubeLemmas.{some_left}
 use Rattle.bq_core.specs.Kicking.{KicksFirst, all_kicked, jobs_of}
 use Rattle.bq_core.proofs.ActLemmas.{none_left}
-
--- later ids are above
-ids_above : (low next : ℕ) (jobs : List Job) → AreIdsWithin low jobs next → All (λ j. low ≤ j.id) jobs
-ids_above low next [] h = tt
-ids_above low next (j ∷ jobs) h = (h.0, ids_above low next jobs (ids_from_below low (suc j.id) next jobs (let a = h.0 in omega arith) h.1))
+use Rattle.bq_jobs.proofs.Changes.{all_found, others_above}
 
 -- a job is the only one of its id
 pub one_of_id : (id low next : ℕ) (jobs : List Job) (j : Job) → AreIdsWithin low jobs next → job_with id jobs ≡ Some j → All (λ x. (x.id == id) ≡ true → x ≡ j) jobs
@@ -24,7 +21,7 @@ one_of_id id low next (y ∷ jobs) j h found = elim (cases_Bool (y.id == id)) [
       let first : Some y ≡ Some j = rw same at found in
       let is : y ≡ j = cc in
       let at : y.id ≡ id = eqb-true y.id id same in
-      (λ _. is, others jobs (none_with (suc y.id) id next jobs (omega arith) h.1))
+      (λ _. is, others jobs (others_above id (suc y.id) next jobs (omega arith) h.1))
   | inr other ↦
       let rest : job_with id jobs ≡ Some j = rw other at found in
       (λ e. absurd (let f : false ≡ true = sym other ∙ e in cc), one_of_id id (suc y.id) next jobs j h.1 rest)
@@ -34,30 +31,10 @@ one_of_id id low next (y ∷ jobs) j h found = elim (cases_Bool (y.id == id)) [
     others [] all = tt
     others (x ∷ js) all = (λ e. absurd (let f : false ≡ true = sym all.0 ∙ e in cc), others js all.1)
 
--- a job of the list is found by its id
-pub finds_each : (low next : ℕ) (jobs : List Job) → AreIdsWithin low jobs next → All (λ j. job_with j.id jobs ≡ Some j) jobs
-finds_each low next [] h = tt
-finds_each low next (y ∷ jobs) h =
-    (rw (eq-eqb y.id y.id refl) refl, later jobs (ids_above (suc y.id) next jobs h.1) (finds_each (suc y.id) next jobs h.1))
-  where
-    later : (js : List Job) → All (λ j. suc y.id ≤ j.id) js → All (λ j. job_with j.id jobs ≡ Some j) js → All (λ j. job_with j.id (y ∷ jobs) ≡ Some j) js
-    later [] above all = tt
-    later (j ∷ js) above all =
-        let other : (y.id == j.id) ≡ false = ne_eqb y.id j.id (λ e. absurd (let a = above.0 in omega arith)) in
-        (rw other all.0, later js above.1 all.1)
-
 -- What comes before all others stands first.
 at_head : (before : Job → Job → Bool) (j : Job) (ks : List Job) → All (λ y. before y j ≡ false) ks → put_in_order before j ks ≡ j ∷ ks
 at_head before j [] all = refl
 at_head before j (k ∷ ks) all = rw all.0 refl
-
-all_put : (P : Job → Type 0) (before : Job → Job → Bool) (j : Job) (ks : List Job) → P j → All P ks → All P (put_in_order before j ks)
-all_put P before j [] h all = (h, tt)
-all_put P before j (k ∷ ks) h all = grind (arith, common_steps, all_put P before j ks h all.1)
-
-all_ordered : (P : Job → Type 0) (before : Job → Job → Bool) (js : List Job) → All P js → All P (in_order before js)
-all_ordered P before [] all = tt
-all_ordered P before (j ∷ js) all = all_put P before j (in_order before js) all.0 (all_ordered P before js all.1)
 
 -- what is known of each job beside the first one
 record Beside (before : Job → Job → Bool) (j x : Job) : Type 0 where
@@ -80,8 +57,8 @@ first_ordered before j low next (x ∷ js) ids all here = elim (cases_Bool (x.id
   | inl same ↦
       let is : x ≡ j = all.0.one same in
       let at : x.id ≡ j.id = eqb-true x.id j.id same in
-      let others = none_taken j.id js (none_with (suc x.id) j.id next js (omega arith) ids.1) in
-      rw (same, others, is) (at_head before j (in_order before js) (all_ordered (λ y. before y j ≡ false) before js (all_not_before before j js all.1)))
+      let others = none_taken j.id js (others_above j.id (suc x.id) next js (omega arith) ids.1) in
+      rw (same, others, is) (at_head before j (in_order before js) (all_in_order (λ y. before y j ≡ false) before js (all_not_before before j js all.1)))
   | inr other ↦
       let rest = first_ordered before j (suc x.id) next js ids.1 all.1 (rw other at here) in
       rw (other, rest, all.0.after other) refl
@@ -96,11 +73,6 @@ kicked_are_out p id out (x ∷ js) = grind (arith, common_steps, kicked_are_out 
 left_are_others : (p : Job → Bool) (id : ℕ) → ((k : Job) → p (kicked k) ≡ false) → (js : List Job) → All (λ x. (x.id == id) ≡ false) (filter p (map (λ k. if k.id == id then kicked k else k) js))
 left_are_others p id out [] = tt
 left_are_others p id out (x ∷ js) = grind (arith, common_steps, left_are_others p id out js)
-
-all_taken : (P : Job → Type 0) (n : ℕ) (js : List Job) → All P js → All P (take n js)
-all_taken P zero js all = tt
-all_taken P (suc n) [] all = tt
-all_taken P (suc n) (j ∷ js) all = (all.0, all_taken P n js all.1)
 
 not_chosen : (id : ℕ) (chosen : List Job) → All (λ k. (k.id == id) ≡ false) chosen → list_any (λ k. k.id == id) chosen ≡ false
 not_chosen id [] all = refl
@@ -120,9 +92,6 @@ kicked_in_turn j chosen others (x ∷ js) = go (x.id == j.id) refl (kicked_in_tu
     go false e rest =
         let first : (j.id == x.id) ≡ false = ne_eqb j.id x.id (λ h. absurd (let f : (x.id == j.id) ≡ true = eq-eqb x.id j.id (sym h) in cc)) in
         rw first (ap (λ ys. (if list_any (λ k. k.id == x.id) chosen then kicked x else x) ∷ ys) rest)
-
-pair_total : (a i b k : ℕ) → is_pair_before b k a i ≡ false → (k == i) ≡ false → is_pair_before a i b k ≡ true
-pair_total a i b k h other = grind (arith, nat_tests)
 
 those_at : (P : Job → Type 0) (q : Job → Bool) (x : Job) (js : List Job) (b : Bool) → q x ≡ b → (q x ≡ true → P x) → All P (filter q js) → All P (if b then x ∷ filter q js else filter q js)
 those_at P q x js true e h more = (h e, more)
@@ -153,14 +122,14 @@ kicks_first kind tube low next jobs j out ids first =
     let order = pair_order (rank_of kind) (λ (k : Job). k.id) in
     let here = first_of_contains p before jobs j first in
     let passes = first_of_passes p before jobs j first in
-    let found = all_at (λ x. job_with x.id jobs ≡ Some x) jobs j (finds_each low next jobs ids) here in
+    let found = all_at (λ x. job_with x.id jobs ≡ Some x) jobs j (all_found low next jobs ids) here in
     let one = one_of_id j.id low next jobs j ids found in
     let beside : All (λ x. p x ≡ true → Beside before j x) jobs =
     all_from_members (λ x. p x ≡ true → Beside before j x) jobs (λ x there pass.
     let late = first_of_is_least p order jobs j x first there pass in
     record {
       not_before = late;
-      after = λ other. pair_total (rank_of kind j) j.id (rank_of kind x) x.id late other;
+      after = λ other. pair_other (rank_of kind j) j.id (rank_of kind x) x.id late other;
       one = all_at (λ x. (x.id == j.id) ≡ true → x ≡ j) jobs x one there;
     }) in
     let rest = map (λ k. if k.id == j.id then kicked k else k) jobs in
@@ -170,7 +139,7 @@ kicks_first kind tube low next jobs j out ids first =
     record {
       jobs = λ n.
           ap (λ js. all_kicked (take (suc n) js) jobs) ordered
-          ∙ kicked_in_turn j (take n (jobs_of kind tube rest)) (all_taken (λ k. (k.id == j.id) ≡ false) n (jobs_of kind tube rest) (all_ordered (λ k. (k.id == j.id) ≡ false) before (filter p rest) (left_are_others p j.id out jobs))) jobs;
+          ∙ kicked_in_turn j (take n (jobs_of kind tube rest)) (all_of_take (λ k. (k.id == j.id) ≡ false) n (jobs_of kind tube rest) (all_in_order (λ k. (k.id == j.id) ≡ false) before (filter p rest) (left_are_others p j.id out jobs))) jobs;
       count = λ n. ap (λ js. length (take (suc n) js)) ordered;
     }
 

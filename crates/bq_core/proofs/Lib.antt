@@ -8,7 +8,6 @@ pub mod KickLemmas
 pub mod OfferLemmas
 pub mod SearchLemmas
 pub mod SendLemmas
-pub mod SettingLemmas
 pub mod StepCosts
 pub mod StepLemmas
 pub mod TextLemmas

@@ -1,6 +1,6 @@
 -- The next job, where it is known what may be had.
 use Rattle.std.proofs.Common.{◌&&◌, ◌==◌, ◌||◌, ◌∙◌, ◌∷◌, ◌≡◌, ◌≤◌, if◌then◌else◌, Bool, List, None, Option, Some, [], ℕ, ap, arith, false, inl, inr, length, not, refl, subst, sym, true}
-use Rattle.std.proofs.lemmas.{Bool.{eqb-true, or_cases}, Grind.common_steps, List.Sums.sum_by-cons}
+use Rattle.std.proofs.lemmas.{Bool.{and_parts, eqb-true, or_cases}, Grind.common_steps, List.Sums.sum_by-cons}
 use Rattle.std.specs.{List.{AllByRecursion as All, Contains, list_any, sum_by}, Prelude.option_map}
 use Rattle.bq_job.specs.declared.job.Job.{Job}
 use Rattle.bq_job.specs.{machine.{SeatRecord, first_of, is_job_before, is_paused, is_ready, is_ready_in, is_waiting, is_waiting_for, seat_with, watches, Machine.Machine}, reading.TubeName.is_same_name}
@@ -65,22 +65,17 @@ tube_waits m name w waits known =
     all_weaker (λ j. All (IsKnown (Tube name) m.tubes j) m.seats) (λ j. list_any (is_waiting_for m j) m.seats ≡ (w && (is_ready_in name j && not (is_paused name m)))) m.jobs
     (λ j all. go j all (w && (is_ready_in name j && not (is_paused name m))) refl) known
   where
-    both : (a b : Bool) → (a && b) ≡ true → (a ≡ true) × (b ≡ true)
-    both true true h = (refl, refl)
-    both true false h = absurd cc
-    both false b h = absurd cc
-
     together : (a b c d : Bool) → a ≡ true → b ≡ true → c ≡ true → d ≡ true → (a && (b && c && d)) ≡ true
     together a b c d e f g h = rw (e, f, g, h) refl
 
     wanted : (j : Job) → (w && (is_ready_in name j && not (is_paused name m))) ≡ true → list_any (is_waiting_for m j) m.seats ≡ true
     wanted j h =
-        let first = both w (is_ready_in name j && not (is_paused name m)) h in
-        let second = both (is_ready_in name j) (not (is_paused name m)) first.1 in
-        let third = both (is_ready j) (is_same_name name j.tube) second.0 in
+        let first = and_parts w (is_ready_in name j && not (is_paused name m)) h in
+        let second = and_parts (is_ready_in name j) (not (is_paused name m)) first.1 in
+        let third = and_parts (is_ready j) (is_same_name name j.tube) second.0 in
         let is : name ≡ j.tube = same_name name j.tube third.1 in
         let s = some_passes (is_waiter name) m.seats (waits ∙ first.0) in
-        let seated = both (is_waiting s.client) (watches name s.client) s.passes in
+        let seated = and_parts (is_waiting s.client) (watches name s.client) s.passes in
         let watched : watches j.tube s.client ≡ true = subst (λ n. watches n s.client ≡ true) is seated.1 in
         let free : not (is_paused j.tube m) ≡ true = subst (λ n. not (is_paused n m) ≡ true) is second.1 in
         list_any_with (is_waiting_for m j) m.seats s.client s.here (together (is_waiting s.client) (is_ready j) (watches j.tube s.client) (not (is_paused j.tube m)) seated.0 third.0 watched free)

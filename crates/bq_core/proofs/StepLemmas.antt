@@ -1,39 +1,29 @@
 -- A whole step out of its parts.
 use Rattle.std.proofs.Common.{◌++◌, ◌+◌, ◌<◌, ◌==◌, ◌||◌, ◌∙◌, ◌∷◌, ◌≡◌, ◌≤◌, if◌then◌else◌, Bool, List, None, [], ℕ, ap, arith, false, inl, inr, length, map, refl, subst, sym, true}
 use Rattle.std.proofs.{lemmas.{Bool.and_parts, Grind.common_steps, List.{length-append, Sums.count_by-le-length}}, Math.Bool.or-false}
+use Rattle.std.proofs.Common.{map-id}
 use Rattle.std.specs.{List.{list_all, list_any}, Prelude.filter}
 use Rattle.bq_job.specs.machine.{Chain, DispatchTurn, GivenAnswer, IsHandOut, IsStep, SeatRecord, TubeRecord, WaitEndTurn, acted, addressed, after_hand_out, after_timers, at_moment, forgetting, has_refused_share, is_growth_refused}
 use Rattle.bq_job.specs.machine.{is_seated_at, is_share_refused, is_tube, is_waiting, job_after_timers, next_end, next_job, tube_after_timers, with_seat, without_wait, Machine.Machine}
 use Rattle.bq_job.specs.{beside.{IsLawful, waiting_count}, declared.{job.Job.Job, step.Step.Step}}
 use Rattle.bq_job.proofs.{DispatchLemmas.turn_of, KeptLemmas.{Keeps, kept_of_lawful}, LawfulLemmas.{end_of, kept_of_timers, leaves_acted, length_addressed, only_tubes, seats_many, served}}
+use Rattle.bq_job.proofs.{ListLemmas.list_all_agree, QuietLemmas.forgets_nothing}
 use Rattle.bq_steps.specs.Outbox.{Outbox}
 use Rattle.bq_state.specs.{CoreParts.machine_of, declared.core_parts.CoreParts.CoreParts}
 use Rattle.bq_core.specs.{Acting.Acts, Serving.{NoneIsGone, ServesInto}, Turns.{Gives, HasRoom, none_refused}}
 use Rattle.bq_core.proofs.TurnLemmas.{room_kept}
-
--- where nothing is kept of tubes that are gone, nothing is forgotten
-all_stay : {A : Type 0} (p : A → Bool) (xs : List A) → list_all p xs ≡ true → filter p xs ≡ xs
-all_stay p [] h = refl
-all_stay p (x ∷ xs) h = let parts = and_parts (p x) (list_all p xs) h in rw parts.0 (ap (λ ys. x ∷ ys) (all_stay p xs parts.1))
-
-pub nothing_forgotten : (m : Machine) → NoneIsGone m → forgetting m ≡ m
-nothing_forgotten m h = ap (λ tubes. record m { tubes = tubes }) (all_stay (λ t. is_tube t.name m) m.tubes h)
 
 -- the same tubes have jobs, and the same are used and watched
 record SameTubes (m n : Machine) : Type 0 where
   tubes : n.tubes ≡ m.tubes
   exist : (name : List ℕ) → is_tube name n ≡ is_tube name m
 
-agree_all : {A : Type 0} (p q : A → Bool) → ((x : A) → p x ≡ q x) → (xs : List A) → list_all p xs ≡ list_all q xs
-agree_all p q same [] = refl
-agree_all p q same (x ∷ xs) = rw (same x, agree_all p q same xs) refl
-
 agree_any : {A : Type 0} (p : A → Bool) (f : A → A) → ((x : A) → p (f x) ≡ p x) → (xs : List A) → list_any p (map f xs) ≡ list_any p xs
 agree_any p f same [] = refl
 agree_any p f same (x ∷ xs) = rw (same x, agree_any p f same xs) refl
 
 none_gone_after : (m n : Machine) → SameTubes m n → NoneIsGone m → NoneIsGone n
-none_gone_after m n same h = grind (arith, common_steps, agree_all)
+none_gone_after m n same h = grind (arith, common_steps, list_all_agree)
 
 -- changes of jobs that leave them in their tubes, and of seats that leave them at theirs
 changed_alike : (m : Machine) (f : Job → Job) (g : SeatRecord → SeatRecord) → ((j : Job) → (f j).tube ≡ j.tube) → ((name : List ℕ) (s : SeatRecord) → is_seated_at name (g s) ≡ is_seated_at name s) → (name : List ℕ) → is_tube name (record m { jobs = map f m.jobs; seats = map g m.seats }) ≡ is_tube name m
@@ -47,15 +37,11 @@ one_seat : (b : Bool) (x y : SeatRecord) (name : List ℕ) → is_seated_at name
 one_seat true x y name h = h
 one_seat false x y name h = refl
 
-map_same : {A : Type 0} (xs : List A) → map (λ x. x) xs ≡ xs
-map_same [] = refl
-map_same (x ∷ xs) = ap (λ ys. x ∷ ys) (map_same xs)
-
 waits_alike : (m : Machine) (number : ℕ) → SameTubes m (with_seat number without_wait m)
 waits_alike m number = record {
   tubes = refl;
   exist = λ name.
-      ap (λ jobs. is_tube name (record (with_seat number without_wait m) { jobs = jobs })) (sym (map_same m.jobs))
+      ap (λ jobs. is_tube name (record (with_seat number without_wait m) { jobs = jobs })) (sym (map-id m.jobs))
       ∙ changed_alike m (λ j. j) (λ s. if s.number == number then without_wait s else s) (λ j. refl) (λ n s. one_seat (s.number == number) (without_wait s) s n refl) name;
 }
 
@@ -91,8 +77,8 @@ timers_alike at m none =
     let now = (at_moment at m).moment in
     let n = after_timers (at_moment at m) in
     names_alike (λ name. is_tube name n) (tube_after_timers now) (λ t. refl) m.tubes
-    ∙ agree_all (λ t. is_tube t.name n) (λ t. is_tube t.name m) (λ t.
-    ap (λ seats. is_tube t.name (record n { seats = seats })) (sym (map_same m.seats))
+    ∙ list_all_agree (λ t. is_tube t.name n) (λ t. is_tube t.name m) (λ t.
+    ap (λ seats. is_tube t.name (record n { seats = seats })) (sym (map-id m.seats))
     ∙ changed_alike m (job_after_timers now) (λ s. s) (timer_tube now) (λ name s. refl) t.name) m.tubes
     ∙ none
 
@@ -109,8 +95,8 @@ serves_into first between last old middle new d dispatched w ended none =
       ended = w.given;
       serves = record {
         between = machine_of between;
-        dispatches = record { end = machine_of between; turns = d.turns; done = dispatched; forgets = sym (nothing_forgotten (machine_of between) then_none) };
-        ends_waits = record { end = machine_of last; turns = w.turns; done = ended; forgets = sym (nothing_forgotten (machine_of last) last_none) };
+        dispatches = record { end = machine_of between; turns = d.turns; done = dispatched; forgets = sym (forgets_nothing (machine_of between) then_none) };
+        ends_waits = record { end = machine_of last; turns = w.turns; done = ended; forgets = sym (forgets_nothing (machine_of last) last_none) };
       };
       added = w.added ∙ ap (λ given. given ++ w.given) d.added;
       most = w.most ∙ d.most;
@@ -121,7 +107,7 @@ serves_into first between last old middle new d dispatched w ended none =
     }
 
 pub begins : (first fired : CoreParts) (at : ℕ) → IsLawful (machine_of first) → machine_of fired ≡ after_timers (at_moment at (machine_of first)) → forgetting (after_timers (at_moment at (machine_of first))) ≡ machine_of fired
-begins first fired at lawful fires = nothing_forgotten (after_timers (at_moment at (machine_of first))) (timers_alike at (machine_of first) lawful.tubes) ∙ sym fires
+begins first fired at lawful fires = forgets_nothing (after_timers (at_moment at (machine_of first))) (timers_alike at (machine_of first) lawful.tubes) ∙ sym fires
 
 -- at the beginning of a step there is room for an answer to each waiting client, and one more
 pub first_room : (first fired : CoreParts) (at : ℕ) (begun : Outbox) → IsLawful (machine_of first) → machine_of fired ≡ after_timers (at_moment at (machine_of first)) → begun.given ≡ [] → first.config.seats < begun.most → HasRoom 1 (machine_of fired) begun

@@ -9,8 +9,8 @@ use Rattle.bq_job.specs.declared.answer.Answer.TheVariants as answers
 use Rattle.bq_job.proofs.{ChoiceLemmas.first_of_none_passes, ComputedLemmas.{next_seat_waits, waiting_falls}}
 use Rattle.bq_steps.specs.Outbox.{Outbox}
 use Rattle.bq_state.specs.{CoreParts.machine_of, declared.core_parts.CoreParts.CoreParts}
-use Rattle.bq_state.proofs.PartsLemmas.{ok_weaker}
 use Rattle.bq_core.specs.{HandOuts.{AddsHandOut, HandsOut}, Turns.{Gives, HasRoom, none_refused}, WaitEnds.AddsWaitEnd}
+use Rattle.std.proofs.lemmas.Result.{IfOk-weaker}
 
 -- a hand-out takes the client away, whether the share was given or not
 hand_out_falls : (m : Machine) (j : Job) (s : SeatRecord) (g : GivenAnswer) (next : Machine) → Contains m.seats s → is_waiting s ≡ true → IsHandOut m j s g next → waiting_count next < waiting_count m
@@ -77,7 +77,7 @@ module _ (st : CoreParts) (id : ℕ) (job_is : Some id ≡ option_map (λ j. j.i
 
     module _ (shared : Result (List ℕ) NoMemory) (body_is : IfOk shared (λ body. (j : Job) → next_job (machine_of st) ≡ Some j → body ≡ j.body)) (old new : Outbox) (last : Machine) (given : HandsOut (machine_of st) id number shared old new last) where
       hands : AddsHandOut (machine_of st) the_job.0 the_seat.0 old new last
-      hands = given the_job.0 the_seat.0 the_job.2 the_seat.2 (ok_weaker shared _ _ (λ body told. told the_job.0 the_job.1) body_is)
+      hands = given the_job.0 the_seat.0 the_job.2 the_seat.2 (IfOk-weaker shared _ _ (λ body told. told the_job.0 the_job.1) body_is)
 
       pub turn_given : Gives DispatchTurn has_refused_share (machine_of st) last old new
       turn_given = one_turn (machine_of st) last old new the_job.0 the_seat.0 the_job.1 the_seat.1 waits.0 waits.1 hands

@@ -1,12 +1,14 @@
 -- The ends of waits, one waiting client after another in the order of their turns.
 use Rattle.std.proofs.Common.{◌&&◌, ◌+◌, ◌<◌, ◌==◌, ◌||◌, ◌∙◌, ◌∷◌, ◌≡◌, ◌≤◌, if◌then◌else◌, Bool, List, None, Option, Some, [], ℕ, ap, arith, cond, false, inl, inr, length, map, not, refl, slice_get, subst, sym, true}
 use Rattle.std.proofs.lemmas.{Bool.{and_parts, cases_Bool, eq-eqb, eqb-true, Decides.nat_tests}, Grind.common_steps}
+use Rattle.std.proofs.Common.{map-id}
 use Rattle.std.specs.{List.{AllByRecursion as All, Contains, list_any}, Prelude.count_by}
 use Rattle.bq_job.specs.machine.{SeatRecord, WaitEndTurn, end_of_wait, ends_waiting, first_of, is_deadline_soon, is_pair_before, is_timed_out, is_wait_before, is_waiting, next_end, ticket_of, with_seat, without_wait, Machine.Machine}
 use Rattle.bq_job.specs.{beside.waiting_count, declared.answer.Answer.Answer}
 use Rattle.bq_job.specs.declared.answer.Answer.TheVariants as answers
 use Rattle.bq_job.proofs.{ChoiceLemmas.{first_of_contains, first_of_is, first_of_is_least, first_of_none, first_of_none_passes, first_of_passes, pair_order}, ComputedLemmas.waiting_falls, KeptLemmas.only_seat}
 use Rattle.bq_job.proofs.ListLemmas.{all_always, all_at, all_from_members, all_of_map, count_cons, found_passes, list_any_not, list_any_with, none_pass}
+use Rattle.bq_job.proofs.{ChoiceLemmas.pair_other, ListLemmas.one_or_none}
 use Rattle.bq_steps.specs.Outbox.{Outbox}
 use Rattle.bq_state.specs.declared.core_parts.CoreParts.{CoreParts}
 use Rattle.bq_state.specs.{CoreParts.machine_of, EndingWaits.{AreLookedAt, is_after, left_after, told_at_end, turn_of, waits_after}}
@@ -54,12 +56,6 @@ none_left m last looked none =
     go (s ∷ seats) a b = (one (is_waiting s) (is_deadline_soon m s || is_timed_out m s) (is_after last s) a.0 b.0, go seats a.1 b.1)
 
 -- fewer pass, where each change lets nobody pass that didn't, and one no longer
-one_or_none : (b c : Bool) → (c ≡ true → b ≡ true) → cond c 1 0 ≤ cond b 1 0
-one_or_none true true w = omega arith
-one_or_none true false w = omega arith
-one_or_none false true w = absurd (let e = w refl in cc)
-one_or_none false false w = omega arith
-
 no_more : (p q : SeatRecord → Bool) (f : SeatRecord → SeatRecord) (xs : List SeatRecord) → All (λ x. q (f x) ≡ true → p x ≡ true) xs → count_by q (map f xs) ≤ count_by p xs
 no_more p q f [] w = omega arith
 no_more p q f (x ∷ xs) w = rw (count_cons q (f x) (map f xs), count_cons p x xs) (omega (arith, one_or_none (p x) (q (f x)) w.0, no_more p q f xs w.1))
@@ -74,10 +70,7 @@ fewer p q f (x ∷ xs) w h = rw (count_cons q (f x) (map f xs), count_cons p x x
     go false true i rest e = absurd (let x = i refl in cc)
     go false false i rest e = omega (arith, rest e)
 
--- pairs of numbers of which the second ones differ
-pair_other : (a i b j : ℕ) → is_pair_before b j a i ≡ false → (j == i) ≡ false → is_pair_before a i b j ≡ true
-pair_other a i b j h o = grind (arith, nat_tests)
-
+-- pairs of numbers
 pair_alone : (a i : ℕ) → is_pair_before a i a i ≡ false
 pair_alone a i = grind (arith, nat_tests)
 
@@ -90,10 +83,6 @@ pair_same a i b j h o = grind (arith, nat_tests)
 after_chain : (last : Option (ℕ × ℕ)) (s t : SeatRecord) → is_after last s ≡ true → is_after (Some (turn_of s)) t ≡ true → is_after last t ≡ true
 after_chain None s t h i = refl
 after_chain (Some last) s t h i = pair_chain last.0 last.1 (ticket_of s.wait) s.number (ticket_of t.wait) t.number h i
-
-map_self : {A : Type 0} (xs : List A) → map (λ x. x) xs ≡ xs
-map_self [] = refl
-map_self (x ∷ xs) = ap (λ ys. x ∷ ys) (map_self xs)
 
 -- the next one that is looked at
 module _ (st : CoreParts) (last : Option (ℕ × ℕ)) (looked : AreLookedAt (machine_of st) last) (k : ℕ) (there : k < length st.seats.items) (found : slice_get st.seats.items k ≡ first_of (waits_after last) is_wait_before st.seats.items) where
@@ -184,7 +173,7 @@ module _ (st : CoreParts) (last : Option (ℕ × ℕ)) (looked : AreLookedAt (ma
               (list_any_with (λ t. waits_after last t && not (q (if t.number == s.number then without_wait t else t))) st.seats.items s member
               (rw (passes.0, passes.1) (out (s.number == s.number) (eq-eqb s.number s.number refl)))))
           | inr e ↦ subst (λ (n : Machine). left_after (Some (turn_of s)) n < left_after last (machine_of st)) (sym (is.stays e).machine)
-              (subst (λ seats. count_by q seats < count_by (waits_after last) st.seats.items) (map_self st.seats.items)
+              (subst (λ seats. count_by q seats < count_by (waits_after last) st.seats.items) (map-id st.seats.items)
               (fewer (waits_after last) q (λ t. t) st.seats.items
               (all_always _ st.seats.items (λ t. later t))
               (list_any_with (λ t. waits_after last t && not (q t)) st.seats.items s member

@@ -41,7 +41,7 @@ all_put_in_order P before j [] h i = (h, tt)
 all_put_in_order P before j (k ∷ jobs) h i =
     cond_both (before k j) (k ∷ put_in_order before j jobs) (j ∷ k ∷ jobs) (All P) (λ e. (i.0, all_put_in_order P before j jobs h i.1)) (λ e. (h, i))
 
-all_in_order : (P : Job → Type 0) (before : Job → Job → Bool) (jobs : List Job) → All P jobs → All P (in_order before jobs)
+pub all_in_order : (P : Job → Type 0) (before : Job → Job → Bool) (jobs : List Job) → All P jobs → All P (in_order before jobs)
 all_in_order P before [] h = tt
 all_in_order P before (j ∷ jobs) h = all_put_in_order P before j (in_order before jobs) h.0 (all_in_order P before jobs h.1)
 

@@ -1,7 +1,7 @@
 -- What a command does to the list of jobs, and the happenings that are told of it.
 use Rattle.std.proofs.Common.{ℕ, suc, ◌≡◌, Bool, true, false, not, cond, List, [], ◌∷◌, ◌++◌, map, arith, refl, sym, ap, ◌∙◌, subst, inl, inr, ◌⊎◌, Option, Some, None, rules}
 use Rattle.std.proofs.lemmas.Bool.{or_left, or_right, or_cases, both_ways, cond_both, eqb-true, eq-eqb, false_from_ne_true, cases_Bool}
-use Rattle.std.proofs.lemmas.{Grind.common_steps, List.Folds.list_any-append}
+use Rattle.std.proofs.{Common.map-id, lemmas.{Grind.common_steps, List.Folds.list_any-append}}
 use Rattle.std.specs.Prelude.{filter, flat_map, is_none, option_map, ◌==◌}
 use Rattle.std.specs.List.{AllByRecursion as All, Contains, list_any}
 use Rattle.bq_job.specs.{beside.AreIdsWithin, laws.{Happening, change, change_or_removal, changes, deleted, disturbs}}
@@ -30,12 +30,8 @@ pub data JobsAfter (what : Step) (limit : Option ℕ) (jobs : List Job) (next : 
   removed_one : (id : ℕ) → removed what id ≡ deleted id ∷ [] → later ≡ filter (λ k. not (k.id == id)) jobs → next_then ≡ next → JobsAfter what limit jobs next later next_then
   added : (j : Job) → later ≡ jobs ++ j ∷ [] → next_then ≡ suc next → j.id ≡ next → (j.delay ≡ 0 → is_ready j ≡ true) → is_full limit jobs ≡ false → JobsAfter what limit jobs next later next_then
 
-map_itself : (jobs : List Job) → map (λ j. j) jobs ≡ jobs
-map_itself [] = refl
-map_itself (j ∷ jobs) = ap (λ ks. j ∷ ks) (map_itself jobs)
-
 pub unchanged : (what : Step) (limit : Option ℕ) (jobs : List Job) (next : ℕ) → JobsAfter what limit jobs next jobs next
-unchanged what limit jobs next = changed (λ j. j) (sym (map_itself jobs)) refl (λ j. refl) (λ j i. becomes_itself what j)
+unchanged what limit jobs next = changed (λ j. j) (sym (map-id jobs)) refl (λ j. refl) (λ j i. becomes_itself what j)
 
 any_in_parts : {X Y : Type 0} (p : Y → Bool) (g : X → List Y) (xs : List X) → list_any (λ x. list_any p (g x)) xs ≡ true → list_any p (flat_map g xs) ≡ true
 any_in_parts p g [] h = h

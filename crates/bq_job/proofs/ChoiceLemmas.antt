@@ -1,7 +1,8 @@
 -- The first of those that pass a test: it is one of the list, it passes, and none that passes comes before it.
 use Rattle.std.proofs.Common.{ℕ, ◌≡◌, Bool, true, false, ◌&&◌, ◌||◌, List, [], ◌∷◌, Option, Some, None, arith, refl, sym, ap, ◌∙◌, subst, inl, inr, ◌⊎◌}
-use Rattle.std.proofs.lemmas.{Bool.{and_cases, and_parts, both_ways, cases_Bool, Decides.nat_tests}, Grind.common_steps}
-use Rattle.std.proofs.lemmas.List.{Elements.{All-contains, All-from_recursion}, Folds.list_any-from_Any}
+use Rattle.std.proofs.{Common.◌==◌, lemmas.Bool.{and_cases, and_parts, both_ways, cases_Bool, Decides.nat_tests}}
+use Rattle.std.proofs.lemmas.{Grind.common_steps, List.Elements.{All-contains, All-from_recursion}}
+use Rattle.std.proofs.{lemmas.List.Folds.list_any-from_Any, Math.Bool.or_assoc}
 use Rattle.std.specs.{Cmp.IsStrictWeakOrder, List.{AllByRecursion, Contains, list_any}, Prelude.{IfSome, fold, is_some}}
 use Rattle.bq_job.specs.machine.{better_of, first_of, is_pair_before}
 use Rattle.bq_job.proofs.ListLemmas.{contains_head, contains_tail}
@@ -9,6 +10,10 @@ use Rattle.bq_job.proofs.ListLemmas.{contains_head, contains_tail}
 -- pairs of numbers, by the first and then by the second
 pub pair_order : {X : Type 0} (first second : X → ℕ) → IsStrictWeakOrder (λ x y. is_pair_before (first x) (second x) (first y) (second y))
 pair_order first second = record { one_way = λ x y h. grind (arith, nat_tests); chain = λ x y z h i. grind (arith, nat_tests) }
+
+-- Of two pairs of which the second numbers differ, one comes first.
+pub pair_other : (a i b j : ℕ) → is_pair_before b j a i ≡ false → (j == i) ≡ false → is_pair_before a i b j ≡ true
+pair_other a i b j h other = grind (arith, nat_tests)
 
 -- what the choice so far has to be beside the one that is chosen in the end
 abbrev IsNotAfter : {X : Type 0} → (X → X → Bool) → Option X → X → Type 0
@@ -82,10 +87,6 @@ fold_contains passes before best (x ∷ xs) z h = from_better passes before best
 -- the chosen one is in the list
 pub first_of_contains : {X : Type 0} (passes : X → Bool) (before : X → X → Bool) (xs : List X) (z : X) → first_of passes before xs ≡ Some z → Contains xs z
 first_of_contains passes before xs z h = elim (fold_contains passes before None xs z h) [ inl e ↦ absurd cc | inr i ↦ i ]
-
-or_assoc : (a b c : Bool) → ((a || b) || c) ≡ (a || (b || c))
-or_assoc true b c = refl
-or_assoc false b c = refl
 
 better_is_some : {X : Type 0} (passes : X → Bool) (before : X → X → Bool) (best : Option X) (x : X) → is_some (better_of passes before best x) ≡ (is_some best || passes x)
 better_is_some passes before None x = elim (cases_Bool (passes x)) [ inl e ↦ rw e refl | inr e ↦ rw e refl ]

@@ -1,7 +1,7 @@
 -- A job that was put is there until it is deleted, and one client at most holds it.
 use Rattle.std.proofs.Common.{ℕ, ◌≡◌, ◌<◌, true, false, cond, List, [], ◌∷◌, ◌++◌, map, arith, refl, sym, ap, ◌∙◌, subst, inl, inr, ◌⊎◌, Option, Some}
-use Rattle.std.proofs.lemmas.Bool.{and_from, and_parts, both_ways, cases_Bool, cond_both, eq-eqb, eqb-true, or_parts}
-use Rattle.std.proofs.lemmas.{Grind.common_steps, List.Folds.list_any-append}
+use Rattle.std.proofs.{Common.map-id, lemmas.Bool.{and_from, and_parts, both_ways, cases_Bool, cond_both, eq-eqb}}
+use Rattle.std.proofs.lemmas.{Bool.{eqb-true, or_parts}, Grind.common_steps, List.Folds.list_any-append}
 use Rattle.std.specs.{List.{AllByRecursion as All, Contains, list_any}, Prelude.{◌==◌, option_map}}
 use Rattle.bq_job.specs.machine.{Machine.Machine, SeatRecord, Settings, is_connected_at, is_held_by, is_holder, is_reserved, job_with}
 use Rattle.bq_job.specs.laws.{Happening, IsHeldByOne, IsKept, Part, happenings, is_deletion, parts_of_run, put}
@@ -87,13 +87,9 @@ one_holder seat other s h i = grind (arith, common_steps, cases_Bool, eqb-true)
 held_is_reserved : (seat : ℕ) (s : JobState) → is_holder seat s ≡ true → is_reserved s ≡ true
 held_is_reserved seat s h = grind (arith, common_steps, cases_Bool)
 
-map_same : (seats : List SeatRecord) → map (λ (s : SeatRecord). s) seats ≡ seats
-map_same [] = refl
-map_same (s ∷ seats) = ap (λ ss. s ∷ ss) (map_same seats)
-
 holder_connected : (seat : ℕ) (m : Machine) (j : Job) → Keeps m → Contains m.jobs j → is_held_by seat j ≡ true → is_connected_at seat m ≡ true
 holder_connected seat m j keeps i h =
-    grind (arith, common_steps, all_at, held_is_reserved, map_same, list_any_of_map, and_parts, and_from, eq-eqb, one_holder)
+    grind (arith, common_steps, all_at, held_is_reserved, map-id, list_any_of_map, and_parts, and_from, eq-eqb, one_holder)
 
 held_by_one : (m : Machine) → Keeps m → IsHeldByOne m
 held_by_one m keeps seat other id h i =

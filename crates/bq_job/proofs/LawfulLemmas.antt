@@ -212,7 +212,7 @@ pub length_addressed : (seat : ℕ) (o : Option Answer) → length (addressed se
 length_addressed seat o = grind (arith, common_steps, cases_Bool)
 
 -- as many seats as the machine was made with
-length_numbers : (low n : ℕ) → length (numbers low n) ≡ n
+pub length_numbers : (low n : ℕ) → length (numbers low n) ≡ n
 length_numbers low zero = refl
 length_numbers low (suc n) = ap suc (length_numbers (suc low) n)
 

@@ -9,7 +9,7 @@ use Rattle.bq_job.specs.{promise.{GoesBy, IsTransition, Parts, Transition}, Type
 use Rattle.bq_job.proofs.{ActMoves.{After, after_acted}, ChangeLemmas.{added, changed, removed_one}}
 use Rattle.bq_job.proofs.{DispatchLemmas.turn_of, KeptLemmas.{Keeps, kept_of_lawful}, LawfulLemmas.end_of}
 use Rattle.bq_job.proofs.{LawfulLemmas.{kept_of_timers, new_is_lawful, served, step_is_lawful}, ListLemmas.all_at}
-use Rattle.bq_job.proofs.{ListLemmas.all_of_append, ReplyLemmas.stays_acted}
+use Rattle.bq_job.proofs.{ListLemmas.{all_of_append, filter_no_longer}, ReplyLemmas.stays_acted}
 
 -- what was chosen, and no more jobs than may be by it
 record IsWithin (settings : Settings) (m : Machine) : Type 0 where
@@ -50,10 +50,6 @@ by_timers : (at : ℕ) (m : Machine) → AddsNone m (forgetting (after_timers (a
 by_timers at m =
     adds_none m (forgetting (after_timers (at_moment at m))) (forgetting (after_timers (at_moment at m))) refl refl (length-map m.jobs (job_after_timers (at_moment at m).moment))
 
-rest_no_longer : (p : Job → Bool) (jobs : List Job) → length (filter p jobs) ≤ length jobs
-rest_no_longer p [] = omega arith
-rest_no_longer p (j ∷ jobs) = grind (arith, common_steps, cases_Bool, rest_no_longer p jobs)
-
 -- Where there is a place for a job, there may be one job more.
 one_more_fits : (limit : Option ℕ) (jobs : List Job) (most : ℕ) → is_full limit jobs ≡ false → limit ≡ Some most → suc (length jobs) ≤ most
 one_more_fits limit jobs most free e = grind (arith, common_steps, cases_Bool, leb-false)
@@ -63,7 +59,7 @@ by_command : (settings : Settings) (what : Step) (m n : Machine) → n.settings 
 by_command settings what m n same (changed f after next ids becomes) w =
     within_then settings m n w (record { same = same; fewer = let many : length n.jobs ≡ length m.jobs = ap length after ∙ length-map m.jobs f in omega arith })
 by_command settings what m n same (removed_one id told after next) w =
-    within_then settings m n w (record { same = same; fewer = let many = ap length after in let less = rest_no_longer (λ k. not (k.id == id)) m.jobs in omega arith })
+    within_then settings m n w (record { same = same; fewer = let many = ap length after in let less = filter_no_longer (λ k. not (k.id == id)) m.jobs in omega arith })
 by_command settings what m n same (added j after next is at_once free) w = grind (arith, common_steps, one_more_fits)
 
 -- the parts of a step

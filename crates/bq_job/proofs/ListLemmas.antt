@@ -2,7 +2,7 @@
 use Rattle.std.proofs.Common.{◌≡◌, ◌≤◌, ◌<◌, ◌+◌, Bool, true, false, ◌&&◌, not, cond, List, [], ◌∷◌, ◌++◌, map, arith, refl, ap, ◌∙◌, subst, inl, inr}
 use Rattle.std.proofs.lemmas.Bool.{cases_Bool, and_parts, and_from, or_parts, or_from, or_left, or_right, or_cases, both_ways, false_from_ne_true}
 use Rattle.std.proofs.lemmas.List.Elements.{All-from_recursion, recursion_from_All, All-contains, All-contains_itself, Contains-append_right}
-use Rattle.std.proofs.{Common.{Some, count_by, filter, find, flat_map}, lemmas.Grind.common_steps}
+use Rattle.std.proofs.{Common.{Some, count_by, filter, find, flat_map, length}, lemmas.Grind.common_steps}
 use Rattle.std.proofs.lemmas.List.{Concat.flat_map-cons, Folds.list_any-from_Any, Sums.sum_by-cons}
 use Rattle.std.specs.List.{AllByRecursion as All, Contains, list_any, list_all}
 
@@ -95,7 +95,7 @@ keys_of_map key f (x ∷ xs) same = let here = same.0 in let rest = keys_of_map 
 pub count_cons : {X : Type 0} (p : X → Bool) (x : X) (xs : List X) → count_by p (x ∷ xs) ≡ cond (p x) 1 0 + count_by p xs
 count_cons p x xs = sum_by-cons (λ x. cond (p x) 1 0) x xs
 
-one_or_none : (b c : Bool) → (c ≡ true → b ≡ true) → cond c 1 0 ≤ cond b 1 0
+pub one_or_none : (b c : Bool) → (c ≡ true → b ≡ true) → cond c 1 0 ≤ cond b 1 0
 one_or_none b c w = grind (arith, common_steps, cases_Bool)
 
 none_after_one : (b c : Bool) → (b && not c) ≡ true → cond c 1 0 < cond b 1 0
@@ -154,6 +154,15 @@ find_in_filter p q (x ∷ xs) h =
 pub filter_all : {X : Type 0} (p : X → Bool) (xs : List X) → All (λ x. p x ≡ true) xs → filter p xs ≡ xs
 filter_all p [] h = refl
 filter_all p (x ∷ xs) h = rw h.0 (ap (λ ys. x ∷ ys) (filter_all p xs h.1))
+
+pub filter_no_longer : {X : Type 0} (p : X → Bool) (xs : List X) → length (filter p xs) ≤ length xs
+filter_no_longer p [] = omega arith
+filter_no_longer p (x ∷ xs) = grind (arith, common_steps, cases_Bool, filter_no_longer p xs)
+
+-- tests that agree
+pub list_all_agree : {X : Type 0} (p q : X → Bool) → ((x : X) → p x ≡ q x) → (xs : List X) → list_all p xs ≡ list_all q xs
+list_all_agree p q same [] = refl
+list_all_agree p q same (x ∷ xs) = rw (same x, list_all_agree p q same xs) refl
 
 -- a change that changes none
 pub map_all_same : {X : Type 0} (f : X → X) (xs : List X) → All (λ x. f x ≡ x) xs → map f xs ≡ xs

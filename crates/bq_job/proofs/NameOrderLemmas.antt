@@ -1,15 +1,12 @@
 -- Names in byte order, and the tubes that are listed.
 use Rattle.std.proofs.Common.{◌≡◌, ℕ, Bool, true, false, ◌&&◌, ◌||◌, List, [], ◌∷◌, ◌++◌, refl, sym, ap, ◌∙◌, map, append_assoc, append-nil, arith, rules}
-use Rattle.std.proofs.lemmas.{Bool.cases_Bool, Cmp.nat_list_cmp_total, Grind.common_steps, Map.Lookups.exact_bytes}
-use Rattle.std.proofs.Math.Bool.{or-false}
+use Rattle.std.proofs.lemmas.{Bool.{and_parts, cases_Bool}, Cmp.nat_list_cmp_total, Grind.common_steps}
+use Rattle.std.proofs.{lemmas.Map.Lookups.exact_bytes, Math.Bool.{or-false, or_assoc}}
 use Rattle.std.specs.{Cmp.Lexicographic.slice_cmp, List.{AllByRecursion as All, list_any}, Prelude.{flat_map, fold}}
 use Rattle.std.specs.{declared.cmp.Ordering.{Ordering, TheVariants.Less}, Ordering.{is_lt, nat_cmp, ordering_reverse}}
 use Rattle.bq_job.specs.machine.{Machine.Machine, SeatRecord, is_name_before, is_seated_at, is_tube, seated_tubes, tubes}
 use Rattle.bq_job.specs.{beside.is_in_order, declared.job.Job.Job, machine.with_name, reading.TubeName.is_same_name}
 use Rattle.bq_job.proofs.ListLemmas.{all_weaker}
-
-both : (a b : Bool) → (a && b) ≡ true → (a ≡ true) × (b ≡ true)
-both a b e = grind (arith, common_steps, cases_Bool)
 
 is_Less : (r : Ordering) → is_lt r ≡ true → r ≡ Less
 is_Less r e = grind (arith, common_steps, cases_Bool)
@@ -33,7 +30,7 @@ not_same a b same e h = search (rules, cases_Bool, not_before)
 -- a name that is put behind one before it
 in_order_behind : (p n : List ℕ) (names : List (List ℕ)) → is_name_before p n ≡ true → is_in_order (p ∷ names) ≡ true → is_in_order (p ∷ with_name names n) ≡ true
 in_order_behind p n [] b h = rw b refl
-in_order_behind p n (o ∷ names) b h = grind (arith, common_steps, both, after, in_order_behind o n names)
+in_order_behind p n (o ∷ names) b h = grind (arith, common_steps, and_parts, after, in_order_behind o n names)
 
 in_order_with : (n : List ℕ) (names : List (List ℕ)) → is_in_order names ≡ true → is_in_order (with_name names n) ≡ true
 in_order_with n [] h = refl
@@ -45,17 +42,17 @@ in_order_fold (n ∷ names) so_far h = in_order_fold names (with_name so_far n) 
 
 -- the first of names in order comes before each later one
 first_before : (o n : List ℕ) (names more : List (List ℕ)) → is_in_order (o ∷ (names ++ n ∷ more)) ≡ true → is_name_before o n ≡ true
-first_before o n [] more h = (both _ _ h).0
-first_before o n (x ∷ names) more h = let k = both _ _ h in before_trans o x n k.0 (first_before x n names more k.1)
+first_before o n [] more h = (and_parts _ _ h).0
+first_before o n (x ∷ names) more h = let k = and_parts _ _ h in before_trans o x n k.0 (first_before x n names more k.1)
 
 pub rest_in_order : (o : List ℕ) (names : List (List ℕ)) → is_in_order (o ∷ names) ≡ true → is_in_order names ≡ true
-rest_in_order o names h = grind (arith, common_steps, cases_Bool, both)
+rest_in_order o names h = grind (arith, common_steps, cases_Bool, and_parts)
 
 -- the first of names in order comes before all others, and a name that does may stand first
 pub first_of_order : (o : List ℕ) (names : List (List ℕ)) → is_in_order (o ∷ names) ≡ true → All (λ n. is_name_before o n ≡ true) names
 first_of_order o [] h = tt
 first_of_order o (x ∷ names) h =
-    let k = both _ _ h in
+    let k = and_parts _ _ h in
     (k.0, all_weaker (λ n. is_name_before x n ≡ true) (λ n. is_name_before o n ≡ true) names (λ n. before_trans o x n k.0) (first_of_order x names k.1))
 
 pub in_order_from : (o : List ℕ) (names : List (List ℕ)) → All (λ n. is_name_before o n ≡ true) names → is_in_order names ≡ true → is_in_order (o ∷ names) ≡ true
@@ -82,9 +79,6 @@ or_twice a c = grind (arith, common_steps, cases_Bool)
 
 or_middle : (a b c : Bool) → ((a || b) || c) ≡ (b || (a || c))
 or_middle a b c = grind (arith, common_steps, cases_Bool)
-
-or_assoc : (a b c : Bool) → ((a || b) || c) ≡ (a || (b || c))
-or_assoc a b c = grind (arith, common_steps, cases_Bool)
 
 -- a name is among names to which one was added, if it is that one or was among them
 any_with : (p : List ℕ → Bool) (n : List ℕ) (names : List (List ℕ)) → list_any p (with_name names n) ≡ (p n || list_any p names)

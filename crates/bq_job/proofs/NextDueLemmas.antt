@@ -1,6 +1,6 @@
 -- Before the next due moment a tick changes nothing but the moment.
 use Rattle.std.proofs.Common.{ℕ, ◌≡◌, ◌<◌, ◌+◌, Bool, true, false, ◌&&◌, ◌||◌, cond, List, [], ◌∷◌, ◌++◌, map, arith, refl, sym, ap, ◌∙◌, subst, inl, inr, Option, Some, None}
-use Rattle.std.proofs.lemmas.Bool.{and_from, cases_Bool, eq-eqb, eqb-true, le-leb, leb-true, or_parts}
+use Rattle.std.proofs.lemmas.Bool.{and_from, cases_Bool, eq-eqb, eqb-true, le-leb, leb-true, lt-leb, or_parts}
 use Rattle.std.proofs.{lemmas.{Bool.Decides.leb_tells, Grind.common_steps}, Math.Nat.min-eq_left}
 use Rattle.std.specs.Prelude.{◌-◌, ◌==◌, IsTrue, count_by, flat_map, nat_le, nat_lt}
 use Rattle.std.specs.List.{AllByRecursion as All, Contains}
@@ -15,9 +15,6 @@ use Rattle.bq_job.specs.declared.step.Step.TheVariants as steps
 use Rattle.bq_job.proofs.ListLemmas.{all_at, all_from_members, all_of_flat_map, all_parts, all_weaker, count_all_not, list_any_not, list_any_with, map_all_same, none_pass}
 use Rattle.bq_job.proofs.{ChoiceLemmas.{first_of_none, first_of_none_passes}, QuietLemmas.forgets_nothing}
 use Rattle.bq_job.proofs.{QuietLemmas.serves_nobody, RecordLemmas.booked_of_lawful}
-
-not_le : (a b : ℕ) → b < a → nat_le a b ≡ false
-not_le a b h = elim (leb_tells a b) [ inl e ↦ absurd (let k = e.1 in omega arith) | inr e ↦ e.0 ]
 
 -- what is before the least is before all
 before_both : (moment due : ℕ) (o : Option ℕ) → nat_lt moment (earlier due o) ≡ true → (moment < due) × (is_before moment o ≡ true)
@@ -37,14 +34,14 @@ module _ (m : Machine) (now : ℕ) where
 
   not_due : (state : JobState) → All (IsLater now) (dues_of_state m state) → is_due now state ≡ false
   not_due states.Ready h = refl
-  not_due (states.Delayed due) h = not_le due now h.0
+  not_due (states.Delayed due) h = lt-leb due now h.0
   not_due (states.Reserved seat deadline) h = refl
   not_due (states.Buried number) h = refl
 
   not_expired : (state : JobState) → All (IsLater now) (dues_of_state m state) → is_expired now state ≡ false
   not_expired states.Ready h = refl
   not_expired (states.Delayed due) h = refl
-  not_expired (states.Reserved seat deadline) h = not_le deadline now (lease_later (is_waiting_at seat m) (deadline - 1000) deadline h)
+  not_expired (states.Reserved seat deadline) h = lt-leb deadline now (lease_later (is_waiting_at seat m) (deadline - 1000) deadline h)
   not_expired (states.Buried number) h = refl
 
   job_same : (j : Job) → All (IsLater now) (dues_of_state m j.state) → job_after_timers now j ≡ j
@@ -52,7 +49,7 @@ module _ (m : Machine) (now : ℕ) where
 
   pause_same : (o : Option Pause) → All (IsLater now) (dues_of_pause o) → pause_after_timers now o ≡ o
   pause_same None h = refl
-  pause_same (Some pause) h = rw (not_le pause.until now h.0) refl
+  pause_same (Some pause) h = rw (lt-leb pause.until now h.0) refl
 
   tube_same : (t : TubeRecord) → All (IsLater now) (dues_of_pause t.pause) → tube_after_timers now t ≡ t
   tube_same t h = ap (λ (p : Option Pause). record t { pause = p }) (pause_same t.pause h)
@@ -66,14 +63,14 @@ module _ (m : Machine) (now : ℕ) where
             let at : holder ≡ number = eqb-true holder number e in
             let waits : is_waiting_at holder m ≡ true = subst (λ n. is_waiting_at n m ≡ true) (sym at) w in
             let k : All (IsLater now) ((deadline - 1000) ∷ deadline ∷ []) = rw waits at h in
-            rw e (not_le deadline (now + 1000) (let a : now < deadline - 1000 = k.0 in omega arith))
+            rw e (lt-leb deadline (now + 1000) (let a : now < deadline - 1000 = k.0 in omega arith))
         | inr e ↦ rw e refl
       ]
   lease_not_soon number (states.Buried burial) w h = refl
 
   not_past : (o : Option ℕ) → All (IsLater now) (dues_of_until o) → is_past now o ≡ false
   not_past None h = refl
-  not_past (Some until) h = not_le until now h.0
+  not_past (Some until) h = lt-leb until now h.0
 
   not_over : (o : Option Wait) → All (IsLater now) (dues_of_wait o) → is_until_over now o ≡ false
   not_over None h = refl

@@ -1,6 +1,6 @@
 -- One more request behind others.
 use Rattle.std.proofs.Common.{◌≡◌, ℕ, Bool, true, false, not, ◌&&◌, List, [], ◌∷◌, ◌++◌, refl, sym, append_assoc, append-nil, IsTrue, arith}
-use Rattle.std.proofs.lemmas.{Bool.cases_Bool, Grind.common_steps}
+use Rattle.std.proofs.lemmas.{Bool.{and_parts, cases_Bool}, Grind.common_steps}
 use Rattle.bq_job.specs.reading.Reading.{AreUnits, IsUnit, is_quit, quits_last, ends_by_quit}
 use Rattle.bq_job.specs.declared.request.Request.{Request}
 
@@ -16,13 +16,10 @@ ends_by_quit-append [] r = refl
 ends_by_quit-append (q ∷ []) r = refl
 ends_by_quit-append (q ∷ next ∷ requests) r = ends_by_quit-append (next ∷ requests) r
 
-both_true : (a b : Bool) → (a && b) ≡ true → (a ≡ true) × (b ≡ true)
-both_true a b e = grind (arith, common_steps, cases_Bool)
-
 -- where none is quit, one more may be
 pub quits_last-append : (requests : List Request) (r : Request) → IsTrue (quits_last requests) → ends_by_quit requests ≡ false → IsTrue (quits_last (requests ++ r ∷ []))
 quits_last-append [] r last no_quit = refl
 quits_last-append (q ∷ []) r last no_quit = rw no_quit refl
 quits_last-append (q ∷ next ∷ requests) r last no_quit =
-    let both = both_true (not (is_quit q)) (quits_last (next ∷ requests)) last in
+    let both = and_parts (not (is_quit q)) (quits_last (next ∷ requests)) last in
     rw (both.0, quits_last-append (next ∷ requests) r both.1 no_quit)

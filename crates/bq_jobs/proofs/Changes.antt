@@ -33,7 +33,7 @@ pub not_found : (id : ℕ) (jobs : List Job) → All (λ j. (j.id == id) ≡ fal
 not_found id [] h = refl
 not_found id (j ∷ jobs) h = rw h.0 (not_found id jobs h.1)
 
-all_kept : (id : ℕ) (jobs : List Job) → All (λ j. (j.id == id) ≡ false) jobs → without id jobs ≡ jobs
+pub all_kept : (id : ℕ) (jobs : List Job) → All (λ j. (j.id == id) ≡ false) jobs → without id jobs ≡ jobs
 all_kept id [] h = refl
 all_kept id (j ∷ jobs) h = rw h.0 (ap (λ ks. j ∷ ks) (all_kept id jobs h.1))
 
@@ -61,7 +61,7 @@ found_id id (k ∷ jobs) j h =
     ]
 
 -- a job is found by its id
-all_found : (low next : ℕ) (jobs : List Job) → AreIdsWithin low jobs next → All (λ j. job_with j.id jobs ≡ Some j) jobs
+pub all_found : (low next : ℕ) (jobs : List Job) → AreIdsWithin low jobs next → All (λ j. job_with j.id jobs ≡ Some j) jobs
 all_found low next [] h = tt
 all_found low next (j ∷ jobs) h =
     let here : (j.id == j.id) ≡ true = grind (arith, nat_tests) in

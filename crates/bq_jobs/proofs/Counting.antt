@@ -9,7 +9,7 @@ use Rattle.bq_job.specs.machine.Limits.{greatest}
 use Rattle.bq_jobs.specs.Kept.{Kept, search_bound}
 
 -- a smaller number has no more digits
-digits_rise : (most more n m : ℕ) → n ≤ m → m ≤ more → digits_up_to most n ≤ digits_up_to more m
+pub digits_rise : (most more n m : ℕ) → n ≤ m → m ≤ more → digits_up_to most n ≤ digits_up_to more m
 digits_rise zero more n m l u = omega arith
 digits_rise (suc most) zero n m l u = let e : (n == 0) ≡ true = grind (arith, nat_tests) in rw e (omega arith)
 digits_rise (suc most) (suc more) n m l u =

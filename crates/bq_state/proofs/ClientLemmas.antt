@@ -152,7 +152,7 @@ clients_watching names i s seats found h =
     f t = if t.number == i then watching names t else t
 
 -- at the start there is none
-nobody : (p : SeatRecord → Bool) → ((n : ℕ) → p (empty_seat n) ≡ false) → (ns : List ℕ) → count_by p (map empty_seat ns) ≡ 0
+pub nobody : (p : SeatRecord → Bool) → ((n : ℕ) → p (empty_seat n) ≡ false) → (ns : List ℕ) → count_by p (map empty_seat ns) ≡ 0
 nobody p none [] = refl
 nobody p none (n ∷ ns) = count_cons p (empty_seat n) (map empty_seat ns) ∙ (λ i. cond (none n i) 1 0 + nobody p none ns i)
 

@@ -7,6 +7,7 @@ use Rattle.bq_state.specs.Crowds.{AreCrowds, IsSeated, crowd_in, crowd_of, crowd
 use Rattle.bq_state.specs.{Crowds.{recounted, share_as_user, share_as_watcher, touched}, SeatChanges.{AreNumbered, seat_changed, seat_changed_at}, SeatStates.{is_asking, is_connected}, Tallies.{count_with, count_without}}
 use Rattle.bq_state.specs.TubeEntries.{AreInOrder}
 use Rattle.bq_state.proofs.{ClientLemmas.{count_changed, count_stays, found_changed, some_pass}, PartsLemmas.{all_read, all_set, changed_there, number_kept, numbered_after, seat_there}, TubeLemmas.{before_differs, same_name}}
+use Rattle.std.proofs.lemmas.Bool.{not-true}
 
 -- names are the same either way round
 pub same_turned : (a b : List ℕ) → is_same_name a b ≡ is_same_name b a
@@ -87,12 +88,7 @@ module _ (f : Crowd → Crowd) where
   none_else : (n : List ℕ) (ns : List (List ℕ)) → none_twice (n ∷ ns) ≡ true → (name : List ℕ) → is_same_name n name ≡ true → list_any (is_same_name name) ns ≡ false
   none_else n ns once name e =
       ap (λ m. list_any (is_same_name m) ns) (sym (same_name n name e))
-      ∙ not_there (list_any (is_same_name n) ns) (and_parts (not (list_any (is_same_name n) ns)) (none_twice ns) once).0
-    where
-      not_there : (b : Bool) → not b ≡ true → b ≡ false
-      not_there true h = absurd cc
-      not_there false h = refl
-
+      ∙ not-true (list_any (is_same_name n) ns) (and_parts (not (list_any (is_same_name n) ns)) (none_twice ns) once).0
   -- and at names of which none stands twice
   at_all_named : (names : List (List ℕ)) (g : TubeRecord → Crowd) (es : List TubeRecord) → AreInOrder es → none_twice names ≡ true
       → crowds_at_all names f es (map g es) ≡ map (λ t. if list_any (is_same_name t.name) names then f (g t) else g t) es

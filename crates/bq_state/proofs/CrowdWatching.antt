@@ -7,8 +7,9 @@ use Rattle.bq_state.specs.declared.tubes.entry.Crowd.{Crowd}
 use Rattle.bq_state.specs.{Crowds.{AreCrowds, IsSeated, crowd_in, crowd_of, crowd_with, crowd_without, crowds_at, is_user, is_waiter, is_watcher, share_of_watcher, share_of_watching}, SeatChanges.AreNumbered}
 use Rattle.bq_state.specs.{Tallies.{count_with, count_without}, TubeEntries.AreInOrder}
 use Rattle.bq_state.proofs.{ClientLemmas.{count_changed, count_unchanged}, CrowdLemmas.{at_named, map_same, same_turned}, PartsLemmas.{all_read, all_set, changed_there, seat_read, watching_numbered}, TubeLemmas.same_name}
+use Rattle.bq_job.proofs.WatchedLemmas.{none_twice_behind, none_twice_filter}
 
--- Names of which none stands twice: one more that isn't there,
+-- a name among those that one was added to
 any_with : (name more : List ℕ) (names : List (List ℕ)) → list_any (is_same_name name) (names ++ more ∷ []) ≡ list_any (is_same_name name) names || is_same_name name more
 any_with name more [] = or-false (is_same_name name more)
 any_with name more (n ∷ names) = go (is_same_name name n) (any_with name more names)
@@ -17,49 +18,6 @@ any_with name more (n ∷ names) = go (is_same_name name n) (any_with name more 
         → (b || list_any (is_same_name name) (names ++ more ∷ [])) ≡ (b || list_any (is_same_name name) names) || is_same_name name more
     go true rest = refl
     go false rest = rest
-
-not_false : (b : Bool) → b ≡ false → not b ≡ true
-not_false true h = absurd cc
-not_false false h = refl
-
-not_true : (b : Bool) → not b ≡ true → b ≡ false
-not_true true h = absurd cc
-not_true false h = refl
-
-neither : (a b : Bool) → a || b ≡ false → (a ≡ false) × (b ≡ false)
-neither true b h = absurd cc
-neither false b h = (refl, h)
-
-once_more : (more : List ℕ) (names : List (List ℕ)) → list_any (is_same_name more) names ≡ false → none_twice names ≡ true → none_twice (names ++ more ∷ []) ≡ true
-once_more more [] none once = refl
-once_more more (n ∷ names) none once =
-    let apart = neither (is_same_name more n) (list_any (is_same_name more) names) none in
-    let parts = and_parts (not (list_any (is_same_name n) names)) (none_twice names) once in
-    let first = not_true (list_any (is_same_name n) names) parts.0 in
-    let other : is_same_name n more ≡ false = same_turned n more ∙ apart.0 in
-    let fresh : list_any (is_same_name n) (names ++ more ∷ []) ≡ false = any_with n more names ∙ ap (λ b. b || is_same_name n more) first ∙ other in
-    and_from (not (list_any (is_same_name n) (names ++ more ∷ []))) (none_twice (names ++ more ∷ [])) (not_false _ fresh) (once_more more names apart.1 parts.1)
-
--- or one fewer.
-any_fewer : (q : List ℕ → Bool) (name : List ℕ) (names : List (List ℕ)) → list_any (is_same_name name) names ≡ false → list_any (is_same_name name) (filter q names) ≡ false
-any_fewer q name [] none = refl
-any_fewer q name (n ∷ names) none =
-    let apart = neither (is_same_name name n) (list_any (is_same_name name) names) none in
-    go (q n) apart.0 (any_fewer q name names apart.1)
-  where
-    go : (b : Bool) → is_same_name name n ≡ false → list_any (is_same_name name) (filter q names) ≡ false → list_any (is_same_name name) (if b then n ∷ filter q names else filter q names) ≡ false
-    go true e rest = (λ i. e i || list_any (is_same_name name) (filter q names)) ∙ rest
-    go false e rest = rest
-
-once_fewer : (q : List ℕ → Bool) (names : List (List ℕ)) → none_twice names ≡ true → none_twice (filter q names) ≡ true
-once_fewer q [] once = refl
-once_fewer q (n ∷ names) once =
-    let parts = and_parts (not (list_any (is_same_name n) names)) (none_twice names) once in
-    go (q n) (not_true (list_any (is_same_name n) names) parts.0) (once_fewer q names parts.1)
-  where
-    go : (b : Bool) → list_any (is_same_name n) names ≡ false → none_twice (filter q names) ≡ true → none_twice (if b then n ∷ filter q names else filter q names) ≡ true
-    go true e rest = and_from (not (list_any (is_same_name n) (filter q names))) (none_twice (filter q names)) (not_false _ (any_fewer q n names e)) rest
-    go false e rest = rest
 
 -- which names are left
 left_without : (lost name : List ℕ) (names : List (List ℕ)) → is_same_name lost name ≡ false
@@ -147,7 +105,7 @@ crowds_watching more i s crowds seats es found h fits order none was =
           ap (crowds_at more (crowd_with (share_of_watcher s)) es) was.each
           ∙ at_named (crowd_with (share_of_watcher s)) more (crowd_in seats) es order
           ∙ map_same _ _ es (λ t. at t.name (is_same_name more t.name) refl);
-      seated = all_set IsSeated seats i (watching (s.watched ++ more ∷ []) s) was.seated (record { waits = is.waits; once = once_more more s.watched none is.once });
+      seated = all_set IsSeated seats i (watching (s.watched ++ more ∷ []) s) was.seated (record { waits = is.waits; once = none_twice_behind more s.watched none is.once });
     }
   where
     names : List (List ℕ)
@@ -173,7 +131,7 @@ crowds_ignoring lost i s crowds seats es found h fits order was =
           ap (crowds_at lost (crowd_without (share_of_watching lost s)) es) was.each
           ∙ at_named (crowd_without (share_of_watching lost s)) lost (crowd_in seats) es order
           ∙ map_same _ _ es (λ t. at t.name (is_same_name lost t.name) refl);
-      seated = all_set IsSeated seats i (watching names s) was.seated (record { waits = is.waits; once = once_fewer (λ other. not (is_same_name lost other)) s.watched is.once });
+      seated = all_set IsSeated seats i (watching names s) was.seated (record { waits = is.waits; once = none_twice_filter (λ other. not (is_same_name lost other)) s.watched is.once });
     }
   where
     names : List (List ℕ)

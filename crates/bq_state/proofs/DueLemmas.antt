@@ -2,18 +2,15 @@
 use Rattle.std.proofs.{Common.{◌&&◌, ◌++◌, ◌-◌, ◌==◌, ◌||◌, ◌∙◌, ◌∷◌, ◌≡◌, ◌≤◌, if◌then◌else◌, Bool, List, None, Option, Some, [], ℕ, ap, arith, false, inl, inr, not, refl, sym, true}, lemmas.Bool.{cases_Bool, Decides.nat_tests}}
 use Rattle.std.specs.{List.{AllByRecursion as All, Contains, list_all, list_any}, Prelude.{flat_map, fold, is_some, min, nat_lt, option_map}}
 use Rattle.bq_job.specs.declared.job.{Job.Job, JobState.JobState}
-use Rattle.bq_job.specs.declared.job.JobState.TheVariants as states
 use Rattle.bq_job.specs.beside.{dues_of_pause, dues_of_state, dues_of_wait, earliest, is_before}
 use Rattle.bq_job.specs.machine.{SeatRecord, TubeRecord, Wait, due_of, first_of, is_delayed, is_due_before, is_held_by, is_holder, is_pair_before, is_reserved, is_waiting, is_waiting_at, Machine.Machine}
+use Rattle.bq_job.specs.declared.job.JobState.TheVariants as states
 use Rattle.bq_job.proofs.{ChoiceLemmas.{first_of_contains, first_of_is_least, first_of_is_some, first_of_none, first_of_passes, pair_order}, ListLemmas.{all_at, all_from_members, all_pass, all_weaker, list_all_from, none_pass}}
+use Rattle.bq_job.proofs.ListLemmas.{list_all_agree}
 use Rattle.bq_jobs.specs.{Kept.ranked, Leases.{deadline_of, is_lease_before}}
 use Rattle.bq_state.specs.{Dues.{earlier_of_both, jobs_due, warning_due, with_seat_due, with_warning_due}, FirstEnds.{IsThere, is_gone_in_wait}, SeatChanges.AreNumbered, TubeEntries.{IsFreshUnlessCounted, counted, is_counted}}
 use Rattle.bq_state.specs.WaitingTurns.{at_turn, turns_of}
-use Rattle.bq_state.proofs.WalkLemmas.{walked}
-
-no_other : (a : Option ℕ) → earlier_of_both a None ≡ a
-no_other None = refl
-no_other (Some a) = refl
+use Rattle.bq_state.proofs.{WalkLemmas.walked, WarningLemmas.no_other}
 
 min_three : (a b c : ℕ) → min (min a b) c ≡ min a (min b c)
 min_three a b c = omega arith
@@ -134,10 +131,6 @@ all_joined p (x ∷ xs) ys = ap (λ b. p x && b) (all_joined p xs ys) ∙ sym (a
 all_flat : {A B : Type 0} (p : B → Bool) (f : A → List B) (xs : List A) → list_all p (flat_map f xs) ≡ list_all (λ x. list_all p (f x)) xs
 all_flat p f [] = refl
 all_flat p f (x ∷ xs) = all_joined p (f x) (flat_map f xs) ∙ ap (λ b. list_all p (f x) && b) (all_flat p f xs)
-
-all_same : {A : Type 0} (p q : A → Bool) → ((x : A) → p x ≡ q x) → (xs : List A) → list_all p xs ≡ list_all q xs
-all_same p q h [] = refl
-all_same p q h (x ∷ xs) = rw (h x, all_same p q h xs) refl
 
 all_of_both : {A : Type 0} (p q : A → Bool) (xs : List A) → (list_all p xs && list_all q xs) ≡ list_all (λ x. p x && q x) xs
 all_of_both p q [] = refl
@@ -277,11 +270,11 @@ module _ (m : Machine) (t : ℕ) where
       ∙ ap (λ b. (list_all of_due m.jobs && b) && is_before t (fold (with_warning_due m.jobs) None m.seats)) (first_before t (λ j. is_reserved j.state) (λ j. deadline_of j.state) (λ j. deadline_of j.state) (λ a b le. le) m.jobs)
       ∙ ap (λ b. (list_all of_due m.jobs && list_all of_lease m.jobs) && b)
       (fold_before t (warning_due m.jobs) None m.seats
-      ∙ all_same (λ s. is_before t (warning_due m.jobs s)) (λ s. list_all (λ j. warned j.state s) m.jobs) warning_before m.seats
+      ∙ list_all_agree (λ s. is_before t (warning_due m.jobs s)) (λ s. list_all (λ j. warned j.state s) m.jobs) warning_before m.seats
       ∙ all_turned (λ s j. warned j.state s) m.seats m.jobs)
       ∙ ap (λ b. b && list_all of_seats m.jobs) (all_of_both of_due of_lease m.jobs)
       ∙ all_of_both (λ j. of_due j && of_lease j) of_seats m.jobs
-      ∙ all_same (λ j. (of_due j && of_lease j) && of_seats j) (λ j. list_all (nat_lt t) (dues_of_state m j.state)) (λ j. state_later j.state) m.jobs
+      ∙ list_all_agree (λ j. (of_due j && of_lease j) && of_seats j) (λ j. list_all (nat_lt t) (dues_of_state m j.state)) (λ j. state_later j.state) m.jobs
       ∙ sym (all_flat (nat_lt t) (λ j. dues_of_state m j.state) m.jobs)
       ∙ sym (before_earliest t (flat_map (λ j. dues_of_state m j.state) m.jobs))
 

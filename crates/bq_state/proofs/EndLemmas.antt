@@ -1,6 +1,6 @@
 -- The ends of pauses: what is found among them after a change, and the first of them.
 use Rattle.std.proofs.Common.{◌&&◌, ◌||◌, ◌∙◌, ◌∷◌, ◌≡◌, ◌≤◌, if◌then◌else◌, Bool, List, None, Option, Some, [], ℕ, ap, arith, cond, false, inl, inr, is_some, map, min, refl, subst, sym, true}
-use Rattle.std.proofs.{lemmas.{Bool.{cases_Bool, Decides.nat_tests}, Cmp.alike_right}, Math.Bool.or-true}
+use Rattle.std.proofs.{lemmas.{Bool.{cases_Bool, or_parts, Decides.nat_tests}, Cmp.alike_right}, Math.Bool.or-true}
 use Rattle.std.specs.{Cmp.Lexicographic.slice_cmp, declared.cmp.Ordering.{Ordering, TheVariants.{Equal, Greater, Less}}, List.{AllByRecursion as All, list_any, Sorted.IsStrictlySortedBy}, Map.keys_of, Option.option_map}
 use Rattle.std.specs.{Ordering.{is_eq, nat_cmp, ordering_then}, Prelude.{◌==◌, fold, nat_le, nat_lt}}
 use Rattle.bq_job.specs.{beside.{dues_of_pause, earliest}, machine.{Pause as PauseRecord, TubeRecord}, reading.TubeName.is_same_name}
@@ -9,7 +9,7 @@ use Rattle.bq_jobs.proofs.Choice.{equal_from, lookup_inserted, lookup_removed}
 use Rattle.bq_state.specs.declared.tubes.pauses.PauseEnd.{PauseEnd}
 use Rattle.bq_state.specs.{Dues.{earlier_of_both, first_pause_end, is_end_over, with_tube_due}, KeptTubes.{KeptTubes, Named, record_at, tubes_kept}}
 use Rattle.bq_state.specs.PauseEnds.{AreEnds, Ends, end_cmp, end_total, ends_at, first_end, found_end, has_end, if_over, is_end_in, is_end_of, with_end, without_end}
-use Rattle.bq_state.proofs.{NamedLemmas.ties, TubeLemmas.{head_differs, same_itself}}
+use Rattle.bq_state.proofs.{NamedLemmas.ties, TubeLemmas.same_itself}
 
 -- Two ends tie where they are of one moment and of one tube.
 both_equal : (a b : Ordering) → is_eq (ordering_then a b) ≡ (is_eq a && is_eq b)
@@ -91,7 +91,7 @@ least_end x ends s q h = elim (cases_Bool (is_eq (end_cmp q x.0))) [
     first_of_both false b h = absurd cc
 
 -- None is kept, where no tube is paused.
-same_moment : (n : ℕ) → (n == n) ≡ true
+pub same_moment : (n : ℕ) → (n == n) ≡ true
 same_moment n = grind (arith, nat_tests)
 
 own_end : (t : TubeRecord) (p : PauseRecord) → t.pause ≡ Some p → is_end_of (record { until = p.until; name = t.name }) t ≡ true
@@ -105,10 +105,10 @@ no_pause t (Some p) e none =
 none_stays : (ts : List TubeRecord) (best : Option ℕ) → ((e : PauseEnd) → is_end_in e ts ≡ false) → fold with_tube_due best ts ≡ best
 none_stays [] best none = refl
 none_stays (t ∷ ts) best none =
-    let here : t.pause ≡ None = no_pause t t.pause refl (λ e. (head_differs (is_end_of e t) (is_end_in e ts) (none e)).0) in
+    let here : t.pause ≡ None = no_pause t t.pause refl (λ e. (or_parts (is_end_of e t) (is_end_in e ts) (none e)).0) in
     ap (λ p. fold with_tube_due (earlier_of_both best (earliest (dues_of_pause p))) ts) here
     ∙ ap (λ o. fold with_tube_due o ts) (no_other best)
-    ∙ none_stays ts best (λ e. (head_differs (is_end_of e t) (is_end_in e ts) (none e)).1)
+    ∙ none_stays ts best (λ e. (or_parts (is_end_of e t) (is_end_in e ts) (none e)).1)
   where
     no_other : (a : Option ℕ) → earlier_of_both a None ≡ a
     no_other None = refl

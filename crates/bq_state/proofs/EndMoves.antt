@@ -1,6 +1,6 @@
 -- What a change of a pause, and the coming and going of a tube, do to the ends of pauses.
 use Rattle.std.proofs.Common.{◌&&◌, ◌+◌, ◌<◌, ◌||◌, ◌∙◌, ◌∷◌, ◌≡◌, ◌≤◌, if◌then◌else◌, Bool, List, None, Option, Some, [], ℕ, ap, arith, cond, false, inl, inr, is_some, length, map, refl, subst, suc, sym, true}
-use Rattle.std.proofs.{lemmas.Bool.{cases_Bool, eqb-true, Decides.nat_tests}, Math.Bool.or-false}
+use Rattle.std.proofs.{lemmas.Bool.{cases_Bool, eqb-true, or_parts, Decides.nat_tests}, Math.Bool.or-false}
 use Rattle.std.specs.{Borrow.Bor, Map.{lookup, remove_entry}, Option.{ForSome, option_map}, Ordering.is_eq, Prelude.{◌==◌, count_by, nat_le}}
 use Rattle.bq_job.specs.{machine.{Pause as PauseRecord, TubeRecord, fresh_tube, is_name_before, pause_after_timers, tube_after_timers, with_record}, reading.TubeName.is_same_name}
 use Rattle.bq_job.proofs.ListLemmas.{count_cons}
@@ -11,7 +11,8 @@ use Rattle.bq_state.specs.KeptTubes.{KeptTube, Named, edited, ended, is_named_at
 use Rattle.bq_state.specs.PauseEnds.{AreEnds, Ends, end_cmp, end_of, ends_at, first_end, found_end, has_end, if_over, is_end_in, is_end_of, is_paused, pause_at, pause_in, with_end, without_end}
 use Rattle.bq_state.specs.TubeEntries.{AreInOrder, has_entry, tube_changed}
 use Rattle.bq_state.proofs.{EndLemmas.{ends_alike, ends_apart, has_entered, has_left, one_over}, NamedLemmas.{change_kept, edit_change, found_entry, ties}}
-use Rattle.bq_state.proofs.TubeLemmas.{changed_one, head_differs, none_later, order_kept, same_itself, same_name}
+use Rattle.bq_state.proofs.{EndLemmas.same_moment, PartsLemmas.tube_name_kept, TubeLemmas.{changed_one, none_later}}
+use Rattle.bq_state.proofs.TubeLemmas.{order_kept, same_itself, same_name}
 
 abbrev pub one_if : Option PauseRecord → ℕ
 one_if p = cond (is_some p) 1 0
@@ -31,9 +32,6 @@ some_unit (Some tt) h = refl
 none_from : (o : Option (Unit {0})) → is_some o ≡ false → o ≡ None
 none_from None h = refl
 none_from (Some x) h = absurd cc
-
-same_moment : (n : ℕ) → (n == n) ≡ true
-same_moment n = grind (arith, nat_tests)
 
 turned : (a b : ℕ) → (a == b) ≡ (b == a)
 turned a b = elim (cases_Bool (a == b)) [
@@ -180,7 +178,7 @@ not_both false = refl
 none_named : (e : PauseEnd) (ts : List TubeRecord) → has_entry e.name ts ≡ false → is_end_in e ts ≡ false
 none_named e [] h = refl
 none_named e (t ∷ ts) h =
-    let parts = head_differs (is_same_name e.name t.name) (has_entry e.name ts) h in
+    let parts = or_parts (is_same_name e.name t.name) (has_entry e.name ts) h in
     rw parts.0 (none_named e ts parts.1)
 
 none_behind : (name : List ℕ) (t : TubeRecord) (ts : List TubeRecord) → is_same_name name t.name ≡ true → AreInOrder (t ∷ ts) → has_entry name ts ≡ false
@@ -206,7 +204,7 @@ module _ (name : List ℕ) (f : TubeRecord → TubeRecord) (keeps : (t : TubeRec
   stay : (ts : List TubeRecord) → has_entry name ts ≡ false → map (changed_one name f) ts ≡ ts
   stay [] h = refl
   stay (t ∷ ts) h =
-      let parts = head_differs (is_same_name name t.name) (has_entry name ts) h in
+      let parts = or_parts (is_same_name name t.name) (has_entry name ts) h in
       rw parts.0 (ap (λ us. t ∷ us) (stay ts parts.1))
 
   others_changed : (e : PauseEnd) → is_same_name name e.name ≡ false → (ts : List TubeRecord) → is_end_in e (map (changed_one name f) ts) ≡ is_end_in e ts
@@ -306,7 +304,7 @@ module _ (name : List ℕ) where
   fresh_ends : (e : PauseEnd) (ts : List TubeRecord) → has_entry name ts ≡ false → is_end_in e (with_record (fresh_tube name) ts) ≡ is_end_in e ts
   fresh_ends e [] h = ap (λ b. b || false) (not_both (is_same_name e.name name))
   fresh_ends e (t ∷ ts) h =
-      let parts = head_differs (is_same_name name t.name) (has_entry name ts) h in
+      let parts = or_parts (is_same_name name t.name) (has_entry name ts) h in
       rw parts.0 (go (is_name_before name t.name) (fresh_ends e ts parts.1))
     where
       go : (b : Bool) → is_end_in e (with_record (fresh_tube name) ts) ≡ is_end_in e ts → is_end_in e (if b then fresh_tube name ∷ t ∷ ts else t ∷ with_record (fresh_tube name) ts) ≡ is_end_in e (t ∷ ts)
@@ -316,7 +314,7 @@ module _ (name : List ℕ) where
   fresh_count : (ts : List TubeRecord) → has_entry name ts ≡ false → (count_by is_paused (with_record (fresh_tube name) ts) ≡ count_by is_paused ts) × (length (with_record (fresh_tube name) ts) ≡ length ts + 1)
   fresh_count [] h = (refl, refl)
   fresh_count (t ∷ ts) h =
-      let parts = head_differs (is_same_name name t.name) (has_entry name ts) h in
+      let parts = or_parts (is_same_name name t.name) (has_entry name ts) h in
       rw parts.0 (go (is_name_before name t.name) (fresh_count ts parts.1))
     where
       go : (b : Bool) → (count_by is_paused (with_record (fresh_tube name) ts) ≡ count_by is_paused ts) × (length (with_record (fresh_tube name) ts) ≡ length ts + 1)
@@ -383,18 +381,13 @@ module _ (name : List ℕ) (f : KeptTube → KeptTube) (g : TubeRecord → TubeR
       pause_kept false t = refl
 
 -- What a pause, and a count, change.
-pub names_kept : (what : TubeChange) (t : TubeRecord) → (tube_changed what t).name ≡ t.name
-names_kept CountPut t = refl
-names_kept CountDelete t = refl
-names_kept (Pause seconds moment) t = refl
-
 pub change_moves : (name : List ℕ) (what : TubeChange) (es last : List Named) → AreInOrder (map record_at es) → last ≡ edited name (kept_changed what) (lookup (is_named_at name) es) es
     → Moves name (pause_at name (map record_at es)) (pause_at name (map record_at last)) (map record_at es) (map record_at last)
-change_moves name what es last order e = edit_moves name (kept_changed what) (tube_changed what) (change_kept what) (names_kept what) es last order e
+change_moves name what es last order e = edit_moves name (kept_changed what) (tube_changed what) (change_kept what) (tube_name_kept what) es last order e
 
 pub count_stays : (name : List ℕ) (what : TubeChange) (es last : List Named) (ends : CatalogSeen PauseEnd (Unit {0})) → ((t : TubeRecord) → (tube_changed what t).pause ≡ t.pause) → AreInOrder (map record_at es) → last ≡ edited name (kept_changed what) (lookup (is_named_at name) es) es
     → AreEnds (map record_at es) ends → AreEnds (map record_at last) ends
-count_stays name what es last ends paused order e h = edit_stays name (kept_changed what) (tube_changed what) (change_kept what) (names_kept what) es last order e paused ends h
+count_stays name what es last ends paused order e h = edit_stays name (kept_changed what) (tube_changed what) (change_kept what) (tube_name_kept what) es last order e paused ends h
 
 -- how many boxes an end takes
 pub one_box : (name : List ℕ) (p : Option PauseRecord) (e : Option PauseEnd) → e ≡ end_of name p → cond (is_some e) 1 0 ≡ one_if p

@@ -1,6 +1,7 @@
 -- When the first wait of a client is over by its timeout, as seats change.
 use Rattle.std.proofs.Common.{◌&&◌, ◌==◌, ◌||◌, ◌∙◌, ◌∷◌, ◌≡◌, if◌then◌else◌, Bool, List, None, Option, Some, [], ℕ, ap, arith, false, inl, inr, length, map, not, refl, set, slice_get, suc, sym, true, zero}
-use Rattle.std.proofs.lemmas.Bool.{cases_Bool, eqb-true, Decides.nat_tests}
+use Rattle.std.proofs.{lemmas.Bool.{and_parts, cases_Bool, eqb-true, not-true, Decides.nat_tests}, Math.Bool.or-false}
+use Rattle.std.proofs.Math.Bool.{or_assoc}
 use Rattle.std.specs.{List.{AllByRecursion as All, list_any}, Prelude.{fold, is_some, min, nat_le}}
 use Rattle.bq_job.specs.{beside.{dues_of_until, dues_of_wait, earliest}, machine.{SeatRecord, Wait, empty_seat, is_past, is_until_over, is_waiting, seat_with, watching}}
 use Rattle.bq_job.proofs.{KeptLemmas.only_seat, ListLemmas.{all_both, all_of_map, all_weaker}}
@@ -22,21 +23,12 @@ no_moment : (o : Option ℕ) → not (is_some o) ≡ true → None ≡ o
 no_moment None h = refl
 no_moment (Some due) h = absurd cc
 
-both_so : (a b : Bool) → (a && b) ≡ true → (a ≡ true) × (b ≡ true)
-both_so true true h = (refl, refl)
-both_so true false h = absurd cc
-both_so false b h = absurd cc
-
-not_so : (b : Bool) → not b ≡ true → b ≡ false
-not_so true h = absurd cc
-not_so false h = refl
-
 -- a change that keeps it
 same_end : (what : SeatChange) (s : SeatRecord) → keeps_end what s ≡ true → gives_up_at (seat_changed what s) ≡ gives_up_at s
 same_end StopWaiting s h = no_moment (gives_up_at s) h
 same_end (WaitFrom ticket until) s h =
-    let parts = both_so (not (is_some until) && not (is_some (gives_up_at s))) (not s.ended) h in
-    let none = both_so (not (is_some until)) (not (is_some (gives_up_at s))) parts.0 in
+    let parts = and_parts (not (is_some until) && not (is_some (gives_up_at s))) (not s.ended) h in
+    let none = and_parts (not (is_some until)) (not (is_some (gives_up_at s))) parts.0 in
     ap (λ o. earliest (dues_of_until o)) (sym (no_moment until none.0)) ∙ no_moment (gives_up_at s) none.1
 same_end Connect s h = no_moment (gives_up_at s) h
 same_end Clear s h = no_moment (gives_up_at s) h
@@ -45,10 +37,10 @@ same_end (Use tube) s h = refl
 
 still_there : (what : SeatChange) (s : SeatRecord) → keeps_end what s ≡ true → IsThere s → IsThere (seat_changed what s)
 still_there StopWaiting s h there = refl
-still_there (WaitFrom ticket until) s h there = not_so s.ended (both_so (not (is_some until) && not (is_some (gives_up_at s))) (not s.ended) h).1
+still_there (WaitFrom ticket until) s h there = not-true s.ended (and_parts (not (is_some until) && not (is_some (gives_up_at s))) (not s.ended) h).1
 still_there Connect s h there = refl
 still_there Clear s h there = refl
-still_there End s h there = go (is_waiting s) (not_so (is_waiting s) h)
+still_there End s h there = go (is_waiting s) (not-true (is_waiting s) h)
   where
     go : (w : Bool) → w ≡ false → (w && true) ≡ false
     go true e = absurd cc
@@ -109,28 +101,16 @@ over_min moment a b = elim (cases_Bool (nat_le a moment)) [
 
 over_both : (moment : ℕ) (o u : Option ℕ) → is_end_over moment (earlier_of_both o u) ≡ (is_end_over moment o || is_end_over moment u)
 over_both moment None u = refl
-over_both moment (Some a) None = sym (or_none (nat_le a moment))
-  where
-    or_none : (b : Bool) → (b || false) ≡ b
-    or_none true = refl
-    or_none false = refl
+over_both moment (Some a) None = sym (or-false (nat_le a moment))
 over_both moment (Some a) (Some b) = over_min moment a b
 
 over_all : (moment : ℕ) (best : Option ℕ) (seats : List SeatRecord) → All IsThere seats → is_end_over moment (fold with_seat_due best seats) ≡ (is_end_over moment best || list_any (has_waited moment) seats)
-over_all moment best [] there = sym (or_none (is_end_over moment best))
-  where
-    or_none : (b : Bool) → (b || false) ≡ b
-    or_none true = refl
-    or_none false = refl
+over_all moment best [] there = sym (or-false (is_end_over moment best))
 over_all moment best (s ∷ seats) there =
     over_all moment (earlier_of_both best (gives_up_at s)) seats there.1
     ∙ ap (λ b. b || list_any (has_waited moment) seats) (over_both moment best (gives_up_at s) ∙ ap (λ b. is_end_over moment best || b) (one s.wait s.ended there.0))
-    ∙ or_thrice (is_end_over moment best) (has_waited moment s) (list_any (has_waited moment) seats)
+    ∙ or_assoc (is_end_over moment best) (has_waited moment s) (list_any (has_waited moment) seats)
   where
-    or_thrice : (a b c : Bool) → ((a || b) || c) ≡ (a || (b || c))
-    or_thrice true b c = refl
-    or_thrice false b c = refl
-
     timed : (a b : Bool) → b ≡ false → a ≡ (a || b)
     timed true b h = refl
     timed false b h = sym h

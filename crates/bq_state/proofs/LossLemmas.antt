@@ -4,17 +4,12 @@ use Rattle.std.proofs.lemmas.Bool.{and_from, and_parts, cases_Bool, eqb-true, ne
 use Rattle.std.specs.{List.{AllByRecursion as All, list_any}, Prelude.{filter, nat_lt}}
 use Rattle.bq_job.specs.declared.job.Job.{Job}
 use Rattle.bq_job.specs.{beside.AreIdsWithin, machine.{SeatRecord, TubeRecord, default_tube, fresh_tube, is_name_before, is_seated_at, job_with, watches, watching, with_record}, reading.TubeName.is_same_name}
-use Rattle.bq_job.proofs.{ListLemmas.all_weaker, NameOrderLemmas.not_same}
+use Rattle.bq_job.proofs.{ListLemmas.{all_weaker, filter_no_longer}, NameOrderLemmas.not_same}
 use Rattle.bq_jobs.specs.Kept.{is_id_before, with_added, without}
 use Rattle.bq_state.specs.declared.known.Loss.{Loss, TheVariants.{Any, Nothing, Of}}
 use Rattle.bq_state.specs.{Dues.{first_pause_end, pause_end_left}, Losses.{AreAlive, is_accounted, may_be_gone, with_lost, with_regained}, TubeEntries.{has_entry, is_tube_of, provided}}
 use Rattle.bq_state.proofs.TubeLemmas.{same_itself, same_name}
-
--- no id of the list is below its least
-pub none_with : (low id next : ℕ) (jobs : List Job) → id < low → AreIdsWithin low jobs next → All (λ j. (j.id == id) ≡ false) jobs
-none_with low id next [] less h = tt
-none_with low id next (j ∷ jobs) less h =
-    (ne_eqb j.id id (λ e. absurd (let a = h.0 in omega arith)), none_with (suc j.id) id next jobs (let a = h.0 in omega arith) h.1)
+use Rattle.bq_jobs.proofs.Changes.{all_kept, others_above}
 
 -- what may be gone still may
 pub still_lost : (more : List ℕ) (loss : Loss) (name : List ℕ) → may_be_gone loss name ≡ true → may_be_gone (with_lost more loss) name ≡ true
@@ -113,10 +108,6 @@ alive_added j loss jobs seats entries all =
 
 -- or goes: then only its tube has lost it
 module _ (p : Job → Bool) where
-  all_stay : (id : ℕ) (jobs : List Job) → All (λ k. (k.id == id) ≡ false) jobs → without id jobs ≡ jobs
-  all_stay id [] all = refl
-  all_stay id (k ∷ jobs) all = rw all.0 (ap (λ ks. k ∷ ks) (all_stay id jobs all.1))
-
   left_over : (low next id : ℕ) (j : Job) (jobs : List Job) → AreIdsWithin low jobs next → job_with id jobs ≡ Some j → list_any p jobs ≡ true → (list_any p (without id jobs) ≡ true) ⊎ (p j ≡ true)
   left_over low next id j [] ids found h = absurd cc
   left_over low next id j (k ∷ jobs) ids found h = elim (cases_Bool (k.id == id)) [
@@ -126,7 +117,7 @@ module _ (p : Job → Bool) where
         let at : k.id ≡ id = eqb-true k.id id same in
         elim (or_cases (p k) (list_any p jobs) h) [
           | inl here ↦ inr (ap p (sym one) ∙ here)
-          | inr more ↦ inl (rw same (ap (list_any p) (all_stay id jobs (none_with (suc k.id) id next jobs (omega arith) ids.1)) ∙ more))
+          | inr more ↦ inl (rw same (ap (list_any p) (all_kept id jobs (others_above id (suc k.id) next jobs (omega arith) ids.1)) ∙ more))
         ]
     | inr other ↦
         let there : job_with id jobs ≡ Some j = rw other at found in
@@ -326,17 +317,9 @@ alive_forgotten jobs seats (t ∷ entries) = go (is_tube_of jobs seats t.name) r
     go false e rest = rest
 
 -- where as many are left, all are
-at_most : {A : Type 0} (p : A → Bool) (xs : List A) → length (filter p xs) ≤ length xs
-at_most p [] = omega arith
-at_most {A = A} p (x ∷ xs) = go (p x) (at_most p xs)
-  where
-    go : (b : Bool) → length (filter p xs) ≤ length xs → length (if b then x ∷ filter p xs else filter p xs) ≤ suc (length xs)
-    go true h = omega arith
-    go false h = omega arith
-
 pub as_many_left : {A : Type 0} (p : A → Bool) (xs : List A) → length xs ≤ length (filter p xs) → filter p xs ≡ xs
 as_many_left p [] h = refl
-as_many_left {A = A} p (x ∷ xs) h = go (p x) h (at_most p xs) (as_many_left p xs)
+as_many_left {A = A} p (x ∷ xs) h = go (p x) h (filter_no_longer p xs) (as_many_left p xs)
   where
     go : (b : Bool) → suc (length xs) ≤ length (if b then x ∷ filter p xs else filter p xs) → length (filter p xs) ≤ length xs → (length xs ≤ length (filter p xs) → filter p xs ≡ xs) → (if b then x ∷ filter p xs else filter p xs) ≡ x ∷ xs
     go true h most rest = ap (λ ys. x ∷ ys) (rest (omega arith))

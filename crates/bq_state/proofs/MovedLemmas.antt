@@ -11,14 +11,11 @@ use Rattle.bq_state.specs.{Crowds.is_waiter, JobChanges.changed, Losses.{AreAliv
 use Rattle.bq_state.specs.{Tallies.{AreCounted, tallies_at, tallies_of, tallies_without, tally_moved, tally_of, tally_with, tally_without}, TubeEntries.{AreEntries, AreInOrder, has_entry}}
 use Rattle.bq_state.specs.Warnings.{AreWarned, IsWarned, has_waiting_holder, with_holder_of}
 use Rattle.bq_state.proofs.{PartsLemmas.{all_filtered, all_kept}, StirLemmas.known_added, TallyPlaces.{counted_added, counted_taken}, WarningLemmas.warned_added}
+use Rattle.bq_state.proofs.PartsLemmas.{same_id}
 
 same_tube : (b : Bool) (x y : Job) (tube : List ℕ) → x.tube ≡ tube → y.tube ≡ tube → (if b then x else y).tube ≡ tube
 same_tube true x y tube h i = h
 same_tube false x y tube h i = i
-
-same_id : (b : Bool) (x y : Job) (id : ℕ) → x.id ≡ id → y.id ≡ id → (if b then x else y).id ≡ id
-same_id true x y id h i = h
-same_id false x y id h i = i
 
 -- no change depends on the tube
 pub tube_ignored : (change : JobChange) → IgnoresTube (changed change)

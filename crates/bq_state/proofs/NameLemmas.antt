@@ -6,6 +6,7 @@ use Rattle.bq_job.specs.texts.Yaml.{name_line}
 use Rattle.bq_job.proofs.NameOrderLemmas.{after, first_of_order, in_order_fold, in_order_from, listed, not_before, not_same, rest_in_order, stays_fold}
 use Rattle.bq_state.specs.{Names.{is_named, names_of}, TubeEntries.{AreEntries, AreInOrder, IsFreshUnlessCounted, counted, has_entry, is_counted, is_tube_of, names_alive}}
 use Rattle.bq_state.proofs.{PartsLemmas.tube_has_entry, TubeLemmas.{before_differs, none_found, none_later, order_filtered, same_itself, same_name}}
+use Rattle.bq_job.proofs.WatchedLemmas.{same_other}
 
 -- names that come later are others
 none_listed : (name : List ℕ) (names : List (List ℕ)) → All (λ n. is_name_before name n ≡ true) names → list_any (is_same_name name) names ≡ false
@@ -147,12 +148,6 @@ record_of_entry name (t ∷ entries) order fresh =
     entry_at name t entries (is_same_name name t.name) (is_counted t) refl refl fresh.0 order.0 (record_of_entry name entries order.1 fresh.1)
 
 -- A name that is put at the place of the first one that doesn't come before it.
-other_way : (a b : List ℕ) → is_same_name a b ≡ false → is_same_name b a ≡ false
-other_way a b h = elim (cases_Bool (is_same_name b a)) [
-  | inl same ↦ let here : is_same_name a b ≡ true = ap (λ x. is_same_name x b) (sym (same_name b a same)) ∙ same_itself b in absurd cc
-  | inr other ↦ other
-]
-
 one_more : (n : ℕ) → 1 + n ≡ suc n
 one_more n = omega arith
 
@@ -189,7 +184,7 @@ module _ (name : List ℕ) where
           rw (not_same o.now name (is_same_name name o.now) refl e, not_before o.now name e)
           (ap (λ n. names_of (insert (o ∷ names) n x)) (one_more (place names)) ∙ ap (λ ns. o.now ∷ ns) (rest k))
       go false e rest h =
-          rw (h, after o.now name (other_way name o.now h) e) (ap (λ n. n ∷ o.now ∷ names_of names) is)
+          rw (h, after o.now name (same_other name o.now h) e) (ap (λ n. n ∷ o.now ∷ names_of names) is)
 
 -- a call that doesn't fail
 pub when_ok : {T E X : Type 0} (r : Result T E) (a b : X) → IsOk r → (if is_ok r then a else b) ≡ a

@@ -8,7 +8,8 @@ use Rattle.bq_state.specs.declared.{known.Tally.Tally, tubes.entry.{Crowd.Crowd,
 use Rattle.bq_state.specs.Crowds.{crowd_at, crowds_at, crowds_provided, no_crowd}
 use Rattle.bq_state.specs.KeptTubes.{KeptTube, KeptTubes, Named, crowd_by, crowd_kept, edited, fresh_entry, is_named_at, is_paused_by, kept_changed, record_at, record_of, tally_by, tally_kept}
 use Rattle.bq_state.specs.{Tallies.{tallies_at, tallies_provided, tally_at, tally_of}, TubeEntries.{AreInOrder, has_entry, provided, tube_changed}}
-use Rattle.bq_state.proofs.TubeLemmas.{changed_one, head_differs, none_later, same_name}
+use Rattle.bq_state.proofs.TubeLemmas.{changed_one, none_later, same_name}
+use Rattle.std.proofs.lemmas.Bool.{or_parts}
 
 -- a look-up asks whether names are the same
 pub ties : (a b : List ℕ) → is_named_at a b ≡ is_same_name a b
@@ -64,7 +65,7 @@ module _ (name : List ℕ) where
       no_pause : (ts : List TubeRecord) → has_entry name ts ≡ false → list_any (λ t. is_same_name name t.name && is_some t.pause) ts ≡ false
       no_pause [] h = refl
       no_pause (t ∷ ts) h =
-          let parts = head_differs (is_same_name name t.name) (has_entry name ts) h in
+          let parts = or_parts (is_same_name name t.name) (has_entry name ts) h in
           rw parts.0 (no_pause ts parts.1)
 
   -- and how many jobs it has.
@@ -86,7 +87,7 @@ module _ (name : List ℕ) where
   unchanged : (g : TubeRecord → TubeRecord) (ts : List TubeRecord) → has_entry name ts ≡ false → map (changed_one name g) ts ≡ ts
   unchanged g [] h = refl
   unchanged g (t ∷ ts) h =
-      let parts = head_differs (is_same_name name t.name) (has_entry name ts) h in
+      let parts = or_parts (is_same_name name t.name) (has_entry name ts) h in
       rw parts.0 (ap (λ us. t ∷ us) (unchanged g ts parts.1))
 
   -- The value there is changed:
@@ -180,7 +181,7 @@ module _ (name : List ℕ) where
   pub new_record : (es : List Named) → has_entry name (map record_at es) ≡ false → map record_at (insert_entry (slice_cmp nat_cmp) es name fresh_entry) ≡ with_record (fresh_tube name) (map record_at es)
   new_record [] h = refl
   new_record (x ∷ es) h =
-      let parts = head_differs (is_same_name name x.0) (has_entry name (records es)) h in
+      let parts = or_parts (is_same_name name x.0) (has_entry name (records es)) h in
       new_at x es (slice_cmp nat_cmp name x.0) refl parts.0 (new_record es parts.1)
 
   pub new_entry : (es : List Named) → has_entry name (map record_at es) ≡ false → map record_at (insert_entry (slice_cmp nat_cmp) es name fresh_entry) ≡ provided name (map record_at es)
@@ -200,7 +201,7 @@ module _ (name : List ℕ) where
       → map tally_kept (insert_entry (slice_cmp nat_cmp) es name fresh_entry) ≡ insert (map tally_kept es) (prefix_len (λ t. is_name_before t.name name) (map record_at es)) (tally_of [])
   tally_new [] h = refl
   tally_new (x ∷ es) h =
-      let parts = head_differs (is_same_name name x.0) (has_entry name (records es)) h in
+      let parts = or_parts (is_same_name name x.0) (has_entry name (records es)) h in
       tally_new_at x es (slice_cmp nat_cmp name x.0) refl parts.0 (tally_new es parts.1)
 
   pub new_tally : (es : List Named) → has_entry name (map record_at es) ≡ false → map tally_kept (insert_entry (slice_cmp nat_cmp) es name fresh_entry) ≡ tallies_provided name (map record_at es) (map tally_kept es)
@@ -220,7 +221,7 @@ module _ (name : List ℕ) where
       → map crowd_kept (insert_entry (slice_cmp nat_cmp) es name fresh_entry) ≡ insert (map crowd_kept es) (prefix_len (λ t. is_name_before t.name name) (map record_at es)) no_crowd
   crowd_new [] h = refl
   crowd_new (x ∷ es) h =
-      let parts = head_differs (is_same_name name x.0) (has_entry name (records es)) h in
+      let parts = or_parts (is_same_name name x.0) (has_entry name (records es)) h in
       crowd_new_at x es (slice_cmp nat_cmp name x.0) refl parts.0 (crowd_new es parts.1)
 
   pub new_crowd : (es : List Named) → has_entry name (map record_at es) ≡ false → map crowd_kept (insert_entry (slice_cmp nat_cmp) es name fresh_entry) ≡ crowds_provided name (map record_at es) (map crowd_kept es)

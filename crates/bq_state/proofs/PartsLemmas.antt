@@ -11,6 +11,8 @@ use Rattle.bq_state.specs.declared.{seats.SeatChange.{SeatChange, TheVariants.{C
 use Rattle.bq_state.specs.{JobChanges.changed, SeatChanges.{AreNumbered, has_tube_of, seat_changed, seat_changed_at}, Soundness.Soundness}
 use Rattle.bq_state.specs.TubeEntries.{AreEntries, AreInOrder, HasTubes, IsFreshUnlessCounted, counted, has_entry, is_counted, is_tube_of, provided, tube_changed, tube_changed_at}
 use Rattle.bq_state.proofs.TubeLemmas.{counted_inserted, entry_filtered, fresh_inserted, has_inserted, order_filtered, order_inserted, order_kept, same_entries, same_itself, same_name, still_has}
+use Rattle.bq_job.proofs.LawfulLemmas.{length_numbers}
+use Rattle.bq_jobs.proofs.Changes.{low_below}
 
 -- what all elements have is kept where each change keeps it
 pub all_kept : {A : Type 0} (P : A → Type 0) (f : A → A) → ((x : A) → P x → P (f x)) → (xs : List A) → All P xs → All P (map f xs)
@@ -30,7 +32,7 @@ pub all_with : {A : Type 0} (P : A → Type 0) (xs : List A) (x : A) → All P x
 all_with P [] x all h = (h, tt)
 all_with P (y ∷ xs) x all h = (all.0, all_with P xs x all.1 h)
 
-same_id : (b : Bool) (x y : Job) (id : ℕ) → x.id ≡ id → y.id ≡ id → (if b then x else y).id ≡ id
+pub same_id : (b : Bool) (x y : Job) (id : ℕ) → x.id ≡ id → y.id ≡ id → (if b then x else y).id ≡ id
 same_id true x y id h i = h
 same_id false x y id h i = i
 
@@ -70,19 +72,6 @@ entries_of_added j jobs seats entries h e = record {
   of_seats = e.of_seats;
 }
 
--- an id that no job has is given to one
-pub ids_of_added : (low next : ℕ) (j : Job) (jobs : List Job) → AreIdsWithin low jobs next → job_with j.id jobs ≡ None → low ≤ j.id → j.id < next → AreIdsWithin low (with_added j jobs) next
-ids_of_added low next j [] ids free above below = (above, omega arith)
-ids_of_added low next j (k ∷ jobs) ids free above below = elim (cases_Bool (k.id == j.id)) [
-  | inl same ↦ absurd (let e : Some k ≡ None = rw same at free in cc)
-  | inr other ↦
-      let rest : job_with j.id jobs ≡ None = rw other at free in
-      elim (cases_Bool (nat_lt k.id j.id)) [
-        | inl before ↦ let less : k.id < j.id = grind (arith, nat_tests) in rw before (ids.0, ids_of_added (suc k.id) next j jobs ids.1 rest (omega arith) below)
-        | inr after ↦ let more : j.id < k.id = grind (arith, nat_tests) in rw after (above, (omega arith, ids.1))
-      ]
-]
-
 -- a job that is there has an entry, and its id was given
 pub has_of_job : (jobs : List Job) (seats : List SeatRecord) (entries : List TubeRecord) (id : ℕ) (j : Job) → AreEntries jobs seats entries → job_with id jobs ≡ Some j → has_entry j.tube entries ≡ true
 has_of_job jobs seats entries id j e found =
@@ -91,12 +80,7 @@ has_of_job jobs seats entries id j e found =
 pub ids_below : (low next : ℕ) (jobs : List Job) → AreIdsWithin low jobs next → All (λ k. (low ≤ k.id) × (k.id < next)) jobs
 ids_below low next [] h = tt
 ids_below low next (k ∷ jobs) h =
-    ((h.0, at_most (suc k.id) next jobs h.1), all_weaker (λ i. (suc k.id ≤ i.id) × (i.id < next)) (λ i. (low ≤ i.id) × (i.id < next)) jobs (λ i b. (let a = h.0 in let c = b.0 in omega arith, b.1)) (ids_below (suc k.id) next jobs h.1))
-  where
-    at_most : (low next : ℕ) (jobs : List Job) → AreIdsWithin low jobs next → low ≤ next
-    at_most low next [] h = h
-    at_most low next (k ∷ jobs) h = let a = h.0 in let b = at_most (suc k.id) next jobs h.1 in omega arith
-
+    ((h.0, low_below (suc k.id) next jobs h.1), all_weaker (λ i. (suc k.id ≤ i.id) × (i.id < next)) (λ i. (low ≤ i.id) × (i.id < next)) jobs (λ i b. (let a = h.0 in let c = b.0 in omega arith, b.1)) (ids_below (suc k.id) next jobs h.1))
 pub given_of_job : (next id : ℕ) (jobs : List Job) (j : Job) → AreIdsWithin 1 jobs next → job_with id jobs ≡ Some j → (1 ≤ j.id) × (j.id < next)
 given_of_job next id jobs j ids found =
     all_at (λ k. (1 ≤ k.id) × (k.id < next)) jobs j (ids_below 1 next jobs ids) ((found_passes (λ k. k.id == id) jobs j found).1)
@@ -104,10 +88,6 @@ given_of_job next id jobs j ids found =
 pub ids_further : (low next further : ℕ) (jobs : List Job) → next ≤ further → AreIdsWithin low jobs next → AreIdsWithin low jobs further
 ids_further low next further [] le h = omega arith
 ids_further low next further (k ∷ jobs) le h = (h.0, ids_further (suc k.id) next further jobs le h.1)
-
-pub some_next : (low next : ℕ) (jobs : List Job) → AreIdsWithin low jobs next → low ≤ next
-some_next low next [] h = h
-some_next low next (k ∷ jobs) h = let a = h.0 in let b = some_next (suc k.id) next jobs h.1 in omega arith
 
 -- and there are fewer jobs than ids
 pub as_many_ids : (low next : ℕ) (jobs : List Job) → AreIdsWithin low jobs next → length jobs + low ≤ next
@@ -369,13 +349,9 @@ numbers_read : (ns : List ℕ) → map (λ s. s.number) (map empty_seat ns) ≡ 
 numbers_read [] = refl
 numbers_read (n ∷ ns) = ap (λ ms. n ∷ ms) (numbers_read ns)
 
-pub numbers_length : (low n : ℕ) → length (numbers low n) ≡ n
-numbers_length low zero = refl
-numbers_length low (suc n) = ap suc (numbers_length (suc low) n)
-
 pub first_numbered : (n : ℕ) → AreNumbered (map empty_seat (numbers 0 n))
 first_numbered n =
-    numbers_read (numbers 0 n) ∙ ap (numbers 0) (sym (length-map (numbers 0 n) empty_seat ∙ numbers_length 0 n))
+    numbers_read (numbers 0 n) ∙ ap (numbers 0) (sym (length-map (numbers 0 n) empty_seat ∙ length_numbers 0 n))
 
 -- the seat of a number stands at its place
 seat_at : (low : ℕ) (seats : List SeatRecord) (i : ℕ) (s : SeatRecord) → map (λ s. s.number) seats ≡ numbers low (length seats) → seat_with (low + i) seats ≡ Some s → slice_get seats i ≡ Some s
@@ -536,6 +512,3 @@ some_at [] i h = absurd (omega arith)
 some_at (x ∷ xs) i h = (get_or (x ∷ xs) i x, slice_get-get_or (x ∷ xs) i x h)
 
 -- what is told of a value that was had
-pub ok_weaker : {A E : Type 0} (r : Result A E) (P Q : A → Type 0) → ((x : A) → P x → Q x) → IfOk r P → IfOk r Q
-ok_weaker (Ok x) P Q h p = h x p
-ok_weaker (Err e) P Q h p = tt

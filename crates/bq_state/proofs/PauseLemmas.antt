@@ -5,7 +5,8 @@ use Rattle.bq_job.specs.{beside.{dues_of_pause, earliest}, machine.{Pause as Pau
 use Rattle.bq_job.proofs.ListLemmas.{all_of_filter, all_weaker, list_any_not, map_all_same, none_pass}
 use Rattle.bq_state.specs.declared.tubes.entry.TubeChange.{TubeChange, TheVariants.{CountDelete, CountPut, Pause}}
 use Rattle.bq_state.specs.{Dues.{earlier_of_both, first_pause_end, is_end_over, pause_end_after, with_tube_due}, TubeEntries.{counted, has_entry, is_counted, is_over, is_pause_over, provided, tube_changed, tube_changed_at}}
-use Rattle.bq_state.proofs.TubeLemmas.{head_differs}
+use Rattle.std.proofs.lemmas.Bool.{or_parts}
+use Rattle.bq_state.proofs.WarningLemmas.{no_other}
 
 -- changes that keep the pauses
 same_ends : (f : TubeRecord → TubeRecord) → ((t : TubeRecord) → (f t).pause ≡ t.pause) → (entries : List TubeRecord) (best : Option ℕ) → fold with_tube_due best (map f entries) ≡ fold with_tube_due best entries
@@ -26,14 +27,10 @@ end_after_change name CountDelete entries last h =
 end_after_change name (Pause seconds moment) entries last h = refl
 
 -- a new entry has no pause
-no_other : (a : Option ℕ) → earlier_of_both a None ≡ a
-no_other None = refl
-no_other (Some a) = refl
-
 fresh_adds_none : (name : List ℕ) (entries : List TubeRecord) (best : Option ℕ) → has_entry name entries ≡ false → fold with_tube_due best (with_record (fresh_tube name) entries) ≡ fold with_tube_due best entries
 fresh_adds_none name [] best h = no_other best
 fresh_adds_none name (t ∷ entries) best h =
-    let parts = head_differs (is_same_name name t.name) (has_entry name entries) h in
+    let parts = or_parts (is_same_name name t.name) (has_entry name entries) h in
     rw parts.0 (go (is_name_before name t.name) (fresh_adds_none name entries (earlier_of_both best (earliest (dues_of_pause t.pause))) parts.1))
   where
     go : (b : Bool) → fold with_tube_due best (t ∷ with_record (fresh_tube name) entries) ≡ fold with_tube_due best (t ∷ entries) → fold with_tube_due best (if b then fresh_tube name ∷ t ∷ entries else t ∷ with_record (fresh_tube name) entries) ≡ fold with_tube_due best (t ∷ entries)

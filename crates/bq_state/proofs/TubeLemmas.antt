@@ -1,6 +1,7 @@
 -- What is kept of tubes: the entries and the machine's records of them.
 use Rattle.std.proofs.Common.{◌&&◌, ◌+◌, ◌<◌, ◌||◌, ◌∙◌, ◌∷◌, ◌≡◌, ◌≤◌, ◌⊎◌, if◌then◌else◌, Bool, List, None, Option, Some, [], ℕ, ap, arith, cond, false, inl, inr, is_some, length, map, not, refl, suc, sym, true}
-use Rattle.std.proofs.{lemmas.Bool.{cases_Bool, cases_lt, le-ltb, lt-ltb, or_cases}, Math.Bool.{or-false, or-true}}
+use Rattle.std.proofs.lemmas.Bool.{cases_Bool, cases_lt, le-ltb, lt-ltb, or_cases, or_parts}
+use Rattle.std.proofs.{lemmas.List.Sums.prefix_len-le-length, Math.Bool.{or-false, or-true}}
 use Rattle.std.specs.{Cmp.Lexicographic.bytes_decides, List.{AllByRecursion as All, insert, list_any, position, position_or_len, prefix_len}, Prelude.{filter, find, unwrap_or}}
 use Rattle.bq_job.specs.{machine.{TubeRecord, fresh_tube, is_name_before, with_record}, reading.TubeName.is_same_name}
 use Rattle.bq_job.proofs.NameOrderLemmas.{after, before_trans, not_before}
@@ -52,15 +53,11 @@ missed_at : (name : List ℕ) (t : TubeRecord) (entries : List TubeRecord) (b : 
 missed_at name t entries true other rest = rw other rest
 missed_at name t entries false other rest = rest
 
-pub head_differs : (a b : Bool) → (a || b) ≡ false → (a ≡ false) × (b ≡ false)
-head_differs true b h = cc
-head_differs false b h = (refl, h)
-
 -- no record of a tube without an entry
 pub none_found : (name : List ℕ) (entries : List TubeRecord) → has_entry name entries ≡ false → find (λ t. is_same_name name t.name) (counted entries) ≡ None
 none_found name [] h = refl
 none_found name (t ∷ entries) h =
-    let parts = head_differs (is_same_name name t.name) (has_entry name entries) h in
+    let parts = or_parts (is_same_name name t.name) (has_entry name entries) h in
     missed_at name t entries (is_counted t) parts.0 (none_found name entries parts.1)
 
 -- the record of a tube
@@ -73,7 +70,7 @@ pauses_there name entries = list_any (λ t. is_same_name name t.name && is_some 
 no_pause_there : (name : List ℕ) (entries : List TubeRecord) → has_entry name entries ≡ false → pauses_there name entries ≡ false
 no_pause_there name [] h = refl
 no_pause_there name (t ∷ entries) h =
-    let parts = head_differs (is_same_name name t.name) (has_entry name entries) h in
+    let parts = or_parts (is_same_name name t.name) (has_entry name entries) h in
     rw parts.0 (no_pause_there name entries parts.1)
 
 paused_at : (name : List ℕ) (t : TubeRecord) (entries : List TubeRecord) (same kept : Bool) → is_same_name name t.name ≡ same → is_counted t ≡ kept → IsFreshUnlessCounted t → All (λ u. is_name_before t.name u.name ≡ true) entries → is_some (found name entries).pause ≡ pauses_there name entries → is_some (found name (t ∷ entries)).pause ≡ pauses_there name (t ∷ entries)
@@ -102,7 +99,7 @@ changed_one name f t = if is_same_name name t.name then f t else t
 unchanged : (name : List ℕ) (f : TubeRecord → TubeRecord) (entries : List TubeRecord) → has_entry name entries ≡ false → map (changed_one name f) entries ≡ entries
 unchanged name f [] h = refl
 unchanged name f (t ∷ entries) h =
-    let parts = head_differs (is_same_name name t.name) (has_entry name entries) h in
+    let parts = or_parts (is_same_name name t.name) (has_entry name entries) h in
     rw parts.0 (ap (λ ts. t ∷ ts) (unchanged name f entries parts.1))
 
 -- a record that comes before all others stands first
@@ -222,7 +219,7 @@ one_more n = omega arith
 pub placed : (x : TubeRecord) (entries : List TubeRecord) → has_entry x.name entries ≡ false → insert entries (prefix_len (λ t. is_name_before t.name x.name) entries) x ≡ with_record x entries
 placed x [] h = refl
 placed x (t ∷ entries) h =
-    let parts = head_differs (is_same_name x.name t.name) (has_entry x.name entries) h in
+    let parts = or_parts (is_same_name x.name t.name) (has_entry x.name entries) h in
     rw parts.0 (go (is_name_before x.name t.name) refl parts.0 (placed x entries parts.1))
   where
     place : List TubeRecord → ℕ
@@ -233,14 +230,6 @@ placed x (t ∷ entries) h =
     go false e other rest = rw (after x.name t.name other e) (ap (λ k. insert (t ∷ entries) k x) (one_more (place entries)) ∙ ap (λ ts. t ∷ ts) rest)
 
 -- that place is within the list, or at its end
-pub place_within : {A : Type 0} (p : A → Bool) (xs : List A) → prefix_len p xs ≤ length xs
-place_within p [] = omega arith
-place_within p (x ∷ xs) = go (p x) (place_within p xs)
-  where
-    go : (b : Bool) → prefix_len p xs ≤ length xs → cond b (1 + prefix_len p xs) 0 ≤ suc (length xs)
-    go true h = omega arith
-    go false h = omega arith
-
 not_twice : (b : Bool) → not (not b) ≡ b
 not_twice true = refl
 not_twice false = refl
@@ -261,7 +250,7 @@ place_read {A = A} p xs = go (cases_lt (position_or_len (λ x. not (p x)) xs) (l
 
     go : (n < length xs) ⊎ (length xs ≤ n) → unwrap_or (position (λ x. not (p x)) xs) (length xs) ≡ prefix_len p xs
     go (inl h) = ap (λ b. unwrap_or (cond b (Some n) None) (length xs)) (lt-ltb n (length xs) h) ∙ same
-    go (inr h) = ap (λ b. unwrap_or (cond b (Some n) None) (length xs)) (le-ltb n (length xs) h) ∙ (let w = place_within p xs in let e : length xs ≡ prefix_len p xs = omega (arith, same) in e)
+    go (inr h) = ap (λ b. unwrap_or (cond b (Some n) None) (length xs)) (le-ltb n (length xs) h) ∙ (let w = prefix_len-le-length p xs in let e : length xs ≡ prefix_len p xs = omega (arith, same) in e)
 
 later_inserted : (name : List ℕ) (x : TubeRecord) (entries : List TubeRecord) → is_name_before name x.name ≡ true → All (λ u. is_name_before name u.name ≡ true) entries → All (λ u. is_name_before name u.name ≡ true) (with_record x entries)
 later_inserted name x [] b all = (b, tt)
@@ -279,7 +268,7 @@ before_all a b h (t ∷ entries) all = (before_trans a b t.name h all.0, before_
 pub order_inserted : (x : TubeRecord) (entries : List TubeRecord) → has_entry x.name entries ≡ false → AreInOrder entries → AreInOrder (with_record x entries)
 order_inserted x [] h order = (tt, tt)
 order_inserted x (t ∷ entries) h order =
-    let parts = head_differs (is_same_name x.name t.name) (has_entry x.name entries) h in
+    let parts = or_parts (is_same_name x.name t.name) (has_entry x.name entries) h in
     rw parts.0 (go (is_name_before x.name t.name) refl parts.0 (order_inserted x entries parts.1 order.1))
   where
     go : (b : Bool) → is_name_before x.name t.name ≡ b → is_same_name x.name t.name ≡ false → AreInOrder (with_record x entries) → AreInOrder (if b then x ∷ t ∷ entries else t ∷ with_record x entries)
@@ -298,7 +287,7 @@ fresh_inserted x f (t ∷ entries) all = go (is_same_name x.name t.name) (is_nam
 pub counted_inserted : (x : TubeRecord) → is_counted x ≡ false → (entries : List TubeRecord) → has_entry x.name entries ≡ false → counted (with_record x entries) ≡ counted entries
 counted_inserted x c [] h = rw c refl
 counted_inserted x c (t ∷ entries) h =
-    let parts = head_differs (is_same_name x.name t.name) (has_entry x.name entries) h in
+    let parts = or_parts (is_same_name x.name t.name) (has_entry x.name entries) h in
     rw parts.0 (go (is_name_before x.name t.name) (counted_inserted x c entries parts.1))
   where
     go : (b : Bool) → counted (with_record x entries) ≡ counted entries → counted (if b then x ∷ t ∷ entries else t ∷ with_record x entries) ≡ counted (t ∷ entries)
@@ -318,7 +307,7 @@ has_inserted x (t ∷ entries) = go (is_same_name x.name t.name) (is_name_before
 pub still_has : (x : TubeRecord) (name : List ℕ) (entries : List TubeRecord) → has_entry x.name entries ≡ false → has_entry name entries ≡ true → has_entry name (with_record x entries) ≡ true
 still_has x name [] none h = absurd cc
 still_has x name (t ∷ entries) none h =
-    let parts = head_differs (is_same_name x.name t.name) (has_entry x.name entries) none in
+    let parts = or_parts (is_same_name x.name t.name) (has_entry x.name entries) none in
     rw parts.0 (go (is_name_before x.name t.name) (λ more. still_has x name entries parts.1 more))
   where
     go : (b : Bool) → (has_entry name entries ≡ true → has_entry name (with_record x entries) ≡ true) → has_entry name (if b then x ∷ t ∷ entries else t ∷ with_record x entries) ≡ true

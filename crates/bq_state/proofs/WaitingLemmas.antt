@@ -7,7 +7,8 @@ use Rattle.bq_job.proofs.{ChoiceLemmas.pair_order, ListLemmas.{all_weaker, count
 use Rattle.bq_state.specs.declared.seats.SeatChange.{SeatChange}
 use Rattle.bq_state.specs.{EndingWaits.turn_of, SeatChanges.{AreNumbered, seat_changed, seat_changed_at}}
 use Rattle.bq_state.specs.WaitingTurns.{AreInTurn, IsRising, WaitingTurns, is_none_or_before, is_turn_before, placed, removed, turns_of, with_turn, without_turn}
-use Rattle.bq_state.proofs.{ClientLemmas.{all_others, heads, others, others_left}, PartsLemmas.{all_read, changed_there, number_kept, numbered_after, numbers_length, some_at}}
+use Rattle.bq_state.proofs.{ClientLemmas.{all_others, heads, others, others_left}, PartsLemmas.{all_read, changed_there, number_kept, numbered_after, some_at}}
+use Rattle.bq_job.proofs.LawfulLemmas.{length_numbers}
 
 -- the place behind those that come before
 pub placed_at : {A : Type 0} (before : A → A → Bool) (x : A) (xs : List A) → insert xs (prefix_len (λ y. before y x) xs) x ≡ placed before x xs
@@ -280,4 +281,4 @@ none_in_turn [] = refl
 none_in_turn (n ∷ ns) = none_in_turn ns
 
 pub many_seats : (n room : ℕ) → n ≤ room → length (map empty_seat (numbers 0 n)) ≤ room
-many_seats n room h = subst (λ k. k ≤ room) (sym (length-map (numbers 0 n) empty_seat ∙ numbers_length 0 n)) h
+many_seats n room h = subst (λ k. k ≤ room) (sym (length-map (numbers 0 n) empty_seat ∙ length_numbers 0 n)) h

@@ -1,16 +1,21 @@
 -- What is known of the clients that wait while they hold a job.
 use Rattle.std.proofs.Common.{◌&&◌, ◌+◌, ◌-◌, ◌==◌, ◌||◌, ◌∙◌, ◌∷◌, ◌≡◌, ◌≤◌, if◌then◌else◌, Bool, List, None, Option, Some, [], ℕ, ap, arith, cond, false, map, min, not, refl, set, slice_get, subst, sym, true}
-use Rattle.std.proofs.lemmas.Bool.{eq-eqb, eqb-true}
+use Rattle.std.proofs.lemmas.Bool.{and_parts, eq-eqb, eqb-true}
 use Rattle.std.specs.{List.{AllByRecursion as All, Contains, list_any}, Prelude.{count_by, fold, is_some, length, option_map}}
 use Rattle.bq_job.specs.declared.job.{Job.Job, JobState.JobState}
-use Rattle.bq_job.specs.declared.job.JobState.TheVariants as states
 use Rattle.bq_job.specs.machine.{SeatRecord, first_of, is_held_by, is_holder, is_waiting, seat_with, watching}
+use Rattle.bq_job.specs.declared.job.JobState.TheVariants as states
 use Rattle.bq_job.proofs.{ChoiceLemmas.{first_of_none, first_of_none_passes}, KeptLemmas.only_seat, ListLemmas.{all_at, all_from_members, all_of_map, all_weaker, count_cons, list_any_not, list_any_with, none_pass}}
 use Rattle.bq_jobs.specs.{Kept.with_added, Leases.{deadline_of, is_lease_before}}
 use Rattle.bq_state.specs.declared.{known.Warns.{Warns, TheVariants.{Any, Client, Nobody}}, seats.SeatChange.{SeatChange, TheVariants.{Clear, Connect, End, StopWaiting, Use, Wait}}}
 use Rattle.bq_state.specs.{Dues.{earlier_of_both, warning_due, warning_due_at, with_warning_due}, SeatChanges.{AreNumbered, seat_changed, seat_changed_at}}
 use Rattle.bq_state.specs.Warnings.{AreWarned, IsWarned, has_waiting_holder, holds_in_wait, is_waiting_there, may_hold, may_warn, warned_by_seat, warned_if_due, with_holder, with_holder_of, without_holder}
 use Rattle.bq_state.proofs.PartsLemmas.{all_added, all_read, all_set}
+
+-- beside no moment
+pub no_other : (a : Option ℕ) → earlier_of_both a None ≡ a
+no_other None = refl
+no_other (Some a) = refl
 
 -- more may be known
 abbrev AtLeast : Warns → Warns → Type 0
@@ -65,16 +70,11 @@ none_found number (t ∷ seats) h = go (t.number == number) refl h (none_found n
     go false e h rest = (e, rest h)
 
 -- who holds a job is at the seat of its state
-both_true : (a b : Bool) → (a && b) ≡ true → (a ≡ true) × (b ≡ true)
-both_true true true h = (refl, refl)
-both_true true false h = absurd cc
-both_true false b h = absurd cc
-
 holder_found : (j : Job) (seats : List SeatRecord) (s : SeatRecord) → AreNumbered seats → Contains seats s → holds_in_wait j s ≡ true → has_waiting_holder j.state seats ≡ true
 holder_found j seats s numbered here h = go j.state (parts.1)
   where
     parts : (is_waiting s ≡ true) × (is_held_by s.number j ≡ true)
-    parts = both_true (is_waiting s) (is_held_by s.number j) h
+    parts = and_parts (is_waiting s) (is_held_by s.number j) h
 
     at : (seat : ℕ) → (seat == s.number) ≡ true → (o : Option SeatRecord) → seat_with seat seats ≡ o → is_waiting_there o ≡ true
     at seat e None f =
@@ -100,7 +100,7 @@ warned_added j warns jobs seats numbered known =
     let more = if waits then with_holder_of j.state warns else warns in
     all_added (λ k. All (IsWarned more k) seats) j jobs
     (all_from_members (IsWarned more j) seats
-    (λ s c h. known_of waits j.state warns s.number (holder_found j seats s numbered c h) ((both_true (is_waiting s) (is_held_by s.number j) h).1)))
+    (λ s c h. known_of waits j.state warns s.number (holder_found j seats s numbered c h) ((and_parts (is_waiting s) (is_held_by s.number j) h).1)))
     (warned_more warns more (more_if waits j.state warns) jobs seats known)
 
 -- a seat is changed
@@ -211,7 +211,7 @@ warned_by_due warns jobs seats known = go (fold (with_warning_due jobs) None sea
 
     quiet : (s : SeatRecord) → warning_due jobs s ≡ None → (j : Job) → Contains jobs j → IsWarned Nobody j s
     quiet s none j c h =
-        let parts = both_true (is_waiting s) (is_held_by s.number j) h in
+        let parts = and_parts (is_waiting s) (is_held_by s.number j) h in
         sym (all_at (λ k. is_held_by s.number k ≡ false) jobs j (held_by_none s none parts.0) c) ∙ parts.1
 
     go : (o : Option ℕ) → fold (with_warning_due jobs) None seats ≡ o → AreWarned (warned_if_due (is_some o) warns) jobs seats
@@ -235,10 +235,6 @@ twice (Some x) = ap Some (least x)
     least : (x : ℕ) → min x x ≡ x
     least x = omega arith
 
-none_more : (o : Option ℕ) → earlier_of_both o None ≡ o
-none_more None = refl
-none_more (Some x) = refl
-
 -- once it was found the others change nothing
 found_already : (holder : ℕ) (jobs : List Job) (t : SeatRecord) (seats : List SeatRecord) → AreWarned (Client holder) jobs seats → All (λ u. u.number ≡ holder → u ≡ t) seats
     → fold (with_warning_due jobs) (warning_due jobs t) seats ≡ warning_due jobs t
@@ -249,7 +245,7 @@ found_already holder jobs t (s ∷ seats) known only =
   where
     go : (b : Bool) → (s.number == holder) ≡ b → earlier_of_both (warning_due jobs t) (warning_due jobs s) ≡ warning_due jobs t
     go true e = ap (λ u. earlier_of_both (warning_due jobs t) (warning_due jobs u)) (only.0 (eqb-true s.number holder e)) ∙ twice (warning_due jobs t)
-    go false e = ap (earlier_of_both (warning_due jobs t)) (not_known (Client holder) jobs s e (of_first (Client holder) jobs s seats known)) ∙ none_more (warning_due jobs t)
+    go false e = ap (earlier_of_both (warning_due jobs t)) (not_known (Client holder) jobs s e (of_first (Client holder) jobs s seats known)) ∙ no_other (warning_due jobs t)
 
 among : (holder : ℕ) (jobs : List Job) (o : Option SeatRecord) (seats : List SeatRecord) → seat_with holder seats ≡ o → AreWarned (Client holder) jobs seats
     → ((t : SeatRecord) → o ≡ Some t → All (λ u. u.number ≡ holder → u ≡ t) seats) → fold (with_warning_due jobs) None seats ≡ warning_due_at jobs o

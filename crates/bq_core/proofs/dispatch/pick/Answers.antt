@@ -1,9 +1,8 @@
-use Rattle.std.proofs.Common.{◌∙◌, ◌≡◌, None, Some, ap, subst, sym, true}
+use Rattle.std.proofs.{Common.{◌∙◌, ◌≡◌, None, Some, ap, subst, sym, true}, lemmas.Result.IfOk-weaker}
 use Rattle.std.specs.{List.{AllByRecursion as All, list_any}, Prelude.{is_some, option_map}}
 use Rattle.bq_job.specs.{declared.job.Job.Job, machine.{SeatRecord, first_of, is_wait_before, job_with, next_seat}}
 use Rattle.bq_job.proofs.ComputedLemmas.{next_has_seat}
 use Rattle.bq_state.specs.{CoreParts.machine_of, Offers.waits_at, Stirs.may_get}
-use Rattle.bq_state.proofs.PartsLemmas.{ok_weaker}
 use Rattle.bq_core.proofs.{ActLemmas.{none_there, some_there}, DispatchLemmas.{next_is, next_there, seat_at_tube, some_at_tube, takers_known}}
 use Rattle.bq_core.proofs.dispatch.pick.Goals as goal
 
@@ -67,4 +66,4 @@ returns-clause-share c =
     let there = some_there (job_with c.args.id m.jobs) (sym c.in_ok-tube.ensures.none) in
     let x = there.0 in
     let next = next_is m c.args.id x c.args.state.now.sound.ids c.requires.next there.1 in
-    ok_weaker c.in_ok-tube.shared _ _ (λ body h j is. let two : Some x ≡ Some j = sym next ∙ is in let same : x ≡ j = (cc) in h x there.1 ∙ ap (λ (k : Job). k.body) same) c.in_ok-tube.ensures.body
+    IfOk-weaker c.in_ok-tube.shared _ _ (λ body h j is. let two : Some x ≡ Some j = sym next ∙ is in let same : x ≡ j = (cc) in h x there.1 ∙ ap (λ (k : Job). k.body) same) c.in_ok-tube.ensures.body

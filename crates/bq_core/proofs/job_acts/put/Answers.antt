@@ -5,10 +5,10 @@ use Rattle.bq_job.specs.{beside.AreIdsWithin, machine.{SeatRecord, job_with, new
 use Rattle.bq_job.proofs.ListLemmas.{all_at, found_passes}
 use Rattle.bq_jobs.specs.Kept.{Kept, with_added}
 use Rattle.bq_state.specs.{Asking.Asks, CoreParts.{Held, machine_of}, TubeEntries.{HasTubes, has_entry}}
-use Rattle.bq_state.proofs.PartsLemmas.{some_next}
 use Rattle.bq_core.specs.Putting.{after_given}
 use Rattle.bq_core.proofs.{ActLemmas.{asker_connected, put_done}, AskLemmas.asked_before}
 use Rattle.bq_core.proofs.job_acts.put.Goals as goal
+use Rattle.bq_jobs.proofs.Changes.{low_below}
 
 pub change_tube-requires : goal.change_tube-requires
 change_tube-requires c =
@@ -29,7 +29,7 @@ add-requires-clause-given c =
     let mid : c.change_tube.new.state.next_id ≡ c.args.state.now.next_id = ap (λ (x : Machine). x.next_id) c.change_tube.ensures.after ∙ ap (λ (x : Machine). x.next_id) c.in-Ok-make_room.ensures.after in
     let id : c.new_job-job.result.id ≡ c.change_tube.new.state.next_id = ap (λ (j : Job). j.id) made ∙ sym mid in
     let next : c.count_put.new.state.next_id ≡ c.change_tube.new.state.next_id + 1 = ap (λ (x : Machine). x.next_id) c.count_put.ensures.after in
-    let some = some_next 1 c.change_tube.new.state.next_id c.change_tube.new.state.jobs.jobs c.change_tube.new.state.sound.ids in
+    let some = low_below 1 c.change_tube.new.state.next_id c.change_tube.new.state.jobs.jobs c.change_tube.new.state.sound.ids in
     (omega arith, omega arith)
 
 pub add-requires-clause-free : goal.add-requires-clause-free

@@ -1,10 +1,10 @@
 use Rattle.std.proofs.Common.{◌*◌, ◌+◌, ◌<◌, ◌∙◌, ap, arith, count_by, subst, sym}
 use Rattle.bq_job.specs.machine.{after_timers, Machine.Machine}
-use Rattle.bq_job.proofs.LawfulLemmas.{step_is_lawful}
+use Rattle.bq_job.proofs.{ClientStepLemmas.step_settings, LawfulLemmas.step_is_lawful}
 use Rattle.bq_jobs.specs.Kept.{Kept}
 use Rattle.bq_state.specs.{Asking.{Asks, AsksAsChanged}, CoreParts.machine_of}
 use Rattle.bq_core.specs.{Firing.is_ripe, Serving.NoneIsGone}
-use Rattle.bq_core.proofs.{AskLemmas.asks_more, SettingLemmas.settings_stay, StepCosts.step_within, StepLemmas.{first_room, forgotten_none, less_room, room_after_act, timers_alike, whole_step}}
+use Rattle.bq_core.proofs.{AskLemmas.asks_more, StepCosts.step_within, StepLemmas.{first_room, forgotten_none, less_room, room_after_act, timers_alike, whole_step}}
 use Rattle.bq_core.proofs.step.take_step.Goals as goal
 
 pub serve-requires-clause-tubes : goal.serve-requires-clause-tubes
@@ -62,4 +62,4 @@ pub returns-clause-lawful : goal.returns-clause-lawful
 returns-clause-lawful c = step_is_lawful _ _ c.args.at c.args.seat c.args.what.now _ _ c.requires.lawful (returns-clause-step c)
 
 pub returns-clause-settings : goal.returns-clause-settings
-returns-clause-settings c = settings_stay _ c.args.at c.args.seat c.args.what.now _ _ _ (returns-clause-step c)
+returns-clause-settings c = step_settings _ _ c.args.at c.args.seat c.args.what.now _ _ (returns-clause-step c)

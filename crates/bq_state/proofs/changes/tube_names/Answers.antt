@@ -1,7 +1,7 @@
-use Rattle.std.proofs.Common.{◌∙◌, ◌≡◌, IfOk, ap, subst}
+use Rattle.std.proofs.{Common.{◌∙◌, ◌≡◌, IfOk, ap, subst}, lemmas.Result.IfOk-weaker}
 use Rattle.bq_job.specs.beside.{is_in_order}
 use Rattle.bq_state.specs.{CoreParts.machine_of, Names.names_of}
-use Rattle.bq_state.proofs.{NameLemmas.{alive_are_tubes, tubes_in_order}, PartsLemmas.ok_weaker}
+use Rattle.bq_state.proofs.NameLemmas.{alive_are_tubes, tubes_in_order}
 use Rattle.bq_state.proofs.changes.tube_names.Goals as goal
 
 pub returns-clause-names : goal.returns-clause-names
@@ -14,5 +14,5 @@ pub returns-clause-ordered : goal.returns-clause-ordered
 returns-clause-ordered c =
     let s = c.args.state.now in
     let listed = alive_are_tubes (machine_of s) s.tubes.entries s.sound.entries in
-    ok_weaker c.names_alive.result _ _ (λ names is. ap is_in_order (is ∙ listed) ∙ tubes_in_order (machine_of s))
+    IfOk-weaker c.names_alive.result _ _ (λ names is. ap is_in_order (is ∙ listed) ∙ tubes_in_order (machine_of s))
     (c.names_alive.ensures s.jobs.jobs s.seats.items s.sound.known.counts.each s.sound.known.crowds.each)

@@ -1,14 +1,14 @@
-use Rattle.std.proofs.Common.{◌∙◌, List, ℕ, ap, subst, sym}
+use Rattle.std.proofs.{Common.{◌∙◌, List, ℕ, ap, subst, sym}, lemmas.List.Sums.prefix_len-le-length}
 use Rattle.std.specs.List.{insert, prefix_len}
 use Rattle.bq_state.specs.WaitingTurns.{IsRising, is_turn_before}
-use Rattle.bq_state.proofs.{NameLemmas.when_ok, TubeLemmas.place_within, WaitingLemmas.placed_at}
+use Rattle.bq_state.proofs.{NameLemmas.when_ok, WaitingLemmas.placed_at}
 use Rattle.bq_state.proofs.waiting.place.Goals as goal
 
 pub place_of-i-requires : goal.place_of-i-requires
 place_of-i-requires c = subst (IsRising is_turn_before) (sym c.as_slice.ensures.value) c.requires.rising
 
 pub insert-fits-requires : goal.insert-fits-requires
-insert-fits-requires c = rw (c.place_of-i.ensures, ← c.as_slice.ensures.len) (place_within _ _)
+insert-fits-requires c = rw (c.place_of-i.ensures, ← c.as_slice.ensures.len) (prefix_len-le-length _ _)
 
 pub returns-clause-turns : goal.returns-clause-turns
 returns-clause-turns c =
