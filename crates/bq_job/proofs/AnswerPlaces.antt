@@ -55,8 +55,7 @@ common_end m s = cond_both (is_deadline_soon m s) answers.DeadlineSoon answers.T
 ends_are_common : (m : Machine) (given : List GivenAnswer) (n : Machine) → Chain WaitEndTurn m given n → AreCommon given
 ends_are_common m [] n chain = tt
 ends_are_common m (g ∷ given) n chain =
-    let e = end_of m g chain.0 chain.1 in
-    (subst (λ (a : Answer). is_common (Some a) ≡ true) (sym (ap (λ (g : GivenAnswer). g.1) e.given_is)) (common_end m e.client), ends_are_common chain.0 given n chain.2)
+    grind (arith, common_steps, end_of, common_end, ends_are_common chain.0 given n chain.2)
 
 -- and dispatch only RESERVED and OUT_OF_MEMORY.
 abbrev is_of_dispatch : Answer → Bool
@@ -73,16 +72,12 @@ hand_out_answers m j s g n h = grind (arith, common_steps, cases_Bool)
 turns_answer : (m : Machine) (given : List GivenAnswer) (n : Machine) → Chain DispatchTurn m given n → AreOfDispatch given × (n.draining ≡ m.draining)
 turns_answer m [] n chain = (tt, ap (λ (l : Machine). l.draining) chain)
 turns_answer m (g ∷ given) n chain =
-    let t = turn_of m g chain.0 chain.1 in
-    let one = hand_out_answers m t.job t.client g chain.0 t.hands in
-    let rest = turns_answer chain.0 given n chain.2 in
-    ((one.0, rest.0), rest.1 ∙ one.1)
+    grind (arith, common_steps, turn_of, hand_out_answers, turns_answer chain.0 given n chain.2)
 
 ends_keep_draining : (m : Machine) (given : List GivenAnswer) (n : Machine) → Chain WaitEndTurn m given n → n.draining ≡ m.draining
 ends_keep_draining m [] n chain = ap (λ (l : Machine). l.draining) chain
 ends_keep_draining m (g ∷ given) n chain =
-    let e = end_of m g chain.0 chain.1 in
-    ends_keep_draining chain.0 given n chain.2 ∙ ap (λ (l : Machine). l.draining) e.next_is
+    grind (arith, common_steps, end_of, ends_keep_draining chain.0 given n chain.2)
 
 -- the answers of dispatch and of the ends of waits
 record AnswersSo (first : Machine) (handed ended : List GivenAnswer) (last : Machine) : Type 0 where
@@ -95,9 +90,7 @@ serves_answers first handed ended last s = grind (arith, common_steps, turns_ans
 
 turn_in_chain : (m : Machine) (given : List GivenAnswer) (g : GivenAnswer) (more : List GivenAnswer) (n : Machine) → Chain DispatchTurn m (given ++ g ∷ more) n → (at : Machine) × (next : Machine) × Chain DispatchTurn m given at × DispatchTurn at g next
 turn_in_chain m [] g more n chain = (m, chain.0, refl, chain.1)
-turn_in_chain m (h ∷ given) g more n chain =
-    let rest = turn_in_chain chain.0 given g more n chain.2 in
-    (rest.0, rest.1, (chain.0, chain.1, rest.2), rest.3)
+turn_in_chain m (h ∷ given) g more n chain = grind (arith, common_steps, turn_in_chain chain.0 given g more n chain.2)
 
 dispatched_least : (first : Machine) (before handed given more early : List GivenAnswer) (seat id : ℕ) (body : List ℕ) (last : Machine) → Dispatches first handed last → handed ≡ given ++ (seat, answers.Reserved id body) ∷ more → early ≡ before ++ given → IsDispatchedLeast first before handed early seat id body
 dispatched_least first before handed given more early seat id body last d is place =
@@ -234,9 +227,7 @@ begins_draining first last at seat outcome given s =
     drained_step first last at seat steps.Drain outcome given s so.0 (ap (λ (o : Option Answer). has_inserted (addressed seat o)) so.1)
   where
     of_memory : (memory : Memory) → IsTrue (is_possible memory s.before seat steps.Drain) → ((acted memory s.before seat steps.Drain).machine.draining ≡ true) × ((acted memory s.before seat steps.Drain).answer ≡ None)
-    of_memory granted p = (refl, refl)
-    of_memory growth_refused p = absurd cc
-    of_memory share_refused p = absurd cc
+    of_memory memory p = grind (arith, common_steps)
 
 pub none_while_draining : (first : Machine) (taken : List Transition) (last : Machine) → GoesBy first taken last → first.draining ≡ true → has_inserted (flat_map (λ (t : Transition). t.given) taken) ≡ false
 none_while_draining first [] last goes d = refl

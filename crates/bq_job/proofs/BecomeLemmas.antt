@@ -65,9 +65,7 @@ kickable_aside tube jobs next ids =
     (aside_of_filter jobs (is_buried_in tube) next ids (λ j e. or_left (is_buried j.state) (is_delayed j.state) (and_parts (is_buried j.state) (is_same_name tube j.tube) e).0))
   where
     of_first : (first : List Job) → All (IsAside jobs) first → All (IsAside jobs) (kicked_first tube jobs first)
-    of_first [] h =
-        all_in_order (IsAside jobs) is_due_before (filter (is_delayed_in tube) jobs)
-        (aside_of_filter jobs (is_delayed_in tube) next ids (λ j e. or_right (is_buried j.state) (is_delayed j.state) (and_parts (is_delayed j.state) (is_same_name tube j.tube) e).0))
+    of_first [] h = grind (arith, common_steps, all_in_order, aside_of_filter, or_right, and_parts)
     of_first (j ∷ first) h = all_in_order (IsAside jobs) is_buried_before (j ∷ first) h
 
 pub chosen_not_held : (jobs chosen : List Job) (j : Job) → job_with j.id jobs ≡ Some j → All (IsAside jobs) chosen → list_any (λ k. k.id == j.id) chosen ≡ true → is_reserved j.state ≡ true → ⊥

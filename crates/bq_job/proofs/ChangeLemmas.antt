@@ -125,9 +125,8 @@ goes_on_as_itself : (id : ℕ) (j : Job) (happened : List Happening) → GoesOnA
 goes_on_as_itself id j happened = record { same = refl; tube = refl; body = refl; ready = λ h still. (h, refl); held = λ h still. h }
 
 removed_fate : (what : Step) (before after : List Job) (gone id : ℕ) (o : Option Job) → removed what gone ≡ deleted gone ∷ [] → job_with id before ≡ o → job_with id after ≡ cond (id == gone) None o → Fate id (changes what before after) o (cond (id == gone) None o)
-removed_fate what before after gone id None told e g = cond_both (id == gone) None None (λ o. o ≡ None) (λ h. refl) (λ h. refl)
-removed_fate what before after gone id (Some j) told e g =
-    grind (arith, common_steps, found_job, cond_both, told_of_job, eqb-true, or_left, eq-eqb, goes_on_as_itself)
+removed_fate what before after gone id o told e g =
+    grind (arith, common_steps, cond_both, id, found_job, told_of_job, eqb-true, or_left, eq-eqb, goes_on_as_itself)
 
 -- A command is a move: quiet, or a put.
 pub move_of_jobs : (what : Step) (m n : Machine) → AreIdsWithin 1 m.jobs m.next_id → JobsAfter what m.settings.max_jobs m.jobs m.next_id n.jobs n.next_id → Move m (changes what m.jobs n.jobs) n

@@ -25,16 +25,7 @@ pub not_before_itself : {X : Type 0} {before : X → X → Bool} (order : IsStri
 not_before_itself order x = grind (arith, order.one_way, cases_Bool)
 
 better_is_least : {X : Type 0} (passes : X → Bool) {before : X → X → Bool} (order : IsStrictWeakOrder before) (best : Option X) (x z : X) → IsNotAfter before (better_of passes before best x) z → IsNotAfter before best z × (passes x ≡ true → before x z ≡ false)
-better_is_least passes order None x z h = (tt, λ p. rw p at h)
-better_is_least passes {before = before} order (Some b) x z h =
-    elim (cases_Bool (passes x && before x b)) [
-      | inl e ↦
-          let g = rw e at h in
-          (order.chain b x z (order.one_way x b ((and_parts (passes x) (before x b) e).1)) g, λ p. g)
-      | inr e ↦
-          let g = rw e at h in
-          (g, λ p. order.chain x b z (grind (arith, and_cases, both_ways)) g)
-    ]
+better_is_least passes order best x z h = grind (arith, common_steps, cases_Bool, and_parts, and_cases, both_ways)
 
 -- Nothing in the list that passes comes before the one that is chosen, nor did the best one so far.
 fold_is_least : {X : Type 0} (passes : X → Bool) {before : X → X → Bool} (order : IsStrictWeakOrder before) (best : Option X) (xs : List X) (z : X) → fold (better_of passes before) best xs ≡ Some z → IsNotAfter before best z × AllByRecursion (λ y. passes y ≡ true → before y z ≡ false) xs
@@ -56,8 +47,7 @@ first_of_is_least passes {before = before} order xs z y h i p =
 
 -- The chosen one passes, as the best one so far did.
 better_passes : {X : Type 0} (passes : X → Bool) (before : X → X → Bool) (best : Option X) (x : X) → IfSome best (λ b. passes b ≡ true) → IfSome (better_of passes before best x) (λ b. passes b ≡ true)
-better_passes passes before None x h = elim (cases_Bool (passes x)) [ inl e ↦ rw (e, e) refl | inr e ↦ rw e tt ]
-better_passes passes before (Some b) x h = grind (arith, common_steps, cases_Bool, and_parts)
+better_passes passes before best x h = grind (arith, common_steps, cases_Bool, and_parts)
 
 fold_passes : {X : Type 0} (passes : X → Bool) (before : X → X → Bool) (best : Option X) (xs : List X) → IfSome best (λ b. passes b ≡ true) → IfSome (fold (better_of passes before) best xs) (λ b. passes b ≡ true)
 fold_passes passes before best [] h = h
@@ -69,36 +59,21 @@ first_of_passes passes before xs z h = rw h at (fold_passes passes before None x
 
 fold_contains : {X : Type 0} (passes : X → Bool) (before : X → X → Bool) (best : Option X) (xs : List X) (z : X) → fold (better_of passes before) best xs ≡ Some z → (best ≡ Some z) ⊎ Contains xs z
 fold_contains passes before best [] z h = inl h
-fold_contains passes before best (x ∷ xs) z h = from_better passes before best x xs z (fold_contains passes before (better_of passes before best x) xs z h)
-  where
-    from_better : {X : Type 0} (passes : X → Bool) (before : X → X → Bool) (best : Option X) (x : X) (xs : List X) (z : X) → (better_of passes before best x ≡ Some z) ⊎ Contains xs z → (best ≡ Some z) ⊎ Contains (x ∷ xs) z
-    from_better passes before best x xs z (inr h) = inr (contains_tail x xs z h)
-    from_better passes before None x xs z (inl h) =
-        elim (cases_Bool (passes x)) [
-          | inl e ↦ let g : x ≡ z = (let k = rw e at h in cc) in inr (subst (Contains (x ∷ xs)) g (contains_head x xs))
-          | inr e ↦ let k = rw e at h in inl k
-        ]
-    from_better passes before (Some b) x xs z (inl h) =
-        elim (cases_Bool (passes x && before x b)) [
-          | inl e ↦ let g : x ≡ z = (let k = rw e at h in cc) in inr (subst (Contains (x ∷ xs)) g (contains_head x xs))
-          | inr e ↦ let k = rw e at h in inl k
-        ]
+fold_contains passes before best (x ∷ xs) z h =
+    grind (arith, common_steps, contains_tail, cases_Bool, contains_head, fold_contains passes before (better_of passes before best x) xs z h)
 
 -- the chosen one is in the list
 pub first_of_contains : {X : Type 0} (passes : X → Bool) (before : X → X → Bool) (xs : List X) (z : X) → first_of passes before xs ≡ Some z → Contains xs z
 first_of_contains passes before xs z h = elim (fold_contains passes before None xs z h) [ inl e ↦ absurd cc | inr i ↦ i ]
 
 better_is_some : {X : Type 0} (passes : X → Bool) (before : X → X → Bool) (best : Option X) (x : X) → is_some (better_of passes before best x) ≡ (is_some best || passes x)
-better_is_some passes before None x = elim (cases_Bool (passes x)) [ inl e ↦ rw e refl | inr e ↦ rw e refl ]
-better_is_some passes before (Some b) x = elim (cases_Bool (passes x && before x b)) [ inl e ↦ rw e refl | inr e ↦ rw e refl ]
+better_is_some passes before best x = grind (arith, common_steps, cases_Bool)
 
 fold_is_some : {X : Type 0} (passes : X → Bool) (before : X → X → Bool) (best : Option X) (xs : List X) → is_some (fold (better_of passes before) best xs) ≡ (is_some best || list_any passes xs)
 fold_is_some passes before None [] = refl
 fold_is_some passes before (Some b) [] = refl
 fold_is_some passes before best (x ∷ xs) =
-    fold_is_some passes before (better_of passes before best x) xs
-    ∙ ap (λ b. b || list_any passes xs) (better_is_some passes before best x)
-    ∙ or_assoc (is_some best) (passes x) (list_any passes xs)
+    grind (arith, common_steps, better_is_some, or_assoc, fold_is_some passes before (better_of passes before best x) xs)
 
 -- One is chosen exactly where one passes.
 pub first_of_is_some : {X : Type 0} (passes : X → Bool) (before : X → X → Bool) (xs : List X) → is_some (first_of passes before xs) ≡ list_any passes xs
@@ -113,16 +88,14 @@ pub first_of_none_passes : {X : Type 0} (passes : X → Bool) (before : X → X 
 first_of_none_passes passes before xs h = none_chosen (first_of passes before xs) (first_of_is_some passes before xs ∙ h)
   where
     none_chosen : {X : Type 0} (o : Option X) → is_some o ≡ false → o ≡ None
-    none_chosen None e = refl
-    none_chosen (Some x) e = absurd cc
+    none_chosen o e = grind (arith, common_steps)
 
 -- one that passes is no reason to choose none
 pub first_of_some : {X : Type 0} (passes : X → Bool) (before : X → X → Bool) (xs : List X) → list_any passes xs ≡ true → (z : X) × (first_of passes before xs ≡ Some z)
 first_of_some passes before xs h = one_chosen (first_of passes before xs) (first_of_is_some passes before xs ∙ h)
   where
     one_chosen : {X : Type 0} (o : Option X) → is_some o ≡ true → (z : X) × (o ≡ Some z)
-    one_chosen None e = absurd cc
-    one_chosen (Some x) e = (x, refl)
+    one_chosen o e = grind (arith, common_steps)
 
 -- What is in the list and passes is the chosen one, if none that passes comes before it and no other ties with it.
 pub first_of_is : {X : Type 0} (passes : X → Bool) {before : X → X → Bool} (order : IsStrictWeakOrder before) (xs : List X) (x : X) → Contains xs x → passes x ≡ true → ((y : X) → Contains xs y → passes y ≡ true → before y x ≡ false) → ((y : X) → Contains xs y → before x y ≡ false → before y x ≡ false → y ≡ x) → first_of passes before xs ≡ Some x
@@ -133,14 +106,12 @@ first_of_is passes {before = before} order xs x i p least unique =
     z.1 ∙ ap Some e
 
 better_agrees : {X : Type 0} (p q : X → Bool) (before : X → X → Bool) (best : Option X) (x : X) → p x ≡ q x → better_of p before best x ≡ better_of q before best x
-better_agrees p q before None x e = rw e refl
-better_agrees p q before (Some b) x e = rw e refl
+better_agrees p q before best x e = grind (arith, common_steps)
 
 fold_agrees : {X : Type 0} (p q : X → Bool) (before : X → X → Bool) (best : Option X) (xs : List X) → AllByRecursion (λ x. p x ≡ q x) xs → fold (better_of p before) best xs ≡ fold (better_of q before) best xs
 fold_agrees p q before best [] h = refl
 fold_agrees p q before best (x ∷ xs) h =
-    ap (λ b. fold (better_of p before) b xs) (better_agrees p q before best x h.0)
-    ∙ fold_agrees p q before (better_of q before best x) xs h.1
+    grind (arith, common_steps, better_agrees, fold_agrees p q before (better_of q before best x) xs h.1)
 
 -- Two tests that agree on the list choose the same.
 pub first_of_agrees : {X : Type 0} (p q : X → Bool) (before : X → X → Bool) (xs : List X) → AllByRecursion (λ x. p x ≡ q x) xs → first_of p before xs ≡ first_of q before xs

@@ -37,17 +37,12 @@ parts_of client first last at seat what outcome given s = record {
   comes = passes_serves client (forgetting (after_timers (at_moment at first))) s.handed s.ended s.before s.serves;
   possible = s.possible;
   goes = subst (λ (n : Machine). Passes client n.seats last.seats (s.handed_then ++ s.ended_then)) s.acts (passes_serves client s.after s.handed_then s.ended_then last s.serves_then);
-  given_is = let told_now = addressed seat (acted s.memory s.before seat what).answer in
-      s.answers_are
-      ∙ append_assoc (s.handed ++ s.ended ++ told_now) s.handed_then s.ended_then
-      ∙ append_assoc (s.handed ++ s.ended) told_now (s.handed_then ++ s.ended_then);
+  given_is = grind (arith, common_steps, append_assoc);
 }
 
 -- Where no memory is taken and no body shared, none is refused.
 acted_fully : (memory : Memory) (m : Machine) (seat : ℕ) (what : Step) → step_takes_memory what ≡ false → shares_body (effect m seat what).answer ≡ false → IsTrue (is_possible memory m seat what) → acted memory m seat what ≡ effect m seat what
-acted_fully granted m seat what h i p = refl
-acted_fully growth_refused m seat what h i p = absurd (both_ways (step_takes_memory what) h ((and_parts _ _ p).0))
-acted_fully share_refused m seat what h i p = absurd (both_ways (shares_body (effect m seat what).answer) i p)
+acted_fully memory m seat what h i p = grind (arith, common_steps, both_ways, and_parts)
 
 -- A command tells nobody anything, and the client waits and is connected as before.
 gets_quiet : (client : ℕ) (first last : Machine) (seat : ℕ) (what : Step) (given : List GivenAnswer) → Parts client first last seat what given → step_takes_memory what ≡ false → ((m : Machine) → (effect m seat what).answer ≡ None) → ((m : Machine) → waits_in client ((effect m seat what).machine).seats ≡ waits_in client m.seats) → ((m : Machine) → connected_in client ((effect m seat what).machine).seats ≡ connected_in client m.seats) → GetsWhatWaits first last client (answers_to client given)
@@ -213,10 +208,7 @@ step_gives_client first last at seat steps.Gone outcome given h there s =
 
 -- A client that asks while it waits changes nothing.
 silent_asked : (memory : Memory) (m : Machine) (seat : ℕ) (request : Request) → effect m seat (steps.Ask request) ≡ silent m → IsTrue (is_possible memory m seat (steps.Ask request)) → acted memory m seat (steps.Ask request) ≡ silent m
-silent_asked granted m seat request e p = e
-silent_asked growth_refused m seat request e p =
-    absurd (both_ways (may_be_left_out (effect m seat (steps.Ask request)).answer) (ap (λ (x : Effect). may_be_left_out x.answer) e) ((and_parts _ _ p).1))
-silent_asked share_refused m seat request e p = absurd (both_ways (shares_body (effect m seat (steps.Ask request)).answer) (ap (λ (x : Effect). shares_body x.answer) e) p)
+silent_asked memory m seat request e p = grind (arith, common_steps, both_ways, and_parts)
 
 asks_in_vain : (m : Machine) (seat : ℕ) (request : Request) (f : Found seat m.seats) → waits_in seat m.seats ≡ true → effect m seat (steps.Ask request) ≡ silent m
 asks_in_vain m seat request f w = grind (arith, common_steps, and_right)

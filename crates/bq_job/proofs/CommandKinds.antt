@@ -25,11 +25,7 @@ says answer wanted unclosed done common = record { wanted = wanted; unclosed = u
 
 -- a command on the job of an id: it finds one that passes, or answers NOT_FOUND
 on_one : (request : Request) (id : ℕ) (test : Job → Bool) (act : Job → Effect) (m : Machine) (s : SeatRecord) → answers_wanted request ≡ 1 → ((j : Job) → job_with id m.jobs ≡ Some j → test j ≡ true → Kind m s request (act j)) → Kind m s request (on_job id test act m)
-on_one request id test act m s one each = of_found (job_with id m.jobs) refl
-  where
-    of_found : (o : Option Job) → job_with id m.jobs ≡ o → Kind m s request (on_found test act m o)
-    of_found None e = tells answers.NotFound one refl refl
-    of_found (Some j) e = cond_both (test j) (act j) (telling answers.NotFound m) (Kind m s request) (λ p. each j e p) (λ p. tells answers.NotFound one refl refl)
+on_one request id test act m s one each = grind (arith, common_steps, tells, cond_both)
 
 -- The job of one id changes.
 one_changes : (request : Request) (m : Machine) (s : SeatRecord) (answer : Answer) (id : ℕ) (f : Job → Job) (burials : ℕ) (j : Job) → job_with id m.jobs ≡ Some j → SaysDone request answer → (m.burials ≤ greatest → burials ≤ greatest)
@@ -92,12 +88,10 @@ kick_job_kind id m s =
 
 -- commands that show a job, or tell of one
 showing_kind : (request : Request) (m : Machine) (s : SeatRecord) (o : Option Job) → answers_wanted request ≡ 1 → Kind m s request (showing m o)
-showing_kind request m s None one = tells answers.NotFound one refl refl
-showing_kind request m s (Some j) one = tells (answers.Found j.id j.body) one refl refl
+showing_kind request m s o one = grind (arith, common_steps, tells)
 
 statistics_kind : (request : Request) (m : Machine) (s : SeatRecord) (o : Option Job) → answers_wanted request ≡ 1 → Kind m s request (job_statistics_or_not m o)
-statistics_kind request m s None one = tells answers.NotFound one refl refl
-statistics_kind request m s (Some j) one = tells (answers.Ok (job_statistics m j)) one refl refl
+statistics_kind request m s o one = grind (arith, common_steps, tells)
 
 watch_kind : (tube : List ℕ) (m : Machine) (s : SeatRecord) → Kind m s (requests.Watch tube) (asked (requests.Watch tube) m s)
 watch_kind tube m s =
@@ -111,23 +105,14 @@ ignore_kind tube m s =
     (λ w. none_twice_filter (λ name. not (is_same_name tube name)) s.watched (and_parts (has_one s.watched) (none_twice s.watched) w).1)
   where
     of_rest : (names : List (List ℕ)) → (watches_once s ≡ true → none_twice names ≡ true) → Kind m s (requests.Ignore tube) (watching_or_refused names m s)
-    of_rest [] once = tells answers.NotIgnored refl refl refl
-    of_rest (name ∷ names) once =
-        changes_seat (answers.Watching (length (name ∷ names))) (watching (name ∷ names)) (says (answers.Watching (length (name ∷ names))) refl refl refl refl)
-        (record { number = λ t. refl; connected = λ t. refl; wait = λ t. refl; watched = λ w t i. once w })
+    of_rest names once = grind (arith, common_steps, tells, changes_seat, says)
 
 refused_kind : (why : Refusal) (m : Machine) (s : SeatRecord) → Kind m s (requests.Refused why) (telling (refusal_answer why) m)
-refused_kind refusals.UnknownCommand m s = tells answers.UnknownCommand refl refl refl
-refused_kind refusals.BadFormat m s = tells answers.BadFormat refl refl refl
-refused_kind refusals.JobTooBig m s = tells answers.JobTooBig refl refl refl
-refused_kind refusals.ExpectedCrlf m s = tells answers.ExpectedCrlf refl refl refl
-refused_kind refusals.OutOfMemory m s = tells answers.OutOfMemory refl refl refl
+refused_kind why m s = grind (arith, common_steps, tells)
 
 -- every request
 pub kind_of : (request : Request) (m : Machine) (s : SeatRecord) → Kind m s request (asked request m s)
-kind_of (requests.Put pri delay ttr body) m s =
-    each_put pri delay ttr body m s (Kind m s (requests.Put pri delay ttr body)) (λ d. tells answers.Draining refl refl refl)
-    (λ d f. tells answers.OutOfMemory refl refl refl) (λ d f. adds pri delay ttr body refl d f)
+kind_of (requests.Put pri delay ttr body) m s = grind (arith, common_steps, tells, adds)
 kind_of requests.Reserve m s = waits None refl refl
 kind_of (requests.ReserveWithTimeout seconds) m s = waits (Some (later m.moment seconds)) refl refl
 kind_of (requests.ReserveJob id) m s = reserve_job_kind id m s
@@ -137,8 +122,7 @@ kind_of (requests.Bury id pri) m s = bury_kind id pri m s
 kind_of (requests.Touch id) m s = touch_kind id m s
 kind_of (requests.Kick bound) m s = kick_kind bound m s
 kind_of (requests.KickJob id) m s = kick_job_kind id m s
-kind_of (requests.Use tube) m s =
-    changes_seat (answers.Using tube) (using tube) (says (answers.Using tube) refl refl refl refl) (record { number = λ t. refl; connected = λ t. refl; wait = λ t. refl; watched = λ w t i. i })
+kind_of (requests.Use tube) m s = grind (arith, common_steps, changes_seat, says)
 kind_of requests.ListTubeUsed m s = tells (answers.Using s.used) refl refl refl
 kind_of (requests.Watch tube) m s = watch_kind tube m s
 kind_of (requests.Ignore tube) m s = ignore_kind tube m s
@@ -146,13 +130,9 @@ kind_of (requests.Peek id) m s = showing_kind (requests.Peek id) m s (job_with i
 kind_of requests.PeekReady m s = showing_kind requests.PeekReady m s (first_of (is_ready_in s.used) is_job_before m.jobs) refl
 kind_of requests.PeekDelayed m s = showing_kind requests.PeekDelayed m s (first_of (is_delayed_in s.used) is_due_before m.jobs) refl
 kind_of requests.PeekBuried m s = showing_kind requests.PeekBuried m s (first_of (is_buried_in s.used) is_buried_before m.jobs) refl
-kind_of (requests.PauseTube tube delay) m s =
-    cond_both (is_tube tube m) (telling answers.Paused (with_tube tube (with_pause delay m.moment) m)) (telling answers.NotFound m) (Kind m s (requests.PauseTube tube delay))
-    (λ e. changes_tube tube delay refl) (λ e. tells answers.NotFound refl refl refl)
+kind_of (requests.PauseTube tube delay) m s = grind (arith, common_steps, cond_both, changes_tube, tells)
 kind_of (requests.StatsJob id) m s = statistics_kind (requests.StatsJob id) m s (job_with id m.jobs) refl
-kind_of (requests.StatsTube tube) m s =
-    cond_both (is_tube tube m) (telling (answers.Ok (tube_statistics tube m)) m) (telling answers.NotFound m) (Kind m s (requests.StatsTube tube))
-    (λ e. tells (answers.Ok (tube_statistics tube m)) refl refl refl) (λ e. tells answers.NotFound refl refl refl)
+kind_of (requests.StatsTube tube) m s = grind (arith, common_steps, cond_both, tells)
 kind_of requests.Stats m s = tells (answers.Ok (server_statistics m)) refl refl refl
 kind_of requests.ListTubes m s = tells (answers.Ok (name_list (tubes m))) refl refl refl
 kind_of requests.ListTubesWatched m s = tells (answers.Ok (name_list s.watched)) refl refl refl

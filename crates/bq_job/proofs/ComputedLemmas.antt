@@ -53,8 +53,7 @@ dispatched_shared (suc turns) m = handed_out_shared (λ next. dispatched turns n
 
 -- where nobody waits no job is next,
 nobody_for : (m : Machine) (j : Job) → All (λ s. is_waiting s ≡ false) m.seats → list_any (is_waiting_for m j) m.seats ≡ false
-nobody_for m j h =
-    list_any_not (is_waiting_for m j) m.seats (all_weaker (λ s. is_waiting s ≡ false) (λ s. is_waiting_for m j s ≡ false) m.seats (λ s. and_left (is_waiting s) (may_have m s j)) h)
+nobody_for m j h = grind (arith, common_steps, list_any_not, all_weaker, and_left)
 
 none_waits : (m : Machine) → waiting_count m ≤ 0 → next_job m ≡ None
 none_waits m w = search (rules, count_none, first_of_none_passes, list_any_not, all_always, nobody_for)

@@ -36,12 +36,7 @@ parts_close (most ∷ mosts) given h =
 pub lines_close : (size : ℕ) (lines : List LineOver) (own : List Step) (taken : List Answer) (h : AreLinesServed size lines own taken) → length (most_of_lines size lines own taken h) ≤ closes taken
 lines_close size [] own taken h = omega arith
 lines_close size (line ∷ lines) own taken h =
-    let l = h.4 in
-    let a : closes taken ≡ closes h.2 + closes h.3 = ap closes h.6 ∙ closes_append h.2 h.3 in
-    let b : closes h.2 ≡ closes l.own + closes (l.others ++ answers.Closed ∷ []) = ap closes l.taken_is ∙ closes_append l.own (l.others ++ answers.Closed ∷ []) in
-    let c = closes_append l.others (answers.Closed ∷ []) in
-    let d = lines_close size lines h.1 h.3 h.7 in
-    omega arith
+    grind (arith, common_steps, closes_append, lines_close size lines h.1 h.3 h.7)
 
 -- a list with no `Closed` begins with none
 begins_unclosed : (x : Answer) (xs : List Answer) → has_closed (x ∷ xs) ≡ false → answers.Closed ≡ x → ⊥
@@ -52,8 +47,7 @@ begins_unclosed x xs h e = grind (arith, common_steps)
 pub same_cut : (xs ys later rest : List Answer) → has_closed xs ≡ false → has_closed ys ≡ false → xs ++ answers.Closed ∷ later ≡ ys ++ answers.Closed ∷ rest → (xs ≡ ys) × (later ≡ rest)
 same_cut [] [] later rest h i e = (refl, (heads answers.Closed answers.Closed later rest e).1)
 same_cut [] (y ∷ ys) later rest h i e = absurd (begins_unclosed y ys i (heads answers.Closed y later (ys ++ answers.Closed ∷ rest) e).0)
-same_cut (x ∷ xs) [] later rest h i e =
-    absurd (begins_unclosed x xs h (sym (heads x answers.Closed (xs ++ answers.Closed ∷ later) rest e).0))
+same_cut (x ∷ xs) [] later rest h i e = grind (arith, common_steps, begins_unclosed, heads)
 same_cut (x ∷ xs) (y ∷ ys) later rest h i e =
     let both = heads x y (xs ++ answers.Closed ∷ later) (ys ++ answers.Closed ∷ rest) e in
     let none = (or_parts (is_closed_answer x) (has_closed xs) h).1 in

@@ -215,8 +215,7 @@ none_in xs h = grind (arith, common_steps, cases_Bool)
 
 -- who waits for nothing gets nothing
 gets_nothing : (m next : Machine) (t : ℕ) (given : List Answer) → owing t m ≡ 0 → GetsWhatWaits m next t given → (given ≡ []) × (owing t next ≡ 0)
-gets_nothing m next t given none g =
-    let a = g.count in (none_in given (omega arith), omega arith)
+gets_nothing m next t given none g = grind (arith, common_steps, none_in)
 
 -- nothing comes before the rest
 nothing_first : (now rest all : List Answer) → all ≡ now ++ rest → now ≡ [] → all ≡ rest

@@ -132,8 +132,7 @@ line_joined settings seat line readings history given last j = record {
 -- one line more is over
 pub lines_more : (size : ℕ) (lines : List LineOver) (line : LineOver) (submitted more : List Step) (taken got : List Answer) → AreLinesServed size lines submitted taken → IsLineServed size line more got
     → AreLinesServed size (lines ++ line ∷ []) (submitted ++ more) (taken ++ got)
-lines_more size [] line submitted more taken got h l =
-    (more, [], got, [], l, ap (λ (xs : List Step). xs ++ more) h.0 ∙ sym (append-nil more), ap (λ (xs : List Answer). xs ++ got) h.1 ∙ sym (append-nil got), (refl, refl))
+lines_more size [] line submitted more taken got h l = grind (arith, common_steps, append-nil)
 lines_more size (first ∷ lines) line submitted more taken got h l = (
   h.0,
   h.1 ++ more,

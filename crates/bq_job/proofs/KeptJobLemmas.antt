@@ -23,8 +23,7 @@ there_by_fate : (j : Job) (m n : Machine) (happened : List Happening) (h : IsThe
 there_by_fate j m n happened h o e next fate none = grind (arith, common_steps, cases_Bool, both_ways)
 
 there_after : (j : Job) (m n : Machine) (happened : List Happening) → Move m happened n → list_any (is_deletion j.id) happened ≡ false → IsThere j m → IsThere j n
-there_after j m n happened (quiet q) none h =
-    there_by_fate j m n happened h (job_with j.id n.jobs) refl q.next (subst (λ o. Fate j.id happened o (job_with j.id n.jobs)) h.found (q.fates j.id)) none
+there_after j m n happened (quiet q) none h = grind (arith, common_steps, there_by_fate)
 there_after j m n happened (putting p) none h =
     let less = h.below in let next = p.next in
     record { job = h.job; found = put_lookup j.id m n happened p less ∙ h.found; below = omega arith; tube = h.tube; body = h.body }

@@ -33,8 +33,7 @@ kept_of_lawful m h = search (rules, all_pass)
 -- ids through changes of the list
 pub ids_of_map : (f : Job → Job) (low next : ℕ) (jobs : List Job) → ((j : Job) → (f j).id ≡ j.id) → AreIdsWithin low jobs next → AreIdsWithin low (map f jobs) next
 ids_of_map f low next [] same h = h
-ids_of_map f low next (j ∷ jobs) same h =
-    (omega (arith, same j, h.0), subst (λ id. AreIdsWithin (suc id) (map f jobs) next) (sym (same j)) (ids_of_map f (suc j.id) next jobs same h.1))
+ids_of_map f low next (j ∷ jobs) same h = grind (arith, common_steps, ids_of_map f (suc j.id) next jobs same h.1)
 
 pub ids_from_below : (low high next : ℕ) (jobs : List Job) → low ≤ high → AreIdsWithin high jobs next → AreIdsWithin low jobs next
 ids_from_below low high next [] less h = omega arith
@@ -43,10 +42,7 @@ ids_from_below low high next (j ∷ jobs) less h = (omega (arith, h.0), h.1)
 pub ids_of_filter : (p : Job → Bool) (low next : ℕ) (jobs : List Job) → AreIdsWithin low jobs next → AreIdsWithin low (filter p jobs) next
 ids_of_filter p low next [] h = h
 ids_of_filter p low next (j ∷ jobs) h =
-    elim (cases_Bool (p j)) [
-      | inl e ↦ rw e (h.0, ids_of_filter p (suc j.id) next jobs h.1)
-      | inr e ↦ rw e (ids_of_filter p low next jobs (ids_from_below low (suc j.id) next jobs (omega (arith, h.0)) h.1))
-    ]
+    grind (arith, common_steps, cases_Bool, ids_from_below, ids_of_filter p (suc j.id) next jobs h.1, ids_of_filter p low next jobs (ids_from_below low (suc j.id) next jobs (omega (arith, h.0)) h.1))
 
 pub ids_of_push : (low next : ℕ) (jobs : List Job) (j : Job) → j.id ≡ next → AreIdsWithin low jobs next → AreIdsWithin low (jobs ++ j ∷ []) (next + 1)
 ids_of_push low next [] j e h = (omega arith, omega arith)
@@ -161,13 +157,8 @@ kept_of_close {next = next} {jobs = jobs} {seats = seats} state seat free h = re
       (all_weaker (λ j. has_holder seats j ≡ true) (λ j. has_holder (map (emptied seat) seats) (given_back state seat j) ≡ true) jobs
       (λ j i. cond_both (is_held_by seat j) (in_state state j) j (λ k. has_holder (map (emptied seat) seats) k ≡ true) (λ e. rw free refl)
       (λ e. held_elsewhere seat seats j e i)) h.holders);
-  seated = keys_of_map (λ s. s.number) (emptied seat) seats
-      (all_always (λ s. (emptied seat s).number ≡ s.number) seats
-      (λ s. cond_both (s.number == seat) (empty_seat s.number) s (λ t. t.number ≡ s.number) (λ e. refl) (λ e. refl)))
-      ∙ h.seated;
-  waits = all_of_map (λ s. is_open_wait s ≡ true) (emptied seat) seats
-      (all_weaker (λ s. is_open_wait s ≡ true) (λ s. is_open_wait (emptied seat s) ≡ true) seats
-      (λ s i. cond_both (s.number == seat) (empty_seat s.number) s (λ t. is_open_wait t ≡ true) (λ e. refl) (λ e. i)) h.waits);
+  seated = grind (arith, common_steps, keys_of_map, all_always, cond_both);
+  waits = grind (arith, common_steps, all_of_map, all_weaker, cond_both);
 }
 
 -- A job is added that nobody holds.

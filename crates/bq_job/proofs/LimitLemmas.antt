@@ -36,9 +36,7 @@ by_turns Turns first [] last each chain = adds_none first last first chain refl 
 by_turns Turns first (g ∷ given) last each chain = then_adds_none first chain.0 last (each first g chain.0 chain.1) (by_turns Turns chain.0 given last each chain.2)
 
 by_hand_out : (m : Machine) (j : Job) (s : SeatRecord) (given : GivenAnswer) (next : Machine) → IsHandOut m j s given next → AddsNone m next
-by_hand_out m j s given next (inl h) =
-    adds_none m next (after_hand_out m j s) h.1 refl (length-map m.jobs (λ k. cond (k.id == j.id) (reserved_by m.moment s.number k) k))
-by_hand_out m j s given next (inr h) = adds_none m next _ h.1 refl refl
+by_hand_out m j s given next h = grind (arith, common_steps, adds_none, length-map)
 
 by_dispatch : (m : Machine) (given : List GivenAnswer) (n : Machine) → Dispatches m given n → AddsNone m n
 by_dispatch m given n d = grind (arith, common_steps, then_adds_none, by_turns, turn_of, by_hand_out, adds_none)
@@ -47,8 +45,7 @@ by_ends : (m : Machine) (given : List GivenAnswer) (n : Machine) → EndsWaits m
 by_ends m given n w = grind (arith, common_steps, then_adds_none, by_turns, adds_none, end_of)
 
 by_timers : (at : ℕ) (m : Machine) → AddsNone m (forgetting (after_timers (at_moment at m)))
-by_timers at m =
-    adds_none m (forgetting (after_timers (at_moment at m))) (forgetting (after_timers (at_moment at m))) refl refl (length-map m.jobs (job_after_timers (at_moment at m).moment))
+by_timers at m = grind (arith, common_steps, adds_none, length-map)
 
 -- Where there is a place for a job, there may be one job more.
 one_more_fits : (limit : Option ℕ) (jobs : List Job) (most : ℕ) → is_full limit jobs ≡ false → limit ≡ Some most → suc (length jobs) ≤ most

@@ -104,8 +104,7 @@ none_after_one b c h = grind (arith, common_steps, cases_Bool)
 -- Where the change makes nobody pass, no more pass,
 pub count_of_map : {X : Type 0} (p : X → Bool) (f : X → X) (xs : List X) → All (λ x. p (f x) ≡ true → p x ≡ true) xs → count_by p (map f xs) ≤ count_by p xs
 count_of_map p f [] w = omega arith
-count_of_map p f (x ∷ xs) w =
-    rw (count_cons p (f x) (map f xs), count_cons p x xs) (omega (arith, one_or_none (p x) (p (f x)) w.0, count_of_map p f xs w.1))
+count_of_map p f (x ∷ xs) w = grind (arith, common_steps, count_cons, one_or_none, count_of_map p f xs w.1)
 
 -- and fewer where one passes no more.
 pub count_falls : {X : Type 0} (p : X → Bool) (f : X → X) (xs : List X) → All (λ x. p (f x) ≡ true → p x ≡ true) xs → list_any (λ x. p x && not (p (f x))) xs ≡ true → count_by p (map f xs) < count_by p xs
@@ -124,8 +123,7 @@ count_none p (x ∷ xs) h =
     (none_here (p x) (omega arith), count_none p xs (omega arith))
   where
     none_here : (b : Bool) → cond b 1 0 ≤ 0 → b ≡ false
-    none_here true h = absurd (omega arith)
-    none_here false h = refl
+    none_here b h = grind (arith, common_steps)
 
 -- what a search finds passes and is in the list
 pub found_passes : {X : Type 0} (p : X → Bool) (xs : List X) (x : X) → find p xs ≡ Some x → (p x ≡ true) × Contains xs x
@@ -145,10 +143,7 @@ found_passes p (y ∷ ys) x h =
 pub find_in_filter : {X : Type 0} (p q : X → Bool) (xs : List X) → All (λ x. p x ≡ true → q x ≡ true) xs → find p (filter q xs) ≡ find p xs
 find_in_filter p q [] h = refl
 find_in_filter p q (x ∷ xs) h =
-    elim (cases_Bool (q x)) [
-      | inl e ↦ rw e (ap (cond (p x) (Some x)) (find_in_filter p q xs h.1))
-      | inr e ↦ let f : p x ≡ false = false_from_ne_true (p x) (λ t. both_ways (q x) e (h.0 t)) in rw (e, f) (find_in_filter p q xs h.1)
-    ]
+    grind (arith, common_steps, cases_Bool, false_from_ne_true, both_ways, find_in_filter p q xs h.1)
 
 -- where all pass, all are kept
 pub filter_all : {X : Type 0} (p : X → Bool) (xs : List X) → All (λ x. p x ≡ true) xs → filter p xs ≡ xs

@@ -41,9 +41,7 @@ job_found low next jobs j h i = all_at (λ k. (job_with k.id jobs ≡ Some k) ×
     behind : (j : Job) (jobs all : List Job) (next : ℕ) → All (λ k. suc j.id ≤ k.id) all → All (λ k. (job_with k.id jobs ≡ Some k) × (k.id < next)) all → All (λ k. (job_with k.id (j ∷ jobs) ≡ Some k) × (k.id < next)) all
     behind j jobs [] next a h = tt
     behind j jobs (k ∷ all) next a h =
-        let over = a.0 in
-        let other : (j.id == k.id) ≡ false = false_from_ne_true (j.id == k.id) (λ t. let is = eqb-true j.id k.id t in absurd (omega arith)) in
-        ((rw other h.0.0, h.0.1), behind j jobs all next a.1 h.1)
+        grind (arith, common_steps, false_from_ne_true, eqb-true, behind j jobs all next a.1 h.1)
 
     all_found : (low next : ℕ) (jobs : List Job) → AreIdsWithin low jobs next → All (λ k. (job_with k.id jobs ≡ Some k) × (k.id < next)) jobs
     all_found low next [] h = tt

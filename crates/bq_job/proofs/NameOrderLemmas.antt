@@ -87,8 +87,7 @@ any_with p n (o ∷ names) = search (rules, or_twice, or_swap, any_with p n name
 
 any_fold : (p : List ℕ → Bool) (names so_far : List (List ℕ)) → list_any p (fold with_name so_far names) ≡ (list_any p so_far || list_any p names)
 any_fold p [] so_far = sym (or-false (list_any p so_far))
-any_fold p (n ∷ names) so_far =
-    any_fold p names (with_name so_far n) ∙ ap (λ b. b || list_any p names) (any_with p n so_far) ∙ or_middle (p n) (list_any p so_far) (list_any p names)
+any_fold p (n ∷ names) so_far = grind (arith, common_steps, any_with, or_middle, any_fold p names (with_name so_far n))
 
 any-append : (p : List ℕ → Bool) (xs ys : List (List ℕ)) → list_any p (xs ++ ys) ≡ (list_any p xs || list_any p ys)
 any-append p [] ys = refl

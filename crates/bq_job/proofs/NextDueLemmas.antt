@@ -29,52 +29,31 @@ before_all moment (due ∷ others) h = let both = before_both moment due (earlie
 
 module _ (m : Machine) (now : ℕ) where
   lease_later : (waits : Bool) (soon deadline : ℕ) → All (IsLater now) (cond waits (soon ∷ deadline ∷ []) (deadline ∷ [])) → now < deadline
-  lease_later true soon deadline h = h.1.0
-  lease_later false soon deadline h = h.0
+  lease_later waits soon deadline h = grind (arith, common_steps)
 
   not_due : (state : JobState) → All (IsLater now) (dues_of_state m state) → is_due now state ≡ false
-  not_due states.Ready h = refl
-  not_due (states.Delayed due) h = lt-leb due now h.0
-  not_due (states.Reserved seat deadline) h = refl
-  not_due (states.Buried number) h = refl
+  not_due state h = grind (arith, common_steps, lt-leb)
 
   not_expired : (state : JobState) → All (IsLater now) (dues_of_state m state) → is_expired now state ≡ false
-  not_expired states.Ready h = refl
-  not_expired (states.Delayed due) h = refl
-  not_expired (states.Reserved seat deadline) h = lt-leb deadline now (lease_later (is_waiting_at seat m) (deadline - 1000) deadline h)
-  not_expired (states.Buried number) h = refl
+  not_expired state h = grind (arith, common_steps, lt-leb, lease_later)
 
   job_same : (j : Job) → All (IsLater now) (dues_of_state m j.state) → job_after_timers now j ≡ j
   job_same j h = rw (not_due j.state h, not_expired j.state h) refl
 
   pause_same : (o : Option Pause) → All (IsLater now) (dues_of_pause o) → pause_after_timers now o ≡ o
-  pause_same None h = refl
-  pause_same (Some pause) h = rw (lt-leb pause.until now h.0) refl
+  pause_same o h = grind (arith, common_steps, lt-leb)
 
   tube_same : (t : TubeRecord) → All (IsLater now) (dues_of_pause t.pause) → tube_after_timers now t ≡ t
   tube_same t h = ap (λ (p : Option Pause). record t { pause = p }) (pause_same t.pause h)
 
   lease_not_soon : (number : ℕ) (state : JobState) → is_waiting_at number m ≡ true → All (IsLater now) (dues_of_state m state) → is_ending_lease now number state ≡ false
-  lease_not_soon number states.Ready w h = refl
-  lease_not_soon number (states.Delayed due) w h = refl
-  lease_not_soon number (states.Reserved holder deadline) w h =
-      elim (cases_Bool (holder == number)) [
-        | inl e ↦
-            let at : holder ≡ number = eqb-true holder number e in
-            let waits : is_waiting_at holder m ≡ true = subst (λ n. is_waiting_at n m ≡ true) (sym at) w in
-            let k : All (IsLater now) ((deadline - 1000) ∷ deadline ∷ []) = rw waits at h in
-            rw e (lt-leb deadline (now + 1000) (let a : now < deadline - 1000 = k.0 in omega arith))
-        | inr e ↦ rw e refl
-      ]
-  lease_not_soon number (states.Buried burial) w h = refl
+  lease_not_soon number state w h = grind (arith, common_steps, cases_Bool, eqb-true, lt-leb)
 
   not_past : (o : Option ℕ) → All (IsLater now) (dues_of_until o) → is_past now o ≡ false
-  not_past None h = refl
-  not_past (Some until) h = lt-leb until now h.0
+  not_past o h = grind (arith, common_steps, lt-leb)
 
   not_over : (o : Option Wait) → All (IsLater now) (dues_of_wait o) → is_until_over now o ≡ false
-  not_over None h = refl
-  not_over (Some wait) h = not_past wait.until h
+  not_over o h = grind (arith, common_steps, not_past)
 
 module _ (m : Machine) (at : ℕ) (h : IsLawful m) (early : IsTrue (is_before (at_moment at m).moment (next_due m))) where
   abbrev now : ℕ
@@ -110,18 +89,10 @@ module _ (m : Machine) (at : ℕ) (h : IsLawful m) (early : IsTrue (is_before (a
 
   timeouts_same : grown (count_by (λ j. is_expired now j.state) m.jobs) m.timeouts ≡ m.timeouts
   timeouts_same =
-      let none : count_by (λ j. is_expired now j.state) m.jobs ≡ 0 =
-      count_all_not (λ j. is_expired now j.state) m.jobs (all_weaker (λ j. All (IsLater now) (dues_of_state m j.state)) (λ j. is_expired now j.state ≡ false) m.jobs (λ j k. not_expired m now j.state k) jobs_later) in
-      ap (λ n. grown n m.timeouts) none ∙ min-eq_left (let fits = (booked_of_lawful m h).timeouts_fit in omega arith) ∙ add_none m.timeouts
-    where
-      add_none : (n : ℕ) → n + 0 ≡ n
-      add_none n = omega arith
+      grind (arith, common_steps, count_all_not, all_weaker, not_expired, jobs_later, min-eq_left, booked_of_lawful)
 
   fired_same : after_timers (at_moment at m) ≡ at_moment at m
-  fired_same =
-      ap (λ (js : List Job). record m { moment = now; jobs = js; tubes = map (tube_after_timers now) m.tubes; timeouts = grown (count_by (λ j. is_expired now j.state) m.jobs) m.timeouts }) jobs_same
-      ∙ ap (λ (ts : List TubeRecord). record m { moment = now; tubes = ts; timeouts = grown (count_by (λ j. is_expired now j.state) m.jobs) m.timeouts }) tubes_same
-      ∙ ap (λ n. record m { moment = now; timeouts = n }) timeouts_same
+  fired_same = grind (arith, common_steps, jobs_same, tubes_same, timeouts_same)
 
   forgotten_same : forgetting (at_moment at m) ≡ at_moment at m
   forgotten_same = forgets_nothing (at_moment at m) h.tubes
@@ -158,9 +129,7 @@ module _ (m : Machine) (at : ℕ) (h : IsLawful m) (early : IsTrue (is_before (a
       (q.none_handed, q.none_ended, q.same)
 
   granted_here : (memory : Memory) (n : Machine) (seat : ℕ) → IsTrue (is_possible memory n seat steps.Tick) → ((acted memory n seat steps.Tick).machine ≡ n) × (addressed seat (acted memory n seat steps.Tick).answer ≡ [])
-  granted_here granted n seat p = (refl, refl)
-  granted_here growth_refused n seat p = absurd cc
-  granted_here share_refused n seat p = absurd cc
+  granted_here memory n seat p = grind (arith, common_steps)
 
   pub tick_is_idle : (last : Machine) (seat : ℕ) (outcome : Outcome) (given : List GivenAnswer) → IsStep m at seat steps.Tick outcome given last → (given ≡ []) × (last ≡ at_moment at m)
   tick_is_idle last seat outcome given s =

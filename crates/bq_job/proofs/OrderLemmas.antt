@@ -26,27 +26,14 @@ plain_has_no_put j happened plain i = let e : is_plain (put j) ≡ true = all_at
 
 plain_puts_none : (id : ℕ) (happened : List Happening) → All (λ h. is_plain h ≡ true) happened → list_any (is_put id) happened ≡ false
 plain_puts_none id [] plain = refl
-plain_puts_none id (h ∷ happened) plain = or_from (is_put id h) (list_any (is_put id) happened) (here h plain.0) (plain_puts_none id happened plain.1)
-  where
-    here : (h : Happening) → is_plain h ≡ true → is_put id h ≡ false
-    here (put j) e = absurd cc
-    here (handed_out other) e = absurd cc
-    here (reserved_by_id other) e = refl
-    here (expired other) e = refl
-    here (released other) e = refl
-    here (buried other) e = refl
-    here (given_back other) e = refl
-    here (deleted other) e = refl
+plain_puts_none id (h ∷ happened) plain = grind (arith, common_steps, or_from, plain_puts_none id happened plain.1)
 
 -- a put that comes later, after a move without one
 pub put_behind : (j : Job) (m n : Machine) (happened more : List Happening) → IsQuiet m happened n ⊎ IsHandOutMove m happened n → Contains (happened ++ more) (put j) → Contains more (put j)
 put_behind j m n happened more move h = elim (Contains-append_cases happened more (put j) h) [ inl e ↦ absurd (of_move move e) | inr e ↦ e ]
   where
     of_move : IsQuiet m happened n ⊎ IsHandOutMove m happened n → Contains happened (put j) → ⊥
-    of_move (inl q) i = plain_has_no_put j happened q.plain i
-    of_move (inr g) i =
-        let is : handed_out g.job.id ≡ put j = all_at (λ y. handed_out g.job.id ≡ y) (handed_out g.job.id ∷ []) (put j) (refl, tt) (subst (λ hs. Contains hs (put j)) g.happened_is i) in
-        absurd cc
+    of_move h i = grind (arith, common_steps, plain_has_no_put, all_at)
 
 -- a put that comes with a put, or later
 pub put_now_or_behind : (j : Job) (m n : Machine) (happened more : List Happening) (p : IsPutMove m happened n) → Contains (happened ++ more) (put j) → (p.job ≡ j) ⊎ Contains more (put j)
@@ -60,11 +47,7 @@ put_above j m n (p ∷ parts) moves i = at_move (put_above j p.machine n parts m
     at_move : (Contains (happenings parts) (put j) → p.machine.next_id ≤ j.id) → Move m p.happened p.machine → m.next_id ≤ j.id
     at_move go (quiet q) = let next = q.next in let rest = go (put_behind j m p.machine p.happened (happenings parts) (inl q) i) in omega arith
     at_move go (handing h) = let next = h.next in let rest = go (put_behind j m p.machine p.happened (happenings parts) (inr h) i) in omega arith
-    at_move go (putting q) =
-        elim (put_now_or_behind j m p.machine p.happened (happenings parts) q i) [
-          | inl e ↦ let is = q.id in let same : q.job.id ≡ j.id = ap (λ (k : Job). k.id) e in omega arith
-          | inr e ↦ let next = q.next in let rest = go e in omega arith
-        ]
+    at_move go (putting q) = grind (arith, common_steps, put_now_or_behind)
 
 -- Of two jobs that are put, the one that is put first has no greater id.
 pub ids_in_order : (id : ℕ) (b : Job) (m n : Machine) (parts : List Part) → Moves m parts n → comes_first (is_put id) (is_put b.id) (happenings parts) ≡ true → Contains (happenings parts) (put b) → id ≤ b.id
@@ -119,8 +102,7 @@ ready_mapped j m n more r id moment seat next e = grind (arith, common_steps, ca
 -- where it stands after a move
 stands_after : (j : Job) (m n k : Machine) (happened : List Happening) (parts : List Part) → Move m happened n → Moves n parts k → j.delay ≡ 0 → list_any (disturbs j.id) happened ≡ false → Stands j m (happened ++ happenings parts) → Stands j n (happenings parts)
 stands_after j m n k happened parts move moves now still (spent s) = spent (spent_after j.id m n happened move still s)
-stands_after j m n k happened parts (quiet q) moves now still (waits r) =
-    ready_after_fate j m n happened (happenings parts) r (job_with j.id n.jobs) refl q.next (subst (λ o. Fate j.id happened o (job_with j.id n.jobs)) r.there (q.fates j.id)) still
+stands_after j m n k happened parts (quiet q) moves now still (waits r) = grind (arith, common_steps, ready_after_fate)
 stands_after j m n k happened parts (putting p) moves now still (waits r) =
     let less = r.below in let next = p.next in
     waits (record { job = r.job; there = put_lookup j.id m n happened p less ∙ r.there; below = omega arith; ready = r.ready; pri = r.pri; tube = r.tube })

@@ -67,15 +67,7 @@ serves_one first xs ys zs ws last other e f a b =
 
 -- The outcome tells what became of the memory, where no share was refused.
 same_memory : (a b : Memory) → is_share_refused a ≡ false → is_share_refused b ≡ false → is_growth_refused a ≡ is_growth_refused b → a ≡ b
-same_memory granted granted x y e = refl
-same_memory granted growth_refused x y e = absurd cc
-same_memory granted share_refused x y e = absurd cc
-same_memory growth_refused granted x y e = absurd cc
-same_memory growth_refused growth_refused x y e = refl
-same_memory growth_refused share_refused x y e = absurd cc
-same_memory share_refused granted x y e = absurd cc
-same_memory share_refused growth_refused x y e = absurd cc
-same_memory share_refused share_refused x y e = refl
+same_memory a b x y e = grind (arith, common_steps)
 
 pub one_result : (first last other : Machine) (at seat : ℕ) (what : Step) (outcome : Outcome) (given others : List GivenAnswer) → outcome.unshared ≡ false → IsStep first at seat what outcome given last → IsStep first at seat what outcome others other → (given ≡ others) × (last ≡ other)
 one_result first last other at seat what outcome given others shared a b =
@@ -89,10 +81,7 @@ one_result first last other at seat what outcome given others shared a b =
     (a.answers_are ∙ rw (one.handed_same, one.ended_same, act, two.handed_same, two.ended_same) refl ∙ sym b.answers_are, two.last_same)
   where
     parts_of_sharing : (memory : Memory) (handed handed_then : List GivenAnswer) → (is_share_refused memory || has_refused_share handed || has_refused_share handed_then) ≡ false → (is_share_refused memory ≡ false) × (has_refused_share handed ≡ false) × (has_refused_share handed_then ≡ false)
-    parts_of_sharing memory handed handed_then e =
-        let p = or_parts (is_share_refused memory || has_refused_share handed) (has_refused_share handed_then) e in
-        let q = or_parts (is_share_refused memory) (has_refused_share handed) p.0 in
-        (q.0, q.1, p.1)
+    parts_of_sharing memory handed handed_then e = grind (arith, common_steps, or_parts)
 
 pub computed_result : (first last : Machine) (at seat : ℕ) (what : Step) (given : List GivenAnswer) → IsStep first at seat what ample given last → (given ≡ (stepped first at seat what).given) × (last ≡ (stepped first at seat what).machine)
 computed_result first last at seat what given s =

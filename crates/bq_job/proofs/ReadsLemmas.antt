@@ -36,13 +36,10 @@ Reads-onto size text unit after rest r requests is u q more = record {
 }
   where
     no_quit : (r : Request) (requests : List Request) → is_quit r ≡ false → IsTrue (quits_last requests) → IsTrue (quits_last (r ∷ requests))
-    no_quit r [] q last = refl
-    no_quit r (next ∷ requests) q last = rw q last
+    no_quit r requests q last = grind (arith, common_steps)
 
     go : (requests : List Request) → IsTrue (ends_by_quit requests) ⊎ BeginsNoUnit size rest → IsTrue (ends_by_quit (r ∷ requests)) ⊎ BeginsNoUnit size rest
-    go [] (inl e) = cc
-    go [] (inr none) = inr none
-    go (next ∷ requests) e = e
+    go requests e = grind (arith, common_steps)
 
 reading_within-Reads : (n : ℕ) (size : ℕ) (text : List ℕ) → length text ≤ n → Reads size text (reading_within n size text).0 (reading_within n size text).1
 reading_within-Reads zero size [] short = Reads-none size [] (no_first_unit size [] refl)
@@ -98,8 +95,7 @@ IsEnded size requests rest = IsTrue (ends_by_quit requests) ⊎ BeginsNoUnit siz
 
 -- a text whose reading has ended begins with no units
 ended_there : (size : ℕ) (s : Request) (ss : List Request) (v rest other : List ℕ) → rest ≡ v ++ other → AreUnits size v (s ∷ ss) → BeginsNoUnit size rest → ⊥
-ended_there size s ss v rest other e units none =
-    none units.0 (units.1 ++ other) s (e ∙ ap (λ x. x ++ other) units.2 ∙ append_assoc units.0 units.1 other) units.3
+ended_there size s ss v rest other e units none = grind (arith, common_steps, append_assoc)
 
 -- the unit that two lists of units begin with
 first_same : (size : ℕ) (r s : Request) (rs ss : List Request) (u v rest other : List ℕ) → u ++ rest ≡ v ++ other
@@ -114,11 +110,9 @@ units_unique : (size : ℕ) (firsts seconds : List Request) (u v rest other : Li
     → IsEnded size firsts rest → IsEnded size seconds other → (rest ≡ other) × AreSameRequests firsts seconds
 units_unique size [] [] u v rest other e a b fq sq fe se = (cc, tt)
 units_unique size [] (s ∷ ss) u v rest other e a b fq sq (inl quit) se = cc
-units_unique size [] (s ∷ ss) u v rest other e a b fq sq (inr none) se =
-    let rest_is : rest ≡ v ++ other = cc in absurd (ended_there size s ss v rest other rest_is b none)
+units_unique size [] (s ∷ ss) u v rest other e a b fq sq (inr none) se = grind (arith, common_steps, ended_there)
 units_unique size (r ∷ rs) [] u v rest other e a b fq sq fe (inl quit) = cc
-units_unique size (r ∷ rs) [] u v rest other e a b fq sq fe (inr none) =
-    let rest_is : other ≡ u ++ rest = cc in absurd (ended_there size r rs u other rest rest_is a none)
+units_unique size (r ∷ rs) [] u v rest other e a b fq sq fe (inr none) = grind (arith, common_steps, ended_there)
 units_unique size (r ∷ []) (s ∷ []) u v rest other e a b fq sq fe se =
     let same = first_same size r s [] [] u v rest other e a b in
     let rests : a.1 ++ rest ≡ b.1 ++ other = same.0 in

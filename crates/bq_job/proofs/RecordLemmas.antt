@@ -53,15 +53,12 @@ rest_records t tubes h = rest_in_order t.name (map (λ u. u.name) tubes) h
 ordered_filter : (p : TubeRecord → Bool) (tubes : List TubeRecord) → in_order tubes ≡ true → in_order (filter p tubes) ≡ true
 ordered_filter p [] h = refl
 ordered_filter p (t ∷ tubes) h =
-    let rest = ordered_filter p tubes (rest_records t tubes h) in
-    grind (arith, common_steps, cases_Bool, with_first, all_weaker, all_of_filter, first_record)
+    grind (arith, common_steps, rest_records, cases_Bool, with_first, all_weaker, all_of_filter, first_record, ordered_filter p tubes (rest_records t tubes h))
 
 -- a record is put in its place
 first_with : (name : List ℕ) (t : TubeRecord) (tubes : List TubeRecord) → is_name_before name t.name ≡ true → IsFirst name tubes → IsFirst name (with_record t tubes)
 first_with name t [] b h = (b, tt)
-first_with name t (u ∷ tubes) b h =
-    cond_both (is_same_name t.name u.name) (t ∷ tubes) (cond (is_name_before t.name u.name) (t ∷ u ∷ tubes) (u ∷ with_record t tubes)) (IsFirst name) (λ e. (b, h.1))
-    (λ e. cond_both (is_name_before t.name u.name) (t ∷ u ∷ tubes) (u ∷ with_record t tubes) (IsFirst name) (λ f. (b, h)) (λ f. (h.0, first_with name t tubes b h.1)))
+first_with name t (u ∷ tubes) b h = grind (arith, common_steps, cond_both, first_with name t tubes b h.1)
 
 ordered_with : (t : TubeRecord) (tubes : List TubeRecord) → in_order tubes ≡ true → in_order (with_record t tubes) ≡ true
 ordered_with t [] h = refl

@@ -64,8 +64,7 @@ replies_kind request m s (changes_jobs answer f burials says changes) there w =
     answered request says.wanted (replies_jobs s.number m (record m { jobs = map f m.jobs; burials = burials }) answer w says.unclosed refl)
 replies_kind request m s (changes_seat answer f says changes) there w =
     answered request says.wanted (replies_seat s.number s.number f m answer w says.unclosed changes.number changes.connected (λ t. ap is_some (changes.wait t)))
-replies_kind request m s (changes_tube tube seconds one) there w =
-    answered request one (replies_jobs s.number m (with_tube tube (with_pause seconds m.moment) m) answers.Paused w refl refl)
+replies_kind request m s (changes_tube tube seconds one) there w = grind (arith, common_steps, answered, replies_jobs)
 
 -- an open client that doesn't wait asks
 pub replies_effect : (m : Machine) (seat : ℕ) (request : Request) (f : Found seat m.seats) → connected_in seat m.seats ≡ true → waits_in seat m.seats ≡ false → Replies seat (answers_wanted request) (is_waiting_request request) m.seats (effect m seat (steps.Ask request))
@@ -87,9 +86,7 @@ shares_one request o n h e = grind (arith, common_steps, cases_Bool)
 
 -- the same whatever became of the memory that it wanted
 pub replies_acted : (memory : Memory) (m : Machine) (seat : ℕ) (request : Request) → waits_in seat m.seats ≡ false → IsTrue (is_possible memory m seat (steps.Ask request)) → Replies seat (answers_wanted request) (is_waiting_request request) m.seats (effect m seat (steps.Ask request)) → Replies seat (answers_wanted request) (is_waiting_request request) m.seats (acted memory m seat (steps.Ask request))
-replies_acted granted m seat request w p h = h
-replies_acted growth_refused m seat request w p h = grind (arith, common_steps, wants_one, and_parts, replies_jobs)
-replies_acted share_refused m seat request w p h = grind (arith, common_steps, shares_one, replies_jobs)
+replies_acted memory m seat request w p h = grind (arith, common_steps, wants_one, and_parts, replies_jobs, shares_one)
 
 -- What a command at a seat leaves to the client of another.
 pub record Stays (client number : ℕ) (m : Machine) (e : Effect) : Type 0 where

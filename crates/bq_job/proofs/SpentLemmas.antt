@@ -42,9 +42,7 @@ pub put_lookup : (id : ℕ) (m n : Machine) (happened : List Happening) (h : IsP
 put_lookup id m n happened h less = grind (arith, common_steps, job_in_more, false_from_ne_true, eqb-true)
 
 pub spent_after : (id : ℕ) (m n : Machine) (happened : List Happening) → Move m happened n → list_any (disturbs id) happened ≡ false → IsSpent id m → IsSpent id n
-spent_after id m n happened (quiet q) still spent =
-    let less = spent.0 in let next = q.next in
-    (omega arith, not_free_after id happened (job_with id m.jobs) (job_with id n.jobs) (q.fates id) still spent.1)
+spent_after id m n happened (quiet q) still spent = grind (arith, common_steps, not_free_after)
 spent_after id m n happened (putting p) still spent =
     let less = spent.0 in let next = p.next in
     (omega arith, subst IsNotFree (sym (put_lookup id m n happened p less)) spent.1)

@@ -113,10 +113,7 @@ goes_by_dispatch m given n ids d =
 -- the ends of waits
 same_jobs : (m : Machine) (given : List GivenAnswer) (n : Machine) → Chain WaitEndTurn m given n → (n.jobs ≡ m.jobs) × (n.next_id ≡ m.next_id)
 same_jobs m [] n chain = (ap (λ (l : Machine). l.jobs) chain, ap (λ (l : Machine). l.next_id) chain)
-same_jobs m (g ∷ given) n chain =
-    let e = end_of m g chain.0 chain.1 in
-    let rest = same_jobs chain.0 given n chain.2 in
-    (rest.0 ∙ ap (λ (l : Machine). l.jobs) e.next_is, rest.1 ∙ ap (λ (l : Machine). l.next_id) e.next_is)
+same_jobs m (g ∷ given) n chain = grind (arith, common_steps, end_of, same_jobs chain.0 given n chain.2)
 
 goes_by_ends : (m : Machine) (given : List GivenAnswer) (n : Machine) → EndsWaits m given n → Goes m [] n
 goes_by_ends m given n w = grind (arith, common_steps, same_jobs, goes_one, still_move)
