@@ -7,6 +7,8 @@ use Rattle.bq_job.proofs.ListLemmas.{count_cons}
 use Rattle.bq_state.specs.declared.{known.Clients.Clients, seats.SeatChange.SeatChange}
 use Rattle.bq_state.specs.{Clients.{clients_of, clients_with, clients_without, seat_passes}, SeatChanges.{AreNumbered, seat_changed, seat_changed_at}, Tallies.{count_with, count_without}}
 use Rattle.bq_state.proofs.{PartsLemmas.{changed_there, number_kept}, TallyLemmas.{with_is, without_is}}
+use Rattle.std.proofs.lemmas.Grind.{common_steps}
+use Rattle.std.proofs.lemmas.Bool.Decides.{nat_tests}
 
 -- all seats but that of the number
 abbrev pub others : ℕ → List SeatRecord → List SeatRecord
@@ -28,13 +30,7 @@ all_others n high (s ∷ seats) less h =
 pub others_left : (n : ℕ) (f : SeatRecord → SeatRecord) → ((s : SeatRecord) → (f s).number ≡ s.number) → (seats : List SeatRecord)
     → others n (map (λ s. if s.number == n then f s else s) seats) ≡ others n seats
 others_left n f keeps [] = refl
-others_left n f keeps (s ∷ seats) =
-    elim (cases_Bool (s.number == n)) [
-      | inl e ↦
-          let same : ((f s).number == n) ≡ true = ap (λ k. k == n) (keeps s) ∙ e in
-          rw (e, same) (others_left n f keeps seats)
-      | inr e ↦ rw (e, e) (ap (λ ts. s ∷ ts) (others_left n f keeps seats))
-    ]
+others_left n f keeps (s ∷ seats) = grind (arith, common_steps, cases_Bool, others_left n f keeps seats)
 
 no_more : (n : ℕ) → 0 + n ≡ n
 no_more n = omega arith
@@ -77,20 +73,12 @@ module _ (p : SeatRecord → Bool) where
   -- where a change makes no difference, the count stays
   pub count_stays : (f : SeatRecord → SeatRecord) → ((s : SeatRecord) → p (f s) ≡ p s) → (seats : List SeatRecord) → count_by p (map f seats) ≡ count_by p seats
   count_stays f same [] = refl
-  count_stays f same (s ∷ seats) =
-      count_cons p (f s) (map f seats)
-      ∙ (λ i. cond (same s i) 1 0 + count_stays f same seats i)
-      ∙ sym (count_cons p s seats)
+  count_stays f same (s ∷ seats) = grind (arith, common_steps, count_cons, count_stays f same seats)
 
   -- one is counted where there is one
   pub some_pass : (seats : List SeatRecord) → nat_lt 0 (count_by p seats) ≡ list_any p seats
   some_pass [] = refl
-  some_pass (s ∷ seats) =
-      ap (nat_lt 0) (count_cons p s seats)
-      ∙ elim (cases_Bool (p s)) [
-        | inl e ↦ rw e (lt-ltb 0 (1 + count_by p seats) (omega arith))
-        | inr e ↦ rw e (ap (nat_lt 0) (no_more (count_by p seats)) ∙ some_pass seats)
-      ]
+  some_pass (s ∷ seats) = grind (arith, common_steps, count_cons, cases_Bool, lt-ltb, no_more, some_pass seats)
 
 -- the seat of a number, once it is changed
 pub found_changed : (n : ℕ) (f : SeatRecord → SeatRecord) → ((s : SeatRecord) → (f s).number ≡ s.number) → (s : SeatRecord) (seats : List SeatRecord)
@@ -135,21 +123,13 @@ clients_moved n what seats h h' fits = λ i. record {
 }
 
 same_passes : (p : SeatRecord → Bool) (b : Bool) (x s : SeatRecord) → p x ≡ p s → p (if b then x else s) ≡ p s
-same_passes p true x s h = h
-same_passes p false x s h = refl
+same_passes p b x s h = grind (arith, common_steps)
 
 -- and once it watches other tubes
 pub clients_watching : (names : List (List ℕ)) (i : ℕ) (s : SeatRecord) (seats : List SeatRecord) → slice_get seats i ≡ Some s → AreNumbered seats
     → clients_of (set seats i (watching names s)) ≡ clients_of seats
 clients_watching names i s seats found h =
-    ap clients_of (sym (changed_there seats i s (watching names) h found))
-    ∙ λ k. record {
-      connected = count_stays (λ s. s.connected) f (λ t. same_passes (λ s. s.connected) (t.number == i) (watching names t) t refl) seats k;
-      waiting = count_stays is_waiting f (λ t. same_passes is_waiting (t.number == i) (watching names t) t refl) seats k;
-    }
-  where
-    f : SeatRecord → SeatRecord
-    f t = if t.number == i then watching names t else t
+    grind (arith, common_steps, nat_tests, changed_there seats i s (watching names) h found, count_stays, same_passes)
 
 -- at the start there is none
 pub nobody : (p : SeatRecord → Bool) → ((n : ℕ) → p (empty_seat n) ≡ false) → (ns : List ℕ) → count_by p (map empty_seat ns) ≡ 0
@@ -157,7 +137,4 @@ nobody p none [] = refl
 nobody p none (n ∷ ns) = count_cons p (empty_seat n) (map empty_seat ns) ∙ (λ i. cond (none n i) 1 0 + nobody p none ns i)
 
 pub first_clients : (c : Clients) → (c.connected ≡ 0) × (c.waiting ≡ 0) → (ns : List ℕ) → c ≡ clients_of (map empty_seat ns)
-first_clients c zero ns = λ i. record {
-  connected = (zero.0 ∙ sym (nobody (λ s. s.connected) (λ n. refl) ns)) i;
-  waiting = (zero.1 ∙ sym (nobody is_waiting (λ n. refl) ns)) i;
-}
+first_clients c zero ns = grind (arith, common_steps, nobody)

@@ -8,6 +8,8 @@ use Rattle.bq_state.specs.{Crowds.{recounted, share_as_user, share_as_watcher, t
 use Rattle.bq_state.specs.TubeEntries.{AreInOrder}
 use Rattle.bq_state.proofs.{ClientLemmas.{count_changed, count_stays, found_changed, some_pass}, PartsLemmas.{all_read, all_set, changed_there, number_kept, numbered_after, seat_there}, TubeLemmas.{before_differs, same_name}}
 use Rattle.std.proofs.lemmas.Bool.{not-true}
+use Rattle.std.proofs.lemmas.Grind.{common_steps}
+use Rattle.std.proofs.Common.{arith}
 
 -- names are the same either way round
 pub same_turned : (a b : List ℕ) → is_same_name a b ≡ is_same_name b a
@@ -25,29 +27,15 @@ map_same u v (x ∷ xs) same = λ i. same x i ∷ map_same u v xs same i
 
 -- A share of nothing changes no counts.
 none_counts : (b c d : Bool) → not b && (not c && not d) ≡ true → (b ≡ false) × ((c ≡ false) × (d ≡ false))
-none_counts true c d h = absurd cc
-none_counts false true d h = absurd cc
-none_counts false false true h = absurd cc
-none_counts false false false h = (refl, (refl, refl))
+none_counts b c d h = grind (arith, common_steps)
 
 pub none_recounted : (moving : Moving) (share : Share) → is_none share ≡ true → (c : Crowd) → recounted moving share c ≡ c
-none_recounted moving share h c = go moving
-  where
-    none : (share.using ≡ false) × ((share.watching ≡ false) × (share.waiting ≡ false))
-    none = none_counts share.using share.watching share.waiting h
-
-    go : (moving : Moving) → recounted moving share c ≡ c
-    go Comes = λ i. record { using = count_with (none.0 i) c.using; watching = count_with (none.1.0 i) c.watching; waiting = count_with (none.1.1 i) c.waiting }
-    go Goes = λ i. record { using = count_without (none.0 i) c.using; watching = count_without (none.1.0 i) c.watching; waiting = count_without (none.1.1 i) c.waiting }
+none_recounted moving share h c = grind (arith, common_steps, none_counts)
 
 pub beside_same : (name : List ℕ) (f : Crowd → Crowd) → ((c : Crowd) → f c ≡ c) → (es : List TubeRecord) (cs : List Crowd) → crowds_at name f es cs ≡ cs
 beside_same name f same [] cs = refl
 beside_same name f same (t ∷ es) [] = refl
-beside_same name f same (t ∷ es) (c ∷ cs) = go (is_same_name name t.name) (beside_same name f same es cs)
-  where
-    go : (b : Bool) → crowds_at name f es cs ≡ cs → (if b then f c ∷ cs else c ∷ crowds_at name f es cs) ≡ c ∷ cs
-    go true rest = ap (λ d. d ∷ cs) (same c)
-    go false rest = ap (λ ds. c ∷ ds) rest
+beside_same name f same (t ∷ es) (c ∷ cs) = grind (arith, common_steps, beside_same name f same es cs)
 
 pub all_same : (names : List (List ℕ)) (f : Crowd → Crowd) → ((c : Crowd) → f c ≡ c) → (es : List TubeRecord) (cs : List Crowd) → crowds_at_all names f es cs ≡ cs
 all_same [] f same es cs = refl
@@ -66,24 +54,16 @@ module _ (f : Crowd → Crowd) where
   later_stay : (name : List ℕ) (g : TubeRecord → Crowd) (t : TubeRecord) → name ≡ t.name → (es : List TubeRecord) → All (λ u. is_name_before t.name u.name ≡ true) es
       → map g es ≡ map (λ u. if is_same_name name u.name then f (g u) else g u) es
   later_stay name g t is [] all = refl
-  later_stay name g t is (u ∷ es) all =
-      let other : is_same_name name u.name ≡ false = ap (λ n. is_same_name n u.name) is ∙ before_differs t.name u.name all.0 in
-      rw other (ap (λ cs. g u ∷ cs) (later_stay name g t is es all.1))
+  later_stay name g t is (u ∷ es) all = grind (arith, common_steps, before_differs, later_stay name g t is es all.1)
 
   pub at_named : (name : List ℕ) (g : TubeRecord → Crowd) (es : List TubeRecord) → AreInOrder es
       → crowds_at name f es (map g es) ≡ map (λ t. if is_same_name name t.name then f (g t) else g t) es
   at_named name g [] order = refl
   at_named name g (t ∷ es) order =
-      elim (cases_Bool (is_same_name name t.name)) [
-        | inl e ↦ rw e (ap (λ cs. f (g t) ∷ cs) (later_stay name g t (same_name name t.name e) es order.0))
-        | inr e ↦ rw e (ap (λ cs. g t ∷ cs) (at_named name g es order.1))
-      ]
+      grind (arith, common_steps, cases_Bool, later_stay, same_name, at_named name g es order.1)
 
   pick : (b a : Bool) (z : Crowd) → (b ≡ true → a ≡ false) → (if a then f (if b then f z else z) else (if b then f z else z)) ≡ (if b || a then f z else z)
-  pick true true z none = absurd (let e = none refl in cc)
-  pick true false z none = refl
-  pick false true z none = refl
-  pick false false z none = refl
+  pick b a z none = grind (arith, common_steps)
 
   none_else : (n : List ℕ) (ns : List (List ℕ)) → none_twice (n ∷ ns) ≡ true → (name : List ℕ) → is_same_name n name ≡ true → list_any (is_same_name name) ns ≡ false
   none_else n ns once name e =
@@ -106,14 +86,7 @@ combine : (moving : Moving) (a b x y w : Bool) (c : Crowd)
     → (if a then recounted moving (record { using = false; watching = y; waiting = w }) (if b then recounted moving (record { using = x; watching = false; waiting = false }) c else c)
     else (if b then recounted moving (record { using = x; watching = false; waiting = false }) c else c))
     ≡ recounted moving (record { using = b && x; watching = a && y; waiting = a && w }) c
-combine Comes true true x y w c = refl
-combine Comes true false x y w c = refl
-combine Comes false true x y w c = refl
-combine Comes false false x y w c = refl
-combine Goes true true x y w c = refl
-combine Goes true false x y w c = refl
-combine Goes false true x y w c = refl
-combine Goes false false x y w c = refl
+combine moving a b x y w c = grind (arith, common_steps)
 
 pub all_recounted : (moving : Moving) (what : Share) (s : SeatRecord) (g : TubeRecord → Crowd) (es : List TubeRecord) → AreInOrder es → none_twice s.watched ≡ true
     → crowds_recounted moving what s es (map g es) ≡ map (λ t. recounted moving (share_at what s t.name) (g t)) es
@@ -130,34 +103,16 @@ all_recounted moving what s g es order once =
 
 -- What a change doesn't touch stays.
 user_stays : (name : List ℕ) (what : SeatChange) → (touched what).using ≡ false → (t : SeatRecord) → is_user name (seat_changed what t) ≡ is_user name t
-user_stays name StopWaiting e t = refl
-user_stays name (Wait ticket until) e t = refl
-user_stays name Connect e t = absurd cc
-user_stays name Clear e t = absurd cc
-user_stays name End e t = refl
-user_stays name (Use tube) e t = absurd cc
+user_stays name what e t = grind (arith, common_steps)
 
 watcher_stays : (name : List ℕ) (what : SeatChange) → (touched what).watching ≡ false → (t : SeatRecord) → is_watcher name (seat_changed what t) ≡ is_watcher name t
-watcher_stays name StopWaiting e t = refl
-watcher_stays name (Wait ticket until) e t = refl
-watcher_stays name Connect e t = absurd cc
-watcher_stays name Clear e t = absurd cc
-watcher_stays name End e t = refl
-watcher_stays name (Use tube) e t = refl
+watcher_stays name what e t = grind (arith, common_steps)
 
 waiter_stays : (name : List ℕ) (what : SeatChange) → (touched what).waiting ≡ false → (t : SeatRecord) → is_waiter name (seat_changed what t) ≡ is_waiter name t
-waiter_stays name StopWaiting e t = absurd cc
-waiter_stays name (Wait ticket until) e t = absurd cc
-waiter_stays name Connect e t = absurd cc
-waiter_stays name Clear e t = absurd cc
-waiter_stays name End e t = refl
-waiter_stays name (Use tube) e t = refl
+waiter_stays name what e t = grind (arith, common_steps)
 
 and_turned : (a b : Bool) → a && b ≡ b && a
-and_turned true true = refl
-and_turned true false = refl
-and_turned false true = refl
-and_turned false false = refl
+and_turned a b = grind (arith, common_steps)
 
 module _ (n : ℕ) (what : SeatChange) (s : SeatRecord) (seats : List SeatRecord) (h : AreNumbered seats) (fits : length seats ≤ greatest) (found : seat_with n seats ≡ Some s) where
   -- the count of those that are of a kind and pass, where the change touches it or not
@@ -167,17 +122,7 @@ module _ (n : ℕ) (what : SeatChange) (s : SeatRecord) (seats : List SeatRecord
       let new = seat_changed what s in
       (λ i. count_with ((and_turned (a new) (c new) ∙ sym (is new)) i) (count_without ((and_turned (a s) (c s) ∙ sym (is s)) i) (count_by p seats)))
       ∙ count_changed p n (seat_changed what) (number_kept what) s seats h (numbered_after n what seats h) fits found
-  field p a c false is same =
-      let new = seat_changed what s in
-      (λ i. count_with (and-false (a new) i) (count_without (and-false (a s) i) (count_by p seats)))
-      ∙ sym (count_stays p (seat_changed_at n what) one seats)
-    where
-      one : (t : SeatRecord) → p (seat_changed_at n what t) ≡ p t
-      one t = go (t.number == n)
-        where
-          go : (b : Bool) → p (if b then seat_changed what t else t) ≡ p t
-          go true = same refl t
-          go false = refl
+  field p a c false is same = grind (arith, common_steps, and-false, count_stays)
 
   -- the counts of a tube, once the seat is changed
   pub crowd_moved : (name : List ℕ) → crowd_with (share_at (touched what) (seat_changed what s) name) (crowd_without (share_at (touched what) s name) (crowd_of seats name)) ≡ crowd_of (map (seat_changed_at n what) seats) name
@@ -206,12 +151,7 @@ none_changed n f (s ∷ seats) h = elim (cases_Bool (s.number == n)) [
 
 -- a change of a seat keeps who waits connected, and what is watched once
 seat_seated : (what : SeatChange) (s : SeatRecord) → may_wait what (Some s) ≡ true → IsSeated s → IsSeated (seat_changed what s)
-seat_seated StopWaiting s may is = record { waits = λ e. absurd cc; once = is.once }
-seat_seated (Wait ticket until) s may is = record { waits = λ e. may; once = is.once }
-seat_seated Connect s may is = record { waits = λ e. absurd cc; once = refl }
-seat_seated Clear s may is = record { waits = λ e. absurd cc; once = refl }
-seat_seated End s may is = record { waits = is.waits; once = is.once }
-seat_seated (Use tube) s may is = record { waits = is.waits; once = is.once }
+seat_seated what s may is = grind (arith, common_steps)
 
 -- The counts of the clients at tubes, once the seat of a number is changed, if there is one.
 pub crowds_moved : (n : ℕ) (what : SeatChange) (crowds : List Crowd) (seats : List SeatRecord) (es : List TubeRecord) → AreNumbered seats → length seats ≤ greatest → AreInOrder es
@@ -224,10 +164,7 @@ crowds_moved n what crowds seats es h fits order may was = go (seat_with n seats
 
     go : (o : Option SeatRecord) → seat_with n seats ≡ o
         → AreCrowds (crowds_recounted_for Comes (touched what) (seat_with n new) es (crowds_recounted_for Goes (touched what) (seat_with n seats) es crowds)) new es
-    go None none =
-        let same : new ≡ seats = none_changed n (seat_changed what) seats none in
-        let still : seat_with n new ≡ None = ap (seat_with n) same ∙ none in
-        rw (still, none, same) was
+    go None none = grind (arith, common_steps, cases_Bool, none_changed n (seat_changed what) seats none)
     go (Some s) found =
         let there = found_changed n (seat_changed what) (number_kept what) s seats found in
         let place = seat_there seats n s h found in
@@ -244,29 +181,12 @@ crowds_moved n what crowds seats es h fits order may was = go (seat_with n seats
 -- A client is at the tube where one is counted as using or watching it.
 any_of_both : (p q : SeatRecord → Bool) (seats : List SeatRecord) → list_any p seats || list_any q seats ≡ list_any (λ s. p s || q s) seats
 any_of_both p q [] = refl
-any_of_both p q (s ∷ seats) = go (p s) (q s) (list_any p seats) (list_any q seats) (list_any (λ s. p s || q s) seats) (any_of_both p q seats)
-  where
-    go : (a b c d e : Bool) → c || d ≡ e → (a || c) || (b || d) ≡ (a || b) || e
-    go true b c d e h = refl
-    go false true true d e h = refl
-    go false true false d e h = refl
-    go false false c d e h = h
+any_of_both p q (s ∷ seats) = grind (arith, common_steps, any_of_both p q seats)
 
 pub has_seats_of : (seats : List SeatRecord) (name : List ℕ) → has_seats (crowd_of seats name) ≡ list_any (is_seated_at name) seats
 has_seats_of seats name =
-    (λ i. some_pass (is_user name) seats i || some_pass (is_watcher name) seats i)
-    ∙ any_of_both (is_user name) (is_watcher name) seats
-    ∙ any_same seats
-  where
-    both : (c a b : Bool) → (c && a) || (c && b) ≡ c && (a || b)
-    both true a b = refl
-    both false a b = refl
-
-    any_same : (seats : List SeatRecord) → list_any (λ s. is_user name s || is_watcher name s) seats ≡ list_any (is_seated_at name) seats
-    any_same [] = refl
-    any_same (s ∷ seats) = λ i. both s.connected (is_same_name name s.used) (watches name s) i || any_same seats i
+    grind (arith, common_steps, cases_Bool, some_pass, any_of_both (is_user name) (is_watcher name) seats)
 
 -- who asks is connected
 pub asking_is_connected : (o : Option SeatRecord) → is_asking o ≡ true → is_connected o ≡ true
-asking_is_connected None h = absurd cc
-asking_is_connected (Some s) h = (and_parts s.connected (not (is_waiting s)) h).0
+asking_is_connected o h = grind (arith, common_steps, and_parts)

@@ -8,6 +8,8 @@ use Rattle.bq_state.specs.declared.{known.{Clients.Clients, Tally.Tally}, tubes.
 use Rattle.bq_state.specs.{Clients.clients_of, Crowds.{AreCrowds, IsSeated, crowd_at, crowd_in, crowd_of, crowds_of, crowds_provided, has_seats, is_user, is_waiter, is_watcher, no_crowd}, Tallies.{has_jobs, tallies_of, tally_at}}
 use Rattle.bq_state.specs.TubeEntries.{AreEntries, HasTubes, has_entry, is_tube_by, is_tube_of, provided}
 use Rattle.bq_state.proofs.{ClientLemmas.some_pass, CrowdLemmas.has_seats_of, TallyPlaces.{has_jobs_in, tally_there}, TubeLemmas.{provided_new, same_name}}
+use Rattle.std.proofs.lemmas.Grind.{common_steps}
+use Rattle.std.proofs.Common.{arith}
 
 -- counts of 0
 pub nobody_counted : (c : Crowd) → (c.using ≡ 0) × ((c.watching ≡ 0) × (c.waiting ≡ 0)) → c ≡ no_crowd
@@ -32,36 +34,23 @@ module _ (name : List ℕ) (es : List TubeRecord) (missing : has_entry name es �
       go false is b e = refl
 
   not_watching : (s : SeatRecord) → HasTubes es s → is_watcher name s ≡ false
-  not_watching s has = go s.connected refl
-    where
-      go : (c : Bool) → s.connected ≡ c → c && watches name s ≡ false
-      go true is = at_none s.watched (has.watched is)
-      go false is = refl
+  not_watching s has = grind (arith, common_steps, at_none)
 
   not_waiting : (s : SeatRecord) → HasTubes es s → IsSeated s → is_waiter name s ≡ false
-  not_waiting s has is = go (is_waiting s) refl
-    where
-      go : (w : Bool) → is_waiting s ≡ w → w && watches name s ≡ false
-      go true waits = at_none s.watched (has.watched (is.waits waits))
-      go false waits = refl
+  not_waiting s has is = grind (arith, common_steps, at_none)
 
   none_of : (seats : List SeatRecord) → All (HasTubes es) seats → All IsSeated seats
       → All (λ s. is_user name s ≡ false) seats × (All (λ s. is_watcher name s ≡ false) seats × All (λ s. is_waiter name s ≡ false) seats)
   none_of [] has is = (tt, (tt, tt))
   none_of (s ∷ seats) has is =
-      let rest = none_of seats has.1 is.1 in
-      ((not_using s has.0, rest.0), ((not_watching s has.0, rest.1.0), (not_waiting s has.0 is.0, rest.1.1)))
+      grind (arith, common_steps, not_using, not_watching, not_waiting, none_of seats has.1 is.1)
 
   pub nobody_there : (seats : List SeatRecord) → All (HasTubes es) seats → All IsSeated seats → crowd_of seats name ≡ no_crowd
-  nobody_there seats has is =
-      let none = none_of seats has is in
-      nobody_counted (crowd_of seats name)
-      (count_all_not (is_user name) seats none.0, (count_all_not (is_watcher name) seats none.1.0, count_all_not (is_waiter name) seats none.1.1))
+  nobody_there seats has is = grind (arith, common_steps, none_of, nobody_counted, count_all_not)
 
 -- what stands beside the entries, once one comes
 inserted_beside : {A : Type 0} (f : TubeRecord → A) (es : List TubeRecord) (n : ℕ) (x : TubeRecord) → insert (map f es) n (f x) ≡ map f (insert es n x)
-inserted_beside f es n x =
-    ap (λ ts. ts ++ f x ∷ drop n (map f es)) (take-map f n es) ∙ ap (λ ts. map f (take n es) ++ f x ∷ ts) (drop-map f n es) ∙ sym (map-append f (take n es) (x ∷ drop n es))
+inserted_beside f es n x = grind (arith, common_steps, take-map, drop-map, map-append)
 
 -- a tube gets an entry
 pub crowds_of_provided : (name : List ℕ) (crowds : List Crowd) (seats : List SeatRecord) (es : List TubeRecord) → All (HasTubes es) seats
@@ -116,19 +105,7 @@ crowd_there name crowds seats es has was = ap (crowd_at name es) was.each ∙ go
 pub waiters_counted : (name : List ℕ) (clients : Clients) (crowds : List Crowd) (seats : List SeatRecord) (entries : List TubeRecord) → All (HasTubes entries) seats → AreCrowds crowds seats entries → clients ≡ clients_of seats
     → (nat_lt 0 clients.waiting && nat_lt 0 (crowd_at name entries crowds).waiting) ≡ list_any (is_waiter name) seats
 waiters_counted name clients crowds seats entries of_seats are is =
-    let at : nat_lt 0 (crowd_at name entries crowds).waiting ≡ list_any (is_waiter name) seats =
-    ap (λ (k : Crowd). nat_lt 0 k.waiting) (crowd_there name crowds seats entries of_seats are) ∙ some_pass (is_waiter name) seats in
-    let any : nat_lt 0 clients.waiting ≡ list_any is_waiting seats = ap (λ (n : Clients). nat_lt 0 n.waiting) is ∙ some_pass is_waiting seats in
-    elim (cases_Bool (list_any is_waiting seats)) [
-      | inl e ↦ ap (λ b. b && nat_lt 0 (crowd_at name entries crowds).waiting) (any ∙ e) ∙ at
-      | inr e ↦
-          ap (λ b. b && nat_lt 0 (crowd_at name entries crowds).waiting) (any ∙ e)
-          ∙ sym (list_any_not (is_waiter name) seats (all_weaker (λ s. is_waiting s ≡ false) (λ s. is_waiter name s ≡ false) seats (λ s h. nor (is_waiting s) (watches name s) h) (none_pass is_waiting seats e)))
-    ]
-  where
-    nor : (w n : Bool) → w ≡ false → (w && n) ≡ false
-    nor true n h = absurd cc
-    nor false n h = h
+    grind (arith, common_steps, crowd_there, some_pass, cases_Bool, list_any_not, all_weaker, none_pass)
 
 -- Whether a tube has jobs is told by the count of them.
 pub jobs_there : (name : List ℕ) (tallies : List Tally) (jobs : List Job) (es : List TubeRecord) → All (λ j. has_entry j.tube es ≡ true) jobs
@@ -144,9 +121,7 @@ pub tube_there : (name : List ℕ) (tallies : List Tally) (crowds : List Crowd) 
     → tallies ≡ tallies_of jobs es → AreCrowds crowds seats es
     → is_tube_by (has_jobs (tally_at name es tallies)) (has_seats (crowd_at name es crowds)) name ≡ is_tube_of jobs seats name
 tube_there name tallies crowds jobs seats es entries counted was =
-    exists_by_counts jobs seats name _ _
-    (jobs_there name tallies jobs es entries.of_jobs counted)
-    (ap has_seats (crowd_there name crowds seats es entries.of_seats was) ∙ has_seats_of seats name)
+    grind (arith, common_steps, exists_by_counts, jobs_there, crowd_there, has_seats_of)
 
 -- at the start nobody is there
 pub first_crowds : (ns : List ℕ) → AreCrowds (no_crowd ∷ []) (map empty_seat ns) (fresh_tube default_tube ∷ [])

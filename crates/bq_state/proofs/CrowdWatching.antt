@@ -8,42 +8,25 @@ use Rattle.bq_state.specs.{Crowds.{AreCrowds, IsSeated, crowd_in, crowd_of, crow
 use Rattle.bq_state.specs.{Tallies.{count_with, count_without}, TubeEntries.AreInOrder}
 use Rattle.bq_state.proofs.{ClientLemmas.{count_changed, count_unchanged}, CrowdLemmas.{at_named, map_same, same_turned}, PartsLemmas.{all_read, all_set, changed_there, seat_read, watching_numbered}, TubeLemmas.same_name}
 use Rattle.bq_job.proofs.WatchedLemmas.{none_twice_behind, none_twice_filter}
+use Rattle.std.proofs.lemmas.Grind.{common_steps}
+use Rattle.std.proofs.lemmas.Bool.{cases_Bool}
+use Rattle.std.proofs.Common.{arith}
 
 -- a name among those that one was added to
 any_with : (name more : List ℕ) (names : List (List ℕ)) → list_any (is_same_name name) (names ++ more ∷ []) ≡ list_any (is_same_name name) names || is_same_name name more
 any_with name more [] = or-false (is_same_name name more)
-any_with name more (n ∷ names) = go (is_same_name name n) (any_with name more names)
-  where
-    go : (b : Bool) → list_any (is_same_name name) (names ++ more ∷ []) ≡ list_any (is_same_name name) names || is_same_name name more
-        → (b || list_any (is_same_name name) (names ++ more ∷ [])) ≡ (b || list_any (is_same_name name) names) || is_same_name name more
-    go true rest = refl
-    go false rest = rest
+any_with name more (n ∷ names) = grind (arith, common_steps, any_with name more names)
 
 -- which names are left
 left_without : (lost name : List ℕ) (names : List (List ℕ)) → is_same_name lost name ≡ false
     → list_any (is_same_name name) (filter (λ other. not (is_same_name lost other)) names) ≡ list_any (is_same_name name) names
 left_without lost name [] apart = refl
-left_without lost name (n ∷ names) apart = go (is_same_name lost n) refl (left_without lost name names apart)
-  where
-    left : List (List ℕ)
-    left = filter (λ other. not (is_same_name lost other)) names
-
-    go : (b : Bool) → is_same_name lost n ≡ b → list_any (is_same_name name) left ≡ list_any (is_same_name name) names → list_any (is_same_name name) (if not b then n ∷ left else left) ≡ is_same_name name n || list_any (is_same_name name) names
-    go true e rest =
-        let other : is_same_name name n ≡ false = ap (is_same_name name) (sym (same_name lost n e)) ∙ same_turned name lost ∙ apart in
-        rest ∙ ap (λ b. b || list_any (is_same_name name) names) (sym other)
-    go false e rest = ap (λ b. is_same_name name n || b) rest
+left_without lost name (n ∷ names) apart =
+    grind (arith, common_steps, same_name, same_turned, left_without lost name names apart)
 
 gone_without : (lost : List ℕ) (names : List (List ℕ)) → list_any (is_same_name lost) (filter (λ other. not (is_same_name lost other)) names) ≡ false
 gone_without lost [] = refl
-gone_without lost (n ∷ names) = go (is_same_name lost n) refl (gone_without lost names)
-  where
-    left : List (List ℕ)
-    left = filter (λ other. not (is_same_name lost other)) names
-
-    go : (b : Bool) → is_same_name lost n ≡ b → list_any (is_same_name lost) left ≡ false → list_any (is_same_name lost) (if not b then n ∷ left else left) ≡ false
-    go true e rest = rest
-    go false e rest = (λ i. e i || list_any (is_same_name lost) left) ∙ rest
+gone_without lost (n ∷ names) = grind (arith, common_steps, gone_without lost names)
 
 module _ (names : List (List ℕ)) (i : ℕ) (s : SeatRecord) (seats : List SeatRecord) (found : slice_get seats i ≡ Some s) (h : AreNumbered seats) (fits : length seats ≤ greatest) where
   abbrev new : List SeatRecord
@@ -63,16 +46,11 @@ module _ (names : List (List ℕ)) (i : ℕ) (s : SeatRecord) (seats : List Seat
 
   -- the counts of a tube that is watched as before
   crowd_same : (name : List ℕ) → list_any (is_same_name name) names ≡ watches name s → crowd_of seats name ≡ crowd_of new name
-  crowd_same name e = λ k. record {
-    using = same (is_user name) refl k;
-    watching = same (is_watcher name) (ap (λ b. s.connected && b) e) k;
-    waiting = same (is_waiter name) (ap (λ b. is_waiting s && b) e) k;
-  }
+  crowd_same name e = grind (arith, common_steps, same)
 
   -- or now is
   and_true : (b : Bool) → b && true ≡ b
-  and_true true = refl
-  and_true false = refl
+  and_true b = grind (arith, common_steps)
 
   crowd_more : (name : List ℕ) → watches name s ≡ false → list_any (is_same_name name) names ≡ true → crowd_with (share_of_watcher s) (crowd_of seats name) ≡ crowd_of new name
   crowd_more name none some = λ k. record {
@@ -113,9 +91,8 @@ crowds_watching more i s crowds seats es found h fits order none was =
 
     at : (name : List ℕ) (b : Bool) → is_same_name more name ≡ b → (if b then crowd_with (share_of_watcher s) (crowd_of seats name) else crowd_of seats name) ≡ crowd_of (set seats i (watching names s)) name
     at name true e =
-        let not_yet : watches name s ≡ false = ap (λ n. watches n s) (sym (same_name more name e)) ∙ none in
-        let last : is_same_name name more ≡ true = same_turned name more ∙ e in
-        crowd_more names i s seats found h fits name not_yet (any_with name more s.watched ∙ (λ k. not_yet k || last k))
+        grind (arith, common_steps, cases_Bool, same_name more name e, same_turned name more, crowd_more,
+        any_with name more s.watched)
     at name false e =
         let apart : is_same_name name more ≡ false = same_turned name more ∙ e in
         crowd_same names i s seats found h fits name (any_with name more s.watched ∙ ap (λ b. watches name s || b) apart ∙ or-false (watches name s))

@@ -11,24 +11,17 @@ use Rattle.bq_jobs.specs.{Kept.ranked, Leases.{deadline_of, is_lease_before}}
 use Rattle.bq_state.specs.{Dues.{earlier_of_both, jobs_due, warning_due, with_seat_due, with_warning_due}, FirstEnds.{IsThere, is_gone_in_wait}, SeatChanges.AreNumbered, TubeEntries.{IsFreshUnlessCounted, counted, is_counted}}
 use Rattle.bq_state.specs.WaitingTurns.{at_turn, turns_of}
 use Rattle.bq_state.proofs.{WalkLemmas.walked, WarningLemmas.no_other}
+use Rattle.std.proofs.lemmas.Grind.{common_steps}
 
 min_three : (a b c : ℕ) → min (min a b) c ≡ min a (min b c)
 min_three a b c = omega arith
 
 in_any_order : (a b c : Option ℕ) → earlier_of_both (earlier_of_both a b) c ≡ earlier_of_both a (earlier_of_both b c)
-in_any_order None b c = refl
-in_any_order (Some a) None c = refl
-in_any_order (Some a) (Some b) None = refl
-in_any_order (Some a) (Some b) (Some c) = ap Some (min_three a b c)
+in_any_order a b c = grind (arith, common_steps, min_three)
 
 -- the first of two lists of moments
 one_or_other : (a b : Option ℕ) → earlier_of_both a b ≡ earlier_of_both b a
-one_or_other None b = sym (no_other b)
-one_or_other (Some x) None = refl
-one_or_other (Some x) (Some y) = ap Some (least x y)
-  where
-    least : (x y : ℕ) → min x y ≡ min y x
-    least x y = omega arith
+one_or_other a b = grind (arith, common_steps, no_other)
 
 dues_swap : (b x y : Option ℕ) → earlier_of_both (earlier_of_both b x) y ≡ earlier_of_both (earlier_of_both b y) x
 dues_swap b x y = in_any_order b x y ∙ ap (earlier_of_both b) (one_or_other x y) ∙ sym (in_any_order b y x)
@@ -39,19 +32,11 @@ all_there seats none = none_pass is_gone_in_wait seats (sym none)
 
 -- A client holds a job where there is a lease of it that ends first.
 pub held_some : (seat : ℕ) (jobs : List Job) → is_some (option_map (ranked (λ j. deadline_of j.state)) (first_of (is_held_by seat) is_lease_before jobs)) ≡ list_any (is_held_by seat) jobs
-held_some seat jobs = mapped (first_of (is_held_by seat) is_lease_before jobs) ∙ first_of_is_some (is_held_by seat) is_lease_before jobs
-  where
-    mapped : (o : Option Job) → is_some (option_map (ranked (λ j. deadline_of j.state)) o) ≡ is_some o
-    mapped None = refl
-    mapped (Some j) = refl
+held_some seat jobs = grind (arith, common_steps, first_of_is_some (is_held_by seat) is_lease_before jobs)
 
 -- A walk over those that wait finds the first who gives up, and the first who is told of its deadline.
 pub ends_walked : (seats : List SeatRecord) → AreNumbered seats → fold (at_turn with_seat_due seats) None (turns_of seats) ≡ fold with_seat_due None seats
-ends_walked seats h = walked with_seat_due (λ s e b. go s.wait e b) (λ s t _ b. dues_swap b (earliest (dues_of_wait s.wait)) (earliest (dues_of_wait t.wait))) seats h None
-  where
-    go : (w : Option Wait) → is_some w ≡ false → (b : Option ℕ) → earlier_of_both b (earliest (dues_of_wait w)) ≡ b
-    go None e b = no_other b
-    go (Some x) e b = absurd cc
+ends_walked seats h = grind (arith, common_steps, walked, dues_swap, no_other)
 
 pub warnings_walked : (jobs : List Job) (seats : List SeatRecord) → AreNumbered seats → fold (at_turn (with_warning_due jobs) seats) None (turns_of seats) ≡ fold (with_warning_due jobs) None seats
 warnings_walked jobs seats h = walked (with_warning_due jobs) (λ s e b. rw e (no_other b)) (λ s t _ b. dues_swap b (warning_due jobs s) (warning_due jobs t)) seats h None
@@ -63,9 +48,8 @@ earliest_of_both (x ∷ xs) ys = ap (λ o. earlier_of_both (Some x) o) (earliest
 earliest_from : {A : Type 0} (f : A → List ℕ) (best : Option ℕ) (xs : List A) → fold (λ b x. earlier_of_both b (earliest (f x))) best xs ≡ earlier_of_both best (earliest (flat_map f xs))
 earliest_from f best [] = sym (no_other best)
 earliest_from f best (x ∷ xs) =
-    earliest_from f (earlier_of_both best (earliest (f x))) xs
-    ∙ in_any_order best (earliest (f x)) (earliest (flat_map f xs))
-    ∙ ap (earlier_of_both best) (sym (earliest_of_both (f x) (flat_map f xs)))
+    grind (arith, common_steps, in_any_order, earliest_of_both,
+    earliest_from f (earlier_of_both best (earliest (f x))) xs)
 
 -- the least of all, looked at one by one
 pub earliest_of_all : {A : Type 0} (f : A → List ℕ) (xs : List A) → fold (λ b x. earlier_of_both b (earliest (f x))) None xs ≡ earliest (flat_map f xs)
@@ -74,18 +58,11 @@ earliest_of_all f xs = earliest_from f None xs
 -- where nothing is counted, no pause ends
 pub pauses_counted : (entries : List TubeRecord) → All IsFreshUnlessCounted entries → flat_map (λ t. dues_of_pause t.pause) entries ≡ flat_map (λ t. dues_of_pause t.pause) (counted entries)
 pauses_counted [] fresh = refl
-pauses_counted (t ∷ entries) fresh = go (is_counted t) refl (pauses_counted entries fresh.1)
-  where
-    go : (b : Bool) → is_counted t ≡ b → flat_map (λ t. dues_of_pause t.pause) entries ≡ flat_map (λ t. dues_of_pause t.pause) (counted entries) → dues_of_pause t.pause ++ flat_map (λ t. dues_of_pause t.pause) entries ≡ flat_map (λ t. dues_of_pause t.pause) (if b then t ∷ counted entries else counted entries)
-    go true e rest = ap (λ xs. dues_of_pause t.pause ++ xs) rest
-    go false e rest = let none : t.pause ≡ None = ap (λ u. u.pause) (fresh.0 e) in rw none rest
+pauses_counted (t ∷ entries) fresh = grind (arith, common_steps, pauses_counted entries fresh.1)
 
 -- all three lists together
 pub all_due : (xs ys zs : List ℕ) → earliest (xs ++ ys ++ zs) ≡ earlier_of_both (earliest xs) (earlier_of_both (earliest ys) (earliest zs))
-all_due xs ys zs =
-    earliest_of_both (xs ++ ys) zs
-    ∙ ap (λ o. earlier_of_both o (earliest zs)) (earliest_of_both xs ys)
-    ∙ in_any_order (earliest xs) (earliest ys) (earliest zs)
+all_due xs ys zs = grind (arith, common_steps, earliest_of_both, in_any_order)
 
 -- Two moments are the same where the same moments are before them.
 told_by_before : (o u : Option ℕ) → ((t : ℕ) → is_before t o ≡ is_before t u) → o ≡ u
@@ -99,30 +76,20 @@ told_by_before (Some a) (Some b) h =
     ap Some same
 
 before_min : (t a b : ℕ) → nat_lt t (min a b) ≡ (nat_lt t a && nat_lt t b)
-before_min t a b = elim (cases_Bool (nat_lt t a)) [
-  | inl x ↦ elim (cases_Bool (nat_lt t b)) [
-    | inl y ↦ let z : nat_lt t (min a b) ≡ true = grind (arith, nat_tests) in rw (x, y) z
-    | inr y ↦ let z : nat_lt t (min a b) ≡ false = grind (arith, nat_tests) in rw (x, y) z
-  ]
-  | inr x ↦ let z : nat_lt t (min a b) ≡ false = grind (arith, nat_tests) in rw x z
-]
+before_min t a b = grind (arith, common_steps, cases_Bool)
 
 with_true : (b : Bool) → (b && true) ≡ b
-with_true true = refl
-with_true false = refl
+with_true b = grind (arith, common_steps)
 
 before_both : (t : ℕ) (o u : Option ℕ) → is_before t (earlier_of_both o u) ≡ (is_before t o && is_before t u)
-before_both t None u = refl
-before_both t (Some a) None = sym (with_true (nat_lt t a))
-before_both t (Some a) (Some b) = before_min t a b
+before_both t o u = grind (arith, common_steps, with_true, before_min)
 
 before_earliest : (t : ℕ) (xs : List ℕ) → is_before t (earliest xs) ≡ list_all (nat_lt t) xs
 before_earliest t [] = refl
 before_earliest t (x ∷ xs) = before_both t (Some x) (earliest xs) ∙ ap (λ b. nat_lt t x && b) (before_earliest t xs)
 
 and_thrice : (a b c : Bool) → ((a && b) && c) ≡ (a && (b && c))
-and_thrice true b c = refl
-and_thrice false b c = refl
+and_thrice a b c = grind (arith, common_steps)
 
 all_joined : {A : Type 0} (p : A → Bool) (xs ys : List A) → list_all p (xs ++ ys) ≡ (list_all p xs && list_all p ys)
 all_joined p [] ys = refl
@@ -134,13 +101,7 @@ all_flat p f (x ∷ xs) = all_joined p (f x) (flat_map f xs) ∙ ap (λ b. list_
 
 all_of_both : {A : Type 0} (p q : A → Bool) (xs : List A) → (list_all p xs && list_all q xs) ≡ list_all (λ x. p x && q x) xs
 all_of_both p q [] = refl
-all_of_both p q (x ∷ xs) = swap (p x) (list_all p xs) (q x) (list_all q xs) ∙ ap (λ b. (p x && q x) && b) (all_of_both p q xs)
-  where
-    swap : (a b c d : Bool) → ((a && b) && (c && d)) ≡ ((a && c) && (b && d))
-    swap true true c d = refl
-    swap true false true d = refl
-    swap true false false d = refl
-    swap false b c d = refl
+all_of_both p q (x ∷ xs) = grind (arith, common_steps, all_of_both p q xs)
 
 -- by rows or by columns
 all_always_true : {A : Type 0} (xs : List A) → list_all (λ _. true) xs ≡ true
@@ -152,10 +113,7 @@ all_turned p [] ys = sym (all_always_true ys)
 all_turned p (x ∷ xs) ys = ap (λ b. list_all (p x) ys && b) (all_turned p xs ys) ∙ all_of_both (p x) (λ y. list_all (λ x. p x y) xs) ys
 
 not_all : {A : Type 0} (p : A → Bool) (xs : List A) (x : A) → Contains xs x → p x ≡ false → list_all p xs ≡ false
-not_all p xs x here h = elim (cases_Bool (list_all p xs)) [
-  | inl all ↦ absurd (let e : p x ≡ true = all_at (λ y. p y ≡ true) xs x (all_pass p xs all) here in cc)
-  | inr none ↦ none
-]
+not_all p xs x here h = grind (arith, common_steps, cases_Bool, all_at, all_pass)
 
 -- the first of those that pass is after a moment where all of them are
 first_before : (t : ℕ) (p : Job → Bool) (number g : Job → ℕ) → ((a b : Job) → number a ≤ number b → g a ≤ g b) → (jobs : List Job) → is_before t (option_map g (first_of p (λ a b. is_pair_before (number a) a.id (number b) b.id) jobs)) ≡ list_all (λ j. not (p j) || nat_lt t (g j)) jobs
@@ -190,15 +148,10 @@ first_before t p number g rises jobs = go (first_of p before jobs) refl
 fold_before : {A : Type 0} (t : ℕ) (f : A → Option ℕ) (o : Option ℕ) (xs : List A) → is_before t (fold (λ b x. earlier_of_both b (f x)) o xs) ≡ (is_before t o && list_all (λ x. is_before t (f x)) xs)
 fold_before t f o [] = sym (with_true (is_before t o))
 fold_before t f o (x ∷ xs) =
-    fold_before t f (earlier_of_both o (f x)) xs
-    ∙ ap (λ b. b && list_all (λ x. is_before t (f x)) xs) (before_both t o (f x))
-    ∙ and_thrice (is_before t o) (is_before t (f x)) (list_all (λ x. is_before t (f x)) xs)
+    grind (arith, common_steps, before_both, and_thrice, fold_before t f (earlier_of_both o (f x)) xs)
 
 turned_numbers : (a b : ℕ) → (a == b) ≡ (b == a)
-turned_numbers a b = elim (cases_Bool (a == b)) [
-  | inl x ↦ let y : (b == a) ≡ true = grind (arith, nat_tests) in x ∙ sym y
-  | inr x ↦ let y : (b == a) ≡ false = grind (arith, nat_tests) in x ∙ sym y
-]
+turned_numbers a b = grind (arith, common_steps, cases_Bool)
 
 -- what is due of jobs
 module _ (m : Machine) (t : ℕ) where
@@ -216,46 +169,15 @@ module _ (m : Machine) (t : ℕ) where
   holder_warned : (seat deadline : ℕ) (seats : List SeatRecord) → list_all (warned (states.Reserved seat deadline)) seats ≡ (not (list_any (λ s. s.number == seat && is_waiting s) seats) || nat_lt t (deadline - 1000))
   holder_warned seat deadline [] = refl
   holder_warned seat deadline (s ∷ seats) =
-      ap (λ b. warned (states.Reserved seat deadline) s && b) (holder_warned seat deadline seats)
-      ∙ ap (λ n. (not (is_waiting s) || (not n || nat_lt t (deadline - 1000))) && (not (list_any (λ s. s.number == seat && is_waiting s) seats) || nat_lt t (deadline - 1000))) (turned_numbers seat s.number)
-      ∙ bools (is_waiting s) (s.number == seat) (nat_lt t (deadline - 1000)) (list_any (λ s. s.number == seat && is_waiting s) seats)
-    where
-      bools : (w k d o : Bool) → ((not w || (not k || d)) && (not o || d)) ≡ (not ((k && w) || o) || d)
-      bools true true true true = refl
-      bools true true true false = refl
-      bools true true false o = refl
-      bools true false d o = refl
-      bools false true d o = refl
-      bools false false d o = refl
+      grind (arith, common_steps, turned_numbers, holder_warned seat deadline seats)
 
   nobody_warned : (state : JobState) → ((number : ℕ) → is_holder number state ≡ false) → (seats : List SeatRecord) → list_all (warned state) seats ≡ true
   nobody_warned state free [] = refl
-  nobody_warned state free (s ∷ seats) = rw (free s.number, nobody_warned state free seats) (bools (is_waiting s))
-    where
-      bools : (w : Bool) → ((not w || true) && true) ≡ true
-      bools true = refl
-      bools false = refl
+  nobody_warned state free (s ∷ seats) = grind (arith, common_steps, nobody_warned state free seats)
 
   -- all that is due of a job in this state is after the moment
   state_later : (state : JobState) → (((not (is_delayed state) || nat_lt t (due_of state)) && (not (is_reserved state) || nat_lt t (deadline_of state))) && list_all (warned state) m.seats) ≡ list_all (nat_lt t) (dues_of_state m state)
-  state_later states.Ready = nobody_warned states.Ready (λ n. refl) m.seats
-  state_later (states.Delayed due) = ap (λ b. (nat_lt t due && true) && b) (nobody_warned (states.Delayed due) (λ n. refl) m.seats) ∙ bools (nat_lt t due)
-    where
-      bools : (a : Bool) → ((a && true) && true) ≡ (a && true)
-      bools true = refl
-      bools false = refl
-  state_later (states.Reserved seat deadline) = ap (λ b. nat_lt t deadline && b) (holder_warned seat deadline m.seats) ∙ go (is_waiting_at seat m)
-    where
-      bools : (d e : Bool) → (d && e) ≡ (e && (d && true))
-      bools true true = refl
-      bools true false = refl
-      bools false true = refl
-      bools false false = refl
-
-      go : (w : Bool) → (nat_lt t deadline && (not w || nat_lt t (deadline - 1000))) ≡ list_all (nat_lt t) (if w then (deadline - 1000) ∷ deadline ∷ [] else deadline ∷ [])
-      go true = bools (nat_lt t deadline) (nat_lt t (deadline - 1000))
-      go false = refl
-  state_later (states.Buried number) = nobody_warned (states.Buried number) (λ n. refl) m.seats
+  state_later state = grind (arith, common_steps, nobody_warned, holder_warned)
 
   jobs_later : is_before t (jobs_due m.jobs m.seats) ≡ is_before t (earliest (flat_map (λ j. dues_of_state m j.state) m.jobs))
   jobs_later =

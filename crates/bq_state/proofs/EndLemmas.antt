@@ -10,51 +10,32 @@ use Rattle.bq_state.specs.declared.tubes.pauses.PauseEnd.{PauseEnd}
 use Rattle.bq_state.specs.{Dues.{earlier_of_both, first_pause_end, is_end_over, with_tube_due}, KeptTubes.{KeptTubes, Named, record_at, tubes_kept}}
 use Rattle.bq_state.specs.PauseEnds.{AreEnds, Ends, end_cmp, end_total, ends_at, first_end, found_end, has_end, if_over, is_end_in, is_end_of, with_end, without_end}
 use Rattle.bq_state.proofs.{NamedLemmas.ties, TubeLemmas.same_itself}
+use Rattle.std.proofs.lemmas.Grind.{common_steps}
 
 -- Two ends tie where they are of one moment and of one tube.
 both_equal : (a b : Ordering) → is_eq (ordering_then a b) ≡ (is_eq a && is_eq b)
-both_equal Less b = refl
-both_equal Equal b = refl
-both_equal Greater b = refl
+both_equal a b = grind (arith, common_steps)
 
 numbers_equal : (a b : ℕ) → is_eq (nat_cmp a b) ≡ (a == b)
-numbers_equal a b = elim (cases_Bool (nat_lt a b)) [
-  | inl less ↦ let other : (a == b) ≡ false = grind (arith, nat_tests) in rw (less, other) refl
-  | inr e ↦ elim (cases_Bool (a == b)) [
-    | inl same ↦ rw (e, same) refl
-    | inr other ↦ rw (e, other) refl
-  ]
-]
+numbers_equal a b = grind (arith, common_steps, cases_Bool)
 
 pub ends_tie : (e f : PauseEnd) → is_eq (end_cmp e f) ≡ (e.until == f.until && is_same_name e.name f.name)
-ends_tie e f =
-    both_equal (nat_cmp e.until f.until) (slice_cmp nat_cmp e.name f.name)
-    ∙ (λ i. numbers_equal e.until f.until i && ties e.name f.name i)
+ends_tie e f = grind (arith, common_steps, both_equal, numbers_equal, ties)
 
 -- an end of another tube
 pub ends_apart : (e f : PauseEnd) → is_same_name e.name f.name ≡ false → is_eq (end_cmp e f) ≡ false
-ends_apart e f h = ends_tie e f ∙ ap (λ b. e.until == f.until && b) h ∙ no_more (e.until == f.until)
-  where
-    no_more : (b : Bool) → (b && false) ≡ false
-    no_more true = refl
-    no_more false = refl
+ends_apart e f h = grind (arith, common_steps, ends_tie)
 
 -- an end of the same tube
 pub ends_alike : (e f : PauseEnd) → is_same_name e.name f.name ≡ true → is_eq (end_cmp e f) ≡ (e.until == f.until)
-ends_alike e f h = ends_tie e f ∙ ap (λ b. e.until == f.until && b) h ∙ that_alone (e.until == f.until)
-  where
-    that_alone : (b : Bool) → (b && true) ≡ b
-    that_alone true = refl
-    that_alone false = refl
+ends_alike e f h = grind (arith, common_steps, ends_tie)
 
 -- what is found after an end was put in, and after one was taken out
 if_there : (b : Bool) (o : Option (Unit {0})) → is_some (cond b (Some tt) o) ≡ (b || is_some o)
-if_there true o = refl
-if_there false o = refl
+if_there b o = grind (arith, common_steps)
 
 if_gone : (b : Bool) (o : Option (Unit {0})) → is_some (cond b None o) ≡ cond b false (is_some o)
-if_gone true o = refl
-if_gone false o = refl
+if_gone b o = grind (arith, common_steps)
 
 pub has_entered : (q e : PauseEnd) (ends : Ends) → found_end e ends ≡ None → has_end q (with_end (Some e) ends) ≡ (is_eq (end_cmp q e) || has_end q ends)
 has_entered q e ends absent = ap is_some (lookup_inserted end_total q e tt ends absent) ∙ if_there (is_eq (end_cmp q e)) (found_end q ends)
@@ -64,13 +45,7 @@ has_left q e ends s = ap is_some (lookup_removed end_total q e ends s) ∙ if_go
 
 -- The first end is the least.
 not_later : (a b : ℕ) (o : Ordering) → ordering_then (nat_cmp a b) o ≡ Less → a ≤ b
-not_later a b o h = elim (cases_Bool (nat_lt a b)) [
-  | inl less ↦ grind (arith, nat_tests)
-  | inr e ↦ elim (cases_Bool (a == b)) [
-    | inl same ↦ grind (arith, nat_tests)
-    | inr other ↦ absurd (let g = rw (e, other) at h in cc)
-  ]
-]
+not_later a b o h = grind (arith, common_steps, cases_Bool)
 
 above : (x q : PauseEnd) (ends : Ends) → All (λ k. end_cmp x k ≡ Less) (keys_of ends) → has_end q ends ≡ true → end_cmp x q ≡ Less
 above x q [] a h = absurd cc
@@ -87,8 +62,7 @@ least_end x ends s q h = elim (cases_Bool (is_eq (end_cmp q x.0))) [
 ]
   where
     first_of_both : (a b : Bool) → (a && b) ≡ true → a ≡ true
-    first_of_both true b h = refl
-    first_of_both false b h = absurd cc
+    first_of_both a b h = grind (arith, common_steps)
 
 -- None is kept, where no tube is paused.
 pub same_moment : (n : ℕ) → (n == n) ≡ true
@@ -111,8 +85,7 @@ none_stays (t ∷ ts) best none =
     ∙ none_stays ts best (λ e. (or_parts (is_end_of e t) (is_end_in e ts) (none e)).1)
   where
     no_other : (a : Option ℕ) → earlier_of_both a None ≡ a
-    no_other None = refl
-    no_other (Some a) = refl
+    no_other a = grind (arith, common_steps)
 
 -- The pauses of these tubes end at this moment or later.
 abbrev AreFrom : ℕ → List TubeRecord → Type 0
@@ -132,13 +105,10 @@ rest_from : (m : ℕ) (t : TubeRecord) (ts : List TubeRecord) → AreFrom m (t �
 rest_from m t ts all e h = all e (ap (λ b. is_end_of e t || b) h ∙ or-true (is_end_of e t))
 
 both_from : (m : ℕ) (a b : Option ℕ) → IsFrom m a → IsFrom m b → IsFrom m (earlier_of_both a b)
-both_from m None b ha hb = hb
-both_from m (Some a) None ha hb = ha
-both_from m (Some a) (Some b) ha hb = omega (arith, ha, hb)
+both_from m a b ha hb = grind (arith, common_steps)
 
 stays_least : (m : ℕ) (b : Option ℕ) → IsFrom m b → earlier_of_both (Some m) b ≡ Some m
-stays_least m None h = refl
-stays_least m (Some b) h = ap (λ n. Some n) (let g : min m b ≡ m = omega (arith, h) in g)
+stays_least m b h = grind (arith, common_steps)
 
 least_stays : (m : ℕ) (ts : List TubeRecord) → AreFrom m ts → fold with_tube_due (Some m) ts ≡ Some m
 least_stays m [] all = refl
@@ -147,9 +117,7 @@ least_stays m (t ∷ ts) all =
     ∙ least_stays m ts (rest_from m t ts all)
 
 becomes_least : (m : ℕ) (best : Option ℕ) (p : Option PauseRecord) → IsFrom m best → ends_at m p ≡ true → earlier_of_both best (earliest (dues_of_pause p)) ≡ Some m
-becomes_least m best None h at = absurd cc
-becomes_least m None (Some p) h at = ap (λ n. Some n) (let g : p.until ≡ m = grind (arith, nat_tests) in g)
-becomes_least m (Some b) (Some p) h at = ap (λ n. Some n) (let e : p.until ≡ m = grind (arith, nat_tests) in let g : min b p.until ≡ m = omega (arith, h, e) in g)
+becomes_least m best p h at = grind (arith, common_steps)
 
 least_found : (m : ℕ) (ts : List TubeRecord) (best : Option ℕ) → IsFrom m best → AreFrom m ts → list_any (λ t. ends_at m t.pause) ts ≡ true → fold with_tube_due best ts ≡ Some m
 least_found m [] best h all hit = absurd cc
@@ -167,34 +135,18 @@ hit_of e (t ∷ ts) h = elim (cases_Bool (is_end_of e t)) [
 ]
   where
     second_of_both : (a b : Bool) → (a && b) ≡ true → b ≡ true
-    second_of_both true b h = h
-    second_of_both false b h = absurd cc
+    second_of_both a b h = grind (arith, common_steps)
 
 first_there : (x : PauseEnd × Unit {0}) (ends : Ends) → has_end x.0 (x ∷ ends) ≡ true
 first_there x ends = ap (λ b. is_some (cond b (Some x.1) (found_end x.0 ends))) (ends_tie x.0 x.0 ∙ (λ i. (same_moment x.0.until i) && (same_itself x.0.name i)))
 
 -- The first end that has come is one of them, and has come.
 pub one_over : (moment : ℕ) (e : PauseEnd) (ends : Ends) → Some e ≡ if_over moment (first_end ends) → (has_end e ends ≡ true) × (nat_le e.until moment ≡ true)
-one_over moment e [] h = absurd (let g : Some e ≡ None = h in cc)
-one_over moment e (x ∷ ends) h = go (nat_le x.0.until moment) refl h
-  where
-    same : (a b : PauseEnd) → Some a ≡ Some b → b ≡ a
-    same a b h = cc
-
-    go : (b : Bool) → nat_le x.0.until moment ≡ b → Some e ≡ (if b then Some x.0 else None) → (has_end e (x ∷ ends) ≡ true) × (nat_le e.until moment ≡ true)
-    go true come h =
-        let is : x.0 ≡ e = same e x.0 h in
-        subst (λ (y : PauseEnd). (has_end y (x ∷ ends) ≡ true) × (nat_le y.until moment ≡ true)) is (first_there x ends, come)
-    go false come h = absurd (let g : Some e ≡ None = h in cc)
+one_over moment e ends h = grind (arith, common_steps, first_there)
 
 -- Where none has come, no pause is over.
 pub none_over_yet : (moment : ℕ) (o : Option PauseEnd) → None ≡ if_over moment o → is_end_over moment (option_map (λ e. e.until) o) ≡ false
-none_over_yet moment None h = refl
-none_over_yet moment (Some e) h = go (nat_le e.until moment) h
-  where
-    go : (b : Bool) → None ≡ (if b then Some e else None) → b ≡ false
-    go true h = absurd (let g : None ≡ Some e = h in cc)
-    go false h = refl
+none_over_yet moment o h = grind (arith, common_steps)
 
 -- The first pause ends at the first of the ends.
 pub first_is : (entries : List TubeRecord) (ends : CatalogSeen PauseEnd (Unit {0})) → AreEnds entries ends → InOrder end_cmp ends.entries → option_map (λ e. e.until) (first_end ends.entries) ≡ first_pause_end entries

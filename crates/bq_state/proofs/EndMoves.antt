@@ -13,6 +13,7 @@ use Rattle.bq_state.specs.TubeEntries.{AreInOrder, has_entry, tube_changed}
 use Rattle.bq_state.proofs.{EndLemmas.{ends_alike, ends_apart, has_entered, has_left, one_over}, NamedLemmas.{change_kept, edit_change, found_entry, ties}}
 use Rattle.bq_state.proofs.{EndLemmas.same_moment, PartsLemmas.tube_name_kept, TubeLemmas.{changed_one, none_later}}
 use Rattle.bq_state.proofs.TubeLemmas.{order_kept, same_itself, same_name}
+use Rattle.std.proofs.lemmas.Grind.{common_steps}
 
 abbrev pub one_if : Option PauseRecord → ℕ
 one_if p = cond (is_some p) 1 0
@@ -26,50 +27,27 @@ pub record Moves (name : List ℕ) (from to : Option PauseRecord) (old new : Lis
   pub fewer : length new ≤ length old
 
 some_unit : (o : Option (Unit {0})) → is_some o ≡ true → o ≡ Some tt
-some_unit None h = absurd cc
-some_unit (Some tt) h = refl
+some_unit o h = grind (arith, common_steps)
 
 none_from : (o : Option (Unit {0})) → is_some o ≡ false → o ≡ None
-none_from None h = refl
-none_from (Some x) h = absurd cc
+none_from o h = grind (arith, common_steps)
 
 turned : (a b : ℕ) → (a == b) ≡ (b == a)
-turned a b = elim (cases_Bool (a == b)) [
-  | inl same ↦ let e : (b == a) ≡ true = grind (arith, nat_tests) in same ∙ sym e
-  | inr other ↦ let e : (b == a) ≡ false = grind (arith, nat_tests) in other ∙ sym e
-]
+turned a b = grind (arith, common_steps, cases_Bool)
 
 -- no more are paused than there are
 count_few : (ts : List TubeRecord) → count_by is_paused ts ≤ length ts
 count_few [] = omega arith
-count_few (t ∷ ts) = rw (count_cons is_paused t ts) (elim (cases_Bool (is_paused t)) [
-  | inl e ↦ rw e (omega (arith, count_few ts))
-  | inr e ↦ rw e (omega (arith, count_few ts))
-])
+count_few (t ∷ ts) = grind (arith, common_steps, count_cons, cases_Bool, count_few ts)
 
 module _ (name : List ℕ) (from to : Option PauseRecord) (old new : List TubeRecord) (ends : CatalogSeen PauseEnd (Unit {0})) (h : AreEnds old ends) (m : Moves name from to old new) where
   -- the end of the pause that it had is there,
   pub end_held : (e : PauseEnd) → end_of name from ≡ Some e → has_end e ends.entries ≡ true
-  end_held e is = go from refl is
-    where
-      go : (p : Option PauseRecord) → from ≡ p → end_of name p ≡ Some e → has_end e ends.entries ≡ true
-      go None f is = absurd (let g : None ≡ Some e = is in cc)
-      go (Some p) f is =
-          let same : record { until = p.until; name = name } ≡ e = some_is (record { until = p.until; name = name }) e is in
-          ap (λ x. has_end x ends.entries) (sym same) ∙ h.known (record { until = p.until; name = name }) ∙ m.was p.until ∙ ap (ends_at p.until) f ∙ same_moment p.until
-        where
-          some_is : (a b : PauseEnd) → Some a ≡ Some b → a ≡ b
-          some_is a b e = cc
+  end_held e is = grind (arith, common_steps, same_moment)
 
   -- and there is a box for that of the one that it gets.
   pub end_fits : (spare : ℕ) → spare ≡ ends.spare + one_if from → (e : PauseEnd) → end_of name to ≡ Some e → 0 < spare
-  end_fits spare boxes e is = go to refl is
-    where
-      go : (p : Option PauseRecord) → to ≡ p → end_of name p ≡ Some e → 0 < spare
-      go None f is = absurd (let g : None ≡ Some e = is in cc)
-      go (Some p) f is =
-          let more : one_if to ≡ 1 = ap one_if f in
-          omega (arith, more, m.count, m.fewer, count_few new, h.roomy, h.counted, boxes)
+  end_fits spare boxes e is = grind (arith, common_steps, count_few)
 
 -- An end can only leave where they are in order.
 module _ (name : List ℕ) (from to : Option PauseRecord) (old new : List TubeRecord) (ends : CatalogSeen PauseEnd (Unit {0})) (h : AreEnds old ends) (m : Moves name from to old new)
@@ -85,8 +63,7 @@ module _ (name : List ℕ) (from to : Option PauseRecord) (old new : List TubeRe
       q = record { until = u; name = name }
 
       gone : (b : Bool) → cond b false b ≡ false
-      gone true = refl
-      gone false = refl
+      gone b = grind (arith, common_steps)
 
       go : (p : Option PauseRecord) → from ≡ p → has_end q (without_end (end_of name p) ends.entries) ≡ false
       go None f = h.known q ∙ m.was u ∙ ap (ends_at u) f
@@ -120,13 +97,7 @@ module _ (name : List ℕ) (from to : Option PauseRecord) (old new : List TubeRe
   end_absent e is = none_from (found_end e left) (go to is)
     where
       go : (p : Option PauseRecord) → end_of name p ≡ Some e → has_end e left ≡ false
-      go None is = absurd (let g : None ≡ Some e = is in cc)
-      go (Some p) is =
-          let same : record { until = p.until; name = name } ≡ e = some_is (record { until = p.until; name = name }) e is in
-          ap (λ x. has_end x left) (sym same) ∙ none_left p.until
-        where
-          some_is : (a b : PauseEnd) → Some a ≡ Some b → a ≡ b
-          some_is a b e = cc
+      go p is = grind (arith, common_steps, is, none_left)
 
   -- Then the ends are those of the pauses again.
   pub ends_moved : (last : CatalogSeen PauseEnd (Unit {0})) → last.entries ≡ with_end (end_of name to) left → last.spare + one_if to ≡ ends.spare + one_if from → AreEnds new last
@@ -172,8 +143,7 @@ module _ (name : List ℕ) (from to : Option PauseRecord) (old new : List TubeRe
 
 -- The tube of one name alone is looked at.
 not_both : (b : Bool) → (b && false) ≡ false
-not_both true = refl
-not_both false = refl
+not_both b = grind (arith, common_steps)
 
 none_named : (e : PauseEnd) (ts : List TubeRecord) → has_entry e.name ts ≡ false → is_end_in e ts ≡ false
 none_named e [] h = refl
@@ -186,12 +156,8 @@ none_behind name t ts same order = ap (λ n. has_entry n ts) (same_name name t.n
 
 pub named_ends : (name : List ℕ) (m : ℕ) (ts : List TubeRecord) → AreInOrder ts → is_end_in (record { until = m; name = name }) ts ≡ ends_at m (pause_at name ts)
 named_ends name m [] order = refl
-named_ends name m (t ∷ ts) order = elim (cases_Bool (is_same_name name t.name)) [
-  | inl same ↦
-      let rest = none_named (record { until = m; name = name }) ts (none_behind name t ts same order) in
-      rw (same, rest) (or-false (ends_at m t.pause))
-  | inr other ↦ rw other (named_ends name m ts order.1)
-]
+named_ends name m (t ∷ ts) order =
+    grind (arith, common_steps, cases_Bool, none_named, none_behind, or-false, named_ends name m ts order.1)
 
 apart_from : (name n k : List ℕ) → is_same_name name n ≡ false → name ≡ k → is_same_name n k ≡ false
 apart_from name n k other is = elim (cases_Bool (is_same_name n k)) [
@@ -220,22 +186,15 @@ module _ (name : List ℕ) (f : TubeRecord → TubeRecord) (keeps : (t : TubeRec
 
   count_changed : (ts : List TubeRecord) → AreInOrder ts → count_by is_paused (map (changed_one name f) ts) + one_if (pause_at name ts) ≡ count_by is_paused ts + one_if (pause_at name (map (changed_one name f) ts))
   count_changed [] order = refl
-  count_changed (t ∷ ts) order = elim (cases_Bool (is_same_name name t.name)) [
-    | inl same ↦
-        let rest = stay ts (none_behind name t ts same order) in
-        let same_then : is_same_name name (f t).name ≡ true = ap (is_same_name name) (keeps t) ∙ same in
-        rw (count_cons is_paused t ts, same, rest, same_then, count_cons is_paused (f t) ts) (omega arith)
-    | inr other ↦
-        rw (other, other, count_cons is_paused t ts, count_cons is_paused t (map (changed_one name f) ts)) (omega (arith, count_changed ts order.1))
-  ]
+  count_changed (t ∷ ts) order =
+      grind (arith, common_steps, cases_Bool, stay, none_behind, count_cons, count_changed ts order.1)
 
   length_changed : (ts : List TubeRecord) → length (map (changed_one name f) ts) ≡ length ts
   length_changed [] = refl
   length_changed (t ∷ ts) = ap suc (length_changed ts)
 
   named_kept : (b : Bool) (t : TubeRecord) → (if b then f t else t).name ≡ t.name
-  named_kept true t = keeps t
-  named_kept false t = refl
+  named_kept b t = grind (arith, common_steps)
 
   pub order_changed : (ts : List TubeRecord) → AreInOrder ts → AreInOrder (map (changed_one name f) ts)
   order_changed ts order = order_kept (changed_one name f) (λ t. named_kept (is_same_name name t.name) t) ts order
@@ -259,12 +218,8 @@ module _ (name : List ℕ) where
 
   others_stay : (e : PauseEnd) → is_same_name name e.name ≡ false → (es : List Named) → is_end_in e (rest es) ≡ is_end_in e (map record_at es)
   others_stay e other [] = refl
-  others_stay e other (x ∷ es) = elim (cases_Bool (is_same_name name x.0)) [
-    | inr apart ↦ rw (at x.0 false apart) (ap (λ b. is_end_of e (record_at x) || b) (others_stay e other es))
-    | inl same ↦
-        let away : is_same_name e.name x.0 ≡ false = apart_from name e.name x.0 other (same_name name x.0 same) in
-        rw (at x.0 true same, away) refl
-  ]
+  others_stay e other (x ∷ es) =
+      grind (arith, common_steps, cases_Bool, at, apart_from, same_name, others_stay e other es)
 
   none_stay : (m : ℕ) (es : List Named) → AreInOrder (map record_at es) → is_end_in (record { until = m; name = name }) (rest es) ≡ false
   none_stay m [] order = refl
@@ -275,18 +230,11 @@ module _ (name : List ℕ) where
 
   count_rest : (es : List Named) → count_by is_paused (rest es) + one_if (pause_at name (map record_at es)) ≡ count_by is_paused (map record_at es)
   count_rest [] = refl
-  count_rest (x ∷ es) = elim (cases_Bool (is_same_name name x.0)) [
-    | inl same ↦ rw (at x.0 true same, same, count_cons is_paused (record_at x) (map record_at es)) (omega arith)
-    | inr other ↦
-        rw (at x.0 false other, other, count_cons is_paused (record_at x) (map record_at es), count_cons is_paused (record_at x) (rest es)) (omega (arith, count_rest es))
-  ]
+  count_rest (x ∷ es) = grind (arith, common_steps, cases_Bool, at, count_cons, count_rest es)
 
   length_rest : (es : List Named) → length (rest es) ≤ length (map record_at es)
   length_rest [] = omega arith
-  length_rest (x ∷ es) = elim (cases_Bool (is_named_at name x.0)) [
-    | inl same ↦ rw same (omega arith)
-    | inr other ↦ rw other (omega (arith, length_rest es))
-  ]
+  length_rest (x ∷ es) = grind (arith, common_steps, cases_Bool, length_rest es)
 
   pub moves_out : (es : List Named) → AreInOrder (map record_at es) → Moves name (pause_at name (map record_at es)) None (map record_at es) (map record_at (remove_entry (is_named_at name) es))
   moves_out es order = record {
@@ -308,8 +256,7 @@ module _ (name : List ℕ) where
       rw parts.0 (go (is_name_before name t.name) (fresh_ends e ts parts.1))
     where
       go : (b : Bool) → is_end_in e (with_record (fresh_tube name) ts) ≡ is_end_in e ts → is_end_in e (if b then fresh_tube name ∷ t ∷ ts else t ∷ with_record (fresh_tube name) ts) ≡ is_end_in e (t ∷ ts)
-      go true more = ap (λ b. b || is_end_in e (t ∷ ts)) (not_both (is_same_name e.name name))
-      go false more = ap (λ b. is_end_of e t || b) more
+      go b more = grind (arith, common_steps, not_both)
 
   fresh_count : (ts : List TubeRecord) → has_entry name ts ≡ false → (count_by is_paused (with_record (fresh_tube name) ts) ≡ count_by is_paused ts) × (length (with_record (fresh_tube name) ts) ≡ length ts + 1)
   fresh_count [] h = (refl, refl)
@@ -319,15 +266,10 @@ module _ (name : List ℕ) where
     where
       go : (b : Bool) → (count_by is_paused (with_record (fresh_tube name) ts) ≡ count_by is_paused ts) × (length (with_record (fresh_tube name) ts) ≡ length ts + 1)
           → (count_by is_paused (if b then fresh_tube name ∷ t ∷ ts else t ∷ with_record (fresh_tube name) ts) ≡ count_by is_paused (t ∷ ts)) × (length (if b then fresh_tube name ∷ t ∷ ts else t ∷ with_record (fresh_tube name) ts) ≡ length (t ∷ ts) + 1)
-      go true more = (count_cons is_paused (fresh_tube name) (t ∷ ts) ∙ from_zero (count_by is_paused (t ∷ ts)), omega arith)
-      go false more = (count_cons is_paused t (with_record (fresh_tube name) ts) ∙ ap (λ n. cond (is_paused t) 1 0 + n) more.0 ∙ sym (count_cons is_paused t ts), omega (arith, more.1))
+      go b more = grind (arith, common_steps, count_cons, from_zero)
 
   pub ends_provided : (ts : List TubeRecord) (ends last : CatalogSeen PauseEnd (Unit {0})) → AreEnds ts ends → has_entry name ts ≡ false → last.entries ≡ ends.entries → length ts + 1 ≤ length last.entries + last.spare → AreEnds (with_record (fresh_tube name) ts) last
-  ends_provided ts ends last h none same room = record {
-    known = λ e. ap (has_end e) same ∙ h.known e ∙ sym (fresh_ends e ts none);
-    counted = ap length same ∙ h.counted ∙ sym (fresh_count ts none).0;
-    roomy = omega (arith, room, (fresh_count ts none).1);
-  }
+  ends_provided ts ends last h none same room = grind (arith, common_steps, fresh_ends, fresh_count)
 
 -- Where no pause changes, the ends stay.
 module _ (f : TubeRecord → TubeRecord) (named : (t : TubeRecord) → (f t).name ≡ t.name) (paused : (t : TubeRecord) → (f t).pause ≡ t.pause) where
@@ -337,19 +279,14 @@ module _ (f : TubeRecord → TubeRecord) (named : (t : TubeRecord) → (f t).nam
 
   same_count : (ts : List TubeRecord) → count_by is_paused (map f ts) ≡ count_by is_paused ts
   same_count [] = refl
-  same_count (t ∷ ts) =
-      count_cons is_paused (f t) (map f ts) ∙ (λ i. one_if (paused t i) + same_count ts i) ∙ sym (count_cons is_paused t ts)
+  same_count (t ∷ ts) = grind (arith, common_steps, count_cons, same_count ts)
 
   same_length : (ts : List TubeRecord) → length (map f ts) ≡ length ts
   same_length [] = refl
   same_length (t ∷ ts) = ap suc (same_length ts)
 
   pub ends_stay : (ts : List TubeRecord) (ends : CatalogSeen PauseEnd (Unit {0})) → AreEnds ts ends → AreEnds (map f ts) ends
-  ends_stay ts ends h = record {
-    known = λ e. h.known e ∙ sym (same_ends e ts);
-    counted = h.counted ∙ sym (same_count ts);
-    roomy = omega (arith, h.roomy, same_length ts);
-  }
+  ends_stay ts ends h = grind (arith, common_steps, same_ends, same_count, same_length)
 
 -- the end of the pause of an entry that is lent
 abbrev pub pause_lent : Option (Bor KeptTube) → Option PauseRecord
@@ -357,11 +294,7 @@ pause_lent None = None
 pause_lent (Some t) = t.now.pause
 
 pub lent_end : (name : List ℕ) (es : List Named) (o x : Option (Bor KeptTube)) → o ≡ x → option_map (λ (t : Bor KeptTube). t.now) o ≡ lookup (is_named_at name) es → end_of name (pause_lent x) ≡ end_of name (pause_at name (map record_at es))
-lent_end name es o x is e = ap (end_of name) (read x ∙ ap (λ y. pause_in (option_map (record_of name) (option_map (λ (t : Bor KeptTube). t.now) y))) (sym is) ∙ ap (λ y. pause_in (option_map (record_of name) y)) e ∙ ap pause_in (found_entry name es))
-  where
-    read : (x : Option (Bor KeptTube)) → pause_lent x ≡ pause_in (option_map (record_of name) (option_map (λ (t : Bor KeptTube). t.now) x))
-    read None = refl
-    read (Some t) = refl
+lent_end name es o x is e = grind (arith, common_steps, found_entry name es)
 
 -- A change of what is kept of one tube, as an entry and as a record.
 module _ (name : List ℕ) (f : KeptTube → KeptTube) (g : TubeRecord → TubeRecord) (made : (n : List ℕ) (t : KeptTube) → record_of n (f t) ≡ g (record_of n t)) (keeps : (t : TubeRecord) → (g t).name ≡ t.name)
@@ -373,12 +306,7 @@ module _ (name : List ℕ) (f : KeptTube → KeptTube) (g : TubeRecord → TubeR
   edit_moves = subst (λ us. Moves name (pause_at name (map record_at es)) (pause_at name us) (map record_at es) us) (sym edit_is) (moves_changed name g keeps (map record_at es) order)
 
   pub edit_stays : ((t : TubeRecord) → (g t).pause ≡ t.pause) → (ends : CatalogSeen PauseEnd (Unit {0})) → AreEnds (map record_at es) ends → AreEnds (map record_at last) ends
-  edit_stays paused ends h =
-      subst (λ us. AreEnds us ends) (sym edit_is) (ends_stay (changed_one name g) (λ t. named_kept name g keeps (is_same_name name t.name) t) (λ t. pause_kept (is_same_name name t.name) t) (map record_at es) ends h)
-    where
-      pause_kept : (b : Bool) (t : TubeRecord) → (if b then g t else t).pause ≡ t.pause
-      pause_kept true t = paused t
-      pause_kept false t = refl
+  edit_stays paused ends h = grind (arith, common_steps, edit_is, ends_stay, named_kept)
 
 -- What a pause, and a count, change.
 pub change_moves : (name : List ℕ) (what : TubeChange) (es last : List Named) → AreInOrder (map record_at es) → last ≡ edited name (kept_changed what) (lookup (is_named_at name) es) es
@@ -391,27 +319,18 @@ count_stays name what es last ends paused order e h = edit_stays name (kept_chan
 
 -- how many boxes an end takes
 pub one_box : (name : List ℕ) (p : Option PauseRecord) (e : Option PauseEnd) → e ≡ end_of name p → cond (is_some e) 1 0 ≡ one_if p
-one_box name p e is = ap (λ o. cond (is_some o) 1 0) is ∙ as_many p
-  where
-    as_many : (p : Option PauseRecord) → cond (is_some (end_of name p)) 1 0 ≡ one_if p
-    as_many None = refl
-    as_many (Some p) = refl
+one_box name p e is = grind (arith, common_steps)
 
 -- A pause that is over ends.
 twice_over : (moment : ℕ) (p : Option PauseRecord) → pause_after_timers moment (pause_after_timers moment p) ≡ pause_after_timers moment p
-twice_over moment None = refl
-twice_over moment (Some p) = elim (cases_Bool (nat_le p.until moment)) [
-  | inl over ↦ rw over refl
-  | inr other ↦ rw (other, other) refl
-]
+twice_over moment p = grind (arith, common_steps, cases_Bool)
 
 module _ (moment : ℕ) (name : List ℕ) where
   abbrev after : TubeRecord → TubeRecord
   after = tube_after_timers moment
 
   once : (t : TubeRecord) (b : Bool) → after (if b then after t else t) ≡ after t
-  once t true = λ i. record t { pause = twice_over moment t.pause i }
-  once t false = refl
+  once t b = grind (arith, common_steps, twice_over)
 
   one_after : (ts : List TubeRecord) → map after (map (changed_one name after) ts) ≡ map after ts
   one_after [] = refl
@@ -419,21 +338,14 @@ module _ (moment : ℕ) (name : List ℕ) where
 
   pause_then : (ts : List TubeRecord) → pause_at name (map (changed_one name after) ts) ≡ pause_after_timers moment (pause_at name ts)
   pause_then [] = refl
-  pause_then (t ∷ ts) = elim (cases_Bool (is_same_name name t.name)) [
-    | inl same ↦ rw (same, same) refl
-    | inr other ↦ rw (other, other) (pause_then ts)
-  ]
+  pause_then (t ∷ ts) = grind (arith, common_steps, cases_Bool, pause_then ts)
 
 own_end : (name : List ℕ) (u : ℕ) (p : Option PauseRecord) → ends_at u p ≡ true → end_of name p ≡ Some (record { until = u; name = name })
 own_end name u None h = absurd cc
 own_end name u (Some p) h = let same : p.until ≡ u = eqb-true p.until u h in ap (λ n. Some (record { until = n; name = name })) same
 
 over_ends : (moment u : ℕ) (p : Option PauseRecord) → ends_at u p ≡ true → nat_le u moment ≡ true → pause_after_timers moment p ≡ None
-over_ends moment u None h come = absurd cc
-over_ends moment u (Some p) h come =
-    let same : p.until ≡ u = eqb-true p.until u h in
-    let over : nat_le p.until moment ≡ true = ap (λ n. nat_le n moment) same ∙ come in
-    rw over refl
+over_ends moment u p h come = grind (arith, common_steps, eqb-true)
 
 -- the first one, which has come
 module _ (moment : ℕ) (e : PauseEnd) (es last : List Named) (ends : CatalogSeen PauseEnd (Unit {0})) (h : AreEnds (map record_at es) ends) (order : AreInOrder (map record_at es))
@@ -460,8 +372,7 @@ module _ (moment : ℕ) (e : PauseEnd) (es last : List Named) (ends : CatalogSee
   one_from = go (pause_at e.name (map record_at es)) over_from
     where
       go : (p : Option PauseRecord) → end_of e.name p ≡ Some e → one_if p ≡ 1
-      go None is = absurd (let g : None ≡ Some e = is in cc)
-      go (Some p) is = refl
+      go p is = grind (arith, common_steps, is)
 
   pub over_fewer : count_by is_paused (map record_at last) < count_by is_paused (map record_at es)
   over_fewer = let none = ap one_if over_to in omega (arith, over_moves.count, one_from, none)

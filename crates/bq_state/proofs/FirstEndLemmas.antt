@@ -8,6 +8,7 @@ use Rattle.bq_job.proofs.{KeptLemmas.only_seat, ListLemmas.{all_both, all_of_map
 use Rattle.bq_state.specs.declared.{known.FirstEnd.{FirstEnd, TheVariants.{Known, Unknown}}, seats.SeatChange.{SeatChange, TheVariants.{Clear, Connect, End, StopWaiting, Use, Wait as WaitFrom}}}
 use Rattle.bq_state.specs.{Dues.{earlier_of_both, is_end_over, with_seat_due}, EndingWaits.has_waited, FirstEnds.{AreTimeouts, IsThere, end_after, gives_up_at, keeps_end}, SeatChanges.{AreNumbered, seat_changed, seat_changed_at}}
 use Rattle.bq_state.proofs.{CrowdLemmas.none_changed, PartsLemmas.{all_read, all_set}}
+use Rattle.std.proofs.lemmas.Grind.{common_steps}
 
 -- the same moments, and so the same first one
 fold_kept : (g : SeatRecord → SeatRecord) (best : Option ℕ) (seats : List SeatRecord) → All (λ s. gives_up_at (g s) ≡ gives_up_at s) seats → fold with_seat_due best (map g seats) ≡ fold with_seat_due best seats
@@ -20,32 +21,14 @@ fold_set best (t ∷ seats) zero s new same here = let is : t ≡ s = cc in ap (
 fold_set best (t ∷ seats) (suc i) s new same here = fold_set (earlier_of_both best (gives_up_at t)) seats i s new same here
 
 no_moment : (o : Option ℕ) → not (is_some o) ≡ true → None ≡ o
-no_moment None h = refl
-no_moment (Some due) h = absurd cc
+no_moment o h = grind (arith, common_steps)
 
 -- a change that keeps it
 same_end : (what : SeatChange) (s : SeatRecord) → keeps_end what s ≡ true → gives_up_at (seat_changed what s) ≡ gives_up_at s
-same_end StopWaiting s h = no_moment (gives_up_at s) h
-same_end (WaitFrom ticket until) s h =
-    let parts = and_parts (not (is_some until) && not (is_some (gives_up_at s))) (not s.ended) h in
-    let none = and_parts (not (is_some until)) (not (is_some (gives_up_at s))) parts.0 in
-    ap (λ o. earliest (dues_of_until o)) (sym (no_moment until none.0)) ∙ no_moment (gives_up_at s) none.1
-same_end Connect s h = no_moment (gives_up_at s) h
-same_end Clear s h = no_moment (gives_up_at s) h
-same_end End s h = refl
-same_end (Use tube) s h = refl
+same_end what s h = grind (arith, common_steps, no_moment, and_parts)
 
 still_there : (what : SeatChange) (s : SeatRecord) → keeps_end what s ≡ true → IsThere s → IsThere (seat_changed what s)
-still_there StopWaiting s h there = refl
-still_there (WaitFrom ticket until) s h there = not-true s.ended (and_parts (not (is_some until) && not (is_some (gives_up_at s))) (not s.ended) h).1
-still_there Connect s h there = refl
-still_there Clear s h there = refl
-still_there End s h there = go (is_waiting s) (not-true (is_waiting s) h)
-  where
-    go : (w : Bool) → w ≡ false → (w && true) ≡ false
-    go true e = absurd cc
-    go false e = refl
-still_there (Use tube) s h there = there
+still_there what s h there = grind (arith, common_steps, not-true, and_parts)
 
 pub timeouts_of_seat : (number : ℕ) (what : SeatChange) (first : FirstEnd) (seats : List SeatRecord) → AreNumbered seats → AreTimeouts first seats
     → AreTimeouts (end_after what (seat_with number seats) first) (map (seat_changed_at number what) seats)
@@ -53,16 +36,13 @@ timeouts_of_seat number what first seats numbered known = go (seat_with number s
   where
     kept : (s : SeatRecord) → seat_with number seats ≡ Some s → keeps_end what s ≡ true → All (λ t. t.number ≡ number → keeps_end what t ≡ true) seats
     kept s found h =
-        all_weaker (λ t. t.number ≡ number → t ≡ s) (λ t. t.number ≡ number → keeps_end what t ≡ true) seats (λ t only e. ap (keeps_end what) (only e) ∙ h)
-        (only_seat 0 (length seats) number seats s numbered found)
+        grind (arith, common_steps, cases_Bool, all_weaker, only_seat 0 (length seats) number seats s numbered found)
 
     due : (t : SeatRecord) → (t.number ≡ number → keeps_end what t ≡ true) → (b : Bool) → (t.number == number) ≡ b → gives_up_at (if b then seat_changed what t else t) ≡ gives_up_at t
-    due t keeps true e = same_end what t (keeps (eqb-true t.number number e))
-    due t keeps false e = refl
+    due t keeps b e = grind (arith, common_steps, same_end, eqb-true)
 
     there : (t : SeatRecord) → (t.number ≡ number → keeps_end what t ≡ true) → IsThere t → (b : Bool) → (t.number == number) ≡ b → IsThere (if b then seat_changed what t else t)
-    there t keeps is true e = still_there what t (keeps (eqb-true t.number number e)) is
-    there t keeps is false e = is
+    there t keeps is b e = grind (arith, common_steps, still_there, eqb-true)
 
     all_kept : (f : FirstEnd) → AreTimeouts f seats → All (λ t. t.number ≡ number → keeps_end what t ≡ true) seats → AreTimeouts f (map (seat_changed_at number what) seats)
     all_kept Unknown known keeps = tt
@@ -91,37 +71,16 @@ timeouts_watching names i s (Known at) seats here known =
 
 -- whether a moment has come that is the first of some
 over_min : (moment a b : ℕ) → nat_le (min a b) moment ≡ (nat_le a moment || nat_le b moment)
-over_min moment a b = elim (cases_Bool (nat_le a moment)) [
-  | inl x ↦ let z : nat_le (min a b) moment ≡ true = grind (arith, nat_tests) in rw x z
-  | inr x ↦ elim (cases_Bool (nat_le b moment)) [
-    | inl y ↦ let z : nat_le (min a b) moment ≡ true = grind (arith, nat_tests) in rw (x, y) z
-    | inr y ↦ let z : nat_le (min a b) moment ≡ false = grind (arith, nat_tests) in rw (x, y) z
-  ]
-]
+over_min moment a b = grind (arith, common_steps, cases_Bool)
 
 over_both : (moment : ℕ) (o u : Option ℕ) → is_end_over moment (earlier_of_both o u) ≡ (is_end_over moment o || is_end_over moment u)
-over_both moment None u = refl
-over_both moment (Some a) None = sym (or-false (nat_le a moment))
-over_both moment (Some a) (Some b) = over_min moment a b
+over_both moment o u = grind (arith, common_steps, or-false, over_min)
 
 over_all : (moment : ℕ) (best : Option ℕ) (seats : List SeatRecord) → All IsThere seats → is_end_over moment (fold with_seat_due best seats) ≡ (is_end_over moment best || list_any (has_waited moment) seats)
 over_all moment best [] there = sym (or-false (is_end_over moment best))
 over_all moment best (s ∷ seats) there =
-    over_all moment (earlier_of_both best (gives_up_at s)) seats there.1
-    ∙ ap (λ b. b || list_any (has_waited moment) seats) (over_both moment best (gives_up_at s) ∙ ap (λ b. is_end_over moment best || b) (one s.wait s.ended there.0))
-    ∙ or_assoc (is_end_over moment best) (has_waited moment s) (list_any (has_waited moment) seats)
-  where
-    timed : (a b : Bool) → b ≡ false → a ≡ (a || b)
-    timed true b h = refl
-    timed false b h = sym h
-
-    one : (w : Option Wait) (ended : Bool) → (is_some w && ended) ≡ false → is_end_over moment (earliest (dues_of_wait w)) ≡ (is_some w && (is_until_over moment w || ended))
-    one None ended h = refl
-    one (Some wait) ended h = until wait.until h
-      where
-        until : (o : Option ℕ) → ended ≡ false → is_end_over moment (earliest (dues_of_until o)) ≡ (is_past moment o || ended)
-        until None e = sym e
-        until (Some at) e = timed (nat_le at moment) ended e
+    grind (arith, common_steps, over_both, or_assoc,
+    over_all moment (earlier_of_both best (gives_up_at s)) seats there.1)
 
 pub over_known : (moment : ℕ) (first : Option ℕ) (seats : List SeatRecord) → AreTimeouts (Known first) seats → is_end_over moment first ≡ list_any (has_waited moment) seats
 over_known moment first seats known = ap (is_end_over moment) (sym known.0) ∙ over_all moment None seats known.1

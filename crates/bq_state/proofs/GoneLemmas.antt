@@ -9,6 +9,7 @@ use Rattle.bq_state.specs.declared.{known.Loss.TheVariants.Of, tubes.walks.HowMa
 use Rattle.bq_state.specs.{Crowds.{crowd_in, crowds_of, has_seats}, KeptTubes.{KeptTube, Named, crowd_kept, is_alive_at, is_alive_with, is_from, is_gone_by, is_gone_from, is_named_at, record_at, tally_kept, with_alive, with_name_of}}
 use Rattle.bq_state.specs.{Losses.AreAlive, Tallies.{has_jobs, tallies_of, tally_in}, TubeEntries.{AreInOrder, is_tube_of, names_alive}}
 use Rattle.bq_state.proofs.{CrowdLemmas.has_seats_of, CrowdPlaces.exists_by_counts, LossLemmas.{alive_but, alive_or, all_kept_alive, others_alive}, NamedLemmas.ties, TallyPlaces.has_jobs_in, TubeLemmas.same_name}
+use Rattle.std.proofs.lemmas.Grind.{common_steps}
 
 -- The counts are those of these jobs and of these seats.
 abbrev pub AreTallied : List Job → List SeatRecord → List Named → Type 0
@@ -30,19 +31,14 @@ module _ (jobs : List Job) (seats : List SeatRecord) where
 
   pub filter_tallied : (p : Named → Bool) (es : List Named) → AreTallied jobs seats es → AreTallied jobs seats (filter p es)
   filter_tallied p [] h = (refl, refl)
-  filter_tallied p (x ∷ es) h = go (p x) (filter_tallied p es (rest_tallied x es h))
-    where
-      go : (b : Bool) → AreTallied jobs seats (filter p es) → AreTallied jobs seats (if b then x ∷ filter p es else filter p es)
-      go true rest = tallied_more x (filter p es) (first_tallied x es h) rest
-      go false rest = rest
+  filter_tallied p (x ∷ es) h =
+      grind (arith, common_steps, rest_tallied, tallied_more, first_tallied, filter_tallied p es (rest_tallied x es h))
 
   pub remove_tallied : (test : List ℕ → Bool) (es : List Named) → AreTallied jobs seats es → AreTallied jobs seats (remove_entry test es)
   remove_tallied test [] h = (refl, refl)
-  remove_tallied test (x ∷ es) h = go (test x.0) (remove_tallied test es (rest_tallied x es h))
-    where
-      go : (b : Bool) → AreTallied jobs seats (remove_entry test es) → AreTallied jobs seats (cond b es (x ∷ remove_entry test es))
-      go true rest = rest_tallied x es h
-      go false rest = tallied_more x (remove_entry test es) (first_tallied x es h) rest
+  remove_tallied test (x ∷ es) h =
+      grind (arith, common_steps, rest_tallied, tallied_more, first_tallied,
+      remove_tallied test es (rest_tallied x es h))
 
   pub if_tallied : (b : Bool) (test : List ℕ → Bool) (es : List Named) → AreTallied jobs seats es → AreTallied jobs seats (if b then remove_entry test es else es)
   if_tallied true test es h = remove_tallied test es h
@@ -55,20 +51,13 @@ module _ (jobs : List Job) (seats : List SeatRecord) where
   pub filter_records : (es : List Named) → AreTallied jobs seats es → map record_at (filter (is_alive_at) es) ≡ filter (λ t. is_tube_of jobs seats t.name) (map record_at es)
   filter_records [] h = refl
   filter_records (x ∷ es) h =
-      go (is_alive_at x) (filter_records es (rest_tallied x es h))
-      ∙ ap (λ b. if b then record_at x ∷ filter (λ t. is_tube_of jobs seats t.name) (map record_at es) else filter (λ t. is_tube_of jobs seats t.name) (map record_at es)) (alive_is x (first_tallied x es h))
-    where
-      go : (b : Bool) → map record_at (filter (is_alive_at) es) ≡ filter (λ t. is_tube_of jobs seats t.name) (map record_at es)
-          → map record_at (if b then x ∷ filter (is_alive_at) es else filter (is_alive_at) es) ≡ (if b then record_at x ∷ filter (λ t. is_tube_of jobs seats t.name) (map record_at es) else filter (λ t. is_tube_of jobs seats t.name) (map record_at es))
-      go true rest = ap (λ ts. record_at x ∷ ts) rest
-      go false rest = rest
+      grind (arith, common_steps, rest_tallied, alive_is, first_tallied, filter_records es (rest_tallied x es h))
 
   abbrev names : List Named → List (List ℕ)
   names es = names_alive jobs seats (map record_at es)
 
   one_name : (x : Named) (es : List Named) (b : Bool) → is_tube_of jobs seats x.0 ≡ b → names_alive jobs seats (map record_at (x ∷ es)) ≡ (if b then x.0 ∷ [] else []) ++ names_alive jobs seats (map record_at es)
-  one_name x es true e = rw e refl
-  one_name x es false e = rw e refl
+  one_name x es b e = grind (arith, common_steps)
 
   -- They are listed
   pub listed_names : (listed : List (Bor (List ℕ) × Bor KeptTube)) (so_far : List (List ℕ)) → AreTallied jobs seats (map entry_of listed)
@@ -93,15 +82,7 @@ module _ (jobs : List Job) (seats : List SeatRecord) where
           → ((k : ℕ) → k + length es ≤ greatest
           → (fold (seen_by (λ (s : HowMany) (name : List ℕ) (t : KeptTube). record { count = with_alive s.count name t })) (record { count = k }) es).count ≡ k + length (names_alive jobs seats (map record_at es)))
           → (fold (seen_by (λ (s : HowMany) (name : List ℕ) (t : KeptTube). record { count = with_alive s.count name t })) (record { count = with_alive n x.0 x.1 }) es).count ≡ n + length (names_alive jobs seats (map record_at (x ∷ es)))
-      go true e more =
-          let here = alive_is x (first_tallied x es h) in
-          let there : is_tube_of jobs seats x.0 ≡ true = sym here ∙ e in
-          let one : with_alive n x.0 x.1 ≡ n + 1 = rw e (omega arith) in
-          rw (one, there) (let rest = more (n + 1) (omega arith) in rest ∙ omega arith)
-      go false e more =
-          let here = alive_is x (first_tallied x es h) in
-          let there : is_tube_of jobs seats x.0 ≡ false = sym here ∙ e in
-          rw (e, there) (more n (omega arith))
+      go b e more = grind (arith, common_steps, alive_is, first_tallied)
 
   -- The entry of one name is dropped, where its tube is gone.
   module _ (name : List ℕ) where
@@ -109,8 +90,7 @@ module _ (jobs : List Job) (seats : List SeatRecord) where
     left b es = if b then remove_entry (is_named_at name) es else es
 
     past : (x : Named) (es : List Named) (b : Bool) → is_named_at name x.0 ≡ false → map record_at (left b (x ∷ es)) ≡ record_at x ∷ map record_at (left b es)
-    past x es true e = rw e refl
-    past x es false e = refl
+    past x es b e = grind (arith, common_steps)
 
     pub one_left : (es : List Named) → AreInOrder (map record_at es) → AreAlive (Of name) jobs seats (map record_at es) → AreTallied jobs seats es
         → map record_at (if is_gone_by name (lookup (is_named_at name) es) then remove_entry (is_named_at name) es else es) ≡ filter (λ t. is_tube_of jobs seats t.name) (map record_at es)
@@ -136,23 +116,14 @@ module _ (jobs : List Job) (seats : List SeatRecord) where
 
         here : name ≡ x.0 → (b : Bool) → is_alive_at x ≡ b → filter (λ t. is_tube_of jobs seats t.name) (map record_at es) ≡ map record_at es
             → map record_at (if not (is_alive_with name x.1) then es else x ∷ es) ≡ filter (λ t. is_tube_of jobs seats t.name) (map record_at (x ∷ es))
-        here is b e others =
-            let exists : is_tube_of jobs seats x.0 ≡ b = sym (alive_is x (first_tallied x es h)) ∙ e in
-            let alive : is_alive_with name x.1 ≡ b = ap (λ n. is_alive_with n x.1) is ∙ e in
-            rw (alive, exists) (go b)
-          where
-            go : (b : Bool) → map record_at (if not b then es else x ∷ es) ≡ (if b then record_at x ∷ filter (λ t. is_tube_of jobs seats t.name) (map record_at es) else filter (λ t. is_tube_of jobs seats t.name) (map record_at es))
-            go true = ap (λ ts. record_at x ∷ ts) (sym others)
-            go false = sym others
+        here is b e others = grind (arith, common_steps, alive_is, first_tallied)
 
 -- All are dropped one after another.
 abbrev pub AllLeftBefore : Option (List ℕ) → List Named → Type 0
 AllLeftBefore from es = All (λ e. is_from from e ≡ false → is_alive_at e ≡ true) es
 
 gone_or : (a b : Bool) → (a && not b) ≡ false → (a ≡ false → b ≡ true) → b ≡ true
-gone_or true true h left = refl
-gone_or true false h left = absurd cc
-gone_or false b h left = left refl
+gone_or a b h left = grind (arith, common_steps, left)
 
 -- Where none is found any more, none is left.
 pub none_gone : (from : Option (List ℕ)) (es : List Named) → find (is_gone_from from) es ≡ None → AllLeftBefore from es → filter (is_alive_at) es ≡ es
@@ -161,10 +132,7 @@ none_gone from (x ∷ es) h all = go (is_gone_from from x) refl h (λ g. none_go
   where
     go : (b : Bool) → is_gone_from from x ≡ b → (if b then Some x else find (is_gone_from from) es) ≡ None → (find (is_gone_from from) es ≡ None → filter (is_alive_at) es ≡ es)
         → filter (is_alive_at) (x ∷ es) ≡ x ∷ es
-    go true e h rest = absurd (let g : Some x ≡ None = h in cc)
-    go false e h rest =
-        let alive : is_alive_at x ≡ true = gone_or (is_from from x) (is_alive_at x) e all.0 in
-        rw alive (ap (λ ts. x ∷ ts) (rest h))
+    go b e h rest = grind (arith, common_steps, gone_or)
 
 abbrev order : List ℕ → List ℕ → Ordering
 order = slice_cmp nat_cmp
@@ -180,8 +148,7 @@ found_key P q e (x ∷ es) all h = go (q x) h (λ g. found_key P q e es all.1 g)
     moved is p = rw (sym is) p
 
     go : (b : Bool) → (if b then Some x else find q es) ≡ Some e → (find q es ≡ Some e → P e.0) → P e.0
-    go true h rest = moved (some_is x e h) all.0
-    go false h rest = rest h
+    go b h rest = grind (arith, common_steps)
 
 itself : (a : List ℕ) → order a a ≡ Equal
 itself a = go (order a a) refl
@@ -207,9 +174,7 @@ one_removed from e [] s h all = absurd (let g : None ≡ Some e = h in cc)
 one_removed from e (x ∷ es) s h all = go (is_gone_from from x) refl h (λ g. one_removed from e es s.1 g all.1)
   where
     gone : (a b : Bool) → (a && not b) ≡ true → b ≡ false
-    gone true true h = absurd cc
-    gone true false h = refl
-    gone false b h = absurd cc
+    gone a b h = grind (arith, common_steps)
 
     some_is : (x e : Named) → Some x ≡ Some e → x ≡ e
     some_is x e h = cc
@@ -237,15 +202,7 @@ one_removed from e (x ∷ es) s h all = go (is_gone_from from x) refl h (λ g. o
         }
 
 pub name_removed : (from : Option (List ℕ)) (name : List ℕ) (es : List Named) → InOrder (slice_cmp nat_cmp) es → option_map (λ (e : Named). e.0) (find (is_gone_from from) es) ≡ Some name → AllLeftBefore from es → Removed name es
-name_removed from name es s h all = go (find (is_gone_from from) es) refl h
-  where
-    same : (a b : List ℕ) → Some a ≡ Some b → a ≡ b
-    same a b e = cc
-
-    go : (o : Option Named) → find (is_gone_from from) es ≡ o → option_map (λ (e : Named). e.0) o ≡ Some name → Removed name es
-    go None e h = absurd (let g : None ≡ Some name = h in cc)
-    go (Some e) f h = subst (λ n. Removed n es) (same e.0 name h) (one_removed from e es s f all)
+name_removed from name es s h all = grind (arith, common_steps, one_removed)
 
 pub no_name : (o : Option Named) → option_map (λ (e : Named). e.0) o ≡ None → o ≡ None
-no_name None h = refl
-no_name (Some e) h = absurd (let g : Some e.0 ≡ None = h in cc)
+no_name o h = grind (arith, common_steps)

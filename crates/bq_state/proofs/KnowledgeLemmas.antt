@@ -18,6 +18,8 @@ use Rattle.bq_state.proofs.{MovedLemmas.{alive_changed, counted_moved, known_mov
 use Rattle.bq_state.proofs.{PauseLemmas.{end_after_change, end_provided}, StirLemmas.{known_added, known_any, known_forgotten, known_ignoring, known_nothing, known_of_change, known_of_seat, known_watching}}
 use Rattle.bq_state.proofs.{TallyPlaces.{counted_added, counted_kept, counted_provided as tallies_of_provided, counted_taken}, TubeLemmas.{filters_swap, record_changed}}
 use Rattle.bq_state.proofs.WarningLemmas.{warned_added, warned_by_due, warned_of_seat, warned_watching}
+use Rattle.std.proofs.lemmas.Grind.{common_steps}
+use Rattle.std.proofs.Common.{arith}
 
 module _ (st : CoreParts) where
   -- A job comes,
@@ -218,13 +220,6 @@ module _ (st : CoreParts) where
 
 -- At the start there is nothing to know.
 pub so_at_first : (n : ℕ) → IsSo nothing_known [] (map empty_seat (numbers 0 n)) first_tubes
-so_at_first n = record {
-  counts = record { whole = refl; each = refl };
-  clients = first_clients (clients_of []) (refl, refl) (numbers 0 n);
-  crowds = first_crowds (numbers 0 n);
-  alive = (refl, tt);
-  stirs = tt;
-  warnings = tt;
-  timeouts = first_timeouts (numbers 0 n);
-  pauses = refl;
-}
+so_at_first n =
+    grind (arith, common_steps, first_clients (clients_of []) (refl, refl) (numbers 0 n), first_crowds (numbers 0 n),
+    first_timeouts (numbers 0 n))

@@ -10,25 +10,25 @@ use Rattle.bq_state.specs.{Leaving.{exists_in, loss_of, lost_all, lost_if, lost_
 use Rattle.bq_state.specs.{Tallies.{count_with, has_jobs, tallies_of, tally_at}, TubeEntries.{AreInOrder, has_entry, is_tube_of}}
 use Rattle.bq_state.proofs.{CrowdLemmas.{all_recounted, crowd_moved, has_seats_of, none_changed, share_at}, CrowdPlaces.named_crowd, LossLemmas.{any_set, by_job, by_loss, by_seat, now_lost, still_accounted, still_lost}}
 use Rattle.bq_state.proofs.{PartsLemmas.{all_read, changed_there, raised_some, seat_there}, TallyPlaces.{has_jobs_in, tally_there}, TubeLemmas.{same_itself, same_name}}
+use Rattle.std.proofs.lemmas.Grind.{common_steps}
+use Rattle.std.proofs.lemmas.Bool.{cases_Bool}
+use Rattle.std.proofs.Common.{arith}
 
 module _ (k : KeptTubes) where
   -- What may be gone still may,
   one_keeps : (b : Bool) (more name : List ℕ) (loss : Loss) → may_be_gone loss name ≡ true → may_be_gone (lost_unless b more loss) name ≡ true
-  one_keeps true more name loss h = h
-  one_keeps false more name loss h = still_lost more loss name h
+  one_keeps b more name loss h = grind (arith, common_steps, still_lost)
 
   all_keeps : (names : List (List ℕ)) (name : List ℕ) (loss : Loss) → may_be_gone loss name ≡ true → may_be_gone (lost_all k names loss) name ≡ true
   all_keeps [] name loss h = h
   all_keeps (n ∷ ns) name loss h = all_keeps ns name (lost_unless (exists_in k n) n loss) (one_keeps (exists_in k n) n name loss h)
 
   if_keeps : (b : Bool) (names : List (List ℕ)) (name : List ℕ) (loss : Loss) → may_be_gone loss name ≡ true → may_be_gone (lost_if b k names loss) name ≡ true
-  if_keeps true names name loss h = all_keeps names name loss h
-  if_keeps false names name loss h = h
+  if_keeps b names name loss h = grind (arith, common_steps, all_keeps)
 
   -- and what is left may be gone, unless it exists.
   one_lost : (b : Bool) (name : List ℕ) (loss : Loss) → b ≡ false → may_be_gone (lost_unless b name loss) name ≡ true
-  one_lost true name loss e = absurd cc
-  one_lost false name loss e = now_lost name loss
+  one_lost b name loss e = grind (arith, common_steps, now_lost)
 
   all_lost : (names : List (List ℕ)) (name : List ℕ) (loss : Loss) → list_any (is_same_name name) names ≡ true → exists_in k name ≡ false → may_be_gone (lost_all k names loss) name ≡ true
   all_lost [] name loss there gone = absurd cc
@@ -43,14 +43,10 @@ module _ (k : KeptTubes) where
 
 -- more clients leave one there
 some_more : (b : Bool) (n : ℕ) → nat_lt 0 n ≡ true → nat_lt 0 (count_with b n) ≡ true
-some_more true n h = lt-ltb 0 _ (raised_some n)
-some_more false n h = h
+some_more b n h = grind (arith, common_steps, lt-ltb, raised_some)
 
 still_seats : (share : Share) (c : Crowd) → has_seats c ≡ true → has_seats (crowd_with share c) ≡ true
-still_seats share c h = elim (or_cases (nat_lt 0 c.using) (nat_lt 0 c.watching) h) [
-  | inl user ↦ or_left _ (nat_lt 0 (count_with share.watching c.watching)) (some_more share.using c.using user)
-  | inr watcher ↦ or_right (nat_lt 0 (count_with share.using c.using)) _ (some_more share.watching c.watching watcher)
-]
+still_seats share c h = grind (arith, common_steps, or_cases, or_left, some_more, or_right)
 
 -- what a change leaves of a seat at a tube
 abbrev IsLeft : SeatChange → SeatRecord → List ℕ → Type 0
@@ -60,15 +56,7 @@ at_both : (s : SeatRecord) (name : List ℕ) → is_seated_at name s ≡ true �
 at_both s name h = or_cases (is_same_name name s.used) (watches name s) (and_parts s.connected (is_same_name name s.used || watches name s) h).1
 
 leaves : (what : SeatChange) (s : SeatRecord) (name : List ℕ) → is_seated_at name s ≡ true → (is_seated_at name (seat_changed what s) ≡ true) ⊎ IsLeft what s name
-leaves StopWaiting s name h = inl h
-leaves (Wait ticket until) s name h = inl h
-leaves Connect s name h = elim (at_both s name h) [ inl used ↦ inr (inl (refl, used)) | inr watched ↦ inr (inr (refl, watched)) ]
-leaves Clear s name h = elim (at_both s name h) [ inl used ↦ inr (inl (refl, used)) | inr watched ↦ inr (inr (refl, watched)) ]
-leaves End s name h = inl h
-leaves (Use tube) s name h = elim (at_both s name h) [
-  | inl used ↦ inr (inl (refl, used))
-  | inr watched ↦ inl (and_from s.connected _ (and_parts s.connected (is_same_name name s.used || watches name s) h).0 (or_right (is_same_name name tube) _ watched))
-]
+leaves what s name h = grind (arith, common_steps, at_both, and_from, and_parts, or_right)
 
 module _ (n : ℕ) (what : SeatChange) (loss : Loss) (jobs : List Job) (seats : List SeatRecord) (es : List TubeRecord) (k : KeptTubes) (h : AreNumbered seats) (fits : length seats ≤ greatest) (order : AreInOrder es)
     (of_jobs : All (λ j. has_entry j.tube es ≡ true) jobs) (seated : All IsSeated seats) (same_entries : k.entries ≡ es) (counted : k.tallies ≡ tallies_of jobs es) where
@@ -131,9 +119,7 @@ module _ (n : ℕ) (what : SeatChange) (loss : Loss) (jobs : List Job) (seats : 
   alive_left crowds all = go (seat_with n seats) refl
     where
       go : (o : Option SeatRecord) → seat_with n seats ≡ o → AreAlive (loss_of (touched what) k (seat_with n seats) loss) jobs new es
-      go None none =
-          let same : new ≡ seats = none_changed n (seat_changed what) seats none in
-          rw (none, same) all
+      go None none = grind (arith, common_steps, cases_Bool, none_changed n (seat_changed what) seats none)
       go (Some s) found =
           let left = crowds ∙ ap (λ o. crowds_recounted_for Goes (touched what) o es (crowds_of seats es)) found in
           rw found (all_from_members (λ t. is_accounted (loss_of (touched what) k (Some s) loss) jobs new t.name ≡ true) es (λ t here.

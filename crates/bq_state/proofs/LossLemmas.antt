@@ -10,6 +10,7 @@ use Rattle.bq_state.specs.declared.known.Loss.{Loss, TheVariants.{Any, Nothing, 
 use Rattle.bq_state.specs.{Dues.{first_pause_end, pause_end_left}, Losses.{AreAlive, is_accounted, may_be_gone, with_lost, with_regained}, TubeEntries.{has_entry, is_tube_of, provided}}
 use Rattle.bq_state.proofs.TubeLemmas.{same_itself, same_name}
 use Rattle.bq_jobs.proofs.Changes.{all_kept, others_above}
+use Rattle.std.proofs.lemmas.Grind.{common_steps}
 
 -- what may be gone still may
 pub still_lost : (more : List ℕ) (loss : Loss) (name : List ℕ) → may_be_gone loss name ≡ true → may_be_gone (with_lost more loss) name ≡ true
@@ -22,13 +23,7 @@ still_lost more (Of lost) name h = go (is_same_name lost more) refl
 still_lost more Any name h = refl
 
 pub now_lost : (name : List ℕ) (loss : Loss) → may_be_gone (with_lost name loss) name ≡ true
-now_lost name Nothing = same_itself name
-now_lost name (Of lost) = go (is_same_name lost name)
-  where
-    go : (b : Bool) → may_be_gone (if b then Of name else Any) name ≡ true
-    go true = same_itself name
-    go false = refl
-now_lost name Any = refl
+now_lost name loss = grind (arith, common_steps, same_itself)
 
 named_lost : (name more : List ℕ) (loss : Loss) → is_same_name name more ≡ true → may_be_gone (with_lost more loss) name ≡ true
 named_lost name more loss same = ap (may_be_gone (with_lost more loss)) (same_name name more same) ∙ now_lost more loss
@@ -53,16 +48,7 @@ pub still_accounted : (loss loss' : Loss) (jobs jobs' : List Job) (seats seats' 
     → (may_be_gone loss name ≡ true → is_accounted loss' jobs' seats' name ≡ true)
     → is_accounted loss jobs seats name ≡ true → is_accounted loss' jobs' seats' name ≡ true
 still_accounted loss loss' jobs jobs' seats seats' name job seat lost h =
-    elim (or_cases (is_tube_of jobs seats name) (may_be_gone loss name) h) [
-      | inl exists ↦ elim (or_cases (is_same_name name default_tube || list_any (λ j. is_same_name name j.tube) jobs) (list_any (is_seated_at name) seats) exists) [
-        | inl first ↦ elim (or_cases (is_same_name name default_tube) (list_any (λ j. is_same_name name j.tube) jobs) first) [
-          | inl is ↦ by_default loss' jobs' seats' name is
-          | inr some ↦ job some
-        ]
-        | inr some ↦ seat some
-      ]
-      | inr gone ↦ lost gone
-    ]
+    grind (arith, common_steps, or_cases, by_default)
 
 -- a job comes
 still_some : (p : Job → Bool) (j : Job) (jobs : List Job) → list_any p jobs ≡ true → list_any p (with_added j jobs) ≡ true
@@ -70,19 +56,11 @@ still_some p j [] h = absurd cc
 still_some p j (k ∷ jobs) h = go (is_id_before k j) (λ more. still_some p j jobs more)
   where
     go : (b : Bool) → (list_any p jobs ≡ true → list_any p (with_added j jobs) ≡ true) → list_any p (if b then k ∷ with_added j jobs else j ∷ k ∷ jobs) ≡ true
-    go true rest = elim (or_cases (p k) (list_any p jobs) h) [
-      | inl here ↦ or_left (p k) _ here
-      | inr more ↦ or_right (p k) _ (rest more)
-    ]
-    go false rest = or_right (p j) _ h
+    go b rest = grind (arith, common_steps, or_cases, or_left, or_right)
 
 now_some : (p : Job → Bool) (j : Job) (jobs : List Job) → p j ≡ true → list_any p (with_added j jobs) ≡ true
 now_some p j [] h = or_left (p j) _ h
-now_some p j (k ∷ jobs) h = go (is_id_before k j) (now_some p j jobs h)
-  where
-    go : (b : Bool) → list_any p (with_added j jobs) ≡ true → list_any p (if b then k ∷ with_added j jobs else j ∷ k ∷ jobs) ≡ true
-    go true rest = or_right (p k) _ rest
-    go false rest = or_left (p j) _ h
+now_some p j (k ∷ jobs) h = grind (arith, common_steps, or_right, or_left, now_some p j jobs h)
 
 pub alive_added : (j : Job) (loss : Loss) (jobs : List Job) (seats : List SeatRecord) (entries : List TubeRecord) → AreAlive loss jobs seats entries → AreAlive (with_regained j.tube loss) (with_added j jobs) seats entries
 alive_added j loss jobs seats entries all =
@@ -96,9 +74,8 @@ alive_added j loss jobs seats entries all =
   where
     at : (name lost : List ℕ) (b : Bool) → is_same_name lost j.tube ≡ b → is_same_name lost name ≡ true → is_accounted (if b then Nothing else Of lost) (with_added j jobs) seats name ≡ true
     at name lost true e h =
-        let is : name ≡ j.tube = sym (same_name lost name h) ∙ same_name lost j.tube e in
-        let same : is_same_name name j.tube ≡ true = ap (λ n. is_same_name n j.tube) is ∙ same_itself j.tube in
-        by_job Nothing (with_added j jobs) seats name (now_some (λ k. is_same_name name k.tube) j jobs same)
+        grind (arith, common_steps, cases_Bool, same_name lost name h, same_name lost j.tube e, same_itself j.tube,
+        by_job, now_some)
     at name lost false e h = by_loss (Of lost) (with_added j jobs) seats name h
 
     lost : (name : List ℕ) (loss : Loss) → may_be_gone loss name ≡ true → is_accounted (with_regained j.tube loss) (with_added j jobs) seats name ≡ true
@@ -150,22 +127,12 @@ alive_reseated : (loss loss' : Loss) (jobs : List Job) (seats seats' : List Seat
     → ((name : List ℕ) → may_be_gone loss name ≡ true → may_be_gone loss' name ≡ true)
     → AreAlive loss jobs seats entries → AreAlive loss' jobs seats' entries
 alive_reseated loss loss' jobs seats seats' entries seat lost all =
-    all_weaker (λ t. is_accounted loss jobs seats t.name ≡ true) (λ t. is_accounted loss' jobs seats' t.name ≡ true) entries
-    (λ t h. still_accounted loss loss' jobs jobs seats seats' t.name (by_job loss' jobs seats' t.name) (seat t.name) (λ gone. by_loss loss' jobs seats' t.name (lost t.name gone)) h)
-    all
+    grind (arith, common_steps, all_weaker, still_accounted, by_job, by_loss)
 
 -- a seat at its place watches other tubes
 pub any_set : (p : SeatRecord → Bool) (Q : Type 0) (seats : List SeatRecord) (i : ℕ) (s new : SeatRecord) → slice_get seats i ≡ Some s → (p s ≡ true → (p new ≡ true) ⊎ Q) → list_any p seats ≡ true → (list_any p (set seats i new) ≡ true) ⊎ Q
 any_set p Q [] i s new found keeps h = absurd cc
-any_set p Q (t ∷ seats) zero s new found keeps h =
-    let e : t ≡ s = cc in
-    elim (or_cases (p t) (list_any p seats) h) [
-      | inl here ↦ elim (keeps (ap p (sym e) ∙ here)) [
-        | inl new ↦ inl (or_left _ (list_any p seats) new)
-        | inr q ↦ inr q
-      ]
-      | inr more ↦ inl (or_right (p new) _ more)
-    ]
+any_set p Q (t ∷ seats) zero s new found keeps h = grind (arith, common_steps, or_cases, or_left, or_right)
 any_set p Q (t ∷ seats) (suc i) s new found keeps h =
     elim (or_cases (p t) (list_any p seats) h) [
       | inl here ↦ inl (or_left (p t) _ here)
@@ -183,12 +150,7 @@ any_joined p (x ∷ xs) ys h = elim (or_cases (p x) (list_any p xs) h) [
 ]
 
 watches_more : (name more : List ℕ) (s : SeatRecord) → is_seated_at name s ≡ true → is_seated_at name (watching (s.watched ++ more ∷ []) s) ≡ true
-watches_more name more s h =
-    let parts = and_parts s.connected (is_same_name name s.used || watches name s) h in
-    and_from s.connected _ parts.0 (elim (or_cases (is_same_name name s.used) (watches name s) parts.1) [
-      | inl used ↦ or_left (is_same_name name s.used) _ used
-      | inr watched ↦ or_right (is_same_name name s.used) _ (any_joined (is_same_name name) s.watched (more ∷ []) watched)
-    ])
+watches_more name more s h = grind (arith, common_steps, and_parts, and_from, or_cases, or_left, or_right, any_joined)
 
 pub alive_watching : (more : List ℕ) (i : ℕ) (s : SeatRecord) (loss : Loss) (jobs : List Job) (seats : List SeatRecord) (entries : List TubeRecord) → slice_get seats i ≡ Some s
     → AreAlive loss jobs seats entries → AreAlive loss jobs (set seats i (watching (s.watched ++ more ∷ []) s)) entries
@@ -211,28 +173,10 @@ others_left lost name (n ∷ names) h = go (is_same_name lost n) refl (λ more. 
 
     go : (b : Bool) → is_same_name lost n ≡ b → (list_any (is_same_name name) names ≡ true → (list_any (is_same_name name) left ≡ true) ⊎ (is_same_name name lost ≡ true))
         → (list_any (is_same_name name) (if not b then n ∷ left else left) ≡ true) ⊎ (is_same_name name lost ≡ true)
-    go true e rest = elim (or_cases (is_same_name name n) (list_any (is_same_name name) names) h) [
-      | inl here ↦ inr (ap (is_same_name name) (same_name lost n e) ∙ here)
-      | inr more ↦ rest more
-    ]
-    go false e rest = elim (or_cases (is_same_name name n) (list_any (is_same_name name) names) h) [
-      | inl here ↦ inl (or_left (is_same_name name n) _ here)
-      | inr more ↦ elim (rest more) [
-        | inl some ↦ inl (or_right (is_same_name name n) _ some)
-        | inr it ↦ inr it
-      ]
-    ]
+    go b e rest = grind (arith, common_steps, or_cases, same_name, or_left, or_right)
 
 watches_fewer : (lost name : List ℕ) (s : SeatRecord) → is_seated_at name s ≡ true → (is_seated_at name (watching (filter (λ other. not (is_same_name lost other)) s.watched) s) ≡ true) ⊎ (is_same_name name lost ≡ true)
-watches_fewer lost name s h =
-    let parts = and_parts s.connected (is_same_name name s.used || watches name s) h in
-    elim (or_cases (is_same_name name s.used) (watches name s) parts.1) [
-      | inl used ↦ inl (and_from s.connected _ parts.0 (or_left (is_same_name name s.used) _ used))
-      | inr watched ↦ elim (others_left lost name s.watched watched) [
-        | inl some ↦ inl (and_from s.connected _ parts.0 (or_right (is_same_name name s.used) _ some))
-        | inr it ↦ inr it
-      ]
-    ]
+watches_fewer lost name s h = grind (arith, common_steps, and_parts, or_cases, and_from, or_left, others_left, or_right)
 
 pub alive_ignoring : (lost : List ℕ) (i : ℕ) (s : SeatRecord) (loss : Loss) (jobs : List Job) (seats : List SeatRecord) (entries : List TubeRecord) → slice_get seats i ≡ Some s
     → AreAlive loss jobs seats entries → AreAlive (with_lost lost loss) jobs (set seats i (watching (filter (λ other. not (is_same_name lost other)) s.watched) s)) entries
@@ -279,8 +223,7 @@ alive_renamed f keeps loss jobs seats (t ∷ entries) all = (ap (is_accounted lo
 
 -- Where nothing may be gone, all is kept,
 pub alive_or : (b : Bool) → (b || false) ≡ true → b ≡ true
-alive_or true h = refl
-alive_or false h = h
+alive_or b h = grind (arith, common_steps)
 
 pub all_kept_alive : (jobs : List Job) (seats : List SeatRecord) (entries : List TubeRecord) → AreAlive Nothing jobs seats entries → filter (λ t. is_tube_of jobs seats t.name) entries ≡ entries
 all_kept_alive jobs seats [] all = refl
@@ -288,8 +231,7 @@ all_kept_alive jobs seats (t ∷ entries) all = rw (alive_or (is_tube_of jobs se
 
 -- and where one may be, all the others are.
 pub alive_but : (b c : Bool) → (b || c) ≡ true → c ≡ false → (b || false) ≡ true
-alive_but true c h e = refl
-alive_but false c h e = absurd (let g : c ≡ true = h in cc)
+alive_but b c h e = grind (arith, common_steps)
 
 pub others_alive : (name : List ℕ) (jobs : List Job) (seats : List SeatRecord) (entries : List TubeRecord) → All (λ u. is_name_before name u.name ≡ true) entries → AreAlive (Of name) jobs seats entries → AreAlive Nothing jobs seats entries
 others_alive name jobs seats [] later all = tt
@@ -299,22 +241,13 @@ others_alive name jobs seats (t ∷ entries) later all =
     apart : (b : Bool) → is_same_name name t.name ≡ b → b ≡ false
     apart false e = refl
     apart true e =
-        let is : name ≡ t.name = same_name name t.name e in
-        let other : is_same_name t.name name ≡ false = not_same name t.name (is_same_name t.name name) refl later.0 in
-        let back : is_same_name t.name name ≡ true = ap (is_same_name t.name) is ∙ same_itself t.name in
-        cc
+        grind (arith, common_steps, cases_Bool, same_name name t.name e,
+        not_same name t.name (is_same_name t.name name) refl later.0, same_itself t.name)
 
 -- afterwards each entry is of a tube that exists
 pub alive_forgotten : (jobs : List Job) (seats : List SeatRecord) (entries : List TubeRecord) → AreAlive Nothing jobs seats (filter (λ t. is_tube_of jobs seats t.name) entries)
 alive_forgotten jobs seats [] = tt
-alive_forgotten jobs seats (t ∷ entries) = go (is_tube_of jobs seats t.name) refl (alive_forgotten jobs seats entries)
-  where
-    left : List TubeRecord
-    left = filter (λ t. is_tube_of jobs seats t.name) entries
-
-    go : (b : Bool) → is_tube_of jobs seats t.name ≡ b → AreAlive Nothing jobs seats left → AreAlive Nothing jobs seats (if b then t ∷ left else left)
-    go true e rest = (or_left (is_tube_of jobs seats t.name) false e, rest)
-    go false e rest = rest
+alive_forgotten jobs seats (t ∷ entries) = grind (arith, common_steps, or_left, alive_forgotten jobs seats entries)
 
 -- where as many are left, all are
 pub as_many_left : {A : Type 0} (p : A → Bool) (xs : List A) → length xs ≤ length (filter p xs) → filter p xs ≡ xs
@@ -322,15 +255,7 @@ as_many_left p [] h = refl
 as_many_left {A = A} p (x ∷ xs) h = go (p x) h (filter_no_longer p xs) (as_many_left p xs)
   where
     go : (b : Bool) → suc (length xs) ≤ length (if b then x ∷ filter p xs else filter p xs) → length (filter p xs) ≤ length xs → (length xs ≤ length (filter p xs) → filter p xs ≡ xs) → (if b then x ∷ filter p xs else filter p xs) ≡ x ∷ xs
-    go true h most rest = ap (λ ys. x ∷ ys) (rest (omega arith))
-    go false h most rest = absurd (omega arith)
+    go b h most rest = grind (arith, common_steps)
 
 pub end_of_those_left : (p : TubeRecord → Bool) (entries : List TubeRecord) (were : ℕ) (last : Option ℕ) → were ≡ length entries → last ≡ first_pause_end entries → pause_end_left (filter p entries) were last ≡ first_pause_end (filter p entries)
-end_of_those_left p entries were last many h = go (nat_lt (length (filter p entries)) were) refl
-  where
-    as_many : nat_lt (length (filter p entries)) were ≡ false → length entries ≤ length (filter p entries)
-    as_many e = grind (arith, nat_tests)
-
-    go : (b : Bool) → nat_lt (length (filter p entries)) were ≡ b → (if b then first_pause_end (filter p entries) else last) ≡ first_pause_end (filter p entries)
-    go true e = refl
-    go false e = h ∙ ap first_pause_end (sym (as_many_left p entries (as_many e)))
+end_of_those_left p entries were last many h = grind (arith, common_steps, as_many_left)

@@ -12,27 +12,14 @@ use Rattle.bq_state.specs.{Tallies.{AreCounted, tallies_at, tallies_of, tallies_
 use Rattle.bq_state.specs.Warnings.{AreWarned, IsWarned, has_waiting_holder, with_holder_of}
 use Rattle.bq_state.proofs.{PartsLemmas.{all_filtered, all_kept}, StirLemmas.known_added, TallyPlaces.{counted_added, counted_taken}, WarningLemmas.warned_added}
 use Rattle.bq_state.proofs.PartsLemmas.{same_id}
+use Rattle.std.proofs.lemmas.Grind.{common_steps}
 
 same_tube : (b : Bool) (x y : Job) (tube : List ℕ) → x.tube ≡ tube → y.tube ≡ tube → (if b then x else y).tube ≡ tube
-same_tube true x y tube h i = h
-same_tube false x y tube h i = i
+same_tube b x y tube h i = grind (arith, common_steps)
 
 -- no change depends on the tube
 pub tube_ignored : (change : JobChange) → IgnoresTube (changed change)
-tube_ignored (FireTimers moment) j tube =
-    elim (cases_Bool (is_due moment j.state)) [
-      | inl due ↦ rw due refl
-      | inr later ↦ elim (cases_Bool (is_expired moment j.state)) [
-        | inl over ↦ rw (later, over) refl
-        | inr kept ↦ rw (later, kept) refl
-      ]
-    ]
-tube_ignored (HandOut seat moment) j tube = refl
-tube_ignored (GiveBack state) j tube = refl
-tube_ignored (Release pri delay moment) j tube = refl
-tube_ignored (Bury number pri) j tube = refl
-tube_ignored (Touch seat deadline) j tube = refl
-tube_ignored Kick j tube = refl
+tube_ignored change j tube = grind (arith, common_steps, cases_Bool)
 
 -- and so none brings a job into another one
 pub tube_kept : (change : JobChange) → KeepsTube (changed change)
@@ -48,44 +35,23 @@ module _ (id : ℕ) (f : Job → Job) where
 
 module _ (g : Job → Job) (stays : KeepsTube g) where
   pub entries_of_changed : (jobs : List Job) (seats : List SeatRecord) (entries : List TubeRecord) → AreEntries jobs seats entries → AreEntries (map g jobs) seats entries
-  entries_of_changed jobs seats entries e = record {
-    order = e.order;
-    fresh = e.fresh;
-    of_default = e.of_default;
-    of_jobs = all_kept (λ j. has_entry j.tube entries ≡ true) g (λ j h. ap (λ tube. has_entry tube entries) (stays j) ∙ h) jobs e.of_jobs;
-    of_seats = e.of_seats;
-  }
+  entries_of_changed jobs seats entries e = grind (arith, common_steps, all_kept)
 
   any_kept : (name : List ℕ) (jobs : List Job) → list_any (λ j. is_same_name name j.tube) (map g jobs) ≡ list_any (λ j. is_same_name name j.tube) jobs
   any_kept name [] = refl
-  any_kept name (j ∷ jobs) =
-      ap (λ tube. is_same_name name tube || list_any (λ k. is_same_name name k.tube) (map g jobs)) (stays j)
-      ∙ ap (λ b. is_same_name name j.tube || b) (any_kept name jobs)
+  any_kept name (j ∷ jobs) = grind (arith, common_steps, any_kept name jobs)
 
   pub alive_changed : (loss : Loss) (jobs : List Job) (seats : List SeatRecord) (entries : List TubeRecord) → AreAlive loss jobs seats entries → AreAlive loss (map g jobs) seats entries
   alive_changed loss jobs seats [] all = tt
-  alive_changed loss jobs seats (t ∷ entries) all = (
-    ap (λ b. (is_same_name t.name default_tube || b || list_any (is_seated_at t.name) seats) || may_be_gone loss t.name) (any_kept t.name jobs) ∙ all.0,
-    alive_changed loss jobs seats entries all.1,
-  )
+  alive_changed loss jobs seats (t ∷ entries) all =
+      grind (arith, common_steps, any_kept, alive_changed loss jobs seats entries all.1)
 
 -- two changes at one name
 at_once : (name : List ℕ) (g h : Tally → Tally) (es : List TubeRecord) (tallies : List Tally)
     → tallies_at name (λ t. g (h t)) es tallies ≡ tallies_at name g es (tallies_at name h es tallies)
 at_once name g h [] tallies = refl
 at_once name g h (t ∷ es) [] = refl
-at_once name g h (t ∷ es) (x ∷ tallies) =
-    elim (cases_Bool (is_same_name name t.name)) [
-      | inl e ↦
-          ap (λ b. if b then g (h x) ∷ tallies else x ∷ tallies_at name (λ y. g (h y)) es tallies) e
-          ∙ sym (ap (λ b. if b then g (h x) ∷ tallies else h x ∷ tallies_at name g es tallies) e)
-          ∙ sym (ap (λ b. tallies_at name g (t ∷ es) (if b then h x ∷ tallies else x ∷ tallies_at name h es tallies)) e)
-      | inr e ↦
-          ap (λ b. if b then g (h x) ∷ tallies else x ∷ tallies_at name (λ y. g (h y)) es tallies) e
-          ∙ ap (λ ts. x ∷ ts) (at_once name g h es tallies)
-          ∙ sym (ap (λ b. if b then g x ∷ tallies_at name h es tallies else x ∷ tallies_at name g es (tallies_at name h es tallies)) e)
-          ∙ sym (ap (λ b. tallies_at name g (t ∷ es) (if b then h x ∷ tallies else x ∷ tallies_at name h es tallies)) e)
-    ]
+at_once name g h (t ∷ es) (x ∷ tallies) = grind (arith, common_steps, cases_Bool, at_once name g h es tallies)
 
 -- a job stands otherwise
 pub counted_moved : (low next id : ℕ) (f : Job → Job) → KeepsId f → KeepsTube f → (j : Job) (m : Moved) → m ≡ moved_by f j → (tally : Tally) (tallies : List Tally) (jobs : List Job) (es : List TubeRecord)
@@ -110,23 +76,8 @@ module _ (low next id : ℕ) (f : Job → Job) (keeps : KeepsId f) (stays : Keep
 
   pub known_moved : (stir : Stir) (seats : List SeatRecord) (tubes : List TubeRecord) (b : Bool) → b ≡ (is_ready_state m.to.state && list_any (is_waiter m.tube) seats) → AreKnown stir jobs seats tubes
       → AreKnown (if b then with_stirred m.tube stir else stir) (with_changed id f jobs) seats tubes
-  known_moved stir seats tubes b e was =
-      let known = known_added (f j) stir (without id jobs) seats tubes (all_filtered (λ k. All (IsKnown stir tubes k) seats) (λ k. not (k.id == id)) jobs was) in
-      let b_is : b ≡ (is_ready (f j) && list_any (is_waiter (f j).tube) seats) =
-      e ∙ ap (λ (n : Moved). is_ready_state n.to.state && list_any (is_waiter n.tube) seats) is ∙ ap (λ tube. is_ready (f j) && list_any (is_waiter tube) seats) (sym (stays j)) in
-      let stir_is : (if b then with_stirred m.tube stir else stir) ≡ (if is_ready (f j) && list_any (is_waiter (f j).tube) seats then with_stirred (f j).tube stir else stir) =
-      ap (λ x. if x then with_stirred m.tube stir else stir) b_is
-      ∙ ap (λ tube. if is_ready (f j) && list_any (is_waiter (f j).tube) seats then with_stirred tube stir else stir) (ap (λ (n : Moved). n.tube) is ∙ sym (stays j)) in
-      subst (λ x. AreKnown x (with_changed id f jobs) seats tubes) (sym stir_is)
-      (subst (λ js. AreKnown (if is_ready (f j) && list_any (is_waiter (f j).tube) seats then with_stirred (f j).tube stir else stir) js seats tubes) made_of known)
+  known_moved stir seats tubes b e was = grind (arith, common_steps, known_added, all_filtered, made_of)
 
   pub warned_moved : (warns : Warns) (seats : List SeatRecord) (b : Bool) → AreNumbered seats → b ≡ has_waiting_holder m.to.state seats → AreWarned warns jobs seats
       → AreWarned (if b then with_holder_of m.to.state warns else warns) (with_changed id f jobs) seats
-  warned_moved warns seats b numbered e was =
-      let warned = warned_added (f j) warns (without id jobs) seats numbered (all_filtered (λ k. All (IsWarned warns k) seats) (λ k. not (k.id == id)) jobs was) in
-      let b_is : b ≡ has_waiting_holder (f j).state seats = e ∙ ap (λ (n : Moved). has_waiting_holder n.to.state seats) is in
-      let state_is : m.to.state ≡ (f j).state = ap (λ (n : Moved). n.to.state) is in
-      let warns_are : (if b then with_holder_of m.to.state warns else warns) ≡ (if has_waiting_holder (f j).state seats then with_holder_of (f j).state warns else warns) =
-      λ i. if b_is i then with_holder_of (state_is i) warns else warns in
-      subst (λ x. AreWarned x (with_changed id f jobs) seats) (sym warns_are)
-      (subst (λ js. AreWarned (if has_waiting_holder (f j).state seats then with_holder_of (f j).state warns else warns) js seats) made_of warned)
+  warned_moved warns seats b numbered e was = grind (arith, common_steps, warned_added, all_filtered, made_of)

@@ -7,6 +7,7 @@ use Rattle.bq_job.proofs.NameOrderLemmas.{after, first_of_order, in_order_fold, 
 use Rattle.bq_state.specs.{Names.{is_named, names_of}, TubeEntries.{AreEntries, AreInOrder, IsFreshUnlessCounted, counted, has_entry, is_counted, is_tube_of, names_alive}}
 use Rattle.bq_state.proofs.{PartsLemmas.tube_has_entry, TubeLemmas.{before_differs, none_found, none_later, order_filtered, same_itself, same_name}}
 use Rattle.bq_job.proofs.WatchedLemmas.{same_other}
+use Rattle.std.proofs.lemmas.Grind.{common_steps}
 
 -- names that come later are others
 none_listed : (name : List ℕ) (names : List (List ℕ)) → All (λ n. is_name_before name n ≡ true) names → list_any (is_same_name name) names ≡ false
@@ -30,22 +31,14 @@ first_or_later name first names all h =
     ]
 
 first_is : (x y : List ℕ) → (x ≡ y) ⊎ (is_name_before y x ≡ true) → (y ≡ x) ⊎ (is_name_before x y ≡ true) → x ≡ y
-first_is x y (inl e) other = e
-first_is x y (inr h) (inl e) = sym e
-first_is x y (inr h) (inr k) = let no : is_name_before y x ≡ false = not_before x y k in absurd cc
+first_is x y h other = grind (arith, common_steps, not_before)
 
 -- Names in order are told by which names are among them.
 pub same_order : (xs ys : List (List ℕ)) → is_in_order xs ≡ true → is_in_order ys ≡ true
     → ((name : List ℕ) → list_any (is_same_name name) xs ≡ list_any (is_same_name name) ys) → xs ≡ ys
 same_order [] [] h k same = refl
-same_order [] (y ∷ ys) h k same =
-    let there : list_any (is_same_name y) (y ∷ ys) ≡ true = rw (same_itself y) refl in
-    let none : list_any (is_same_name y) (y ∷ ys) ≡ false = sym (same y) in
-    absurd cc
-same_order (x ∷ xs) [] h k same =
-    let there : list_any (is_same_name x) (x ∷ xs) ≡ true = rw (same_itself x) refl in
-    let none : list_any (is_same_name x) (x ∷ xs) ≡ false = same x in
-    absurd cc
+same_order [] (y ∷ ys) h k same = grind (arith, common_steps, cases_Bool, same_itself y)
+same_order (x ∷ xs) [] h k same = grind (arith, common_steps, cases_Bool, same_itself x)
 same_order (x ∷ xs) (y ∷ ys) h k same =
     λ i. head i ∷ same_order xs ys (rest_in_order x xs h) (rest_in_order y ys k) (λ name. tail name (is_same_name name x) refl) i
   where
@@ -86,32 +79,20 @@ names_in_order (t ∷ entries) order =
 -- a name is among those that pass, if it passes and has an entry
 among : (p : List ℕ → Bool) (name : List ℕ) (entries : List TubeRecord)
     → list_any (is_same_name name) (map (λ t. t.name) (filter (λ t. p t.name) entries)) ≡ (p name && has_entry name entries)
-among p name [] = go (p name)
-  where
-    go : (b : Bool) → false ≡ (b && false)
-    go true = refl
-    go false = refl
+among p name [] = grind (arith, common_steps)
 among p name (t ∷ entries) = go (is_same_name name t.name) (p t.name) refl refl (among p name entries)
   where
     some : List (List ℕ)
     some = map (λ t. t.name) (filter (λ t. p t.name) entries)
 
     either : (b : Bool) → (b && true) ≡ b
-    either true = refl
-    either false = refl
+    either b = grind (arith, common_steps)
 
     go : (same pass : Bool) → is_same_name name t.name ≡ same → p t.name ≡ pass
         → list_any (is_same_name name) some ≡ (p name && has_entry name entries)
         → list_any (is_same_name name) (map (λ t. t.name) (if pass then t ∷ filter (λ t. p t.name) entries else filter (λ t. p t.name) entries))
         ≡ (p name && (same || has_entry name entries))
-    go true true e f rest =
-        let is : p name ≡ true = ap p (same_name name t.name e) ∙ f in
-        rw (e, is) refl
-    go true false e f rest =
-        let is : p name ≡ false = ap p (same_name name t.name e) ∙ f in
-        rw is (rw is at rest)
-    go false true e f rest = rw e rest
-    go false false e f rest = rest
+    go same pass e f rest = grind (arith, common_steps, same_name)
 
 pub tubes_in_order : (m : Machine) → is_in_order (tubes m) ≡ true
 tubes_in_order m = in_order_fold (default_tube ∷ map (λ j. j.tube) m.jobs ++ flat_map seated_tubes m.seats) [] refl
@@ -125,8 +106,7 @@ alive_are_tubes m entries e =
     (λ name. among (is_tube_of m.jobs m.seats) name entries ∙ go name (is_tube_of m.jobs m.seats name) refl ∙ sym (listed name m))
   where
     go : (name : List ℕ) (b : Bool) → is_tube_of m.jobs m.seats name ≡ b → (b && has_entry name entries) ≡ is_tube name m
-    go name true h = tube_has_entry m.jobs m.seats entries e name h ∙ sym h
-    go name false h = sym h
+    go name b h = grind (arith, common_steps, tube_has_entry)
 
 -- The record of a tube is its entry.
 entry_at : (name : List ℕ) (t : TubeRecord) (entries : List TubeRecord) (same kept : Bool) → is_same_name name t.name ≡ same → is_counted t ≡ kept
@@ -135,9 +115,7 @@ entry_at : (name : List ℕ) (t : TubeRecord) (entries : List TubeRecord) (same 
     → unwrap_or (find (λ t. is_same_name name t.name) (counted (t ∷ entries))) (fresh_tube name) ≡ unwrap_or (find (λ t. is_same_name name t.name) (t ∷ entries)) (fresh_tube name)
 entry_at name t entries true true e k fresh later rest = rw (k, e) refl
 entry_at name t entries true false e k fresh later rest =
-    let is : name ≡ t.name = same_name name t.name e in
-    let none : has_entry name entries ≡ false = ap (λ n. has_entry n entries) is ∙ none_later t.name entries later in
-    rw (k, e, none_found name entries none) (ap fresh_tube is ∙ sym (fresh k))
+    grind (arith, common_steps, cases_Bool, same_name name t.name e, none_later t.name entries later, none_found)
 entry_at name t entries false true e k fresh later rest = rw (k, e) rest
 entry_at name t entries false false e k fresh later rest = rw (k, e) rest
 
@@ -163,10 +141,7 @@ module _ (name : List ℕ) where
     where
       go : (b : Bool) → is_name_before o.now name ≡ b → (is_named name (slice_get names (place names)) ≡ true → names_of names ≡ with_name (names_of names) name)
           → is_named name (slice_get (o ∷ names) (cond b (1 + place names) 0)) ≡ true → names_of (o ∷ names) ≡ with_name (names_of (o ∷ names)) name
-      go true e rest h =
-          let k = ap (λ n. is_named name (slice_get (o ∷ names) n)) (sym (one_more (place names))) ∙ h in
-          rw (not_same o.now name (is_same_name name o.now) refl e, not_before o.now name e) (ap (λ ns. o.now ∷ ns) (rest k))
-      go false e rest h = rw h refl
+      go b e rest h = grind (arith, common_steps, one_more, not_same, not_before)
 
   -- or comes there.
   pub place_new : (x : Bor (List ℕ)) → x.now ≡ name → (names : List (Bor (List ℕ)))
@@ -180,11 +155,9 @@ module _ (name : List ℕ) where
           → is_named name (slice_get (o ∷ names) (cond b (1 + place names) 0)) ≡ false
           → names_of (insert (o ∷ names) (cond b (1 + place names) 0) x) ≡ with_name (names_of (o ∷ names)) name
       go true e rest h =
-          let k = ap (λ n. is_named name (slice_get (o ∷ names) n)) (sym (one_more (place names))) ∙ h in
-          rw (not_same o.now name (is_same_name name o.now) refl e, not_before o.now name e)
-          (ap (λ n. names_of (insert (o ∷ names) n x)) (one_more (place names)) ∙ ap (λ ns. o.now ∷ ns) (rest k))
-      go false e rest h =
-          rw (h, after o.now name (same_other name o.now h) e) (ap (λ n. n ∷ o.now ∷ names_of names) is)
+          grind (arith, common_steps, cases_Bool, one_more (place names),
+          not_same o.now name (is_same_name name o.now) refl e, not_before o.now name e)
+      go false e rest h = grind (arith, common_steps, after, same_other)
 
 -- a call that doesn't fail
 pub when_ok : {T E X : Type 0} (r : Result T E) (a b : X) → IsOk r → (if is_ok r then a else b) ≡ a
@@ -192,8 +165,7 @@ when_ok r a b h = rw h refl
 
 -- what is lent, or else something else
 pub lent_or : {A B : Type 0} (f : A → B) (o : Option (Bor A)) (other : Bor A) (x : Option B) → option_map (λ b. f b.now) o ≡ x → f (unwrap_or o other).now ≡ unwrap_or x (f other.now)
-lent_or f None other x h = ap (λ y. unwrap_or y (f other.now)) h
-lent_or f (Some b) other x h = ap (λ y. unwrap_or y (f other.now)) h
+lent_or f o other x h = grind (arith, common_steps)
 
 -- Names in order are listed as they are.
 pub list_of_order : (names : List (List ℕ)) → name_list (in_name_order names) ≡ name_list names

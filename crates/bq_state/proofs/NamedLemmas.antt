@@ -10,6 +10,7 @@ use Rattle.bq_state.specs.KeptTubes.{KeptTube, KeptTubes, Named, crowd_by, crowd
 use Rattle.bq_state.specs.{Tallies.{tallies_at, tallies_provided, tally_at, tally_of}, TubeEntries.{AreInOrder, has_entry, provided, tube_changed}}
 use Rattle.bq_state.proofs.TubeLemmas.{changed_one, none_later, same_name}
 use Rattle.std.proofs.lemmas.Bool.{or_parts}
+use Rattle.std.proofs.lemmas.Grind.{common_steps}
 
 -- a look-up asks whether names are the same
 pub ties : (a b : List ℕ) → is_named_at a b ≡ is_same_name a b
@@ -42,10 +43,7 @@ module _ (name : List ℕ) where
 
   pub found_any : (es : List Named) → is_some (lookup (is_named_at name) es) ≡ has_entry name (map record_at es)
   found_any [] = refl
-  found_any (x ∷ es) = elim (cases_Bool (is_same_name name x.0)) [
-    | inl e ↦ rw (at x.0 true e, e) refl
-    | inr e ↦ rw (at x.0 false e, e) (found_any es)
-  ]
+  found_any (x ∷ es) = grind (arith, common_steps, cases_Bool, at, found_any es)
 
   -- by which it is told whether the tube is paused,
   pub found_pause : (es : List Named) → AreInOrder (map record_at es) → is_paused_by (lookup (is_named_at name) es) ≡ list_any (λ t. is_same_name name t.name && is_some t.pause) (map record_at es)
@@ -59,8 +57,7 @@ module _ (name : List ℕ) where
   ]
     where
       or_false : (b : Bool) → b ≡ (b || false)
-      or_false true = refl
-      or_false false = refl
+      or_false b = grind (arith, common_steps)
 
       no_pause : (ts : List TubeRecord) → has_entry name ts ≡ false → list_any (λ t. is_same_name name t.name && is_some t.pause) ts ≡ false
       no_pause [] h = refl
@@ -71,17 +68,11 @@ module _ (name : List ℕ) where
   -- and how many jobs it has.
   pub found_tally : (es : List Named) → tally_by (lookup (is_named_at name) es) ≡ tally_at name (map record_at es) (map tally_kept es)
   found_tally [] = refl
-  found_tally (x ∷ es) = elim (cases_Bool (is_same_name name x.0)) [
-    | inl e ↦ rw (at x.0 true e, e) refl
-    | inr e ↦ rw (at x.0 false e, e) (found_tally es)
-  ]
+  found_tally (x ∷ es) = grind (arith, common_steps, cases_Bool, at, found_tally es)
 
   pub found_crowd : (es : List Named) → crowd_by (lookup (is_named_at name) es) ≡ crowd_at name (map record_at es) (map crowd_kept es)
   found_crowd [] = refl
-  found_crowd (x ∷ es) = elim (cases_Bool (is_same_name name x.0)) [
-    | inl e ↦ rw (at x.0 true e, e) refl
-    | inr e ↦ rw (at x.0 false e, e) (found_crowd es)
-  ]
+  found_crowd (x ∷ es) = grind (arith, common_steps, cases_Bool, at, found_crowd es)
 
   -- Others stay.
   unchanged : (g : TubeRecord → TubeRecord) (ts : List TubeRecord) → has_entry name ts ≡ false → map (changed_one name g) ts ≡ ts
@@ -99,17 +90,7 @@ module _ (name : List ℕ) where
     edited_here x es e = rw (at x.0 true e) (rw (at x.0 true e) refl)
 
     edited_past : (x : Named) (es : List Named) → is_same_name name x.0 ≡ false → edited name f (lookup (is_named_at name) (x ∷ es)) (x ∷ es) ≡ x ∷ edited name f (lookup (is_named_at name) es) es
-    edited_past x es e = ap (λ o. edited name f o (x ∷ es)) found ∙ go (lookup (is_named_at name) es)
-      where
-        away : is_named_at name x.0 ≡ false
-        away = at x.0 false e
-
-        found : lookup (is_named_at name) (x ∷ es) ≡ lookup (is_named_at name) es
-        found = rw away refl
-
-        go : (o : Option KeptTube) → edited name f o (x ∷ es) ≡ x ∷ edited name f o es
-        go None = refl
-        go (Some t) = rw away refl
+    edited_past x es e = grind (arith, common_steps, at)
 
     -- the counts alone,
     pub edit_tally : (g : Tally → Tally) → ((t : KeptTube) → (f t).tally ≡ g t.tally) → (es : List Named)
@@ -138,17 +119,11 @@ module _ (name : List ℕ) where
     -- or all but these.
     pub edit_same_tallies : ((t : KeptTube) → (f t).tally ≡ t.tally) → (es : List Named) → map tally_kept (edited name f (lookup (is_named_at name) es) es) ≡ map tally_kept es
     edit_same_tallies same [] = refl
-    edit_same_tallies same (x ∷ es) = elim (cases_Bool (is_same_name name x.0)) [
-      | inl e ↦ ap (map tally_kept) (edited_here x es e) ∙ (λ i. same x.1 i ∷ map tally_kept es)
-      | inr e ↦ ap (map tally_kept) (edited_past x es e) ∙ ap (λ ts. x.1.tally ∷ ts) (edit_same_tallies same es)
-    ]
+    edit_same_tallies same (x ∷ es) = grind (arith, common_steps, cases_Bool, edit_same_tallies same es)
 
     pub edit_same_crowds : ((t : KeptTube) → (f t).crowd ≡ t.crowd) → (es : List Named) → map crowd_kept (edited name f (lookup (is_named_at name) es) es) ≡ map crowd_kept es
     edit_same_crowds same [] = refl
-    edit_same_crowds same (x ∷ es) = elim (cases_Bool (is_same_name name x.0)) [
-      | inl e ↦ ap (map crowd_kept) (edited_here x es e) ∙ (λ i. same x.1 i ∷ map crowd_kept es)
-      | inr e ↦ ap (map crowd_kept) (edited_past x es e) ∙ ap (λ cs. x.1.crowd ∷ cs) (edit_same_crowds same es)
-    ]
+    edit_same_crowds same (x ∷ es) = grind (arith, common_steps, cases_Bool, edit_same_crowds same es)
 
     pub edit_change : (g : TubeRecord → TubeRecord) → ((n : List ℕ) (t : KeptTube) → record_of n (f t) ≡ g (record_of n t)) → (es : List Named) → AreInOrder (map record_at es)
         → map record_at (edited name f (lookup (is_named_at name) es) es) ≡ map (changed_one name g) (map record_at es)
@@ -228,22 +203,15 @@ module _ (name : List ℕ) where
   new_crowd es none = crowd_new es none ∙ sym (ap (λ b. if b then map crowd_kept es else insert (map crowd_kept es) (place (records es)) no_crowd) none)
 
   pub absent : (es : List Named) → is_some (lookup (is_named_at name) es) ≡ false → lookup (is_named_at name) es ≡ None
-  absent es h = go (lookup (is_named_at name) es) h
-    where
-      go : (o : Option KeptTube) → is_some o ≡ false → o ≡ None
-      go None h = refl
-      go (Some t) h = absurd cc
+  absent es h = grind (arith, common_steps)
 
 -- What happens to a tube changes its record.
 pub change_kept : (what : TubeChange) (name : List ℕ) (t : KeptTube) → record_of name (kept_changed what t) ≡ tube_changed what (record_of name t)
-change_kept CountPut name t = refl
-change_kept CountDelete name t = refl
-change_kept (Pause seconds moment) name t = refl
+change_kept what name t = grind (arith, common_steps)
 
 -- What is lent is what is found.
 pub lent_any : (o : Option (Bor KeptTube)) {found : Option KeptTube} → option_map (λ (t : Bor KeptTube). t.now) o ≡ found → is_some o ≡ is_some found
-lent_any None e = ap is_some e
-lent_any (Some t) e = ap is_some e
+lent_any o e = grind (arith, common_steps)
 
 pub provided_there : (name : List ℕ) (ts : List TubeRecord) → has_entry name ts ≡ true → provided name ts ≡ ts
 provided_there name ts h = ap (λ b. if b then ts else with_record (fresh_tube name) ts) h

@@ -13,6 +13,7 @@ use Rattle.bq_state.specs.TubeEntries.{AreEntries, AreInOrder, HasTubes, IsFresh
 use Rattle.bq_state.proofs.TubeLemmas.{counted_inserted, entry_filtered, fresh_inserted, has_inserted, order_filtered, order_inserted, order_kept, same_entries, same_itself, same_name, still_has}
 use Rattle.bq_job.proofs.LawfulLemmas.{length_numbers}
 use Rattle.bq_jobs.proofs.Changes.{low_below}
+use Rattle.std.proofs.lemmas.Grind.{common_steps}
 
 -- what all elements have is kept where each change keeps it
 pub all_kept : {A : Type 0} (P : A → Type 0) (f : A → A) → ((x : A) → P x → P (f x)) → (xs : List A) → All P xs → All P (map f xs)
@@ -25,62 +26,36 @@ all_filtered P p [] all = tt
 all_filtered {A = A} P p (x ∷ xs) all = kept (p x) (all_filtered P p xs all.1)
   where
     kept : (b : Bool) → All P (filter p xs) → All P (if b then x ∷ filter p xs else filter p xs)
-    kept true rest = (all.0, rest)
-    kept false rest = rest
+    kept b rest = grind (arith, common_steps)
 
 pub all_with : {A : Type 0} (P : A → Type 0) (xs : List A) (x : A) → All P xs → P x → All P (xs ++ x ∷ [])
 all_with P [] x all h = (h, tt)
 all_with P (y ∷ xs) x all h = (all.0, all_with P xs x all.1 h)
 
 pub same_id : (b : Bool) (x y : Job) (id : ℕ) → x.id ≡ id → y.id ≡ id → (if b then x else y).id ≡ id
-same_id true x y id h i = h
-same_id false x y id h i = i
+same_id b x y id h i = grind (arith, common_steps)
 
 -- nor gives it another id
 pub id_kept : (change : JobChange) (j : Job) → (changed change j).id ≡ j.id
-id_kept (FireTimers moment) j = same_id (is_due moment j.state) _ _ j.id refl (same_id (is_expired moment j.state) _ _ j.id refl refl)
-id_kept (HandOut seat moment) j = refl
-id_kept (GiveBack state) j = refl
-id_kept (Release pri delay moment) j = refl
-id_kept (Bury number pri) j = refl
-id_kept (Touch seat deadline) j = refl
-id_kept Kick j = refl
+id_kept change j = grind (arith, common_steps, same_id)
 
 pub entries_of_fewer : (p : Job → Bool) (jobs : List Job) (seats : List SeatRecord) (entries : List TubeRecord) → AreEntries jobs seats entries → AreEntries (filter p jobs) seats entries
-entries_of_fewer p jobs seats entries e = record {
-  order = e.order;
-  fresh = e.fresh;
-  of_default = e.of_default;
-  of_jobs = all_filtered (λ j. has_entry j.tube entries ≡ true) p jobs e.of_jobs;
-  of_seats = e.of_seats;
-}
+entries_of_fewer p jobs seats entries e = grind (arith, common_steps, all_filtered)
 
 pub all_added : (P : Job → Type 0) (j : Job) (jobs : List Job) → P j → All P jobs → All P (with_added j jobs)
 all_added P j [] h all = (h, tt)
-all_added P j (k ∷ jobs) h all = go (nat_lt k.id j.id) (all_added P j jobs h all.1)
-  where
-    go : (b : Bool) → All P (with_added j jobs) → All P (if b then k ∷ with_added j jobs else j ∷ k ∷ jobs)
-    go true rest = (all.0, rest)
-    go false rest = (h, all)
+all_added P j (k ∷ jobs) h all = grind (arith, common_steps, all_added P j jobs h all.1)
 
 pub entries_of_added : (j : Job) (jobs : List Job) (seats : List SeatRecord) (entries : List TubeRecord) → has_entry j.tube entries ≡ true → AreEntries jobs seats entries → AreEntries (with_added j jobs) seats entries
-entries_of_added j jobs seats entries h e = record {
-  order = e.order;
-  fresh = e.fresh;
-  of_default = e.of_default;
-  of_jobs = all_added (λ j. has_entry j.tube entries ≡ true) j jobs h e.of_jobs;
-  of_seats = e.of_seats;
-}
+entries_of_added j jobs seats entries h e = grind (arith, common_steps, all_added)
 
 -- a job that is there has an entry, and its id was given
 pub has_of_job : (jobs : List Job) (seats : List SeatRecord) (entries : List TubeRecord) (id : ℕ) (j : Job) → AreEntries jobs seats entries → job_with id jobs ≡ Some j → has_entry j.tube entries ≡ true
-has_of_job jobs seats entries id j e found =
-    all_at (λ k. has_entry k.tube entries ≡ true) jobs j e.of_jobs ((found_passes (λ k. k.id == id) jobs j found).1)
+has_of_job jobs seats entries id j e found = grind (arith, common_steps, all_at, found_passes)
 
 pub ids_below : (low next : ℕ) (jobs : List Job) → AreIdsWithin low jobs next → All (λ k. (low ≤ k.id) × (k.id < next)) jobs
 ids_below low next [] h = tt
-ids_below low next (k ∷ jobs) h =
-    ((h.0, low_below (suc k.id) next jobs h.1), all_weaker (λ i. (suc k.id ≤ i.id) × (i.id < next)) (λ i. (low ≤ i.id) × (i.id < next)) jobs (λ i b. (let a = h.0 in let c = b.0 in omega arith, b.1)) (ids_below (suc k.id) next jobs h.1))
+ids_below low next (k ∷ jobs) h = grind (arith, common_steps, low_below, all_weaker, ids_below (suc k.id) next jobs h.1)
 pub given_of_job : (next id : ℕ) (jobs : List Job) (j : Job) → AreIdsWithin 1 jobs next → job_with id jobs ≡ Some j → (1 ≤ j.id) × (j.id < next)
 given_of_job next id jobs j ids found =
     all_at (λ k. (1 ≤ k.id) × (k.id < next)) jobs j (ids_below 1 next jobs ids) ((found_passes (λ k. k.id == id) jobs j found).1)
@@ -110,72 +85,39 @@ no_job_changed id f (k ∷ jobs) h = elim (cases_Bool (k.id == id)) [
 -- Where jobs were only looked at, the state is still sound.
 pub compared_sound : (st : CoreParts) (jobs : Kept) → jobs ≡ record st.jobs { comparisons = jobs.comparisons }
     → Soundness jobs.jobs st.seats.items st.tubes st.waiting st.known st.next_id st.draining
-compared_sound st jobs same =
-    subst (λ (k : Kept). Soundness k.jobs st.seats.items st.tubes st.waiting st.known st.next_id st.draining) (sym same) st.sound
+compared_sound st jobs same = grind (arith, common_steps)
 
 -- or where an id was given.
 pub sound_given : (st : CoreParts) → Soundness st.jobs.jobs st.seats.items st.tubes st.waiting st.known (st.next_id + 1) (nat_le 18446744073709551614 st.next_id)
-sound_given st =
-    let was = st.sound in
-    record {
-      entries = was.entries;
-      numbered = was.numbered;
-      next = λ d. let h = leb-false 18446744073709551614 st.next_id d in omega arith;
-      ids = ids_further 1 st.next_id (st.next_id + 1) st.jobs.jobs (omega arith) was.ids;
-      waiting = was.waiting;
-      known = was.known;
-    }
+sound_given st = grind (arith, common_steps, leb-false, ids_further)
 
 -- a change of a seat leaves it at tubes with entries
 seat_has : (entries : List TubeRecord) → has_entry default_tube entries ≡ true → (what : SeatChange) → has_tube_of what entries ≡ true → (s : SeatRecord) → HasTubes entries s → HasTubes entries (seat_changed what s)
-seat_has entries d StopWaiting h s has = record { used = has.used; watched = has.watched }
-seat_has entries d (Wait ticket until) h s has = record { used = has.used; watched = has.watched }
-seat_has entries d Connect h s has = record { used = λ _. d; watched = λ _. (d, tt) }
-seat_has entries d Clear h s has = record { used = λ _. d; watched = λ _. (d, tt) }
-seat_has entries d End h s has = record { used = has.used; watched = has.watched }
-seat_has entries d (Use tube) h s has = record { used = λ _. h; watched = has.watched }
+seat_has entries d what h s has = grind (arith, common_steps)
 
 one_has : (entries : List TubeRecord) (b : Bool) (x y : SeatRecord) → HasTubes entries x → HasTubes entries y → HasTubes entries (if b then x else y)
-one_has entries true x y h i = h
-one_has entries false x y h i = i
+one_has entries b x y h i = grind (arith, common_steps)
 
 pub entries_of_seat : (number : ℕ) (what : SeatChange) (jobs : List Job) (seats : List SeatRecord) (entries : List TubeRecord) → has_tube_of what entries ≡ true → AreEntries jobs seats entries → AreEntries jobs (map (seat_changed_at number what) seats) entries
-entries_of_seat number what jobs seats entries h e = record {
-  order = e.order;
-  fresh = e.fresh;
-  of_default = e.of_default;
-  of_jobs = e.of_jobs;
-  of_seats = all_kept (HasTubes entries) (seat_changed_at number what) (λ s has. one_has entries (s.number == number) (seat_changed what s) s (seat_has entries e.of_default what h s has) has) seats e.of_seats;
-}
+entries_of_seat number what jobs seats entries h e = grind (arith, common_steps, all_kept, one_has, seat_has)
 
 -- changes keep the numbers of seats
 pub number_kept : (what : SeatChange) (s : SeatRecord) → (seat_changed what s).number ≡ s.number
-number_kept StopWaiting s = refl
-number_kept (Wait ticket until) s = refl
-number_kept Connect s = refl
-number_kept Clear s = refl
-number_kept End s = refl
-number_kept (Use tube) s = refl
+number_kept what s = grind (arith, common_steps)
 
 same_number : (b : Bool) (x y : SeatRecord) (n : ℕ) → x.number ≡ n → y.number ≡ n → (if b then x else y).number ≡ n
-same_number true x y n h i = h
-same_number false x y n h i = i
+same_number b x y n h i = grind (arith, common_steps)
 
 numbers_of_map : (f : SeatRecord → SeatRecord) → ((s : SeatRecord) → (f s).number ≡ s.number) → (seats : List SeatRecord) → map (λ s. s.number) (map f seats) ≡ map (λ s. s.number) seats
 numbers_of_map f keeps [] = refl
 numbers_of_map f keeps (s ∷ seats) = rw (keeps s, numbers_of_map f keeps seats) refl
 
 pub numbered_after : (number : ℕ) (what : SeatChange) (seats : List SeatRecord) → AreNumbered seats → AreNumbered (map (seat_changed_at number what) seats)
-numbered_after number what seats h =
-    numbers_of_map (seat_changed_at number what) (λ s. same_number (s.number == number) (seat_changed what s) s s.number (number_kept what s) refl) seats
-    ∙ h
-    ∙ ap (numbers 0) (sym (length-map seats (seat_changed_at number what)))
+numbered_after number what seats h = grind (arith, common_steps, numbers_of_map, same_number, number_kept, length-map)
 
 -- changes of tubes
 pub tube_name_kept : (what : TubeChange) (t : TubeRecord) → (tube_changed what t).name ≡ t.name
-tube_name_kept CountPut t = refl
-tube_name_kept CountDelete t = refl
-tube_name_kept (Pause seconds moment) t = refl
+tube_name_kept what t = grind (arith, common_steps)
 
 pub raised_some : (n : ℕ) → 1 ≤ raised n
 raised_some n = omega arith
@@ -184,91 +126,49 @@ not_zero : (n : ℕ) → (1 ≤ n) → (n == 0) ≡ false
 not_zero n h = grind (arith, nat_tests)
 
 pub tube_counts : (what : TubeChange) (t : TubeRecord) → is_counted (tube_changed what t) ≡ true
-tube_counts CountPut t = rw (not_zero (raised t.puts) (raised_some t.puts)) refl
-tube_counts CountDelete t = rw (not_zero (raised t.deletes) (raised_some t.deletes), and-false (t.puts == 0)) refl
-tube_counts (Pause seconds moment) t = rw (not_zero (raised t.pauses) (raised_some t.pauses), and-false (t.puts == 0 && t.deletes == 0)) refl
+tube_counts what t = grind (arith, common_steps, not_zero, raised_some, and-false)
 
 pub name_kept_at : (name : List ℕ) (what : TubeChange) (t : TubeRecord) → (tube_changed_at name what t).name ≡ t.name
-name_kept_at name what t = go (is_same_name name t.name)
-  where
-    go : (b : Bool) → (if b then tube_changed what t else t).name ≡ t.name
-    go true = tube_name_kept what t
-    go false = refl
+name_kept_at name what t = grind (arith, common_steps, tube_name_kept)
 
 fresh_at : (name : List ℕ) (what : TubeChange) (t : TubeRecord) → IsFreshUnlessCounted t → IsFreshUnlessCounted (tube_changed_at name what t)
-fresh_at name what t fresh = go (is_same_name name t.name)
-  where
-    go : (b : Bool) → IsFreshUnlessCounted (if b then tube_changed what t else t)
-    go true = λ none. absurd (let some = tube_counts what t in cc)
-    go false = fresh
+fresh_at name what t fresh = grind (arith, common_steps, tube_counts)
 
 -- entries whose names are the same
 has_as_before : (entries entries' : List TubeRecord) → ((name : List ℕ) → has_entry name entries ≡ true → has_entry name entries' ≡ true) → (s : SeatRecord) → HasTubes entries s → HasTubes entries' s
-has_as_before entries entries' still s has = record {
-  used = λ c. still s.used (has.used c);
-  watched = λ c. all_weaker (λ name. has_entry name entries ≡ true) (λ name. has_entry name entries' ≡ true) s.watched (λ name h. still name h) (has.watched c);
-}
+has_as_before entries entries' still s has = grind (arith, common_steps, all_weaker)
 
 pub entries_of_other : (jobs : List Job) (seats : List SeatRecord) (entries entries' : List TubeRecord) → AreInOrder entries' → All IsFreshUnlessCounted entries' → ((name : List ℕ) → has_entry name entries ≡ true → has_entry name entries' ≡ true) → AreEntries jobs seats entries → AreEntries jobs seats entries'
-entries_of_other jobs seats entries entries' order fresh still e = record {
-  order = order;
-  fresh = fresh;
-  of_default = still default_tube e.of_default;
-  of_jobs = all_weaker (λ j. has_entry j.tube entries ≡ true) (λ j. has_entry j.tube entries' ≡ true) jobs (λ j h. still j.tube h) e.of_jobs;
-  of_seats = all_weaker (HasTubes entries) (HasTubes entries') seats (has_as_before entries entries' still) e.of_seats;
-}
+entries_of_other jobs seats entries entries' order fresh still e =
+    grind (arith, common_steps, all_weaker, has_as_before)
 
 pub entries_of_tube : (name : List ℕ) (what : TubeChange) (jobs : List Job) (seats : List SeatRecord) (entries : List TubeRecord) → AreEntries jobs seats entries → AreEntries jobs seats (map (tube_changed_at name what) entries)
 entries_of_tube name what jobs seats entries e =
-    entries_of_other jobs seats entries (map (tube_changed_at name what) entries)
-    (order_kept (tube_changed_at name what) (name_kept_at name what) entries e.order)
-    (all_kept IsFreshUnlessCounted (tube_changed_at name what) (fresh_at name what) entries e.fresh)
-    (λ n h. same_entries (tube_changed_at name what) (name_kept_at name what) n entries ∙ h)
-    e
+    grind (arith, common_steps, entries_of_other, order_kept, name_kept_at, all_kept, fresh_at, same_entries)
 
 -- an entry is provided
 pub entries_provided : (name : List ℕ) (jobs : List Job) (seats : List SeatRecord) (entries : List TubeRecord) → AreEntries jobs seats entries → AreEntries jobs seats (provided name entries)
-entries_provided name jobs seats entries e = go (has_entry name entries) refl
-  where
-    go : (b : Bool) → has_entry name entries ≡ b → AreEntries jobs seats (if b then entries else with_record (fresh_tube name) entries)
-    go true h = e
-    go false h =
-        entries_of_other jobs seats entries (with_record (fresh_tube name) entries)
-        (order_inserted (fresh_tube name) entries h e.order)
-        (fresh_inserted (fresh_tube name) (λ _. refl) entries e.fresh)
-        (λ n there. still_has (fresh_tube name) n entries h there)
-        e
+entries_provided name jobs seats entries e =
+    grind (arith, common_steps, entries_of_other, order_inserted, fresh_inserted, still_has)
 
 pub counted_provided : (name : List ℕ) (entries : List TubeRecord) → counted (provided name entries) ≡ counted entries
-counted_provided name entries = go (has_entry name entries) refl
-  where
-    go : (b : Bool) → has_entry name entries ≡ b → counted (if b then entries else with_record (fresh_tube name) entries) ≡ counted entries
-    go true h = refl
-    go false h = counted_inserted (fresh_tube name) refl entries h
+counted_provided name entries = grind (arith, common_steps, counted_inserted)
 
 pub has_provided : (name : List ℕ) (entries : List TubeRecord) → has_entry name (provided name entries) ≡ true
-has_provided name entries = go (has_entry name entries) refl
-  where
-    go : (b : Bool) → has_entry name entries ≡ b → has_entry name (if b then entries else with_record (fresh_tube name) entries) ≡ true
-    go true h = h
-    go false h = has_inserted (fresh_tube name) entries
+has_provided name entries = grind (arith, common_steps, cases_Bool, has_inserted (fresh_tube name) entries)
 
 -- Which tubes exist.
 job_is_in_tube : (jobs : List Job) (seats : List SeatRecord) (j : Job) → Contains jobs j → is_tube_of jobs seats j.tube ≡ true
-job_is_in_tube jobs seats j here =
-    or_left _ (list_any (is_seated_at j.tube) seats)
-    (or_right (is_same_name j.tube default_tube) _ (list_any_with (λ k. is_same_name j.tube k.tube) jobs j here (same_itself j.tube)))
+job_is_in_tube jobs seats j here = grind (arith, common_steps, or_left, or_right, list_any_with, same_itself)
 
 seat_is_at_tube : (jobs : List Job) (seats : List SeatRecord) (s : SeatRecord) (name : List ℕ) → Contains seats s → is_seated_at name s ≡ true → is_tube_of jobs seats name ≡ true
-seat_is_at_tube jobs seats s name here at =
-    or_right (is_same_name name default_tube || list_any (λ j. is_same_name name j.tube) jobs) _ (list_any_with (is_seated_at name) seats s here at)
+seat_is_at_tube jobs seats s name here at = grind (arith, common_steps, or_right, list_any_with)
 
 used_at : (s : SeatRecord) → s.connected ≡ true → is_seated_at s.used s ≡ true
 used_at s c = rw (c, same_itself s.used) refl
 
 watched_at : (s : SeatRecord) (name : List ℕ) → s.connected ≡ true → Contains s.watched name → is_seated_at name s ≡ true
-watched_at s name c here =
-    and_from s.connected _ c (or_right (is_same_name name s.used) (watches name s) (list_any_with (is_same_name name) s.watched name here (same_itself name)))
+watched_at s name c here = grind (arith, common_steps, and_from, or_right, list_any_with, same_itself)
 
 passes_named : (jobs : List Job) (seats : List SeatRecord) (name : List ℕ) → is_tube_of jobs seats name ≡ true → (t : TubeRecord) → name ≡ t.name → is_tube_of jobs seats t.name ≡ true
 passes_named jobs seats name h t e = ap (is_tube_of jobs seats) (sym e) ∙ h
@@ -337,32 +237,19 @@ free_seats [] = tt
 free_seats (n ∷ ns) = (record { used = λ _. refl; watched = λ _. (refl, tt) }, free_seats ns)
 
 pub first_entries : (n : ℕ) → AreEntries [] (map empty_seat (numbers 0 n)) (fresh_tube default_tube ∷ [])
-first_entries n = record {
-  order = (tt, tt);
-  fresh = (λ _. refl, tt);
-  of_default = refl;
-  of_jobs = tt;
-  of_seats = free_seats (numbers 0 n);
-}
+first_entries n = grind (arith, common_steps, free_seats)
 
 numbers_read : (ns : List ℕ) → map (λ s. s.number) (map empty_seat ns) ≡ ns
 numbers_read [] = refl
 numbers_read (n ∷ ns) = ap (λ ms. n ∷ ms) (numbers_read ns)
 
 pub first_numbered : (n : ℕ) → AreNumbered (map empty_seat (numbers 0 n))
-first_numbered n =
-    numbers_read (numbers 0 n) ∙ ap (numbers 0) (sym (length-map (numbers 0 n) empty_seat ∙ length_numbers 0 n))
+first_numbered n = grind (arith, common_steps, numbers_read, length-map, length_numbers)
 
 -- the seat of a number stands at its place
 seat_at : (low : ℕ) (seats : List SeatRecord) (i : ℕ) (s : SeatRecord) → map (λ s. s.number) seats ≡ numbers low (length seats) → seat_with (low + i) seats ≡ Some s → slice_get seats i ≡ Some s
 seat_at low [] i s h found = absurd cc
-seat_at low (t ∷ seats) zero s h found =
-    let first : t.number ≡ low = head_is h in
-    let same : (t.number == low + 0) ≡ true = eq-eqb t.number (low + 0) (omega arith) in
-    rw same at found
-  where
-    head_is : (map (λ s. s.number) (t ∷ seats) ≡ numbers low (length (t ∷ seats))) → t.number ≡ low
-    head_is h = cc
+seat_at low (t ∷ seats) zero s h found = grind (arith, common_steps, eq-eqb)
 seat_at low (t ∷ seats) (suc i) s h found =
     let parts = heads h in
     let other : (t.number == low + suc i) ≡ false = ne_eqb t.number (low + suc i) (λ e. absurd (omega arith)) in
@@ -419,20 +306,11 @@ set_at_place low (t ∷ seats) (suc i) s f h found =
     next low i = omega arith
 
 pub changed_there : (seats : List SeatRecord) (i : ℕ) (s : SeatRecord) (f : SeatRecord → SeatRecord) → AreNumbered seats → slice_get seats i ≡ Some s → map (λ s. if s.number == i then f s else s) seats ≡ set seats i (f s)
-changed_there seats i s f h found = ap (λ n. map (λ s. if s.number == n then f s else s) seats) (sym (from_zero i)) ∙ set_at_place 0 seats i s f h found
-  where
-    from_zero : (i : ℕ) → 0 + i ≡ i
-    from_zero i = omega arith
+changed_there seats i s f h found = grind (arith, common_steps, nat_tests, set_at_place 0 seats i s f h found)
 
 read_at : (low : ℕ) (seats : List SeatRecord) (i : ℕ) (s : SeatRecord) → map (λ s. s.number) seats ≡ numbers low (length seats) → slice_get seats i ≡ Some s → seat_with (low + i) seats ≡ Some s
 read_at low [] i s h found = absurd cc
-read_at low (t ∷ seats) zero s h found =
-    let parts = heads h in
-    let same : (t.number == low + 0) ≡ true = eq-eqb t.number (low + 0) (let a = parts.0 in omega arith) in
-    rw same found
-  where
-    heads : (map (λ s. s.number) (t ∷ seats) ≡ numbers low (length (t ∷ seats))) → (t.number ≡ low) × (map (λ s. s.number) seats ≡ numbers (suc low) (length seats))
-    heads h = (cc, cc)
+read_at low (t ∷ seats) zero s h found = grind (arith, common_steps, eq-eqb)
 read_at low (t ∷ seats) (suc i) s h found =
     let parts = heads h in
     let other : (t.number == low + suc i) ≡ false = ne_eqb t.number (low + suc i) (λ e. absurd (let a = parts.0 in omega arith)) in
@@ -446,10 +324,7 @@ read_at low (t ∷ seats) (suc i) s h found =
 
 -- a place of which the number is known
 pub seat_read : (seats : List SeatRecord) (i : ℕ) (s : SeatRecord) → AreNumbered seats → slice_get seats i ≡ Some s → seat_with i seats ≡ Some s
-seat_read seats i s h found = ap (λ n. seat_with n seats) (sym (from_zero i)) ∙ read_at 0 seats i s h found
-  where
-    from_zero : (i : ℕ) → 0 + i ≡ i
-    from_zero i = omega arith
+seat_read seats i s h found = grind (arith, common_steps, read_at 0 seats i s h found)
 
 -- changes that keep the numbers
 mapped_numbered : (f : SeatRecord → SeatRecord) → ((s : SeatRecord) → (f s).number ≡ s.number) → (seats : List SeatRecord) → AreNumbered seats → AreNumbered (map f seats)
@@ -471,40 +346,17 @@ all_set P (x ∷ xs) zero y all h = (h, all.1)
 all_set P (x ∷ xs) (suc i) y all h = (all.0, all_set P xs i y all.1 h)
 
 entries_of_set : (i : ℕ) (s : SeatRecord) (jobs : List Job) (seats : List SeatRecord) (entries : List TubeRecord) → HasTubes entries s → AreEntries jobs seats entries → AreEntries jobs (set seats i s) entries
-entries_of_set i s jobs seats entries has e = record {
-  order = e.order;
-  fresh = e.fresh;
-  of_default = e.of_default;
-  of_jobs = e.of_jobs;
-  of_seats = all_set (HasTubes entries) seats i s e.of_seats has;
-}
+entries_of_set i s jobs seats entries has e = grind (arith, common_steps, all_set)
 
 pub watching_more : (name : List ℕ) (i : ℕ) (s : SeatRecord) (jobs : List Job) (seats : List SeatRecord) (entries : List TubeRecord) → slice_get seats i ≡ Some s → has_entry name entries ≡ true → AreEntries jobs seats entries → AreEntries jobs (set seats i (watching (s.watched ++ name ∷ []) s)) entries
-watching_more name i s jobs seats entries found h e =
-    let has = all_read (HasTubes entries) seats i s e.of_seats found in
-    entries_of_set i (watching (s.watched ++ name ∷ []) s) jobs seats entries
-    (record { used = has.used; watched = λ c. all_with (λ n. has_entry n entries ≡ true) s.watched name (has.watched c) h })
-    e
+watching_more name i s jobs seats entries found h e = grind (arith, common_steps, all_read, entries_of_set, all_with)
 
 pub watching_fewer : (p : List ℕ → Bool) (i : ℕ) (s : SeatRecord) (jobs : List Job) (seats : List SeatRecord) (entries : List TubeRecord) → slice_get seats i ≡ Some s → AreEntries jobs seats entries → AreEntries jobs (set seats i (watching (filter p s.watched) s)) entries
-watching_fewer p i s jobs seats entries found e =
-    let has = all_read (HasTubes entries) seats i s e.of_seats found in
-    entries_of_set i (watching (filter p s.watched) s) jobs seats entries
-    (record { used = has.used; watched = λ c. all_filtered (λ n. has_entry n entries ≡ true) p s.watched (has.watched c) })
-    e
+watching_fewer p i s jobs seats entries found e = grind (arith, common_steps, all_read, entries_of_set, all_filtered)
 
 pub entries_of_timers : (moment : ℕ) (jobs : List Job) (seats : List SeatRecord) (entries : List TubeRecord) → AreEntries jobs seats entries → AreEntries jobs seats (map (tube_after_timers moment) entries)
 entries_of_timers moment jobs seats entries e =
-    entries_of_other jobs seats entries (map (tube_after_timers moment) entries)
-    (order_kept (tube_after_timers moment) (λ t. refl) entries e.order)
-    (all_kept IsFreshUnlessCounted (tube_after_timers moment) (fresh_timer moment) entries e.fresh)
-    (λ n h. same_entries (tube_after_timers moment) (λ t. refl) n entries ∙ h)
-    e
-  where
-    fresh_timer : (moment : ℕ) (t : TubeRecord) → IsFreshUnlessCounted t → IsFreshUnlessCounted (tube_after_timers moment t)
-    fresh_timer moment t fresh none =
-        let is : t ≡ fresh_tube t.name = fresh none in
-        ap (tube_after_timers moment) is
+    grind (arith, common_steps, entries_of_other, order_kept, all_kept, same_entries)
 
 -- a place within a list is taken
 pub some_at : {A : Type 0} (xs : List A) (i : ℕ) → i < length xs → (x : A) × (slice_get xs i ≡ Some x)

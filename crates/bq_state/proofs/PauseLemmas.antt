@@ -7,24 +7,20 @@ use Rattle.bq_state.specs.declared.tubes.entry.TubeChange.{TubeChange, TheVarian
 use Rattle.bq_state.specs.{Dues.{earlier_of_both, first_pause_end, is_end_over, pause_end_after, with_tube_due}, TubeEntries.{counted, has_entry, is_counted, is_over, is_pause_over, provided, tube_changed, tube_changed_at}}
 use Rattle.std.proofs.lemmas.Bool.{or_parts}
 use Rattle.bq_state.proofs.WarningLemmas.{no_other}
+use Rattle.std.proofs.lemmas.Grind.{common_steps}
+use Rattle.std.proofs.lemmas.Bool.{cases_Bool}
 
 -- changes that keep the pauses
 same_ends : (f : TubeRecord → TubeRecord) → ((t : TubeRecord) → (f t).pause ≡ t.pause) → (entries : List TubeRecord) (best : Option ℕ) → fold with_tube_due best (map f entries) ≡ fold with_tube_due best entries
 same_ends f keeps [] best = refl
 same_ends f keeps (t ∷ entries) best =
-    ap (λ p. fold with_tube_due (earlier_of_both best (earliest (dues_of_pause p))) (map f entries)) (keeps t)
-    ∙ same_ends f keeps entries (earlier_of_both best (earliest (dues_of_pause t.pause)))
+    grind (arith, common_steps, same_ends f keeps entries (earlier_of_both best (earliest (dues_of_pause t.pause))))
 
 same_pause : (b : Bool) (x y : TubeRecord) → x.pause ≡ y.pause → (if b then x else y).pause ≡ y.pause
-same_pause true x y h = h
-same_pause false x y h = refl
+same_pause b x y h = grind (arith, common_steps)
 
 pub end_after_change : (name : List ℕ) (what : TubeChange) (entries : List TubeRecord) (last : Option ℕ) → last ≡ first_pause_end entries → pause_end_after (map (tube_changed_at name what) entries) what last ≡ first_pause_end (map (tube_changed_at name what) entries)
-end_after_change name CountPut entries last h =
-    h ∙ sym (same_ends (tube_changed_at name CountPut) (λ t. same_pause (is_same_name name t.name) (tube_changed CountPut t) t refl) entries None)
-end_after_change name CountDelete entries last h =
-    h ∙ sym (same_ends (tube_changed_at name CountDelete) (λ t. same_pause (is_same_name name t.name) (tube_changed CountDelete t) t refl) entries None)
-end_after_change name (Pause seconds moment) entries last h = refl
+end_after_change name what entries last h = grind (arith, common_steps, same_ends, same_pause)
 
 -- a new entry has no pause
 fresh_adds_none : (name : List ℕ) (entries : List TubeRecord) (best : Option ℕ) → has_entry name entries ≡ false → fold with_tube_due best (with_record (fresh_tube name) entries) ≡ fold with_tube_due best entries
@@ -34,53 +30,31 @@ fresh_adds_none name (t ∷ entries) best h =
     rw parts.0 (go (is_name_before name t.name) (fresh_adds_none name entries (earlier_of_both best (earliest (dues_of_pause t.pause))) parts.1))
   where
     go : (b : Bool) → fold with_tube_due best (t ∷ with_record (fresh_tube name) entries) ≡ fold with_tube_due best (t ∷ entries) → fold with_tube_due best (if b then fresh_tube name ∷ t ∷ entries else t ∷ with_record (fresh_tube name) entries) ≡ fold with_tube_due best (t ∷ entries)
-    go true rest = ap (λ o. fold with_tube_due o (t ∷ entries)) (no_other best)
-    go false rest = rest
+    go b rest = grind (arith, common_steps, no_other)
 
 pub end_provided : (name : List ℕ) (entries : List TubeRecord) → first_pause_end (provided name entries) ≡ first_pause_end entries
-end_provided name entries = go (has_entry name entries) refl
-  where
-    go : (b : Bool) → has_entry name entries ≡ b → first_pause_end (if b then entries else with_record (fresh_tube name) entries) ≡ first_pause_end entries
-    go true h = refl
-    go false h = fresh_adds_none name entries None h
+end_provided name entries = grind (arith, common_steps, fresh_adds_none)
 
 -- Where the first end is yet to come, no pause is over.
 both_to_come : (moment : ℕ) (a b : Option ℕ) → is_end_over moment (earlier_of_both a b) ≡ false → (is_end_over moment a ≡ false) × (is_end_over moment b ≡ false)
-both_to_come moment None b h = (refl, h)
-both_to_come moment (Some a) None h = (h, refl)
-both_to_come moment (Some a) (Some b) h = (first moment a b h, second moment a b h)
-  where
-    first : (moment a b : ℕ) → nat_le (min a b) moment ≡ false → nat_le a moment ≡ false
-    first moment a b h = grind (arith, nat_tests)
-
-    second : (moment a b : ℕ) → nat_le (min a b) moment ≡ false → nat_le b moment ≡ false
-    second moment a b h = grind (arith, nat_tests)
+both_to_come moment a b h = grind (arith, common_steps)
 
 not_over : (moment : ℕ) (p : Option PauseRecord) → is_end_over moment (earliest (dues_of_pause p)) ≡ false → is_over moment p ≡ false
-not_over moment None h = refl
-not_over moment (Some pause) h = h
+not_over moment p h = grind (arith, common_steps)
 
 all_to_come : (moment : ℕ) (best : Option ℕ) (entries : List TubeRecord) → is_end_over moment (fold with_tube_due best entries) ≡ false → (is_end_over moment best ≡ false) × (list_any (is_pause_over moment) entries ≡ false)
 all_to_come moment best [] h = (h, refl)
 all_to_come moment best (t ∷ entries) h =
-    let rest = all_to_come moment (earlier_of_both best (earliest (dues_of_pause t.pause))) entries h in
-    let parts = both_to_come moment best (earliest (dues_of_pause t.pause)) rest.0 in
-    (parts.0, ap (λ b. b || list_any (is_pause_over moment) entries) (not_over moment t.pause parts.1) ∙ rest.1)
+    grind (arith, common_steps, both_to_come, not_over,
+    all_to_come moment (earlier_of_both best (earliest (dues_of_pause t.pause))) entries h)
 
 pub none_over : (moment : ℕ) (entries : List TubeRecord) → is_end_over moment (first_pause_end entries) ≡ false → list_any (is_pause_over moment) entries ≡ false
 none_over moment entries h = (all_to_come moment None entries h).1
 
 -- no pause is over
 pub none_counted : (moment : ℕ) (entries : List TubeRecord) → list_any (is_pause_over moment) entries ≡ false → list_any (is_pause_over moment) (counted entries) ≡ false
-none_counted moment entries h =
-    list_any_not (is_pause_over moment) (counted entries)
-    (all_weaker (λ t. (is_pause_over moment t ≡ false) × (is_counted t ≡ true)) (λ t. is_pause_over moment t ≡ false) (counted entries) (λ t k. k.0) (all_of_filter (λ t. is_pause_over moment t ≡ false) is_counted entries (none_pass (is_pause_over moment) entries h)))
+none_counted moment entries h = grind (arith, common_steps, list_any_not, all_weaker, all_of_filter, none_pass)
 
 pub no_pause_ends : (moment : ℕ) (tubes : List TubeRecord) → list_any (is_pause_over moment) tubes ≡ false → map (tube_after_timers moment) tubes ≡ tubes
-no_pause_ends moment tubes h = map_all_same (tube_after_timers moment) tubes (all_weaker (λ t. is_pause_over moment t ≡ false) (λ t. tube_after_timers moment t ≡ t) tubes (λ t none. stays t t.pause refl none) (none_pass (is_pause_over moment) tubes h))
-  where
-    stays : (t : TubeRecord) (p : Option PauseOf) → t.pause ≡ p → is_over moment p ≡ false → tube_after_timers moment t ≡ t
-    stays t None e h = ap (λ q. record t { pause = pause_after_timers moment q }) e ∙ ap (λ q. record t { pause = q }) (sym e)
-    stays t (Some p) e h =
-        let same : pause_after_timers moment (Some p) ≡ Some p = rw h refl in
-        ap (λ q. record t { pause = pause_after_timers moment q }) e ∙ ap (λ q. record t { pause = q }) (same ∙ sym e)
+no_pause_ends moment tubes h =
+    grind (arith, common_steps, cases_Bool, map_all_same, all_weaker, none_pass (is_pause_over moment) tubes h)

@@ -5,15 +5,11 @@ use Rattle.std.specs.{Borrow.Bor, List.HoldsAt, Option.{IfSome, MatchOption, opt
 use Rattle.bq_job.specs.machine.{SeatRecord, empty_seat, numbers, seat_with}
 use Rattle.bq_state.specs.SeatChanges.{AreNumbered}
 use Rattle.bq_state.proofs.PartsLemmas.{seat_read, seat_there}
+use Rattle.std.proofs.lemmas.Grind.{common_steps}
 
 -- what stands at the place of a number is the seat of that number, if there is one
 pub place_is_seat : (seats : List SeatRecord) (i : ℕ) → AreNumbered seats → slice_get seats i ≡ seat_with i seats
-place_is_seat seats i h = go (slice_get seats i) (seat_with i seats) refl refl
-  where
-    go : (a b : Option SeatRecord) → slice_get seats i ≡ a → seat_with i seats ≡ b → slice_get seats i ≡ b
-    go (Some s) b e f = sym (sym f ∙ seat_read seats i s h e ∙ sym e)
-    go None (Some s) e f = seat_there seats i s h f
-    go None None e f = e
+place_is_seat seats i h = grind (arith, common_steps, seat_read, seat_there)
 
 -- what a look at that place finds
 pub found_there : (seats : List SeatRecord) (i : ℕ) (found : Option (Bor SeatRecord)) → AreNumbered seats → IfSome found (λ s. s.now ≡ get_or seats i s.now)
@@ -38,8 +34,4 @@ numbers_more low zero = ap (λ k. k ∷ []) (omega arith)
 numbers_more low (suc n) = ap (λ ns. low ∷ ns) (numbers_more (suc low) n ∙ ap (λ k. numbers (suc low) n ++ k ∷ []) (omega arith))
 
 pub places_more : (n : ℕ) → map empty_seat (numbers 0 (n + 1)) ≡ map empty_seat (numbers 0 n) ++ empty_seat n ∷ []
-places_more n =
-    ap (λ k. map empty_seat (numbers 0 k)) (add-one n)
-    ∙ ap (map empty_seat) (numbers_more 0 n)
-    ∙ map-append empty_seat (numbers 0 n) ((0 + n) ∷ [])
-    ∙ ap (λ k. map empty_seat (numbers 0 n) ++ empty_seat k ∷ []) (omega arith)
+places_more n = grind (arith, common_steps, add-one, numbers_more, map-append)

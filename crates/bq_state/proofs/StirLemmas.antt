@@ -11,6 +11,8 @@ use Rattle.bq_state.specs.declared.tubes.entry.TubeChange.{TubeChange, TheVarian
 use Rattle.bq_state.specs.{Crowds.is_waiter, SeatChanges.{seat_changed, seat_changed_at}}
 use Rattle.bq_state.specs.{Stirs.{AreKnown, IsKnown, is_nothing, is_paused_by, is_wanted_by, may_get, stirred_by_change, stirred_by_seat, with_anything, with_asker, with_stirred}, TubeEntries.tube_changed}
 use Rattle.bq_state.proofs.{PartsLemmas.{all_added, all_read, all_set}, TubeLemmas.{same_itself, same_name}}
+use Rattle.std.proofs.lemmas.Grind.{common_steps}
+use Rattle.std.proofs.Common.{arith}
 
 -- what could be had can be had yet
 still_stirred : (name : List ℕ) (stir : Stir) (tube : List ℕ) (seat : ℕ) → may_get stir tube seat ≡ true → may_get (with_stirred name stir) tube seat ≡ true
@@ -23,25 +25,13 @@ still_stirred name (Client asker) tube seat h = refl
 still_stirred name Any tube seat h = refl
 
 now_stirred : (name : List ℕ) (stir : Stir) (seat : ℕ) → may_get (with_stirred name stir) name seat ≡ true
-now_stirred name Nothing seat = same_itself name
-now_stirred name (Tube stirred) seat = elim (cases_Bool (is_same_name stirred name)) [
-  | inl same ↦ rw same (same_itself name)
-  | inr other ↦ rw other refl
-]
-now_stirred name (Client asker) seat = refl
-now_stirred name Any seat = refl
+now_stirred name stir seat = grind (arith, common_steps, same_itself, cases_Bool)
 
 still_asked : (number : ℕ) (stir : Stir) (tube : List ℕ) (seat : ℕ) → may_get stir tube seat ≡ true → may_get (with_asker number stir) tube seat ≡ true
-still_asked number Nothing tube seat h = absurd cc
-still_asked number (Tube stirred) tube seat h = refl
-still_asked number (Client asker) tube seat h = refl
-still_asked number Any tube seat h = refl
+still_asked number stir tube seat h = grind (arith, common_steps)
 
 now_asked : (number : ℕ) (stir : Stir) (tube : List ℕ) (seat : ℕ) → (seat == number) ≡ true → may_get (with_asker number stir) tube seat ≡ true
-now_asked number Nothing tube seat h = h
-now_asked number (Tube stirred) tube seat h = refl
-now_asked number (Client asker) tube seat h = refl
-now_asked number Any tube seat h = refl
+now_asked number stir tube seat h = grind (arith, common_steps)
 
 -- what is known of each job and client after a change
 known_then : (stir stir' : Stir) (jobs : List Job) (seats : List SeatRecord) (tubes tubes' : List TubeRecord)
@@ -52,11 +42,7 @@ known_then stir stir' jobs seats tubes tubes' goes known =
 
 -- a client waits for a job where it waits, the job is ready, and its tube is watched
 wanted_parts : (w r n d : Bool) → (w && (r && n && not d)) ≡ true → (w ≡ true) × (r ≡ true) × (n ≡ true) × (d ≡ false)
-wanted_parts true true true false h = (refl, refl, refl, refl)
-wanted_parts true true true true h = absurd cc
-wanted_parts true true false d h = absurd cc
-wanted_parts true false n d h = absurd cc
-wanted_parts false r n d h = absurd cc
+wanted_parts w r n d h = grind (arith, common_steps)
 
 pub parts_of : (tubes : List TubeRecord) (j : Job) (s : SeatRecord) → is_wanted_by tubes j s ≡ true → (is_waiting s ≡ true) × (is_ready j ≡ true) × (watches j.tube s ≡ true) × (is_paused_by tubes j.tube ≡ false)
 parts_of tubes j s h = wanted_parts (is_waiting s) (is_ready j) (watches j.tube s) (is_paused_by tubes j.tube) h
@@ -64,14 +50,7 @@ parts_of tubes j s h = wanted_parts (is_waiting s) (is_ready j) (watches j.tube 
 -- a pause that goes on leaves no job to be had
 paused_then : (stir stir' : Stir) (tubes tubes' : List TubeRecord) (j : Job) (s : SeatRecord) → (may_get stir j.tube s.number ≡ true → may_get stir' j.tube s.number ≡ true)
     → (is_paused_by tubes j.tube ≡ true → is_paused_by tubes' j.tube ≡ true) → IsKnown stir tubes j s → IsKnown stir' tubes' j s
-paused_then stir stir' tubes tubes' j s more stays known wanted =
-    let parts = parts_of tubes' j s wanted in
-    let free : is_paused_by tubes j.tube ≡ false = go (is_paused_by tubes j.tube) (is_paused_by tubes' j.tube) stays parts.3 in
-    more (known (rw (parts.0, parts.1, parts.2, free) refl))
-  where
-    go : (b c : Bool) → (b ≡ true → c ≡ true) → c ≡ false → b ≡ false
-    go false c k e = refl
-    go true c k e = sym (k refl) ∙ e
+paused_then stir stir' tubes tubes' j s more stays known wanted = grind (arith, common_steps, parts_of)
 
 pub known_any : (jobs : List Job) (seats : List SeatRecord) (tubes : List TubeRecord) → AreKnown Any jobs seats tubes
 known_any jobs seats tubes = all_always (λ j. All (IsKnown Any tubes j) seats) jobs (λ j. all_always (IsKnown Any tubes j) seats (λ s w. refl))
@@ -93,8 +72,7 @@ none_known Nothing m e known =
     (all_weaker (IsKnown Nothing m.tubes j) (λ s. is_waiting_for m j s ≡ false) m.seats (λ s k. go (is_waiting_for m j s) k) all)) known))
   where
     go : (b : Bool) → (b ≡ true → false ≡ true) → b ≡ false
-    go true k = absurd (let e = k refl in cc)
-    go false k = refl
+    go b k = grind (arith, common_steps)
 none_known (Tube stirred) m e known = absurd cc
 none_known (Client asker) m e known = absurd cc
 none_known Any m e known = absurd cc
@@ -105,69 +83,35 @@ pub known_added : (j : Job) (stir : Stir) (jobs : List Job) (seats : List SeatRe
 known_added j stir jobs seats tubes known = go (is_ready j && list_any (is_waiter j.tube) seats) refl
   where
     both : (b c : Bool) → b ≡ true → c ≡ true → (b && c) ≡ false → false ≡ true
-    both true true e f h = sym h
-    both true false e f h = f
-    both false c e f h = e
+    both b c e f h = grind (arith, common_steps)
 
     waiter : (b c : Bool) → b ≡ true → c ≡ true → (b && c) ≡ true
-    waiter true true e f = refl
-    waiter true false e f = f
-    waiter false c e f = e
+    waiter b c e f = grind (arith, common_steps)
 
     unwanted : (is_ready j && list_any (is_waiter j.tube) seats) ≡ false → (s : SeatRecord) → Contains seats s → IsKnown stir tubes j s
-    unwanted none s c wanted =
-        let parts = parts_of tubes j s wanted in
-        absurd
-        (let e = both (is_ready j) (list_any (is_waiter j.tube) seats) parts.1
-        (list_any_with (is_waiter j.tube) seats s c (waiter (is_waiting s) (watches j.tube s) parts.0 parts.2)) none in cc)
+    unwanted none s c wanted = grind (arith, common_steps, parts_of, list_any_with)
 
     go : (b : Bool) → (is_ready j && list_any (is_waiter j.tube) seats) ≡ b → AreKnown (if b then with_stirred j.tube stir else stir) (with_added j jobs) seats tubes
-    go true e =
-        all_added (λ k. All (IsKnown (with_stirred j.tube stir) tubes k) seats) j jobs (all_always (IsKnown (with_stirred j.tube stir) tubes j) seats (λ s w. now_stirred j.tube stir s.number))
-        (known_then stir (with_stirred j.tube stir) jobs seats tubes tubes (λ k c s known w. still_stirred j.tube stir k.tube s.number (known w)) known)
+    go true e = grind (arith, common_steps, all_added, all_always, now_stirred, known_then, still_stirred)
     go false e = all_added (λ k. All (IsKnown stir tubes k) seats) j jobs (all_from_members (IsKnown stir tubes j) seats (unwanted e)) known
 
 -- a seat is changed
 still_by_seat : (number : ℕ) (what : SeatChange) (stir : Stir) (tube : List ℕ) (seat : ℕ) → may_get stir tube seat ≡ true → may_get (stirred_by_seat number what stir) tube seat ≡ true
-still_by_seat number StopWaiting stir tube seat h = h
-still_by_seat number (Wait ticket until) stir tube seat h = still_asked number stir tube seat h
-still_by_seat number Connect stir tube seat h = h
-still_by_seat number Clear stir tube seat h = h
-still_by_seat number End stir tube seat h = h
-still_by_seat number (Use name) stir tube seat h = h
+still_by_seat number what stir tube seat h = grind (arith, common_steps, still_asked)
 
 known_changed : (number : ℕ) (what : SeatChange) (stir : Stir) (tubes : List TubeRecord) (j : Job) (s : SeatRecord) → (s.number == number) ≡ true → IsKnown stir tubes j s → IsKnown (stirred_by_seat number what stir) tubes j (seat_changed what s)
-known_changed number StopWaiting stir tubes j s e known = λ w. absurd cc
-known_changed number (Wait ticket until) stir tubes j s e known = λ w. now_asked number stir j.tube s.number e
-known_changed number Connect stir tubes j s e known = λ w. absurd cc
-known_changed number Clear stir tubes j s e known = λ w. absurd cc
-known_changed number End stir tubes j s e known = known
-known_changed number (Use name) stir tubes j s e known = known
+known_changed number what stir tubes j s e known = grind (arith, common_steps, now_asked)
 
 pub known_of_seat : (number : ℕ) (what : SeatChange) (stir : Stir) (jobs : List Job) (seats : List SeatRecord) (tubes : List TubeRecord) → AreKnown stir jobs seats tubes
     → AreKnown (stirred_by_seat number what stir) jobs (map (seat_changed_at number what) seats) tubes
 known_of_seat number what stir jobs seats tubes known =
-    all_weaker (λ j. All (IsKnown stir tubes j) seats) (λ j. All (IsKnown (stirred_by_seat number what stir) tubes j) (map (seat_changed_at number what) seats)) jobs
-    (λ j all. all_of_map (IsKnown (stirred_by_seat number what stir) tubes j) (seat_changed_at number what) seats
-    (all_weaker (IsKnown stir tubes j) (λ s. IsKnown (stirred_by_seat number what stir) tubes j (seat_changed_at number what s)) seats (λ s k. go j s k (s.number == number) refl) all)) known
-  where
-    go : (j : Job) (s : SeatRecord) → IsKnown stir tubes j s → (b : Bool) → (s.number == number) ≡ b → IsKnown (stirred_by_seat number what stir) tubes j (if b then seat_changed what s else s)
-    go j s k true e = known_changed number what stir tubes j s e k
-    go j s k false e = λ w. still_by_seat number what stir j.tube s.number (k w)
+    grind (arith, common_steps, all_weaker, all_of_map, known_changed, still_by_seat)
 
 -- a client watches other tubes: any job may be had if it waits
 pub known_watching : (names : List (List ℕ)) (i : ℕ) (s : SeatRecord) (stir : Stir) (jobs : List Job) (seats : List SeatRecord) (tubes : List TubeRecord) → AreKnown stir jobs seats tubes
     → AreKnown (if is_waiting s then with_anything stir else stir) jobs (set seats i (watching names s)) tubes
-known_watching names i s stir jobs seats tubes known = go (is_waiting s) refl
-  where
-    quiet : is_waiting s ≡ false → (j : Job) → IsKnown stir tubes j (watching names s)
-    quiet e j w = absurd (let no = (parts_of tubes j (watching names s) w).0 in cc)
-
-    go : (b : Bool) → is_waiting s ≡ b → AreKnown (if b then with_anything stir else stir) jobs (set seats i (watching names s)) tubes
-    go true e = known_any jobs (set seats i (watching names s)) tubes
-    go false e =
-        all_weaker (λ j. All (IsKnown stir tubes j) seats) (λ j. All (IsKnown stir tubes j) (set seats i (watching names s))) jobs
-        (λ j all. all_set (IsKnown stir tubes j) seats i (watching names s) all (quiet e j)) known
+known_watching names i s stir jobs seats tubes known =
+    grind (arith, common_steps, parts_of, known_any, all_weaker, all_set)
 
 -- a client watches fewer
 any_left : (p q : List ℕ → Bool) (names : List (List ℕ)) → list_any p (filter q names) ≡ true → list_any p names ≡ true
@@ -175,9 +119,7 @@ any_left p q [] h = absurd cc
 any_left p q (name ∷ names) h = go (p name) (q name) refl h (any_left p q names)
   where
     go : (b c : Bool) → p name ≡ b → list_any p (if c then name ∷ filter q names else filter q names) ≡ true → (list_any p (filter q names) ≡ true → list_any p names ≡ true) → (b || list_any p names) ≡ true
-    go true c e h rest = refl
-    go false true e h rest = rest (rw e at h)
-    go false false e h rest = rest h
+    go b c e h rest = grind (arith, common_steps)
 
 pub known_ignoring : (q : List ℕ → Bool) (i : ℕ) (s : SeatRecord) (stir : Stir) (jobs : List Job) (seats : List SeatRecord) (tubes : List TubeRecord) → slice_get seats i ≡ Some s → AreKnown stir jobs seats tubes
     → AreKnown stir jobs (set seats i (watching (filter q s.watched) s)) tubes
@@ -186,10 +128,7 @@ known_ignoring q i s stir jobs seats tubes here known =
     (λ j all. all_set (IsKnown stir tubes j) seats i (watching (filter q s.watched) s) all (fewer j (all_read (IsKnown stir tubes j) seats i s all here))) known
   where
     fewer : (j : Job) → IsKnown stir tubes j s → IsKnown stir tubes j (watching (filter q s.watched) s)
-    fewer j k w =
-        let parts = parts_of tubes j (watching (filter q s.watched) s) w in
-        let watched : watches j.tube s ≡ true = any_left (is_same_name j.tube) q s.watched parts.2 in
-        k (rw (parts.0, parts.1, watched, parts.3) refl)
+    fewer j k w = grind (arith, common_steps, parts_of, any_left)
 
 -- a record whose pause ends none leaves all tubes paused
 paused_kept : (name : List ℕ) (t : TubeRecord) (tubes : List TubeRecord) → (is_same_name name t.name ≡ true → is_some (unwrap_or (find (λ u. is_same_name name u.name) tubes) (fresh_tube name)).pause ≡ true → is_some t.pause ≡ true)
@@ -243,8 +182,7 @@ known_of_change tube (PauseFor seconds moment) m stir known = go (seconds == 0) 
     after = (with_tube tube (with_pause seconds moment) m).tubes
 
     stays : (b : Bool) (pause : Pause) → b ≡ false → is_some (if b then None else Some pause) ≡ true
-    stays true pause e = absurd cc
-    stays false pause e = refl
+    stays b pause e = grind (arith, common_steps)
 
     one : (j : Job) (s : SeatRecord) → IsKnown stir m.tubes j s → IsKnown (with_stirred tube stir) after j s
     one j s k = elim (cases_Bool (is_same_name tube j.tube)) [
@@ -266,11 +204,8 @@ known_forgotten m stir known =
     (sym (find_in_filter (λ t. is_same_name j.tube t.name) (λ t. is_tube t.name m) m.tubes (all_always (λ t. is_same_name j.tube t.name ≡ true → is_tube t.name m ≡ true) m.tubes (λ t e. stays j c t e)))) k) known
   where
     or_middle : (a b c : Bool) → b ≡ true → (a || b || c) ≡ true
-    or_middle true b c e = refl
-    or_middle false b c e = rw e refl
+    or_middle a b c e = grind (arith, common_steps)
 
     stays : (j : Job) → Contains m.jobs j → (t : TubeRecord) → is_same_name j.tube t.name ≡ true → is_tube t.name m ≡ true
     stays j c t e =
-        let there : list_any (λ k. is_same_name t.name k.tube) m.jobs ≡ true =
-        list_any_with (λ k. is_same_name t.name k.tube) m.jobs j c (ap (λ n. is_same_name t.name n) (same_name j.tube t.name e) ∙ same_itself t.name) in
-        or_middle (is_same_name t.name default_tube) _ _ there
+        grind (arith, common_steps, cases_Bool, list_any_with, same_name j.tube t.name e, same_itself t.name)

@@ -7,16 +7,15 @@ use Rattle.bq_job.proofs.ListLemmas.{count_cons}
 use Rattle.bq_jobs.specs.Kept.{with_added, without}
 use Rattle.bq_jobs.proofs.Changes.{count_added, count_without as count_taken}
 use Rattle.bq_state.specs.Tallies.{count_with, count_without, tally_of, tally_with, tally_without}
+use Rattle.std.proofs.lemmas.Grind.{common_steps}
 
 -- a count, once one more is counted,
 pub with_is : (counts : Bool) (n : ℕ) → cond counts 1 0 + n ≤ greatest → count_with counts n ≡ cond counts 1 0 + n
-with_is true n fits = grind arith
-with_is false n fits = omega arith
+with_is counts n fits = grind (arith, common_steps)
 
 -- or one less
 pub without_is : (counts : Bool) (n rest : ℕ) → cond counts 1 0 + rest ≡ n → count_without counts n ≡ rest
-without_is true n rest e = omega arith
-without_is false n rest e = omega arith
+without_is counts n rest e = grind (arith, common_steps)
 
 module _ (chosen passes : Job → Bool) where
   -- whether a chosen job counts
@@ -30,34 +29,16 @@ module _ (chosen passes : Job → Bool) where
   both_count : (jobs : List Job) → count_by passes (filter chosen jobs) ≡ count_by (λ k. chosen k && passes k) jobs
   both_count [] = refl
   both_count (j ∷ jobs) =
-      elim (cases_Bool (chosen j)) [
-        | inl e ↦
-            let kept : filter chosen (j ∷ jobs) ≡ j ∷ filter chosen jobs = rw e refl in
-            let one = ap (count_by passes) kept ∙ count_cons passes j (filter chosen jobs) in
-            let other = count_cons (λ k. chosen k && passes k) j jobs ∙ ap (λ n. n + count_by (λ k. chosen k && passes k) jobs) (counts_chosen j e) in
-            one ∙ ap (λ n. cond (passes j) 1 0 + n) (both_count jobs) ∙ sym other
-        | inr e ↦
-            let left : filter chosen (j ∷ jobs) ≡ filter chosen jobs = rw e refl in
-            let other = count_cons (λ k. chosen k && passes k) j jobs ∙ counts_other j (count_by (λ k. chosen k && passes k) jobs) e in
-            ap (count_by passes) left ∙ both_count jobs ∙ sym other
-      ]
+      grind (arith, common_steps, cases_Bool, count_cons, counts_chosen, counts_other, both_count jobs)
 
   some_added : (j : Job) (jobs : List Job) → length (with_added j jobs) ≤ greatest → chosen j ≡ true
       → count_by passes (filter chosen (with_added j jobs)) ≡ count_with (passes j) (count_by passes (filter chosen jobs))
   some_added j jobs fits e =
-      let a = both_count (with_added j jobs) in
-      let b = count_added (λ k. chosen k && passes k) j jobs in
-      let c = ap (λ n. n + count_by (λ k. chosen k && passes k) jobs) (counts_chosen j e) in
-      let d = ap (λ n. cond (passes j) 1 0 + n) (sym (both_count jobs)) in
-      let is = a ∙ b ∙ c ∙ d in
-      let few = count_by-le-length (λ k. chosen k && passes k) (with_added j jobs) in
-      is ∙ sym (with_is (passes j) (count_by passes (filter chosen jobs)) (omega (arith, few, fits, a, is)))
+      grind (arith, common_steps, both_count, count_added, counts_chosen, count_by-le-length, with_is)
 
   none_added : (j : Job) (jobs : List Job) → chosen j ≡ false
       → count_by passes (filter chosen (with_added j jobs)) ≡ count_by passes (filter chosen jobs)
-  none_added j jobs e =
-      both_count (with_added j jobs) ∙ count_added (λ k. chosen k && passes k) j jobs
-      ∙ counts_other j (count_by (λ k. chosen k && passes k) jobs) e ∙ sym (both_count jobs)
+  none_added j jobs e = grind (arith, common_steps, both_count, count_added, counts_other)
 
   module _ (low next id : ℕ) (j : Job) (jobs : List Job) (ids : AreIdsWithin low jobs next) (found : job_with id jobs ≡ Some j) where
     some_taken : chosen j ≡ true → count_by passes (filter chosen (without id jobs)) ≡ count_without (passes j) (count_by passes (filter chosen jobs))
@@ -75,24 +56,12 @@ module _ (chosen passes : Job → Bool) where
 -- The counts of chosen jobs, once one of them comes,
 pub tally_added : (chosen : Job → Bool) (j : Job) (jobs : List Job) → length (with_added j jobs) ≤ greatest → chosen j ≡ true
     → tally_of (filter chosen (with_added j jobs)) ≡ tally_with j (tally_of (filter chosen jobs))
-tally_added chosen j jobs fits e = λ i. record {
-  urgent = some_added chosen is_urgent j jobs fits e i;
-  ready = some_added chosen is_ready j jobs fits e i;
-  reserved = some_added chosen (λ k. is_reserved k.state) j jobs fits e i;
-  delayed = some_added chosen (λ k. is_delayed k.state) j jobs fits e i;
-  buried = some_added chosen (λ k. is_buried k.state) j jobs fits e i;
-}
+tally_added chosen j jobs fits e = grind (arith, common_steps, some_added)
 
 -- or another one comes,
 pub tally_stays_added : (chosen : Job → Bool) (j : Job) (jobs : List Job) → chosen j ≡ false
     → tally_of (filter chosen (with_added j jobs)) ≡ tally_of (filter chosen jobs)
-tally_stays_added chosen j jobs e = λ i. record {
-  urgent = none_added chosen is_urgent j jobs e i;
-  ready = none_added chosen is_ready j jobs e i;
-  reserved = none_added chosen (λ k. is_reserved k.state) j jobs e i;
-  delayed = none_added chosen (λ k. is_delayed k.state) j jobs e i;
-  buried = none_added chosen (λ k. is_buried k.state) j jobs e i;
-}
+tally_stays_added chosen j jobs e = grind (arith, common_steps, none_added)
 
 -- one of them goes,
 pub tally_taken : (chosen : Job → Bool) (low next id : ℕ) (j : Job) (jobs : List Job) → AreIdsWithin low jobs next → job_with id jobs ≡ Some j
@@ -128,5 +97,4 @@ whole_added j jobs fits =
 pub whole_taken : (low next id : ℕ) (j : Job) (jobs : List Job) → AreIdsWithin low jobs next → job_with id jobs ≡ Some j
     → tally_of (without id jobs) ≡ tally_without j (tally_of jobs)
 whole_taken low next id j jobs ids found =
-    sym (ap tally_of (all_chosen (without id jobs))) ∙ tally_taken (λ k. true) low next id j jobs ids found refl
-    ∙ ap (λ ks. tally_without j (tally_of ks)) (all_chosen jobs)
+    grind (arith, common_steps, cases_Bool, all_chosen (without id jobs), tally_taken, all_chosen jobs)

@@ -9,6 +9,7 @@ use Rattle.bq_jobs.specs.Kept.{with_added, without}
 use Rattle.bq_state.specs.declared.known.Tally.{Tally}
 use Rattle.bq_state.specs.{Tallies.{AreCounted, has_jobs, tallies_at, tallies_of, tallies_provided, tallies_with, tallies_without, tally_at, tally_in, tally_of, tally_with, tally_without}, TubeEntries.{AreInOrder, has_entry, provided}}
 use Rattle.bq_state.proofs.{TallyLemmas.{tally_added, tally_stays_added, tally_stays_taken, tally_taken, whole_added, whole_taken}, TubeLemmas.provided_new}
+use Rattle.std.proofs.lemmas.Grind.{common_steps}
 
 module _ (j : Job) (old new : List Job) (f : Tally → Tally)
     (here : (t : TubeRecord) → is_same_name t.name j.tube ≡ true → tally_in new t ≡ f (tally_in old t))
@@ -17,9 +18,8 @@ module _ (j : Job) (old new : List Job) (f : Tally → Tally)
   later_stay : (t : TubeRecord) → j.tube ≡ t.name → (es : List TubeRecord) → All (λ u. is_name_before t.name u.name ≡ true) es → tallies_of old es ≡ tallies_of new es
   later_stay t is [] all = refl
   later_stay t is (u ∷ es) all =
-      let apart : is_same_name u.name t.name ≡ false = not_same t.name u.name (is_same_name u.name t.name) refl all.0 in
-      let head = elsewhere u (ap (is_same_name u.name) is ∙ apart) in
-      λ i. sym head i ∷ later_stay t is es all.1 i
+      grind (arith, common_steps, cases_Bool, not_same t.name u.name (is_same_name u.name t.name) refl all.0,
+      later_stay t is es all.1, all.0, all.1)
 
   pub followed : (es : List TubeRecord) → AreInOrder es → tallies_at j.tube f es (tallies_of old es) ≡ tallies_of new es
   followed [] order = refl
@@ -54,9 +54,7 @@ tallies_taken low next id j jobs ids found = followed j jobs (without id jobs) (
 -- the counts of a tube hang on its name alone
 same_tallies : (f : TubeRecord → TubeRecord) → ((t : TubeRecord) → (f t).name ≡ t.name) → (jobs : List Job) (es : List TubeRecord) → tallies_of jobs es ≡ tallies_of jobs (map f es)
 same_tallies f same jobs [] = refl
-same_tallies f same jobs (t ∷ es) =
-    let head = ap (λ n. tally_of (filter (λ k. is_same_name n k.tube) jobs)) (sym (same t)) in
-    λ i. head i ∷ same_tallies f same jobs es i
+same_tallies f same jobs (t ∷ es) = grind (arith, common_steps, same_tallies f same jobs es)
 
 pub counted_kept : (f : TubeRecord → TubeRecord) → ((t : TubeRecord) → (f t).name ≡ t.name) → (tally : Tally) (tallies : List Tally) (jobs : List Job) (es : List TubeRecord)
     → AreCounted tally tallies jobs es → AreCounted tally tallies jobs (map f es)
@@ -75,9 +73,7 @@ no_job_there name (j ∷ jobs) es none all =
     ]
 
 inserted_tallies : (jobs : List Job) (es : List TubeRecord) (n : ℕ) (x : TubeRecord) → insert (tallies_of jobs es) n (tally_in jobs x) ≡ tallies_of jobs (insert es n x)
-inserted_tallies jobs es n x =
-    let f = tally_in jobs in
-    ap (λ ts. ts ++ f x ∷ drop n (map f es)) (take-map f n es) ∙ ap (λ ts. map f (take n es) ++ f x ∷ ts) (drop-map f n es) ∙ sym (map-append f (take n es) (x ∷ drop n es))
+inserted_tallies jobs es n x = grind (arith, common_steps, take-map, drop-map, map-append)
 
 pub counted_provided : (name : List ℕ) (tally : Tally) (tallies : List Tally) (jobs : List Job) (es : List TubeRecord) → All (λ j. has_entry j.tube es ≡ true) jobs
     → AreCounted tally tallies jobs es → AreCounted tally (tallies_provided name es tallies) jobs (provided name es)
@@ -86,51 +82,31 @@ counted_provided name tally tallies jobs es all was = record { whole = was.whole
     go : (b : Bool) → has_entry name es ≡ b → tallies_provided name es (tallies_of jobs es) ≡ tallies_of jobs (provided name es)
     go true e = rw e refl
     go false e =
-        let n = prefix_len (λ t. is_name_before t.name name) es in
-        let zero = ap tally_of (no_job_there name jobs es e all) in
-        let put : tallies_provided name es (tallies_of jobs es) ≡ insert (tallies_of jobs es) n (tally_of []) = rw e refl in
-        put ∙ ap (insert (tallies_of jobs es) n) (sym zero) ∙ inserted_tallies jobs es n (fresh_tube name) ∙ ap (tallies_of jobs) (provided_new name es e)
+        grind (arith, common_steps, cases_Bool, no_job_there name jobs es e all, inserted_tallies,
+        provided_new name es e)
 
 -- a job comes,
 pub counted_added : (j : Job) (tally : Tally) (tallies : List Tally) (jobs : List Job) (es : List TubeRecord) → length (with_added j jobs) ≤ greatest → AreInOrder es
     → AreCounted tally tallies jobs es → AreCounted (tally_with j tally) (tallies_with j es tallies) (with_added j jobs) es
-counted_added j tally tallies jobs es fits order was = record {
-  whole = ap (tally_with j) was.whole ∙ sym (whole_added j jobs fits);
-  each = ap (tallies_with j es) was.each ∙ tallies_added j jobs fits es order;
-}
+counted_added j tally tallies jobs es fits order was = grind (arith, common_steps, whole_added, tallies_added)
 
 -- or goes
 pub counted_taken : (low next id : ℕ) (j : Job) (tally : Tally) (tallies : List Tally) (jobs : List Job) (es : List TubeRecord)
     → AreIdsWithin low jobs next → job_with id jobs ≡ Some j → AreInOrder es
     → AreCounted tally tallies jobs es → AreCounted (tally_without j tally) (tallies_without j es tallies) (without id jobs) es
-counted_taken low next id j tally tallies jobs es ids found order was = record {
-  whole = ap (tally_without j) was.whole ∙ sym (whole_taken low next id j jobs ids found);
-  each = ap (tallies_without j es) was.each ∙ tallies_taken low next id j jobs ids found es order;
-}
+counted_taken low next id j tally tallies jobs es ids found order was =
+    grind (arith, common_steps, whole_taken, tallies_taken)
 
 some_counted : (p : Job → Bool) (j : Job) (jobs : List Job) → p j ≡ true → nat_lt 0 (count_by p (j ∷ jobs)) ≡ true
 some_counted p j jobs e = rw (count_cons p j jobs, e) (lt-ltb 0 (1 + count_by p jobs) (omega arith))
 
 has_one : (j : Job) (jobs : List Job) → has_jobs (tally_of (j ∷ jobs)) ≡ true
-has_one j jobs = go j.state refl
-  where
-    counts : Tally
-    counts = tally_of (j ∷ jobs)
-
-    go : (state : JobState) → j.state ≡ state → has_jobs (tally_of (j ∷ jobs)) ≡ true
-    go states.Ready e = or_left (nat_lt 0 counts.ready) (nat_lt 0 counts.reserved || (nat_lt 0 counts.delayed || nat_lt 0 counts.buried)) (some_counted is_ready j jobs (ap is_ready_state e))
-    go (states.Reserved seat deadline) e = or_right (nat_lt 0 counts.ready) (nat_lt 0 counts.reserved || (nat_lt 0 counts.delayed || nat_lt 0 counts.buried)) (or_left (nat_lt 0 counts.reserved) (nat_lt 0 counts.delayed || nat_lt 0 counts.buried) (some_counted (λ k. is_reserved k.state) j jobs (ap is_reserved e)))
-    go (states.Delayed due) e = or_right (nat_lt 0 counts.ready) (nat_lt 0 counts.reserved || (nat_lt 0 counts.delayed || nat_lt 0 counts.buried)) (or_right (nat_lt 0 counts.reserved) (nat_lt 0 counts.delayed || nat_lt 0 counts.buried) (or_left (nat_lt 0 counts.delayed) (nat_lt 0 counts.buried) (some_counted (λ k. is_delayed k.state) j jobs (ap is_delayed e))))
-    go (states.Buried burial) e = or_right (nat_lt 0 counts.ready) (nat_lt 0 counts.reserved || (nat_lt 0 counts.delayed || nat_lt 0 counts.buried)) (or_right (nat_lt 0 counts.reserved) (nat_lt 0 counts.delayed || nat_lt 0 counts.buried) (or_right (nat_lt 0 counts.delayed) (nat_lt 0 counts.buried) (some_counted (λ k. is_buried k.state) j jobs (ap is_buried e))))
+has_one j jobs = grind (arith, common_steps, or_left, some_counted, or_right)
 
 -- a job is counted where there is one
 pub has_jobs_in : (name : List ℕ) (jobs : List Job) → has_jobs (tally_of (filter (λ j. is_same_name name j.tube) jobs)) ≡ list_any (λ j. is_same_name name j.tube) jobs
 has_jobs_in name [] = refl
-has_jobs_in name (j ∷ jobs) =
-    elim (cases_Bool (is_same_name name j.tube)) [
-      | inl e ↦ rw e (has_one j (filter (λ k. is_same_name name k.tube) jobs))
-      | inr e ↦ rw e (has_jobs_in name jobs)
-    ]
+has_jobs_in name (j ∷ jobs) = grind (arith, common_steps, cases_Bool, has_one, has_jobs_in name jobs)
 
 tally_named : (name : List ℕ) (jobs : List Job) (es : List TubeRecord) → has_entry name es ≡ true
     → tally_at name es (tallies_of jobs es) ≡ tally_of (filter (λ j. is_same_name name j.tube) jobs)
@@ -154,8 +130,4 @@ tally_missing name jobs (t ∷ es) h =
 -- the counts that stand at a name are those of its jobs
 pub tally_there : (name : List ℕ) (jobs : List Job) (es : List TubeRecord) → All (λ j. has_entry j.tube es ≡ true) jobs
     → tally_at name es (tallies_of jobs es) ≡ tally_of (filter (λ j. is_same_name name j.tube) jobs)
-tally_there name jobs es all = go (has_entry name es) refl
-  where
-    go : (b : Bool) → has_entry name es ≡ b → tally_at name es (tallies_of jobs es) ≡ tally_of (filter (λ j. is_same_name name j.tube) jobs)
-    go true e = tally_named name jobs es e
-    go false e = tally_missing name jobs es e ∙ ap tally_of (sym (no_job_there name jobs es e all))
+tally_there name jobs es all = grind (arith, common_steps, tally_named, tally_missing, no_job_there)

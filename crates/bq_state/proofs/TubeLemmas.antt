@@ -6,6 +6,7 @@ use Rattle.std.specs.{Cmp.Lexicographic.bytes_decides, List.{AllByRecursion as A
 use Rattle.bq_job.specs.{machine.{TubeRecord, fresh_tube, is_name_before, with_record}, reading.TubeName.is_same_name}
 use Rattle.bq_job.proofs.NameOrderLemmas.{after, before_trans, not_before}
 use Rattle.bq_state.specs.TubeEntries.{AreInOrder, IsFreshUnlessCounted, counted, has_entry, is_counted, provided}
+use Rattle.std.proofs.lemmas.Grind.{common_steps}
 
 pub same_name : (a b : List ℕ) → is_same_name a b ≡ true → a ≡ b
 same_name a b h = (bytes_decides a b).0 h
@@ -25,20 +26,14 @@ before_differs a b h = elim (cases_Bool (is_same_name a b)) [
 
 -- a filter and a change that don't touch one another
 filter_of_map_at : {A : Type 0} (p : A → Bool) (f : A → A) (x : A) (xs : List A) (b : Bool) → filter p (map f xs) ≡ map f (filter p xs) → (if b then f x ∷ filter p (map f xs) else filter p (map f xs)) ≡ map f (if b then x ∷ filter p xs else filter p xs)
-filter_of_map_at p f x xs true rest = ap (λ ys. f x ∷ ys) rest
-filter_of_map_at p f x xs false rest = rest
+filter_of_map_at p f x xs b rest = grind (arith, common_steps)
 
 pub filter_of_map : {A : Type 0} (p : A → Bool) (f : A → A) → ((x : A) → p (f x) ≡ p x) → (xs : List A) → filter p (map f xs) ≡ map f (filter p xs)
 filter_of_map p f same [] = refl
-filter_of_map p f same (x ∷ xs) =
-    ap (λ b. if b then f x ∷ filter p (map f xs) else filter p (map f xs)) (same x)
-    ∙ filter_of_map_at p f x xs (p x) (filter_of_map p f same xs)
+filter_of_map p f same (x ∷ xs) = grind (arith, common_steps, filter_of_map_at, filter_of_map p f same xs)
 
 swap_at : {A : Type 0} (p q : A → Bool) (x : A) (xs : List A) (a b : Bool) → p x ≡ a → q x ≡ b → filter p (filter q xs) ≡ filter q (filter p xs) → filter p (if b then x ∷ filter q xs else filter q xs) ≡ filter q (if a then x ∷ filter p xs else filter p xs)
-swap_at p q x xs true true e f rest = rw (e, f) (ap (λ ys. x ∷ ys) rest)
-swap_at p q x xs true false e f rest = rw f rest
-swap_at p q x xs false true e f rest = rw e rest
-swap_at p q x xs false false e f rest = rest
+swap_at p q x xs a b e f rest = grind (arith, common_steps)
 
 pub filters_swap : {A : Type 0} (p q : A → Bool) (xs : List A) → filter p (filter q xs) ≡ filter q (filter p xs)
 filters_swap p q [] = refl
@@ -50,8 +45,7 @@ none_later name [] all = refl
 none_later name (t ∷ entries) all = rw (before_differs name t.name all.0) (none_later name entries all.1)
 
 missed_at : (name : List ℕ) (t : TubeRecord) (entries : List TubeRecord) (b : Bool) → is_same_name name t.name ≡ false → find (λ t. is_same_name name t.name) (counted entries) ≡ None → find (λ t. is_same_name name t.name) (if b then t ∷ counted entries else counted entries) ≡ None
-missed_at name t entries true other rest = rw other rest
-missed_at name t entries false other rest = rest
+missed_at name t entries b other rest = grind (arith, common_steps)
 
 -- no record of a tube without an entry
 pub none_found : (name : List ℕ) (entries : List TubeRecord) → has_entry name entries ≡ false → find (λ t. is_same_name name t.name) (counted entries) ≡ None
@@ -75,14 +69,10 @@ no_pause_there name (t ∷ entries) h =
 
 paused_at : (name : List ℕ) (t : TubeRecord) (entries : List TubeRecord) (same kept : Bool) → is_same_name name t.name ≡ same → is_counted t ≡ kept → IsFreshUnlessCounted t → All (λ u. is_name_before t.name u.name ≡ true) entries → is_some (found name entries).pause ≡ pauses_there name entries → is_some (found name (t ∷ entries)).pause ≡ pauses_there name (t ∷ entries)
 paused_at name t entries true true e k fresh later rest =
-    let is : name ≡ t.name = same_name name t.name e in
-    let none : has_entry name entries ≡ false = ap (λ n. has_entry n entries) is ∙ none_later t.name entries later in
-    rw (k, e, no_pause_there name entries none) (sym (or-false (is_some t.pause)))
+    grind (arith, common_steps, cases_Bool, same_name name t.name e, none_later t.name entries later, no_pause_there,
+    or-false (is_some t.pause))
 paused_at name t entries true false e k fresh later rest =
-    let is : name ≡ t.name = same_name name t.name e in
-    let none : has_entry name entries ≡ false = ap (λ n. has_entry n entries) is ∙ none_later t.name entries later in
-    let empty : t.pause ≡ None = ap (λ u. u.pause) (fresh k) in
-    rw (k, e, no_pause_there name entries none, none_found name entries none, empty) refl
+    grind (arith, common_steps, same_name, none_later, no_pause_there, none_found)
 paused_at name t entries false true e k fresh later rest = rw (k, e) rest
 paused_at name t entries false false e k fresh later rest = rw (k, e) rest
 
@@ -105,11 +95,7 @@ unchanged name f (t ∷ entries) h =
 -- a record that comes before all others stands first
 first_record : (x : TubeRecord) (entries : List TubeRecord) → All (λ u. is_name_before x.name u.name ≡ true) entries → with_record x (counted entries) ≡ x ∷ counted entries
 first_record x [] later = refl
-first_record x (t ∷ entries) later = go (is_counted t) (first_record x entries later.1)
-  where
-    go : (b : Bool) → with_record x (counted entries) ≡ x ∷ counted entries → with_record x (if b then t ∷ counted entries else counted entries) ≡ x ∷ (if b then t ∷ counted entries else counted entries)
-    go true rest = rw (before_differs x.name t.name later.0, later.0) refl
-    go false rest = rest
+first_record x (t ∷ entries) later = grind (arith, common_steps, before_differs, first_record x entries later.1)
 
 -- where an entry of this name comes later, this one comes before it
 comes_before : (name : List ℕ) (t : TubeRecord) (entries : List TubeRecord) → All (λ u. is_name_before t.name u.name ≡ true) entries → has_entry name entries ≡ true → is_name_before t.name name ≡ true
@@ -138,31 +124,14 @@ changed_at : (name : List ℕ) (f : TubeRecord → TubeRecord) → ((t : TubeRec
     → (has_entry name entries ≡ true → with_record (f (found name entries)) (counted entries) ≡ counted (map (changed_one name f) entries))
     → with_record (f (found name (t ∷ entries))) (counted (t ∷ entries)) ≡ counted (map (changed_one name f) (t ∷ entries))
 changed_at name f counts keeps t entries true true e k fresh later h rest =
-    let is : name ≡ t.name = same_name name t.name e in
-    let none : has_entry name entries ≡ false = ap (λ n. has_entry n entries) is ∙ none_later t.name entries later in
-    let same : is_same_name (f t).name t.name ≡ true = ap (λ n. is_same_name n t.name) (keeps t) ∙ same_itself t.name in
-    rw (k, e, same, unchanged name f entries none, counts t) refl
+    grind (arith, common_steps, cases_Bool, same_name name t.name e, none_later t.name entries later,
+    same_itself t.name, unchanged)
 changed_at name f counts keeps t entries true false e k fresh later h rest =
-    let is : name ≡ t.name = same_name name t.name e in
-    let none : has_entry name entries ≡ false = ap (λ n. has_entry n entries) is ∙ none_later t.name entries later in
-    let it : fresh_tube name ≡ t = ap fresh_tube is ∙ sym (fresh k) in
-    let first = first_record (f t) entries (rw (keeps t) later) in
-    rw (k, e, none_found name entries none, it, unchanged name f entries none, counts t) first
+    grind (arith, common_steps, cases_Bool, same_name name t.name e, none_later t.name entries later,
+    first_record (f t) entries (rw (keeps t) later), none_found, unchanged)
 changed_at name f counts keeps t entries false true e k fresh later h rest =
-    let there : has_entry name entries ≡ true = rw e at h in
-    let name_is : (f (found name entries)).name ≡ name = keeps (found name entries) ∙ found_name name entries in
-    let before : is_name_before name t.name ≡ false = not_before t.name name (comes_before name t entries later there) in
-    let same_found : found name (t ∷ entries) ≡ found name entries = rw (k, e) refl in
-    let same_records : counted (t ∷ entries) ≡ t ∷ counted entries = rw k refl in
-    let after_it : counted (map (changed_one name f) (t ∷ entries)) ≡ t ∷ counted (map (changed_one name f) entries) = rw (e, k) refl in
-    ap (λ x. with_record (f x) (counted (t ∷ entries))) same_found
-    ∙ ap (with_record (f (found name entries))) same_records
-    ∙ stands_behind (f (found name entries)) t (counted entries) (ap (λ n. is_same_name n t.name) name_is ∙ e) (ap (λ n. is_name_before n t.name) name_is ∙ before)
-    ∙ ap (λ ts. t ∷ ts) (rest there)
-    ∙ sym after_it
-changed_at name f counts keeps t entries false false e k fresh later h rest =
-    let there : has_entry name entries ≡ true = rw e at h in
-    rw (k, e, k) (rest there)
+    grind (arith, common_steps, found_name, not_before, comes_before, stands_behind)
+changed_at name f counts keeps t entries false false e k fresh later h rest = grind (arith, common_steps)
 
 -- what is kept of a tube that has an entry, changed
 pub record_changed : (name : List ℕ) (f : TubeRecord → TubeRecord) → ((t : TubeRecord) → is_counted (f t) ≡ true) → ((t : TubeRecord) → (f t).name ≡ t.name) → (entries : List TubeRecord) → AreInOrder entries → All IsFreshUnlessCounted entries → has_entry name entries ≡ true → with_record (f (found name entries)) (counted entries) ≡ counted (map (changed_one name f) entries)
@@ -185,19 +154,13 @@ order_kept f keeps (t ∷ entries) order = (rw (keeps t) (later_kept f keeps t.n
 
 later_filtered : (p : TubeRecord → Bool) (name : List ℕ) (entries : List TubeRecord) → All (λ u. is_name_before name u.name ≡ true) entries → All (λ u. is_name_before name u.name ≡ true) (filter p entries)
 later_filtered p name [] all = tt
-later_filtered p name (t ∷ entries) all = go (p t) (later_filtered p name entries all.1)
-  where
-    go : (b : Bool) → All (λ u. is_name_before name u.name ≡ true) (filter p entries) → All (λ u. is_name_before name u.name ≡ true) (if b then t ∷ filter p entries else filter p entries)
-    go true rest = (all.0, rest)
-    go false rest = rest
+later_filtered p name (t ∷ entries) all = grind (arith, common_steps, later_filtered p name entries all.1)
 
 pub order_filtered : (p : TubeRecord → Bool) (entries : List TubeRecord) → AreInOrder entries → AreInOrder (filter p entries)
 order_filtered p [] order = tt
-order_filtered p (t ∷ entries) order = go (p t) (order_filtered p entries order.1)
-  where
-    go : (b : Bool) → AreInOrder (filter p entries) → AreInOrder (if b then t ∷ filter p entries else filter p entries)
-    go true rest = (later_filtered p t.name entries order.0, rest)
-    go false rest = rest
+order_filtered p (t ∷ entries) order =
+    grind (arith, common_steps, cases_Bool, later_filtered p t.name entries order.0, order_filtered p entries order.1,
+    order.1, order.0)
 
 -- what has an entry that passes has one among those that pass
 pub entry_filtered : (p : TubeRecord → Bool) (name : List ℕ) → ((t : TubeRecord) → name ≡ t.name → p t ≡ true) → (entries : List TubeRecord) → has_entry name entries ≡ true → has_entry name (filter p entries) ≡ true
@@ -209,8 +172,7 @@ entry_filtered p name passes (t ∷ entries) h =
     ]
   where
     go : (b : Bool) → has_entry name (filter p entries) ≡ true → has_entry name (if b then t ∷ filter p entries else filter p entries) ≡ true
-    go true rest = rw rest (or-true (is_same_name name t.name))
-    go false rest = rest
+    go b rest = grind (arith, common_steps, or-true)
 
 one_more : (n : ℕ) → 1 + n ≡ suc n
 one_more n = omega arith
@@ -226,13 +188,11 @@ placed x (t ∷ entries) h =
     place ts = prefix_len (λ t. is_name_before t.name x.name) ts
 
     go : (b : Bool) → is_name_before x.name t.name ≡ b → is_same_name x.name t.name ≡ false → insert entries (place entries) x ≡ with_record x entries → insert (t ∷ entries) (cond (is_name_before t.name x.name) (1 + place entries) 0) x ≡ (if b then x ∷ t ∷ entries else t ∷ with_record x entries)
-    go true e other rest = rw (not_before x.name t.name e) refl
-    go false e other rest = rw (after x.name t.name other e) (ap (λ k. insert (t ∷ entries) k x) (one_more (place entries)) ∙ ap (λ ts. t ∷ ts) rest)
+    go b e other rest = grind (arith, common_steps, not_before, after, one_more)
 
 -- that place is within the list, or at its end
 not_twice : (b : Bool) → not (not b) ≡ b
-not_twice true = refl
-not_twice false = refl
+not_twice b = grind (arith, common_steps)
 
 prefix_alike : {A : Type 0} (p q : A → Bool) → ((x : A) → p x ≡ q x) → (xs : List A) → prefix_len p xs ≡ prefix_len q xs
 prefix_alike p q same [] = refl
@@ -240,26 +200,12 @@ prefix_alike p q same (x ∷ xs) = rw (same x, prefix_alike p q same xs) refl
 
 -- the first element that fails, or else the end
 pub place_read : {A : Type 0} (p : A → Bool) (xs : List A) → unwrap_or (position (λ x. not (p x)) xs) (length xs) ≡ prefix_len p xs
-place_read {A = A} p xs = go (cases_lt (position_or_len (λ x. not (p x)) xs) (length xs))
-  where
-    n : ℕ
-    n = position_or_len (λ x. not (p x)) xs
-
-    same : n ≡ prefix_len p xs
-    same = prefix_alike (λ x. not (not (p x))) p (λ x. not_twice (p x)) xs
-
-    go : (n < length xs) ⊎ (length xs ≤ n) → unwrap_or (position (λ x. not (p x)) xs) (length xs) ≡ prefix_len p xs
-    go (inl h) = ap (λ b. unwrap_or (cond b (Some n) None) (length xs)) (lt-ltb n (length xs) h) ∙ same
-    go (inr h) = ap (λ b. unwrap_or (cond b (Some n) None) (length xs)) (le-ltb n (length xs) h) ∙ (let w = prefix_len-le-length p xs in let e : length xs ≡ prefix_len p xs = omega (arith, same) in e)
+place_read {A = A} p xs =
+    grind (arith, common_steps, cases_lt, prefix_alike, not_twice, lt-ltb, le-ltb, prefix_len-le-length)
 
 later_inserted : (name : List ℕ) (x : TubeRecord) (entries : List TubeRecord) → is_name_before name x.name ≡ true → All (λ u. is_name_before name u.name ≡ true) entries → All (λ u. is_name_before name u.name ≡ true) (with_record x entries)
 later_inserted name x [] b all = (b, tt)
-later_inserted name x (t ∷ entries) b all = go (is_same_name x.name t.name) (is_name_before x.name t.name) (later_inserted name x entries b all.1)
-  where
-    go : (same before : Bool) → All (λ u. is_name_before name u.name ≡ true) (with_record x entries) → All (λ u. is_name_before name u.name ≡ true) (if same then x ∷ entries else (if before then x ∷ t ∷ entries else t ∷ with_record x entries))
-    go true before rest = (b, all.1)
-    go false true rest = (b, all)
-    go false false rest = (all.0, rest)
+later_inserted name x (t ∷ entries) b all = grind (arith, common_steps, later_inserted name x entries b all.1)
 
 before_all : (a b : List ℕ) → is_name_before a b ≡ true → (entries : List TubeRecord) → All (λ u. is_name_before b u.name ≡ true) entries → All (λ u. is_name_before a u.name ≡ true) entries
 before_all a b h [] all = tt
@@ -272,17 +218,11 @@ order_inserted x (t ∷ entries) h order =
     rw parts.0 (go (is_name_before x.name t.name) refl parts.0 (order_inserted x entries parts.1 order.1))
   where
     go : (b : Bool) → is_name_before x.name t.name ≡ b → is_same_name x.name t.name ≡ false → AreInOrder (with_record x entries) → AreInOrder (if b then x ∷ t ∷ entries else t ∷ with_record x entries)
-    go true e other rest = ((e, before_all x.name t.name e entries order.0), order)
-    go false e other rest = (later_inserted t.name x entries (after x.name t.name other e) order.0, rest)
+    go b e other rest = grind (arith, common_steps, before_all, later_inserted, after)
 
 pub fresh_inserted : (x : TubeRecord) → IsFreshUnlessCounted x → (entries : List TubeRecord) → All IsFreshUnlessCounted entries → All IsFreshUnlessCounted (with_record x entries)
 fresh_inserted x f [] all = (f, tt)
-fresh_inserted x f (t ∷ entries) all = go (is_same_name x.name t.name) (is_name_before x.name t.name) (fresh_inserted x f entries all.1)
-  where
-    go : (same before : Bool) → All IsFreshUnlessCounted (with_record x entries) → All IsFreshUnlessCounted (if same then x ∷ entries else (if before then x ∷ t ∷ entries else t ∷ with_record x entries))
-    go true before rest = (f, all.1)
-    go false true rest = (f, all)
-    go false false rest = (all.0, rest)
+fresh_inserted x f (t ∷ entries) all = grind (arith, common_steps, fresh_inserted x f entries all.1)
 
 pub counted_inserted : (x : TubeRecord) → is_counted x ≡ false → (entries : List TubeRecord) → has_entry x.name entries ≡ false → counted (with_record x entries) ≡ counted entries
 counted_inserted x c [] h = rw c refl
@@ -291,18 +231,12 @@ counted_inserted x c (t ∷ entries) h =
     rw parts.0 (go (is_name_before x.name t.name) (counted_inserted x c entries parts.1))
   where
     go : (b : Bool) → counted (with_record x entries) ≡ counted entries → counted (if b then x ∷ t ∷ entries else t ∷ with_record x entries) ≡ counted (t ∷ entries)
-    go true rest = rw c refl
-    go false rest = ap (λ ts. if is_counted t then t ∷ ts else ts) rest
+    go b rest = grind (arith, common_steps)
 
 -- an inserted record is there, and the others of other names stay
 pub has_inserted : (x : TubeRecord) (entries : List TubeRecord) → has_entry x.name (with_record x entries) ≡ true
 has_inserted x [] = rw (same_itself x.name) refl
-has_inserted x (t ∷ entries) = go (is_same_name x.name t.name) (is_name_before x.name t.name) (has_inserted x entries)
-  where
-    go : (same before : Bool) → has_entry x.name (with_record x entries) ≡ true → has_entry x.name (if same then x ∷ entries else (if before then x ∷ t ∷ entries else t ∷ with_record x entries)) ≡ true
-    go true before rest = rw (same_itself x.name) refl
-    go false true rest = rw (same_itself x.name) refl
-    go false false rest = rw rest (or-true (is_same_name x.name t.name))
+has_inserted x (t ∷ entries) = grind (arith, common_steps, same_itself, or-true, has_inserted x entries)
 
 pub still_has : (x : TubeRecord) (name : List ℕ) (entries : List TubeRecord) → has_entry x.name entries ≡ false → has_entry name entries ≡ true → has_entry name (with_record x entries) ≡ true
 still_has x name [] none h = absurd cc
@@ -311,11 +245,7 @@ still_has x name (t ∷ entries) none h =
     rw parts.0 (go (is_name_before x.name t.name) (λ more. still_has x name entries parts.1 more))
   where
     go : (b : Bool) → (has_entry name entries ≡ true → has_entry name (with_record x entries) ≡ true) → has_entry name (if b then x ∷ t ∷ entries else t ∷ with_record x entries) ≡ true
-    go true rest = ap (λ b. is_same_name name x.name || b) h ∙ or-true (is_same_name name x.name)
-    go false rest = elim (or_cases (is_same_name name t.name) (has_entry name entries) h) [
-      | inl same ↦ rw same refl
-      | inr more ↦ ap (λ b. is_same_name name t.name || b) (rest more) ∙ or-true (is_same_name name t.name)
-    ]
+    go b rest = grind (arith, common_steps, or-true, or_cases)
 
 pub provided_new : (name : List ℕ) (entries : List TubeRecord) → has_entry name entries ≡ false → insert entries (prefix_len (λ t. is_name_before t.name name) entries) (fresh_tube name) ≡ provided name entries
 provided_new name entries none = placed (fresh_tube name) entries none ∙ sym (ap (λ b. if b then entries else with_record (fresh_tube name) entries) none)
@@ -326,8 +256,7 @@ some_left p [] h = absurd cc
 some_left {A = A} p (x ∷ xs) h = go (p x) refl (λ more. some_left p xs more)
   where
     go : (b : Bool) → p x ≡ b → (list_any p xs ≡ true → 0 < length (filter p xs)) → 0 < length (if b then x ∷ filter p xs else filter p xs)
-    go true e rest = omega arith
-    go false e rest = rest (rw e at h)
+    go b e rest = grind (arith, common_steps)
 
 -- The place of the first that doesn't pass, or the end, where the search for it is told.
 pub place_told : {A : Type 0} (p : A → Bool) (xs : List A) (o : Option ℕ) (r : ℕ) → r ≡ unwrap_or o (length xs) → o ≡ position (λ x. not (p x)) xs → r ≡ prefix_len p xs

@@ -9,6 +9,7 @@ use Rattle.bq_state.specs.{EndingWaits.turn_of, SeatChanges.{AreNumbered, seat_c
 use Rattle.bq_state.specs.WaitingTurns.{AreInTurn, IsRising, WaitingTurns, is_none_or_before, is_turn_before, placed, removed, turns_of, with_turn, without_turn}
 use Rattle.bq_state.proofs.{ClientLemmas.{all_others, heads, others, others_left}, PartsLemmas.{all_read, changed_there, number_kept, numbered_after, some_at}}
 use Rattle.bq_job.proofs.LawfulLemmas.{length_numbers}
+use Rattle.std.proofs.lemmas.Grind.{common_steps}
 
 -- the place behind those that come before
 pub placed_at : {A : Type 0} (before : A → A → Bool) (x : A) (xs : List A) → insert xs (prefix_len (λ y. before y x) xs) x ≡ placed before x xs
@@ -24,45 +25,19 @@ placed_at before x (y ∷ ys) =
 
 pub placed_length : {A : Type 0} (before : A → A → Bool) (x : A) (xs : List A) → length (placed before x xs) ≡ suc (length xs)
 placed_length before x [] = refl
-placed_length before x (y ∷ ys) =
-    elim (cases_Bool (before y x)) [
-      | inl e ↦ rw e (ap suc (placed_length before x ys))
-      | inr e ↦ rw e refl
-    ]
+placed_length before x (y ∷ ys) = grind (arith, common_steps, cases_Bool, placed_length before x ys)
 
 -- Of two that differ one comes before the other, so it is the same which is put in first.
 pub placed_twice : {A : Type 0} {before : A → A → Bool} (order : IsStrictWeakOrder before) (a b : A) (xs : List A) → (before a b ≡ false → before b a ≡ true) → placed before a (placed before b xs) ≡ placed before b (placed before a xs)
-placed_twice {before = before} order a b [] apart =
-    elim (cases_Bool (before a b)) [
-      | inl e ↦ rw (e, order.one_way a b e) refl
-      | inr e ↦ rw (e, apart e) refl
-    ]
+placed_twice {before = before} order a b [] apart = grind (arith, common_steps, cases_Bool)
 placed_twice {A = A} {before = before} order a b (x ∷ xs) apart = go (before x a) (before x b) refl refl (placed_twice order a b xs apart)
   where
     go : (p q : Bool) → before x a ≡ p → before x b ≡ q → placed before a (placed before b xs) ≡ placed before b (placed before a xs) → placed before a (placed before b (x ∷ xs)) ≡ placed before b (placed before a (x ∷ xs))
-    go true true e f rest = rw (e, f, e) (ap (λ ys. x ∷ ys) rest)
-    go true false e f rest =
-        elim (cases_Bool (before b a)) [
-          | inl g ↦ rw (e, f, g, e) refl
-          | inr g ↦ absurd (let h : before x a ≡ false = order.chain x b a f g in let k = sym e ∙ h in cc)
-        ]
-    go false true e f rest =
-        elim (cases_Bool (before a b)) [
-          | inl g ↦ rw (e, f, g, e) refl
-          | inr g ↦ absurd (let h : before x b ≡ false = order.chain x a b e g in let k = sym f ∙ h in cc)
-        ]
-    go false false e f rest =
-        elim (cases_Bool (before a b)) [
-          | inl g ↦ rw (e, f, g, order.one_way a b g) refl
-          | inr g ↦ rw (e, f, g, apart g, e) refl
-        ]
+    go p q e f rest = grind (arith, common_steps, cases_Bool)
 
 -- turns of which the seats differ
 turn_apart : (a b : ℕ × ℕ) → (a.1 == b.1) ≡ false → is_turn_before a b ≡ false → is_turn_before b a ≡ true
-turn_apart a b other h = apart a.0 a.1 b.0 b.1 other h
-  where
-    apart : (a i b j : ℕ) → (i == j) ≡ false → is_pair_before a i b j ≡ false → is_pair_before b j a i ≡ true
-    apart a i b j o h = grind (arith, nat_tests)
+turn_apart a b other h = grind (arith, common_steps)
 
 turns_swap : (s : SeatRecord) (o : Option SeatRecord) (turns : List (ℕ × ℕ)) → ((t : SeatRecord) → o ≡ Some t → (s.number == t.number) ≡ false)
     → with_turn (Some s) (with_turn o turns) ≡ with_turn o (with_turn (Some s) turns)
@@ -95,39 +70,22 @@ turns_parted n low (s ∷ seats) h =
     ]
   where
     other : (t : SeatRecord) → seat_with n seats ≡ Some t → (s.number == n) ≡ false → (s.number == t.number) ≡ false
-    other t found e =
-        let there : t.number ≡ n = eqb-true t.number n (found_passes (λ u. u.number == n) seats t found).0 in
-        ap (λ k. s.number == k) there ∙ e
+    other t found e = grind (arith, common_steps, eqb-true, found_passes)
 
 -- none of those others has this number
 pub all_placed : {A : Type 0} (P : A → Type 0) (before : A → A → Bool) (x : A) (xs : List A) → P x → All P xs → All P (placed before x xs)
 all_placed P before x [] h all = (h, tt)
-all_placed P before x (y ∷ ys) h all =
-    elim (cases_Bool (before y x)) [
-      | inl e ↦ rw e ((all.0, all_placed P before x ys h all.1))
-      | inr e ↦ rw e ((h, all))
-    ]
+all_placed P before x (y ∷ ys) h all = grind (arith, common_steps, cases_Bool, all_placed P before x ys h all.1)
 
 others_stay : (n : ℕ) (seats : List SeatRecord) → All (λ t. (t.1 == n) ≡ false) (turns_of (others n seats))
 others_stay n [] = tt
-others_stay n (s ∷ seats) =
-    elim (cases_Bool (s.number == n)) [
-      | inl e ↦ rw e (others_stay n seats)
-      | inr e ↦ rw e (go (is_waiting s) e (others_stay n seats))
-    ]
-  where
-    go : (b : Bool) → (s.number == n) ≡ false → All (λ t. (t.1 == n) ≡ false) (turns_of (others n seats)) → All (λ t. (t.1 == n) ≡ false) (if b then placed is_turn_before (turn_of s) (turns_of (others n seats)) else turns_of (others n seats))
-    go true h all = all_placed (λ t. (t.1 == n) ≡ false) is_turn_before (turn_of s) (turns_of (others n seats)) h all
-    go false h all = all
+others_stay n (s ∷ seats) = grind (arith, common_steps, cases_Bool, all_placed, others_stay n seats)
 
 -- what was put in is taken out
 removed_again : (before : ℕ × ℕ → ℕ × ℕ → Bool) (t : ℕ × ℕ) (turns : List (ℕ × ℕ)) → All (λ u. (u.1 == t.1) ≡ false) turns → removed t.1 (placed before t turns) ≡ turns
 removed_again before t [] all = rw (eq-eqb t.1 t.1 refl) refl
 removed_again before t (u ∷ turns) all =
-    elim (cases_Bool (before u t)) [
-      | inl e ↦ rw (e, all.0) (ap (λ us. u ∷ us) (removed_again before t turns all.1))
-      | inr e ↦ rw (e, eq-eqb t.1 t.1 refl) refl
-    ]
+    grind (arith, common_steps, cases_Bool, eq-eqb, removed_again before t turns all.1)
 
 turn_taken : (n : ℕ) (o : Option SeatRecord) (turns : List (ℕ × ℕ)) → ((s : SeatRecord) → o ≡ Some s → s.number ≡ n) → All (λ t. (t.1 == n) ≡ false) turns → without_turn o (with_turn o turns) ≡ turns
 turn_taken n None turns at all = refl
@@ -174,18 +132,12 @@ rising_left n seats h = subst (IsRising is_turn_before) (sym (turns_left n seats
 -- where the last one comes before another, each does
 rising_ends : {A : Type 0} {before : A → A → Bool} (order : IsStrictWeakOrder before) (t : A) (xs : List A) (k : ℕ) (l : A) → IsRising before xs → slice_get xs k ≡ Some l → suc k ≡ length xs → before l t ≡ true → prefix_len (λ u. before u t) xs ≡ length xs
 rising_ends order t [] k l rising read ends e = absurd cc
-rising_ends {before = before} order t (x ∷ []) zero l rising read ends e =
-    let one : x ≡ l = cc in
-    let here : before x t ≡ true = ap (λ u. before u t) one ∙ e in
-    rw here refl
+rising_ends {before = before} order t (x ∷ []) zero l rising read ends e = grind (arith, common_steps)
 rising_ends order t (x ∷ y ∷ ys) zero l rising read ends e = absurd (omega (arith, ends))
 rising_ends {before = before} order t (x ∷ xs) (suc k) l rising read ends e = go (before x t) refl (rising_ends order t xs k l rising.1 read (omega (arith, ends)) e)
   where
     go : (b : Bool) → before x t ≡ b → prefix_len (λ u. before u t) xs ≡ length xs → cond b (1 + prefix_len (λ u. before u t) xs) 0 ≡ suc (length xs)
-    go true f rest = omega (arith, rest)
-    go false f rest =
-        let later : before l x ≡ false = all_read (λ z. before z x ≡ false) xs k l rising.0 read in
-        absurd (let none : before l t ≡ false = order.chain l x t later f in let both = sym e ∙ none in cc)
+    go b f rest = grind (arith, common_steps, all_read)
 
 pub all_before : (t : ℕ × ℕ) (turns : List (ℕ × ℕ)) → IsRising is_turn_before turns → is_none_or_before t (slice_get turns (length turns - 1)) ≡ true → prefix_len (λ u. is_turn_before u t) turns ≡ length turns
 all_before t [] rising ends = refl
@@ -215,43 +167,23 @@ removed_nowhere n [] h = refl
 removed_nowhere n (x ∷ xs) h = go (x.1 == n) (removed_nowhere n xs) h
   where
     go : (b : Bool) → (length xs ≤ prefix_len (λ t. not (t.1 == n)) xs → removed n xs ≡ xs) → suc (length xs) ≤ cond (not b) (1 + prefix_len (λ t. not (t.1 == n)) xs) 0 → (if b then xs else x ∷ removed n xs) ≡ x ∷ xs
-    go true rest less = absurd (omega (arith, less))
-    go false rest less = ap (λ ys. x ∷ ys) (rest (omega (arith, less)))
+    go b rest less = grind (arith, common_steps)
 
 pub removed_found : (n : ℕ) (xs : List (ℕ × ℕ)) (i : ℕ) → Some i ≡ position (λ t. t.1 == n) xs → (i < length xs) × (removed n xs ≡ remove xs i)
-removed_found n xs i found = go (nat_lt (prefix_len (λ t. not (t.1 == n)) xs) (length xs)) refl found
-  where
-    go : (b : Bool) → nat_lt (prefix_len (λ t. not (t.1 == n)) xs) (length xs) ≡ b → Some i ≡ cond b (Some (prefix_len (λ t. not (t.1 == n)) xs)) None → (i < length xs) × (removed n xs ≡ remove xs i)
-    go true e h =
-        let at : i ≡ prefix_len (λ t. not (t.1 == n)) xs = cc in
-        let less = ltb-true (prefix_len (λ t. not (t.1 == n)) xs) (length xs) e in
-        (omega (arith, at, less), removed_there n xs less ∙ ap (remove xs) (sym at))
-    go false e h = absurd cc
+removed_found n xs i found = grind (arith, common_steps, ltb-true, removed_there)
 
 pub removed_missed : (n : ℕ) (xs : List (ℕ × ℕ)) → None ≡ position (λ t. t.1 == n) xs → removed n xs ≡ xs
-removed_missed n xs none = go (nat_lt (prefix_len (λ t. not (t.1 == n)) xs) (length xs)) refl none
-  where
-    go : (b : Bool) → nat_lt (prefix_len (λ t. not (t.1 == n)) xs) (length xs) ≡ b → None ≡ cond b (Some (prefix_len (λ t. not (t.1 == n)) xs)) None → removed n xs ≡ xs
-    go true e h = absurd cc
-    go false e h = removed_nowhere n xs (ltb-false (prefix_len (λ t. not (t.1 == n)) xs) (length xs) e)
+removed_missed n xs none = grind (arith, common_steps, removed_nowhere, ltb-false)
 
 -- there are no more of them than seats
 pub turns_within : (seats : List SeatRecord) → length (turns_of seats) ≤ length seats
 turns_within [] = omega arith
-turns_within (s ∷ seats) = go (is_waiting s) (turns_within seats)
-  where
-    go : (b : Bool) → length (turns_of seats) ≤ length seats → length (if b then placed is_turn_before (turn_of s) (turns_of seats) else turns_of seats) ≤ suc (length seats)
-    go true h = omega (arith, placed_length is_turn_before (turn_of s) (turns_of seats), h)
-    go false h = omega (arith, h)
+turns_within (s ∷ seats) = grind (arith, common_steps, placed_length, turns_within seats)
 
 -- there are as many of them as clients that wait
 pub turns_counted : (seats : List SeatRecord) → length (turns_of seats) ≡ count_by is_waiting seats
 turns_counted [] = refl
-turns_counted (s ∷ seats) = go (is_waiting s) (turns_counted seats) ∙ sym (count_cons is_waiting s seats)
-  where
-    go : (b : Bool) → length (turns_of seats) ≡ count_by is_waiting seats → length (if b then placed is_turn_before (turn_of s) (turns_of seats) else turns_of seats) ≡ cond b 1 0 + count_by is_waiting seats
-    go true h = omega (arith, placed_length is_turn_before (turn_of s) (turns_of seats), h)
-    go false h = omega (arith, h)
+turns_counted (s ∷ seats) = grind (arith, common_steps, count_cons, placed_length, turns_counted seats)
 
 pub turns_moved : (n : ℕ) (what : SeatChange) (seats : List SeatRecord) → AreNumbered seats
     → with_turn (seat_with n (map (seat_changed_at n what) seats)) (without_turn (seat_with n seats) (turns_of seats)) ≡ turns_of (map (seat_changed_at n what) seats)
@@ -264,16 +196,8 @@ turns_kept f same (s ∷ seats) = λ i. same s i (turns_kept f same seats i)
 
 pub in_turn_watching : (names : List (List ℕ)) (i : ℕ) (s : SeatRecord) (waiting : WaitingTurns) (seats : List SeatRecord) → slice_get seats i ≡ Some s → AreNumbered seats → AreInTurn waiting seats → AreInTurn waiting (set seats i (watching names s))
 in_turn_watching names i s waiting seats found h q =
-    let g = λ (t : SeatRecord). if t.number == i then watching names t else t in
-    subst (AreInTurn waiting) (changed_there seats i s (watching names) h found)
-    (record {
-      turns = q.turns ∙ sym (turns_kept g (λ t. go t (t.number == i)) seats);
-      room = subst (λ k. k ≤ waiting.room) (sym (length-map seats g)) q.room;
-    })
-  where
-    go : (t : SeatRecord) (b : Bool) → with_turn (Some (if b then watching names t else t)) ≡ with_turn (Some t)
-    go t true = refl
-    go t false = refl
+    grind (arith, common_steps, cases_Bool, nat_tests, changed_there seats i s (watching names) h found, turns_kept,
+    length-map)
 
 -- at the start
 pub none_in_turn : (ns : List ℕ) → turns_of (map empty_seat ns) ≡ []

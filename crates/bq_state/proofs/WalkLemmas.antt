@@ -7,6 +7,7 @@ use Rattle.bq_job.proofs.{ChoiceLemmas.{first_of_contains, first_of_is_some, pai
 use Rattle.bq_state.specs.{Clients.seat_passes, EndingWaits.{is_after, turn_of, waits_after}, Offers.these, Places.item_at, SeatChanges.AreNumbered}
 use Rattle.bq_state.specs.WaitingTurns.{IsRising, at_turn, is_turn_after, is_turn_before, passes_at, placed, turns_of}
 use Rattle.bq_state.proofs.{ClientLemmas.heads, SeatPlaces.place_is_seat, WaitingLemmas.{all_placed, rising_placed}, WarningLemmas.none_found}
+use Rattle.std.proofs.lemmas.Grind.{common_steps}
 
 -- the clients that wait, in their turn
 abbrev pub in_turn : List SeatRecord → List SeatRecord
@@ -15,29 +16,16 @@ in_turn (s ∷ seats) = if is_waiting s then placed is_wait_before s (in_turn se
 
 map_placed : (s : SeatRecord) (ss : List SeatRecord) → map turn_of (placed is_wait_before s ss) ≡ placed is_turn_before (turn_of s) (map turn_of ss)
 map_placed s [] = refl
-map_placed s (u ∷ us) = go (is_wait_before u s) (map_placed s us)
-  where
-    go : (b : Bool) → map turn_of (placed is_wait_before s us) ≡ placed is_turn_before (turn_of s) (map turn_of us)
-        → map turn_of (if b then u ∷ placed is_wait_before s us else s ∷ u ∷ us) ≡ (if b then turn_of u ∷ placed is_turn_before (turn_of s) (map turn_of us) else turn_of s ∷ turn_of u ∷ map turn_of us)
-    go true rest = ap (λ ts. turn_of u ∷ ts) rest
-    go false rest = refl
+map_placed s (u ∷ us) = grind (arith, common_steps, map_placed s us)
 
 turns_in : (seats : List SeatRecord) → turns_of seats ≡ map turn_of (in_turn seats)
 turns_in [] = refl
-turns_in (s ∷ seats) = go (is_waiting s) (turns_in seats)
-  where
-    go : (b : Bool) → turns_of seats ≡ map turn_of (in_turn seats) → (if b then placed is_turn_before (turn_of s) (turns_of seats) else turns_of seats) ≡ map turn_of (if b then placed is_wait_before s (in_turn seats) else in_turn seats)
-    go true rest = ap (placed is_turn_before (turn_of s)) rest ∙ sym (map_placed s (in_turn seats))
-    go false rest = rest
+turns_in (s ∷ seats) = grind (arith, common_steps, map_placed, turns_in seats)
 
 -- what is so of those that wait
 all_in_turn : (P : SeatRecord → Type 0) (seats : List SeatRecord) → All (λ s. is_waiting s ≡ true → P s) seats → All P (in_turn seats)
 all_in_turn P [] all = tt
-all_in_turn P (s ∷ seats) all = go (is_waiting s) refl (all_in_turn P seats all.1)
-  where
-    go : (b : Bool) → is_waiting s ≡ b → All P (in_turn seats) → All P (if b then placed is_wait_before s (in_turn seats) else in_turn seats)
-    go true e rest = all_placed P is_wait_before s (in_turn seats) (all.0 e) rest
-    go false e rest = rest
+all_in_turn P (s ∷ seats) all = grind (arith, common_steps, all_placed, all_in_turn P seats all.1)
 
 -- each seat stands at its place
 pub read_each : (seats : List SeatRecord) → AreNumbered seats → All (λ s. slice_get seats s.number ≡ Some s) seats
@@ -48,8 +36,7 @@ read_each seats h = all_from_members (λ s. slice_get seats s.number ≡ Some s)
         let other : (s.number == s.number) ≡ false = all_at (λ t. (t.number == s.number) ≡ false) seats s (none_found s.number seats e) here in
         absurd (let same = eq-eqb s.number s.number refl in let k = sym same ∙ other in cc)
     go s here (Some t) e =
-        let one : s ≡ t = all_at (λ u. u.number ≡ s.number → u ≡ t) seats s (only_seat 0 (length seats) s.number seats t h e) here refl in
-        ap Some (sym one)
+        grind (arith, common_steps, cases_Bool, nat_tests, all_at, only_seat 0 (length seats) s.number seats t h e)
 
 read_in_turn : (seats : List SeatRecord) → AreNumbered seats → All (λ s. slice_get seats s.number ≡ Some s) (in_turn seats)
 read_in_turn seats h = all_in_turn (λ s. slice_get seats s.number ≡ Some s) seats (all_weaker (λ s. slice_get seats s.number ≡ Some s) (λ s. is_waiting s ≡ true → slice_get seats s.number ≡ Some s) seats (λ s e _. e) (read_each seats h))
@@ -60,8 +47,7 @@ fold_placed f before x [] all b = refl
 fold_placed {A = A} {B = B} f before x (y ∷ ys) all b = go (before y x) (fold_placed f before x ys all.1 (f b y))
   where
     go : (c : Bool) → fold f (f b y) (placed before x ys) ≡ fold f (f (f b y) x) ys → fold f b (if c then y ∷ placed before x ys else x ∷ y ∷ ys) ≡ fold f (f (f b x) y) ys
-    go true rest = rest ∙ ap (λ a. fold f a ys) (sym (all.0 b))
-    go false rest = refl
+    go c rest = grind (arith, common_steps)
 
 fold_in_turn : {B : Type 0} (f : B → SeatRecord → B) → ((s : SeatRecord) → is_waiting s ≡ false → (b : B) → f b s ≡ b) → ((s t : SeatRecord) → (s.number == t.number) ≡ false → (b : B) → f (f b s) t ≡ f (f b t) s)
     → (low : ℕ) (seats : List SeatRecord) → map (λ s. s.number) seats ≡ numbers low (length seats) → (b : B) → fold f b (in_turn seats) ≡ fold f b seats
@@ -82,17 +68,12 @@ fold_in_turn {B = B} f skips swaps low (s ∷ seats) h b =
 
 fold_there : {B : Type 0} (f : B → SeatRecord → B) (seats ss : List SeatRecord) → All (λ s. slice_get seats s.number ≡ Some s) ss → (b : B) → fold (at_turn f seats) b (map turn_of ss) ≡ fold f b ss
 fold_there f seats [] all b = refl
-fold_there f seats (s ∷ ss) all b =
-    ap (λ o. fold (at_turn f seats) (fold f b (these o)) (map turn_of ss)) all.0
-    ∙ fold_there f seats ss all.1 (f b s)
+fold_there f seats (s ∷ ss) all b = grind (arith, common_steps, fold_there f seats ss all.1 (f b s))
 
 -- a walk from turn to turn folds all seats
 pub walked : {B : Type 0} (f : B → SeatRecord → B) → ((s : SeatRecord) → is_waiting s ≡ false → (b : B) → f b s ≡ b) → ((s t : SeatRecord) → (s.number == t.number) ≡ false → (b : B) → f (f b s) t ≡ f (f b t) s)
     → (seats : List SeatRecord) → AreNumbered seats → (b : B) → fold (at_turn f seats) b (turns_of seats) ≡ fold f b seats
-walked f skips swaps seats h b =
-    ap (fold (at_turn f seats) b) (turns_in seats)
-    ∙ fold_there f seats (in_turn seats) (read_in_turn seats h) b
-    ∙ fold_in_turn f skips swaps 0 seats h b
+walked f skips swaps seats h b = grind (arith, common_steps, turns_in, fold_there, read_in_turn, fold_in_turn)
 
 -- Of two choices it is the same which comes first.
 abbrev pub chosen : {A : Type 0} → (A → A → Bool) → Option A → Option A → Option A
@@ -101,39 +82,20 @@ chosen before (Some x) None = Some x
 chosen before (Some x) (Some y) = if before y x then Some y else Some x
 
 two_chosen : {A : Type 0} {before : A → A → Bool} (order : IsStrictWeakOrder before) (x y : A) → (before x y ≡ false → before y x ≡ false → x ≡ y) → chosen before (Some x) (Some y) ≡ chosen before (Some y) (Some x)
-two_chosen {before = before} order x y same =
-    elim (cases_Bool (before x y)) [
-      | inl e ↦ rw (e, order.one_way x y e) refl
-      | inr e ↦ elim (cases_Bool (before y x)) [
-        | inl g ↦ rw (e, g) refl
-        | inr g ↦ rw (e, g) (ap Some (same e g))
-      ]
-    ]
+two_chosen {before = before} order x y same = grind (arith, common_steps, cases_Bool)
 
 no_other : {A : Type 0} (before : A → A → Bool) (b : Option A) → chosen before b None ≡ b
-no_other before None = refl
-no_other before (Some x) = refl
+no_other before b = grind (arith, common_steps)
 
 pub chosen_twice : {A : Type 0} {before : A → A → Bool} (order : IsStrictWeakOrder before) (b o u : Option A) → ((x y : A) → o ≡ Some x → u ≡ Some y → before x y ≡ false → before y x ≡ false → x ≡ y)
     → chosen before (chosen before b o) u ≡ chosen before (chosen before b u) o
 chosen_twice {before = before} order b None u same = ap (λ c. chosen before c u) (no_other before b) ∙ sym (no_other before (chosen before b u))
 chosen_twice {before = before} order b (Some x) None same = no_other before (chosen before b (Some x)) ∙ ap (λ c. chosen before c (Some x)) (sym (no_other before b))
 chosen_twice order None (Some x) (Some y) same = two_chosen order x y (same x y refl refl)
-chosen_twice {before = before} order (Some z) (Some x) (Some y) same = go (before x z) (before y z) refl refl
-  where
-    go : (p q : Bool) → before x z ≡ p → before y z ≡ q → chosen before (if p then Some x else Some z) (Some y) ≡ chosen before (if q then Some y else Some z) (Some x)
-    go true true e f = two_chosen order x y (same x y refl refl)
-    go true false e f = let g : before y x ≡ false = order.chain y z x f (order.one_way x z e) in rw (g, e) refl
-    go false true e f = let g : before x y ≡ false = order.chain x z y e (order.one_way y z f) in rw (f, g) refl
-    go false false e f = rw (f, e) refl
+chosen_twice {before = before} order (Some z) (Some x) (Some y) same = grind (arith, common_steps, two_chosen)
 
 better_chosen : {A : Type 0} (p : A → Bool) (before : A → A → Bool) (b : Option A) (x : A) → better_of p before b x ≡ chosen before b (if p x then Some x else None)
-better_chosen p before None x = refl
-better_chosen p before (Some z) x = go (p x)
-  where
-    go : (c : Bool) → (if c && before x z then Some x else Some z) ≡ chosen before (Some z) (if c then Some x else None)
-    go true = refl
-    go false = refl
+better_chosen p before b x = grind (arith, common_steps)
 
 -- seats of which the numbers differ don't tie
 pair_same : (a i b j : ℕ) → is_pair_before a i b j ≡ false → is_pair_before b j a i ≡ false → (i == j) ≡ false → Unit {0} → ⊥
@@ -153,50 +115,29 @@ better_swaps p s t other b =
     ∙ sym (better_chosen p is_wait_before (better_of p is_wait_before b t) s)
   where
     is_it : (c : Bool) (r x : SeatRecord) → (if c then Some r else None) ≡ Some x → r ≡ x
-    is_it true r x h = cc
-    is_it false r x h = absurd cc
+    is_it c r x h = grind (arith, common_steps)
 
     apart : (x y : SeatRecord) → (if p s then Some s else None) ≡ Some x → (if p t then Some t else None) ≡ Some y → is_wait_before x y ≡ false → is_wait_before y x ≡ false → x ≡ y
-    apart x y e f g h =
-        let at : s ≡ x = is_it (p s) s x e in
-        let to : t ≡ y = is_it (p t) t y f in
-        let g2 : is_wait_before s t ≡ false = (λ i. is_wait_before (at i) (to i)) ∙ g in
-        let h2 : is_wait_before t s ≡ false = (λ i. is_wait_before (to i) (at i)) ∙ h in
-        absurd (pair_same (ticket_of s.wait) s.number (ticket_of t.wait) t.number g2 h2 other tt)
+    apart x y e f g h = grind (arith, common_steps, pair_same)
 
 -- Those that wait stand in the order of their turns.
 rising_in_turn : (seats : List SeatRecord) → IsRising is_wait_before (in_turn seats)
 rising_in_turn [] = tt
-rising_in_turn (s ∷ seats) = go (is_waiting s) (rising_in_turn seats)
-  where
-    go : (b : Bool) → IsRising is_wait_before (in_turn seats) → IsRising is_wait_before (if b then placed is_wait_before s (in_turn seats) else in_turn seats)
-    go true rest = rising_placed wait_order s (in_turn seats) rest
-    go false rest = rest
+rising_in_turn (s ∷ seats) = grind (arith, common_steps, rising_placed, wait_order, rising_in_turn seats)
 
 fold_stays : {A : Type 0} (p : A → Bool) (before : A → A → Bool) (b : A) (xs : List A) → All (λ y. before y b ≡ false) xs → fold (better_of p before) (Some b) xs ≡ Some b
 fold_stays p before b [] all = refl
-fold_stays p before b (x ∷ xs) all = ap (λ o. fold (better_of p before) o xs) (go (p x) (before x b) all.0) ∙ fold_stays p before b xs all.1
-  where
-    go : (c d : Bool) → d ≡ false → (if c && d then Some x else Some b) ≡ Some b
-    go true true h = absurd cc
-    go true false h = refl
-    go false d h = refl
+fold_stays p before b (x ∷ xs) all = grind (arith, common_steps, fold_stays p before b xs all.1)
 
 first_rising : {A : Type 0} (p : A → Bool) (before : A → A → Bool) (xs : List A) → IsRising before xs → first_of p before xs ≡ find p xs
 first_rising p before [] rising = refl
-first_rising p before (x ∷ xs) rising = go (p x) (fold_stays p before x xs rising.0) (first_rising p before xs rising.1)
-  where
-    go : (c : Bool) → fold (better_of p before) (Some x) xs ≡ Some x → first_of p before xs ≡ find p xs → fold (better_of p before) (if c then Some x else None) xs ≡ cond c (Some x) (find p xs)
-    go true here rest = here
-    go false here rest = rest
+first_rising p before (x ∷ xs) rising =
+    grind (arith, common_steps, cases_Bool, fold_stays p before x xs rising.0, first_rising p before xs rising.1,
+    rising.0, rising.1)
 
 find_mapped : (q : ℕ × ℕ → Bool) (p : SeatRecord → Bool) (ss : List SeatRecord) → All (λ s. q (turn_of s) ≡ p s) ss → find q (map turn_of ss) ≡ option_map turn_of (find p ss)
 find_mapped q p [] all = refl
-find_mapped q p (s ∷ ss) all = ap (λ b. cond b (Some (turn_of s)) (find q (map turn_of ss))) all.0 ∙ go (p s) (find_mapped q p ss all.1)
-  where
-    go : (c : Bool) → find q (map turn_of ss) ≡ option_map turn_of (find p ss) → cond c (Some (turn_of s)) (find q (map turn_of ss)) ≡ option_map turn_of (cond c (Some s) (find p ss))
-    go true rest = refl
-    go false rest = rest
+find_mapped q p (s ∷ ss) all = grind (arith, common_steps, find_mapped q p ss all.1)
 
 -- The first turn that passes is that of the first client which does.
 pub first_turn : (q : ℕ × ℕ → Bool) (p : SeatRecord → Bool) (seats : List SeatRecord) → AreNumbered seats → ((s : SeatRecord) → is_waiting s ≡ false → p s ≡ false) → ((s : SeatRecord) → is_waiting s ≡ true → slice_get seats s.number ≡ Some s → q (turn_of s) ≡ p s)
@@ -210,37 +151,20 @@ first_turn q p seats h waits agrees =
 
 -- what stands at the place of the first that passes
 pub found_at : {A : Type 0} (q : A → Bool) (xs : List A) (i : ℕ) → position q xs ≡ Some i → slice_get xs i ≡ find q xs
-found_at q xs i h = go (nat_lt (position_or_len q xs) (length xs)) h
-  where
-    go : (b : Bool) → cond b (Some (position_or_len q xs)) None ≡ Some i → slice_get xs i ≡ find q xs
-    go true e = let at : position_or_len q xs ≡ i = cc in ap (slice_get xs) (sym at) ∙ sym (find_at q xs)
-    go false e = absurd cc
+found_at q xs i h = grind (arith, common_steps, find_at)
 
 pub none_at : {A : Type 0} (q : A → Bool) (xs : List A) → position q xs ≡ None → find q xs ≡ None
-none_at q xs h = go (nat_lt (position_or_len q xs) (length xs)) refl h
-  where
-    go : (b : Bool) → nat_lt (position_or_len q xs) (length xs) ≡ b → cond b (Some (position_or_len q xs)) None ≡ None → find q xs ≡ None
-    go true e k = absurd cc
-    go false e k = find_at q xs ∙ slice_get_past xs (position_or_len q xs) (ltb-false (position_or_len q xs) (length xs) e)
+none_at q xs h = grind (arith, common_steps, find_at, slice_get_past, ltb-false)
 
 pub item_found : {A : Type 0} (q : A → Bool) (xs : List A) → item_at xs (position q xs) ≡ find q xs
-item_found q xs = go (position q xs) refl
-  where
-    go : (o : Option ℕ) → position q xs ≡ o → item_at xs o ≡ find q xs
-    go None e = sym (none_at q xs e)
-    go (Some i) e = found_at q xs i e
+item_found q xs = grind (arith, common_steps, none_at, found_at)
 
 pub number_of_turn : (o : Option SeatRecord) → option_map (λ t. t.1) (option_map turn_of o) ≡ option_map (λ s. s.number) o
-number_of_turn None = refl
-number_of_turn (Some s) = refl
+number_of_turn o = grind (arith, common_steps)
 
 any_found : {A : Type 0} (q : A → Bool) (xs : List A) → list_any q xs ≡ is_some (find q xs)
 any_found q [] = refl
-any_found q (x ∷ xs) = go (q x) (any_found q xs)
-  where
-    go : (b : Bool) → list_any q xs ≡ is_some (find q xs) → (b || list_any q xs) ≡ is_some (cond b (Some x) (find q xs))
-    go true rest = refl
-    go false rest = rest
+any_found q (x ∷ xs) = grind (arith, common_steps, any_found q xs)
 
 -- One of the turns passes exactly where a client does.
 pub any_turn : (p : SeatRecord → Bool) (seats : List SeatRecord) → AreNumbered seats → ((s : SeatRecord) → is_waiting s ≡ false → p s ≡ false) → list_any (passes_at p seats) (turns_of seats) ≡ list_any p seats
@@ -251,12 +175,10 @@ any_turn p seats h waits =
     ∙ first_of_is_some p is_wait_before seats
   where
     go : (o : Option SeatRecord) → is_some (option_map turn_of o) ≡ is_some o
-    go None = refl
-    go (Some s) = refl
+    go o = grind (arith, common_steps)
 
 pub none_first : (o : Option SeatRecord) → None ≡ option_map turn_of o → None ≡ o
-none_first None h = refl
-none_first (Some s) h = absurd cc
+none_first o h = grind (arith, common_steps)
 
 -- Who was found stands at the place of its number.
 pub first_read : (p : SeatRecord → Bool) (seats : List SeatRecord) → AreNumbered seats → (t : ℕ × ℕ) → Some t ≡ option_map turn_of (first_of p is_wait_before seats)
@@ -266,14 +188,11 @@ first_read p seats h t is = go (first_of p is_wait_before seats) refl is
     go : (o : Option SeatRecord) → first_of p is_wait_before seats ≡ o → Some t ≡ option_map turn_of o → (slice_get seats t.1 ≡ o) × (t.1 < length seats)
     go None e i = absurd cc
     go (Some s) e i =
-        let at : t ≡ turn_of s = cc in
-        let read : slice_get seats t.1 ≡ Some s =
-        ap (λ u. slice_get seats u.1) at ∙ all_at (λ u. slice_get seats u.number ≡ Some u) seats s (read_each seats h) (first_of_contains p is_wait_before seats s e) in
-        (read, slice_get_within seats t.1 s read)
+        grind (arith, common_steps, all_at, read_each seats h, first_of_contains p is_wait_before seats s e,
+        slice_get_within)
 
 pub next_turn : (last : Option (ℕ × ℕ)) (seats : List SeatRecord) → AreNumbered seats → find (is_turn_after last) (turns_of seats) ≡ option_map turn_of (first_of (waits_after last) is_wait_before seats)
 next_turn last seats h = first_turn (is_turn_after last) (waits_after last) seats h (λ s e. rw e refl) (λ s waits _. rw waits (same last s))
   where
     same : (last : Option (ℕ × ℕ)) (s : SeatRecord) → is_turn_after last (turn_of s) ≡ is_after last s
-    same None s = refl
-    same (Some last) s = refl
+    same last s = grind (arith, common_steps)

@@ -11,54 +11,34 @@ use Rattle.bq_state.specs.declared.{known.Warns.{Warns, TheVariants.{Any, Client
 use Rattle.bq_state.specs.{Dues.{earlier_of_both, warning_due, warning_due_at, with_warning_due}, SeatChanges.{AreNumbered, seat_changed, seat_changed_at}}
 use Rattle.bq_state.specs.Warnings.{AreWarned, IsWarned, has_waiting_holder, holds_in_wait, is_waiting_there, may_hold, may_warn, warned_by_seat, warned_if_due, with_holder, with_holder_of, without_holder}
 use Rattle.bq_state.proofs.PartsLemmas.{all_added, all_read, all_set}
+use Rattle.std.proofs.lemmas.Grind.{common_steps}
+use Rattle.std.proofs.lemmas.Bool.{cases_Bool}
+use Rattle.std.proofs.lemmas.Bool.Decides.{nat_tests}
 
 -- beside no moment
 pub no_other : (a : Option ℕ) → earlier_of_both a None ≡ a
-no_other None = refl
-no_other (Some a) = refl
+no_other a = grind (arith, common_steps)
 
 -- more may be known
 abbrev AtLeast : Warns → Warns → Type 0
 AtLeast warns more = (number : ℕ) → may_warn warns number ≡ true → may_warn more number ≡ true
 
 warned_more : (warns more : Warns) → AtLeast warns more → (jobs : List Job) (seats : List SeatRecord) → AreWarned warns jobs seats → AreWarned more jobs seats
-warned_more warns more at_least jobs seats known =
-    all_weaker (λ j. All (IsWarned warns j) seats) (λ j. All (IsWarned more j) seats) jobs
-    (λ j all. all_weaker (IsWarned warns j) (IsWarned more j) seats (λ s k h. at_least s.number (k h)) all) known
+warned_more warns more at_least jobs seats known = grind (arith, common_steps, all_weaker)
 
 -- that one more client may hold a job
 with_more : (seat : ℕ) (warns : Warns) → AtLeast warns (with_holder seat warns)
-with_more seat Nobody number h = absurd cc
-with_more seat (Client holder) number h = go (holder == seat) refl
-  where
-    go : (b : Bool) → (holder == seat) ≡ b → may_warn (if b then Client seat else Any) number ≡ true
-    go true e = ap (λ n. number == n) (sym (eqb-true holder seat e)) ∙ h
-    go false e = refl
-with_more seat Any number h = refl
+with_more seat warns number h = grind (arith, common_steps, eqb-true)
 
 is_known : (seat : ℕ) (warns : Warns) → may_warn (with_holder seat warns) seat ≡ true
-is_known seat Nobody = eq-eqb seat seat refl
-is_known seat (Client holder) = go (holder == seat)
-  where
-    go : (b : Bool) → may_warn (if b then Client seat else Any) seat ≡ true
-    go true = eq-eqb seat seat refl
-    go false = refl
-is_known seat Any = refl
+is_known seat warns = grind (arith, common_steps, eq-eqb)
 
 more_if : (b : Bool) (state : JobState) (warns : Warns) → AtLeast warns (if b then with_holder_of state warns else warns)
-more_if true (states.Reserved seat deadline) warns number h = with_more seat warns number h
-more_if true states.Ready warns number h = h
-more_if true (states.Delayed due) warns number h = h
-more_if true (states.Buried place) warns number h = h
-more_if false state warns number h = h
+more_if b state warns number h = grind (arith, common_steps, with_more)
 
 -- who holds a job in this state is known
 known_of : (b : Bool) (state : JobState) (warns : Warns) (number : ℕ) → b ≡ true → is_holder number state ≡ true → may_warn (if b then with_holder_of state warns else warns) number ≡ true
-known_of true (states.Reserved seat deadline) warns number e h = ap (may_warn (with_holder seat warns)) (sym (eqb-true seat number h)) ∙ is_known seat warns
-known_of true states.Ready warns number e h = absurd cc
-known_of true (states.Delayed due) warns number e h = absurd cc
-known_of true (states.Buried place) warns number e h = absurd cc
-known_of false state warns number e h = absurd cc
+known_of b state warns number e h = grind (arith, common_steps, eqb-true, is_known)
 
 pub none_found : (number : ℕ) (seats : List SeatRecord) → seat_with number seats ≡ None → All (λ t. (t.number == number) ≡ false) seats
 none_found number [] h = tt
@@ -66,8 +46,7 @@ none_found number (t ∷ seats) h = go (t.number == number) refl h (none_found n
   where
     go : (b : Bool) → (t.number == number) ≡ b → (if b then Some t else seat_with number seats) ≡ None → (seat_with number seats ≡ None → All (λ u. (u.number == number) ≡ false) seats)
         → ((t.number == number) ≡ false) × All (λ u. (u.number == number) ≡ false) seats
-    go true e h rest = absurd cc
-    go false e h rest = (e, rest h)
+    go b e h rest = grind (arith, common_steps)
 
 -- who holds a job is at the seat of its state
 holder_found : (j : Job) (seats : List SeatRecord) (s : SeatRecord) → AreNumbered seats → Contains seats s → holds_in_wait j s ≡ true → has_waiting_holder j.state seats ≡ true
@@ -78,13 +57,11 @@ holder_found j seats s numbered here h = go j.state (parts.1)
 
     at : (seat : ℕ) → (seat == s.number) ≡ true → (o : Option SeatRecord) → seat_with seat seats ≡ o → is_waiting_there o ≡ true
     at seat e None f =
-        let is : s.number ≡ seat = sym (eqb-true seat s.number e) in
-        let passes : (s.number == seat) ≡ true = eq-eqb s.number seat is in
-        absurd (let none = all_at (λ t. (t.number == seat) ≡ false) seats s (none_found seat seats f) here in cc)
+        grind (arith, common_steps, cases_Bool, nat_tests, eqb-true seat s.number e, eq-eqb, all_at,
+        none_found seat seats f)
     at seat e (Some t) f =
-        let is : s.number ≡ seat = sym (eqb-true seat s.number e) in
-        let same : s ≡ t = all_at (λ u. u.number ≡ seat → u ≡ t) seats s (only_seat 0 (length seats) seat seats t numbered f) here is in
-        ap is_waiting (sym same) ∙ parts.0
+        grind (arith, common_steps, cases_Bool, nat_tests, eqb-true seat s.number e, all_at,
+        only_seat 0 (length seats) seat seats t numbered f)
 
     go : (state : JobState) → is_holder s.number state ≡ true → has_waiting_holder state seats ≡ true
     go (states.Reserved seat deadline) e = at seat e (seat_with seat seats) refl
@@ -106,39 +83,14 @@ warned_added j warns jobs seats numbered known =
 -- a seat is changed
 one_changed : (number : ℕ) (what : SeatChange) (warns : Warns) (jobs : List Job) (j : Job) (s : SeatRecord) → may_hold what number warns jobs ≡ true → Contains jobs j → (s.number == number) ≡ true → IsWarned warns j s
     → IsWarned (warned_by_seat number what warns) j (seat_changed what s)
-one_changed number StopWaiting warns jobs j s holds c e known = λ h. absurd cc
-one_changed number (Wait ticket until) warns jobs j s holds c e known =
-    λ h. ap (may_warn warns) is ∙ go (may_warn warns number) (list_any (is_held_by number) jobs) holds (list_any_with (is_held_by number) jobs j c (ap (λ n. is_held_by n j) (sym is) ∙ h))
-  where
-    is : s.number ≡ number
-    is = eqb-true s.number number e
-
-    go : (w b : Bool) → (w || not b) ≡ true → b ≡ true → w ≡ true
-    go true b m i = refl
-    go false true m i = m
-    go false false m i = i
-one_changed number Connect warns jobs j s holds c e known = λ h. absurd cc
-one_changed number Clear warns jobs j s holds c e known = λ h. absurd cc
-one_changed number End warns jobs j s holds c e known = known
-one_changed number (Use name) warns jobs j s holds c e known = known
+one_changed number what warns jobs j s holds c e known = grind (arith, common_steps, list_any_with, eqb-true)
 
 -- of another one it is known as before
 others_known : (number : ℕ) (warns : Warns) (other : ℕ) → (other == number) ≡ false → may_warn warns other ≡ true → may_warn (without_holder number warns) other ≡ true
-others_known number Nobody other e h = h
-others_known number (Client holder) other e h = go (holder == number) refl
-  where
-    go : (b : Bool) → (holder == number) ≡ b → may_warn (if b then Nobody else Client holder) other ≡ true
-    go true f = sym e ∙ ap (λ n. other == n) (sym (eqb-true holder number f)) ∙ h
-    go false f = h
-others_known number Any other e h = refl
+others_known number warns other e h = grind (arith, common_steps, eqb-true)
 
 other_kept : (number : ℕ) (what : SeatChange) (warns : Warns) (j : Job) (s : SeatRecord) → (s.number == number) ≡ false → IsWarned warns j s → IsWarned (warned_by_seat number what warns) j s
-other_kept number StopWaiting warns j s e known = λ h. others_known number warns s.number e (known h)
-other_kept number (Wait ticket until) warns j s e known = known
-other_kept number Connect warns j s e known = known
-other_kept number Clear warns j s e known = λ h. others_known number warns s.number e (known h)
-other_kept number End warns j s e known = known
-other_kept number (Use name) warns j s e known = known
+other_kept number what warns j s e known = grind (arith, common_steps, others_known)
 
 pub warned_of_seat : (number : ℕ) (what : SeatChange) (warns : Warns) (jobs : List Job) (seats : List SeatRecord) → may_hold what number warns jobs ≡ true → AreWarned warns jobs seats
     → AreWarned (warned_by_seat number what warns) jobs (map (seat_changed_at number what) seats)
@@ -149,49 +101,32 @@ warned_of_seat number what warns jobs seats holds known =
     (all_weaker (IsWarned warns j) (λ s. IsWarned later j (seat_changed_at number what s)) seats (λ s k. go j c s k (s.number == number) refl) (all_at (λ k. All (IsWarned warns k) seats) jobs j known c)))
   where
     go : (j : Job) → Contains jobs j → (s : SeatRecord) → IsWarned warns j s → (b : Bool) → (s.number == number) ≡ b → IsWarned (warned_by_seat number what warns) j (if b then seat_changed what s else s)
-    go j c s k true e = one_changed number what warns jobs j s holds c e k
-    go j c s k false e = other_kept number what warns j s e k
+    go j c s k b e = grind (arith, common_steps, one_changed, other_kept)
 
 -- a client watches other tubes
 pub warned_watching : (names : List (List ℕ)) (i : ℕ) (s : SeatRecord) (warns : Warns) (jobs : List Job) (seats : List SeatRecord) → slice_get seats i ≡ Some s → AreWarned warns jobs seats → AreWarned warns jobs (set seats i (watching names s))
-warned_watching names i s warns jobs seats here known =
-    all_weaker (λ j. All (IsWarned warns j) seats) (λ j. All (IsWarned warns j) (set seats i (watching names s))) jobs
-    (λ j all. all_set (IsWarned warns j) seats i (watching names s) all (all_read (IsWarned warns j) seats i s all here)) known
+warned_watching names i s warns jobs seats here known = grind (arith, common_steps, all_weaker, all_set, all_read)
 
 -- where no warning is due, no client that waits holds a job
 both_none : (o u : Option ℕ) → earlier_of_both o u ≡ None → (o ≡ None) × (u ≡ None)
-both_none None u h = (refl, h)
-both_none (Some a) u h = absurd cc
+both_none o u h = grind (arith, common_steps)
 
 all_none : {A : Type 0} (f : A → Option ℕ) (best : Option ℕ) (xs : List A) → fold (λ b x. earlier_of_both b (f x)) best xs ≡ None → (best ≡ None) × All (λ x. f x ≡ None) xs
 all_none f best [] h = (h, tt)
-all_none f best (x ∷ xs) h =
-    let rest = all_none f (earlier_of_both best (f x)) xs h in
-    let here = both_none best (f x) rest.0 in
-    (here.0, (here.1, rest.1))
+all_none f best (x ∷ xs) h = grind (arith, common_steps, both_none, all_none f (earlier_of_both best (f x)) xs h)
 
 -- who holds no job while it waits is never told
 unheld : (jobs : List Job) (s : SeatRecord) → All (λ j. holds_in_wait j s ≡ false) jobs → warning_due jobs s ≡ None
-unheld jobs s none = go (is_waiting s) refl
-  where
-    not_held : (w h : Bool) → w ≡ true → (w && h) ≡ false → h ≡ false
-    not_held true h e f = f
-    not_held false h e f = absurd cc
-
-    go : (w : Bool) → is_waiting s ≡ w → (if w then option_map (λ j. deadline_of j.state - 1000) (first_of (is_held_by s.number) is_lease_before jobs) else None) ≡ None
-    go false e = refl
-    go true e =
-        ap (option_map (λ (j : Job). deadline_of j.state - 1000))
-        (first_of_none_passes (is_held_by s.number) is_lease_before jobs
-        (list_any_not (is_held_by s.number) jobs (all_weaker (λ j. holds_in_wait j s ≡ false) (λ j. is_held_by s.number j ≡ false) jobs (λ j k. not_held (is_waiting s) (is_held_by s.number j) e k) none)))
+unheld jobs s none =
+    grind (arith, common_steps, cases_Bool, first_of_none_passes (is_held_by s.number) is_lease_before jobs,
+    list_any_not, all_weaker)
 
 -- of a client that can't hold one while it waits, by what is known
 not_known : (warns : Warns) (jobs : List Job) (s : SeatRecord) → may_warn warns s.number ≡ false → All (λ j. IsWarned warns j s) jobs → warning_due jobs s ≡ None
 not_known warns jobs s e all = unheld jobs s (all_weaker (λ j. IsWarned warns j s) (λ j. holds_in_wait j s ≡ false) jobs (λ j k. go (holds_in_wait j s) k) all)
   where
     go : (b : Bool) → (b ≡ true → may_warn warns s.number ≡ true) → b ≡ false
-    go true k = sym (k refl) ∙ e
-    go false k = refl
+    go b k = grind (arith, common_steps)
 
 of_first : (warns : Warns) (jobs : List Job) (s : SeatRecord) (seats : List SeatRecord) → AreWarned warns jobs (s ∷ seats) → All (λ j. IsWarned warns j s) jobs
 of_first warns jobs s seats known = all_weaker (λ j. All (IsWarned warns j) (s ∷ seats)) (λ j. IsWarned warns j s) jobs (λ j all. all.0) known
@@ -206,8 +141,7 @@ warned_by_due warns jobs seats known = go (fold (with_warning_due jobs) None sea
     held_by_none s none waits = none_pass (is_held_by s.number) jobs (first_of_none (is_held_by s.number) is_lease_before jobs (unmapped (first_of (is_held_by s.number) is_lease_before jobs) (rw waits at none)))
       where
         unmapped : (o : Option Job) → option_map (λ j. deadline_of j.state - 1000) o ≡ None → o ≡ None
-        unmapped None h = refl
-        unmapped (Some j) h = absurd cc
+        unmapped o h = grind (arith, common_steps)
 
     quiet : (s : SeatRecord) → warning_due jobs s ≡ None → (j : Job) → Contains jobs j → IsWarned Nobody j s
     quiet s none j c h =
@@ -229,23 +163,15 @@ none_due jobs (s ∷ seats) known =
 
 -- and where one client alone may, it is its own.
 twice : (o : Option ℕ) → earlier_of_both o o ≡ o
-twice None = refl
-twice (Some x) = ap Some (least x)
-  where
-    least : (x : ℕ) → min x x ≡ x
-    least x = omega arith
+twice o = grind (arith, common_steps)
 
 -- once it was found the others change nothing
 found_already : (holder : ℕ) (jobs : List Job) (t : SeatRecord) (seats : List SeatRecord) → AreWarned (Client holder) jobs seats → All (λ u. u.number ≡ holder → u ≡ t) seats
     → fold (with_warning_due jobs) (warning_due jobs t) seats ≡ warning_due jobs t
 found_already holder jobs t [] known only = refl
 found_already holder jobs t (s ∷ seats) known only =
-    ap (λ o. fold (with_warning_due jobs) o seats) (go (s.number == holder) refl)
-    ∙ found_already holder jobs t seats (of_rest (Client holder) jobs s seats known) only.1
-  where
-    go : (b : Bool) → (s.number == holder) ≡ b → earlier_of_both (warning_due jobs t) (warning_due jobs s) ≡ warning_due jobs t
-    go true e = ap (λ u. earlier_of_both (warning_due jobs t) (warning_due jobs u)) (only.0 (eqb-true s.number holder e)) ∙ twice (warning_due jobs t)
-    go false e = ap (earlier_of_both (warning_due jobs t)) (not_known (Client holder) jobs s e (of_first (Client holder) jobs s seats known)) ∙ no_other (warning_due jobs t)
+    grind (arith, common_steps, of_rest, eqb-true, twice, not_known, of_first, no_other,
+    found_already holder jobs t seats (of_rest (Client holder) jobs s seats known) only.1)
 
 among : (holder : ℕ) (jobs : List Job) (o : Option SeatRecord) (seats : List SeatRecord) → seat_with holder seats ≡ o → AreWarned (Client holder) jobs seats
     → ((t : SeatRecord) → o ≡ Some t → All (λ u. u.number ≡ holder → u ≡ t) seats) → fold (with_warning_due jobs) None seats ≡ warning_due_at jobs o
@@ -255,39 +181,16 @@ among holder jobs o (s ∷ seats) e known only =
   where
     go : (b : Bool) → (s.number == holder) ≡ b → (if b then Some s else seat_with holder seats) ≡ o
         → (seat_with holder seats ≡ o → fold (with_warning_due jobs) None seats ≡ warning_due_at jobs o) → fold (with_warning_due jobs) (warning_due jobs s) seats ≡ warning_due_at jobs o
-    go true f i rest =
-        found_already holder jobs s seats (of_rest (Client holder) jobs s seats known) (only s (sym i)).1
-        ∙ ap (warning_due_at jobs) i
-    go false f i rest =
-        ap (λ x. fold (with_warning_due jobs) x seats) (not_known (Client holder) jobs s f (of_first (Client holder) jobs s seats known)) ∙ rest i
+    go b f i rest = grind (arith, common_steps, found_already, of_rest, not_known, of_first)
 
 pub one_due : (holder : ℕ) (jobs : List Job) (seats : List SeatRecord) → AreNumbered seats → AreWarned (Client holder) jobs seats → fold (with_warning_due jobs) None seats ≡ warning_due_at jobs (seat_with holder seats)
-one_due holder jobs seats numbered known =
-    among holder jobs (seat_with holder seats) seats refl known (λ t e. only_seat 0 (length seats) holder seats t numbered e)
+one_due holder jobs seats numbered known = grind (arith, common_steps, among, only_seat)
 
 -- and it is one of those that wait, or waits not
 pub one_waits : (number : ℕ) (seats : List SeatRecord) → (if is_waiting_there (seat_with number seats) then 1 else 0) ≤ count_by is_waiting seats
 one_waits number [] = omega arith
-one_waits number (s ∷ seats) =
-    subst (λ n. (if is_waiting_there (seat_with number (s ∷ seats)) then 1 else 0) ≤ n) (sym (count_cons is_waiting s seats)) (go (s.number == number) (one_waits number seats))
-  where
-    its_own : (w : Bool) (n : ℕ) → (if w then 1 else 0) ≤ cond w 1 0 + n
-    its_own true n = omega arith
-    its_own false n = omega arith
-
-    go : (b : Bool) → (if is_waiting_there (seat_with number seats) then 1 else 0) ≤ count_by is_waiting seats
-        → (if is_waiting_there (if b then Some s else seat_with number seats) then 1 else 0) ≤ cond (is_waiting s) 1 0 + count_by is_waiting seats
-    go true below = its_own (is_waiting s) (count_by is_waiting seats)
-    go false below = omega (arith, below)
+one_waits number (s ∷ seats) = grind (arith, common_steps, count_cons, one_waits number seats)
 
 -- what is known of a client that comes to wait
 pub known_holds : (number ticket : ℕ) (until : Option ℕ) (warns was : Warns) (jobs : List Job) → warns ≡ (if list_any (is_held_by number) jobs then with_holder number was else was) → may_hold (Wait ticket until) number warns jobs ≡ true
-known_holds number ticket until warns was jobs e = go (list_any (is_held_by number) jobs) e
-  where
-    or : (w : Bool) → (w || true) ≡ true
-    or true = refl
-    or false = refl
-
-    go : (b : Bool) → warns ≡ (if b then with_holder number was else was) → (may_warn warns number || not b) ≡ true
-    go true e = ap (λ w. may_warn w number || false) e ∙ ap (λ b. b || false) (is_known number was)
-    go false e = or (may_warn warns number)
+known_holds number ticket until warns was jobs e = grind (arith, common_steps, is_known)
