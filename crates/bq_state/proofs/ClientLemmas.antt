@@ -1,14 +1,13 @@
 -- Counts of seats, once one seat changes.
 use Rattle.std.proofs.Common.{◌+◌, ◌<◌, ◌==◌, ◌∙◌, ◌∷◌, ◌≡◌, ◌≤◌, if◌then◌else◌, Bool, List, Some, [], ℕ, ap, arith, cond, false, filter, inl, inr, length, map, not, refl, set, slice_get, suc, sym, true}
-use Rattle.std.proofs.lemmas.{Bool.{cases_Bool, eqb-true, lt-ltb, ne_eqb}, List.{length-map, Sums.count_by-le-length}}
+use Rattle.std.proofs.lemmas.{Bool.{cases_Bool, eqb-true, ne_eqb}, Grind.common_steps}
+use Rattle.std.proofs.lemmas.List.{length-map, Sums.count_by-le-length}
 use Rattle.std.specs.{List.list_any, Prelude.{count_by, nat_lt}}
 use Rattle.bq_job.specs.machine.{SeatRecord, empty_seat, greatest, is_waiting, numbers, seat_with, watching}
 use Rattle.bq_job.proofs.ListLemmas.{count_cons}
 use Rattle.bq_state.specs.declared.{known.Clients.Clients, seats.SeatChange.SeatChange}
 use Rattle.bq_state.specs.{Clients.{clients_of, clients_with, clients_without, seat_passes}, SeatChanges.{AreNumbered, seat_changed, seat_changed_at}, Tallies.{count_with, count_without}}
 use Rattle.bq_state.proofs.{PartsLemmas.{changed_there, number_kept}, TallyLemmas.{with_is, without_is}}
-use Rattle.std.proofs.lemmas.Grind.{common_steps}
-use Rattle.std.proofs.lemmas.Bool.Decides.{nat_tests}
 
 -- all seats but that of the number
 abbrev pub others : ℕ → List SeatRecord → List SeatRecord
@@ -30,10 +29,7 @@ all_others n high (s ∷ seats) less h =
 pub others_left : (n : ℕ) (f : SeatRecord → SeatRecord) → ((s : SeatRecord) → (f s).number ≡ s.number) → (seats : List SeatRecord)
     → others n (map (λ s. if s.number == n then f s else s) seats) ≡ others n seats
 others_left n f keeps [] = refl
-others_left n f keeps (s ∷ seats) = grind (arith, common_steps, cases_Bool, others_left n f keeps seats)
-
-no_more : (n : ℕ) → 0 + n ≡ n
-no_more n = omega arith
+others_left n f keeps (s ∷ seats) = grind (arith, others_left n f keeps seats)
 
 module _ (p : SeatRecord → Bool) where
   -- those that pass are the seat of a number, if it does, and others
@@ -73,12 +69,12 @@ module _ (p : SeatRecord → Bool) where
   -- where a change makes no difference, the count stays
   pub count_stays : (f : SeatRecord → SeatRecord) → ((s : SeatRecord) → p (f s) ≡ p s) → (seats : List SeatRecord) → count_by p (map f seats) ≡ count_by p seats
   count_stays f same [] = refl
-  count_stays f same (s ∷ seats) = grind (arith, common_steps, count_cons, count_stays f same seats)
+  count_stays f same (s ∷ seats) = grind (arith, count_cons, count_stays f same seats)
 
   -- one is counted where there is one
   pub some_pass : (seats : List SeatRecord) → nat_lt 0 (count_by p seats) ≡ list_any p seats
   some_pass [] = refl
-  some_pass (s ∷ seats) = grind (arith, common_steps, count_cons, cases_Bool, lt-ltb, no_more, some_pass seats)
+  some_pass (s ∷ seats) = grind (arith, common_steps, some_pass seats)
 
 -- the seat of a number, once it is changed
 pub found_changed : (n : ℕ) (f : SeatRecord → SeatRecord) → ((s : SeatRecord) → (f s).number ≡ s.number) → (s : SeatRecord) (seats : List SeatRecord)
@@ -110,9 +106,7 @@ count_unchanged p n f keeps s seats h h' found same =
     let new = map (λ t. if t.number == n then f t else t) seats in
     let there : seat_passes p (seat_with n new) ≡ p (f s) = ap (seat_passes p) (found_changed n f keeps s seats found) in
     let was : seat_passes p (seat_with n seats) ≡ p s = ap (seat_passes p) found in
-    sym (parted p n 0 new h')
-    ∙ (λ i. cond ((there ∙ same ∙ sym was) i) 1 0 + count_by p (others_left n f keeps seats i))
-    ∙ parted p n 0 seats h
+    grind (arith, common_steps, parted p n 0 new h', others_left, parted p n 0 seats h)
 
 -- How many clients there are, once the seat of a number is changed,
 pub clients_moved : (n : ℕ) (what : SeatChange) (seats : List SeatRecord) → AreNumbered seats → AreNumbered (map (seat_changed_at n what) seats) → length seats ≤ greatest
@@ -122,14 +116,10 @@ clients_moved n what seats h h' fits = λ i. record {
   waiting = count_moved is_waiting n (seat_changed what) (number_kept what) seats h h' fits i;
 }
 
-same_passes : (p : SeatRecord → Bool) (b : Bool) (x s : SeatRecord) → p x ≡ p s → p (if b then x else s) ≡ p s
-same_passes p b x s h = grind (arith, common_steps)
-
 -- and once it watches other tubes
 pub clients_watching : (names : List (List ℕ)) (i : ℕ) (s : SeatRecord) (seats : List SeatRecord) → slice_get seats i ≡ Some s → AreNumbered seats
     → clients_of (set seats i (watching names s)) ≡ clients_of seats
-clients_watching names i s seats found h =
-    grind (arith, common_steps, nat_tests, changed_there seats i s (watching names) h found, count_stays, same_passes)
+clients_watching names i s seats found h = grind (arith, common_steps, changed_there seats i s (watching names) h found)
 
 -- at the start there is none
 pub nobody : (p : SeatRecord → Bool) → ((n : ℕ) → p (empty_seat n) ≡ false) → (ns : List ℕ) → count_by p (map empty_seat ns) ≡ 0
@@ -137,4 +127,4 @@ nobody p none [] = refl
 nobody p none (n ∷ ns) = count_cons p (empty_seat n) (map empty_seat ns) ∙ (λ i. cond (none n i) 1 0 + nobody p none ns i)
 
 pub first_clients : (c : Clients) → (c.connected ≡ 0) × (c.waiting ≡ 0) → (ns : List ℕ) → c ≡ clients_of (map empty_seat ns)
-first_clients c zero ns = grind (arith, common_steps, nobody)
+first_clients c zero ns = grind (arith, nobody)

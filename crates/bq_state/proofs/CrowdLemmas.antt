@@ -1,15 +1,13 @@
 -- Counts of the clients at tubes, once a seat changes.
-use Rattle.std.proofs.{Common.{◌&&◌, ◌==◌, ◌||◌, ◌∙◌, ◌∷◌, ◌≡◌, ◌≤◌, if◌then◌else◌, Bool, List, None, Option, Some, [], ℕ, ap, false, inl, inr, length, map, not, refl, sym, true}, lemmas.Bool.{and_parts, cases_Bool}, Math.Bool.and-false}
+use Rattle.std.proofs.{Common.{◌&&◌, ◌==◌, ◌||◌, ◌∙◌, ◌∷◌, ◌≡◌, ◌≤◌, if◌then◌else◌, Bool, List, None, Option, Some, [], ℕ, ap, false, inl, inr, length, map, not, refl, sym, true}, lemmas.Bool.{and_parts, cases_Bool}}
+use Rattle.std.proofs.{Common.arith, lemmas.{Bool.not-true, Grind.common_steps}}
 use Rattle.std.specs.{Cmp.Lexicographic.bytes_decides, List.{AllByRecursion as All, list_any}, Prelude.count_by}
 use Rattle.bq_job.specs.{beside.none_twice, machine.{SeatRecord, TubeRecord, greatest, is_name_before, is_seated_at, is_waiting, seat_with, watches}, reading.TubeName.is_same_name}
-use Rattle.bq_state.specs.declared.{seats.SeatChange.{SeatChange, TheVariants.{Clear, Connect, End, StopWaiting, Use, Wait}}, tubes.entry.{Crowd.Crowd, Moving.{Moving, TheVariants.{Comes, Goes}}, Share.Share}}
+use Rattle.bq_state.specs.declared.{seats.SeatChange.SeatChange, tubes.entry.{Crowd.Crowd, Moving.{Moving, TheVariants.{Comes, Goes}}, Share.Share}}
 use Rattle.bq_state.specs.Crowds.{AreCrowds, IsSeated, crowd_in, crowd_of, crowd_with, crowd_without, crowds_at, crowds_at_all, crowds_of, crowds_recounted, crowds_recounted_for, has_seats, is_none, is_user, is_waiter, is_watcher, may_wait}
-use Rattle.bq_state.specs.{Crowds.{recounted, share_as_user, share_as_watcher, touched}, SeatChanges.{AreNumbered, seat_changed, seat_changed_at}, SeatStates.{is_asking, is_connected}, Tallies.{count_with, count_without}}
+use Rattle.bq_state.specs.{Crowds.{recounted, touched}, SeatChanges.{AreNumbered, seat_changed, seat_changed_at}, SeatStates.{is_asking, is_connected}, Tallies.{count_with, count_without}}
 use Rattle.bq_state.specs.TubeEntries.{AreInOrder}
 use Rattle.bq_state.proofs.{ClientLemmas.{count_changed, count_stays, found_changed, some_pass}, PartsLemmas.{all_read, all_set, changed_there, number_kept, numbered_after, seat_there}, TubeLemmas.{before_differs, same_name}}
-use Rattle.std.proofs.lemmas.Bool.{not-true}
-use Rattle.std.proofs.lemmas.Grind.{common_steps}
-use Rattle.std.proofs.Common.{arith}
 
 -- names are the same either way round
 pub same_turned : (a b : List ℕ) → is_same_name a b ≡ is_same_name b a
@@ -26,16 +24,13 @@ map_same u v [] same = refl
 map_same u v (x ∷ xs) same = λ i. same x i ∷ map_same u v xs same i
 
 -- A share of nothing changes no counts.
-none_counts : (b c d : Bool) → not b && (not c && not d) ≡ true → (b ≡ false) × ((c ≡ false) × (d ≡ false))
-none_counts b c d h = grind (arith, common_steps)
-
 pub none_recounted : (moving : Moving) (share : Share) → is_none share ≡ true → (c : Crowd) → recounted moving share c ≡ c
-none_recounted moving share h c = grind (arith, common_steps, none_counts)
+none_recounted moving share h c = grind (arith)
 
 pub beside_same : (name : List ℕ) (f : Crowd → Crowd) → ((c : Crowd) → f c ≡ c) → (es : List TubeRecord) (cs : List Crowd) → crowds_at name f es cs ≡ cs
 beside_same name f same [] cs = refl
 beside_same name f same (t ∷ es) [] = refl
-beside_same name f same (t ∷ es) (c ∷ cs) = grind (arith, common_steps, beside_same name f same es cs)
+beside_same name f same (t ∷ es) (c ∷ cs) = grind (arith, beside_same name f same es cs)
 
 pub all_same : (names : List (List ℕ)) (f : Crowd → Crowd) → ((c : Crowd) → f c ≡ c) → (es : List TubeRecord) (cs : List Crowd) → crowds_at_all names f es cs ≡ cs
 all_same [] f same es cs = refl
@@ -54,13 +49,12 @@ module _ (f : Crowd → Crowd) where
   later_stay : (name : List ℕ) (g : TubeRecord → Crowd) (t : TubeRecord) → name ≡ t.name → (es : List TubeRecord) → All (λ u. is_name_before t.name u.name ≡ true) es
       → map g es ≡ map (λ u. if is_same_name name u.name then f (g u) else g u) es
   later_stay name g t is [] all = refl
-  later_stay name g t is (u ∷ es) all = grind (arith, common_steps, before_differs, later_stay name g t is es all.1)
+  later_stay name g t is (u ∷ es) all = grind (arith, before_differs, later_stay name g t is es all.1)
 
   pub at_named : (name : List ℕ) (g : TubeRecord → Crowd) (es : List TubeRecord) → AreInOrder es
       → crowds_at name f es (map g es) ≡ map (λ t. if is_same_name name t.name then f (g t) else g t) es
   at_named name g [] order = refl
-  at_named name g (t ∷ es) order =
-      grind (arith, common_steps, cases_Bool, later_stay, same_name, at_named name g es order.1)
+  at_named name g (t ∷ es) order = grind (arith, later_stay, same_name, at_named name g es order.1)
 
   pick : (b a : Bool) (z : Crowd) → (b ≡ true → a ≡ false) → (if a then f (if b then f z else z) else (if b then f z else z)) ≡ (if b || a then f z else z)
   pick b a z none = grind (arith, common_steps)
@@ -90,16 +84,7 @@ combine moving a b x y w c = grind (arith, common_steps)
 
 pub all_recounted : (moving : Moving) (what : Share) (s : SeatRecord) (g : TubeRecord → Crowd) (es : List TubeRecord) → AreInOrder es → none_twice s.watched ≡ true
     → crowds_recounted moving what s es (map g es) ≡ map (λ t. recounted moving (share_at what s t.name) (g t)) es
-all_recounted moving what s g es order once =
-    let user = recounted moving (share_as_user what s) in
-    let watcher = recounted moving (share_as_watcher what s) in
-    let g' = λ (t : TubeRecord). if is_same_name s.used t.name then user (g t) else g t in
-    ap (λ cs. crowds_at_all s.watched watcher es cs) (at_named user s.used g es order)
-    ∙ at_all_named watcher s.watched g' es order once
-    ∙ map_same _ _ es (λ t.
-    combine moving (watches t.name s) (is_same_name s.used t.name) (what.using && s.connected) (what.watching && s.connected) (what.waiting && is_waiting s) (g t)
-    ∙ ap (λ b. recounted moving (record { using = b && (what.using && s.connected); watching = watches t.name s && (what.watching && s.connected); waiting = watches t.name s && (what.waiting && is_waiting s) }) (g t))
-    (same_turned s.used t.name))
+all_recounted moving what s g es order once = grind (arith, common_steps, at_named, at_all_named, combine, same_turned)
 
 -- What a change doesn't touch stays.
 user_stays : (name : List ℕ) (what : SeatChange) → (touched what).using ≡ false → (t : SeatRecord) → is_user name (seat_changed what t) ≡ is_user name t
@@ -122,7 +107,7 @@ module _ (n : ℕ) (what : SeatChange) (s : SeatRecord) (seats : List SeatRecord
       let new = seat_changed what s in
       (λ i. count_with ((and_turned (a new) (c new) ∙ sym (is new)) i) (count_without ((and_turned (a s) (c s) ∙ sym (is s)) i) (count_by p seats)))
       ∙ count_changed p n (seat_changed what) (number_kept what) s seats h (numbered_after n what seats h) fits found
-  field p a c false is same = grind (arith, common_steps, and-false, count_stays)
+  field p a c false is same = grind (arith, count_stays)
 
   -- the counts of a tube, once the seat is changed
   pub crowd_moved : (name : List ℕ) → crowd_with (share_at (touched what) (seat_changed what s) name) (crowd_without (share_at (touched what) s name) (crowd_of seats name)) ≡ crowd_of (map (seat_changed_at n what) seats) name
@@ -164,7 +149,7 @@ crowds_moved n what crowds seats es h fits order may was = go (seat_with n seats
 
     go : (o : Option SeatRecord) → seat_with n seats ≡ o
         → AreCrowds (crowds_recounted_for Comes (touched what) (seat_with n new) es (crowds_recounted_for Goes (touched what) (seat_with n seats) es crowds)) new es
-    go None none = grind (arith, common_steps, cases_Bool, none_changed n (seat_changed what) seats none)
+    go None none = grind (arith, none_changed n (seat_changed what) seats none)
     go (Some s) found =
         let there = found_changed n (seat_changed what) (number_kept what) s seats found in
         let place = seat_there seats n s h found in
@@ -172,21 +157,18 @@ crowds_moved n what crowds seats es h fits order may was = go (seat_with n seats
         let may_here : may_wait what (Some s) ≡ true = ap (may_wait what) (sym found) ∙ may in
         let now = seat_seated what s may_here is in
         record {
-          each =
-              (λ i. crowds_recounted_for Comes (touched what) (there i) es (crowds_recounted_for Goes (touched what) (found i) es (was.each i)))
-              ∙ some_moved n what s seats h fits found es order is.once now.once;
+          each = grind (arith, common_steps, some_moved);
           seated = rw (changed_there seats n s (seat_changed what) h place) (all_set IsSeated seats n (seat_changed what s) was.seated now);
         }
 
 -- A client is at the tube where one is counted as using or watching it.
 any_of_both : (p q : SeatRecord → Bool) (seats : List SeatRecord) → list_any p seats || list_any q seats ≡ list_any (λ s. p s || q s) seats
 any_of_both p q [] = refl
-any_of_both p q (s ∷ seats) = grind (arith, common_steps, any_of_both p q seats)
+any_of_both p q (s ∷ seats) = grind (arith, any_of_both p q seats)
 
 pub has_seats_of : (seats : List SeatRecord) (name : List ℕ) → has_seats (crowd_of seats name) ≡ list_any (is_seated_at name) seats
-has_seats_of seats name =
-    grind (arith, common_steps, cases_Bool, some_pass, any_of_both (is_user name) (is_watcher name) seats)
+has_seats_of seats name = grind (arith, some_pass, any_of_both (is_user name) (is_watcher name) seats)
 
 -- who asks is connected
 pub asking_is_connected : (o : Option SeatRecord) → is_asking o ≡ true → is_connected o ≡ true
-asking_is_connected o h = grind (arith, common_steps, and_parts)
+asking_is_connected o h = grind (arith)

@@ -1,15 +1,14 @@
 -- The counts of the clients at tubes stand at the places of their entries.
-use Rattle.std.proofs.{Common.{◌&&◌, ◌++◌, ◌||◌, ◌∙◌, ◌∷◌, ◌≡◌, Bool, List, [], ℕ, ap, false, inl, inr, map, refl, sym, true}, lemmas.{Bool.cases_Bool, List.{drop-map, map-append, take-map}}}
-use Rattle.std.specs.{List.{AllByRecursion as All, insert, list_any, prefix_len}, Prelude.{count_by, drop, nat_lt, take}}
+use Rattle.std.proofs.{Common.{◌&&◌, ◌||◌, ◌∙◌, ◌∷◌, ◌≡◌, Bool, List, [], ℕ, ap, false, inl, inr, map, refl, sym, true}, lemmas.{Bool.cases_Bool, List.{drop-map, map-append, take-map}}}
+use Rattle.std.proofs.{Common.arith, lemmas.Grind.common_steps}
+use Rattle.std.specs.{List.{AllByRecursion as All, insert, list_any, prefix_len}, Prelude.{count_by, nat_lt}}
 use Rattle.bq_job.specs.declared.job.Job.{Job}
-use Rattle.bq_job.specs.{machine.{SeatRecord, TubeRecord, default_tube, empty_seat, fresh_tube, is_name_before, is_seated_at, is_waiting, watches}, reading.TubeName.is_same_name}
+use Rattle.bq_job.specs.{machine.{SeatRecord, TubeRecord, default_tube, empty_seat, fresh_tube, is_name_before, is_seated_at}, reading.TubeName.is_same_name}
 use Rattle.bq_job.proofs.ListLemmas.{all_weaker, count_all_not, list_any_not, none_pass}
 use Rattle.bq_state.specs.declared.{known.{Clients.Clients, Tally.Tally}, tubes.entry.Crowd.Crowd}
 use Rattle.bq_state.specs.{Clients.clients_of, Crowds.{AreCrowds, IsSeated, crowd_at, crowd_in, crowd_of, crowds_of, crowds_provided, has_seats, is_user, is_waiter, is_watcher, no_crowd}, Tallies.{has_jobs, tallies_of, tally_at}}
 use Rattle.bq_state.specs.TubeEntries.{AreEntries, HasTubes, has_entry, is_tube_by, is_tube_of, provided}
 use Rattle.bq_state.proofs.{ClientLemmas.some_pass, CrowdLemmas.has_seats_of, TallyPlaces.{has_jobs_in, tally_there}, TubeLemmas.{provided_new, same_name}}
-use Rattle.std.proofs.lemmas.Grind.{common_steps}
-use Rattle.std.proofs.Common.{arith}
 
 -- counts of 0
 pub nobody_counted : (c : Crowd) → (c.using ≡ 0) × ((c.watching ≡ 0) × (c.waiting ≡ 0)) → c ≡ no_crowd
@@ -34,23 +33,19 @@ module _ (name : List ℕ) (es : List TubeRecord) (missing : has_entry name es �
       go false is b e = refl
 
   not_watching : (s : SeatRecord) → HasTubes es s → is_watcher name s ≡ false
-  not_watching s has = grind (arith, common_steps, at_none)
-
-  not_waiting : (s : SeatRecord) → HasTubes es s → IsSeated s → is_waiter name s ≡ false
-  not_waiting s has is = grind (arith, common_steps, at_none)
+  not_watching s has = grind (arith, at_none)
 
   none_of : (seats : List SeatRecord) → All (HasTubes es) seats → All IsSeated seats
       → All (λ s. is_user name s ≡ false) seats × (All (λ s. is_watcher name s ≡ false) seats × All (λ s. is_waiter name s ≡ false) seats)
   none_of [] has is = (tt, (tt, tt))
-  none_of (s ∷ seats) has is =
-      grind (arith, common_steps, not_using, not_watching, not_waiting, none_of seats has.1 is.1)
+  none_of (s ∷ seats) has is = grind (arith, not_using, not_watching, none_of seats has.1 is.1)
 
   pub nobody_there : (seats : List SeatRecord) → All (HasTubes es) seats → All IsSeated seats → crowd_of seats name ≡ no_crowd
-  nobody_there seats has is = grind (arith, common_steps, none_of, nobody_counted, count_all_not)
+  nobody_there seats has is = grind (arith, none_of, count_all_not)
 
 -- what stands beside the entries, once one comes
 inserted_beside : {A : Type 0} (f : TubeRecord → A) (es : List TubeRecord) (n : ℕ) (x : TubeRecord) → insert (map f es) n (f x) ≡ map f (insert es n x)
-inserted_beside f es n x = grind (arith, common_steps, take-map, drop-map, map-append)
+inserted_beside f es n x = grind (arith, take-map, drop-map, map-append)
 
 -- a tube gets an entry
 pub crowds_of_provided : (name : List ℕ) (crowds : List Crowd) (seats : List SeatRecord) (es : List TubeRecord) → All (HasTubes es) seats
@@ -62,10 +57,8 @@ crowds_of_provided name crowds seats es has was = record { each = ap (crowds_pro
     go false e =
         let n = prefix_len (λ t. is_name_before t.name name) es in
         let put : crowds_provided name es (crowds_of seats es) ≡ insert (crowds_of seats es) n no_crowd = rw e refl in
-        put
-        ∙ ap (insert (crowds_of seats es) n) (sym (nobody_there name es e seats has was.seated))
-        ∙ inserted_beside (crowd_in seats) es n (fresh_tube name)
-        ∙ ap (crowds_of seats) (provided_new name es e)
+        grind (arith, common_steps, nobody_there name es e seats has was.seated,
+        inserted_beside (crowd_in seats) es n (fresh_tube name), provided_new name es e)
 
 -- an entry changes but for its name
 pub crowds_kept : (f : TubeRecord → TubeRecord) → ((t : TubeRecord) → (f t).name ≡ t.name) → (crowds : List Crowd) (seats : List SeatRecord) (es : List TubeRecord)
@@ -105,7 +98,7 @@ crowd_there name crowds seats es has was = ap (crowd_at name es) was.each ∙ go
 pub waiters_counted : (name : List ℕ) (clients : Clients) (crowds : List Crowd) (seats : List SeatRecord) (entries : List TubeRecord) → All (HasTubes entries) seats → AreCrowds crowds seats entries → clients ≡ clients_of seats
     → (nat_lt 0 clients.waiting && nat_lt 0 (crowd_at name entries crowds).waiting) ≡ list_any (is_waiter name) seats
 waiters_counted name clients crowds seats entries of_seats are is =
-    grind (arith, common_steps, crowd_there, some_pass, cases_Bool, list_any_not, all_weaker, none_pass)
+    grind (arith, crowd_there, some_pass, list_any_not, all_weaker, none_pass)
 
 -- Whether a tube has jobs is told by the count of them.
 pub jobs_there : (name : List ℕ) (tallies : List Tally) (jobs : List Job) (es : List TubeRecord) → All (λ j. has_entry j.tube es ≡ true) jobs
@@ -120,8 +113,7 @@ exists_by_counts jobs seats name some seated e f = λ i. is_tube_by (e i) (f i) 
 pub tube_there : (name : List ℕ) (tallies : List Tally) (crowds : List Crowd) (jobs : List Job) (seats : List SeatRecord) (es : List TubeRecord) → AreEntries jobs seats es
     → tallies ≡ tallies_of jobs es → AreCrowds crowds seats es
     → is_tube_by (has_jobs (tally_at name es tallies)) (has_seats (crowd_at name es crowds)) name ≡ is_tube_of jobs seats name
-tube_there name tallies crowds jobs seats es entries counted was =
-    grind (arith, common_steps, exists_by_counts, jobs_there, crowd_there, has_seats_of)
+tube_there name tallies crowds jobs seats es entries counted was = grind (arith, jobs_there, crowd_there, has_seats_of)
 
 -- at the start nobody is there
 pub first_crowds : (ns : List ℕ) → AreCrowds (no_crowd ∷ []) (map empty_seat ns) (fresh_tube default_tube ∷ [])

@@ -1,32 +1,28 @@
 -- Counts of the clients at tubes, once a client watches a tube more, or one fewer.
-use Rattle.std.proofs.{Common.{◌&&◌, ◌++◌, ◌==◌, ◌||◌, ◌∙◌, ◌∷◌, ◌≡◌, ◌≤◌, if◌then◌else◌, Bool, List, Some, [], ℕ, ap, false, filter, length, map, not, refl, set, slice_get, sym, true}, lemmas.Bool.{and_from, and_parts}}
-use Rattle.std.proofs.Math.Bool.{and-false, or-false}
+use Rattle.std.proofs.Common.{◌&&◌, ◌++◌, ◌==◌, ◌||◌, ◌∙◌, ◌∷◌, ◌≡◌, ◌≤◌, if◌then◌else◌, Bool, List, Some, [], ℕ, ap, false, filter, length, map, not, refl, set, slice_get, sym, true}
+use Rattle.std.proofs.{Common.arith, lemmas.Grind.common_steps, Math.Bool.{and-false, or-false}}
 use Rattle.std.specs.{List.list_any, Prelude.count_by}
-use Rattle.bq_job.specs.{beside.none_twice, machine.{SeatRecord, TubeRecord, greatest, is_waiting, watches, watching}, reading.TubeName.is_same_name}
+use Rattle.bq_job.specs.{machine.{SeatRecord, TubeRecord, greatest, is_waiting, watches, watching}, reading.TubeName.is_same_name}
+use Rattle.bq_job.proofs.WatchedLemmas.{none_twice_behind, none_twice_filter}
 use Rattle.bq_state.specs.declared.tubes.entry.Crowd.{Crowd}
 use Rattle.bq_state.specs.{Crowds.{AreCrowds, IsSeated, crowd_in, crowd_of, crowd_with, crowd_without, crowds_at, is_user, is_waiter, is_watcher, share_of_watcher, share_of_watching}, SeatChanges.AreNumbered}
 use Rattle.bq_state.specs.{Tallies.{count_with, count_without}, TubeEntries.AreInOrder}
 use Rattle.bq_state.proofs.{ClientLemmas.{count_changed, count_unchanged}, CrowdLemmas.{at_named, map_same, same_turned}, PartsLemmas.{all_read, all_set, changed_there, seat_read, watching_numbered}, TubeLemmas.same_name}
-use Rattle.bq_job.proofs.WatchedLemmas.{none_twice_behind, none_twice_filter}
-use Rattle.std.proofs.lemmas.Grind.{common_steps}
-use Rattle.std.proofs.lemmas.Bool.{cases_Bool}
-use Rattle.std.proofs.Common.{arith}
 
 -- a name among those that one was added to
 any_with : (name more : List ℕ) (names : List (List ℕ)) → list_any (is_same_name name) (names ++ more ∷ []) ≡ list_any (is_same_name name) names || is_same_name name more
 any_with name more [] = or-false (is_same_name name more)
-any_with name more (n ∷ names) = grind (arith, common_steps, any_with name more names)
+any_with name more (n ∷ names) = grind (arith, any_with name more names)
 
 -- which names are left
 left_without : (lost name : List ℕ) (names : List (List ℕ)) → is_same_name lost name ≡ false
     → list_any (is_same_name name) (filter (λ other. not (is_same_name lost other)) names) ≡ list_any (is_same_name name) names
 left_without lost name [] apart = refl
-left_without lost name (n ∷ names) apart =
-    grind (arith, common_steps, same_name, same_turned, left_without lost name names apart)
+left_without lost name (n ∷ names) apart = grind (arith, same_name, same_turned, left_without lost name names apart)
 
 gone_without : (lost : List ℕ) (names : List (List ℕ)) → list_any (is_same_name lost) (filter (λ other. not (is_same_name lost other)) names) ≡ false
 gone_without lost [] = refl
-gone_without lost (n ∷ names) = grind (arith, common_steps, gone_without lost names)
+gone_without lost (n ∷ names) = grind (arith, gone_without lost names)
 
 module _ (names : List (List ℕ)) (i : ℕ) (s : SeatRecord) (seats : List SeatRecord) (found : slice_get seats i ≡ Some s) (h : AreNumbered seats) (fits : length seats ≤ greatest) where
   abbrev new : List SeatRecord
@@ -46,7 +42,7 @@ module _ (names : List (List ℕ)) (i : ℕ) (s : SeatRecord) (seats : List Seat
 
   -- the counts of a tube that is watched as before
   crowd_same : (name : List ℕ) → list_any (is_same_name name) names ≡ watches name s → crowd_of seats name ≡ crowd_of new name
-  crowd_same name e = grind (arith, common_steps, same)
+  crowd_same name e = grind (arith, same)
 
   -- or now is
   and_true : (b : Bool) → b && true ≡ b
@@ -90,9 +86,7 @@ crowds_watching more i s crowds seats es found h fits order none was =
     names = s.watched ++ more ∷ []
 
     at : (name : List ℕ) (b : Bool) → is_same_name more name ≡ b → (if b then crowd_with (share_of_watcher s) (crowd_of seats name) else crowd_of seats name) ≡ crowd_of (set seats i (watching names s)) name
-    at name true e =
-        grind (arith, common_steps, cases_Bool, same_name more name e, same_turned name more, crowd_more,
-        any_with name more s.watched)
+    at name true e = grind (arith, same_name more name e, crowd_more, any_with name more s.watched)
     at name false e =
         let apart : is_same_name name more ≡ false = same_turned name more ∙ e in
         crowd_same names i s seats found h fits name (any_with name more s.watched ∙ ap (λ b. watches name s || b) apart ∙ or-false (watches name s))

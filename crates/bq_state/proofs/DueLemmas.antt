@@ -1,27 +1,24 @@
 -- The next due moment, out of those of jobs, tubes and seats.
 use Rattle.std.proofs.{Common.{◌&&◌, ◌++◌, ◌-◌, ◌==◌, ◌||◌, ◌∙◌, ◌∷◌, ◌≡◌, ◌≤◌, if◌then◌else◌, Bool, List, None, Option, Some, [], ℕ, ap, arith, false, inl, inr, not, refl, sym, true}, lemmas.Bool.{cases_Bool, Decides.nat_tests}}
-use Rattle.std.specs.{List.{AllByRecursion as All, Contains, list_all, list_any}, Prelude.{flat_map, fold, is_some, min, nat_lt, option_map}}
+use Rattle.std.proofs.lemmas.Grind.{common_steps}
+use Rattle.std.specs.{List.{AllByRecursion as All, Contains, list_all, list_any}, Prelude.{flat_map, fold, is_some, nat_lt, option_map}}
 use Rattle.bq_job.specs.declared.job.{Job.Job, JobState.JobState}
-use Rattle.bq_job.specs.beside.{dues_of_pause, dues_of_state, dues_of_wait, earliest, is_before}
-use Rattle.bq_job.specs.machine.{SeatRecord, TubeRecord, Wait, due_of, first_of, is_delayed, is_due_before, is_held_by, is_holder, is_pair_before, is_reserved, is_waiting, is_waiting_at, Machine.Machine}
+use Rattle.bq_job.specs.beside.{dues_of_pause, dues_of_state, earliest, is_before}
+use Rattle.bq_job.specs.machine.{SeatRecord, TubeRecord, due_of, first_of, is_delayed, is_due_before, is_held_by, is_holder, is_pair_before, is_reserved, is_waiting, Machine.Machine}
 use Rattle.bq_job.specs.declared.job.JobState.TheVariants as states
-use Rattle.bq_job.proofs.{ChoiceLemmas.{first_of_contains, first_of_is_least, first_of_is_some, first_of_none, first_of_passes, pair_order}, ListLemmas.{all_at, all_from_members, all_pass, all_weaker, list_all_from, none_pass}}
+use Rattle.bq_job.proofs.{ChoiceLemmas.{first_of_contains, first_of_is_least, first_of_is_some, first_of_none, first_of_passes, pair_order}, ListLemmas.{all_from_members, all_weaker, list_all_from, none_pass}}
 use Rattle.bq_job.proofs.ListLemmas.{list_all_agree}
 use Rattle.bq_jobs.specs.{Kept.ranked, Leases.{deadline_of, is_lease_before}}
-use Rattle.bq_state.specs.{Dues.{earlier_of_both, jobs_due, warning_due, with_seat_due, with_warning_due}, FirstEnds.{IsThere, is_gone_in_wait}, SeatChanges.AreNumbered, TubeEntries.{IsFreshUnlessCounted, counted, is_counted}}
+use Rattle.bq_state.specs.{Dues.{earlier_of_both, jobs_due, warning_due, with_seat_due, with_warning_due}, FirstEnds.{IsThere, is_gone_in_wait}, SeatChanges.AreNumbered, TubeEntries.{IsFreshUnlessCounted, counted}}
 use Rattle.bq_state.specs.WaitingTurns.{at_turn, turns_of}
 use Rattle.bq_state.proofs.{WalkLemmas.walked, WarningLemmas.no_other}
-use Rattle.std.proofs.lemmas.Grind.{common_steps}
-
-min_three : (a b c : ℕ) → min (min a b) c ≡ min a (min b c)
-min_three a b c = omega arith
 
 in_any_order : (a b c : Option ℕ) → earlier_of_both (earlier_of_both a b) c ≡ earlier_of_both a (earlier_of_both b c)
-in_any_order a b c = grind (arith, common_steps, min_three)
+in_any_order a b c = grind (arith)
 
 -- the first of two lists of moments
 one_or_other : (a b : Option ℕ) → earlier_of_both a b ≡ earlier_of_both b a
-one_or_other a b = grind (arith, common_steps, no_other)
+one_or_other a b = grind (arith)
 
 dues_swap : (b x y : Option ℕ) → earlier_of_both (earlier_of_both b x) y ≡ earlier_of_both (earlier_of_both b y) x
 dues_swap b x y = in_any_order b x y ∙ ap (earlier_of_both b) (one_or_other x y) ∙ sym (in_any_order b y x)
@@ -32,11 +29,11 @@ all_there seats none = none_pass is_gone_in_wait seats (sym none)
 
 -- A client holds a job where there is a lease of it that ends first.
 pub held_some : (seat : ℕ) (jobs : List Job) → is_some (option_map (ranked (λ j. deadline_of j.state)) (first_of (is_held_by seat) is_lease_before jobs)) ≡ list_any (is_held_by seat) jobs
-held_some seat jobs = grind (arith, common_steps, first_of_is_some (is_held_by seat) is_lease_before jobs)
+held_some seat jobs = grind (arith, first_of_is_some (is_held_by seat) is_lease_before jobs)
 
 -- A walk over those that wait finds the first who gives up, and the first who is told of its deadline.
 pub ends_walked : (seats : List SeatRecord) → AreNumbered seats → fold (at_turn with_seat_due seats) None (turns_of seats) ≡ fold with_seat_due None seats
-ends_walked seats h = grind (arith, common_steps, walked, dues_swap, no_other)
+ends_walked seats h = grind (arith, walked)
 
 pub warnings_walked : (jobs : List Job) (seats : List SeatRecord) → AreNumbered seats → fold (at_turn (with_warning_due jobs) seats) None (turns_of seats) ≡ fold (with_warning_due jobs) None seats
 warnings_walked jobs seats h = walked (with_warning_due jobs) (λ s e b. rw e (no_other b)) (λ s t _ b. dues_swap b (warning_due jobs s) (warning_due jobs t)) seats h None
@@ -48,8 +45,7 @@ earliest_of_both (x ∷ xs) ys = ap (λ o. earlier_of_both (Some x) o) (earliest
 earliest_from : {A : Type 0} (f : A → List ℕ) (best : Option ℕ) (xs : List A) → fold (λ b x. earlier_of_both b (earliest (f x))) best xs ≡ earlier_of_both best (earliest (flat_map f xs))
 earliest_from f best [] = sym (no_other best)
 earliest_from f best (x ∷ xs) =
-    grind (arith, common_steps, in_any_order, earliest_of_both,
-    earliest_from f (earlier_of_both best (earliest (f x))) xs)
+    grind (arith, earliest_of_both, earliest_from f (earlier_of_both best (earliest (f x))) xs)
 
 -- the least of all, looked at one by one
 pub earliest_of_all : {A : Type 0} (f : A → List ℕ) (xs : List A) → fold (λ b x. earlier_of_both b (earliest (f x))) None xs ≡ earliest (flat_map f xs)
@@ -58,11 +54,11 @@ earliest_of_all f xs = earliest_from f None xs
 -- where nothing is counted, no pause ends
 pub pauses_counted : (entries : List TubeRecord) → All IsFreshUnlessCounted entries → flat_map (λ t. dues_of_pause t.pause) entries ≡ flat_map (λ t. dues_of_pause t.pause) (counted entries)
 pauses_counted [] fresh = refl
-pauses_counted (t ∷ entries) fresh = grind (arith, common_steps, pauses_counted entries fresh.1)
+pauses_counted (t ∷ entries) fresh = grind (arith, pauses_counted entries fresh.1)
 
 -- all three lists together
 pub all_due : (xs ys zs : List ℕ) → earliest (xs ++ ys ++ zs) ≡ earlier_of_both (earliest xs) (earlier_of_both (earliest ys) (earliest zs))
-all_due xs ys zs = grind (arith, common_steps, earliest_of_both, in_any_order)
+all_due xs ys zs = grind (arith, earliest_of_both)
 
 -- Two moments are the same where the same moments are before them.
 told_by_before : (o u : Option ℕ) → ((t : ℕ) → is_before t o ≡ is_before t u) → o ≡ u
@@ -75,14 +71,11 @@ told_by_before (Some a) (Some b) h =
     let same : a ≡ b = grind (arith, nat_tests) in
     ap Some same
 
-before_min : (t a b : ℕ) → nat_lt t (min a b) ≡ (nat_lt t a && nat_lt t b)
-before_min t a b = grind (arith, common_steps, cases_Bool)
-
 with_true : (b : Bool) → (b && true) ≡ b
 with_true b = grind (arith, common_steps)
 
 before_both : (t : ℕ) (o u : Option ℕ) → is_before t (earlier_of_both o u) ≡ (is_before t o && is_before t u)
-before_both t o u = grind (arith, common_steps, with_true, before_min)
+before_both t o u = grind (arith)
 
 before_earliest : (t : ℕ) (xs : List ℕ) → is_before t (earliest xs) ≡ list_all (nat_lt t) xs
 before_earliest t [] = refl
@@ -101,7 +94,7 @@ all_flat p f (x ∷ xs) = all_joined p (f x) (flat_map f xs) ∙ ap (λ b. list_
 
 all_of_both : {A : Type 0} (p q : A → Bool) (xs : List A) → (list_all p xs && list_all q xs) ≡ list_all (λ x. p x && q x) xs
 all_of_both p q [] = refl
-all_of_both p q (x ∷ xs) = grind (arith, common_steps, all_of_both p q xs)
+all_of_both p q (x ∷ xs) = grind (arith, all_of_both p q xs)
 
 -- by rows or by columns
 all_always_true : {A : Type 0} (xs : List A) → list_all (λ _. true) xs ≡ true
@@ -113,7 +106,7 @@ all_turned p [] ys = sym (all_always_true ys)
 all_turned p (x ∷ xs) ys = ap (λ b. list_all (p x) ys && b) (all_turned p xs ys) ∙ all_of_both (p x) (λ y. list_all (λ x. p x y) xs) ys
 
 not_all : {A : Type 0} (p : A → Bool) (xs : List A) (x : A) → Contains xs x → p x ≡ false → list_all p xs ≡ false
-not_all p xs x here h = grind (arith, common_steps, cases_Bool, all_at, all_pass)
+not_all p xs x here h = grind (arith, common_steps)
 
 -- the first of those that pass is after a moment where all of them are
 first_before : (t : ℕ) (p : Job → Bool) (number g : Job → ℕ) → ((a b : Job) → number a ≤ number b → g a ≤ g b) → (jobs : List Job) → is_before t (option_map g (first_of p (λ a b. is_pair_before (number a) a.id (number b) b.id) jobs)) ≡ list_all (λ j. not (p j) || nat_lt t (g j)) jobs
@@ -147,11 +140,7 @@ first_before t p number g rises jobs = go (first_of p before jobs) refl
 
 fold_before : {A : Type 0} (t : ℕ) (f : A → Option ℕ) (o : Option ℕ) (xs : List A) → is_before t (fold (λ b x. earlier_of_both b (f x)) o xs) ≡ (is_before t o && list_all (λ x. is_before t (f x)) xs)
 fold_before t f o [] = sym (with_true (is_before t o))
-fold_before t f o (x ∷ xs) =
-    grind (arith, common_steps, before_both, and_thrice, fold_before t f (earlier_of_both o (f x)) xs)
-
-turned_numbers : (a b : ℕ) → (a == b) ≡ (b == a)
-turned_numbers a b = grind (arith, common_steps, cases_Bool)
+fold_before t f o (x ∷ xs) = grind (arith, fold_before t f (earlier_of_both o (f x)) xs)
 
 -- what is due of jobs
 module _ (m : Machine) (t : ℕ) where
@@ -168,16 +157,15 @@ module _ (m : Machine) (t : ℕ) where
 
   holder_warned : (seat deadline : ℕ) (seats : List SeatRecord) → list_all (warned (states.Reserved seat deadline)) seats ≡ (not (list_any (λ s. s.number == seat && is_waiting s) seats) || nat_lt t (deadline - 1000))
   holder_warned seat deadline [] = refl
-  holder_warned seat deadline (s ∷ seats) =
-      grind (arith, common_steps, turned_numbers, holder_warned seat deadline seats)
+  holder_warned seat deadline (s ∷ seats) = grind (arith, holder_warned seat deadline seats)
 
   nobody_warned : (state : JobState) → ((number : ℕ) → is_holder number state ≡ false) → (seats : List SeatRecord) → list_all (warned state) seats ≡ true
   nobody_warned state free [] = refl
-  nobody_warned state free (s ∷ seats) = grind (arith, common_steps, nobody_warned state free seats)
+  nobody_warned state free (s ∷ seats) = grind (arith, nobody_warned state free seats)
 
   -- all that is due of a job in this state is after the moment
   state_later : (state : JobState) → (((not (is_delayed state) || nat_lt t (due_of state)) && (not (is_reserved state) || nat_lt t (deadline_of state))) && list_all (warned state) m.seats) ≡ list_all (nat_lt t) (dues_of_state m state)
-  state_later state = grind (arith, common_steps, nobody_warned, holder_warned)
+  state_later state = grind (arith, nobody_warned, holder_warned)
 
   jobs_later : is_before t (jobs_due m.jobs m.seats) ≡ is_before t (earliest (flat_map (λ j. dues_of_state m j.state) m.jobs))
   jobs_later =

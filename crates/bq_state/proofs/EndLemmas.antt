@@ -1,34 +1,28 @@
 -- The ends of pauses: what is found among them after a change, and the first of them.
-use Rattle.std.proofs.Common.{◌&&◌, ◌||◌, ◌∙◌, ◌∷◌, ◌≡◌, ◌≤◌, if◌then◌else◌, Bool, List, None, Option, Some, [], ℕ, ap, arith, cond, false, inl, inr, is_some, map, min, refl, subst, sym, true}
+use Rattle.std.proofs.Common.{◌&&◌, ◌||◌, ◌∙◌, ◌∷◌, ◌≡◌, ◌≤◌, Bool, List, None, Option, Some, [], ℕ, ap, arith, cond, false, inl, inr, is_some, map, refl, sym, true}
 use Rattle.std.proofs.{lemmas.{Bool.{cases_Bool, or_parts, Decides.nat_tests}, Cmp.alike_right}, Math.Bool.or-true}
-use Rattle.std.specs.{Cmp.Lexicographic.slice_cmp, declared.cmp.Ordering.{Ordering, TheVariants.{Equal, Greater, Less}}, List.{AllByRecursion as All, list_any, Sorted.IsStrictlySortedBy}, Map.keys_of, Option.option_map}
-use Rattle.std.specs.{Ordering.{is_eq, nat_cmp, ordering_then}, Prelude.{◌==◌, fold, nat_le, nat_lt}}
-use Rattle.bq_job.specs.{beside.{dues_of_pause, earliest}, machine.{Pause as PauseRecord, TubeRecord}, reading.TubeName.is_same_name}
+use Rattle.std.proofs.lemmas.Grind.{common_steps}
+use Rattle.std.specs.{Cmp.Lexicographic.slice_cmp, declared.cmp.Ordering.{Ordering, TheVariants.Less}, List.{AllByRecursion as All, list_any, Sorted.IsStrictlySortedBy}, Map.keys_of, Option.option_map}
+use Rattle.std.specs.{Ordering.{is_eq, nat_cmp, ordering_then}, Prelude.{◌==◌, fold, nat_le}}
 use Rattle.bq_index.specs.{Catalog.CatalogSeen, Order.InOrder}
+use Rattle.bq_job.specs.{beside.{dues_of_pause, earliest}, machine.{Pause as PauseRecord, TubeRecord}, reading.TubeName.is_same_name}
 use Rattle.bq_jobs.proofs.Choice.{equal_from, lookup_inserted, lookup_removed}
 use Rattle.bq_state.specs.declared.tubes.pauses.PauseEnd.{PauseEnd}
 use Rattle.bq_state.specs.{Dues.{earlier_of_both, first_pause_end, is_end_over, with_tube_due}, KeptTubes.{KeptTubes, Named, record_at, tubes_kept}}
 use Rattle.bq_state.specs.PauseEnds.{AreEnds, Ends, end_cmp, end_total, ends_at, first_end, found_end, has_end, if_over, is_end_in, is_end_of, with_end, without_end}
 use Rattle.bq_state.proofs.{NamedLemmas.ties, TubeLemmas.same_itself}
-use Rattle.std.proofs.lemmas.Grind.{common_steps}
 
 -- Two ends tie where they are of one moment and of one tube.
-both_equal : (a b : Ordering) → is_eq (ordering_then a b) ≡ (is_eq a && is_eq b)
-both_equal a b = grind (arith, common_steps)
-
-numbers_equal : (a b : ℕ) → is_eq (nat_cmp a b) ≡ (a == b)
-numbers_equal a b = grind (arith, common_steps, cases_Bool)
-
 pub ends_tie : (e f : PauseEnd) → is_eq (end_cmp e f) ≡ (e.until == f.until && is_same_name e.name f.name)
-ends_tie e f = grind (arith, common_steps, both_equal, numbers_equal, ties)
+ends_tie e f = grind (arith, ties)
 
 -- an end of another tube
 pub ends_apart : (e f : PauseEnd) → is_same_name e.name f.name ≡ false → is_eq (end_cmp e f) ≡ false
-ends_apart e f h = grind (arith, common_steps, ends_tie)
+ends_apart e f h = grind (arith, ends_tie)
 
 -- an end of the same tube
 pub ends_alike : (e f : PauseEnd) → is_same_name e.name f.name ≡ true → is_eq (end_cmp e f) ≡ (e.until == f.until)
-ends_alike e f h = grind (arith, common_steps, ends_tie)
+ends_alike e f h = grind (arith, ends_tie)
 
 -- what is found after an end was put in, and after one was taken out
 if_there : (b : Bool) (o : Option (Unit {0})) → is_some (cond b (Some tt) o) ≡ (b || is_some o)
@@ -45,7 +39,7 @@ has_left q e ends s = ap is_some (lookup_removed end_total q e ends s) ∙ if_go
 
 -- The first end is the least.
 not_later : (a b : ℕ) (o : Ordering) → ordering_then (nat_cmp a b) o ≡ Less → a ≤ b
-not_later a b o h = grind (arith, common_steps, cases_Bool)
+not_later a b o h = grind (arith)
 
 above : (x q : PauseEnd) (ends : Ends) → All (λ k. end_cmp x k ≡ Less) (keys_of ends) → has_end q ends ≡ true → end_cmp x q ≡ Less
 above x q [] a h = absurd cc
@@ -142,7 +136,7 @@ first_there x ends = ap (λ b. is_some (cond b (Some x.1) (found_end x.0 ends)))
 
 -- The first end that has come is one of them, and has come.
 pub one_over : (moment : ℕ) (e : PauseEnd) (ends : Ends) → Some e ≡ if_over moment (first_end ends) → (has_end e ends ≡ true) × (nat_le e.until moment ≡ true)
-one_over moment e ends h = grind (arith, common_steps, first_there)
+one_over moment e ends h = grind (arith, first_there)
 
 -- Where none has come, no pause is over.
 pub none_over_yet : (moment : ℕ) (o : Option PauseEnd) → None ≡ if_over moment o → is_end_over moment (option_map (λ e. e.until) o) ≡ false

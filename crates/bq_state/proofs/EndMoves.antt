@@ -1,19 +1,17 @@
 -- What a change of a pause, and the coming and going of a tube, do to the ends of pauses.
 use Rattle.std.proofs.Common.{◌&&◌, ◌+◌, ◌<◌, ◌||◌, ◌∙◌, ◌∷◌, ◌≡◌, ◌≤◌, if◌then◌else◌, Bool, List, None, Option, Some, [], ℕ, ap, arith, cond, false, inl, inr, is_some, length, map, refl, subst, suc, sym, true}
-use Rattle.std.proofs.{lemmas.Bool.{cases_Bool, eqb-true, or_parts, Decides.nat_tests}, Math.Bool.or-false}
+use Rattle.std.proofs.{lemmas.{Bool.{cases_Bool, eqb-true, or_parts}, Grind.common_steps}, Math.Bool.or-false}
 use Rattle.std.specs.{Borrow.Bor, Map.{lookup, remove_entry}, Option.{ForSome, option_map}, Ordering.is_eq, Prelude.{◌==◌, count_by, nat_le}}
-use Rattle.bq_job.specs.{machine.{Pause as PauseRecord, TubeRecord, fresh_tube, is_name_before, pause_after_timers, tube_after_timers, with_record}, reading.TubeName.is_same_name}
-use Rattle.bq_job.proofs.ListLemmas.{count_cons}
 use Rattle.bq_index.specs.{Catalog.CatalogSeen, Order.InOrder}
 use Rattle.bq_index.proofs.Order.{length_inserted, length_removed}
-use Rattle.bq_state.specs.declared.tubes.{entry.TubeChange.{TubeChange, TheVariants.{CountDelete, CountPut, Pause}}, pauses.PauseEnd.PauseEnd}
+use Rattle.bq_job.specs.{machine.{Pause as PauseRecord, TubeRecord, fresh_tube, is_name_before, pause_after_timers, tube_after_timers, with_record}, reading.TubeName.is_same_name}
+use Rattle.bq_state.specs.declared.tubes.{entry.TubeChange.TubeChange, pauses.PauseEnd.PauseEnd}
 use Rattle.bq_state.specs.KeptTubes.{KeptTube, Named, edited, ended, is_named_at, kept_changed, record_at, record_of}
-use Rattle.bq_state.specs.PauseEnds.{AreEnds, Ends, end_cmp, end_of, ends_at, first_end, found_end, has_end, if_over, is_end_in, is_end_of, is_paused, pause_at, pause_in, with_end, without_end}
+use Rattle.bq_state.specs.PauseEnds.{AreEnds, Ends, end_cmp, end_of, ends_at, first_end, found_end, has_end, if_over, is_end_in, is_paused, pause_at, with_end, without_end}
 use Rattle.bq_state.specs.TubeEntries.{AreInOrder, has_entry, tube_changed}
 use Rattle.bq_state.proofs.{EndLemmas.{ends_alike, ends_apart, has_entered, has_left, one_over}, NamedLemmas.{change_kept, edit_change, found_entry, ties}}
-use Rattle.bq_state.proofs.{EndLemmas.same_moment, PartsLemmas.tube_name_kept, TubeLemmas.{changed_one, none_later}}
+use Rattle.bq_state.proofs.{PartsLemmas.tube_name_kept, TubeLemmas.{changed_one, none_later}}
 use Rattle.bq_state.proofs.TubeLemmas.{order_kept, same_itself, same_name}
-use Rattle.std.proofs.lemmas.Grind.{common_steps}
 
 abbrev pub one_if : Option PauseRecord → ℕ
 one_if p = cond (is_some p) 1 0
@@ -33,21 +31,21 @@ none_from : (o : Option (Unit {0})) → is_some o ≡ false → o ≡ None
 none_from o h = grind (arith, common_steps)
 
 turned : (a b : ℕ) → (a == b) ≡ (b == a)
-turned a b = grind (arith, common_steps, cases_Bool)
+turned a b = grind (arith)
 
 -- no more are paused than there are
 count_few : (ts : List TubeRecord) → count_by is_paused ts ≤ length ts
 count_few [] = omega arith
-count_few (t ∷ ts) = grind (arith, common_steps, count_cons, cases_Bool, count_few ts)
+count_few (t ∷ ts) = grind (arith, common_steps, count_few ts)
 
 module _ (name : List ℕ) (from to : Option PauseRecord) (old new : List TubeRecord) (ends : CatalogSeen PauseEnd (Unit {0})) (h : AreEnds old ends) (m : Moves name from to old new) where
   -- the end of the pause that it had is there,
   pub end_held : (e : PauseEnd) → end_of name from ≡ Some e → has_end e ends.entries ≡ true
-  end_held e is = grind (arith, common_steps, same_moment)
+  end_held e is = grind (arith)
 
   -- and there is a box for that of the one that it gets.
   pub end_fits : (spare : ℕ) → spare ≡ ends.spare + one_if from → (e : PauseEnd) → end_of name to ≡ Some e → 0 < spare
-  end_fits spare boxes e is = grind (arith, common_steps, count_few)
+  end_fits spare boxes e is = grind (arith, count_few)
 
 -- An end can only leave where they are in order.
 module _ (name : List ℕ) (from to : Option PauseRecord) (old new : List TubeRecord) (ends : CatalogSeen PauseEnd (Unit {0})) (h : AreEnds old ends) (m : Moves name from to old new)
@@ -97,7 +95,7 @@ module _ (name : List ℕ) (from to : Option PauseRecord) (old new : List TubeRe
   end_absent e is = none_from (found_end e left) (go to is)
     where
       go : (p : Option PauseRecord) → end_of name p ≡ Some e → has_end e left ≡ false
-      go p is = grind (arith, common_steps, is, none_left)
+      go p is = grind (arith, none_left)
 
   -- Then the ends are those of the pauses again.
   pub ends_moved : (last : CatalogSeen PauseEnd (Unit {0})) → last.entries ≡ with_end (end_of name to) left → last.spare + one_if to ≡ ends.spare + one_if from → AreEnds new last
@@ -156,8 +154,7 @@ none_behind name t ts same order = ap (λ n. has_entry n ts) (same_name name t.n
 
 pub named_ends : (name : List ℕ) (m : ℕ) (ts : List TubeRecord) → AreInOrder ts → is_end_in (record { until = m; name = name }) ts ≡ ends_at m (pause_at name ts)
 named_ends name m [] order = refl
-named_ends name m (t ∷ ts) order =
-    grind (arith, common_steps, cases_Bool, none_named, none_behind, or-false, named_ends name m ts order.1)
+named_ends name m (t ∷ ts) order = grind (arith, none_named, none_behind, named_ends name m ts order.1)
 
 apart_from : (name n k : List ℕ) → is_same_name name n ≡ false → name ≡ k → is_same_name n k ≡ false
 apart_from name n k other is = elim (cases_Bool (is_same_name n k)) [
@@ -175,19 +172,12 @@ module _ (name : List ℕ) (f : TubeRecord → TubeRecord) (keeps : (t : TubeRec
 
   others_changed : (e : PauseEnd) → is_same_name name e.name ≡ false → (ts : List TubeRecord) → is_end_in e (map (changed_one name f) ts) ≡ is_end_in e ts
   others_changed e other [] = refl
-  others_changed e other (t ∷ ts) = elim (cases_Bool (is_same_name name t.name)) [
-    | inr apart ↦ rw apart (ap (λ b. is_end_of e t || b) (others_changed e other ts))
-    | inl same ↦
-        let is : name ≡ t.name = same_name name t.name same in
-        let away : is_same_name e.name t.name ≡ false = apart_from name e.name t.name other is in
-        let away_then : is_same_name e.name (f t).name ≡ false = ap (is_same_name e.name) (keeps t) ∙ away in
-        rw (same, away, away_then) (others_changed e other ts)
-  ]
+  others_changed e other (t ∷ ts) =
+      grind (arith, common_steps, cases_Bool, same_name, apart_from, others_changed e other ts)
 
   count_changed : (ts : List TubeRecord) → AreInOrder ts → count_by is_paused (map (changed_one name f) ts) + one_if (pause_at name ts) ≡ count_by is_paused ts + one_if (pause_at name (map (changed_one name f) ts))
   count_changed [] order = refl
-  count_changed (t ∷ ts) order =
-      grind (arith, common_steps, cases_Bool, stay, none_behind, count_cons, count_changed ts order.1)
+  count_changed (t ∷ ts) order = grind (arith, common_steps, stay, none_behind, count_changed ts order.1)
 
   length_changed : (ts : List TubeRecord) → length (map (changed_one name f) ts) ≡ length ts
   length_changed [] = refl
@@ -218,8 +208,7 @@ module _ (name : List ℕ) where
 
   others_stay : (e : PauseEnd) → is_same_name name e.name ≡ false → (es : List Named) → is_end_in e (rest es) ≡ is_end_in e (map record_at es)
   others_stay e other [] = refl
-  others_stay e other (x ∷ es) =
-      grind (arith, common_steps, cases_Bool, at, apart_from, same_name, others_stay e other es)
+  others_stay e other (x ∷ es) = grind (arith, at, same_name, others_stay e other es)
 
   none_stay : (m : ℕ) (es : List Named) → AreInOrder (map record_at es) → is_end_in (record { until = m; name = name }) (rest es) ≡ false
   none_stay m [] order = refl
@@ -230,11 +219,11 @@ module _ (name : List ℕ) where
 
   count_rest : (es : List Named) → count_by is_paused (rest es) + one_if (pause_at name (map record_at es)) ≡ count_by is_paused (map record_at es)
   count_rest [] = refl
-  count_rest (x ∷ es) = grind (arith, common_steps, cases_Bool, at, count_cons, count_rest es)
+  count_rest (x ∷ es) = grind (arith, common_steps, at, count_rest es)
 
   length_rest : (es : List Named) → length (rest es) ≤ length (map record_at es)
   length_rest [] = omega arith
-  length_rest (x ∷ es) = grind (arith, common_steps, cases_Bool, length_rest es)
+  length_rest (x ∷ es) = grind (arith, length_rest es)
 
   pub moves_out : (es : List Named) → AreInOrder (map record_at es) → Moves name (pause_at name (map record_at es)) None (map record_at es) (map record_at (remove_entry (is_named_at name) es))
   moves_out es order = record {
@@ -246,9 +235,6 @@ module _ (name : List ℕ) where
   }
 
   -- it comes
-  from_zero : (n : ℕ) → 0 + n ≡ n
-  from_zero n = omega arith
-
   fresh_ends : (e : PauseEnd) (ts : List TubeRecord) → has_entry name ts ≡ false → is_end_in e (with_record (fresh_tube name) ts) ≡ is_end_in e ts
   fresh_ends e [] h = ap (λ b. b || false) (not_both (is_same_name e.name name))
   fresh_ends e (t ∷ ts) h =
@@ -256,7 +242,7 @@ module _ (name : List ℕ) where
       rw parts.0 (go (is_name_before name t.name) (fresh_ends e ts parts.1))
     where
       go : (b : Bool) → is_end_in e (with_record (fresh_tube name) ts) ≡ is_end_in e ts → is_end_in e (if b then fresh_tube name ∷ t ∷ ts else t ∷ with_record (fresh_tube name) ts) ≡ is_end_in e (t ∷ ts)
-      go b more = grind (arith, common_steps, not_both)
+      go b more = grind (arith)
 
   fresh_count : (ts : List TubeRecord) → has_entry name ts ≡ false → (count_by is_paused (with_record (fresh_tube name) ts) ≡ count_by is_paused ts) × (length (with_record (fresh_tube name) ts) ≡ length ts + 1)
   fresh_count [] h = (refl, refl)
@@ -266,10 +252,10 @@ module _ (name : List ℕ) where
     where
       go : (b : Bool) → (count_by is_paused (with_record (fresh_tube name) ts) ≡ count_by is_paused ts) × (length (with_record (fresh_tube name) ts) ≡ length ts + 1)
           → (count_by is_paused (if b then fresh_tube name ∷ t ∷ ts else t ∷ with_record (fresh_tube name) ts) ≡ count_by is_paused (t ∷ ts)) × (length (if b then fresh_tube name ∷ t ∷ ts else t ∷ with_record (fresh_tube name) ts) ≡ length (t ∷ ts) + 1)
-      go b more = grind (arith, common_steps, count_cons, from_zero)
+      go b more = grind (arith, common_steps)
 
   pub ends_provided : (ts : List TubeRecord) (ends last : CatalogSeen PauseEnd (Unit {0})) → AreEnds ts ends → has_entry name ts ≡ false → last.entries ≡ ends.entries → length ts + 1 ≤ length last.entries + last.spare → AreEnds (with_record (fresh_tube name) ts) last
-  ends_provided ts ends last h none same room = grind (arith, common_steps, fresh_ends, fresh_count)
+  ends_provided ts ends last h none same room = grind (arith, fresh_ends, fresh_count)
 
 -- Where no pause changes, the ends stay.
 module _ (f : TubeRecord → TubeRecord) (named : (t : TubeRecord) → (f t).name ≡ t.name) (paused : (t : TubeRecord) → (f t).pause ≡ t.pause) where
@@ -277,16 +263,8 @@ module _ (f : TubeRecord → TubeRecord) (named : (t : TubeRecord) → (f t).nam
   same_ends e [] = refl
   same_ends e (t ∷ ts) = λ i. (is_same_name e.name (named t i) && ends_at e.until (paused t i)) || same_ends e ts i
 
-  same_count : (ts : List TubeRecord) → count_by is_paused (map f ts) ≡ count_by is_paused ts
-  same_count [] = refl
-  same_count (t ∷ ts) = grind (arith, common_steps, count_cons, same_count ts)
-
-  same_length : (ts : List TubeRecord) → length (map f ts) ≡ length ts
-  same_length [] = refl
-  same_length (t ∷ ts) = ap suc (same_length ts)
-
   pub ends_stay : (ts : List TubeRecord) (ends : CatalogSeen PauseEnd (Unit {0})) → AreEnds ts ends → AreEnds (map f ts) ends
-  ends_stay ts ends h = grind (arith, common_steps, same_ends, same_count, same_length)
+  ends_stay ts ends h = grind (arith, common_steps, same_ends)
 
 -- the end of the pause of an entry that is lent
 abbrev pub pause_lent : Option (Bor KeptTube) → Option PauseRecord
@@ -294,7 +272,7 @@ pause_lent None = None
 pause_lent (Some t) = t.now.pause
 
 pub lent_end : (name : List ℕ) (es : List Named) (o x : Option (Bor KeptTube)) → o ≡ x → option_map (λ (t : Bor KeptTube). t.now) o ≡ lookup (is_named_at name) es → end_of name (pause_lent x) ≡ end_of name (pause_at name (map record_at es))
-lent_end name es o x is e = grind (arith, common_steps, found_entry name es)
+lent_end name es o x is e = grind (arith, found_entry name es)
 
 -- A change of what is kept of one tube, as an entry and as a record.
 module _ (name : List ℕ) (f : KeptTube → KeptTube) (g : TubeRecord → TubeRecord) (made : (n : List ℕ) (t : KeptTube) → record_of n (f t) ≡ g (record_of n t)) (keeps : (t : TubeRecord) → (g t).name ≡ t.name)
@@ -306,7 +284,7 @@ module _ (name : List ℕ) (f : KeptTube → KeptTube) (g : TubeRecord → TubeR
   edit_moves = subst (λ us. Moves name (pause_at name (map record_at es)) (pause_at name us) (map record_at es) us) (sym edit_is) (moves_changed name g keeps (map record_at es) order)
 
   pub edit_stays : ((t : TubeRecord) → (g t).pause ≡ t.pause) → (ends : CatalogSeen PauseEnd (Unit {0})) → AreEnds (map record_at es) ends → AreEnds (map record_at last) ends
-  edit_stays paused ends h = grind (arith, common_steps, edit_is, ends_stay, named_kept)
+  edit_stays paused ends h = grind (arith, edit_is, ends_stay)
 
 -- What a pause, and a count, change.
 pub change_moves : (name : List ℕ) (what : TubeChange) (es last : List Named) → AreInOrder (map record_at es) → last ≡ edited name (kept_changed what) (lookup (is_named_at name) es) es
@@ -322,15 +300,12 @@ pub one_box : (name : List ℕ) (p : Option PauseRecord) (e : Option PauseEnd) �
 one_box name p e is = grind (arith, common_steps)
 
 -- A pause that is over ends.
-twice_over : (moment : ℕ) (p : Option PauseRecord) → pause_after_timers moment (pause_after_timers moment p) ≡ pause_after_timers moment p
-twice_over moment p = grind (arith, common_steps, cases_Bool)
-
 module _ (moment : ℕ) (name : List ℕ) where
   abbrev after : TubeRecord → TubeRecord
   after = tube_after_timers moment
 
   once : (t : TubeRecord) (b : Bool) → after (if b then after t else t) ≡ after t
-  once t b = grind (arith, common_steps, twice_over)
+  once t b = grind (arith)
 
   one_after : (ts : List TubeRecord) → map after (map (changed_one name after) ts) ≡ map after ts
   one_after [] = refl
@@ -338,14 +313,14 @@ module _ (moment : ℕ) (name : List ℕ) where
 
   pause_then : (ts : List TubeRecord) → pause_at name (map (changed_one name after) ts) ≡ pause_after_timers moment (pause_at name ts)
   pause_then [] = refl
-  pause_then (t ∷ ts) = grind (arith, common_steps, cases_Bool, pause_then ts)
+  pause_then (t ∷ ts) = grind (arith, pause_then ts)
 
 own_end : (name : List ℕ) (u : ℕ) (p : Option PauseRecord) → ends_at u p ≡ true → end_of name p ≡ Some (record { until = u; name = name })
 own_end name u None h = absurd cc
 own_end name u (Some p) h = let same : p.until ≡ u = eqb-true p.until u h in ap (λ n. Some (record { until = n; name = name })) same
 
 over_ends : (moment u : ℕ) (p : Option PauseRecord) → ends_at u p ≡ true → nat_le u moment ≡ true → pause_after_timers moment p ≡ None
-over_ends moment u p h come = grind (arith, common_steps, eqb-true)
+over_ends moment u p h come = grind (arith)
 
 -- the first one, which has come
 module _ (moment : ℕ) (e : PauseEnd) (es last : List Named) (ends : CatalogSeen PauseEnd (Unit {0})) (h : AreEnds (map record_at es) ends) (order : AreInOrder (map record_at es))
@@ -372,7 +347,7 @@ module _ (moment : ℕ) (e : PauseEnd) (es last : List Named) (ends : CatalogSee
   one_from = go (pause_at e.name (map record_at es)) over_from
     where
       go : (p : Option PauseRecord) → end_of e.name p ≡ Some e → one_if p ≡ 1
-      go p is = grind (arith, common_steps, is)
+      go p is = grind (arith)
 
   pub over_fewer : count_by is_paused (map record_at last) < count_by is_paused (map record_at es)
   over_fewer = let none = ap one_if over_to in omega (arith, over_moves.count, one_from, none)

@@ -1,14 +1,12 @@
 -- When the first wait of a client is over by its timeout, as seats change.
-use Rattle.std.proofs.Common.{◌&&◌, ◌==◌, ◌||◌, ◌∙◌, ◌∷◌, ◌≡◌, if◌then◌else◌, Bool, List, None, Option, Some, [], ℕ, ap, arith, false, inl, inr, length, map, not, refl, set, slice_get, suc, sym, true, zero}
-use Rattle.std.proofs.{lemmas.Bool.{and_parts, cases_Bool, eqb-true, not-true, Decides.nat_tests}, Math.Bool.or-false}
-use Rattle.std.proofs.Math.Bool.{or_assoc}
-use Rattle.std.specs.{List.{AllByRecursion as All, list_any}, Prelude.{fold, is_some, min, nat_le}}
-use Rattle.bq_job.specs.{beside.{dues_of_until, dues_of_wait, earliest}, machine.{SeatRecord, Wait, empty_seat, is_past, is_until_over, is_waiting, seat_with, watching}}
+use Rattle.std.proofs.Common.{◌==◌, ◌||◌, ◌∙◌, ◌∷◌, ◌≡◌, if◌then◌else◌, Bool, List, None, Option, Some, [], ℕ, ap, arith, false, length, map, refl, set, slice_get, suc, sym, true, zero}
+use Rattle.std.proofs.Math.Bool.{or-false}
+use Rattle.std.specs.{List.{AllByRecursion as All, list_any}, Prelude.fold}
+use Rattle.bq_job.specs.machine.{SeatRecord, empty_seat, seat_with, watching}
 use Rattle.bq_job.proofs.{KeptLemmas.only_seat, ListLemmas.{all_both, all_of_map, all_weaker}}
-use Rattle.bq_state.specs.declared.{known.FirstEnd.{FirstEnd, TheVariants.{Known, Unknown}}, seats.SeatChange.{SeatChange, TheVariants.{Clear, Connect, End, StopWaiting, Use, Wait as WaitFrom}}}
+use Rattle.bq_state.specs.declared.{known.FirstEnd.{FirstEnd, TheVariants.{Known, Unknown}}, seats.SeatChange.SeatChange}
 use Rattle.bq_state.specs.{Dues.{earlier_of_both, is_end_over, with_seat_due}, EndingWaits.has_waited, FirstEnds.{AreTimeouts, IsThere, end_after, gives_up_at, keeps_end}, SeatChanges.{AreNumbered, seat_changed, seat_changed_at}}
 use Rattle.bq_state.proofs.{CrowdLemmas.none_changed, PartsLemmas.{all_read, all_set}}
-use Rattle.std.proofs.lemmas.Grind.{common_steps}
 
 -- the same moments, and so the same first one
 fold_kept : (g : SeatRecord → SeatRecord) (best : Option ℕ) (seats : List SeatRecord) → All (λ s. gives_up_at (g s) ≡ gives_up_at s) seats → fold with_seat_due best (map g seats) ≡ fold with_seat_due best seats
@@ -20,29 +18,19 @@ fold_set best [] i s new same here = refl
 fold_set best (t ∷ seats) zero s new same here = let is : t ≡ s = cc in ap (λ due. fold with_seat_due (earlier_of_both best due) seats) (same ∙ ap gives_up_at (sym is))
 fold_set best (t ∷ seats) (suc i) s new same here = fold_set (earlier_of_both best (gives_up_at t)) seats i s new same here
 
-no_moment : (o : Option ℕ) → not (is_some o) ≡ true → None ≡ o
-no_moment o h = grind (arith, common_steps)
-
 -- a change that keeps it
-same_end : (what : SeatChange) (s : SeatRecord) → keeps_end what s ≡ true → gives_up_at (seat_changed what s) ≡ gives_up_at s
-same_end what s h = grind (arith, common_steps, no_moment, and_parts)
-
-still_there : (what : SeatChange) (s : SeatRecord) → keeps_end what s ≡ true → IsThere s → IsThere (seat_changed what s)
-still_there what s h there = grind (arith, common_steps, not-true, and_parts)
-
 pub timeouts_of_seat : (number : ℕ) (what : SeatChange) (first : FirstEnd) (seats : List SeatRecord) → AreNumbered seats → AreTimeouts first seats
     → AreTimeouts (end_after what (seat_with number seats) first) (map (seat_changed_at number what) seats)
 timeouts_of_seat number what first seats numbered known = go (seat_with number seats) refl
   where
     kept : (s : SeatRecord) → seat_with number seats ≡ Some s → keeps_end what s ≡ true → All (λ t. t.number ≡ number → keeps_end what t ≡ true) seats
-    kept s found h =
-        grind (arith, common_steps, cases_Bool, all_weaker, only_seat 0 (length seats) number seats s numbered found)
+    kept s found h = grind (arith, all_weaker, only_seat 0 (length seats) number seats s numbered found)
 
     due : (t : SeatRecord) → (t.number ≡ number → keeps_end what t ≡ true) → (b : Bool) → (t.number == number) ≡ b → gives_up_at (if b then seat_changed what t else t) ≡ gives_up_at t
-    due t keeps b e = grind (arith, common_steps, same_end, eqb-true)
+    due t keeps b e = grind (arith)
 
     there : (t : SeatRecord) → (t.number ≡ number → keeps_end what t ≡ true) → IsThere t → (b : Bool) → (t.number == number) ≡ b → IsThere (if b then seat_changed what t else t)
-    there t keeps is b e = grind (arith, common_steps, still_there, eqb-true)
+    there t keeps is b e = grind (arith)
 
     all_kept : (f : FirstEnd) → AreTimeouts f seats → All (λ t. t.number ≡ number → keeps_end what t ≡ true) seats → AreTimeouts f (map (seat_changed_at number what) seats)
     all_kept Unknown known keeps = tt
@@ -70,17 +58,10 @@ timeouts_watching names i s (Known at) seats here known =
     (fold_set None seats i s (watching names s) refl here ∙ known.0, all_set IsThere seats i (watching names s) known.1 (all_read IsThere seats i s known.1 here))
 
 -- whether a moment has come that is the first of some
-over_min : (moment a b : ℕ) → nat_le (min a b) moment ≡ (nat_le a moment || nat_le b moment)
-over_min moment a b = grind (arith, common_steps, cases_Bool)
-
-over_both : (moment : ℕ) (o u : Option ℕ) → is_end_over moment (earlier_of_both o u) ≡ (is_end_over moment o || is_end_over moment u)
-over_both moment o u = grind (arith, common_steps, or-false, over_min)
-
 over_all : (moment : ℕ) (best : Option ℕ) (seats : List SeatRecord) → All IsThere seats → is_end_over moment (fold with_seat_due best seats) ≡ (is_end_over moment best || list_any (has_waited moment) seats)
 over_all moment best [] there = sym (or-false (is_end_over moment best))
 over_all moment best (s ∷ seats) there =
-    grind (arith, common_steps, over_both, or_assoc,
-    over_all moment (earlier_of_both best (gives_up_at s)) seats there.1)
+    grind (arith, over_all moment (earlier_of_both best (gives_up_at s)) seats there.1)
 
 pub over_known : (moment : ℕ) (first : Option ℕ) (seats : List SeatRecord) → AreTimeouts (Known first) seats → is_end_over moment first ≡ list_any (has_waited moment) seats
 over_known moment first seats known = ap (is_end_over moment) (sym known.0) ∙ over_all moment None seats known.1

@@ -1,15 +1,14 @@
 -- Entries whose tubes are gone are dropped from the catalog of the tubes; the others are counted and listed.
-use Rattle.std.proofs.Common.{◌&&◌, ◌++◌, ◌+◌, ◌∙◌, ◌∷◌, ◌≡◌, ◌≤◌, if◌then◌else◌, Bool, List, None, Option, Some, [], ℕ, ap, append_assoc, arith, cond, false, inl, inr, length, map, not, refl, subst, sym, true}
-use Rattle.std.proofs.lemmas.{Bool.cases_Bool, List.append-nil}
+use Rattle.std.proofs.Common.{◌&&◌, ◌++◌, ◌+◌, ◌∙◌, ◌∷◌, ◌≡◌, ◌≤◌, if◌then◌else◌, Bool, List, None, Option, Some, [], ℕ, ap, append_assoc, arith, false, inl, inr, length, map, not, refl, sym, true}
+use Rattle.std.proofs.lemmas.{Bool.cases_Bool, Grind.common_steps, List.append-nil}
 use Rattle.std.specs.{Borrow.Bor, Cmp.Lexicographic.{nat_list_cmp_total, slice_cmp}, declared.cmp.Ordering.{Ordering, TheVariants.{Equal, Greater, Less}}, List.{AllByRecursion as All, Sorted.IsStrictlySortedBy}}
 use Rattle.std.specs.{Map.{keys_of, lookup, remove_entry}, Option.option_map, Ordering.{is_eq, is_gt, nat_cmp, ordering_reverse}, Prelude.{filter, find, fold}}
-use Rattle.bq_job.specs.{declared.job.Job.Job, machine.{SeatRecord, greatest}, reading.TubeName.is_same_name}
 use Rattle.bq_index.specs.{Order.InOrder, Walk.{entry_of, seen_by}}
+use Rattle.bq_job.specs.{declared.job.Job.Job, machine.{SeatRecord, greatest}, reading.TubeName.is_same_name}
 use Rattle.bq_state.specs.declared.{known.Loss.TheVariants.Of, tubes.walks.HowMany.HowMany}
 use Rattle.bq_state.specs.{Crowds.{crowd_in, crowds_of, has_seats}, KeptTubes.{KeptTube, Named, crowd_kept, is_alive_at, is_alive_with, is_from, is_gone_by, is_gone_from, is_named_at, record_at, tally_kept, with_alive, with_name_of}}
 use Rattle.bq_state.specs.{Losses.AreAlive, Tallies.{has_jobs, tallies_of, tally_in}, TubeEntries.{AreInOrder, is_tube_of, names_alive}}
 use Rattle.bq_state.proofs.{CrowdLemmas.has_seats_of, CrowdPlaces.exists_by_counts, LossLemmas.{alive_but, alive_or, all_kept_alive, others_alive}, NamedLemmas.ties, TallyPlaces.has_jobs_in, TubeLemmas.same_name}
-use Rattle.std.proofs.lemmas.Grind.{common_steps}
 
 -- The counts are those of these jobs and of these seats.
 abbrev pub AreTallied : List Job → List SeatRecord → List Named → Type 0
@@ -26,19 +25,13 @@ module _ (jobs : List Job) (seats : List SeatRecord) where
   rest_tallied : (x : Named) (es : List Named) → AreTallied jobs seats (x ∷ es) → AreTallied jobs seats es
   rest_tallied x es h = (let a = h.0 in cc, let b = h.1 in cc)
 
-  tallied_more : (x : Named) (es : List Named) → IsTallied jobs seats x → AreTallied jobs seats es → AreTallied jobs seats (x ∷ es)
-  tallied_more x es h rest = ((λ i. h.0 i ∷ rest.0 i), (λ i. h.1 i ∷ rest.1 i))
-
   pub filter_tallied : (p : Named → Bool) (es : List Named) → AreTallied jobs seats es → AreTallied jobs seats (filter p es)
   filter_tallied p [] h = (refl, refl)
-  filter_tallied p (x ∷ es) h =
-      grind (arith, common_steps, rest_tallied, tallied_more, first_tallied, filter_tallied p es (rest_tallied x es h))
+  filter_tallied p (x ∷ es) h = grind (arith, filter_tallied p es (rest_tallied x es h))
 
   pub remove_tallied : (test : List ℕ → Bool) (es : List Named) → AreTallied jobs seats es → AreTallied jobs seats (remove_entry test es)
   remove_tallied test [] h = (refl, refl)
-  remove_tallied test (x ∷ es) h =
-      grind (arith, common_steps, rest_tallied, tallied_more, first_tallied,
-      remove_tallied test es (rest_tallied x es h))
+  remove_tallied test (x ∷ es) h = grind (arith, remove_tallied test es (rest_tallied x es h))
 
   pub if_tallied : (b : Bool) (test : List ℕ → Bool) (es : List Named) → AreTallied jobs seats es → AreTallied jobs seats (if b then remove_entry test es else es)
   if_tallied true test es h = remove_tallied test es h
@@ -50,8 +43,7 @@ module _ (jobs : List Job) (seats : List SeatRecord) where
 
   pub filter_records : (es : List Named) → AreTallied jobs seats es → map record_at (filter (is_alive_at) es) ≡ filter (λ t. is_tube_of jobs seats t.name) (map record_at es)
   filter_records [] h = refl
-  filter_records (x ∷ es) h =
-      grind (arith, common_steps, rest_tallied, alive_is, first_tallied, filter_records es (rest_tallied x es h))
+  filter_records (x ∷ es) h = grind (arith, alive_is, filter_records es (rest_tallied x es h))
 
   abbrev names : List Named → List (List ℕ)
   names es = names_alive jobs seats (map record_at es)
@@ -82,15 +74,12 @@ module _ (jobs : List Job) (seats : List SeatRecord) where
           → ((k : ℕ) → k + length es ≤ greatest
           → (fold (seen_by (λ (s : HowMany) (name : List ℕ) (t : KeptTube). record { count = with_alive s.count name t })) (record { count = k }) es).count ≡ k + length (names_alive jobs seats (map record_at es)))
           → (fold (seen_by (λ (s : HowMany) (name : List ℕ) (t : KeptTube). record { count = with_alive s.count name t })) (record { count = with_alive n x.0 x.1 }) es).count ≡ n + length (names_alive jobs seats (map record_at (x ∷ es)))
-      go b e more = grind (arith, common_steps, alive_is, first_tallied)
+      go b e more = grind (arith, alive_is)
 
   -- The entry of one name is dropped, where its tube is gone.
   module _ (name : List ℕ) where
     abbrev left : Bool → List Named → List Named
     left b es = if b then remove_entry (is_named_at name) es else es
-
-    past : (x : Named) (es : List Named) (b : Bool) → is_named_at name x.0 ≡ false → map record_at (left b (x ∷ es)) ≡ record_at x ∷ map record_at (left b es)
-    past x es b e = grind (arith, common_steps)
 
     pub one_left : (es : List Named) → AreInOrder (map record_at es) → AreAlive (Of name) jobs seats (map record_at es) → AreTallied jobs seats es
         → map record_at (if is_gone_by name (lookup (is_named_at name) es) then remove_entry (is_named_at name) es else es) ≡ filter (λ t. is_tube_of jobs seats t.name) (map record_at es)
@@ -105,10 +94,7 @@ module _ (jobs : List Job) (seats : List SeatRecord) where
           let rest = one_left es order.1 all.1 (rest_tallied x es h) in
           let away : is_named_at name x.0 ≡ false = ties name x.0 ∙ e in
           let same : lookup (is_named_at name) (x ∷ es) ≡ lookup (is_named_at name) es = rw away refl in
-          ap (λ o. map record_at (left (is_gone_by name o) (x ∷ es))) same
-          ∙ past x es (is_gone_by name (lookup (is_named_at name) es)) away
-          ∙ ap (λ ts. record_at x ∷ ts) rest
-          ∙ sym (rw kept refl)
+          grind (arith, common_steps, left)
     ]
       where
         renamed : name ≡ x.0 → AreAlive (Of name) jobs seats (map record_at es) → AreAlive (Of x.0) jobs seats (map record_at es)
@@ -116,14 +102,14 @@ module _ (jobs : List Job) (seats : List SeatRecord) where
 
         here : name ≡ x.0 → (b : Bool) → is_alive_at x ≡ b → filter (λ t. is_tube_of jobs seats t.name) (map record_at es) ≡ map record_at es
             → map record_at (if not (is_alive_with name x.1) then es else x ∷ es) ≡ filter (λ t. is_tube_of jobs seats t.name) (map record_at (x ∷ es))
-        here is b e others = grind (arith, common_steps, alive_is, first_tallied)
+        here is b e others = grind (arith, alive_is)
 
 -- All are dropped one after another.
 abbrev pub AllLeftBefore : Option (List ℕ) → List Named → Type 0
 AllLeftBefore from es = All (λ e. is_from from e ≡ false → is_alive_at e ≡ true) es
 
 gone_or : (a b : Bool) → (a && not b) ≡ false → (a ≡ false → b ≡ true) → b ≡ true
-gone_or a b h left = grind (arith, common_steps, left)
+gone_or a b h left = grind (arith)
 
 -- Where none is found any more, none is left.
 pub none_gone : (from : Option (List ℕ)) (es : List Named) → find (is_gone_from from) es ≡ None → AllLeftBefore from es → filter (is_alive_at) es ≡ es
@@ -132,7 +118,7 @@ none_gone from (x ∷ es) h all = go (is_gone_from from x) refl h (λ g. none_go
   where
     go : (b : Bool) → is_gone_from from x ≡ b → (if b then Some x else find (is_gone_from from) es) ≡ None → (find (is_gone_from from) es ≡ None → filter (is_alive_at) es ≡ es)
         → filter (is_alive_at) (x ∷ es) ≡ x ∷ es
-    go b e h rest = grind (arith, common_steps, gone_or)
+    go b e h rest = grind (arith)
 
 abbrev order : List ℕ → List ℕ → Ordering
 order = slice_cmp nat_cmp
@@ -141,12 +127,6 @@ found_key : (P : List ℕ → Type 0) (q : Named → Bool) (e : Named) (es : Lis
 found_key P q e [] all h = absurd (let g : None ≡ Some e = h in cc)
 found_key P q e (x ∷ es) all h = go (q x) h (λ g. found_key P q e es all.1 g)
   where
-    some_is : (x e : Named) → Some x ≡ Some e → x ≡ e
-    some_is x e h = cc
-
-    moved : x ≡ e → P x.0 → P e.0
-    moved is p = rw (sym is) p
-
     go : (b : Bool) → (if b then Some x else find q es) ≡ Some e → (find q es ≡ Some e → P e.0) → P e.0
     go b h rest = grind (arith, common_steps)
 
@@ -173,22 +153,8 @@ unfolding IsStrictlySortedBy
 one_removed from e [] s h all = absurd (let g : None ≡ Some e = h in cc)
 one_removed from e (x ∷ es) s h all = go (is_gone_from from x) refl h (λ g. one_removed from e es s.1 g all.1)
   where
-    gone : (a b : Bool) → (a && not b) ≡ true → b ≡ false
-    gone a b h = grind (arith, common_steps)
-
-    some_is : (x e : Named) → Some x ≡ Some e → x ≡ e
-    some_is x e h = cc
-
     go : (b : Bool) → is_gone_from from x ≡ b → (if b then Some x else find (is_gone_from from) es) ≡ Some e → (find (is_gone_from from) es ≡ Some e → Removed e.0 es) → Removed e.0 (x ∷ es)
-    go true g h more =
-        let is : x ≡ e = some_is x e h in
-        let dead : is_alive_at x ≡ false = gone (is_from from x) (is_alive_at x) g in
-        let here : is_named_at x.0 x.0 ≡ true = ap is_eq (itself x.0) in
-        rw (sym is) (record {
-          before = rw here (behind x.0 es s.0);
-          left = rw (here, dead) refl;
-          fewer = rw here (omega arith);
-        })
+    go true g h more = grind (arith, itself x.0, behind x.0 es s.0)
     go false g h more =
         let rest = more h in
         let less : order x.0 e.0 ≡ Less = found_key (λ y. order x.0 y ≡ Less) (is_gone_from from) e es s.0 h in
@@ -202,7 +168,7 @@ one_removed from e (x ∷ es) s h all = go (is_gone_from from x) refl h (λ g. o
         }
 
 pub name_removed : (from : Option (List ℕ)) (name : List ℕ) (es : List Named) → InOrder (slice_cmp nat_cmp) es → option_map (λ (e : Named). e.0) (find (is_gone_from from) es) ≡ Some name → AllLeftBefore from es → Removed name es
-name_removed from name es s h all = grind (arith, common_steps, one_removed)
+name_removed from name es s h all = grind (arith, one_removed)
 
 pub no_name : (o : Option Named) → option_map (λ (e : Named). e.0) o ≡ None → o ≡ None
 no_name o h = grind (arith, common_steps)

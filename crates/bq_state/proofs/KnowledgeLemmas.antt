@@ -1,25 +1,24 @@
 -- What is known without a search follows each change of the jobs, the seats and the tubes.
 use Rattle.std.proofs.Common.{◌&&◌, ◌++◌, ◌==◌, ◌∙◌, ◌∷◌, ◌≡◌, ◌≤◌, if◌then◌else◌, Bool, List, None, Some, [], ℕ, ap, false, filter, fold, is_some, length, map, not, refl, set, slice_get, subst, sym, true}
+use Rattle.std.proofs.{Common.arith, lemmas.Grind.common_steps}
 use Rattle.std.specs.List.{AllByRecursion as All, list_any}
 use Rattle.bq_job.specs.declared.job.Job.{Job}
 use Rattle.bq_job.specs.{machine.{SeatRecord, TubeRecord, empty_seat, greatest, is_ready, is_ready_state, is_waiting, job_with, next_job, numbers, seat_with, tube_after_timers, watches, watching}, reading.TubeName.is_same_name}
 use Rattle.bq_jobs.specs.{Changed.{moved_by, with_changed}, declared.row.Moved.Moved, Kept.{with_added, without}}
 use Rattle.bq_state.specs.declared.{core_parts.CoreParts.CoreParts, job_store.JobChange.JobChange, seats.SeatChange.SeatChange, tubes.entry.{Moving.TheVariants.{Comes, Goes}, TubeChange.TubeChange}}
-use Rattle.bq_state.specs.{Clients.{clients_of, clients_with, clients_without}, CoreParts.machine_of, Counting.{AreCounts, recounted_for, tubes_with, with_crowds_at, with_tallies_at}}
+use Rattle.bq_state.specs.{Clients.{clients_with, clients_without}, CoreParts.machine_of, Counting.{AreCounts, recounted_for, tubes_with, with_crowds_at, with_tallies_at}}
 use Rattle.bq_state.specs.{Crowds.{crowds_recounted_for, is_waiter, may_wait, recounted, share_of_watcher, share_of_watching, touched}, Dues.{first_pause_end, with_warning_due}, JobChanges.changed, KeptTubes.{KeptTubes, first_tubes}}
 use Rattle.bq_state.specs.{Knowledge.{IsSo, nothing_known, with_forgotten, with_job, with_joined, with_left, with_moved, with_tube_changed, without_job}, Losses.with_lost, SeatChanges.seat_changed_at}
 use Rattle.bq_state.specs.{Stirs.{AreKnown, IsKnown, stirred_by_change, with_anything}, Tallies.{tallies_with, tallies_without, tally_moved}, TubeEntries.{counted, has_entry, is_counted, is_tube_of, tube_changed, tube_changed_at}}
 use Rattle.bq_state.specs.Warnings.{IsWarned, has_waiting_holder, may_hold, warned_if_due}
 use Rattle.bq_state.specs.declared.known.Stir.TheVariants as stirs
-use Rattle.bq_state.proofs.{ClientLemmas.{clients_moved, clients_watching, first_clients}, CrowdLemmas.crowds_moved, CrowdPlaces.{crowds_kept, crowds_of_provided, first_crowds}, CrowdWatching.{crowds_ignoring, crowds_watching}}
+use Rattle.bq_state.proofs.{ClientLemmas.{clients_moved, clients_watching}, CrowdLemmas.crowds_moved, CrowdPlaces.{crowds_kept, crowds_of_provided, first_crowds}, CrowdWatching.{crowds_ignoring, crowds_watching}}
 use Rattle.bq_state.proofs.{FirstEndLemmas.{first_timeouts, timeouts_of_seat, timeouts_watching}, LeavingLemmas.alive_left}
 use Rattle.bq_state.proofs.LossLemmas.{alive_added, alive_forgotten, alive_ignoring, alive_provided, alive_renamed, alive_taken, alive_watching, end_of_those_left}
 use Rattle.bq_state.proofs.{MovedLemmas.{alive_changed, counted_moved, known_moved, one_tube, tube_kept, warned_moved}, PartsLemmas.{all_filtered, counted_provided, id_kept, name_kept_at, numbered_after, tube_counts, tube_name_kept}}
 use Rattle.bq_state.proofs.{PauseLemmas.{end_after_change, end_provided}, StirLemmas.{known_added, known_any, known_forgotten, known_ignoring, known_nothing, known_of_change, known_of_seat, known_watching}}
 use Rattle.bq_state.proofs.{TallyPlaces.{counted_added, counted_kept, counted_provided as tallies_of_provided, counted_taken}, TubeLemmas.{filters_swap, record_changed}}
 use Rattle.bq_state.proofs.WarningLemmas.{warned_added, warned_by_due, warned_of_seat, warned_watching}
-use Rattle.std.proofs.lemmas.Grind.{common_steps}
-use Rattle.std.proofs.Common.{arith}
 
 module _ (st : CoreParts) where
   -- A job comes,
@@ -220,6 +219,4 @@ module _ (st : CoreParts) where
 
 -- At the start there is nothing to know.
 pub so_at_first : (n : ℕ) → IsSo nothing_known [] (map empty_seat (numbers 0 n)) first_tubes
-so_at_first n =
-    grind (arith, common_steps, first_clients (clients_of []) (refl, refl) (numbers 0 n), first_crowds (numbers 0 n),
-    first_timeouts (numbers 0 n))
+so_at_first n = grind (arith, common_steps, first_crowds (numbers 0 n), first_timeouts (numbers 0 n))

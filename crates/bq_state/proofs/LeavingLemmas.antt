@@ -1,34 +1,32 @@
 -- Which tubes may be gone once a seat changes: those that its client left, but for those whose counts tell that they exist.
-use Rattle.std.proofs.{Common.{◌||◌, ◌∙◌, ◌∷◌, ◌≡◌, ◌≤◌, ◌⊎◌, Bool, List, None, Option, Some, [], ℕ, ap, false, inl, inr, length, map, refl, sym, true}, lemmas.Bool.{and_from, and_parts, lt-ltb, or_cases, or_left, or_right}}
-use Rattle.std.specs.{List.{AllByRecursion as All, list_any}, Prelude.nat_lt}
+use Rattle.std.proofs.{Common.{◌∙◌, ◌∷◌, ◌≡◌, ◌≤◌, ◌⊎◌, Bool, List, None, Option, Some, [], ℕ, ap, false, inl, inr, length, map, refl, sym, true}, lemmas.Bool.{or_cases, or_left, or_right}}
+use Rattle.std.proofs.{Common.arith, lemmas.{Bool.cases_Bool, Grind.common_steps}}
+use Rattle.std.specs.List.{AllByRecursion as All, list_any}
 use Rattle.bq_job.specs.declared.job.Job.{Job}
-use Rattle.bq_job.specs.{machine.{SeatRecord, TubeRecord, default_tube, greatest, is_seated_at, seat_with, watches}, reading.TubeName.is_same_name}
+use Rattle.bq_job.specs.{machine.{SeatRecord, TubeRecord, greatest, is_seated_at, seat_with, watches}, reading.TubeName.is_same_name}
 use Rattle.bq_job.proofs.ListLemmas.{all_at, all_from_members, list_any_with}
-use Rattle.bq_state.specs.declared.{known.Loss.Loss, seats.SeatChange.{SeatChange, TheVariants.{Clear, Connect, End, StopWaiting, Use, Wait}}, tubes.entry.{Crowd.Crowd, Moving.TheVariants.Goes, Share.Share}}
+use Rattle.bq_state.specs.declared.{known.Loss.Loss, seats.SeatChange.SeatChange, tubes.entry.{Crowd.Crowd, Moving.TheVariants.Goes, Share.Share}}
 use Rattle.bq_state.specs.{Crowds.{IsSeated, crowd_at, crowd_in, crowd_of, crowd_with, crowd_without, crowds_of, crowds_recounted, crowds_recounted_for, has_seats, touched}, KeptTubes.KeptTubes}
 use Rattle.bq_state.specs.{Leaving.{exists_in, loss_of, lost_all, lost_if, lost_unless}, Losses.{AreAlive, is_accounted, may_be_gone}, SeatChanges.{AreNumbered, seat_changed, seat_changed_at}}
-use Rattle.bq_state.specs.{Tallies.{count_with, has_jobs, tallies_of, tally_at}, TubeEntries.{AreInOrder, has_entry, is_tube_of}}
+use Rattle.bq_state.specs.{Tallies.{has_jobs, tallies_of, tally_at}, TubeEntries.{AreInOrder, has_entry, is_tube_of}}
 use Rattle.bq_state.proofs.{CrowdLemmas.{all_recounted, crowd_moved, has_seats_of, none_changed, share_at}, CrowdPlaces.named_crowd, LossLemmas.{any_set, by_job, by_loss, by_seat, now_lost, still_accounted, still_lost}}
-use Rattle.bq_state.proofs.{PartsLemmas.{all_read, changed_there, raised_some, seat_there}, TallyPlaces.{has_jobs_in, tally_there}, TubeLemmas.{same_itself, same_name}}
-use Rattle.std.proofs.lemmas.Grind.{common_steps}
-use Rattle.std.proofs.lemmas.Bool.{cases_Bool}
-use Rattle.std.proofs.Common.{arith}
+use Rattle.bq_state.proofs.{PartsLemmas.{all_read, changed_there, seat_there}, TallyPlaces.{has_jobs_in, tally_there}, TubeLemmas.{same_itself, same_name}}
 
 module _ (k : KeptTubes) where
   -- What may be gone still may,
   one_keeps : (b : Bool) (more name : List ℕ) (loss : Loss) → may_be_gone loss name ≡ true → may_be_gone (lost_unless b more loss) name ≡ true
-  one_keeps b more name loss h = grind (arith, common_steps, still_lost)
+  one_keeps b more name loss h = grind (arith, still_lost)
 
   all_keeps : (names : List (List ℕ)) (name : List ℕ) (loss : Loss) → may_be_gone loss name ≡ true → may_be_gone (lost_all k names loss) name ≡ true
   all_keeps [] name loss h = h
   all_keeps (n ∷ ns) name loss h = all_keeps ns name (lost_unless (exists_in k n) n loss) (one_keeps (exists_in k n) n name loss h)
 
   if_keeps : (b : Bool) (names : List (List ℕ)) (name : List ℕ) (loss : Loss) → may_be_gone loss name ≡ true → may_be_gone (lost_if b k names loss) name ≡ true
-  if_keeps b names name loss h = grind (arith, common_steps, all_keeps)
+  if_keeps b names name loss h = grind (arith, all_keeps)
 
   -- and what is left may be gone, unless it exists.
   one_lost : (b : Bool) (name : List ℕ) (loss : Loss) → b ≡ false → may_be_gone (lost_unless b name loss) name ≡ true
-  one_lost b name loss e = grind (arith, common_steps, now_lost)
+  one_lost b name loss e = grind (arith, now_lost)
 
   all_lost : (names : List (List ℕ)) (name : List ℕ) (loss : Loss) → list_any (is_same_name name) names ≡ true → exists_in k name ≡ false → may_be_gone (lost_all k names loss) name ≡ true
   all_lost [] name loss there gone = absurd cc
@@ -42,21 +40,15 @@ module _ (k : KeptTubes) where
       ]
 
 -- more clients leave one there
-some_more : (b : Bool) (n : ℕ) → nat_lt 0 n ≡ true → nat_lt 0 (count_with b n) ≡ true
-some_more b n h = grind (arith, common_steps, lt-ltb, raised_some)
-
 still_seats : (share : Share) (c : Crowd) → has_seats c ≡ true → has_seats (crowd_with share c) ≡ true
-still_seats share c h = grind (arith, common_steps, or_cases, or_left, some_more, or_right)
+still_seats share c h = grind (arith)
 
 -- what a change leaves of a seat at a tube
 abbrev IsLeft : SeatChange → SeatRecord → List ℕ → Type 0
 IsLeft what s name = (((touched what).using ≡ true) × (is_same_name name s.used ≡ true)) ⊎ (((touched what).watching ≡ true) × (watches name s ≡ true))
 
-at_both : (s : SeatRecord) (name : List ℕ) → is_seated_at name s ≡ true → (is_same_name name s.used ≡ true) ⊎ (watches name s ≡ true)
-at_both s name h = or_cases (is_same_name name s.used) (watches name s) (and_parts s.connected (is_same_name name s.used || watches name s) h).1
-
 leaves : (what : SeatChange) (s : SeatRecord) (name : List ℕ) → is_seated_at name s ≡ true → (is_seated_at name (seat_changed what s) ≡ true) ⊎ IsLeft what s name
-leaves what s name h = grind (arith, common_steps, at_both, and_from, and_parts, or_right)
+leaves what s name h = grind (arith)
 
 module _ (n : ℕ) (what : SeatChange) (loss : Loss) (jobs : List Job) (seats : List SeatRecord) (es : List TubeRecord) (k : KeptTubes) (h : AreNumbered seats) (fits : length seats ≤ greatest) (order : AreInOrder es)
     (of_jobs : All (λ j. has_entry j.tube es ≡ true) jobs) (seated : All IsSeated seats) (same_entries : k.entries ≡ es) (counted : k.tallies ≡ tallies_of jobs es) where
@@ -76,10 +68,7 @@ module _ (n : ℕ) (what : SeatChange) (loss : Loss) (jobs : List Job) (seats : 
         let now : has_seats (crowd_at name k.entries k.crowds) ≡ true → list_any (is_seated_at name) new ≡ true =
         λ has. sym (ap has_seats (crowd_moved n what s seats h fits found name) ∙ has_seats_of new name)
         ∙ still_seats (share_at (touched what) (seat_changed what s) name) (crowd_without (share_at (touched what) s name) (crowd_of seats name)) (ap has_seats (sym mid) ∙ has) in
-        elim (or_cases (is_same_name name default_tube || has_jobs (tally_at name k.entries k.tallies)) (has_seats (crowd_at name k.entries k.crowds)) e) [
-          | inl first ↦ or_left _ (list_any (is_seated_at name) new) (ap (λ b. is_same_name name default_tube || b) (sym some) ∙ first)
-          | inr has ↦ or_right (is_same_name name default_tube || list_any (λ j. is_same_name name j.tube) jobs) _ (now has)
-        ]
+        grind (arith, common_steps, cases_Bool, or_cases, or_left, or_right)
 
     gone_then : (name : List ℕ) → IsLeft what s name → exists_in k name ≡ false → may_be_gone (loss_of (touched what) k (Some s) loss) name ≡ true
     gone_then name is gone = elim is [
@@ -119,7 +108,7 @@ module _ (n : ℕ) (what : SeatChange) (loss : Loss) (jobs : List Job) (seats : 
   alive_left crowds all = go (seat_with n seats) refl
     where
       go : (o : Option SeatRecord) → seat_with n seats ≡ o → AreAlive (loss_of (touched what) k (seat_with n seats) loss) jobs new es
-      go None none = grind (arith, common_steps, cases_Bool, none_changed n (seat_changed what) seats none)
+      go None none = grind (arith, none_changed n (seat_changed what) seats none)
       go (Some s) found =
           let left = crowds ∙ ap (λ o. crowds_recounted_for Goes (touched what) o es (crowds_of seats es)) found in
           rw found (all_from_members (λ t. is_accounted (loss_of (touched what) k (Some s) loss) jobs new t.name ≡ true) es (λ t here.

@@ -1,16 +1,15 @@
 -- Which entries may be of tubes that are gone, as jobs and seats change.
-use Rattle.std.proofs.Common.{◌++◌, ◌<◌, ◌==◌, ◌||◌, ◌∙◌, ◌∷◌, ◌≡◌, ◌≤◌, ◌⊎◌, if◌then◌else◌, Bool, List, Option, Some, [], ℕ, ap, arith, false, inl, inr, length, map, not, refl, set, slice_get, suc, sym, true, zero}
-use Rattle.std.proofs.lemmas.Bool.{and_from, and_parts, cases_Bool, eqb-true, ne_eqb, or_cases, or_left, or_right, Decides.nat_tests}
-use Rattle.std.specs.{List.{AllByRecursion as All, list_any}, Prelude.{filter, nat_lt}}
+use Rattle.std.proofs.Common.{◌++◌, ◌==◌, ◌||◌, ◌∙◌, ◌∷◌, ◌≡◌, ◌≤◌, ◌⊎◌, if◌then◌else◌, Bool, List, Option, Some, [], ℕ, ap, arith, false, inl, inr, length, map, not, refl, set, slice_get, suc, sym, true, zero}
+use Rattle.std.proofs.lemmas.{Bool.{cases_Bool, eqb-true, or_cases, or_left, or_right}, Grind.common_steps}
+use Rattle.std.specs.{List.{AllByRecursion as All, list_any}, Prelude.filter}
 use Rattle.bq_job.specs.declared.job.Job.{Job}
-use Rattle.bq_job.specs.{beside.AreIdsWithin, machine.{SeatRecord, TubeRecord, default_tube, fresh_tube, is_name_before, is_seated_at, job_with, watches, watching, with_record}, reading.TubeName.is_same_name}
+use Rattle.bq_job.specs.{beside.AreIdsWithin, machine.{SeatRecord, TubeRecord, default_tube, fresh_tube, is_name_before, is_seated_at, job_with, watching, with_record}, reading.TubeName.is_same_name}
 use Rattle.bq_job.proofs.{ListLemmas.{all_weaker, filter_no_longer}, NameOrderLemmas.not_same}
 use Rattle.bq_jobs.specs.Kept.{is_id_before, with_added, without}
+use Rattle.bq_jobs.proofs.Changes.{all_kept, others_above}
 use Rattle.bq_state.specs.declared.known.Loss.{Loss, TheVariants.{Any, Nothing, Of}}
 use Rattle.bq_state.specs.{Dues.{first_pause_end, pause_end_left}, Losses.{AreAlive, is_accounted, may_be_gone, with_lost, with_regained}, TubeEntries.{has_entry, is_tube_of, provided}}
 use Rattle.bq_state.proofs.TubeLemmas.{same_itself, same_name}
-use Rattle.bq_jobs.proofs.Changes.{all_kept, others_above}
-use Rattle.std.proofs.lemmas.Grind.{common_steps}
 
 -- what may be gone still may
 pub still_lost : (more : List ℕ) (loss : Loss) (name : List ℕ) → may_be_gone loss name ≡ true → may_be_gone (with_lost more loss) name ≡ true
@@ -23,7 +22,7 @@ still_lost more (Of lost) name h = go (is_same_name lost more) refl
 still_lost more Any name h = refl
 
 pub now_lost : (name : List ℕ) (loss : Loss) → may_be_gone (with_lost name loss) name ≡ true
-now_lost name loss = grind (arith, common_steps, same_itself)
+now_lost name loss = grind (arith, same_itself)
 
 named_lost : (name more : List ℕ) (loss : Loss) → is_same_name name more ≡ true → may_be_gone (with_lost more loss) name ≡ true
 named_lost name more loss same = ap (may_be_gone (with_lost more loss)) (same_name name more same) ∙ now_lost more loss
@@ -39,16 +38,12 @@ module _ (loss : Loss) (jobs : List Job) (seats : List SeatRecord) (name : List 
   pub by_loss : may_be_gone loss name ≡ true → is_accounted loss jobs seats name ≡ true
   by_loss h = or_right (is_tube_of jobs seats name) _ h
 
-  by_default : is_same_name name default_tube ≡ true → is_accounted loss jobs seats name ≡ true
-  by_default h = or_left _ (may_be_gone loss name) (or_left _ (list_any (is_seated_at name) seats) (or_left _ (list_any (λ j. is_same_name name j.tube) jobs) h))
-
 pub still_accounted : (loss loss' : Loss) (jobs jobs' : List Job) (seats seats' : List SeatRecord) (name : List ℕ)
     → (list_any (λ j. is_same_name name j.tube) jobs ≡ true → is_accounted loss' jobs' seats' name ≡ true)
     → (list_any (is_seated_at name) seats ≡ true → is_accounted loss' jobs' seats' name ≡ true)
     → (may_be_gone loss name ≡ true → is_accounted loss' jobs' seats' name ≡ true)
     → is_accounted loss jobs seats name ≡ true → is_accounted loss' jobs' seats' name ≡ true
-still_accounted loss loss' jobs jobs' seats seats' name job seat lost h =
-    grind (arith, common_steps, or_cases, by_default)
+still_accounted loss loss' jobs jobs' seats seats' name job seat lost h = grind (arith)
 
 -- a job comes
 still_some : (p : Job → Bool) (j : Job) (jobs : List Job) → list_any p jobs ≡ true → list_any p (with_added j jobs) ≡ true
@@ -56,11 +51,11 @@ still_some p j [] h = absurd cc
 still_some p j (k ∷ jobs) h = go (is_id_before k j) (λ more. still_some p j jobs more)
   where
     go : (b : Bool) → (list_any p jobs ≡ true → list_any p (with_added j jobs) ≡ true) → list_any p (if b then k ∷ with_added j jobs else j ∷ k ∷ jobs) ≡ true
-    go b rest = grind (arith, common_steps, or_cases, or_left, or_right)
+    go b rest = grind (arith)
 
 now_some : (p : Job → Bool) (j : Job) (jobs : List Job) → p j ≡ true → list_any p (with_added j jobs) ≡ true
 now_some p j [] h = or_left (p j) _ h
-now_some p j (k ∷ jobs) h = grind (arith, common_steps, or_right, or_left, now_some p j jobs h)
+now_some p j (k ∷ jobs) h = grind (arith, now_some p j jobs h)
 
 pub alive_added : (j : Job) (loss : Loss) (jobs : List Job) (seats : List SeatRecord) (entries : List TubeRecord) → AreAlive loss jobs seats entries → AreAlive (with_regained j.tube loss) (with_added j jobs) seats entries
 alive_added j loss jobs seats entries all =
@@ -73,9 +68,7 @@ alive_added j loss jobs seats entries all =
     all
   where
     at : (name lost : List ℕ) (b : Bool) → is_same_name lost j.tube ≡ b → is_same_name lost name ≡ true → is_accounted (if b then Nothing else Of lost) (with_added j jobs) seats name ≡ true
-    at name lost true e h =
-        grind (arith, common_steps, cases_Bool, same_name lost name h, same_name lost j.tube e, same_itself j.tube,
-        by_job, now_some)
+    at name lost true e h = grind (arith, same_name lost name h, now_some)
     at name lost false e h = by_loss (Of lost) (with_added j jobs) seats name h
 
     lost : (name : List ℕ) (loss : Loss) → may_be_gone loss name ≡ true → is_accounted (with_regained j.tube loss) (with_added j jobs) seats name ≡ true
@@ -92,10 +85,7 @@ module _ (p : Job → Bool) where
         let e : Some k ≡ Some j = rw same at found in
         let one : k ≡ j = cc in
         let at : k.id ≡ id = eqb-true k.id id same in
-        elim (or_cases (p k) (list_any p jobs) h) [
-          | inl here ↦ inr (ap p (sym one) ∙ here)
-          | inr more ↦ inl (rw same (ap (list_any p) (all_kept id jobs (others_above id (suc k.id) next jobs (omega arith) ids.1)) ∙ more))
-        ]
+        grind (arith, common_steps, cases_Bool, or_cases, all_kept, others_above)
     | inr other ↦
         let there : job_with id jobs ≡ Some j = rw other at found in
         elim (or_cases (p k) (list_any p jobs) h) [
@@ -126,13 +116,12 @@ alive_reseated : (loss loss' : Loss) (jobs : List Job) (seats seats' : List Seat
     → ((name : List ℕ) → list_any (is_seated_at name) seats ≡ true → is_accounted loss' jobs seats' name ≡ true)
     → ((name : List ℕ) → may_be_gone loss name ≡ true → may_be_gone loss' name ≡ true)
     → AreAlive loss jobs seats entries → AreAlive loss' jobs seats' entries
-alive_reseated loss loss' jobs seats seats' entries seat lost all =
-    grind (arith, common_steps, all_weaker, still_accounted, by_job, by_loss)
+alive_reseated loss loss' jobs seats seats' entries seat lost all = grind (arith, all_weaker)
 
 -- a seat at its place watches other tubes
 pub any_set : (p : SeatRecord → Bool) (Q : Type 0) (seats : List SeatRecord) (i : ℕ) (s new : SeatRecord) → slice_get seats i ≡ Some s → (p s ≡ true → (p new ≡ true) ⊎ Q) → list_any p seats ≡ true → (list_any p (set seats i new) ≡ true) ⊎ Q
 any_set p Q [] i s new found keeps h = absurd cc
-any_set p Q (t ∷ seats) zero s new found keeps h = grind (arith, common_steps, or_cases, or_left, or_right)
+any_set p Q (t ∷ seats) zero s new found keeps h = grind (arith)
 any_set p Q (t ∷ seats) (suc i) s new found keeps h =
     elim (or_cases (p t) (list_any p seats) h) [
       | inl here ↦ inl (or_left (p t) _ here)
@@ -150,7 +139,7 @@ any_joined p (x ∷ xs) ys h = elim (or_cases (p x) (list_any p xs) h) [
 ]
 
 watches_more : (name more : List ℕ) (s : SeatRecord) → is_seated_at name s ≡ true → is_seated_at name (watching (s.watched ++ more ∷ []) s) ≡ true
-watches_more name more s h = grind (arith, common_steps, and_parts, and_from, or_cases, or_left, or_right, any_joined)
+watches_more name more s h = grind (arith, any_joined)
 
 pub alive_watching : (more : List ℕ) (i : ℕ) (s : SeatRecord) (loss : Loss) (jobs : List Job) (seats : List SeatRecord) (entries : List TubeRecord) → slice_get seats i ≡ Some s
     → AreAlive loss jobs seats entries → AreAlive loss jobs (set seats i (watching (s.watched ++ more ∷ []) s)) entries
@@ -173,10 +162,10 @@ others_left lost name (n ∷ names) h = go (is_same_name lost n) refl (λ more. 
 
     go : (b : Bool) → is_same_name lost n ≡ b → (list_any (is_same_name name) names ≡ true → (list_any (is_same_name name) left ≡ true) ⊎ (is_same_name name lost ≡ true))
         → (list_any (is_same_name name) (if not b then n ∷ left else left) ≡ true) ⊎ (is_same_name name lost ≡ true)
-    go b e rest = grind (arith, common_steps, or_cases, same_name, or_left, or_right)
+    go b e rest = grind (arith, same_name)
 
 watches_fewer : (lost name : List ℕ) (s : SeatRecord) → is_seated_at name s ≡ true → (is_seated_at name (watching (filter (λ other. not (is_same_name lost other)) s.watched) s) ≡ true) ⊎ (is_same_name name lost ≡ true)
-watches_fewer lost name s h = grind (arith, common_steps, and_parts, or_cases, and_from, or_left, others_left, or_right)
+watches_fewer lost name s h = grind (arith, others_left)
 
 pub alive_ignoring : (lost : List ℕ) (i : ℕ) (s : SeatRecord) (loss : Loss) (jobs : List Job) (seats : List SeatRecord) (entries : List TubeRecord) → slice_get seats i ≡ Some s
     → AreAlive loss jobs seats entries → AreAlive (with_lost lost loss) jobs (set seats i (watching (filter (λ other. not (is_same_name lost other)) s.watched) s)) entries
@@ -240,14 +229,12 @@ others_alive name jobs seats (t ∷ entries) later all =
   where
     apart : (b : Bool) → is_same_name name t.name ≡ b → b ≡ false
     apart false e = refl
-    apart true e =
-        grind (arith, common_steps, cases_Bool, same_name name t.name e,
-        not_same name t.name (is_same_name t.name name) refl later.0, same_itself t.name)
+    apart true e = grind (arith, same_name name t.name e, not_same name t.name (is_same_name t.name name) refl later.0)
 
 -- afterwards each entry is of a tube that exists
 pub alive_forgotten : (jobs : List Job) (seats : List SeatRecord) (entries : List TubeRecord) → AreAlive Nothing jobs seats (filter (λ t. is_tube_of jobs seats t.name) entries)
 alive_forgotten jobs seats [] = tt
-alive_forgotten jobs seats (t ∷ entries) = grind (arith, common_steps, or_left, alive_forgotten jobs seats entries)
+alive_forgotten jobs seats (t ∷ entries) = grind (arith, alive_forgotten jobs seats entries)
 
 -- where as many are left, all are
 pub as_many_left : {A : Type 0} (p : A → Bool) (xs : List A) → length xs ≤ length (filter p xs) → filter p xs ≡ xs
@@ -258,4 +245,4 @@ as_many_left {A = A} p (x ∷ xs) h = go (p x) h (filter_no_longer p xs) (as_man
     go b h most rest = grind (arith, common_steps)
 
 pub end_of_those_left : (p : TubeRecord → Bool) (entries : List TubeRecord) (were : ℕ) (last : Option ℕ) → were ≡ length entries → last ≡ first_pause_end entries → pause_end_left (filter p entries) were last ≡ first_pause_end (filter p entries)
-end_of_those_left p entries were last many h = grind (arith, common_steps, as_many_left)
+end_of_those_left p entries were last many h = grind (arith, as_many_left)

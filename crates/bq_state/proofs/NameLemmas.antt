@@ -1,13 +1,13 @@
 -- The names of the tubes that exist.
-use Rattle.std.proofs.{Common.{◌&&◌, ◌++◌, ◌+◌, ◌||◌, ◌∙◌, ◌∷◌, ◌≡◌, ◌⊎◌, if◌then◌else◌, Bool, List, None, Option, Some, [], ℕ, ap, arith, codes, cond, false, inl, inr, map, refl, suc, sym, true}, lemmas.Bool.{cases_Bool, or_cases}}
+use Rattle.std.proofs.{Common.{◌&&◌, ◌++◌, ◌+◌, ◌||◌, ◌∙◌, ◌∷◌, ◌≡◌, ◌⊎◌, if◌then◌else◌, Bool, List, Option, [], ℕ, ap, arith, codes, cond, false, inl, inr, map, refl, sym, true}, lemmas.Bool.or_cases}
+use Rattle.std.proofs.lemmas.Grind.{common_steps}
 use Rattle.std.specs.{Borrow.Bor, List.{AllByRecursion as All, insert, list_any, prefix_len, slice_get}, Option.option_map, Prelude.{IsOk, Result, filter, find, flat_map, is_ok, unwrap_or}}
 use Rattle.bq_job.specs.{beside.is_in_order, machine.{TubeRecord, default_tube, fresh_tube, in_name_order, is_name_before, is_tube, name_list, seated_tubes, tubes, with_name, Machine.Machine}, reading.TubeName.is_same_name}
 use Rattle.bq_job.specs.texts.Yaml.{name_line}
-use Rattle.bq_job.proofs.NameOrderLemmas.{after, first_of_order, in_order_fold, in_order_from, listed, not_before, not_same, rest_in_order, stays_fold}
+use Rattle.bq_job.proofs.NameOrderLemmas.{after, first_of_order, in_order_fold, in_order_from, listed, not_before, not_same, rest_in_order}
+use Rattle.bq_job.proofs.NameOrderLemmas.{stays_fold}
 use Rattle.bq_state.specs.{Names.{is_named, names_of}, TubeEntries.{AreEntries, AreInOrder, IsFreshUnlessCounted, counted, has_entry, is_counted, is_tube_of, names_alive}}
 use Rattle.bq_state.proofs.{PartsLemmas.tube_has_entry, TubeLemmas.{before_differs, none_found, none_later, order_filtered, same_itself, same_name}}
-use Rattle.bq_job.proofs.WatchedLemmas.{same_other}
-use Rattle.std.proofs.lemmas.Grind.{common_steps}
 
 -- names that come later are others
 none_listed : (name : List ℕ) (names : List (List ℕ)) → All (λ n. is_name_before name n ≡ true) names → list_any (is_same_name name) names ≡ false
@@ -31,14 +31,14 @@ first_or_later name first names all h =
     ]
 
 first_is : (x y : List ℕ) → (x ≡ y) ⊎ (is_name_before y x ≡ true) → (y ≡ x) ⊎ (is_name_before x y ≡ true) → x ≡ y
-first_is x y h other = grind (arith, common_steps, not_before)
+first_is x y h other = grind (arith, not_before)
 
 -- Names in order are told by which names are among them.
 pub same_order : (xs ys : List (List ℕ)) → is_in_order xs ≡ true → is_in_order ys ≡ true
     → ((name : List ℕ) → list_any (is_same_name name) xs ≡ list_any (is_same_name name) ys) → xs ≡ ys
 same_order [] [] h k same = refl
-same_order [] (y ∷ ys) h k same = grind (arith, common_steps, cases_Bool, same_itself y)
-same_order (x ∷ xs) [] h k same = grind (arith, common_steps, cases_Bool, same_itself x)
+same_order [] (y ∷ ys) h k same = grind (arith, same_itself y)
+same_order (x ∷ xs) [] h k same = grind (arith, same_itself x)
 same_order (x ∷ xs) (y ∷ ys) h k same =
     λ i. head i ∷ same_order xs ys (rest_in_order x xs h) (rest_in_order y ys k) (λ name. tail name (is_same_name name x) refl) i
   where
@@ -85,14 +85,11 @@ among p name (t ∷ entries) = go (is_same_name name t.name) (p t.name) refl ref
     some : List (List ℕ)
     some = map (λ t. t.name) (filter (λ t. p t.name) entries)
 
-    either : (b : Bool) → (b && true) ≡ b
-    either b = grind (arith, common_steps)
-
     go : (same pass : Bool) → is_same_name name t.name ≡ same → p t.name ≡ pass
         → list_any (is_same_name name) some ≡ (p name && has_entry name entries)
         → list_any (is_same_name name) (map (λ t. t.name) (if pass then t ∷ filter (λ t. p t.name) entries else filter (λ t. p t.name) entries))
         ≡ (p name && (same || has_entry name entries))
-    go same pass e f rest = grind (arith, common_steps, same_name)
+    go same pass e f rest = grind (arith, same_name)
 
 pub tubes_in_order : (m : Machine) → is_in_order (tubes m) ≡ true
 tubes_in_order m = in_order_fold (default_tube ∷ map (λ j. j.tube) m.jobs ++ flat_map seated_tubes m.seats) [] refl
@@ -106,7 +103,7 @@ alive_are_tubes m entries e =
     (λ name. among (is_tube_of m.jobs m.seats) name entries ∙ go name (is_tube_of m.jobs m.seats name) refl ∙ sym (listed name m))
   where
     go : (name : List ℕ) (b : Bool) → is_tube_of m.jobs m.seats name ≡ b → (b && has_entry name entries) ≡ is_tube name m
-    go name b h = grind (arith, common_steps, tube_has_entry)
+    go name b h = grind (arith, tube_has_entry)
 
 -- The record of a tube is its entry.
 entry_at : (name : List ℕ) (t : TubeRecord) (entries : List TubeRecord) (same kept : Bool) → is_same_name name t.name ≡ same → is_counted t ≡ kept
@@ -115,7 +112,7 @@ entry_at : (name : List ℕ) (t : TubeRecord) (entries : List TubeRecord) (same 
     → unwrap_or (find (λ t. is_same_name name t.name) (counted (t ∷ entries))) (fresh_tube name) ≡ unwrap_or (find (λ t. is_same_name name t.name) (t ∷ entries)) (fresh_tube name)
 entry_at name t entries true true e k fresh later rest = rw (k, e) refl
 entry_at name t entries true false e k fresh later rest =
-    grind (arith, common_steps, cases_Bool, same_name name t.name e, none_later t.name entries later, none_found)
+    grind (arith, same_name name t.name e, none_later t.name entries later, none_found)
 entry_at name t entries false true e k fresh later rest = rw (k, e) rest
 entry_at name t entries false false e k fresh later rest = rw (k, e) rest
 
@@ -126,9 +123,6 @@ record_of_entry name (t ∷ entries) order fresh =
     entry_at name t entries (is_same_name name t.name) (is_counted t) refl refl fresh.0 order.0 (record_of_entry name entries order.1 fresh.1)
 
 -- A name that is put at the place of the first one that doesn't come before it.
-one_more : (n : ℕ) → 1 + n ≡ suc n
-one_more n = omega arith
-
 module _ (name : List ℕ) where
   abbrev place : List (Bor (List ℕ)) → ℕ
   place names = prefix_len (λ other. is_name_before other.now name) names
@@ -141,7 +135,7 @@ module _ (name : List ℕ) where
     where
       go : (b : Bool) → is_name_before o.now name ≡ b → (is_named name (slice_get names (place names)) ≡ true → names_of names ≡ with_name (names_of names) name)
           → is_named name (slice_get (o ∷ names) (cond b (1 + place names) 0)) ≡ true → names_of (o ∷ names) ≡ with_name (names_of (o ∷ names)) name
-      go b e rest h = grind (arith, common_steps, one_more, not_same, not_before)
+      go b e rest h = grind (arith, not_before)
 
   -- or comes there.
   pub place_new : (x : Bor (List ℕ)) → x.now ≡ name → (names : List (Bor (List ℕ)))
@@ -154,10 +148,8 @@ module _ (name : List ℕ) where
           → (is_named name (slice_get names (place names)) ≡ false → names_of (insert names (place names) x) ≡ with_name (names_of names) name)
           → is_named name (slice_get (o ∷ names) (cond b (1 + place names) 0)) ≡ false
           → names_of (insert (o ∷ names) (cond b (1 + place names) 0) x) ≡ with_name (names_of (o ∷ names)) name
-      go true e rest h =
-          grind (arith, common_steps, cases_Bool, one_more (place names),
-          not_same o.now name (is_same_name name o.now) refl e, not_before o.now name e)
-      go false e rest h = grind (arith, common_steps, after, same_other)
+      go true e rest h = grind (arith, not_same o.now name (is_same_name name o.now) refl e, not_before o.now name e)
+      go false e rest h = grind (arith, after)
 
 -- a call that doesn't fail
 pub when_ok : {T E X : Type 0} (r : Result T E) (a b : X) → IsOk r → (if is_ok r then a else b) ≡ a

@@ -1,16 +1,15 @@
 -- What lies in the catalog of the tubes: entries found by their names.
-use Rattle.std.proofs.{Common.{◌&&◌, ◌+◌, ◌||◌, ◌∙◌, ◌∷◌, ◌≡◌, if◌then◌else◌, Bool, List, None, Option, Some, [], ℕ, ap, arith, cond, false, inl, inr, is_some, map, refl, suc, sym, true}, lemmas.Bool.cases_Bool}
+use Rattle.std.proofs.{Common.{◌&&◌, ◌+◌, ◌||◌, ◌∙◌, ◌∷◌, ◌≡◌, if◌then◌else◌, Bool, List, Option, Some, [], ℕ, ap, arith, cond, false, inl, inr, is_some, map, refl, suc, sym, true}, lemmas.Bool.cases_Bool}
+use Rattle.std.proofs.lemmas.{Bool.or_parts, Grind.common_steps}
 use Rattle.std.specs.{Borrow.Bor, BTreeMap.insert_entry, Cmp.Lexicographic.{nat_list_cmp_total, slice_cmp, texts_ties}, declared.cmp.Ordering.{Ordering, TheVariants.{Equal, Greater, Less}}}
 use Rattle.std.specs.{List.{AllByRecursion as All, insert, list_any, prefix_len, Sorted.IsStrictlySortedBy}, Map.{keys_of, lookup}, Option.option_map, Ordering.{is_eq, is_lt, match_ordering, nat_cmp, ordering_reverse}, Prelude.find}
-use Rattle.bq_job.specs.{machine.{TubeRecord, fresh_tube, is_name_before, with_record}, reading.TubeName.is_same_name}
 use Rattle.bq_index.specs.Order.{InOrder}
-use Rattle.bq_state.specs.declared.{known.Tally.Tally, tubes.entry.{Crowd.Crowd, TubeChange.{TubeChange, TheVariants.{CountDelete, CountPut, Pause}}}}
+use Rattle.bq_job.specs.{machine.{TubeRecord, fresh_tube, is_name_before, with_record}, reading.TubeName.is_same_name}
+use Rattle.bq_state.specs.declared.{known.Tally.Tally, tubes.entry.{Crowd.Crowd, TubeChange.TubeChange}}
 use Rattle.bq_state.specs.Crowds.{crowd_at, crowds_at, crowds_provided, no_crowd}
 use Rattle.bq_state.specs.KeptTubes.{KeptTube, KeptTubes, Named, crowd_by, crowd_kept, edited, fresh_entry, is_named_at, is_paused_by, kept_changed, record_at, record_of, tally_by, tally_kept}
 use Rattle.bq_state.specs.{Tallies.{tallies_at, tallies_provided, tally_at, tally_of}, TubeEntries.{AreInOrder, has_entry, provided, tube_changed}}
 use Rattle.bq_state.proofs.TubeLemmas.{changed_one, none_later, same_name}
-use Rattle.std.proofs.lemmas.Bool.{or_parts}
-use Rattle.std.proofs.lemmas.Grind.{common_steps}
 
 -- a look-up asks whether names are the same
 pub ties : (a b : List ℕ) → is_named_at a b ≡ is_same_name a b
@@ -43,7 +42,7 @@ module _ (name : List ℕ) where
 
   pub found_any : (es : List Named) → is_some (lookup (is_named_at name) es) ≡ has_entry name (map record_at es)
   found_any [] = refl
-  found_any (x ∷ es) = grind (arith, common_steps, cases_Bool, at, found_any es)
+  found_any (x ∷ es) = grind (arith, at, found_any es)
 
   -- by which it is told whether the tube is paused,
   pub found_pause : (es : List Named) → AreInOrder (map record_at es) → is_paused_by (lookup (is_named_at name) es) ≡ list_any (λ t. is_same_name name t.name && is_some t.pause) (map record_at es)
@@ -68,11 +67,11 @@ module _ (name : List ℕ) where
   -- and how many jobs it has.
   pub found_tally : (es : List Named) → tally_by (lookup (is_named_at name) es) ≡ tally_at name (map record_at es) (map tally_kept es)
   found_tally [] = refl
-  found_tally (x ∷ es) = grind (arith, common_steps, cases_Bool, at, found_tally es)
+  found_tally (x ∷ es) = grind (arith, at, found_tally es)
 
   pub found_crowd : (es : List Named) → crowd_by (lookup (is_named_at name) es) ≡ crowd_at name (map record_at es) (map crowd_kept es)
   found_crowd [] = refl
-  found_crowd (x ∷ es) = grind (arith, common_steps, cases_Bool, at, found_crowd es)
+  found_crowd (x ∷ es) = grind (arith, at, found_crowd es)
 
   -- Others stay.
   unchanged : (g : TubeRecord → TubeRecord) (ts : List TubeRecord) → has_entry name ts ≡ false → map (changed_one name g) ts ≡ ts
@@ -82,15 +81,12 @@ module _ (name : List ℕ) where
       rw parts.0 (ap (λ us. t ∷ us) (unchanged g ts parts.1))
 
   -- The value there is changed:
-  some_is : (a b : KeptTube) → Some a ≡ Some b → a ≡ b
-  some_is a b e = cc
-
   module _ (f : KeptTube → KeptTube) where
     edited_here : (x : Named) (es : List Named) → is_same_name name x.0 ≡ true → edited name f (lookup (is_named_at name) (x ∷ es)) (x ∷ es) ≡ (x.0, f x.1) ∷ es
     edited_here x es e = rw (at x.0 true e) (rw (at x.0 true e) refl)
 
     edited_past : (x : Named) (es : List Named) → is_same_name name x.0 ≡ false → edited name f (lookup (is_named_at name) (x ∷ es)) (x ∷ es) ≡ x ∷ edited name f (lookup (is_named_at name) es) es
-    edited_past x es e = grind (arith, common_steps, at)
+    edited_past x es e = grind (arith, at)
 
     -- the counts alone,
     pub edit_tally : (g : Tally → Tally) → ((t : KeptTube) → (f t).tally ≡ g t.tally) → (es : List Named)
@@ -119,11 +115,11 @@ module _ (name : List ℕ) where
     -- or all but these.
     pub edit_same_tallies : ((t : KeptTube) → (f t).tally ≡ t.tally) → (es : List Named) → map tally_kept (edited name f (lookup (is_named_at name) es) es) ≡ map tally_kept es
     edit_same_tallies same [] = refl
-    edit_same_tallies same (x ∷ es) = grind (arith, common_steps, cases_Bool, edit_same_tallies same es)
+    edit_same_tallies same (x ∷ es) = grind (arith, edit_same_tallies same es)
 
     pub edit_same_crowds : ((t : KeptTube) → (f t).crowd ≡ t.crowd) → (es : List Named) → map crowd_kept (edited name f (lookup (is_named_at name) es) es) ≡ map crowd_kept es
     edit_same_crowds same [] = refl
-    edit_same_crowds same (x ∷ es) = grind (arith, common_steps, cases_Bool, edit_same_crowds same es)
+    edit_same_crowds same (x ∷ es) = grind (arith, edit_same_crowds same es)
 
     pub edit_change : (g : TubeRecord → TubeRecord) → ((n : List ℕ) (t : KeptTube) → record_of n (f t) ≡ g (record_of n t)) → (es : List Named) → AreInOrder (map record_at es)
         → map record_at (edited name f (lookup (is_named_at name) es) es) ≡ map (changed_one name g) (map record_at es)
@@ -201,9 +197,6 @@ module _ (name : List ℕ) where
 
   pub new_crowd : (es : List Named) → has_entry name (map record_at es) ≡ false → map crowd_kept (insert_entry (slice_cmp nat_cmp) es name fresh_entry) ≡ crowds_provided name (map record_at es) (map crowd_kept es)
   new_crowd es none = crowd_new es none ∙ sym (ap (λ b. if b then map crowd_kept es else insert (map crowd_kept es) (place (records es)) no_crowd) none)
-
-  pub absent : (es : List Named) → is_some (lookup (is_named_at name) es) ≡ false → lookup (is_named_at name) es ≡ None
-  absent es h = grind (arith, common_steps)
 
 -- What happens to a tube changes its record.
 pub change_kept : (what : TubeChange) (name : List ℕ) (t : KeptTube) → record_of name (kept_changed what t) ≡ tube_changed what (record_of name t)

@@ -1,19 +1,18 @@
 -- What changes of the state keep.
-use Rattle.std.proofs.Common.{◌&&◌, ◌++◌, ◌+◌, ◌<◌, ◌==◌, ◌^◌, ◌||◌, ◌∙◌, ◌∷◌, ◌≡◌, ◌≤◌, if◌then◌else◌, Bool, List, None, Some, [], ℕ, ap, arith, false, get_or, inl, inr, length, map, refl, set, slice_get, subst, suc, sym, true, zero}
-use Rattle.std.proofs.{lemmas.{Bool.{and_from, and_parts, cases_Bool, eq-eqb, leb-false, ne_eqb, or_cases, or_left, or_right, Decides.nat_tests}, List.length-map, Option.slice_get-get_or}, Math.Bool.and-false}
-use Rattle.std.specs.{List.{AllByRecursion as All, Contains, list_any}, Prelude.{Err, IfOk, Ok, Result, filter, nat_le, nat_lt}}
-use Rattle.bq_job.specs.machine.{SeatRecord, TubeRecord, default_tube, empty_seat, fresh_tube, greatest, is_due, is_expired, is_seated_at, job_with, numbers, raised, seat_with, tube_after_timers, watches, watching, with_record}
+use Rattle.std.proofs.Common.{◌++◌, ◌+◌, ◌<◌, ◌==◌, ◌^◌, ◌||◌, ◌∙◌, ◌∷◌, ◌≡◌, ◌≤◌, if◌then◌else◌, Bool, List, None, Some, [], ℕ, ap, arith, false, get_or, inl, inr, length, map, refl, set, slice_get, subst, suc, sym, true, zero}
+use Rattle.std.proofs.lemmas.{Bool.{and_parts, cases_Bool, eq-eqb, ne_eqb, or_cases}, List.length-map, Option.slice_get-get_or}
+use Rattle.std.proofs.lemmas.Grind.{common_steps}
+use Rattle.std.specs.{List.{AllByRecursion as All, Contains, list_any}, Prelude.{filter, nat_le}}
+use Rattle.bq_job.specs.machine.{SeatRecord, TubeRecord, default_tube, empty_seat, fresh_tube, greatest, is_seated_at, job_with, numbers, raised, seat_with, tube_after_timers, watches, watching}
 use Rattle.bq_job.specs.{beside.AreIdsWithin, declared.job.Job.Job, reading.TubeName.is_same_name}
-use Rattle.bq_job.proofs.ListLemmas.{all_at, all_from_members, all_weaker, found_passes, list_any_with}
+use Rattle.bq_job.proofs.{LawfulLemmas.length_numbers, ListLemmas.{all_at, all_from_members, all_weaker, found_passes}}
 use Rattle.bq_jobs.specs.Kept.{Kept, with_added}
-use Rattle.bq_state.specs.declared.{core_parts.CoreParts.CoreParts, job_store.JobChange.{JobChange, TheVariants.{Bury, FireTimers, GiveBack, HandOut, Kick, Release, Touch}}}
-use Rattle.bq_state.specs.declared.{seats.SeatChange.{SeatChange, TheVariants.{Clear, Connect, End, StopWaiting, Use, Wait}}, tubes.entry.TubeChange.{TubeChange, TheVariants.{CountDelete, CountPut, Pause}}}
+use Rattle.bq_jobs.proofs.Changes.{low_below}
+use Rattle.bq_state.specs.declared.{core_parts.CoreParts.CoreParts, job_store.JobChange.JobChange}
+use Rattle.bq_state.specs.declared.{seats.SeatChange.SeatChange, tubes.entry.TubeChange.TubeChange}
 use Rattle.bq_state.specs.{JobChanges.changed, SeatChanges.{AreNumbered, has_tube_of, seat_changed, seat_changed_at}, Soundness.Soundness}
 use Rattle.bq_state.specs.TubeEntries.{AreEntries, AreInOrder, HasTubes, IsFreshUnlessCounted, counted, has_entry, is_counted, is_tube_of, provided, tube_changed, tube_changed_at}
 use Rattle.bq_state.proofs.TubeLemmas.{counted_inserted, entry_filtered, fresh_inserted, has_inserted, order_filtered, order_inserted, order_kept, same_entries, same_itself, same_name, still_has}
-use Rattle.bq_job.proofs.LawfulLemmas.{length_numbers}
-use Rattle.bq_jobs.proofs.Changes.{low_below}
-use Rattle.std.proofs.lemmas.Grind.{common_steps}
 
 -- what all elements have is kept where each change keeps it
 pub all_kept : {A : Type 0} (P : A → Type 0) (f : A → A) → ((x : A) → P x → P (f x)) → (xs : List A) → All P xs → All P (map f xs)
@@ -28,34 +27,30 @@ all_filtered {A = A} P p (x ∷ xs) all = kept (p x) (all_filtered P p xs all.1)
     kept : (b : Bool) → All P (filter p xs) → All P (if b then x ∷ filter p xs else filter p xs)
     kept b rest = grind (arith, common_steps)
 
-pub all_with : {A : Type 0} (P : A → Type 0) (xs : List A) (x : A) → All P xs → P x → All P (xs ++ x ∷ [])
-all_with P [] x all h = (h, tt)
-all_with P (y ∷ xs) x all h = (all.0, all_with P xs x all.1 h)
-
 pub same_id : (b : Bool) (x y : Job) (id : ℕ) → x.id ≡ id → y.id ≡ id → (if b then x else y).id ≡ id
 same_id b x y id h i = grind (arith, common_steps)
 
 -- nor gives it another id
 pub id_kept : (change : JobChange) (j : Job) → (changed change j).id ≡ j.id
-id_kept change j = grind (arith, common_steps, same_id)
+id_kept change j = grind (arith)
 
 pub entries_of_fewer : (p : Job → Bool) (jobs : List Job) (seats : List SeatRecord) (entries : List TubeRecord) → AreEntries jobs seats entries → AreEntries (filter p jobs) seats entries
-entries_of_fewer p jobs seats entries e = grind (arith, common_steps, all_filtered)
+entries_of_fewer p jobs seats entries e = grind (arith, all_filtered)
 
 pub all_added : (P : Job → Type 0) (j : Job) (jobs : List Job) → P j → All P jobs → All P (with_added j jobs)
 all_added P j [] h all = (h, tt)
-all_added P j (k ∷ jobs) h all = grind (arith, common_steps, all_added P j jobs h all.1)
+all_added P j (k ∷ jobs) h all = grind (arith, all_added P j jobs h all.1)
 
 pub entries_of_added : (j : Job) (jobs : List Job) (seats : List SeatRecord) (entries : List TubeRecord) → has_entry j.tube entries ≡ true → AreEntries jobs seats entries → AreEntries (with_added j jobs) seats entries
-entries_of_added j jobs seats entries h e = grind (arith, common_steps, all_added)
+entries_of_added j jobs seats entries h e = grind (arith, all_added)
 
 -- a job that is there has an entry, and its id was given
 pub has_of_job : (jobs : List Job) (seats : List SeatRecord) (entries : List TubeRecord) (id : ℕ) (j : Job) → AreEntries jobs seats entries → job_with id jobs ≡ Some j → has_entry j.tube entries ≡ true
-has_of_job jobs seats entries id j e found = grind (arith, common_steps, all_at, found_passes)
+has_of_job jobs seats entries id j e found = grind (arith, common_steps, found_passes)
 
 pub ids_below : (low next : ℕ) (jobs : List Job) → AreIdsWithin low jobs next → All (λ k. (low ≤ k.id) × (k.id < next)) jobs
 ids_below low next [] h = tt
-ids_below low next (k ∷ jobs) h = grind (arith, common_steps, low_below, all_weaker, ids_below (suc k.id) next jobs h.1)
+ids_below low next (k ∷ jobs) h = grind (arith, low_below, all_weaker, ids_below (suc k.id) next jobs h.1)
 pub given_of_job : (next id : ℕ) (jobs : List Job) (j : Job) → AreIdsWithin 1 jobs next → job_with id jobs ≡ Some j → (1 ≤ j.id) × (j.id < next)
 given_of_job next id jobs j ids found =
     all_at (λ k. (1 ≤ k.id) × (k.id < next)) jobs j (ids_below 1 next jobs ids) ((found_passes (λ k. k.id == id) jobs j found).1)
@@ -89,17 +84,11 @@ compared_sound st jobs same = grind (arith, common_steps)
 
 -- or where an id was given.
 pub sound_given : (st : CoreParts) → Soundness st.jobs.jobs st.seats.items st.tubes st.waiting st.known (st.next_id + 1) (nat_le 18446744073709551614 st.next_id)
-sound_given st = grind (arith, common_steps, leb-false, ids_further)
+sound_given st = grind (arith, ids_further)
 
 -- a change of a seat leaves it at tubes with entries
-seat_has : (entries : List TubeRecord) → has_entry default_tube entries ≡ true → (what : SeatChange) → has_tube_of what entries ≡ true → (s : SeatRecord) → HasTubes entries s → HasTubes entries (seat_changed what s)
-seat_has entries d what h s has = grind (arith, common_steps)
-
-one_has : (entries : List TubeRecord) (b : Bool) (x y : SeatRecord) → HasTubes entries x → HasTubes entries y → HasTubes entries (if b then x else y)
-one_has entries b x y h i = grind (arith, common_steps)
-
 pub entries_of_seat : (number : ℕ) (what : SeatChange) (jobs : List Job) (seats : List SeatRecord) (entries : List TubeRecord) → has_tube_of what entries ≡ true → AreEntries jobs seats entries → AreEntries jobs (map (seat_changed_at number what) seats) entries
-entries_of_seat number what jobs seats entries h e = grind (arith, common_steps, all_kept, one_has, seat_has)
+entries_of_seat number what jobs seats entries h e = grind (arith, all_kept)
 
 -- changes keep the numbers of seats
 pub number_kept : (what : SeatChange) (s : SeatRecord) → (seat_changed what s).number ≡ s.number
@@ -113,7 +102,7 @@ numbers_of_map f keeps [] = refl
 numbers_of_map f keeps (s ∷ seats) = rw (keeps s, numbers_of_map f keeps seats) refl
 
 pub numbered_after : (number : ℕ) (what : SeatChange) (seats : List SeatRecord) → AreNumbered seats → AreNumbered (map (seat_changed_at number what) seats)
-numbered_after number what seats h = grind (arith, common_steps, numbers_of_map, same_number, number_kept, length-map)
+numbered_after number what seats h = grind (arith, numbers_of_map, length-map)
 
 -- changes of tubes
 pub tube_name_kept : (what : TubeChange) (t : TubeRecord) → (tube_changed what t).name ≡ t.name
@@ -122,53 +111,45 @@ tube_name_kept what t = grind (arith, common_steps)
 pub raised_some : (n : ℕ) → 1 ≤ raised n
 raised_some n = omega arith
 
-not_zero : (n : ℕ) → (1 ≤ n) → (n == 0) ≡ false
-not_zero n h = grind (arith, nat_tests)
-
 pub tube_counts : (what : TubeChange) (t : TubeRecord) → is_counted (tube_changed what t) ≡ true
-tube_counts what t = grind (arith, common_steps, not_zero, raised_some, and-false)
+tube_counts what t = grind (arith)
 
 pub name_kept_at : (name : List ℕ) (what : TubeChange) (t : TubeRecord) → (tube_changed_at name what t).name ≡ t.name
-name_kept_at name what t = grind (arith, common_steps, tube_name_kept)
+name_kept_at name what t = grind (arith)
 
 fresh_at : (name : List ℕ) (what : TubeChange) (t : TubeRecord) → IsFreshUnlessCounted t → IsFreshUnlessCounted (tube_changed_at name what t)
-fresh_at name what t fresh = grind (arith, common_steps, tube_counts)
+fresh_at name what t fresh = grind (arith)
 
 -- entries whose names are the same
-has_as_before : (entries entries' : List TubeRecord) → ((name : List ℕ) → has_entry name entries ≡ true → has_entry name entries' ≡ true) → (s : SeatRecord) → HasTubes entries s → HasTubes entries' s
-has_as_before entries entries' still s has = grind (arith, common_steps, all_weaker)
-
 pub entries_of_other : (jobs : List Job) (seats : List SeatRecord) (entries entries' : List TubeRecord) → AreInOrder entries' → All IsFreshUnlessCounted entries' → ((name : List ℕ) → has_entry name entries ≡ true → has_entry name entries' ≡ true) → AreEntries jobs seats entries → AreEntries jobs seats entries'
-entries_of_other jobs seats entries entries' order fresh still e =
-    grind (arith, common_steps, all_weaker, has_as_before)
+entries_of_other jobs seats entries entries' order fresh still e = grind (arith, all_weaker)
 
 pub entries_of_tube : (name : List ℕ) (what : TubeChange) (jobs : List Job) (seats : List SeatRecord) (entries : List TubeRecord) → AreEntries jobs seats entries → AreEntries jobs seats (map (tube_changed_at name what) entries)
 entries_of_tube name what jobs seats entries e =
-    grind (arith, common_steps, entries_of_other, order_kept, name_kept_at, all_kept, fresh_at, same_entries)
+    grind (arith, entries_of_other, order_kept, name_kept_at, all_kept, fresh_at, same_entries)
 
 -- an entry is provided
 pub entries_provided : (name : List ℕ) (jobs : List Job) (seats : List SeatRecord) (entries : List TubeRecord) → AreEntries jobs seats entries → AreEntries jobs seats (provided name entries)
-entries_provided name jobs seats entries e =
-    grind (arith, common_steps, entries_of_other, order_inserted, fresh_inserted, still_has)
+entries_provided name jobs seats entries e = grind (arith, entries_of_other, order_inserted, fresh_inserted, still_has)
 
 pub counted_provided : (name : List ℕ) (entries : List TubeRecord) → counted (provided name entries) ≡ counted entries
-counted_provided name entries = grind (arith, common_steps, counted_inserted)
+counted_provided name entries = grind (arith, counted_inserted)
 
 pub has_provided : (name : List ℕ) (entries : List TubeRecord) → has_entry name (provided name entries) ≡ true
-has_provided name entries = grind (arith, common_steps, cases_Bool, has_inserted (fresh_tube name) entries)
+has_provided name entries = grind (arith, has_inserted (fresh_tube name) entries)
 
 -- Which tubes exist.
 job_is_in_tube : (jobs : List Job) (seats : List SeatRecord) (j : Job) → Contains jobs j → is_tube_of jobs seats j.tube ≡ true
-job_is_in_tube jobs seats j here = grind (arith, common_steps, or_left, or_right, list_any_with, same_itself)
+job_is_in_tube jobs seats j here = grind (arith, common_steps, same_itself)
 
 seat_is_at_tube : (jobs : List Job) (seats : List SeatRecord) (s : SeatRecord) (name : List ℕ) → Contains seats s → is_seated_at name s ≡ true → is_tube_of jobs seats name ≡ true
-seat_is_at_tube jobs seats s name here at = grind (arith, common_steps, or_right, list_any_with)
+seat_is_at_tube jobs seats s name here at = grind (arith, common_steps)
 
 used_at : (s : SeatRecord) → s.connected ≡ true → is_seated_at s.used s ≡ true
 used_at s c = rw (c, same_itself s.used) refl
 
 watched_at : (s : SeatRecord) (name : List ℕ) → s.connected ≡ true → Contains s.watched name → is_seated_at name s ≡ true
-watched_at s name c here = grind (arith, common_steps, and_from, or_right, list_any_with, same_itself)
+watched_at s name c here = grind (arith, common_steps, same_itself)
 
 passes_named : (jobs : List Job) (seats : List SeatRecord) (name : List ℕ) → is_tube_of jobs seats name ≡ true → (t : TubeRecord) → name ≡ t.name → is_tube_of jobs seats t.name ≡ true
 passes_named jobs seats name h t e = ap (is_tube_of jobs seats) (sym e) ∙ h
@@ -237,19 +218,19 @@ free_seats [] = tt
 free_seats (n ∷ ns) = (record { used = λ _. refl; watched = λ _. (refl, tt) }, free_seats ns)
 
 pub first_entries : (n : ℕ) → AreEntries [] (map empty_seat (numbers 0 n)) (fresh_tube default_tube ∷ [])
-first_entries n = grind (arith, common_steps, free_seats)
+first_entries n = grind (arith, free_seats)
 
 numbers_read : (ns : List ℕ) → map (λ s. s.number) (map empty_seat ns) ≡ ns
 numbers_read [] = refl
 numbers_read (n ∷ ns) = ap (λ ms. n ∷ ms) (numbers_read ns)
 
 pub first_numbered : (n : ℕ) → AreNumbered (map empty_seat (numbers 0 n))
-first_numbered n = grind (arith, common_steps, numbers_read, length-map, length_numbers)
+first_numbered n = grind (arith, numbers_read, length-map, length_numbers)
 
 -- the seat of a number stands at its place
 seat_at : (low : ℕ) (seats : List SeatRecord) (i : ℕ) (s : SeatRecord) → map (λ s. s.number) seats ≡ numbers low (length seats) → seat_with (low + i) seats ≡ Some s → slice_get seats i ≡ Some s
 seat_at low [] i s h found = absurd cc
-seat_at low (t ∷ seats) zero s h found = grind (arith, common_steps, eq-eqb)
+seat_at low (t ∷ seats) zero s h found = grind (arith)
 seat_at low (t ∷ seats) (suc i) s h found =
     let parts = heads h in
     let other : (t.number == low + suc i) ≡ false = ne_eqb t.number (low + suc i) (λ e. absurd (omega arith)) in
@@ -306,11 +287,11 @@ set_at_place low (t ∷ seats) (suc i) s f h found =
     next low i = omega arith
 
 pub changed_there : (seats : List SeatRecord) (i : ℕ) (s : SeatRecord) (f : SeatRecord → SeatRecord) → AreNumbered seats → slice_get seats i ≡ Some s → map (λ s. if s.number == i then f s else s) seats ≡ set seats i (f s)
-changed_there seats i s f h found = grind (arith, common_steps, nat_tests, set_at_place 0 seats i s f h found)
+changed_there seats i s f h found = grind (arith, set_at_place 0 seats i s f h found)
 
 read_at : (low : ℕ) (seats : List SeatRecord) (i : ℕ) (s : SeatRecord) → map (λ s. s.number) seats ≡ numbers low (length seats) → slice_get seats i ≡ Some s → seat_with (low + i) seats ≡ Some s
 read_at low [] i s h found = absurd cc
-read_at low (t ∷ seats) zero s h found = grind (arith, common_steps, eq-eqb)
+read_at low (t ∷ seats) zero s h found = grind (arith)
 read_at low (t ∷ seats) (suc i) s h found =
     let parts = heads h in
     let other : (t.number == low + suc i) ≡ false = ne_eqb t.number (low + suc i) (λ e. absurd (let a = parts.0 in omega arith)) in
@@ -324,7 +305,7 @@ read_at low (t ∷ seats) (suc i) s h found =
 
 -- a place of which the number is known
 pub seat_read : (seats : List SeatRecord) (i : ℕ) (s : SeatRecord) → AreNumbered seats → slice_get seats i ≡ Some s → seat_with i seats ≡ Some s
-seat_read seats i s h found = grind (arith, common_steps, read_at 0 seats i s h found)
+seat_read seats i s h found = grind (arith, read_at 0 seats i s h found)
 
 -- changes that keep the numbers
 mapped_numbered : (f : SeatRecord → SeatRecord) → ((s : SeatRecord) → (f s).number ≡ s.number) → (seats : List SeatRecord) → AreNumbered seats → AreNumbered (map f seats)
@@ -345,18 +326,14 @@ all_set P [] i y all h = tt
 all_set P (x ∷ xs) zero y all h = (h, all.1)
 all_set P (x ∷ xs) (suc i) y all h = (all.0, all_set P xs i y all.1 h)
 
-entries_of_set : (i : ℕ) (s : SeatRecord) (jobs : List Job) (seats : List SeatRecord) (entries : List TubeRecord) → HasTubes entries s → AreEntries jobs seats entries → AreEntries jobs (set seats i s) entries
-entries_of_set i s jobs seats entries has e = grind (arith, common_steps, all_set)
-
 pub watching_more : (name : List ℕ) (i : ℕ) (s : SeatRecord) (jobs : List Job) (seats : List SeatRecord) (entries : List TubeRecord) → slice_get seats i ≡ Some s → has_entry name entries ≡ true → AreEntries jobs seats entries → AreEntries jobs (set seats i (watching (s.watched ++ name ∷ []) s)) entries
-watching_more name i s jobs seats entries found h e = grind (arith, common_steps, all_read, entries_of_set, all_with)
+watching_more name i s jobs seats entries found h e = grind (arith, common_steps, all_read)
 
 pub watching_fewer : (p : List ℕ → Bool) (i : ℕ) (s : SeatRecord) (jobs : List Job) (seats : List SeatRecord) (entries : List TubeRecord) → slice_get seats i ≡ Some s → AreEntries jobs seats entries → AreEntries jobs (set seats i (watching (filter p s.watched) s)) entries
-watching_fewer p i s jobs seats entries found e = grind (arith, common_steps, all_read, entries_of_set, all_filtered)
+watching_fewer p i s jobs seats entries found e = grind (arith, common_steps, all_read, all_filtered)
 
 pub entries_of_timers : (moment : ℕ) (jobs : List Job) (seats : List SeatRecord) (entries : List TubeRecord) → AreEntries jobs seats entries → AreEntries jobs seats (map (tube_after_timers moment) entries)
-entries_of_timers moment jobs seats entries e =
-    grind (arith, common_steps, entries_of_other, order_kept, all_kept, same_entries)
+entries_of_timers moment jobs seats entries e = grind (arith, entries_of_other, order_kept, all_kept, same_entries)
 
 -- a place within a list is taken
 pub some_at : {A : Type 0} (xs : List A) (i : ℕ) → i < length xs → (x : A) × (slice_get xs i ≡ Some x)

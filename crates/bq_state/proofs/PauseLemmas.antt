@@ -1,26 +1,16 @@
 -- When the first of the pauses ends.
-use Rattle.std.proofs.{Common.{◌||◌, ◌∙◌, ◌∷◌, ◌≡◌, if◌then◌else◌, Bool, List, None, Option, Some, [], ℕ, ap, arith, false, map, min, refl, sym, true}, lemmas.Bool.Decides.nat_tests}
-use Rattle.std.specs.{List.list_any, Prelude.{fold, nat_le}}
-use Rattle.bq_job.specs.{beside.{dues_of_pause, earliest}, machine.{Pause as PauseOf, Pause as PauseRecord, TubeRecord, fresh_tube, is_name_before, pause_after_timers, tube_after_timers, with_record}, reading.TubeName.is_same_name}
+use Rattle.std.proofs.Common.{◌∷◌, ◌≡◌, if◌then◌else◌, Bool, List, None, Option, [], ℕ, arith, false, map, refl}
+use Rattle.std.proofs.lemmas.{Bool.or_parts, Grind.common_steps}
+use Rattle.std.specs.{List.list_any, Prelude.fold}
+use Rattle.bq_job.specs.{beside.{dues_of_pause, earliest}, machine.{TubeRecord, fresh_tube, is_name_before, tube_after_timers, with_record}, reading.TubeName.is_same_name}
 use Rattle.bq_job.proofs.ListLemmas.{all_of_filter, all_weaker, list_any_not, map_all_same, none_pass}
-use Rattle.bq_state.specs.declared.tubes.entry.TubeChange.{TubeChange, TheVariants.{CountDelete, CountPut, Pause}}
-use Rattle.bq_state.specs.{Dues.{earlier_of_both, first_pause_end, is_end_over, pause_end_after, with_tube_due}, TubeEntries.{counted, has_entry, is_counted, is_over, is_pause_over, provided, tube_changed, tube_changed_at}}
-use Rattle.std.proofs.lemmas.Bool.{or_parts}
+use Rattle.bq_state.specs.declared.tubes.entry.TubeChange.{TubeChange}
+use Rattle.bq_state.specs.{Dues.{earlier_of_both, first_pause_end, is_end_over, pause_end_after, with_tube_due}, TubeEntries.{counted, has_entry, is_pause_over, provided, tube_changed_at}}
 use Rattle.bq_state.proofs.WarningLemmas.{no_other}
-use Rattle.std.proofs.lemmas.Grind.{common_steps}
-use Rattle.std.proofs.lemmas.Bool.{cases_Bool}
 
 -- changes that keep the pauses
-same_ends : (f : TubeRecord → TubeRecord) → ((t : TubeRecord) → (f t).pause ≡ t.pause) → (entries : List TubeRecord) (best : Option ℕ) → fold with_tube_due best (map f entries) ≡ fold with_tube_due best entries
-same_ends f keeps [] best = refl
-same_ends f keeps (t ∷ entries) best =
-    grind (arith, common_steps, same_ends f keeps entries (earlier_of_both best (earliest (dues_of_pause t.pause))))
-
-same_pause : (b : Bool) (x y : TubeRecord) → x.pause ≡ y.pause → (if b then x else y).pause ≡ y.pause
-same_pause b x y h = grind (arith, common_steps)
-
 pub end_after_change : (name : List ℕ) (what : TubeChange) (entries : List TubeRecord) (last : Option ℕ) → last ≡ first_pause_end entries → pause_end_after (map (tube_changed_at name what) entries) what last ≡ first_pause_end (map (tube_changed_at name what) entries)
-end_after_change name what entries last h = grind (arith, common_steps, same_ends, same_pause)
+end_after_change name what entries last h = grind (arith, common_steps)
 
 -- a new entry has no pause
 fresh_adds_none : (name : List ℕ) (entries : List TubeRecord) (best : Option ℕ) → has_entry name entries ≡ false → fold with_tube_due best (with_record (fresh_tube name) entries) ≡ fold with_tube_due best entries
@@ -30,31 +20,23 @@ fresh_adds_none name (t ∷ entries) best h =
     rw parts.0 (go (is_name_before name t.name) (fresh_adds_none name entries (earlier_of_both best (earliest (dues_of_pause t.pause))) parts.1))
   where
     go : (b : Bool) → fold with_tube_due best (t ∷ with_record (fresh_tube name) entries) ≡ fold with_tube_due best (t ∷ entries) → fold with_tube_due best (if b then fresh_tube name ∷ t ∷ entries else t ∷ with_record (fresh_tube name) entries) ≡ fold with_tube_due best (t ∷ entries)
-    go b rest = grind (arith, common_steps, no_other)
+    go b rest = grind (arith)
 
 pub end_provided : (name : List ℕ) (entries : List TubeRecord) → first_pause_end (provided name entries) ≡ first_pause_end entries
-end_provided name entries = grind (arith, common_steps, fresh_adds_none)
+end_provided name entries = grind (arith, fresh_adds_none)
 
 -- Where the first end is yet to come, no pause is over.
-both_to_come : (moment : ℕ) (a b : Option ℕ) → is_end_over moment (earlier_of_both a b) ≡ false → (is_end_over moment a ≡ false) × (is_end_over moment b ≡ false)
-both_to_come moment a b h = grind (arith, common_steps)
-
-not_over : (moment : ℕ) (p : Option PauseRecord) → is_end_over moment (earliest (dues_of_pause p)) ≡ false → is_over moment p ≡ false
-not_over moment p h = grind (arith, common_steps)
-
 all_to_come : (moment : ℕ) (best : Option ℕ) (entries : List TubeRecord) → is_end_over moment (fold with_tube_due best entries) ≡ false → (is_end_over moment best ≡ false) × (list_any (is_pause_over moment) entries ≡ false)
 all_to_come moment best [] h = (h, refl)
 all_to_come moment best (t ∷ entries) h =
-    grind (arith, common_steps, both_to_come, not_over,
-    all_to_come moment (earlier_of_both best (earliest (dues_of_pause t.pause))) entries h)
+    grind (arith, all_to_come moment (earlier_of_both best (earliest (dues_of_pause t.pause))) entries h)
 
 pub none_over : (moment : ℕ) (entries : List TubeRecord) → is_end_over moment (first_pause_end entries) ≡ false → list_any (is_pause_over moment) entries ≡ false
 none_over moment entries h = (all_to_come moment None entries h).1
 
 -- no pause is over
 pub none_counted : (moment : ℕ) (entries : List TubeRecord) → list_any (is_pause_over moment) entries ≡ false → list_any (is_pause_over moment) (counted entries) ≡ false
-none_counted moment entries h = grind (arith, common_steps, list_any_not, all_weaker, all_of_filter, none_pass)
+none_counted moment entries h = grind (arith, list_any_not, all_weaker, all_of_filter, none_pass)
 
 pub no_pause_ends : (moment : ℕ) (tubes : List TubeRecord) → list_any (is_pause_over moment) tubes ≡ false → map (tube_after_timers moment) tubes ≡ tubes
-no_pause_ends moment tubes h =
-    grind (arith, common_steps, cases_Bool, map_all_same, all_weaker, none_pass (is_pause_over moment) tubes h)
+no_pause_ends moment tubes h = grind (arith, map_all_same, all_weaker, none_pass (is_pause_over moment) tubes h)

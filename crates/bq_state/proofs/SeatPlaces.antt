@@ -1,15 +1,14 @@
 -- Seats that are numbered in order are found by their places.
-use Rattle.std.proofs.Common.{◌++◌, ◌+◌, ◌<◌, ◌==◌, ◌∙◌, ◌∷◌, ◌≡◌, ◌≤◌, if◌then◌else◌, List, None, Option, Some, [], ℕ, add-one, ap, arith, false, get_or, length, map, refl, slice_get, suc, sym, zero}
+use Rattle.std.proofs.Common.{◌++◌, ◌+◌, ◌<◌, ◌==◌, ◌∙◌, ◌∷◌, ◌≡◌, ◌≤◌, if◌then◌else◌, List, None, Option, Some, [], ℕ, ap, arith, false, get_or, length, map, refl, slice_get, suc, sym, zero}
 use Rattle.std.proofs.lemmas.{Bool.ne_eqb, List.map-append, Option.{slice_get_past, slice_get_read}}
 use Rattle.std.specs.{Borrow.Bor, List.HoldsAt, Option.{IfSome, MatchOption, option_copied}}
 use Rattle.bq_job.specs.machine.{SeatRecord, empty_seat, numbers, seat_with}
 use Rattle.bq_state.specs.SeatChanges.{AreNumbered}
 use Rattle.bq_state.proofs.PartsLemmas.{seat_read, seat_there}
-use Rattle.std.proofs.lemmas.Grind.{common_steps}
 
 -- what stands at the place of a number is the seat of that number, if there is one
 pub place_is_seat : (seats : List SeatRecord) (i : ℕ) → AreNumbered seats → slice_get seats i ≡ seat_with i seats
-place_is_seat seats i h = grind (arith, common_steps, seat_read, seat_there)
+place_is_seat seats i h = grind (arith, seat_read, seat_there)
 
 -- what a look at that place finds
 pub found_there : (seats : List SeatRecord) (i : ℕ) (found : Option (Bor SeatRecord)) → AreNumbered seats → IfSome found (λ s. s.now ≡ get_or seats i s.now)
@@ -34,4 +33,4 @@ numbers_more low zero = ap (λ k. k ∷ []) (omega arith)
 numbers_more low (suc n) = ap (λ ns. low ∷ ns) (numbers_more (suc low) n ∙ ap (λ k. numbers (suc low) n ++ k ∷ []) (omega arith))
 
 pub places_more : (n : ℕ) → map empty_seat (numbers 0 (n + 1)) ≡ map empty_seat (numbers 0 n) ++ empty_seat n ∷ []
-places_more n = grind (arith, common_steps, add-one, numbers_more, map-append)
+places_more n = grind (arith, numbers_more, map-append)

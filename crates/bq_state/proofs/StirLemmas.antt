@@ -1,18 +1,17 @@
 -- What is known of the jobs that waiting clients may have.
 use Rattle.std.proofs.{Common.{◌&&◌, ◌==◌, ◌||◌, ◌∙◌, ◌∷◌, ◌≡◌, if◌then◌else◌, Bool, List, None, Option, Some, [], ℕ, ap, false, filter, find, inl, inr, is_some, map, not, refl, set, slice_get, subst, sym, true}, lemmas.Bool.cases_Bool}
+use Rattle.std.proofs.{Common.arith, lemmas.Grind.common_steps}
 use Rattle.std.specs.{List.{AllByRecursion as All, Contains, list_any}, Prelude.unwrap_or}
 use Rattle.bq_job.specs.declared.job.Job.{Job}
-use Rattle.bq_job.specs.machine.{Pause, SeatRecord, TubeRecord, default_tube, forgetting, fresh_tube, is_job_before, is_name_before, is_paused, is_ready, is_tube, is_waiting, is_waiting_for, later, next_job, tube_record, watches, watching}
+use Rattle.bq_job.specs.machine.{Pause, SeatRecord, TubeRecord, forgetting, fresh_tube, is_job_before, is_name_before, is_paused, is_ready, is_tube, is_waiting, is_waiting_for, later, next_job, tube_record, watches, watching}
 use Rattle.bq_job.specs.{machine.{with_delete, with_pause, with_put, with_record, with_tube, Machine.Machine}, reading.TubeName.is_same_name}
-use Rattle.bq_job.proofs.{ChoiceLemmas.{first_of_none, first_of_none_passes}, ListLemmas.{all_always, all_at, all_from_members, all_of_map, all_weaker, find_in_filter, found_passes, list_any_not, list_any_with, none_pass}}
+use Rattle.bq_job.proofs.{ChoiceLemmas.{first_of_none, first_of_none_passes}, ListLemmas.{all_always, all_at, all_from_members, all_of_map, all_weaker, find_in_filter, found_passes, list_any_not, none_pass}}
 use Rattle.bq_jobs.specs.Kept.{with_added}
-use Rattle.bq_state.specs.declared.{known.Stir.{Stir, TheVariants.{Any, Client, Nothing, Tube}}, seats.SeatChange.{SeatChange, TheVariants.{Clear, Connect, End, StopWaiting, Use, Wait}}}
+use Rattle.bq_state.specs.declared.{known.Stir.{Stir, TheVariants.{Any, Client, Nothing, Tube}}, seats.SeatChange.SeatChange}
 use Rattle.bq_state.specs.declared.tubes.entry.TubeChange.{TubeChange, TheVariants.{CountDelete, CountPut, Pause as PauseFor}}
-use Rattle.bq_state.specs.{Crowds.is_waiter, SeatChanges.{seat_changed, seat_changed_at}}
-use Rattle.bq_state.specs.{Stirs.{AreKnown, IsKnown, is_nothing, is_paused_by, is_wanted_by, may_get, stirred_by_change, stirred_by_seat, with_anything, with_asker, with_stirred}, TubeEntries.tube_changed}
+use Rattle.bq_state.specs.{Crowds.is_waiter, SeatChanges.seat_changed_at}
+use Rattle.bq_state.specs.{Stirs.{AreKnown, IsKnown, is_nothing, is_paused_by, is_wanted_by, may_get, stirred_by_change, stirred_by_seat, with_anything, with_stirred}, TubeEntries.tube_changed}
 use Rattle.bq_state.proofs.{PartsLemmas.{all_added, all_read, all_set}, TubeLemmas.{same_itself, same_name}}
-use Rattle.std.proofs.lemmas.Grind.{common_steps}
-use Rattle.std.proofs.Common.{arith}
 
 -- what could be had can be had yet
 still_stirred : (name : List ℕ) (stir : Stir) (tube : List ℕ) (seat : ℕ) → may_get stir tube seat ≡ true → may_get (with_stirred name stir) tube seat ≡ true
@@ -25,13 +24,7 @@ still_stirred name (Client asker) tube seat h = refl
 still_stirred name Any tube seat h = refl
 
 now_stirred : (name : List ℕ) (stir : Stir) (seat : ℕ) → may_get (with_stirred name stir) name seat ≡ true
-now_stirred name stir seat = grind (arith, common_steps, same_itself, cases_Bool)
-
-still_asked : (number : ℕ) (stir : Stir) (tube : List ℕ) (seat : ℕ) → may_get stir tube seat ≡ true → may_get (with_asker number stir) tube seat ≡ true
-still_asked number stir tube seat h = grind (arith, common_steps)
-
-now_asked : (number : ℕ) (stir : Stir) (tube : List ℕ) (seat : ℕ) → (seat == number) ≡ true → may_get (with_asker number stir) tube seat ≡ true
-now_asked number stir tube seat h = grind (arith, common_steps)
+now_stirred name stir seat = grind (arith, same_itself)
 
 -- what is known of each job and client after a change
 known_then : (stir stir' : Stir) (jobs : List Job) (seats : List SeatRecord) (tubes tubes' : List TubeRecord)
@@ -50,7 +43,7 @@ parts_of tubes j s h = wanted_parts (is_waiting s) (is_ready j) (watches j.tube 
 -- a pause that goes on leaves no job to be had
 paused_then : (stir stir' : Stir) (tubes tubes' : List TubeRecord) (j : Job) (s : SeatRecord) → (may_get stir j.tube s.number ≡ true → may_get stir' j.tube s.number ≡ true)
     → (is_paused_by tubes j.tube ≡ true → is_paused_by tubes' j.tube ≡ true) → IsKnown stir tubes j s → IsKnown stir' tubes' j s
-paused_then stir stir' tubes tubes' j s more stays known wanted = grind (arith, common_steps, parts_of)
+paused_then stir stir' tubes tubes' j s more stays known wanted = grind (arith)
 
 pub known_any : (jobs : List Job) (seats : List SeatRecord) (tubes : List TubeRecord) → AreKnown Any jobs seats tubes
 known_any jobs seats tubes = all_always (λ j. All (IsKnown Any tubes j) seats) jobs (λ j. all_always (IsKnown Any tubes j) seats (λ s w. refl))
@@ -82,36 +75,22 @@ pub known_added : (j : Job) (stir : Stir) (jobs : List Job) (seats : List SeatRe
     → AreKnown (if is_ready j && list_any (is_waiter j.tube) seats then with_stirred j.tube stir else stir) (with_added j jobs) seats tubes
 known_added j stir jobs seats tubes known = go (is_ready j && list_any (is_waiter j.tube) seats) refl
   where
-    both : (b c : Bool) → b ≡ true → c ≡ true → (b && c) ≡ false → false ≡ true
-    both b c e f h = grind (arith, common_steps)
-
-    waiter : (b c : Bool) → b ≡ true → c ≡ true → (b && c) ≡ true
-    waiter b c e f = grind (arith, common_steps)
-
     unwanted : (is_ready j && list_any (is_waiter j.tube) seats) ≡ false → (s : SeatRecord) → Contains seats s → IsKnown stir tubes j s
-    unwanted none s c wanted = grind (arith, common_steps, parts_of, list_any_with)
+    unwanted none s c wanted = grind (arith, common_steps)
 
     go : (b : Bool) → (is_ready j && list_any (is_waiter j.tube) seats) ≡ b → AreKnown (if b then with_stirred j.tube stir else stir) (with_added j jobs) seats tubes
-    go true e = grind (arith, common_steps, all_added, all_always, now_stirred, known_then, still_stirred)
+    go true e = grind (arith, all_added, all_always, now_stirred, known_then, still_stirred)
     go false e = all_added (λ k. All (IsKnown stir tubes k) seats) j jobs (all_from_members (IsKnown stir tubes j) seats (unwanted e)) known
 
 -- a seat is changed
-still_by_seat : (number : ℕ) (what : SeatChange) (stir : Stir) (tube : List ℕ) (seat : ℕ) → may_get stir tube seat ≡ true → may_get (stirred_by_seat number what stir) tube seat ≡ true
-still_by_seat number what stir tube seat h = grind (arith, common_steps, still_asked)
-
-known_changed : (number : ℕ) (what : SeatChange) (stir : Stir) (tubes : List TubeRecord) (j : Job) (s : SeatRecord) → (s.number == number) ≡ true → IsKnown stir tubes j s → IsKnown (stirred_by_seat number what stir) tubes j (seat_changed what s)
-known_changed number what stir tubes j s e known = grind (arith, common_steps, now_asked)
-
 pub known_of_seat : (number : ℕ) (what : SeatChange) (stir : Stir) (jobs : List Job) (seats : List SeatRecord) (tubes : List TubeRecord) → AreKnown stir jobs seats tubes
     → AreKnown (stirred_by_seat number what stir) jobs (map (seat_changed_at number what) seats) tubes
-known_of_seat number what stir jobs seats tubes known =
-    grind (arith, common_steps, all_weaker, all_of_map, known_changed, still_by_seat)
+known_of_seat number what stir jobs seats tubes known = grind (arith, all_weaker, all_of_map)
 
 -- a client watches other tubes: any job may be had if it waits
 pub known_watching : (names : List (List ℕ)) (i : ℕ) (s : SeatRecord) (stir : Stir) (jobs : List Job) (seats : List SeatRecord) (tubes : List TubeRecord) → AreKnown stir jobs seats tubes
     → AreKnown (if is_waiting s then with_anything stir else stir) jobs (set seats i (watching names s)) tubes
-known_watching names i s stir jobs seats tubes known =
-    grind (arith, common_steps, parts_of, known_any, all_weaker, all_set)
+known_watching names i s stir jobs seats tubes known = grind (arith, all_weaker, all_set)
 
 -- a client watches fewer
 any_left : (p q : List ℕ → Bool) (names : List (List ℕ)) → list_any p (filter q names) ≡ true → list_any p names ≡ true
@@ -128,7 +107,7 @@ known_ignoring q i s stir jobs seats tubes here known =
     (λ j all. all_set (IsKnown stir tubes j) seats i (watching (filter q s.watched) s) all (fewer j (all_read (IsKnown stir tubes j) seats i s all here))) known
   where
     fewer : (j : Job) → IsKnown stir tubes j s → IsKnown stir tubes j (watching (filter q s.watched) s)
-    fewer j k w = grind (arith, common_steps, parts_of, any_left)
+    fewer j k w = grind (arith, any_left)
 
 -- a record whose pause ends none leaves all tubes paused
 paused_kept : (name : List ℕ) (t : TubeRecord) (tubes : List TubeRecord) → (is_same_name name t.name ≡ true → is_some (unwrap_or (find (λ u. is_same_name name u.name) tubes) (fresh_tube name)).pause ≡ true → is_some t.pause ≡ true)
@@ -203,9 +182,5 @@ known_forgotten m stir known =
     (λ j c s k. subst (λ (p : Option TubeRecord). (is_waiting s && (is_ready j && watches j.tube s && not (is_some (unwrap_or p (fresh_tube j.tube)).pause))) ≡ true → may_get stir j.tube s.number ≡ true)
     (sym (find_in_filter (λ t. is_same_name j.tube t.name) (λ t. is_tube t.name m) m.tubes (all_always (λ t. is_same_name j.tube t.name ≡ true → is_tube t.name m ≡ true) m.tubes (λ t e. stays j c t e)))) k) known
   where
-    or_middle : (a b c : Bool) → b ≡ true → (a || b || c) ≡ true
-    or_middle a b c e = grind (arith, common_steps)
-
     stays : (j : Job) → Contains m.jobs j → (t : TubeRecord) → is_same_name j.tube t.name ≡ true → is_tube t.name m ≡ true
-    stays j c t e =
-        grind (arith, common_steps, cases_Bool, list_any_with, same_name j.tube t.name e, same_itself t.name)
+    stays j c t e = grind (arith, common_steps, same_name j.tube t.name e)

@@ -1,13 +1,11 @@
 -- Counts of jobs, once a job comes or goes.
-use Rattle.std.proofs.{Common.{◌+◌, ◌∙◌, ◌∷◌, ◌≡◌, ◌≤◌, Bool, List, Some, [], ℕ, ap, arith, cond, false, filter, inl, inr, length, refl, sym, true}, lemmas.{Bool.cases_Bool, List.Sums.count_by-le-length}}
-use Rattle.std.specs.Prelude.{◌&&◌, count_by}
+use Rattle.std.proofs.Common.{◌+◌, ◌∙◌, ◌∷◌, ◌≡◌, ◌≤◌, Bool, List, Some, [], ℕ, ap, arith, cond, false, filter, length, refl, sym, true}
+use Rattle.std.proofs.{Common.{◌&&◌, count_by}, lemmas.Grind.common_steps}
 use Rattle.bq_job.specs.declared.job.Job.{Job}
 use Rattle.bq_job.specs.{beside.AreIdsWithin, machine.{greatest, is_buried, is_delayed, is_ready, is_reserved, is_urgent, job_with}}
-use Rattle.bq_job.proofs.ListLemmas.{count_cons}
 use Rattle.bq_jobs.specs.Kept.{with_added, without}
 use Rattle.bq_jobs.proofs.Changes.{count_added, count_without as count_taken}
 use Rattle.bq_state.specs.Tallies.{count_with, count_without, tally_of, tally_with, tally_without}
-use Rattle.std.proofs.lemmas.Grind.{common_steps}
 
 -- a count, once one more is counted,
 pub with_is : (counts : Bool) (n : ℕ) → cond counts 1 0 + n ≤ greatest → count_with counts n ≡ cond counts 1 0 + n
@@ -28,17 +26,15 @@ module _ (chosen passes : Job → Bool) where
   -- how many of those that are chosen pass
   both_count : (jobs : List Job) → count_by passes (filter chosen jobs) ≡ count_by (λ k. chosen k && passes k) jobs
   both_count [] = refl
-  both_count (j ∷ jobs) =
-      grind (arith, common_steps, cases_Bool, count_cons, counts_chosen, counts_other, both_count jobs)
+  both_count (j ∷ jobs) = grind (arith, common_steps, both_count jobs)
 
   some_added : (j : Job) (jobs : List Job) → length (with_added j jobs) ≤ greatest → chosen j ≡ true
       → count_by passes (filter chosen (with_added j jobs)) ≡ count_with (passes j) (count_by passes (filter chosen jobs))
-  some_added j jobs fits e =
-      grind (arith, common_steps, both_count, count_added, counts_chosen, count_by-le-length, with_is)
+  some_added j jobs fits e = grind (arith, common_steps, both_count, count_added)
 
   none_added : (j : Job) (jobs : List Job) → chosen j ≡ false
       → count_by passes (filter chosen (with_added j jobs)) ≡ count_by passes (filter chosen jobs)
-  none_added j jobs e = grind (arith, common_steps, both_count, count_added, counts_other)
+  none_added j jobs e = grind (arith, both_count, count_added)
 
   module _ (low next id : ℕ) (j : Job) (jobs : List Job) (ids : AreIdsWithin low jobs next) (found : job_with id jobs ≡ Some j) where
     some_taken : chosen j ≡ true → count_by passes (filter chosen (without id jobs)) ≡ count_without (passes j) (count_by passes (filter chosen jobs))
@@ -56,12 +52,12 @@ module _ (chosen passes : Job → Bool) where
 -- The counts of chosen jobs, once one of them comes,
 pub tally_added : (chosen : Job → Bool) (j : Job) (jobs : List Job) → length (with_added j jobs) ≤ greatest → chosen j ≡ true
     → tally_of (filter chosen (with_added j jobs)) ≡ tally_with j (tally_of (filter chosen jobs))
-tally_added chosen j jobs fits e = grind (arith, common_steps, some_added)
+tally_added chosen j jobs fits e = grind (arith, some_added)
 
 -- or another one comes,
 pub tally_stays_added : (chosen : Job → Bool) (j : Job) (jobs : List Job) → chosen j ≡ false
     → tally_of (filter chosen (with_added j jobs)) ≡ tally_of (filter chosen jobs)
-tally_stays_added chosen j jobs e = grind (arith, common_steps, none_added)
+tally_stays_added chosen j jobs e = grind (arith, none_added)
 
 -- one of them goes,
 pub tally_taken : (chosen : Job → Bool) (low next id : ℕ) (j : Job) (jobs : List Job) → AreIdsWithin low jobs next → job_with id jobs ≡ Some j
@@ -96,5 +92,4 @@ whole_added j jobs fits =
 
 pub whole_taken : (low next id : ℕ) (j : Job) (jobs : List Job) → AreIdsWithin low jobs next → job_with id jobs ≡ Some j
     → tally_of (without id jobs) ≡ tally_without j (tally_of jobs)
-whole_taken low next id j jobs ids found =
-    grind (arith, common_steps, cases_Bool, all_chosen (without id jobs), tally_taken, all_chosen jobs)
+whole_taken low next id j jobs ids found = grind (arith, all_chosen (without id jobs), tally_taken, all_chosen jobs)

@@ -1,15 +1,14 @@
 -- The counts of tubes stand at the places of their entries.
-use Rattle.std.proofs.{Common.{◌+◌, ◌||◌, ◌∙◌, ◌∷◌, ◌≡◌, ◌≤◌, Bool, List, Some, [], ℕ, ap, arith, false, inl, inr, length, map, refl, sym, true}, lemmas.{Bool.{cases_Bool, lt-ltb, or_left, or_right}, List.{drop-map, map-append, take-map}}}
-use Rattle.std.specs.{Cmp.Lexicographic.bytes_decides, List.{AllByRecursion as All, insert, list_any, prefix_len}, Prelude.{◌++◌, count_by, drop, filter, nat_lt, take}}
-use Rattle.bq_job.specs.declared.job.{Job.Job, JobState.JobState}
-use Rattle.bq_job.specs.declared.job.JobState.TheVariants as states
-use Rattle.bq_job.specs.{beside.AreIdsWithin, machine.{TubeRecord, fresh_tube, greatest, is_buried, is_delayed, is_name_before, is_ready, is_ready_state, is_reserved, job_with}, reading.TubeName.is_same_name}
-use Rattle.bq_job.proofs.{ListLemmas.count_cons, NameOrderLemmas.not_same}
+use Rattle.std.proofs.{Common.{◌∙◌, ◌∷◌, ◌≡◌, ◌≤◌, Bool, List, Some, [], ℕ, ap, arith, false, inl, inr, length, map, refl, sym, true}, lemmas.{Bool.cases_Bool, List.{drop-map, map-append, take-map}}}
+use Rattle.std.proofs.lemmas.Grind.{common_steps}
+use Rattle.std.specs.{Cmp.Lexicographic.bytes_decides, List.{AllByRecursion as All, insert, list_any}, Prelude.filter}
+use Rattle.bq_job.specs.declared.job.Job.{Job}
+use Rattle.bq_job.specs.{beside.AreIdsWithin, machine.{TubeRecord, greatest, is_name_before, job_with}, reading.TubeName.is_same_name}
+use Rattle.bq_job.proofs.NameOrderLemmas.{not_same}
 use Rattle.bq_jobs.specs.Kept.{with_added, without}
 use Rattle.bq_state.specs.declared.known.Tally.{Tally}
 use Rattle.bq_state.specs.{Tallies.{AreCounted, has_jobs, tallies_at, tallies_of, tallies_provided, tallies_with, tallies_without, tally_at, tally_in, tally_of, tally_with, tally_without}, TubeEntries.{AreInOrder, has_entry, provided}}
 use Rattle.bq_state.proofs.{TallyLemmas.{tally_added, tally_stays_added, tally_stays_taken, tally_taken, whole_added, whole_taken}, TubeLemmas.provided_new}
-use Rattle.std.proofs.lemmas.Grind.{common_steps}
 
 module _ (j : Job) (old new : List Job) (f : Tally → Tally)
     (here : (t : TubeRecord) → is_same_name t.name j.tube ≡ true → tally_in new t ≡ f (tally_in old t))
@@ -18,8 +17,7 @@ module _ (j : Job) (old new : List Job) (f : Tally → Tally)
   later_stay : (t : TubeRecord) → j.tube ≡ t.name → (es : List TubeRecord) → All (λ u. is_name_before t.name u.name ≡ true) es → tallies_of old es ≡ tallies_of new es
   later_stay t is [] all = refl
   later_stay t is (u ∷ es) all =
-      grind (arith, common_steps, cases_Bool, not_same t.name u.name (is_same_name u.name t.name) refl all.0,
-      later_stay t is es all.1, all.0, all.1)
+      grind (arith, not_same t.name u.name (is_same_name u.name t.name) refl all.0, later_stay t is es all.1)
 
   pub followed : (es : List TubeRecord) → AreInOrder es → tallies_at j.tube f es (tallies_of old es) ≡ tallies_of new es
   followed [] order = refl
@@ -54,7 +52,7 @@ tallies_taken low next id j jobs ids found = followed j jobs (without id jobs) (
 -- the counts of a tube hang on its name alone
 same_tallies : (f : TubeRecord → TubeRecord) → ((t : TubeRecord) → (f t).name ≡ t.name) → (jobs : List Job) (es : List TubeRecord) → tallies_of jobs es ≡ tallies_of jobs (map f es)
 same_tallies f same jobs [] = refl
-same_tallies f same jobs (t ∷ es) = grind (arith, common_steps, same_tallies f same jobs es)
+same_tallies f same jobs (t ∷ es) = grind (arith, same_tallies f same jobs es)
 
 pub counted_kept : (f : TubeRecord → TubeRecord) → ((t : TubeRecord) → (f t).name ≡ t.name) → (tally : Tally) (tallies : List Tally) (jobs : List Job) (es : List TubeRecord)
     → AreCounted tally tallies jobs es → AreCounted tally tallies jobs (map f es)
@@ -73,7 +71,7 @@ no_job_there name (j ∷ jobs) es none all =
     ]
 
 inserted_tallies : (jobs : List Job) (es : List TubeRecord) (n : ℕ) (x : TubeRecord) → insert (tallies_of jobs es) n (tally_in jobs x) ≡ tallies_of jobs (insert es n x)
-inserted_tallies jobs es n x = grind (arith, common_steps, take-map, drop-map, map-append)
+inserted_tallies jobs es n x = grind (arith, take-map, drop-map, map-append)
 
 pub counted_provided : (name : List ℕ) (tally : Tally) (tallies : List Tally) (jobs : List Job) (es : List TubeRecord) → All (λ j. has_entry j.tube es ≡ true) jobs
     → AreCounted tally tallies jobs es → AreCounted tally (tallies_provided name es tallies) jobs (provided name es)
@@ -81,32 +79,26 @@ counted_provided name tally tallies jobs es all was = record { whole = was.whole
   where
     go : (b : Bool) → has_entry name es ≡ b → tallies_provided name es (tallies_of jobs es) ≡ tallies_of jobs (provided name es)
     go true e = rw e refl
-    go false e =
-        grind (arith, common_steps, cases_Bool, no_job_there name jobs es e all, inserted_tallies,
-        provided_new name es e)
+    go false e = grind (arith, no_job_there name jobs es e all, inserted_tallies, provided_new name es e)
 
 -- a job comes,
 pub counted_added : (j : Job) (tally : Tally) (tallies : List Tally) (jobs : List Job) (es : List TubeRecord) → length (with_added j jobs) ≤ greatest → AreInOrder es
     → AreCounted tally tallies jobs es → AreCounted (tally_with j tally) (tallies_with j es tallies) (with_added j jobs) es
-counted_added j tally tallies jobs es fits order was = grind (arith, common_steps, whole_added, tallies_added)
+counted_added j tally tallies jobs es fits order was = grind (arith, whole_added, tallies_added)
 
 -- or goes
 pub counted_taken : (low next id : ℕ) (j : Job) (tally : Tally) (tallies : List Tally) (jobs : List Job) (es : List TubeRecord)
     → AreIdsWithin low jobs next → job_with id jobs ≡ Some j → AreInOrder es
     → AreCounted tally tallies jobs es → AreCounted (tally_without j tally) (tallies_without j es tallies) (without id jobs) es
-counted_taken low next id j tally tallies jobs es ids found order was =
-    grind (arith, common_steps, whole_taken, tallies_taken)
-
-some_counted : (p : Job → Bool) (j : Job) (jobs : List Job) → p j ≡ true → nat_lt 0 (count_by p (j ∷ jobs)) ≡ true
-some_counted p j jobs e = rw (count_cons p j jobs, e) (lt-ltb 0 (1 + count_by p jobs) (omega arith))
+counted_taken low next id j tally tallies jobs es ids found order was = grind (arith, whole_taken, tallies_taken)
 
 has_one : (j : Job) (jobs : List Job) → has_jobs (tally_of (j ∷ jobs)) ≡ true
-has_one j jobs = grind (arith, common_steps, or_left, some_counted, or_right)
+has_one j jobs = grind (arith, common_steps)
 
 -- a job is counted where there is one
 pub has_jobs_in : (name : List ℕ) (jobs : List Job) → has_jobs (tally_of (filter (λ j. is_same_name name j.tube) jobs)) ≡ list_any (λ j. is_same_name name j.tube) jobs
 has_jobs_in name [] = refl
-has_jobs_in name (j ∷ jobs) = grind (arith, common_steps, cases_Bool, has_one, has_jobs_in name jobs)
+has_jobs_in name (j ∷ jobs) = grind (arith, has_one, has_jobs_in name jobs)
 
 tally_named : (name : List ℕ) (jobs : List Job) (es : List TubeRecord) → has_entry name es ≡ true
     → tally_at name es (tallies_of jobs es) ≡ tally_of (filter (λ j. is_same_name name j.tube) jobs)
@@ -130,4 +122,4 @@ tally_missing name jobs (t ∷ es) h =
 -- the counts that stand at a name are those of its jobs
 pub tally_there : (name : List ℕ) (jobs : List Job) (es : List TubeRecord) → All (λ j. has_entry j.tube es ≡ true) jobs
     → tally_at name es (tallies_of jobs es) ≡ tally_of (filter (λ j. is_same_name name j.tube) jobs)
-tally_there name jobs es all = grind (arith, common_steps, tally_named, tally_missing, no_job_there)
+tally_there name jobs es all = grind (arith, tally_named, tally_missing, no_job_there)

@@ -1,12 +1,10 @@
 -- What is kept of tubes: the entries and the machine's records of them.
-use Rattle.std.proofs.Common.{◌&&◌, ◌+◌, ◌<◌, ◌||◌, ◌∙◌, ◌∷◌, ◌≡◌, ◌≤◌, ◌⊎◌, if◌then◌else◌, Bool, List, None, Option, Some, [], ℕ, ap, arith, cond, false, inl, inr, is_some, length, map, not, refl, suc, sym, true}
-use Rattle.std.proofs.lemmas.Bool.{cases_Bool, cases_lt, le-ltb, lt-ltb, or_cases, or_parts}
-use Rattle.std.proofs.{lemmas.List.Sums.prefix_len-le-length, Math.Bool.{or-false, or-true}}
-use Rattle.std.specs.{Cmp.Lexicographic.bytes_decides, List.{AllByRecursion as All, insert, list_any, position, position_or_len, prefix_len}, Prelude.{filter, find, unwrap_or}}
+use Rattle.std.proofs.Common.{◌&&◌, ◌+◌, ◌<◌, ◌∙◌, ◌∷◌, ◌≡◌, if◌then◌else◌, Bool, List, None, Option, Some, [], ℕ, ap, arith, cond, false, inl, inr, is_some, length, map, not, refl, sym, true}
+use Rattle.std.proofs.lemmas.{Bool.{cases_Bool, or_cases, or_parts}, Grind.common_steps, List.Sums.prefix_len-le-length}
+use Rattle.std.specs.{Cmp.Lexicographic.bytes_decides, List.{AllByRecursion as All, insert, list_any, position, prefix_len}, Prelude.{filter, find, unwrap_or}}
 use Rattle.bq_job.specs.{machine.{TubeRecord, fresh_tube, is_name_before, with_record}, reading.TubeName.is_same_name}
 use Rattle.bq_job.proofs.NameOrderLemmas.{after, before_trans, not_before}
 use Rattle.bq_state.specs.TubeEntries.{AreInOrder, IsFreshUnlessCounted, counted, has_entry, is_counted, provided}
-use Rattle.std.proofs.lemmas.Grind.{common_steps}
 
 pub same_name : (a b : List ℕ) → is_same_name a b ≡ true → a ≡ b
 same_name a b h = (bytes_decides a b).0 h
@@ -25,12 +23,9 @@ before_differs a b h = elim (cases_Bool (is_same_name a b)) [
 ]
 
 -- a filter and a change that don't touch one another
-filter_of_map_at : {A : Type 0} (p : A → Bool) (f : A → A) (x : A) (xs : List A) (b : Bool) → filter p (map f xs) ≡ map f (filter p xs) → (if b then f x ∷ filter p (map f xs) else filter p (map f xs)) ≡ map f (if b then x ∷ filter p xs else filter p xs)
-filter_of_map_at p f x xs b rest = grind (arith, common_steps)
-
 pub filter_of_map : {A : Type 0} (p : A → Bool) (f : A → A) → ((x : A) → p (f x) ≡ p x) → (xs : List A) → filter p (map f xs) ≡ map f (filter p xs)
 filter_of_map p f same [] = refl
-filter_of_map p f same (x ∷ xs) = grind (arith, common_steps, filter_of_map_at, filter_of_map p f same xs)
+filter_of_map p f same (x ∷ xs) = grind (arith, filter_of_map p f same xs)
 
 swap_at : {A : Type 0} (p q : A → Bool) (x : A) (xs : List A) (a b : Bool) → p x ≡ a → q x ≡ b → filter p (filter q xs) ≡ filter q (filter p xs) → filter p (if b then x ∷ filter q xs else filter q xs) ≡ filter q (if a then x ∷ filter p xs else filter p xs)
 swap_at p q x xs a b e f rest = grind (arith, common_steps)
@@ -69,10 +64,8 @@ no_pause_there name (t ∷ entries) h =
 
 paused_at : (name : List ℕ) (t : TubeRecord) (entries : List TubeRecord) (same kept : Bool) → is_same_name name t.name ≡ same → is_counted t ≡ kept → IsFreshUnlessCounted t → All (λ u. is_name_before t.name u.name ≡ true) entries → is_some (found name entries).pause ≡ pauses_there name entries → is_some (found name (t ∷ entries)).pause ≡ pauses_there name (t ∷ entries)
 paused_at name t entries true true e k fresh later rest =
-    grind (arith, common_steps, cases_Bool, same_name name t.name e, none_later t.name entries later, no_pause_there,
-    or-false (is_some t.pause))
-paused_at name t entries true false e k fresh later rest =
-    grind (arith, common_steps, same_name, none_later, no_pause_there, none_found)
+    grind (arith, same_name name t.name e, none_later t.name entries later, no_pause_there)
+paused_at name t entries true false e k fresh later rest = grind (arith)
 paused_at name t entries false true e k fresh later rest = rw (k, e) rest
 paused_at name t entries false false e k fresh later rest = rw (k, e) rest
 
@@ -95,7 +88,7 @@ unchanged name f (t ∷ entries) h =
 -- a record that comes before all others stands first
 first_record : (x : TubeRecord) (entries : List TubeRecord) → All (λ u. is_name_before x.name u.name ≡ true) entries → with_record x (counted entries) ≡ x ∷ counted entries
 first_record x [] later = refl
-first_record x (t ∷ entries) later = grind (arith, common_steps, before_differs, first_record x entries later.1)
+first_record x (t ∷ entries) later = grind (arith, before_differs, first_record x entries later.1)
 
 -- where an entry of this name comes later, this one comes before it
 comes_before : (name : List ℕ) (t : TubeRecord) (entries : List TubeRecord) → All (λ u. is_name_before t.name u.name ≡ true) entries → has_entry name entries ≡ true → is_name_before t.name name ≡ true
@@ -117,20 +110,16 @@ found_name name entries = go (counted entries)
     go [] = refl
     go (t ∷ more) = one t more (is_same_name name t.name) refl (go more)
 
-stands_behind : (x t : TubeRecord) (records : List TubeRecord) → is_same_name x.name t.name ≡ false → is_name_before x.name t.name ≡ false → with_record x (t ∷ records) ≡ t ∷ with_record x records
-stands_behind x t records other before = rw (other, before) refl
-
 changed_at : (name : List ℕ) (f : TubeRecord → TubeRecord) → ((t : TubeRecord) → is_counted (f t) ≡ true) → ((t : TubeRecord) → (f t).name ≡ t.name) → (t : TubeRecord) (entries : List TubeRecord) (same kept : Bool) → is_same_name name t.name ≡ same → is_counted t ≡ kept → IsFreshUnlessCounted t → All (λ u. is_name_before t.name u.name ≡ true) entries → has_entry name (t ∷ entries) ≡ true
     → (has_entry name entries ≡ true → with_record (f (found name entries)) (counted entries) ≡ counted (map (changed_one name f) entries))
     → with_record (f (found name (t ∷ entries))) (counted (t ∷ entries)) ≡ counted (map (changed_one name f) (t ∷ entries))
 changed_at name f counts keeps t entries true true e k fresh later h rest =
-    grind (arith, common_steps, cases_Bool, same_name name t.name e, none_later t.name entries later,
-    same_itself t.name, unchanged)
+    grind (arith, same_name name t.name e, none_later t.name entries later, unchanged)
 changed_at name f counts keeps t entries true false e k fresh later h rest =
-    grind (arith, common_steps, cases_Bool, same_name name t.name e, none_later t.name entries later,
+    grind (arith, same_name name t.name e, none_later t.name entries later,
     first_record (f t) entries (rw (keeps t) later), none_found, unchanged)
 changed_at name f counts keeps t entries false true e k fresh later h rest =
-    grind (arith, common_steps, found_name, not_before, comes_before, stands_behind)
+    grind (arith, found_name, not_before, comes_before)
 changed_at name f counts keeps t entries false false e k fresh later h rest = grind (arith, common_steps)
 
 -- what is kept of a tube that has an entry, changed
@@ -154,13 +143,12 @@ order_kept f keeps (t ∷ entries) order = (rw (keeps t) (later_kept f keeps t.n
 
 later_filtered : (p : TubeRecord → Bool) (name : List ℕ) (entries : List TubeRecord) → All (λ u. is_name_before name u.name ≡ true) entries → All (λ u. is_name_before name u.name ≡ true) (filter p entries)
 later_filtered p name [] all = tt
-later_filtered p name (t ∷ entries) all = grind (arith, common_steps, later_filtered p name entries all.1)
+later_filtered p name (t ∷ entries) all = grind (arith, later_filtered p name entries all.1)
 
 pub order_filtered : (p : TubeRecord → Bool) (entries : List TubeRecord) → AreInOrder entries → AreInOrder (filter p entries)
 order_filtered p [] order = tt
 order_filtered p (t ∷ entries) order =
-    grind (arith, common_steps, cases_Bool, later_filtered p t.name entries order.0, order_filtered p entries order.1,
-    order.1, order.0)
+    grind (arith, later_filtered p t.name entries order.0, order_filtered p entries order.1)
 
 -- what has an entry that passes has one among those that pass
 pub entry_filtered : (p : TubeRecord → Bool) (name : List ℕ) → ((t : TubeRecord) → name ≡ t.name → p t ≡ true) → (entries : List TubeRecord) → has_entry name entries ≡ true → has_entry name (filter p entries) ≡ true
@@ -172,10 +160,7 @@ entry_filtered p name passes (t ∷ entries) h =
     ]
   where
     go : (b : Bool) → has_entry name (filter p entries) ≡ true → has_entry name (if b then t ∷ filter p entries else filter p entries) ≡ true
-    go b rest = grind (arith, common_steps, or-true)
-
-one_more : (n : ℕ) → 1 + n ≡ suc n
-one_more n = omega arith
+    go b rest = grind (arith)
 
 -- the place of a new entry
 pub placed : (x : TubeRecord) (entries : List TubeRecord) → has_entry x.name entries ≡ false → insert entries (prefix_len (λ t. is_name_before t.name x.name) entries) x ≡ with_record x entries
@@ -188,24 +173,15 @@ placed x (t ∷ entries) h =
     place ts = prefix_len (λ t. is_name_before t.name x.name) ts
 
     go : (b : Bool) → is_name_before x.name t.name ≡ b → is_same_name x.name t.name ≡ false → insert entries (place entries) x ≡ with_record x entries → insert (t ∷ entries) (cond (is_name_before t.name x.name) (1 + place entries) 0) x ≡ (if b then x ∷ t ∷ entries else t ∷ with_record x entries)
-    go b e other rest = grind (arith, common_steps, not_before, after, one_more)
-
--- that place is within the list, or at its end
-not_twice : (b : Bool) → not (not b) ≡ b
-not_twice b = grind (arith, common_steps)
-
-prefix_alike : {A : Type 0} (p q : A → Bool) → ((x : A) → p x ≡ q x) → (xs : List A) → prefix_len p xs ≡ prefix_len q xs
-prefix_alike p q same [] = refl
-prefix_alike p q same (x ∷ xs) = rw (same x, prefix_alike p q same xs) refl
+    go b e other rest = grind (arith, not_before, after)
 
 -- the first element that fails, or else the end
 pub place_read : {A : Type 0} (p : A → Bool) (xs : List A) → unwrap_or (position (λ x. not (p x)) xs) (length xs) ≡ prefix_len p xs
-place_read {A = A} p xs =
-    grind (arith, common_steps, cases_lt, prefix_alike, not_twice, lt-ltb, le-ltb, prefix_len-le-length)
+place_read {A = A} p xs = grind (arith, prefix_len-le-length)
 
 later_inserted : (name : List ℕ) (x : TubeRecord) (entries : List TubeRecord) → is_name_before name x.name ≡ true → All (λ u. is_name_before name u.name ≡ true) entries → All (λ u. is_name_before name u.name ≡ true) (with_record x entries)
 later_inserted name x [] b all = (b, tt)
-later_inserted name x (t ∷ entries) b all = grind (arith, common_steps, later_inserted name x entries b all.1)
+later_inserted name x (t ∷ entries) b all = grind (arith, later_inserted name x entries b all.1)
 
 before_all : (a b : List ℕ) → is_name_before a b ≡ true → (entries : List TubeRecord) → All (λ u. is_name_before b u.name ≡ true) entries → All (λ u. is_name_before a u.name ≡ true) entries
 before_all a b h [] all = tt
@@ -218,11 +194,11 @@ order_inserted x (t ∷ entries) h order =
     rw parts.0 (go (is_name_before x.name t.name) refl parts.0 (order_inserted x entries parts.1 order.1))
   where
     go : (b : Bool) → is_name_before x.name t.name ≡ b → is_same_name x.name t.name ≡ false → AreInOrder (with_record x entries) → AreInOrder (if b then x ∷ t ∷ entries else t ∷ with_record x entries)
-    go b e other rest = grind (arith, common_steps, before_all, later_inserted, after)
+    go b e other rest = grind (arith, before_all, later_inserted, after)
 
 pub fresh_inserted : (x : TubeRecord) → IsFreshUnlessCounted x → (entries : List TubeRecord) → All IsFreshUnlessCounted entries → All IsFreshUnlessCounted (with_record x entries)
 fresh_inserted x f [] all = (f, tt)
-fresh_inserted x f (t ∷ entries) all = grind (arith, common_steps, fresh_inserted x f entries all.1)
+fresh_inserted x f (t ∷ entries) all = grind (arith, fresh_inserted x f entries all.1)
 
 pub counted_inserted : (x : TubeRecord) → is_counted x ≡ false → (entries : List TubeRecord) → has_entry x.name entries ≡ false → counted (with_record x entries) ≡ counted entries
 counted_inserted x c [] h = rw c refl
@@ -236,7 +212,7 @@ counted_inserted x c (t ∷ entries) h =
 -- an inserted record is there, and the others of other names stay
 pub has_inserted : (x : TubeRecord) (entries : List TubeRecord) → has_entry x.name (with_record x entries) ≡ true
 has_inserted x [] = rw (same_itself x.name) refl
-has_inserted x (t ∷ entries) = grind (arith, common_steps, same_itself, or-true, has_inserted x entries)
+has_inserted x (t ∷ entries) = grind (arith, same_itself, has_inserted x entries)
 
 pub still_has : (x : TubeRecord) (name : List ℕ) (entries : List TubeRecord) → has_entry x.name entries ≡ false → has_entry name entries ≡ true → has_entry name (with_record x entries) ≡ true
 still_has x name [] none h = absurd cc
@@ -245,7 +221,7 @@ still_has x name (t ∷ entries) none h =
     rw parts.0 (go (is_name_before x.name t.name) (λ more. still_has x name entries parts.1 more))
   where
     go : (b : Bool) → (has_entry name entries ≡ true → has_entry name (with_record x entries) ≡ true) → has_entry name (if b then x ∷ t ∷ entries else t ∷ with_record x entries) ≡ true
-    go b rest = grind (arith, common_steps, or-true, or_cases)
+    go b rest = grind (arith)
 
 pub provided_new : (name : List ℕ) (entries : List TubeRecord) → has_entry name entries ≡ false → insert entries (prefix_len (λ t. is_name_before t.name name) entries) (fresh_tube name) ≡ provided name entries
 provided_new name entries none = placed (fresh_tube name) entries none ∙ sym (ap (λ b. if b then entries else with_record (fresh_tube name) entries) none)

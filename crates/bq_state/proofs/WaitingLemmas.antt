@@ -1,15 +1,13 @@
 -- The turns of those that wait, once one seat changes.
 use Rattle.std.proofs.Common.{◌+◌, ◌-◌, ◌<◌, ◌==◌, ◌∙◌, ◌∷◌, ◌≡◌, ◌≤◌, if◌then◌else◌, Bool, List, None, Option, Some, [], ℕ, ap, arith, cond, false, inl, inr, length, map, not, refl, set, slice_get, subst, suc, sym, true, zero}
-use Rattle.std.proofs.lemmas.{Bool.{cases_Bool, eq-eqb, eqb-true, ltb-false, ltb-true, Decides.nat_tests}, List.length-map}
-use Rattle.std.specs.{Cmp.IsStrictWeakOrder, List.{AllByRecursion as All, insert, position, prefix_len, remove}, Prelude.{count_by, nat_lt}}
-use Rattle.bq_job.specs.machine.{SeatRecord, empty_seat, is_pair_before, is_waiting, numbers, seat_with, watching}
-use Rattle.bq_job.proofs.{ChoiceLemmas.pair_order, ListLemmas.{all_weaker, count_cons, found_passes}}
+use Rattle.std.proofs.lemmas.{Bool.{cases_Bool, eq-eqb, eqb-true}, Grind.common_steps, List.length-map}
+use Rattle.std.specs.{Cmp.IsStrictWeakOrder, List.{AllByRecursion as All, insert, position, prefix_len, remove}, Prelude.count_by}
+use Rattle.bq_job.specs.machine.{SeatRecord, empty_seat, is_waiting, numbers, seat_with, watching}
+use Rattle.bq_job.proofs.{ChoiceLemmas.pair_order, LawfulLemmas.length_numbers, ListLemmas.{all_weaker, found_passes}}
 use Rattle.bq_state.specs.declared.seats.SeatChange.{SeatChange}
 use Rattle.bq_state.specs.{EndingWaits.turn_of, SeatChanges.{AreNumbered, seat_changed, seat_changed_at}}
 use Rattle.bq_state.specs.WaitingTurns.{AreInTurn, IsRising, WaitingTurns, is_none_or_before, is_turn_before, placed, removed, turns_of, with_turn, without_turn}
 use Rattle.bq_state.proofs.{ClientLemmas.{all_others, heads, others, others_left}, PartsLemmas.{all_read, changed_there, number_kept, numbered_after, some_at}}
-use Rattle.bq_job.proofs.LawfulLemmas.{length_numbers}
-use Rattle.std.proofs.lemmas.Grind.{common_steps}
 
 -- the place behind those that come before
 pub placed_at : {A : Type 0} (before : A → A → Bool) (x : A) (xs : List A) → insert xs (prefix_len (λ y. before y x) xs) x ≡ placed before x xs
@@ -25,15 +23,15 @@ placed_at before x (y ∷ ys) =
 
 pub placed_length : {A : Type 0} (before : A → A → Bool) (x : A) (xs : List A) → length (placed before x xs) ≡ suc (length xs)
 placed_length before x [] = refl
-placed_length before x (y ∷ ys) = grind (arith, common_steps, cases_Bool, placed_length before x ys)
+placed_length before x (y ∷ ys) = grind (arith, placed_length before x ys)
 
 -- Of two that differ one comes before the other, so it is the same which is put in first.
 pub placed_twice : {A : Type 0} {before : A → A → Bool} (order : IsStrictWeakOrder before) (a b : A) (xs : List A) → (before a b ≡ false → before b a ≡ true) → placed before a (placed before b xs) ≡ placed before b (placed before a xs)
-placed_twice {before = before} order a b [] apart = grind (arith, common_steps, cases_Bool)
+placed_twice {before = before} order a b [] apart = grind (arith)
 placed_twice {A = A} {before = before} order a b (x ∷ xs) apart = go (before x a) (before x b) refl refl (placed_twice order a b xs apart)
   where
     go : (p q : Bool) → before x a ≡ p → before x b ≡ q → placed before a (placed before b xs) ≡ placed before b (placed before a xs) → placed before a (placed before b (x ∷ xs)) ≡ placed before b (placed before a (x ∷ xs))
-    go p q e f rest = grind (arith, common_steps, cases_Bool)
+    go p q e f rest = grind (arith)
 
 -- turns of which the seats differ
 turn_apart : (a b : ℕ × ℕ) → (a.1 == b.1) ≡ false → is_turn_before a b ≡ false → is_turn_before b a ≡ true
@@ -70,22 +68,21 @@ turns_parted n low (s ∷ seats) h =
     ]
   where
     other : (t : SeatRecord) → seat_with n seats ≡ Some t → (s.number == n) ≡ false → (s.number == t.number) ≡ false
-    other t found e = grind (arith, common_steps, eqb-true, found_passes)
+    other t found e = grind (arith, found_passes)
 
 -- none of those others has this number
 pub all_placed : {A : Type 0} (P : A → Type 0) (before : A → A → Bool) (x : A) (xs : List A) → P x → All P xs → All P (placed before x xs)
 all_placed P before x [] h all = (h, tt)
-all_placed P before x (y ∷ ys) h all = grind (arith, common_steps, cases_Bool, all_placed P before x ys h all.1)
+all_placed P before x (y ∷ ys) h all = grind (arith, all_placed P before x ys h all.1)
 
 others_stay : (n : ℕ) (seats : List SeatRecord) → All (λ t. (t.1 == n) ≡ false) (turns_of (others n seats))
 others_stay n [] = tt
-others_stay n (s ∷ seats) = grind (arith, common_steps, cases_Bool, all_placed, others_stay n seats)
+others_stay n (s ∷ seats) = grind (arith, all_placed, others_stay n seats)
 
 -- what was put in is taken out
 removed_again : (before : ℕ × ℕ → ℕ × ℕ → Bool) (t : ℕ × ℕ) (turns : List (ℕ × ℕ)) → All (λ u. (u.1 == t.1) ≡ false) turns → removed t.1 (placed before t turns) ≡ turns
 removed_again before t [] all = rw (eq-eqb t.1 t.1 refl) refl
-removed_again before t (u ∷ turns) all =
-    grind (arith, common_steps, cases_Bool, eq-eqb, removed_again before t turns all.1)
+removed_again before t (u ∷ turns) all = grind (arith, removed_again before t turns all.1)
 
 turn_taken : (n : ℕ) (o : Option SeatRecord) (turns : List (ℕ × ℕ)) → ((s : SeatRecord) → o ≡ Some s → s.number ≡ n) → All (λ t. (t.1 == n) ≡ false) turns → without_turn o (with_turn o turns) ≡ turns
 turn_taken n None turns at all = refl
@@ -137,7 +134,7 @@ rising_ends order t (x ∷ y ∷ ys) zero l rising read ends e = absurd (omega (
 rising_ends {before = before} order t (x ∷ xs) (suc k) l rising read ends e = go (before x t) refl (rising_ends order t xs k l rising.1 read (omega (arith, ends)) e)
   where
     go : (b : Bool) → before x t ≡ b → prefix_len (λ u. before u t) xs ≡ length xs → cond b (1 + prefix_len (λ u. before u t) xs) 0 ≡ suc (length xs)
-    go b f rest = grind (arith, common_steps, all_read)
+    go b f rest = grind (arith, all_read)
 
 pub all_before : (t : ℕ × ℕ) (turns : List (ℕ × ℕ)) → IsRising is_turn_before turns → is_none_or_before t (slice_get turns (length turns - 1)) ≡ true → prefix_len (λ u. is_turn_before u t) turns ≡ length turns
 all_before t [] rising ends = refl
@@ -170,20 +167,20 @@ removed_nowhere n (x ∷ xs) h = go (x.1 == n) (removed_nowhere n xs) h
     go b rest less = grind (arith, common_steps)
 
 pub removed_found : (n : ℕ) (xs : List (ℕ × ℕ)) (i : ℕ) → Some i ≡ position (λ t. t.1 == n) xs → (i < length xs) × (removed n xs ≡ remove xs i)
-removed_found n xs i found = grind (arith, common_steps, ltb-true, removed_there)
+removed_found n xs i found = grind (arith, removed_there)
 
 pub removed_missed : (n : ℕ) (xs : List (ℕ × ℕ)) → None ≡ position (λ t. t.1 == n) xs → removed n xs ≡ xs
-removed_missed n xs none = grind (arith, common_steps, removed_nowhere, ltb-false)
+removed_missed n xs none = grind (arith, removed_nowhere)
 
 -- there are no more of them than seats
 pub turns_within : (seats : List SeatRecord) → length (turns_of seats) ≤ length seats
 turns_within [] = omega arith
-turns_within (s ∷ seats) = grind (arith, common_steps, placed_length, turns_within seats)
+turns_within (s ∷ seats) = grind (arith, placed_length, turns_within seats)
 
 -- there are as many of them as clients that wait
 pub turns_counted : (seats : List SeatRecord) → length (turns_of seats) ≡ count_by is_waiting seats
 turns_counted [] = refl
-turns_counted (s ∷ seats) = grind (arith, common_steps, count_cons, placed_length, turns_counted seats)
+turns_counted (s ∷ seats) = grind (arith, common_steps, placed_length, turns_counted seats)
 
 pub turns_moved : (n : ℕ) (what : SeatChange) (seats : List SeatRecord) → AreNumbered seats
     → with_turn (seat_with n (map (seat_changed_at n what) seats)) (without_turn (seat_with n seats) (turns_of seats)) ≡ turns_of (map (seat_changed_at n what) seats)
@@ -196,8 +193,7 @@ turns_kept f same (s ∷ seats) = λ i. same s i (turns_kept f same seats i)
 
 pub in_turn_watching : (names : List (List ℕ)) (i : ℕ) (s : SeatRecord) (waiting : WaitingTurns) (seats : List SeatRecord) → slice_get seats i ≡ Some s → AreNumbered seats → AreInTurn waiting seats → AreInTurn waiting (set seats i (watching names s))
 in_turn_watching names i s waiting seats found h q =
-    grind (arith, common_steps, cases_Bool, nat_tests, changed_there seats i s (watching names) h found, turns_kept,
-    length-map)
+    grind (arith, changed_there seats i s (watching names) h found, turns_kept, length-map)
 
 -- at the start
 pub none_in_turn : (ns : List ℕ) → turns_of (map empty_seat ns) ≡ []

@@ -1,13 +1,13 @@
 -- A walk over those that wait, in their turn, comes to the same as one over all seats.
-use Rattle.std.proofs.Common.{◌&&◌, ◌<◌, ◌==◌, ◌||◌, ◌∙◌, ◌∷◌, ◌≡◌, ◌≤◌, if◌then◌else◌, Bool, List, None, Option, Some, [], ℕ, ap, arith, cond, false, inl, inr, length, map, refl, slice_get, suc, sym, true}
-use Rattle.std.proofs.lemmas.{Bool.{cases_Bool, eq-eqb, ltb-false, ne_eqb, Decides.nat_tests}, List.Folds.find_at, Option.{slice_get_past, slice_get_within}}
-use Rattle.std.specs.{Cmp.IsStrictWeakOrder, List.{AllByRecursion as All, Contains, list_any, position, position_or_len}, Prelude.{find, fold, is_some, nat_lt, option_map}}
-use Rattle.bq_job.specs.machine.{SeatRecord, better_of, first_of, is_pair_before, is_wait_before, is_waiting, numbers, seat_with, ticket_of}
+use Rattle.std.proofs.Common.{◌<◌, ◌==◌, ◌∙◌, ◌∷◌, ◌≡◌, ◌≤◌, if◌then◌else◌, Bool, List, None, Option, Some, [], ℕ, ap, arith, false, length, map, refl, slice_get, suc, sym, true}
+use Rattle.std.proofs.lemmas.{Bool.{eq-eqb, ne_eqb}, List.Folds.find_at, Option.{slice_get_past, slice_get_within}}
+use Rattle.std.proofs.lemmas.Grind.{common_steps}
+use Rattle.std.specs.{Cmp.IsStrictWeakOrder, List.{AllByRecursion as All, Contains, list_any, position}, Prelude.{find, fold, is_some, option_map}}
+use Rattle.bq_job.specs.machine.{SeatRecord, better_of, first_of, is_wait_before, is_waiting, numbers, seat_with, ticket_of}
 use Rattle.bq_job.proofs.{ChoiceLemmas.{first_of_contains, first_of_is_some, pair_order}, KeptLemmas.{numbers_above, only_seat}, ListLemmas.{all_at, all_from_members, all_weaker}}
-use Rattle.bq_state.specs.{Clients.seat_passes, EndingWaits.{is_after, turn_of, waits_after}, Offers.these, Places.item_at, SeatChanges.AreNumbered}
+use Rattle.bq_state.specs.{Clients.seat_passes, EndingWaits.{is_after, turn_of, waits_after}, Places.item_at, SeatChanges.AreNumbered}
 use Rattle.bq_state.specs.WaitingTurns.{IsRising, at_turn, is_turn_after, is_turn_before, passes_at, placed, turns_of}
 use Rattle.bq_state.proofs.{ClientLemmas.heads, SeatPlaces.place_is_seat, WaitingLemmas.{all_placed, rising_placed}, WarningLemmas.none_found}
-use Rattle.std.proofs.lemmas.Grind.{common_steps}
 
 -- the clients that wait, in their turn
 abbrev pub in_turn : List SeatRecord → List SeatRecord
@@ -16,16 +16,16 @@ in_turn (s ∷ seats) = if is_waiting s then placed is_wait_before s (in_turn se
 
 map_placed : (s : SeatRecord) (ss : List SeatRecord) → map turn_of (placed is_wait_before s ss) ≡ placed is_turn_before (turn_of s) (map turn_of ss)
 map_placed s [] = refl
-map_placed s (u ∷ us) = grind (arith, common_steps, map_placed s us)
+map_placed s (u ∷ us) = grind (arith, map_placed s us)
 
 turns_in : (seats : List SeatRecord) → turns_of seats ≡ map turn_of (in_turn seats)
 turns_in [] = refl
-turns_in (s ∷ seats) = grind (arith, common_steps, map_placed, turns_in seats)
+turns_in (s ∷ seats) = grind (arith, map_placed, turns_in seats)
 
 -- what is so of those that wait
 all_in_turn : (P : SeatRecord → Type 0) (seats : List SeatRecord) → All (λ s. is_waiting s ≡ true → P s) seats → All P (in_turn seats)
 all_in_turn P [] all = tt
-all_in_turn P (s ∷ seats) all = grind (arith, common_steps, all_placed, all_in_turn P seats all.1)
+all_in_turn P (s ∷ seats) all = grind (arith, all_placed, all_in_turn P seats all.1)
 
 -- each seat stands at its place
 pub read_each : (seats : List SeatRecord) → AreNumbered seats → All (λ s. slice_get seats s.number ≡ Some s) seats
@@ -35,8 +35,7 @@ read_each seats h = all_from_members (λ s. slice_get seats s.number ≡ Some s)
     go s here None e =
         let other : (s.number == s.number) ≡ false = all_at (λ t. (t.number == s.number) ≡ false) seats s (none_found s.number seats e) here in
         absurd (let same = eq-eqb s.number s.number refl in let k = sym same ∙ other in cc)
-    go s here (Some t) e =
-        grind (arith, common_steps, cases_Bool, nat_tests, all_at, only_seat 0 (length seats) s.number seats t h e)
+    go s here (Some t) e = grind (arith, common_steps, only_seat 0 (length seats) s.number seats t h e)
 
 read_in_turn : (seats : List SeatRecord) → AreNumbered seats → All (λ s. slice_get seats s.number ≡ Some s) (in_turn seats)
 read_in_turn seats h = all_in_turn (λ s. slice_get seats s.number ≡ Some s) seats (all_weaker (λ s. slice_get seats s.number ≡ Some s) (λ s. is_waiting s ≡ true → slice_get seats s.number ≡ Some s) seats (λ s e _. e) (read_each seats h))
@@ -68,12 +67,12 @@ fold_in_turn {B = B} f skips swaps low (s ∷ seats) h b =
 
 fold_there : {B : Type 0} (f : B → SeatRecord → B) (seats ss : List SeatRecord) → All (λ s. slice_get seats s.number ≡ Some s) ss → (b : B) → fold (at_turn f seats) b (map turn_of ss) ≡ fold f b ss
 fold_there f seats [] all b = refl
-fold_there f seats (s ∷ ss) all b = grind (arith, common_steps, fold_there f seats ss all.1 (f b s))
+fold_there f seats (s ∷ ss) all b = grind (arith, fold_there f seats ss all.1 (f b s))
 
 -- a walk from turn to turn folds all seats
 pub walked : {B : Type 0} (f : B → SeatRecord → B) → ((s : SeatRecord) → is_waiting s ≡ false → (b : B) → f b s ≡ b) → ((s t : SeatRecord) → (s.number == t.number) ≡ false → (b : B) → f (f b s) t ≡ f (f b t) s)
     → (seats : List SeatRecord) → AreNumbered seats → (b : B) → fold (at_turn f seats) b (turns_of seats) ≡ fold f b seats
-walked f skips swaps seats h b = grind (arith, common_steps, turns_in, fold_there, read_in_turn, fold_in_turn)
+walked f skips swaps seats h b = grind (arith, turns_in, fold_there, read_in_turn, fold_in_turn)
 
 -- Of two choices it is the same which comes first.
 abbrev pub chosen : {A : Type 0} → (A → A → Bool) → Option A → Option A → Option A
@@ -82,7 +81,7 @@ chosen before (Some x) None = Some x
 chosen before (Some x) (Some y) = if before y x then Some y else Some x
 
 two_chosen : {A : Type 0} {before : A → A → Bool} (order : IsStrictWeakOrder before) (x y : A) → (before x y ≡ false → before y x ≡ false → x ≡ y) → chosen before (Some x) (Some y) ≡ chosen before (Some y) (Some x)
-two_chosen {before = before} order x y same = grind (arith, common_steps, cases_Bool)
+two_chosen {before = before} order x y same = grind (arith)
 
 no_other : {A : Type 0} (before : A → A → Bool) (b : Option A) → chosen before b None ≡ b
 no_other before b = grind (arith, common_steps)
@@ -92,15 +91,12 @@ pub chosen_twice : {A : Type 0} {before : A → A → Bool} (order : IsStrictWea
 chosen_twice {before = before} order b None u same = ap (λ c. chosen before c u) (no_other before b) ∙ sym (no_other before (chosen before b u))
 chosen_twice {before = before} order b (Some x) None same = no_other before (chosen before b (Some x)) ∙ ap (λ c. chosen before c (Some x)) (sym (no_other before b))
 chosen_twice order None (Some x) (Some y) same = two_chosen order x y (same x y refl refl)
-chosen_twice {before = before} order (Some z) (Some x) (Some y) same = grind (arith, common_steps, two_chosen)
+chosen_twice {before = before} order (Some z) (Some x) (Some y) same = grind (arith)
 
 better_chosen : {A : Type 0} (p : A → Bool) (before : A → A → Bool) (b : Option A) (x : A) → better_of p before b x ≡ chosen before b (if p x then Some x else None)
 better_chosen p before b x = grind (arith, common_steps)
 
 -- seats of which the numbers differ don't tie
-pair_same : (a i b j : ℕ) → is_pair_before a i b j ≡ false → is_pair_before b j a i ≡ false → (i == j) ≡ false → Unit {0} → ⊥
-pair_same a i b j h o d u = grind (arith, nat_tests)
-
 wait_order : IsStrictWeakOrder is_wait_before
 wait_order = pair_order (λ s. ticket_of s.wait) (λ s. s.number)
 
@@ -114,30 +110,26 @@ better_swaps p s t other b =
     ∙ ap (λ c. chosen is_wait_before c one) (sym (better_chosen p is_wait_before b t))
     ∙ sym (better_chosen p is_wait_before (better_of p is_wait_before b t) s)
   where
-    is_it : (c : Bool) (r x : SeatRecord) → (if c then Some r else None) ≡ Some x → r ≡ x
-    is_it c r x h = grind (arith, common_steps)
-
     apart : (x y : SeatRecord) → (if p s then Some s else None) ≡ Some x → (if p t then Some t else None) ≡ Some y → is_wait_before x y ≡ false → is_wait_before y x ≡ false → x ≡ y
-    apart x y e f g h = grind (arith, common_steps, pair_same)
+    apart x y e f g h = grind (arith)
 
 -- Those that wait stand in the order of their turns.
 rising_in_turn : (seats : List SeatRecord) → IsRising is_wait_before (in_turn seats)
 rising_in_turn [] = tt
-rising_in_turn (s ∷ seats) = grind (arith, common_steps, rising_placed, wait_order, rising_in_turn seats)
+rising_in_turn (s ∷ seats) = grind (arith, rising_placed, wait_order, rising_in_turn seats)
 
 fold_stays : {A : Type 0} (p : A → Bool) (before : A → A → Bool) (b : A) (xs : List A) → All (λ y. before y b ≡ false) xs → fold (better_of p before) (Some b) xs ≡ Some b
 fold_stays p before b [] all = refl
-fold_stays p before b (x ∷ xs) all = grind (arith, common_steps, fold_stays p before b xs all.1)
+fold_stays p before b (x ∷ xs) all = grind (arith, fold_stays p before b xs all.1)
 
 first_rising : {A : Type 0} (p : A → Bool) (before : A → A → Bool) (xs : List A) → IsRising before xs → first_of p before xs ≡ find p xs
 first_rising p before [] rising = refl
 first_rising p before (x ∷ xs) rising =
-    grind (arith, common_steps, cases_Bool, fold_stays p before x xs rising.0, first_rising p before xs rising.1,
-    rising.0, rising.1)
+    grind (arith, fold_stays p before x xs rising.0, first_rising p before xs rising.1)
 
 find_mapped : (q : ℕ × ℕ → Bool) (p : SeatRecord → Bool) (ss : List SeatRecord) → All (λ s. q (turn_of s) ≡ p s) ss → find q (map turn_of ss) ≡ option_map turn_of (find p ss)
 find_mapped q p [] all = refl
-find_mapped q p (s ∷ ss) all = grind (arith, common_steps, find_mapped q p ss all.1)
+find_mapped q p (s ∷ ss) all = grind (arith, find_mapped q p ss all.1)
 
 -- The first turn that passes is that of the first client which does.
 pub first_turn : (q : ℕ × ℕ → Bool) (p : SeatRecord → Bool) (seats : List SeatRecord) → AreNumbered seats → ((s : SeatRecord) → is_waiting s ≡ false → p s ≡ false) → ((s : SeatRecord) → is_waiting s ≡ true → slice_get seats s.number ≡ Some s → q (turn_of s) ≡ p s)
@@ -145,26 +137,24 @@ pub first_turn : (q : ℕ × ℕ → Bool) (p : SeatRecord → Bool) (seats : Li
 first_turn q p seats h waits agrees =
     let there = all_in_turn (λ s. q (turn_of s) ≡ p s) seats (all_weaker (λ s. slice_get seats s.number ≡ Some s) (λ s. is_waiting s ≡ true → q (turn_of s) ≡ p s) seats (λ s read waiting. agrees s waiting read) (read_each seats h)) in
     let skips = λ (s : SeatRecord) (e : is_waiting s ≡ false) (b : Option SeatRecord). better_chosen p is_wait_before b s ∙ ap (λ c. chosen is_wait_before b (if c then Some s else None)) (waits s e) ∙ no_other is_wait_before b in
-    ap (find q) (turns_in seats)
-    ∙ find_mapped q p (in_turn seats) there
-    ∙ ap (option_map turn_of) (sym (first_rising p is_wait_before (in_turn seats) (rising_in_turn seats)) ∙ fold_in_turn (better_of p is_wait_before) skips (better_swaps p) 0 seats h None)
+    grind (arith, common_steps, turns_in, find_mapped, first_rising, rising_in_turn, fold_in_turn, better_swaps)
 
 -- what stands at the place of the first that passes
 pub found_at : {A : Type 0} (q : A → Bool) (xs : List A) (i : ℕ) → position q xs ≡ Some i → slice_get xs i ≡ find q xs
-found_at q xs i h = grind (arith, common_steps, find_at)
+found_at q xs i h = grind (arith, find_at)
 
 pub none_at : {A : Type 0} (q : A → Bool) (xs : List A) → position q xs ≡ None → find q xs ≡ None
-none_at q xs h = grind (arith, common_steps, find_at, slice_get_past, ltb-false)
+none_at q xs h = grind (arith, find_at, slice_get_past)
 
 pub item_found : {A : Type 0} (q : A → Bool) (xs : List A) → item_at xs (position q xs) ≡ find q xs
-item_found q xs = grind (arith, common_steps, none_at, found_at)
+item_found q xs = grind (arith, none_at, found_at)
 
 pub number_of_turn : (o : Option SeatRecord) → option_map (λ t. t.1) (option_map turn_of o) ≡ option_map (λ s. s.number) o
 number_of_turn o = grind (arith, common_steps)
 
 any_found : {A : Type 0} (q : A → Bool) (xs : List A) → list_any q xs ≡ is_some (find q xs)
 any_found q [] = refl
-any_found q (x ∷ xs) = grind (arith, common_steps, any_found q xs)
+any_found q (x ∷ xs) = grind (arith, any_found q xs)
 
 -- One of the turns passes exactly where a client does.
 pub any_turn : (p : SeatRecord → Bool) (seats : List SeatRecord) → AreNumbered seats → ((s : SeatRecord) → is_waiting s ≡ false → p s ≡ false) → list_any (passes_at p seats) (turns_of seats) ≡ list_any p seats
@@ -188,8 +178,7 @@ first_read p seats h t is = go (first_of p is_wait_before seats) refl is
     go : (o : Option SeatRecord) → first_of p is_wait_before seats ≡ o → Some t ≡ option_map turn_of o → (slice_get seats t.1 ≡ o) × (t.1 < length seats)
     go None e i = absurd cc
     go (Some s) e i =
-        grind (arith, common_steps, all_at, read_each seats h, first_of_contains p is_wait_before seats s e,
-        slice_get_within)
+        grind (arith, common_steps, read_each seats h, first_of_contains p is_wait_before seats s e, slice_get_within)
 
 pub next_turn : (last : Option (ℕ × ℕ)) (seats : List SeatRecord) → AreNumbered seats → find (is_turn_after last) (turns_of seats) ≡ option_map turn_of (first_of (waits_after last) is_wait_before seats)
 next_turn last seats h = first_turn (is_turn_after last) (waits_after last) seats h (λ s e. rw e refl) (λ s waits _. rw waits (same last s))

@@ -1,19 +1,16 @@
 -- What is known of the clients that wait while they hold a job.
-use Rattle.std.proofs.Common.{◌&&◌, ◌+◌, ◌-◌, ◌==◌, ◌||◌, ◌∙◌, ◌∷◌, ◌≡◌, ◌≤◌, if◌then◌else◌, Bool, List, None, Option, Some, [], ℕ, ap, arith, cond, false, map, min, not, refl, set, slice_get, subst, sym, true}
-use Rattle.std.proofs.lemmas.Bool.{and_parts, eq-eqb, eqb-true}
+use Rattle.std.proofs.Common.{◌-◌, ◌==◌, ◌∙◌, ◌∷◌, ◌≡◌, ◌≤◌, if◌then◌else◌, Bool, List, None, Option, Some, [], ℕ, ap, arith, false, map, refl, set, slice_get, sym, true}
+use Rattle.std.proofs.lemmas.{Bool.and_parts, Grind.common_steps}
 use Rattle.std.specs.{List.{AllByRecursion as All, Contains, list_any}, Prelude.{count_by, fold, is_some, length, option_map}}
 use Rattle.bq_job.specs.declared.job.{Job.Job, JobState.JobState}
 use Rattle.bq_job.specs.machine.{SeatRecord, first_of, is_held_by, is_holder, is_waiting, seat_with, watching}
 use Rattle.bq_job.specs.declared.job.JobState.TheVariants as states
-use Rattle.bq_job.proofs.{ChoiceLemmas.{first_of_none, first_of_none_passes}, KeptLemmas.only_seat, ListLemmas.{all_at, all_from_members, all_of_map, all_weaker, count_cons, list_any_not, list_any_with, none_pass}}
+use Rattle.bq_job.proofs.{ChoiceLemmas.{first_of_none, first_of_none_passes}, KeptLemmas.only_seat, ListLemmas.{all_at, all_from_members, all_of_map, all_weaker, list_any_not, none_pass}}
 use Rattle.bq_jobs.specs.{Kept.with_added, Leases.{deadline_of, is_lease_before}}
-use Rattle.bq_state.specs.declared.{known.Warns.{Warns, TheVariants.{Any, Client, Nobody}}, seats.SeatChange.{SeatChange, TheVariants.{Clear, Connect, End, StopWaiting, Use, Wait}}}
+use Rattle.bq_state.specs.declared.{known.Warns.{Warns, TheVariants.{Client, Nobody}}, seats.SeatChange.{SeatChange, TheVariants.Wait}}
 use Rattle.bq_state.specs.{Dues.{earlier_of_both, warning_due, warning_due_at, with_warning_due}, SeatChanges.{AreNumbered, seat_changed, seat_changed_at}}
-use Rattle.bq_state.specs.Warnings.{AreWarned, IsWarned, has_waiting_holder, holds_in_wait, is_waiting_there, may_hold, may_warn, warned_by_seat, warned_if_due, with_holder, with_holder_of, without_holder}
+use Rattle.bq_state.specs.Warnings.{AreWarned, IsWarned, has_waiting_holder, holds_in_wait, is_waiting_there, may_hold, may_warn, warned_by_seat, warned_if_due, with_holder, with_holder_of}
 use Rattle.bq_state.proofs.PartsLemmas.{all_added, all_read, all_set}
-use Rattle.std.proofs.lemmas.Grind.{common_steps}
-use Rattle.std.proofs.lemmas.Bool.{cases_Bool}
-use Rattle.std.proofs.lemmas.Bool.Decides.{nat_tests}
 
 -- beside no moment
 pub no_other : (a : Option ℕ) → earlier_of_both a None ≡ a
@@ -24,21 +21,15 @@ abbrev AtLeast : Warns → Warns → Type 0
 AtLeast warns more = (number : ℕ) → may_warn warns number ≡ true → may_warn more number ≡ true
 
 warned_more : (warns more : Warns) → AtLeast warns more → (jobs : List Job) (seats : List SeatRecord) → AreWarned warns jobs seats → AreWarned more jobs seats
-warned_more warns more at_least jobs seats known = grind (arith, common_steps, all_weaker)
+warned_more warns more at_least jobs seats known = grind (arith, all_weaker)
 
 -- that one more client may hold a job
-with_more : (seat : ℕ) (warns : Warns) → AtLeast warns (with_holder seat warns)
-with_more seat warns number h = grind (arith, common_steps, eqb-true)
-
-is_known : (seat : ℕ) (warns : Warns) → may_warn (with_holder seat warns) seat ≡ true
-is_known seat warns = grind (arith, common_steps, eq-eqb)
-
 more_if : (b : Bool) (state : JobState) (warns : Warns) → AtLeast warns (if b then with_holder_of state warns else warns)
-more_if b state warns number h = grind (arith, common_steps, with_more)
+more_if b state warns number h = grind (arith)
 
 -- who holds a job in this state is known
 known_of : (b : Bool) (state : JobState) (warns : Warns) (number : ℕ) → b ≡ true → is_holder number state ≡ true → may_warn (if b then with_holder_of state warns else warns) number ≡ true
-known_of b state warns number e h = grind (arith, common_steps, eqb-true, is_known)
+known_of b state warns number e h = grind (arith)
 
 pub none_found : (number : ℕ) (seats : List SeatRecord) → seat_with number seats ≡ None → All (λ t. (t.number == number) ≡ false) seats
 none_found number [] h = tt
@@ -56,12 +47,8 @@ holder_found j seats s numbered here h = go j.state (parts.1)
     parts = and_parts (is_waiting s) (is_held_by s.number j) h
 
     at : (seat : ℕ) → (seat == s.number) ≡ true → (o : Option SeatRecord) → seat_with seat seats ≡ o → is_waiting_there o ≡ true
-    at seat e None f =
-        grind (arith, common_steps, cases_Bool, nat_tests, eqb-true seat s.number e, eq-eqb, all_at,
-        none_found seat seats f)
-    at seat e (Some t) f =
-        grind (arith, common_steps, cases_Bool, nat_tests, eqb-true seat s.number e, all_at,
-        only_seat 0 (length seats) seat seats t numbered f)
+    at seat e None f = grind (arith, common_steps, none_found seat seats f)
+    at seat e (Some t) f = grind (arith, common_steps, only_seat 0 (length seats) seat seats t numbered f)
 
     go : (state : JobState) → is_holder s.number state ≡ true → has_waiting_holder state seats ≡ true
     go (states.Reserved seat deadline) e = at seat e (seat_with seat seats) refl
@@ -73,25 +60,9 @@ holder_found j seats s numbered here h = go j.state (parts.1)
 pub warned_added : (j : Job) (warns : Warns) (jobs : List Job) (seats : List SeatRecord) → AreNumbered seats → AreWarned warns jobs seats
     → AreWarned (if has_waiting_holder j.state seats then with_holder_of j.state warns else warns) (with_added j jobs) seats
 warned_added j warns jobs seats numbered known =
-    let waits = has_waiting_holder j.state seats in
-    let more = if waits then with_holder_of j.state warns else warns in
-    all_added (λ k. All (IsWarned more k) seats) j jobs
-    (all_from_members (IsWarned more j) seats
-    (λ s c h. known_of waits j.state warns s.number (holder_found j seats s numbered c h) ((and_parts (is_waiting s) (is_held_by s.number j) h).1)))
-    (warned_more warns more (more_if waits j.state warns) jobs seats known)
+    grind (arith, all_added, all_from_members, known_of, holder_found, and_parts, warned_more, more_if)
 
 -- a seat is changed
-one_changed : (number : ℕ) (what : SeatChange) (warns : Warns) (jobs : List Job) (j : Job) (s : SeatRecord) → may_hold what number warns jobs ≡ true → Contains jobs j → (s.number == number) ≡ true → IsWarned warns j s
-    → IsWarned (warned_by_seat number what warns) j (seat_changed what s)
-one_changed number what warns jobs j s holds c e known = grind (arith, common_steps, list_any_with, eqb-true)
-
--- of another one it is known as before
-others_known : (number : ℕ) (warns : Warns) (other : ℕ) → (other == number) ≡ false → may_warn warns other ≡ true → may_warn (without_holder number warns) other ≡ true
-others_known number warns other e h = grind (arith, common_steps, eqb-true)
-
-other_kept : (number : ℕ) (what : SeatChange) (warns : Warns) (j : Job) (s : SeatRecord) → (s.number == number) ≡ false → IsWarned warns j s → IsWarned (warned_by_seat number what warns) j s
-other_kept number what warns j s e known = grind (arith, common_steps, others_known)
-
 pub warned_of_seat : (number : ℕ) (what : SeatChange) (warns : Warns) (jobs : List Job) (seats : List SeatRecord) → may_hold what number warns jobs ≡ true → AreWarned warns jobs seats
     → AreWarned (warned_by_seat number what warns) jobs (map (seat_changed_at number what) seats)
 warned_of_seat number what warns jobs seats holds known =
@@ -101,25 +72,21 @@ warned_of_seat number what warns jobs seats holds known =
     (all_weaker (IsWarned warns j) (λ s. IsWarned later j (seat_changed_at number what s)) seats (λ s k. go j c s k (s.number == number) refl) (all_at (λ k. All (IsWarned warns k) seats) jobs j known c)))
   where
     go : (j : Job) → Contains jobs j → (s : SeatRecord) → IsWarned warns j s → (b : Bool) → (s.number == number) ≡ b → IsWarned (warned_by_seat number what warns) j (if b then seat_changed what s else s)
-    go j c s k b e = grind (arith, common_steps, one_changed, other_kept)
+    go j c s k b e = grind (arith, common_steps)
 
 -- a client watches other tubes
 pub warned_watching : (names : List (List ℕ)) (i : ℕ) (s : SeatRecord) (warns : Warns) (jobs : List Job) (seats : List SeatRecord) → slice_get seats i ≡ Some s → AreWarned warns jobs seats → AreWarned warns jobs (set seats i (watching names s))
-warned_watching names i s warns jobs seats here known = grind (arith, common_steps, all_weaker, all_set, all_read)
+warned_watching names i s warns jobs seats here known = grind (arith, all_weaker, all_set, all_read)
 
 -- where no warning is due, no client that waits holds a job
-both_none : (o u : Option ℕ) → earlier_of_both o u ≡ None → (o ≡ None) × (u ≡ None)
-both_none o u h = grind (arith, common_steps)
-
 all_none : {A : Type 0} (f : A → Option ℕ) (best : Option ℕ) (xs : List A) → fold (λ b x. earlier_of_both b (f x)) best xs ≡ None → (best ≡ None) × All (λ x. f x ≡ None) xs
 all_none f best [] h = (h, tt)
-all_none f best (x ∷ xs) h = grind (arith, common_steps, both_none, all_none f (earlier_of_both best (f x)) xs h)
+all_none f best (x ∷ xs) h = grind (arith, all_none f (earlier_of_both best (f x)) xs h)
 
 -- who holds no job while it waits is never told
 unheld : (jobs : List Job) (s : SeatRecord) → All (λ j. holds_in_wait j s ≡ false) jobs → warning_due jobs s ≡ None
 unheld jobs s none =
-    grind (arith, common_steps, cases_Bool, first_of_none_passes (is_held_by s.number) is_lease_before jobs,
-    list_any_not, all_weaker)
+    grind (arith, first_of_none_passes (is_held_by s.number) is_lease_before jobs, list_any_not, all_weaker)
 
 -- of a client that can't hold one while it waits, by what is known
 not_known : (warns : Warns) (jobs : List Job) (s : SeatRecord) → may_warn warns s.number ≡ false → All (λ j. IsWarned warns j s) jobs → warning_due jobs s ≡ None
@@ -161,16 +128,12 @@ none_due jobs [] known = refl
 none_due jobs (s ∷ seats) known =
     ap (λ o. fold (with_warning_due jobs) o seats) (not_known Nobody jobs s refl (of_first Nobody jobs s seats known)) ∙ none_due jobs seats (of_rest Nobody jobs s seats known)
 
--- and where one client alone may, it is its own.
-twice : (o : Option ℕ) → earlier_of_both o o ≡ o
-twice o = grind (arith, common_steps)
-
--- once it was found the others change nothing
+-- and where one client alone may, it is its own: once it was found the others change nothing.
 found_already : (holder : ℕ) (jobs : List Job) (t : SeatRecord) (seats : List SeatRecord) → AreWarned (Client holder) jobs seats → All (λ u. u.number ≡ holder → u ≡ t) seats
     → fold (with_warning_due jobs) (warning_due jobs t) seats ≡ warning_due jobs t
 found_already holder jobs t [] known only = refl
 found_already holder jobs t (s ∷ seats) known only =
-    grind (arith, common_steps, of_rest, eqb-true, twice, not_known, of_first, no_other,
+    grind (arith, not_known, of_first,
     found_already holder jobs t seats (of_rest (Client holder) jobs s seats known) only.1)
 
 among : (holder : ℕ) (jobs : List Job) (o : Option SeatRecord) (seats : List SeatRecord) → seat_with holder seats ≡ o → AreWarned (Client holder) jobs seats
@@ -181,16 +144,16 @@ among holder jobs o (s ∷ seats) e known only =
   where
     go : (b : Bool) → (s.number == holder) ≡ b → (if b then Some s else seat_with holder seats) ≡ o
         → (seat_with holder seats ≡ o → fold (with_warning_due jobs) None seats ≡ warning_due_at jobs o) → fold (with_warning_due jobs) (warning_due jobs s) seats ≡ warning_due_at jobs o
-    go b f i rest = grind (arith, common_steps, found_already, of_rest, not_known, of_first)
+    go b f i rest = grind (arith, found_already, of_rest, not_known, of_first)
 
 pub one_due : (holder : ℕ) (jobs : List Job) (seats : List SeatRecord) → AreNumbered seats → AreWarned (Client holder) jobs seats → fold (with_warning_due jobs) None seats ≡ warning_due_at jobs (seat_with holder seats)
-one_due holder jobs seats numbered known = grind (arith, common_steps, among, only_seat)
+one_due holder jobs seats numbered known = grind (arith, among, only_seat)
 
 -- and it is one of those that wait, or waits not
 pub one_waits : (number : ℕ) (seats : List SeatRecord) → (if is_waiting_there (seat_with number seats) then 1 else 0) ≤ count_by is_waiting seats
 one_waits number [] = omega arith
-one_waits number (s ∷ seats) = grind (arith, common_steps, count_cons, one_waits number seats)
+one_waits number (s ∷ seats) = grind (arith, common_steps, one_waits number seats)
 
 -- what is known of a client that comes to wait
 pub known_holds : (number ticket : ℕ) (until : Option ℕ) (warns was : Warns) (jobs : List Job) → warns ≡ (if list_any (is_held_by number) jobs then with_holder number was else was) → may_hold (Wait ticket until) number warns jobs ≡ true
-known_holds number ticket until warns was jobs e = grind (arith, common_steps, is_known)
+known_holds number ticket until warns was jobs e = grind (arith)
