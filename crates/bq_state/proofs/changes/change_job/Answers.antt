@@ -1,4 +1,4 @@
-use Rattle.std.proofs.Common.{◌&&◌, ◌==◌, ◌∙◌, if◌then◌else◌, ap, sym}
+use Rattle.std.proofs.{Common.{◌&&◌, ◌==◌, ◌∙◌, if◌then◌else◌, ap, arith, sym}, lemmas.Grind.common_steps}
 use Rattle.bq_job.specs.machine.{is_ready_state, job_with}
 use Rattle.bq_job.proofs.KeptLemmas.{ids_of_map}
 use Rattle.bq_jobs.specs.Changed.{moved_by}
@@ -8,11 +8,7 @@ use Rattle.bq_state.proofs.{CrowdPlaces.waiters_counted, KnowledgeLemmas.so_with
 use Rattle.bq_state.proofs.changes.change_job.Goals as goal
 
 pub invariant_of-state : goal.invariant_of-state
-invariant_of-state c =
-    let st = c.args.state.now in
-    let none = nothing_told_of (moved_by (changed c.args.what.now)) (job_with c.args.id st.jobs.jobs) (sym c.in_default.ensures.moved) in
-    let same = c.in_default.ensures.jobs ∙ no_job_changed c.args.id (changed c.args.what.now) st.jobs.jobs none in
-    record { sound = rw same c.args.state.now.sound }
+invariant_of-state c = grind (arith, common_steps, nothing_told_of, no_job_changed)
 
 pub invariant_of-state-2 : goal.invariant_of-state-2
 invariant_of-state-2 c =

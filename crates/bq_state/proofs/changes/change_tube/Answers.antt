@@ -1,15 +1,10 @@
-use Rattle.std.proofs.Common.{◌∙◌, ap, sym}
-use Rattle.bq_state.specs.{CoreParts.machine_of, KeptTubes.KeptTubes, Knowledge.with_tube_changed, TubeEntries.{counted, tube_changed}}
+use Rattle.std.proofs.{Common.{◌∙◌, ap, arith}, lemmas.Grind.common_steps}
+use Rattle.bq_state.specs.{KeptTubes.KeptTubes, Knowledge.with_tube_changed}
 use Rattle.bq_state.proofs.{KnowledgeLemmas.so_with_tube, PartsLemmas.{entries_of_tube, tube_counts, tube_name_kept}, TubeLemmas.record_changed}
 use Rattle.bq_state.proofs.changes.change_tube.Goals as goal
 
 pub returns-clause-after : goal.returns-clause-after
-returns-clause-after c =
-    let s = c.args.state.now in
-    let e = c.args.state.now.sound.entries in
-    ap (λ tubes. record (machine_of s) { tubes = tubes })
-    (ap counted (ap (λ (k : KeptTubes). k.entries) c.change.ensures)
-    ∙ sym (record_changed c.args.tube.now (tube_changed c.args.what) (tube_counts c.args.what) (tube_name_kept c.args.what) s.tubes.entries e.order e.fresh c.requires.entry))
+returns-clause-after c = grind (arith, common_steps, record_changed, tube_counts, tube_name_kept)
 
 pub invariant_of-state : goal.invariant_of-state
 invariant_of-state c =

@@ -4,10 +4,10 @@ use Rattle.bq_state.specs.declared.tubes.entry.Moving.TheVariants.{Goes}
 use Rattle.bq_state.specs.{CoreParts.machine_of, Counting.with_crowds_at, Crowds.recounted, KeptTubes.KeptTubes, TubeEntries.counted}
 use Rattle.bq_state.proofs.{KnowledgeLemmas.so_ignoring, PartsLemmas.{changed_there, seat_read, seat_there, watching_fewer, watching_numbered}, WaitingLemmas.in_turn_watching}
 use Rattle.bq_state.proofs.changes.ignore_tube.Goals as goal
+use Rattle.std.proofs.lemmas.Grind.{common_steps}
 
 pub ignore-requires-clause-other : goal.ignore-requires-clause-other
-ignore-requires-clause-other c s there =
-    c.requires.other s (seat_read c.args.state.now.seats.items c.args.seat s c.args.state.now.sound.numbered there)
+ignore-requires-clause-other c s there = grind (arith, common_steps, seat_read)
 
 pub returns-then-from-len-clause-after : goal.returns-then-from-len-clause-after
 returns-then-from-len-clause-after c s found =
@@ -44,15 +44,11 @@ invariant_of-state c =
     }
 
 pub returns-else-from-len-clause-after : goal.returns-else-from-len-clause-after
-returns-else-from-len-clause-after c s found =
-    let here = slice_get_within c.args.state.now.seats.items c.args.seat s (seat_there c.args.state.now.seats.items c.args.seat s c.args.state.now.sound.numbered found) in
-    absurd (omega arith)
+returns-else-from-len-clause-after c s found = grind (arith, common_steps, slice_get_within, seat_there)
 
 pub returns-then-from-len-clause-count : goal.returns-then-from-len-clause-count
 returns-then-from-len-clause-count c s found =
     c.ignore.ensures.count s (seat_there c.args.state.now.seats.items c.args.seat s c.args.state.now.sound.numbered found)
 
 pub returns-else-from-len-clause-count : goal.returns-else-from-len-clause-count
-returns-else-from-len-clause-count c s found =
-    let here = slice_get_within c.args.state.now.seats.items c.args.seat s (seat_there c.args.state.now.seats.items c.args.seat s c.args.state.now.sound.numbered found) in
-    absurd (omega arith)
+returns-else-from-len-clause-count c s found = grind (arith, common_steps, slice_get_within, seat_there)

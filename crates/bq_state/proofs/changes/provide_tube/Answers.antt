@@ -1,11 +1,10 @@
-use Rattle.std.proofs.Common.{◌∙◌, ap}
+use Rattle.std.proofs.{Common.{◌∙◌, ap, arith}, lemmas.Grind.common_steps}
 use Rattle.bq_state.specs.{CoreParts.machine_of, KeptTubes.KeptTubes, TubeEntries.{counted, has_entry}}
 use Rattle.bq_state.proofs.{KnowledgeLemmas.so_provided, PartsLemmas.{counted_provided, entries_provided, has_provided}}
 use Rattle.bq_state.proofs.changes.provide_tube.Goals as goal
 
 pub returns-in-Ok-clause-after : goal.returns-in-Ok-clause-after
-returns-in-Ok-clause-after c =
-    ap (λ tubes. record (machine_of c.args.state.now) { tubes = tubes }) (ap counted (ap (λ (k : KeptTubes). k.entries) c.in-Ok.ensures.after) ∙ counted_provided c.args.tube.now c.args.state.now.tubes.entries)
+returns-in-Ok-clause-after c = grind (arith, common_steps, counted_provided)
 
 pub returns-in-Ok-clause-entry : goal.returns-in-Ok-clause-entry
 returns-in-Ok-clause-entry c = ap (has_entry c.args.tube.now) (ap (λ (k : KeptTubes). k.entries) c.in-Ok.ensures.after) ∙ has_provided c.args.tube.now c.args.state.now.tubes.entries

@@ -1,21 +1,16 @@
-use Rattle.std.proofs.{Common.{◌++◌, ◌∙◌, ◌∷◌, ◌≡◌, ◌≤◌, if◌then◌else◌, Some, [], ap, arith, get_or, length, refl, set, slice_get, sym, vec_len}, lemmas.Option.{slice_get_read, slice_get_within}}
+use Rattle.std.proofs.{Common.{◌++◌, ◌∙◌, ◌∷◌, ◌≡◌, ◌≤◌, if◌then◌else◌, Some, [], ap, arith, get_or, length, refl, set, slice_get, sym}, lemmas.Option.{slice_get_read, slice_get_within}}
 use Rattle.bq_job.specs.machine.{greatest, seat_with, watching, Machine.Machine}
 use Rattle.bq_state.specs.declared.tubes.entry.{Moving.TheVariants.Comes, Share.Share}
 use Rattle.bq_state.specs.{CoreParts.machine_of, Counting.with_crowds_at, Crowds.recounted, KeptTubes.KeptTubes, Stirs.with_anything, TubeEntries.counted}
 use Rattle.bq_state.proofs.{KnowledgeLemmas.so_watching, PartsLemmas.{changed_there, seat_read, seat_there, watching_more, watching_numbered}, WaitingLemmas.in_turn_watching}
 use Rattle.bq_state.proofs.changes.watch_tube.Goals as goal
+use Rattle.std.proofs.lemmas.Grind.{common_steps}
 
 pub returns-then-from-len-clause-count : goal.returns-then-from-len-clause-count
-returns-then-from-len-clause-count c s found =
-    let here = slice_get_within c.args.state.now.seats.items c.args.seat s (seat_there c.args.state.now.seats.items c.args.seat s c.args.state.now.sound.numbered found) in
-    let same = ap (λ v. vec_len v) c.in_ok-provide_tube.ensures.seats in
-    absurd (omega arith)
+returns-then-from-len-clause-count c s found = grind (arith, common_steps, slice_get_within, seat_there)
 
 pub returns-then-from-len-clause-watched : goal.returns-then-from-len-clause-watched
-returns-then-from-len-clause-watched c s found =
-    let here = slice_get_within c.args.state.now.seats.items c.args.seat s (seat_there c.args.state.now.seats.items c.args.seat s c.args.state.now.sound.numbered found) in
-    let same = ap (λ v. vec_len v) c.in_ok-provide_tube.ensures.seats in
-    absurd (omega arith)
+returns-then-from-len-clause-watched c s found = grind (arith, common_steps, slice_get_within, seat_there)
 
 pub returns-in-Ok-clause-count : goal.returns-in-Ok-clause-count
 returns-in-Ok-clause-count c s found =

@@ -1,13 +1,12 @@
-use Rattle.std.proofs.Common.{◌&&◌, ◌∙◌, ◌≡◌, None, Option, Some, ap, is_some}
-use Rattle.std.specs.{Borrow.Bor, List.list_any, Option.option_map, Prelude.find}
+use Rattle.std.proofs.{Common.{◌∙◌, ◌≡◌, Option, ap, arith}, lemmas.Grind.common_steps}
+use Rattle.std.specs.{Borrow.Bor, Option.option_map, Prelude.find}
 use Rattle.bq_job.specs.reading.TubeName.{is_same_name}
-use Rattle.bq_state.specs.{Crowds.crowd_at, KeptTubes.{KeptTube, KeptTubes, crowd_by, is_paused_by, record_of, tally_by}, Tallies.tally_at}
+use Rattle.bq_state.specs.KeptTubes.{KeptTube, KeptTubes, record_of}
 use Rattle.bq_state.proofs.NamedLemmas.{found_crowd, found_entry, found_pause, found_tally, in_order}
 use Rattle.bq_state.proofs.tubes.Tubes.entry_of.Goals as goal
 
 read : {B : Type 0} (f : KeptTube → B) (o : Option (Bor KeptTube)) {x : Option KeptTube} → option_map (λ (t : Bor KeptTube). t.now) o ≡ x → option_map (λ (t : Bor KeptTube). f t.now) o ≡ option_map f x
-read f None e = ap (option_map f) e
-read f (Some t) e = ap (option_map f) e
+read f o e = grind (arith, common_steps)
 
 pub returns-clause-entry : goal.returns-clause-entry
 returns-clause-entry c =
@@ -17,19 +16,10 @@ returns-clause-entry c =
     ∙ ap (λ (k : KeptTubes). find (λ t. is_same_name name t.name) k.entries) c.self.view_is
 
 pub returns-clause-tally : goal.returns-clause-tally
-returns-clause-tally c =
-    let name = c.args.name.now in
-    ap tally_by c.peek.ensures.value ∙ found_tally name c.self.inside.kept.entries ∙ ap (λ (k : KeptTubes). tally_at name k.entries k.tallies) c.self.view_is
+returns-clause-tally c = grind (arith, common_steps, found_tally)
 
 pub returns-clause-crowd : goal.returns-clause-crowd
-returns-clause-crowd c =
-    let name = c.args.name.now in
-    ap crowd_by c.peek.ensures.value ∙ found_crowd name c.self.inside.kept.entries ∙ ap (λ (k : KeptTubes). crowd_at name k.entries k.crowds) c.self.view_is
+returns-clause-crowd c = grind (arith, common_steps, found_crowd)
 
 pub returns-clause-pause : goal.returns-clause-pause
-returns-clause-pause c =
-    let name = c.args.name.now in
-    let es = c.self.inside.kept.entries in
-    ap is_paused_by c.peek.ensures.value
-    ∙ found_pause name es (in_order es c.peek.ensures.ordered)
-    ∙ ap (λ (k : KeptTubes). list_any (λ t. is_same_name name t.name && is_some t.pause) k.entries) c.self.view_is
+returns-clause-pause c = grind (arith, common_steps, found_pause, in_order)

@@ -1,24 +1,14 @@
-use Rattle.std.proofs.Common.{◌∙◌, ap, filter, map, subst, sym}
+use Rattle.std.proofs.{Common.{◌∙◌, ap, arith, subst, sym}, lemmas.Grind.common_steps}
 use Rattle.std.specs.Map.{lookup}
-use Rattle.bq_state.specs.{Crowds.crowds_of, KeptTubes.{KeptTubes, is_alive_at, is_gone_by, is_named_at, record_at}, Losses.AreAlive, Tallies.tallies_of, TubeEntries.{AreInOrder, is_tube_of}}
+use Rattle.bq_state.specs.{Crowds.crowds_of, KeptTubes.{KeptTubes, is_alive_at, is_gone_by, is_named_at}, Tallies.tallies_of}
 use Rattle.bq_state.proofs.{GoneLemmas.{AreTallied, filter_records, filter_tallied, if_tallied, one_left}, LossLemmas.all_kept_alive}
 use Rattle.bq_state.proofs.tubes.Tubes.forget_lost.Goals as goal
 
 pub returns-in-Nothing-clause-after : goal.returns-in-Nothing-clause-after
-returns-in-Nothing-clause-after c jobs seats order all e f =
-    let es = c.args.self.now.entries in
-    sym (all_kept_alive jobs seats es (subst (λ loss. AreAlive loss jobs seats es) c.in-Nothing.is all))
+returns-in-Nothing-clause-after c jobs seats order all e f = grind (arith, common_steps, all_kept_alive)
 
 pub returns-in-Of-clause-after : goal.returns-in-Of-clause-after
-returns-in-Of-clause-after c jobs seats order all e f =
-    let es = c.self.inside.kept.entries in
-    let name = c.in-Of.name in
-    let tallied : AreTallied jobs seats es = (ap (λ (k : KeptTubes). k.tallies) c.self.view_is ∙ e ∙ ap (λ (k : KeptTubes). tallies_of jobs k.entries) (sym c.self.view_is), ap (λ (k : KeptTubes). k.crowds) c.self.view_is ∙ f ∙ ap (λ (k : KeptTubes). crowds_of seats k.entries) (sym c.self.view_is)) in
-    let in_order = subst (λ (k : KeptTubes). AreInOrder k.entries) (sym c.self.view_is) order in
-    let alive = subst (λ (k : KeptTubes). AreAlive c.args.loss.now jobs seats k.entries) (sym c.self.view_is) all in
-    ap (map record_at) c.forget_named.ensures.kept
-    ∙ one_left jobs seats name es in_order (subst (λ loss. AreAlive loss jobs seats (map record_at es)) c.in-Of.is alive) tallied
-    ∙ ap (λ (k : KeptTubes). filter (λ t. is_tube_of jobs seats t.name) k.entries) c.self.view_is
+returns-in-Of-clause-after c jobs seats order all e f = grind (arith, common_steps, one_left)
 
 pub returns-in-Of-clause-kept : goal.returns-in-Of-clause-kept
 returns-in-Of-clause-kept c jobs seats e f =
@@ -28,12 +18,7 @@ returns-in-Of-clause-kept c jobs seats e f =
     subst (AreTallied jobs seats) (sym c.forget_named.ensures.kept) (if_tallied jobs seats (is_gone_by name (lookup (is_named_at name) es)) (is_named_at name) es tallied)
 
 pub returns-in-Any-clause-after : goal.returns-in-Any-clause-after
-returns-in-Any-clause-after c jobs seats order all e f =
-    let es = c.self.inside.kept.entries in
-    let tallied : AreTallied jobs seats es = (ap (λ (k : KeptTubes). k.tallies) c.self.view_is ∙ e ∙ ap (λ (k : KeptTubes). tallies_of jobs k.entries) (sym c.self.view_is), ap (λ (k : KeptTubes). k.crowds) c.self.view_is ∙ f ∙ ap (λ (k : KeptTubes). crowds_of seats k.entries) (sym c.self.view_is)) in
-    ap (map record_at) c.forget_all.ensures.kept
-    ∙ filter_records jobs seats es tallied
-    ∙ ap (λ (k : KeptTubes). filter (λ t. is_tube_of jobs seats t.name) k.entries) c.self.view_is
+returns-in-Any-clause-after c jobs seats order all e f = grind (arith, common_steps, filter_records)
 
 pub returns-in-Any-clause-kept : goal.returns-in-Any-clause-kept
 returns-in-Any-clause-kept c jobs seats e f =

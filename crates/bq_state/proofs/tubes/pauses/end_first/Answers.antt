@@ -1,6 +1,5 @@
-use Rattle.std.proofs.Common.{◌∙◌, ◌≡◌, Some, ap, arith, map, refl, subst, sym, true}
-use Rattle.bq_state.specs.declared.tubes.pauses.PauseEnd.{PauseEnd}
-use Rattle.bq_state.specs.{Dues.is_end_over, KeptTubes.{crowd_kept, ended, record_at, tally_kept}, PauseEnds.{end_of, first_end, has_end, pause_at, with_end, without_end}}
+use Rattle.std.proofs.{Common.{◌∙◌, Some, ap, arith, map, refl, sym}, lemmas.Grind.common_steps}
+use Rattle.bq_state.specs.{Dues.is_end_over, KeptTubes.{crowd_kept, ended, record_at, tally_kept}, PauseEnds.{end_of, first_end, pause_at, with_end, without_end}}
 use Rattle.bq_state.proofs.{EndLemmas.{first_is, none_over_yet, one_over}, EndMoves.{ends_moved, one_box, one_if, over_fewer, over_from, over_moves, over_records, over_to}, NamedLemmas.{edit_same_crowds, edit_same_tallies, in_order}}
 use Rattle.bq_state.proofs.tubes.pauses.end_first.Goals as goal
 
@@ -11,17 +10,10 @@ returns-in_default-clause-done c _ =
     ap (is_end_over moment) (sym (first_is (map record_at c.args.kept.now.entries) ends c.requires c.in_default.ensures.ordered)) ∙ none_over_yet moment (first_end ends.entries) c.in_default.ensures.end
 
 pub leave-requires : goal.leave-requires
-leave-requires c x is =
-    let same : c.in-Some.end ≡ x = some_is c.in-Some.end x is in
-    subst (λ (e : PauseEnd). has_end e c.args.ends.now.entries ≡ true) same (one_over c.args.moment c.in-Some.end c.args.ends.now.entries c.in-Some.ensures.end).0
-  where
-    some_is : (a b : PauseEnd) → Some a ≡ Some b → a ≡ b
-    some_is a b e = cc
+leave-requires c x is = grind (arith, common_steps, one_over)
 
 pub returns-clause-records : goal.returns-clause-records
-returns-clause-records c =
-    let es = c.args.kept.now.entries in
-    over_records c.args.moment c.in-Some.end es c.end_pause.new.catalog.entries c.args.ends.now c.requires (in_order es c.end_pause.ensures.ordered) c.in-Some.ensures.end c.end_pause.ensures.entries
+returns-clause-records c = grind (arith, common_steps, over_records, in_order)
 
 pub returns-clause-tallies : goal.returns-clause-tallies
 returns-clause-tallies c = ap (map tally_kept) c.end_pause.ensures.entries ∙ edit_same_tallies c.in-Some.end.name (ended c.args.moment) (λ t. refl) c.args.kept.now.entries
@@ -30,9 +22,7 @@ pub returns-clause-crowds : goal.returns-clause-crowds
 returns-clause-crowds c = ap (map crowd_kept) c.end_pause.ensures.entries ∙ edit_same_crowds c.in-Some.end.name (ended c.args.moment) (λ t. refl) c.args.kept.now.entries
 
 pub returns-clause-fewer : goal.returns-clause-fewer
-returns-clause-fewer c _ =
-    let es = c.args.kept.now.entries in
-    over_fewer c.args.moment c.in-Some.end es c.end_pause.new.catalog.entries c.args.ends.now c.requires (in_order es c.end_pause.ensures.ordered) c.in-Some.ensures.end c.end_pause.ensures.entries
+returns-clause-fewer c _ = grind (arith, common_steps, over_fewer, in_order)
 
 pub returns-clause-ends : goal.returns-clause-ends
 returns-clause-ends c =
