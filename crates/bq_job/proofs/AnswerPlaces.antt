@@ -5,10 +5,9 @@ use Rattle.std.proofs.lemmas.List.{Elements.Contains-append_cases, Folds.list_an
 use Rattle.std.specs.{List.{AllByRecursion as All, Contains}, Prelude.{◌==◌, IsTrue, filter, flat_map}}
 use Rattle.bq_job.specs.machine.{Chain, DispatchTurn, Dispatches, Effect, GivenAnswer, IsHandOut, IsStep, Machine.Machine, Memory, Outcome}
 use Rattle.bq_job.specs.machine.{SeatRecord, Serves, WaitEndTurn, acted, addressed, after_timers, at_moment, end_of_wait, forgetting}
-use Rattle.bq_job.specs.machine.{granted, growth_refused, is_deadline_soon, is_held_by, is_possible, is_reserved, job_with, last_id}
 use Rattle.bq_job.specs.laws.{GivesLeast, IsDeletion, IsDispatchedLeast, IsReservedById, has_inserted, is_inserted}
-use Rattle.bq_job.specs.{machine.share_refused, promise.{GoesBy, IsTransition, Parts, Transition, parts_of}}
-use Rattle.bq_job.specs.Types.{Answer, Job, Step}
+use Rattle.bq_job.specs.machine.{is_deadline_soon, is_held_by, is_possible, is_reserved, job_with, last_id}
+use Rattle.bq_job.specs.{promise.{GoesBy, IsTransition, Parts, Transition, parts_of}, Types.{Answer, Job, Step}}
 use Rattle.bq_job.specs.declared.answer.Answer.TheVariants as answers
 use Rattle.bq_job.specs.declared.request.Request.TheVariants as requests
 use Rattle.bq_job.specs.declared.step.Step.TheVariants as steps

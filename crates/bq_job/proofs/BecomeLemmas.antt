@@ -3,7 +3,7 @@ use Rattle.std.proofs.Common.{ℕ, zero, suc, ◌≡◌, Bool, true, false, ◌|
 use Rattle.std.proofs.lemmas.Bool.{and_parts, or_cases, or_left, or_right, cond_both, eqb-true, eq-eqb, cases_Bool}
 use Rattle.std.proofs.lemmas.Grind.{common_steps}
 use Rattle.std.specs.{List.{AllByRecursion as All, Contains, list_any}, Prelude.{◌==◌, filter, take}}
-use Rattle.bq_job.specs.machine.{delayed_by, in_order, is_buried, is_buried_before, is_buried_in, is_delayed, is_delayed_in, is_due_before}
+use Rattle.bq_job.specs.machine.{delayed_by, in_order, is_buried, is_buried_before, is_buried_in, is_delayed}
 use Rattle.bq_job.specs.machine.{is_held_by, is_ready, is_ready_state, is_reserved, job_with, kickable, kicked_first, later}
 use Rattle.bq_job.specs.{beside.AreIdsWithin, laws.{Happening, change, disturbs, given_up, named, taken_up}}
 use Rattle.bq_job.specs.{machine.put_in_order, reading.TubeName.is_same_name, Types.{Job, JobState, Step}}

@@ -1,5 +1,5 @@
 -- The first of those that pass a test: it is one of the list, it passes, and none that passes comes before it.
-use Rattle.std.proofs.Common.{ℕ, ◌≡◌, Bool, true, false, ◌&&◌, ◌||◌, List, [], ◌∷◌, Option, Some, None, arith, refl, sym, ap, ◌∙◌, subst, inl, inr, ◌⊎◌}
+use Rattle.std.proofs.Common.{◌||◌, ◌∙◌, ◌∷◌, ◌≡◌, ◌⊎◌, Bool, List, None, Option, Some, [], ℕ, ap, arith, false, inl, inr, refl, subst, sym, true}
 use Rattle.std.proofs.{Common.◌==◌, lemmas.Bool.{and_cases, and_parts, both_ways, cases_Bool, Decides.nat_tests}}
 use Rattle.std.proofs.lemmas.{Grind.common_steps, List.Elements.{All-contains, All-from_recursion}}
 use Rattle.std.proofs.{lemmas.List.Folds.list_any-from_Any, Math.Bool.or_assoc}

@@ -4,8 +4,8 @@ use Rattle.std.proofs.lemmas.{Bool.{and_parts, and_right, both_ways, cases_Bool,
 use Rattle.std.specs.{List.AllByRecursion as All, Prelude.{◌==◌, IsTrue}}
 use Rattle.bq_job.specs.machine.{Chain, Effect, GivenAnswer, IsHandOut, IsStep, Machine.Machine, Memory, Outcome, SeatRecord}
 use Rattle.bq_job.specs.machine.{at_found, at_moment, close_effect, connect_effect, effect, empty_seat, end_effect, ends_waiting}
-use Rattle.bq_job.specs.machine.{forgetting, granted, growth_refused, has_closed, is_connected_at, is_deadline_soon, is_possible}
-use Rattle.bq_job.specs.machine.{is_until_over, is_wait_before, is_waiting, may_be_left_out, seat_with, share_refused, shares_body, silent}
+use Rattle.bq_job.specs.machine.{forgetting, has_closed, is_connected_at, is_deadline_soon, is_possible}
+use Rattle.bq_job.specs.machine.{is_until_over, is_wait_before, is_waiting, seat_with, shares_body, silent}
 use Rattle.bq_job.specs.beside.{GetsAnswer, GetsAtMost, GetsClosed, GetsWhatWaits, GivesClient, IsLawful, owing}
 use Rattle.bq_job.specs.machine.{Serves, acted, addressed, after_close, after_connect, after_timers, step_takes_memory}
 use Rattle.bq_job.specs.{machine.{telling, with_end, with_seat}, promise.answers_to, Types.{Answer, Job, Request, Step}}

@@ -1,23 +1,21 @@
 -- Of which kind each command is: the one list of cases over all requests.
-use Rattle.std.proofs.Common.{ℕ, ◌≡◌, ◌≤◌, Bool, true, false, ◌||◌, not, cond, List, [], ◌∷◌, refl, sym, ap, inl, inr, ◌⊎◌, Option, Some, None, arith}
+use Rattle.std.proofs.Common.{◌||◌, ◌≡◌, ◌≤◌, ◌⊎◌, Bool, List, None, Option, Some, ℕ, ap, arith, cond, false, inl, inr, not, refl, sym, true}
 use Rattle.std.proofs.lemmas.{Bool.{and_parts, cond_both, eq-eqb}, Grind.common_steps}
 use Rattle.std.specs.{List.list_any, Prelude.{◌==◌, filter, length, take}}
 use Rattle.bq_job.specs.machine.{is_buried, is_buried_before, is_buried_in, is_closed_answer, is_delayed, is_delayed_in, is_due_before}
-use Rattle.bq_job.specs.machine.{refusal_answer, reserved_by, server_statistics, showing, telling, tube_statistics, tubes, using}
 use Rattle.bq_job.specs.{beside.{has_one, is_refusal, none_twice, watches_once}, laws.reserved_by_id, machine.Effect}
 use Rattle.bq_job.specs.machine.{SeatRecord, after_delete, asked, first_of, greatest, is_free_for, is_job_before}
-use Rattle.bq_job.specs.machine.{is_ready_in, is_reserved, is_tube, job_statistics, job_statistics_or_not, job_with}
-use Rattle.bq_job.specs.machine.{kickable, kicked, later, name_list, on_found, on_job, watched_with, watching}
-use Rattle.bq_job.specs.machine.{watching_or_refused, with_job, with_pause, with_tube, Machine.Machine}
+use Rattle.bq_job.specs.machine.{is_ready_in, is_reserved, job_statistics_or_not, job_with, kickable, kicked, later}
+use Rattle.bq_job.specs.machine.{name_list, on_job, refusal_answer, reserved_by, server_statistics, showing, telling}
+use Rattle.bq_job.specs.machine.{tubes, watched_with, watching, watching_or_refused, with_job, Machine.Machine}
 use Rattle.bq_job.specs.{promise.answers_wanted, reading.TubeName.is_same_name, Types.{Answer, Job, Refusal, Request}}
 use Rattle.bq_job.specs.declared.answer.Answer.TheVariants as answers
-use Rattle.bq_job.specs.declared.refusal.Refusal.TheVariants as refusals
 use Rattle.bq_job.specs.declared.request.Request.TheVariants as requests
 use Rattle.bq_job.specs.declared.step.Step.TheVariants as steps
 use Rattle.bq_job.proofs.BecomeLemmas.{IsAside, all_of_take, chosen_not_held, free_by_delay, held_not_ready, kickable_aside, one_becomes, put_aside_not_held, told_by_name, told_if_given_up, told_if_taken}
 use Rattle.bq_job.proofs.EffectKinds.{IsFreeOrOwn, Kind, SaysDone, adds, changes_jobs, changes_seat, changes_tube, deletes, is_common, passes, tells, waits}
 use Rattle.bq_job.proofs.{ChangeLemmas.{Becomes, becomes_itself}, LookupLemmas.{found_job, job_found}}
-use Rattle.bq_job.proofs.{PutLemmas.each_put, WatchedLemmas.{none_twice_filter, watched_still}}
+use Rattle.bq_job.proofs.WatchedLemmas.{none_twice_filter, watched_still}
 
 -- an answer that says that the command was carried out, and no RESERVED
 says : {request : Request} (answer : Answer) → answers_wanted request ≡ 1 → is_closed_answer answer ≡ false → is_refusal answer ≡ false → is_common (Some answer) ≡ true → SaysDone request answer

@@ -1,5 +1,5 @@
 -- Answers line by line: where a list of them is cut.
-use Rattle.std.proofs.Common.{◌++◌, ◌+◌, ◌∙◌, ◌∷◌, ◌≡◌, ◌≤◌, List, [], ℕ, ap, arith, false, length, refl, suc, sym}
+use Rattle.std.proofs.Common.{◌++◌, ◌+◌, ◌∙◌, ◌∷◌, ◌≡◌, ◌≤◌, List, [], ℕ, ap, arith, false, length, refl, suc}
 use Rattle.std.proofs.lemmas.{Bool.or_parts, Grind.common_steps}
 use Rattle.bq_job.specs.{beside.AreLinesServed, machine.{has_closed, is_closed_answer}, promise.LineOver, Types.Answer}
 use Rattle.bq_job.specs.Types.{Step}

@@ -1,9 +1,9 @@
 -- A job that was put is there until it is deleted, and one client at most holds it.
-use Rattle.std.proofs.Common.{ℕ, ◌≡◌, ◌<◌, true, false, cond, List, [], ◌∷◌, ◌++◌, map, arith, refl, sym, ap, ◌∙◌, subst, inl, inr, ◌⊎◌, Option, Some}
+use Rattle.std.proofs.Common.{◌++◌, ◌<◌, ◌∙◌, ◌∷◌, ◌≡◌, ◌⊎◌, List, Option, Some, [], ℕ, ap, arith, cond, false, inl, inr, refl, subst, sym, true}
 use Rattle.std.proofs.{Common.map-id, lemmas.Bool.{and_from, and_parts, both_ways, cases_Bool, cond_both, eq-eqb}}
 use Rattle.std.proofs.lemmas.{Bool.{eqb-true, or_parts}, Grind.common_steps, List.Folds.list_any-append}
 use Rattle.std.specs.{List.{AllByRecursion as All, Contains, list_any}, Prelude.{◌==◌, option_map}}
-use Rattle.bq_job.specs.machine.{Machine.Machine, SeatRecord, Settings, is_connected_at, is_held_by, is_holder, is_reserved, job_with}
+use Rattle.bq_job.specs.machine.{Settings, is_connected_at, is_held_by, is_holder, is_reserved, job_with, Machine.Machine}
 use Rattle.bq_job.specs.laws.{Happening, IsHeldByOne, IsKept, Part, happenings, is_deletion, parts_of_run, put}
 use Rattle.bq_job.specs.{machine.{new_machine, reserved_by}, promise.{GoesBy, Transition}, Types.{Job, JobState}}
 use Rattle.bq_job.proofs.{JobMoves.{Fate, Move, Moves, handing, putting, quiet}, KeptLemmas.Keeps}

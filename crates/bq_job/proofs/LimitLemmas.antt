@@ -1,10 +1,10 @@
 -- There are never more jobs than there may be.
-use Rattle.std.proofs.Common.{ℕ, suc, ◌≡◌, ◌≤◌, Bool, false, not, cond, List, [], ◌∷◌, length, arith, refl, sym, ap, ◌∙◌, subst, inl, inr, Option, Some}
+use Rattle.std.proofs.Common.{◌∙◌, ◌∷◌, ◌≡◌, ◌≤◌, List, Option, Some, [], ℕ, ap, arith, false, length, not, refl, subst, suc, sym}
 use Rattle.std.proofs.lemmas.{Bool.{cases_Bool, leb-false}, Grind.common_steps, List.length-map}
-use Rattle.std.specs.{List.{AllByRecursion as All, Contains}, Prelude.{◌==◌, filter}}
+use Rattle.std.specs.{List.{AllByRecursion as All, Contains}, Prelude.◌==◌}
 use Rattle.bq_job.specs.{beside.IsLawful, laws.{Part, parts_in, parts_of_run}, machine.{Chain, Dispatches, EndsWaits}}
-use Rattle.bq_job.specs.machine.{GivenAnswer, IsHandOut, SeatRecord, acted, after_hand_out, after_timers, at_moment}
-use Rattle.bq_job.specs.machine.{forgetting, is_full, job_after_timers, new_machine, reserved_by, Machine.Machine}
+use Rattle.bq_job.specs.machine.{GivenAnswer, IsHandOut, SeatRecord, acted, after_timers, at_moment}
+use Rattle.bq_job.specs.machine.{forgetting, is_full, new_machine, Machine.Machine}
 use Rattle.bq_job.specs.{promise.{GoesBy, IsTransition, Parts, Transition}, Types.{Job, Settings, Step}}
 use Rattle.bq_job.proofs.{ActMoves.{After, after_acted}, ChangeLemmas.{added, changed, removed_one}}
 use Rattle.bq_job.proofs.{DispatchLemmas.turn_of, KeptLemmas.{Keeps, kept_of_lawful}, LawfulLemmas.end_of}

@@ -13,15 +13,6 @@ pub job_in_map : (f : Job → Job) (id : ℕ) (jobs : List Job) → ((j : Job) �
 job_in_map f id [] same = refl
 job_in_map f id (j ∷ jobs) same = grind (arith, common_steps, cases_Bool, job_in_map f id jobs same)
 
--- a job that isn't below the first id isn't found below it
-pub none_below : (id low next : ℕ) (jobs : List Job) → id < low → AreIdsWithin low jobs next → job_with id jobs ≡ None
-none_below id low next [] less h = refl
-none_below id low next (j ∷ jobs) less h =
-    elim (cases_Bool (j.id == id)) [
-      | inl e ↦ let at = eqb-true j.id id e in let a = h.0 in absurd (omega arith)
-      | inr e ↦ rw e (none_below id (suc j.id) next jobs (let a = h.0 in omega arith) h.1)
-    ]
-
 -- each job of the list is found by its id
 pub job_found : (low next : ℕ) (jobs : List Job) (j : Job) → AreIdsWithin low jobs next → Contains jobs j → (job_with j.id jobs ≡ Some j) × (j.id < next)
 job_found low next jobs j h i = all_at (λ k. (job_with k.id jobs ≡ Some k) × (k.id < next)) jobs j (all_found low next jobs h) i

@@ -1,5 +1,5 @@
 -- Names in byte order, and the tubes that are listed.
-use Rattle.std.proofs.Common.{◌≡◌, ℕ, Bool, true, false, ◌&&◌, ◌||◌, List, [], ◌∷◌, ◌++◌, refl, sym, ap, ◌∙◌, map, append_assoc, append-nil, arith, rules}
+use Rattle.std.proofs.Common.{◌++◌, ◌||◌, ◌∙◌, ◌∷◌, ◌≡◌, Bool, List, [], ℕ, ap, append-nil, append_assoc, arith, false, map, refl, rules, sym, true}
 use Rattle.std.proofs.lemmas.{Bool.{and_parts, cases_Bool}, Cmp.nat_list_cmp_total, Grind.common_steps}
 use Rattle.std.proofs.{lemmas.Map.Lookups.exact_bytes, Math.Bool.{or-false, or_assoc}}
 use Rattle.std.specs.{Cmp.Lexicographic.slice_cmp, List.{AllByRecursion as All, list_any}, Prelude.{flat_map, fold}}

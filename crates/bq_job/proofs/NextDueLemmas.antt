@@ -1,16 +1,14 @@
 -- Before the next due moment a tick changes nothing but the moment.
-use Rattle.std.proofs.Common.{ℕ, ◌≡◌, ◌<◌, ◌+◌, Bool, true, false, ◌&&◌, ◌||◌, cond, List, [], ◌∷◌, ◌++◌, map, arith, refl, sym, ap, ◌∙◌, subst, inl, inr, Option, Some, None}
+use Rattle.std.proofs.Common.{◌&&◌, ◌++◌, ◌+◌, ◌<◌, ◌||◌, ◌∙◌, ◌∷◌, ◌≡◌, Bool, List, None, Option, [], ℕ, ap, arith, cond, false, inl, inr, map, refl, subst, true}
 use Rattle.std.proofs.lemmas.Bool.{and_from, cases_Bool, eq-eqb, eqb-true, le-leb, leb-true, lt-leb, or_parts}
-use Rattle.std.proofs.{lemmas.{Bool.Decides.leb_tells, Grind.common_steps}, Math.Nat.min-eq_left}
-use Rattle.std.specs.Prelude.{◌-◌, ◌==◌, IsTrue, count_by, flat_map, nat_le, nat_lt}
-use Rattle.std.specs.List.{AllByRecursion as All, Contains}
+use Rattle.std.proofs.{lemmas.Grind.common_steps, Math.Nat.min-eq_left}
+use Rattle.std.specs.{List.{AllByRecursion as All, Contains}, Prelude.{◌-◌, ◌==◌, IsTrue, count_by, flat_map, nat_lt}}
 use Rattle.bq_job.specs.machine.{GivenAnswer, IsStep, Machine.Machine, Memory, Outcome, Pause, SeatRecord, Serves, TubeRecord, Wait, acted}
-use Rattle.bq_job.specs.machine.{addressed, after_timers, at_moment, ends_waiting, forgetting, granted, grown, growth_refused}
+use Rattle.bq_job.specs.machine.{addressed, after_timers, at_moment, ends_waiting, forgetting, grown}
 use Rattle.bq_job.specs.machine.{is_deadline_soon, is_due, is_ending_lease, is_expired, is_past, is_possible, is_timed_out, is_until_over}
 use Rattle.bq_job.specs.machine.{is_wait_before, is_waiting, is_waiting_at, job_after_timers, next_end, next_job, pause_after_timers}
 use Rattle.bq_job.specs.beside.{IsLawful, dues, dues_of_pause, dues_of_state, dues_of_until, dues_of_wait, earlier, earliest, is_before}
-use Rattle.bq_job.specs.{beside.next_due, machine.{share_refused, tube_after_timers}, Types.{Job, JobState}}
-use Rattle.bq_job.specs.declared.job.JobState.TheVariants as states
+use Rattle.bq_job.specs.{beside.next_due, machine.tube_after_timers, Types.{Job, JobState}}
 use Rattle.bq_job.specs.declared.step.Step.TheVariants as steps
 use Rattle.bq_job.proofs.ListLemmas.{all_at, all_from_members, all_of_flat_map, all_parts, all_weaker, count_all_not, list_any_not, list_any_with, map_all_same, none_pass}
 use Rattle.bq_job.proofs.{ChoiceLemmas.{first_of_none, first_of_none_passes}, QuietLemmas.forgets_nothing}

@@ -3,9 +3,8 @@ use Rattle.std.proofs.Common.{ℕ, ◌≡◌, ◌≤◌, ◌<◌, Bool, true, fa
 use Rattle.std.proofs.lemmas.Bool.{both_ways, cases_Bool, eq-eqb, eqb-true, or_from, or_parts, Decides.nat_tests}
 use Rattle.std.proofs.lemmas.{Grind.common_steps, List.{Elements.Contains-append_cases, Folds.list_any-append}}
 use Rattle.std.specs.{List.{AllByRecursion as All, Contains, list_any}, Prelude.{◌==◌, option_map}}
-use Rattle.bq_job.specs.laws.{Happening, Part, buried, comes_first, deleted, disturbs, expired, given_back, handed_out, happenings}
-use Rattle.bq_job.specs.{declared.job.Job.Job, laws.{is_hand_out, is_put, put, released, reserved_by_id}}
-use Rattle.bq_job.specs.machine.{is_job_before, is_ready, job_with, reserved_by, Machine.Machine}
+use Rattle.bq_job.specs.{declared.job.Job.Job, laws.{Happening, Part, comes_first, disturbs, happenings, is_hand_out}}
+use Rattle.bq_job.specs.{laws.{is_put, put}, machine.{is_job_before, is_ready, job_with, reserved_by, Machine.Machine}}
 use Rattle.bq_job.proofs.JobMoves.{Fate, IsHandOutMove, IsPutMove, IsQuiet, Move, Moves, quiet, putting, handing, is_plain}
 use Rattle.bq_job.proofs.{ListLemmas.all_at, LookupLemmas.{found_job, job_at_end}, SpentLemmas.{IsSpent, handed_lookup}}
 use Rattle.bq_job.proofs.SpentLemmas.{held_is_not_ready, none_handed, none_more, put_lookup, spent_after, still_parts}

@@ -4,9 +4,9 @@ use Rattle.std.proofs.lemmas.{Bool.{cases_Bool, or_parts}, Grind.common_steps}
 use Rattle.std.specs.List.{list_any}
 use Rattle.bq_job.specs.declared.answer.Answer.TheVariants as answers
 use Rattle.bq_job.specs.machine.{Chain, DispatchTurn, Effect, GivenAnswer, IsHandOut, IsStep, Machine.Machine, Memory, Outcome, SeatRecord}
-use Rattle.bq_job.specs.machine.{Serves, WaitEndTurn, acted, after_hand_out, after_timers, at_moment, forgetting, granted}
-use Rattle.bq_job.specs.machine.{growth_refused, has_refused_share, is_growth_refused, is_out_of_memory, is_share_refused, next_end}
-use Rattle.bq_job.specs.{beside.{ample, stepped}, machine.{next_job, share_refused}, Types.{Job, Step}}
+use Rattle.bq_job.specs.machine.{Serves, WaitEndTurn, acted, after_hand_out, after_timers, at_moment, forgetting}
+use Rattle.bq_job.specs.machine.{has_refused_share, is_growth_refused, is_out_of_memory, is_share_refused, next_end}
+use Rattle.bq_job.specs.{beside.{ample, stepped}, machine.next_job, Types.{Job, Step}}
 use Rattle.bq_job.proofs.{ComputedLemmas.stepped_is_step, DispatchLemmas.turn_of, LawfulLemmas.end_of}
 
 -- two turns from one machine: the same answer, and the same machine

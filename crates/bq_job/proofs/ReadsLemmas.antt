@@ -151,8 +151,3 @@ pub Reads-unique : (size : ℕ) (text : List ℕ) (firsts seconds : List Request
     → Reads size text firsts rest → Reads size text seconds other → (rest ≡ other) × AreSameRequests firsts seconds
 Reads-unique size text firsts seconds rest other a b =
     units_unique size firsts seconds a.units b.units rest other (sym a.text_is ∙ b.text_is) a.are_units b.are_units a.last_quits b.last_quits a.ended b.ended
-
--- behind a quit nothing more is read
-pub Reads-more : (size : ℕ) (text more : List ℕ) (requests : List Request) (rest : List ℕ) → Reads size text requests rest → IsTrue (ends_by_quit requests)
-    → Reads size (text ++ more) requests (rest ++ more)
-Reads-more size text more requests rest read quit = grind (arith, common_steps)

@@ -4,9 +4,9 @@ use Rattle.std.proofs.Common.{ℕ, ◌≡◌, ◌+◌, Bool, true, false, not, c
 use Rattle.std.proofs.lemmas.{Bool.{and_from, and_parts, cases_Bool}, Grind.common_steps}
 use Rattle.std.specs.{List.Contains, Prelude.{◌==◌, IsTrue, is_some}}
 use Rattle.bq_job.specs.machine.{Effect, Machine.Machine, Memory, SeatRecord, acted, addressed, after_close, after_connect, after_delete}
-use Rattle.bq_job.specs.machine.{after_put, ask_effect, asked, at_found, effect, empty_seat, granted, growth_refused, has_closed}
-use Rattle.bq_job.specs.machine.{is_closed_answer, is_possible, is_waiting, new_job, raised, reserve_effect, share_refused, shares_body}
-use Rattle.bq_job.specs.machine.{silent, step_takes_memory, telling, waiting_from, with_end, with_pause, with_seat, with_tube}
+use Rattle.bq_job.specs.machine.{after_put, ask_effect, asked, at_found, effect, empty_seat, has_closed}
+use Rattle.bq_job.specs.machine.{is_closed_answer, is_possible, is_waiting, new_job, raised, reserve_effect, shares_body}
+use Rattle.bq_job.specs.machine.{silent, step_takes_memory, telling, waiting_from, with_end, with_seat}
 use Rattle.bq_job.specs.{promise.{answers_to, answers_wanted, is_waiting_request}, Types.{Answer, Request, Step}}
 use Rattle.bq_job.specs.declared.answer.Answer.TheVariants as answers
 use Rattle.bq_job.specs.declared.step.Step.TheVariants as steps

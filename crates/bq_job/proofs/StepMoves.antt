@@ -1,5 +1,5 @@
 -- Each part of a step, as moves: timers, turns of dispatch, ends of waits, and the command's own effect.
-use Rattle.std.proofs.Common.{ℕ, ◌≡◌, true, false, ◌&&◌, not, cond, List, [], ◌∷◌, ◌++◌, map, refl, sym, ap, ◌∙◌, subst, inl, inr, Option, Some, None, append-nil, arith}
+use Rattle.std.proofs.Common.{◌&&◌, ◌++◌, ◌∷◌, ◌≡◌, List, None, Option, Some, [], ℕ, ap, append-nil, arith, cond, false, inl, inr, map, not, refl, subst, sym, true}
 use Rattle.std.proofs.lemmas.Bool.{cases_Bool, and_parts, and_from, or_left, or_right, both_ways, cond_both, eq-eqb}
 use Rattle.std.proofs.lemmas.Grind.{common_steps}
 use Rattle.std.specs.{List.{AllByRecursion as All, list_any}, Prelude.{◌==◌, filter, option_map}}

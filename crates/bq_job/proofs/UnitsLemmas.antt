@@ -1,6 +1,6 @@
 -- One more request behind others.
-use Rattle.std.proofs.Common.{◌≡◌, ℕ, Bool, true, false, not, ◌&&◌, List, [], ◌∷◌, ◌++◌, refl, sym, append_assoc, append-nil, IsTrue, arith}
-use Rattle.std.proofs.lemmas.{Bool.{and_parts, cases_Bool}, Grind.common_steps}
+use Rattle.std.proofs.Common.{◌++◌, ◌∷◌, ◌≡◌, IsTrue, List, [], ℕ, append-nil, append_assoc, false, not, refl, sym}
+use Rattle.std.proofs.lemmas.Bool.{and_parts}
 use Rattle.bq_job.specs.reading.Reading.{AreUnits, IsUnit, is_quit, quits_last, ends_by_quit}
 use Rattle.bq_job.specs.declared.request.Request.{Request}
 
