@@ -1,41 +1,38 @@
 -- What each event at a seat does, where its seat is known.
 use Rattle.std.proofs.Common.{◌++◌, ◌+◌, ◌<◌, ◌==◌, ◌||◌, ◌∙◌, ◌∷◌, ◌≡◌, if◌then◌else◌, Bool, List, None, Option, Some, [], ℕ, ap, append-nil, arith, false, filter, inl, inr, is_some, length, map, nat_le, not, refl, set, slice_get, suc}
 use Rattle.std.proofs.{Common.{sym, true, zero}, lemmas.{Bool.{and_parts, cases_Bool, eqb-true}, Grind.common_steps}, Math.Bool.or-false}
-use Rattle.std.specs.List.{find, list_any}
+use Rattle.std.specs.List.{list_any}
 use Rattle.bq_job.specs.declared.{answer.Answer.Answer, job.Job.Job, request.Request.Request, step.Step.Step}
 use Rattle.bq_job.specs.machine.{Effect, SeatRecord, after_close, after_connect, ask_effect, asked, at_found, close_effect, connect_effect, effect, end_effect, ignore_effect, is_full, is_reserved, job_with, last_id, new_job, on_job}
 use Rattle.bq_job.specs.machine.{put_effect, raised, reserve_job_effect, reserved_by, seat_with, step_takes_memory, takes_memory, telling, watch_effect, watches, watching, watching_or_refused, with_end, with_job, with_put, with_seat}
 use Rattle.bq_job.specs.{machine.{with_tube, Machine.Machine}, reading.TubeName.is_same_name}
 use Rattle.bq_job.specs.declared.answer.Answer.TheVariants as answers
 use Rattle.bq_job.specs.declared.step.Step.TheVariants as steps
+use Rattle.bq_job.proofs.ListLemmas.{found_passes}
 use Rattle.bq_steps.specs.Outbox.{Outbox}
+use Rattle.bq_jobs.proofs.Changes.{found_id}
 use Rattle.bq_state.specs.{JobChanges.is_passed_by, SeatChanges.AreNumbered, SeatStates.{is_asking, is_connected, is_free}}
 use Rattle.bq_state.proofs.{PartsLemmas.{changed_there, seat_there}, TubeLemmas.some_left}
 use Rattle.bq_core.specs.{Acting.{Acts, Replies}, declared.acts.Reply.Reply}
-use Rattle.bq_job.proofs.ListLemmas.{found_passes}
-use Rattle.bq_jobs.proofs.Changes.{found_id}
 
 pub number_found : (n : ℕ) (seats : List SeatRecord) (s : SeatRecord) → seat_with n seats ≡ Some s → s.number ≡ n
 number_found n seats s h = eqb-true s.number n (found_passes (λ s. s.number == n) seats s h).0
 
 -- a client comes to a seat that is free
 connect_at : (m : Machine) (seat : ℕ) (o : Option SeatRecord) → seat_with seat m.seats ≡ o → is_free o ≡ true → (at_found connect_effect m o).machine ≡ after_connect m seat
-connect_at m seat None e free = absurd cc
-connect_at m seat (Some s) e free = grind (arith, common_steps, cases_Bool, number_found)
+connect_at m seat o e free = grind (arith, common_steps, cases_Bool, number_found)
 
 pub connected_free : (m : Machine) (seat : ℕ) → is_free (seat_with seat m.seats) ≡ true → (effect m seat steps.Connect).machine ≡ after_connect m seat
 connected_free m seat free = connect_at m seat (seat_with seat m.seats) refl free
 
 end_at : (m : Machine) (seat : ℕ) (o : Option SeatRecord) → seat_with seat m.seats ≡ o → is_connected o ≡ true → (at_found end_effect m o).machine ≡ with_seat seat with_end m
-end_at m seat None e there = absurd cc
-end_at m seat (Some s) e there = rw (there, number_found seat m.seats s e) refl
+end_at m seat o e there = grind (arith, common_steps, number_found)
 
 pub ended_connected : (m : Machine) (seat : ℕ) → is_connected (seat_with seat m.seats) ≡ true → (effect m seat steps.End).machine ≡ with_seat seat with_end m
 ended_connected m seat there = end_at m seat (seat_with seat m.seats) refl there
 
 close_at : (m : Machine) (seat : ℕ) (o : Option SeatRecord) → seat_with seat m.seats ≡ o → is_connected o ≡ true → at_found close_effect m o ≡ telling answers.Closed (after_close m seat)
-close_at m seat None e there = absurd cc
-close_at m seat (Some s) e there = rw (there, number_found seat m.seats s e) refl
+close_at m seat o e there = grind (arith, common_steps, number_found)
 
 pub closed_connected : (m : Machine) (seat : ℕ) → is_connected (seat_with seat m.seats) ≡ true → effect m seat steps.Close ≡ telling answers.Closed (after_close m seat)
 closed_connected m seat there = close_at m seat (seat_with seat m.seats) refl there
@@ -82,8 +79,7 @@ pub not_ignored : (m : Machine) (s : SeatRecord) (tube : List ℕ) → list_any 
 not_ignored m s tube h = rw (none_left (λ name. not (is_same_name tube name)) s.watched h) refl
 
 some_watched : (names : List (List ℕ)) (m : Machine) (s : SeatRecord) → 0 < length names → watching_or_refused names m s ≡ telling (answers.Watching (length names)) (with_seat s.number (watching names) m)
-some_watched [] m s h = absurd (omega arith)
-some_watched (name ∷ names) m s h = refl
+some_watched names m s h = grind (arith, common_steps)
 
 pub ignored_now : (m : Machine) (s : SeatRecord) (seat : ℕ) (tube : List ℕ) → seat_with seat m.seats ≡ Some s → list_any (λ name. not (is_same_name tube name)) s.watched ≡ true → ignore_effect tube m s ≡ telling (answers.Watching (length (filter (λ name. not (is_same_name tube name)) s.watched))) (with_seat seat (watching (filter (λ name. not (is_same_name tube name)) s.watched)) m)
 ignored_now m s seat tube found h = grind (arith, common_steps, some_watched, some_left, number_found)
@@ -113,16 +109,13 @@ acts_told m seat what answer old new last is adds = grind (arith, common_steps, 
 
 -- there is a job that passes
 pub passed_by : (p : Job → Bool) (o : Option Job) → is_passed_by p o ≡ true → (j : Job) × (o ≡ Some j) × (p j ≡ true)
-passed_by p None h = absurd cc
-passed_by p (Some j) h = (j, refl, h)
+passed_by p o h = grind (arith, common_steps)
 
 pub some_there : (o : Option Job) → is_some o ≡ true → (j : Job) × (o ≡ Some j)
-some_there None h = absurd cc
-some_there (Some j) h = (j, refl)
+some_there o h = grind (arith, common_steps)
 
 pub none_there : (o : Option Job) → false ≡ is_some o → o ≡ None
-none_there None h = refl
-none_there (Some j) h = absurd cc
+none_there o h = grind (arith, common_steps)
 
 -- A request of a client that may ask comes to what it is answered.
 pub asked_so : (m next : Machine) (seat : ℕ) (what : Step) (request : Request) (reply : Reply) (told : Answer) → what ≡ steps.Ask request → true ≡ is_asking (seat_with seat m.seats)

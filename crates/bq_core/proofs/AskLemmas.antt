@@ -1,12 +1,12 @@
 -- Searches add up.
-use Rattle.std.proofs.Common.{◌*◌, ◌+◌, ◌/◌, ◌<◌, ◌==◌, ◌≡◌, ◌≤◌, List, ℕ, ap, arith, false, get_or, inl, inr, length, max, refl, subst, suc, sym, take, true, zero}
-use Rattle.std.proofs.{lemmas.{Bool.{cases_Bool, Decides.nat_tests}, Grind.common_steps, List.Sums.sum_by_more, Nat.mul-le}, Math.Nat.add-mul}
+use Rattle.std.proofs.Common.{◌*◌, ◌+◌, ◌<◌, ◌≡◌, ◌≤◌, List, ℕ, ap, arith, get_or, length, max, refl, subst, sym, take}
+use Rattle.std.proofs.{lemmas.{Grind.common_steps, List.Sums.sum_by_more, Nat.mul-le}, Math.Nat.add-mul}
 use Rattle.std.specs.List.{sum_by}
-use Rattle.bq_index.specs.Digits.{binary_digits, digits_up_to}
-use Rattle.bq_jobs.specs.Kept.{ComparesAtMost, Kept}
+use Rattle.bq_index.specs.Digits.{binary_digits}
 use Rattle.bq_steps.specs.Cost.{changed_jobs}
-use Rattle.bq_state.specs.Asking.{Asks, AsksAsChanged, AsksWithin, search_among}
+use Rattle.bq_jobs.specs.Kept.{ComparesAtMost, Kept}
 use Rattle.bq_jobs.proofs.Counting.{digits_rise}
+use Rattle.bq_state.specs.Asking.{Asks, AsksAsChanged, AsksWithin, search_among}
 
 -- among more jobs a search takes no less
 pub search_grows : (i j : ℕ) → i ≤ j → search_among i ≤ search_among j
@@ -16,10 +16,6 @@ search_grows i j l = omega (arith, digits_rise (2 * i + 2) (2 * j + 2) (2 * i + 
 -- nothing is asked
 pub asks_none : (k : Kept) → Asks 0 k k
 asks_none k = record { many = refl; stays = omega arith; rise = omega arith }
-
--- what the jobs are asked alone
-pub asked : (n : ℕ) {old new : Kept} → new ≡ record old { comparisons = new.comparisons } → ComparesAtMost n old new → Asks n old new
-asked n e h = record { many = ap (λ (k : Kept). length k.jobs) e; stays = h.0; rise = h.1 }
 
 -- first these searches, and then those
 pub asks_then : {n k : ℕ} {first between last : Kept} → Asks n first between → Asks k between last → Asks (n + k) first last

@@ -1,16 +1,15 @@
 -- What the parts of a step ask, in terms of the machine.
-use Rattle.std.proofs.Common.{◌&&◌, ◌*◌, ◌+◌, ◌-◌, ◌<◌, ◌==◌, ◌∙◌, ◌∷◌, ◌≡◌, ◌≤◌, if◌then◌else◌, Bool, List, Some, [], ℕ, ap, arith, cond, false, inl, inr, length, map, not, refl, subst, suc, sym, true}
+use Rattle.std.proofs.Common.{◌&&◌, ◌*◌, ◌+◌, ◌-◌, ◌<◌, ◌==◌, ◌∙◌, ◌∷◌, ◌≡◌, ◌≤◌, if◌then◌else◌, Bool, List, Some, [], ℕ, ap, arith, false, length, map, not, suc, true}
 use Rattle.std.proofs.{lemmas.{Bool.and_parts, Grind.common_steps, List.{length-append, Sums.sum_by-cons}, Nat.mul-le}, Math.Nat.suc-mul}
 use Rattle.std.specs.{List.{AllByRecursion as All, list_any, sum_by}, Prelude.{count_by, option_map}}
-use Rattle.bq_job.specs.machine.{Chain, DispatchTurn, GivenAnswer, IsHandOut, SeatRecord, WaitEndTurn, given_back, in_state, is_held_by, is_holder, is_reserved, job_with, kicked, with_seat, without_wait, Machine.Machine}
+use Rattle.bq_job.specs.machine.{Chain, DispatchTurn, GivenAnswer, IsHandOut, SeatRecord, WaitEndTurn, given_back, is_held_by, is_reserved, job_with, kicked, with_seat, without_wait, Machine.Machine}
 use Rattle.bq_job.specs.{beside.{AreIdsWithin, waiting_count}, declared.job.{Job.Job, JobState.JobState}}
 use Rattle.bq_job.specs.declared.job.JobState.TheVariants as states
 use Rattle.bq_job.proofs.{DispatchLemmas.turn_of, LawfulLemmas.end_of, ListLemmas.count_cons, LookupLemmas.job_in_map}
 use Rattle.bq_steps.specs.{Cost.{changed_jobs, is_gone_or_changed, is_same_job, is_same_state, tubes_watched}, Outbox.Outbox}
-use Rattle.bq_state.specs.declared.job_store.JobKind.{JobKind, TheVariants.{Buried, Delayed, Ready}}
-use Rattle.bq_state.specs.{Cost.waited_tubes, JobKinds.is_of}
-use Rattle.bq_core.specs.{Kicking.all_kicked, Turns.Gives}
 use Rattle.bq_jobs.proofs.Changes.{all_found}
+use Rattle.bq_state.specs.{Cost.waited_tubes, declared.job_store.JobKind.JobKind, JobKinds.is_of}
+use Rattle.bq_core.specs.{Kicking.all_kicked, Turns.Gives}
 
 -- where each change makes it no more, a sum is no more
 pub sum_falls : {X : Type 0} (f : X → ℕ) (g : X → X) → ((x : X) → f (g x) ≤ f x) → (xs : List X) → sum_by f (map g xs) ≤ sum_by f xs
@@ -26,8 +25,7 @@ module _ (f : SeatRecord → ℕ) (less : (s : SeatRecord) → f (without_wait s
   stops m number = sum_falls f (λ s. if s.number == number then without_wait s else s) (one_stops f less number) m.seats
 
   hand_out_stops : (m : Machine) (j : Job) (s : SeatRecord) (g : GivenAnswer) (next : Machine) → IsHandOut m j s g next → sum_by f next.seats ≤ sum_by f m.seats
-  hand_out_stops m j s g next (inl h) = subst (λ (n : Machine). sum_by f n.seats ≤ sum_by f m.seats) (sym h.1) (stops m s.number)
-  hand_out_stops m j s g next (inr h) = subst (λ (n : Machine). sum_by f n.seats ≤ sum_by f m.seats) (sym h.1) (stops m s.number)
+  hand_out_stops m j s g next h = grind (arith, common_steps, stops)
 
   pub handed_stop : (first : Machine) (given : List GivenAnswer) (last : Machine) → Chain DispatchTurn first given last → sum_by f last.seats ≤ sum_by f first.seats
   handed_stop first [] last chain = rw chain (omega arith)
@@ -38,9 +36,7 @@ module _ (f : SeatRecord → ℕ) (less : (s : SeatRecord) → f (without_wait s
   pub ended_stop : (first : Machine) (given : List GivenAnswer) (last : Machine) → Chain WaitEndTurn first given last → sum_by f last.seats ≤ sum_by f first.seats
   ended_stop first [] last chain = rw chain (omega arith)
   ended_stop first (g ∷ given) last chain =
-      let e = end_of first g chain.0 chain.1 in
-      let one = subst (λ (n : Machine). sum_by f n.seats ≤ sum_by f first.seats) (sym e.next_is) (stops first e.client.number) in
-      omega (arith, one, ended_stop chain.0 given last chain.2)
+      grind (arith, common_steps, end_of, stops, ended_stop chain.0 given last chain.2)
 
 pub waited_less : (s : SeatRecord) → waited_tubes (without_wait s) ≤ waited_tubes s
 waited_less s = omega arith
@@ -66,15 +62,7 @@ one_more_turn n more w v l u = omega (arith, mul-le (suc n) (w + 9) more (w + 9)
 module _ (f : Job → Job) (keeps : (j : Job) → (f j).id ≡ j.id) (q : Job → Bool) (other : (j : Job) → q j ≡ true → is_same_job j (f j) ≡ false) where
   counted_among : (new jobs : List Job) → All (λ j. job_with j.id new ≡ Some (f j)) jobs → count_by q jobs ≤ count_by (λ j. is_gone_or_changed j (job_with j.id new)) jobs
   counted_among new [] all = omega arith
-  counted_among new (j ∷ jobs) all =
-      let changed = λ (k : Job). is_gone_or_changed k (job_with k.id new) in
-      let here : changed j ≡ not (is_same_job j (f j)) = ap (is_gone_or_changed j) all.0 in
-      rw (count_cons q j jobs, count_cons changed j jobs, here) (go (q j) (is_same_job j (f j)) (other j) (counted_among new jobs all.1))
-    where
-      go : (b c : Bool) → (b ≡ true → c ≡ false) → count_by q jobs ≤ count_by (λ k. is_gone_or_changed k (job_with k.id new)) jobs → cond b 1 0 + count_by q jobs ≤ cond (not c) 1 0 + count_by (λ k. is_gone_or_changed k (job_with k.id new)) jobs
-      go true true h rest = absurd (let e = h refl in cc)
-      go true false h rest = omega arith
-      go false c h rest = omega arith
+  counted_among new (j ∷ jobs) all = grind (arith, common_steps, count_cons, other, counted_among new jobs all.1)
 
   pub changed_of : (low next : ℕ) (jobs : List Job) → AreIdsWithin low jobs next → count_by q jobs ≤ changed_jobs jobs (map f jobs)
   changed_of low next jobs ids =
@@ -90,25 +78,10 @@ pub given_back_changed : (state : JobState) (seat low next : ℕ) (jobs : List J
 given_back_changed state seat low next jobs free ids = changed_of (given_back state seat) keeps (is_held_by seat) other low next jobs ids
   where
     keeps : (j : Job) → (given_back state seat j).id ≡ j.id
-    keeps j = go (is_held_by seat j)
-      where
-        go : (b : Bool) → (if b then in_state state j else j).id ≡ j.id
-        go true = refl
-        go false = refl
-
-    apart : (s t : JobState) → is_holder seat s ≡ true → is_reserved t ≡ false → is_same_state s t ≡ false
-    apart states.Ready t h i = absurd cc
-    apart (states.Delayed due) t h i = absurd cc
-    apart (states.Buried number) t h i = absurd cc
-    apart (states.Reserved holder deadline) states.Ready h i = refl
-    apart (states.Reserved holder deadline) (states.Delayed due) h i = refl
-    apart (states.Reserved holder deadline) (states.Reserved other until) h i = absurd cc
-    apart (states.Reserved holder deadline) (states.Buried number) h i = refl
+    keeps j = grind (arith, common_steps)
 
     other : (j : Job) → is_held_by seat j ≡ true → is_same_job j (given_back state seat j) ≡ false
-    other j h =
-        let back : given_back state seat j ≡ in_state state j = rw h refl in
-        ap (is_same_job j) back ∙ rw (apart j.state state h free) refl
+    other j h = grind (arith, common_steps)
 
 -- what no longer passes was counted once
 passing_apart : (p : Job → Bool) (f : Job → Job) (jobs : List Job) → count_by p jobs ≤ count_by p (map f jobs) + count_by (λ j. p j && not (p (f j))) jobs
@@ -118,36 +91,16 @@ passing_apart p f (j ∷ jobs) = grind (arith, common_steps, count_cons, passing
 -- the jobs that are kicked are changed
 module _ (kind : JobKind) (tube : List ℕ) (out : (k : Job) → is_of kind tube (kicked k) ≡ false) (chosen : List Job) where
   kept_id : (j : Job) → (if list_any (λ k. k.id == j.id) chosen then kicked j else j).id ≡ j.id
-  kept_id j = go (list_any (λ k. k.id == j.id) chosen)
-    where
-      go : (b : Bool) → (if b then kicked j else j).id ≡ j.id
-      go true = refl
-      go false = refl
+  kept_id j = grind (arith, common_steps)
 
   alike : (k : JobKind) (j : Job) → j.state ≡ states.Ready → is_of k tube j ≡ is_of k tube (kicked j)
-  alike Ready j e = rw e refl
-  alike Delayed j e = rw e refl
-  alike Buried j e = rw e refl
+  alike k j e = grind (arith, common_steps)
 
   not_ready : (j : Job) → is_of kind tube j ≡ true → is_same_state j.state states.Ready ≡ false
-  not_ready j h = go j.state refl
-    where
-      go : (s : JobState) → j.state ≡ s → is_same_state s states.Ready ≡ false
-      go states.Ready e = absurd (let a = alike kind j e in let b = out j in cc)
-      go (states.Delayed due) e = refl
-      go (states.Reserved seat deadline) e = refl
-      go (states.Buried number) e = refl
+  not_ready j h = grind (arith, common_steps, alike)
 
   other : (j : Job) → (is_of kind tube j && not (is_of kind tube (if list_any (λ k. k.id == j.id) chosen then kicked j else j))) ≡ true → is_same_job j (if list_any (λ k. k.id == j.id) chosen then kicked j else j) ≡ false
-  other j h = go (list_any (λ k. k.id == j.id) chosen) h
-    where
-      go : (b : Bool) → (is_of kind tube j && not (is_of kind tube (if b then kicked j else j))) ≡ true → is_same_job j (if b then kicked j else j) ≡ false
-      go true e = rw (not_ready j ((and_parts (is_of kind tube j) (not (is_of kind tube (kicked j))) e).0)) refl
-      go false e = absurd (both (is_of kind tube j) e)
-        where
-          both : (b : Bool) → (b && not b) ≡ true → ⊥
-          both true x = absurd cc
-          both false x = absurd cc
+  other j h = grind (arith, common_steps, not_ready, and_parts)
 
   pub kicked_changed : (low next n : ℕ) (jobs : List Job) → AreIdsWithin low jobs next → count_by (is_of kind tube) (all_kicked chosen jobs) + n ≤ count_by (is_of kind tube) jobs → n ≤ changed_jobs jobs (all_kicked chosen jobs)
   kicked_changed low next n jobs ids few =

@@ -1,19 +1,19 @@
 -- Which job is handed out next, found tube by tube.
 use Rattle.std.proofs.Common.{◌&&◌, ◌==◌, ◌||◌, ◌∙◌, ◌∷◌, ◌≡◌, if◌then◌else◌, Bool, List, None, Option, Some, [], ℕ, ap, arith, false, inl, inr, not, refl, subst, sym, true}
 use Rattle.std.proofs.lemmas.Bool.{cases_Bool, eqb-true, or_cases, or_left, or_right, Decides.nat_tests}
+use Rattle.std.proofs.{lemmas.Grind.common_steps, Math.Bool.or_assoc}
 use Rattle.std.specs.{List.{AllByRecursion as All, Contains, list_any}, Prelude.{fold, is_some, option_map}}
 use Rattle.bq_job.specs.{beside.AreIdsWithin, machine.{SeatRecord, TubeRecord, first_of, is_job_before, is_paused, is_ready, is_ready_in, is_wait_before, is_waiting, is_waiting_for, job_with, may_have, next_job, next_seat, Machine.Machine}}
 use Rattle.bq_job.specs.{declared.job.Job.Job, reading.TubeName.is_same_name}
 use Rattle.bq_job.proofs.{ChoiceLemmas.{first_of_agrees, first_of_contains, first_of_is, first_of_is_least, first_of_is_some, first_of_none, first_of_none_passes, first_of_passes, first_of_some, pair_order}, ComputedLemmas.next_has_seat}
 use Rattle.bq_job.proofs.ListLemmas.{all_always, all_at, all_weaker, list_any_not, none_pass}
+use Rattle.bq_job.proofs.WatchedLemmas.{same_other}
 use Rattle.bq_jobs.specs.Kept.{ranked}
+use Rattle.bq_jobs.proofs.Changes.{all_found}
 use Rattle.bq_state.specs.declared.known.Stir.{Stir, TheVariants.Client}
-use Rattle.bq_state.specs.{Offers.{better_rank, is_paused_among, offered, waits_at, with_offer, with_offers}, Stirs.{AreKnown, IsKnown, may_get}}
+use Rattle.bq_state.specs.{Offers.{better_rank, is_paused_among, offered, waits_at, with_offer, with_offers}, Stirs.{AreKnown, may_get}}
 use Rattle.bq_state.proofs.TubeLemmas.{same_itself, same_name}
 use Rattle.bq_core.proofs.FiringLemmas.{chosen}
-use Rattle.bq_jobs.proofs.Changes.{all_found}
-use Rattle.bq_job.proofs.WatchedLemmas.{same_other}
-use Rattle.std.proofs.Math.Bool.{or_assoc}
 
 module _ (next : ℕ) (jobs : List Job) (ids : AreIdsWithin 1 jobs next) where
   -- the best of the jobs that pass, by its priority and its id
@@ -21,11 +21,7 @@ module _ (next : ℕ) (jobs : List Job) (ids : AreIdsWithin 1 jobs next) where
   best_of p = option_map (ranked (λ j. j.pri)) (first_of p is_job_before jobs)
 
   same_job : (x y : Job) → Contains jobs x → Contains jobs y → is_job_before x y ≡ false → is_job_before y x ≡ false → y ≡ x
-  same_job x y i k a b =
-      let same : y.id ≡ x.id = grind (arith, nat_tests) in
-      let found = all_at (λ j. job_with j.id jobs ≡ Some j) jobs x (all_found 1 next jobs ids) i in
-      let found_then : job_with x.id jobs ≡ Some y = ap (λ n. job_with n jobs) (sym same) ∙ all_at (λ j. job_with j.id jobs ≡ Some j) jobs y (all_found 1 next jobs ids) k in
-      cc
+  same_job x y i k a b = grind (arith, common_steps, all_at, all_found)
 
   from_second : (x y z : Job) → is_job_before y x ≡ true → is_job_before z x ≡ false → is_job_before z y ≡ false
   from_second x y z a b = grind (arith, nat_tests)
@@ -34,9 +30,6 @@ module _ (next : ℕ) (jobs : List Job) (ids : AreIdsWithin 1 jobs next) where
   from_first x y z a b = grind (arith, nat_tests)
 
   module _ (p q : Job → Bool) where
-    either : Job → Bool
-    either j = p j || q j
-
     -- of two that are chosen by one test each, the better one is chosen by both
     first_better : (x y : Job) → first_of p is_job_before jobs ≡ Some x → first_of q is_job_before jobs ≡ Some y → (b : Bool) → is_job_before y x ≡ b → first_of (λ j. p j || q j) is_job_before jobs ≡ (if b then Some y else Some x)
     first_better x y e f true h =
@@ -59,8 +52,7 @@ module _ (next : ℕ) (jobs : List Job) (ids : AreIdsWithin 1 jobs next) where
         (λ z there a b. same_job x z here there a b)
 
     if_rank : (b : Bool) (x y : Job) → (if b then Some (ranked (λ j. j.pri) y) else Some (ranked (λ j. j.pri) x)) ≡ option_map (ranked (λ j. j.pri)) (if b then Some y else Some x)
-    if_rank true x y = refl
-    if_rank false x y = refl
+    if_rank b x y = grind (arith, common_steps)
 
     joined_at : (o u : Option Job) → first_of p is_job_before jobs ≡ o → first_of q is_job_before jobs ≡ u → better_rank (option_map (ranked (λ j. j.pri)) o) (option_map (ranked (λ j. j.pri)) u) ≡ best_of (λ j. p j || q j)
     joined_at None u e f =
@@ -69,8 +61,7 @@ module _ (next : ℕ) (jobs : List Job) (ids : AreIdsWithin 1 jobs next) where
         ap (option_map (ranked (λ j. j.pri))) (sym e ∙ first_of_agrees p (λ j. p j || q j) is_job_before jobs (all_weaker (λ j. q j ≡ false) (λ j. p j ≡ (p j || q j)) jobs (λ j none. rw none (or_none (p j))) (none_pass q jobs (first_of_none q is_job_before jobs f))))
       where
         or_none : (b : Bool) → b ≡ (b || false)
-        or_none true = refl
-        or_none false = refl
+        or_none b = grind (arith, common_steps)
     joined_at (Some x) (Some y) e f =
         if_rank (is_job_before y x) x y ∙ ap (option_map (ranked (λ j. j.pri))) (sym (first_better x y e f (is_job_before y x) refl))
 
@@ -89,12 +80,10 @@ module _ (next : ℕ) (jobs : List Job) (ids : AreIdsWithin 1 jobs next) where
     offered_is name = ap (λ b. if b then None else best_of (is_ready_in name)) (paused_is name) ∙ go (paused name) refl
       where
         with_true : (b : Bool) → (b && true) ≡ b
-        with_true true = refl
-        with_true false = refl
+        with_true b = grind (arith, common_steps)
 
         with_false : (b : Bool) → (b && false) ≡ false
-        with_false true = refl
-        with_false false = refl
+        with_false b = grind (arith, common_steps)
 
         go : (b : Bool) → paused name ≡ b → (if b then None else best_of (is_ready_in name)) ≡ best_of (offers name)
         go true e = sym (ap (option_map (ranked (λ j. j.pri))) (first_of_none_passes (offers name) is_job_before jobs (list_any_not (offers name) jobs (all_always (λ j. offers name j ≡ false) jobs (λ j. rw e (with_false (is_ready_in name j)))))))
@@ -105,36 +94,10 @@ module _ (next : ℕ) (jobs : List Job) (ids : AreIdsWithin 1 jobs next) where
     ready_among names j = is_ready j && list_any (is_same_name j.tube) names && not (paused j.tube)
 
     one_more_name : (name : List ℕ) (names : List (List ℕ)) (p : Job → Bool) (j : Job) → ((p j || offers name j) || ready_among names j) ≡ (p j || ready_among (name ∷ names) j)
-    one_more_name name names p j = elim (cases_Bool (is_same_name name j.tube)) [
-      | inl same ↦
-          let is : name ≡ j.tube = same_name name j.tube same in
-          let back : is_same_name j.tube name ≡ true = ap (is_same_name j.tube) is ∙ same_itself j.tube in
-          rw (same, back, ap paused is) (bools (p j) (is_ready j) (list_any (is_same_name j.tube) names) (paused j.tube))
-      | inr other ↦
-          let apart : is_same_name j.tube name ≡ false = same_other name j.tube other in
-          rw (other, apart) (bools' (p j) (is_ready j) (paused name) (list_any (is_same_name j.tube) names) (paused j.tube))
-    ]
-      where
-        bools : (p r n d : Bool) → ((p || ((r && true) && not d)) || ((r && n) && not d)) ≡ (p || ((r && (true || n)) && not d))
-        bools true r n d = refl
-        bools false false n d = refl
-        bools false true true true = refl
-        bools false true true false = refl
-        bools false true false true = refl
-        bools false true false false = refl
-
-        bools' : (p r c n d : Bool) → ((p || ((r && false) && not c)) || ((r && n) && not d)) ≡ (p || ((r && (false || n)) && not d))
-        bools' true r c n d = refl
-        bools' false false c n d = refl
-        bools' false true c n d = refl
+    one_more_name name names p j = grind (arith, common_steps, cases_Bool, same_name, same_itself, same_other)
 
     with_names : (names : List (List ℕ)) (p : Job → Bool) → fold (with_offer jobs entries) (best_of p) names ≡ best_of (λ j. p j || ready_among names j)
-    with_names [] p = agreed p (λ j. p j || ready_among [] j) (λ j. none (p j) (is_ready j) (paused j.tube))
-      where
-        none : (p r d : Bool) → p ≡ (p || ((r && false) && not d))
-        none true r d = refl
-        none false true d = refl
-        none false false d = refl
+    with_names [] p = grind (arith, common_steps, agreed)
     with_names (name ∷ names) p =
         ap (λ b. fold (with_offer jobs entries) b names) (ap (better_rank (best_of p)) (offered_is name) ∙ joined p (offers name))
         ∙ with_names names (λ j. p j || offers name j)
@@ -153,11 +116,7 @@ module _ (next : ℕ) (jobs : List Job) (ids : AreIdsWithin 1 jobs next) where
           ∙ agreed (λ j. p j || list_any (is_waiting_for m j) seats) (λ j. p j || list_any (is_waiting_for m j) (s ∷ seats)) (λ j. rw e refl)
 
       with_seats : (seats : List SeatRecord) (p : Job → Bool) → fold (with_offers jobs entries) (best_of p) seats ≡ best_of (λ j. p j || list_any (is_waiting_for m j) seats)
-      with_seats [] p = agreed p (λ j. p j || false) (λ j. none (p j))
-        where
-          none : (b : Bool) → b ≡ (b || false)
-          none true = refl
-          none false = refl
+      with_seats [] p = grind (arith, common_steps, agreed)
       with_seats (s ∷ seats) p = one_more_seat s seats p (is_waiting s) refl (with_seats seats)
 
       pub next_offer : (seats : List SeatRecord) → fold (with_offers jobs entries) None seats ≡ best_of (λ j. list_any (is_waiting_for m j) seats)
@@ -167,8 +126,7 @@ module _ (next : ℕ) (jobs : List Job) (ids : AreIdsWithin 1 jobs next) where
 
 -- the id of the best one
 pub id_of_best : (o : Option Job) → option_map (λ (r : ℕ × ℕ). r.1) (option_map (ranked (λ j. j.pri)) o) ≡ option_map (λ j. j.id) o
-id_of_best None = refl
-id_of_best (Some j) = refl
+id_of_best o = grind (arith, common_steps)
 
 -- who waits at the tube of the next job waits for that job
 pub waits_alike : (m : Machine) (j : Job) → next_job m ≡ Some j → (s : SeatRecord) → waits_at j.tube s ≡ is_waiting_for m j s
@@ -178,16 +136,10 @@ waits_alike m j e s =
     rw (free.0, free.1) (bools (is_waiting s) (list_any (is_same_name j.tube) s.watched))
   where
     bools : (w n : Bool) → (w && n) ≡ (w && ((true && n) && not false))
-    bools true true = refl
-    bools true false = refl
-    bools false n = refl
+    bools w n = grind (arith, common_steps)
 
     parts : (w r n d : Bool) → (w && ((r && n) && not d)) ≡ true → (r ≡ true) × (d ≡ false)
-    parts true true true false h = (refl, refl)
-    parts true true true true h = absurd cc
-    parts true true false d h = absurd cc
-    parts true false n d h = absurd cc
-    parts false r n d h = absurd cc
+    parts w r n d h = grind (arith, common_steps)
 
     may_go : (seats : List SeatRecord) → list_any (is_waiting_for m j) seats ≡ true → (is_ready j ≡ true) × (is_paused j.tube m ≡ false)
     may_go [] h = absurd cc
@@ -198,8 +150,7 @@ waits_alike m j e s =
 
 -- who gets the next job waits at its tube, and has waited longest of those
 pub seat_at_tube : (m : Machine) (j : Job) → next_job m ≡ Some j → first_of (waits_at j.tube) is_wait_before m.seats ≡ next_seat m j
-seat_at_tube m j e =
-    first_of_agrees (waits_at j.tube) (is_waiting_for m j) is_wait_before m.seats (all_always (λ s. waits_at j.tube s ≡ is_waiting_for m j s) m.seats (waits_alike m j e))
+seat_at_tube m j e = grind (arith, common_steps, first_of_agrees, all_always, waits_alike)
 
 -- there is one
 pub some_at_tube : (m : Machine) (j : Job) → next_job m ≡ Some j → list_any (waits_at j.tube) m.seats ≡ true
@@ -210,9 +161,8 @@ some_at_tube m j e =
 -- and it is known to be one that may have it
 pub takers_known : (m : Machine) (stir : Stir) (j : Job) → next_job m ≡ Some j → AreKnown stir m.jobs m.seats m.tubes → All (λ s. waits_at j.tube s ≡ true → may_get stir j.tube s.number ≡ true) m.seats
 takers_known m stir j e known =
-    all_weaker (IsKnown stir m.tubes j) (λ s. waits_at j.tube s ≡ true → may_get stir j.tube s.number ≡ true) m.seats
-    (λ s k waits. k (sym (waits_alike m j e s) ∙ waits))
-    (all_at (λ k. All (IsKnown stir m.tubes k) m.seats) m.jobs j known (first_of_contains (λ j. list_any (is_waiting_for m j) m.seats) is_job_before m.jobs j e))
+    grind (arith, common_steps, cases_Bool, all_weaker, waits_alike, all_at,
+    first_of_contains (λ j. list_any (is_waiting_for m j) m.seats) is_job_before m.jobs j e)
 
 -- where one client alone may have jobs, it is the first that waits at the tube
 pub taker_known : (asker : ℕ) (stir : Stir) (tube : List ℕ) (seats : List SeatRecord) → stir ≡ Client asker → list_any (waits_at tube) seats ≡ true

@@ -9,10 +9,10 @@ use Rattle.bq_job.specs.declared.job.JobState.TheVariants as states
 use Rattle.bq_job.proofs.ChoiceLemmas.{first_of_contains, first_of_is_least, first_of_none, first_of_none_passes, first_of_passes, pair_order}
 use Rattle.bq_job.proofs.ListLemmas.{all_always, all_at, all_from_members, all_weaker, count_all_not, count_cons, list_any_not, list_any_with, map_all_same, none_pass}
 use Rattle.bq_jobs.specs.{Kept.ranked, Leases.{deadline_of, is_lease_before}}
+use Rattle.bq_jobs.proofs.Changes.{all_found, none_changed, others_above}
 use Rattle.bq_state.specs.EndingWaits.{has_waited, is_lease_short, is_soon}
 use Rattle.bq_core.specs.Firing.{ExpiresOne, IsOne, after_giving_back, after_job_timers, is_ripe}
 use Rattle.bq_core.proofs.KickLemmas.{one_of_id}
-use Rattle.bq_jobs.proofs.Changes.{all_found, none_changed, others_above}
 
 -- changing one job and then all is changing all, where the second change makes up for the first
 absorbed : (f g : Job → Job) (id : ℕ) (jobs : List Job) → All (λ k. (k.id == id) ≡ true → f (g k) ≡ f k) jobs → map f (map (λ k. if k.id == id then g k else k) jobs) ≡ map f jobs
@@ -49,10 +49,7 @@ expired : (moment : ℕ) (j : Job) → is_expired moment j.state ≡ true → jo
 expired moment j h = grind (arith, common_steps)
 
 not_expired : (moment : ℕ) (s : JobState) → is_due moment s ≡ true → is_expired moment s ≡ false
-not_expired moment states.Ready e = refl
-not_expired moment (states.Delayed due) e = refl
-not_expired moment (states.Reserved seat deadline) e = absurd cc
-not_expired moment (states.Buried number) e = refl
+not_expired moment s e = grind (arith, common_steps)
 
 fired_once : (moment : ℕ) (j : Job) → job_after_timers moment (job_after_timers moment j) ≡ job_after_timers moment j
 fired_once moment j = grind (arith, common_steps, cases_Bool, ripened, expired)
@@ -83,13 +80,11 @@ none_more t c = omega arith
 
 -- one reservation ended and was counted, or none
 pub counted_fired : (m next : Machine) (t : ℕ) (b : Bool) → AreIdsWithin 1 m.jobs m.next_id → (b ≡ false → (list_any (λ j. is_expired m.moment j.state) m.jobs ≡ false) × (next ≡ m)) → (b ≡ true → ExpiresOne m next) → t ≡ grown (if b then 1 else 0) next.timeouts → after_job_timers (record next { timeouts = t }) ≡ after_job_timers m
-counted_fired m next t true ids none one e = grind (arith, common_steps, fired_expired)
-counted_fired m next t false ids none one e = grind (arith, common_steps, none_more)
+counted_fired m next t b ids none one e = grind (arith, common_steps, fired_expired, none_more)
 
 -- one timer less is to fire
 fewer_ripe : (m : Machine) (id : ℕ) (one : Job) → AreIdsWithin 1 m.jobs m.next_id → job_with id m.jobs ≡ Some one → is_ripe m.moment one ≡ true → is_ripe m.moment (job_after_timers m.moment one) ≡ false → count_by (is_ripe m.moment) (with_job id (job_after_timers m.moment) m).jobs < count_by (is_ripe m.moment) m.jobs
-fewer_ripe m id one ids found was is =
-    let fewer = one_fewer (is_ripe m.moment) (job_after_timers m.moment) id 1 m.next_id m.jobs one ids found was is in omega (arith, fewer)
+fewer_ripe m id one ids found was is = grind (arith, common_steps, one_fewer)
 
 pub fewer_due : (m : Machine) (id : ℕ) → AreIdsWithin 1 m.jobs m.next_id → IsOne (λ j. is_due m.moment j.state) m.jobs id → count_by (is_ripe m.moment) (with_job id (job_after_timers m.moment) m).jobs < count_by (is_ripe m.moment) m.jobs
 fewer_due m id ids one = fewer_ripe m id one.job ids one.found (or_left (is_due m.moment one.job.state) (is_expired m.moment one.job.state) one.passes_is) (ap (is_ripe m.moment) (ripened m.moment one.job one.passes_is))
@@ -151,34 +146,23 @@ chosen_at p number low next jobs at id ids e =
     }
   where
     second : (o : Option Job) → Some (at, id) ≡ option_map (ranked number) o → Some id ≡ option_map (λ j. j.id) o
-    second None h = absurd cc
-    second (Some j) h = let q : (at, id) ≡ ranked number j = cc in ap (λ (r : ℕ × ℕ). Some r.1) q
+    second o h = grind (arith, common_steps)
 
     first_is : (o : Option Job) (j : Job) → Some (at, id) ≡ option_map (ranked number) o → o ≡ Some j → at ≡ number j
-    first_is None j h f = absurd cc
-    first_is (Some k) j h f = let q : (at, id) ≡ ranked number k = cc in let s : k ≡ j = cc in ap (λ (r : ℕ × ℕ). r.0) q ∙ ap number s
+    first_is o j h f = grind (arith, common_steps)
 
     late : (at id : ℕ) (k : Job) {j : Job} → at ≡ number j → id ≡ j.id → is_pair_before (number k) k.id (number j) j.id ≡ false → at ≤ number k
     late at id k n i h = grind (arith, nat_tests)
 
 -- the delayed job that is due first, at this moment
 due_is : (moment : ℕ) (s : JobState) → is_due moment s ≡ (is_delayed s && nat_le (due_of s) moment)
-due_is moment states.Ready = refl
-due_is moment (states.Delayed due) = refl
-due_is moment (states.Reserved seat deadline) = refl
-due_is moment (states.Buried number) = refl
+due_is moment s = grind (arith, common_steps)
 
 expired_is : (moment : ℕ) (s : JobState) → is_expired moment s ≡ (is_reserved s && nat_le (deadline_of s) moment)
-expired_is moment states.Ready = refl
-expired_is moment (states.Delayed due) = refl
-expired_is moment (states.Reserved seat deadline) = refl
-expired_is moment (states.Buried number) = refl
+expired_is moment s = grind (arith, common_steps)
 
 ending_is : (moment seat : ℕ) (s : JobState) → is_ending_lease moment seat s ≡ (is_holder seat s && nat_le (deadline_of s) (moment + 1000))
-ending_is moment seat states.Ready = refl
-ending_is moment seat (states.Delayed due) = refl
-ending_is moment seat (states.Reserved holder deadline) = refl
-ending_is moment seat (states.Buried number) = refl
+ending_is moment seat s = grind (arith, common_steps)
 
 module _ (p : Job → Bool) (number : Job → ℕ) (q : ℕ → Job → Bool) (q_is : (t : ℕ) (j : Job) → q t j ≡ (p j && nat_le (number j) t)) (low next : ℕ) (jobs : List Job) (ids : AreIdsWithin low jobs next) where
   -- the first one is before the moment
@@ -205,8 +189,7 @@ module _ (p : Job → Bool) (number : Job → ℕ) (q : ℕ → Job → Bool) (q
       list_any_not (q t) jobs (all_weaker (λ k. p k ≡ false) (λ k. q t k ≡ false) jobs (λ k fail. q_is t k ∙ rw fail refl) none)
     where
       no_rank : (o : Option Job) → None ≡ option_map (ranked number) o → o ≡ None
-      no_rank None h = refl
-      no_rank (Some j) h = absurd cc
+      no_rank o h = grind (arith, common_steps)
 
 pub dues_are : (t : ℕ) (j : Job) → is_due t j.state ≡ (is_delayed j.state && nat_le (due_of j.state) t)
 dues_are t j = due_is t j.state
@@ -219,10 +202,7 @@ held_back : (state : JobState) (seat : ℕ) (j : Job) → is_held_by seat j ≡ 
 held_back state seat j h = rw h refl
 
 pub held_by_none : (seat : ℕ) (state : JobState) → is_reserved state ≡ false → is_holder seat state ≡ false
-held_by_none seat states.Ready free = refl
-held_by_none seat (states.Delayed due) free = refl
-held_by_none seat (states.Reserved holder deadline) free = absurd cc
-held_by_none seat (states.Buried number) free = refl
+held_by_none seat state free = grind (arith, common_steps)
 
 pub given_one : (state : JobState) (seat : ℕ) (m : Machine) (id : ℕ) → is_reserved state ≡ false → AreIdsWithin 1 m.jobs m.next_id → Some id ≡ option_map (λ j. j.id) (first_of (is_held_by seat) is_lease_before m.jobs)
     → after_giving_back state seat (with_job id (in_state state) m) ≡ after_giving_back state seat m
@@ -246,8 +226,7 @@ given_none state seat m e =
     ap (λ js. record m { jobs = js }) (sym (map_all_same (given_back state seat) m.jobs (all_weaker (λ k. is_held_by seat k ≡ false) (λ k. given_back state seat k ≡ k) m.jobs (λ k h. rw h refl) none)))
   where
     no_id : (o : Option Job) → None ≡ option_map (λ j. j.id) o → o ≡ None
-    no_id None h = refl
-    no_id (Some j) h = absurd cc
+    no_id o h = grind (arith, common_steps)
 
 -- the first lease of a client ends within a second
 endings_told : (seat moment : ℕ) (jobs : List Job) → list_any (λ j. is_ending_lease moment seat j.state) jobs ≡ list_any (λ j. is_held_by seat j && nat_le (deadline_of j.state) (moment + 1000)) jobs
@@ -298,14 +277,7 @@ none_ends m waited short =
     first_of_none_passes (ends_waiting m) is_wait_before m.seats (list_any_not (ends_waiting m) m.seats (all_weaker (λ s. has_waited m.moment s ≡ false) (λ s. ends_waiting m s ≡ false) m.seats (λ s none. go s (is_waiting s) none) (none_pass (has_waited m.moment) m.seats waited)))
   where
     not_soon : (number : ℕ) (state : JobState) → (is_reserved state && nat_le (deadline_of state) (m.moment + 1000)) ≡ false → is_ending_lease m.moment number state ≡ false
-    not_soon number states.Ready h = refl
-    not_soon number (states.Delayed due) h = refl
-    not_soon number (states.Reserved holder deadline) h = rw h (no (holder == number))
-      where
-        no : (b : Bool) → (b && false) ≡ false
-        no true = refl
-        no false = refl
-    not_soon number (states.Buried n) h = refl
+    not_soon number state h = grind (arith, common_steps)
 
     soon_none : (number : ℕ) → list_any (λ j. is_ending_lease m.moment number j.state) m.jobs ≡ false
     soon_none number = list_any_not (λ j. is_ending_lease m.moment number j.state) m.jobs (all_weaker (λ j. is_lease_short m.moment j ≡ false) (λ j. is_ending_lease m.moment number j.state ≡ false) m.jobs (λ j h. not_soon number j.state h) (none_pass (is_lease_short m.moment) m.jobs short))

@@ -1,17 +1,17 @@
 -- Kicking the first job of a kind again and again kicks the first ones in their order.
-use Rattle.std.proofs.Common.{◌&&◌, ◌+◌, ◌<◌, ◌==◌, ◌∙◌, ◌∷◌, ◌≡◌, ◌≤◌, if◌then◌else◌, Bool, List, None, Option, Some, [], ℕ, ap, arith, eq-eqb, false, filter, inl, inr, is_some, length, map, not, refl, suc, sym, take, true, zero}
+use Rattle.std.proofs.Common.{◌&&◌, ◌+◌, ◌<◌, ◌==◌, ◌∙◌, ◌∷◌, ◌≡◌, if◌then◌else◌, Bool, List, None, Option, Some, [], ℕ, ap, arith, eq-eqb, false, filter, inl, inr, length, map, not, refl, suc, sym, take, true}
 use Rattle.std.proofs.lemmas.{Bool.{and_from, cases_Bool, eqb-true, ne_eqb, Decides.nat_tests}, Grind.common_steps}
 use Rattle.std.specs.{List.{AllByRecursion as All, Contains, list_any}, Prelude.option_map}
 use Rattle.bq_job.specs.declared.job.Job.{Job}
-use Rattle.bq_job.specs.{beside.AreIdsWithin, machine.{first_of, in_order, is_buried_before, is_buried_in, is_pair_before, job_with, kickable, kicked, kicked_first, put_in_order}}
-use Rattle.bq_job.proofs.{ChoiceLemmas.{first_of_contains, first_of_is_least, first_of_is_some, first_of_none, first_of_passes, pair_order}, KeptLemmas.{ids_from_below, ids_of_filter}, ListLemmas.{all_at, all_from_members, list_any_with}}
+use Rattle.bq_job.specs.{beside.AreIdsWithin, machine.{first_of, in_order, is_buried_before, is_buried_in, job_with, kickable, kicked, kicked_first, put_in_order}}
+use Rattle.bq_job.proofs.{ChoiceLemmas.{first_of_contains, first_of_is_least, first_of_is_some, first_of_none, first_of_passes, pair_order}, KeptLemmas.ids_of_filter, ListLemmas.{all_at, all_from_members, list_any_with}}
 use Rattle.bq_job.proofs.{BecomeLemmas.{all_in_order, all_of_take}, ChoiceLemmas.pair_other}
+use Rattle.bq_jobs.proofs.Changes.{all_found, others_above}
 use Rattle.bq_state.specs.declared.job_store.JobKind.{JobKind, TheVariants.{Buried, Delayed}}
 use Rattle.bq_state.specs.JobKinds.{is_before_of, is_of, rank_of}
 use Rattle.bq_state.proofs.TubeLemmas.{some_left}
 use Rattle.bq_core.specs.Kicking.{KicksFirst, all_kicked, jobs_of}
 use Rattle.bq_core.proofs.ActLemmas.{none_left}
-use Rattle.bq_jobs.proofs.Changes.{all_found, others_above}
 
 -- a job is the only one of its id
 pub one_of_id : (id low next : ℕ) (jobs : List Job) (j : Job) → AreIdsWithin low jobs next → job_with id jobs ≡ Some j → All (λ x. (x.id == id) ≡ true → x ≡ j) jobs
@@ -85,17 +85,11 @@ kicked_in_turn j chosen others (x ∷ js) = go (x.id == j.id) refl (kicked_in_tu
   where
     go : (b : Bool) → (x.id == j.id) ≡ b → all_kicked (j ∷ chosen) js ≡ all_kicked chosen (map (λ k. if k.id == j.id then kicked k else k) js) → all_kicked (j ∷ chosen) (x ∷ js) ≡ all_kicked chosen ((if b then kicked x else x) ∷ map (λ k. if k.id == j.id then kicked k else k) js)
     go true e rest =
-        let at : x.id ≡ j.id = eqb-true x.id j.id e in
-        let first : (j.id == x.id) ≡ true = eq-eqb j.id x.id (sym at) in
-        let none : list_any (λ k. k.id == x.id) chosen ≡ false = rw at (not_chosen j.id chosen others) in
-        rw (first, none) (ap (λ ys. kicked x ∷ ys) rest)
-    go false e rest =
-        let first : (j.id == x.id) ≡ false = ne_eqb j.id x.id (λ h. absurd (let f : (x.id == j.id) ≡ true = eq-eqb x.id j.id (sym h) in cc)) in
-        rw first (ap (λ ys. (if list_any (λ k. k.id == x.id) chosen then kicked x else x) ∷ ys) rest)
+        grind (arith, common_steps, cases_Bool, nat_tests, eqb-true x.id j.id e, eq-eqb, not_chosen j.id chosen others)
+    go false e rest = grind (arith, common_steps, ne_eqb, eq-eqb)
 
 those_at : (P : Job → Type 0) (q : Job → Bool) (x : Job) (js : List Job) (b : Bool) → q x ≡ b → (q x ≡ true → P x) → All P (filter q js) → All P (if b then x ∷ filter q js else filter q js)
-those_at P q x js true e h more = (h e, more)
-those_at P q x js false e h more = more
+those_at P q x js b e h more = grind (arith, common_steps)
 
 those : (P : Job → Type 0) (q : Job → Bool) (js : List Job) → All (λ x. q x ≡ true → P x) js → All P (filter q js)
 those P q [] all = tt
@@ -103,8 +97,7 @@ those P q (x ∷ js) all = those_at P q x js (q x) refl all.0 (those P q js all.
 
 -- a job that passes is among those that do
 some_at : (q : Job → Bool) (id : ℕ) (x : Job) (js : List Job) (b : Bool) → q x ≡ b → list_any (λ y. (y.id == id) && q y) (x ∷ js) ≡ true → (list_any (λ y. (y.id == id) && q y) js ≡ true → list_any (λ y. y.id == id) (filter q js) ≡ true) → list_any (λ y. y.id == id) (if b then x ∷ filter q js else filter q js) ≡ true
-some_at q id x js true e h rest = grind (arith, common_steps, cases_Bool)
-some_at q id x js false e h rest = grind (arith, common_steps, cases_Bool)
+some_at q id x js b e h rest = grind (arith, common_steps, cases_Bool)
 
 some_there_at : (q : Job → Bool) (id : ℕ) (js : List Job) → list_any (λ y. (y.id == id) && q y) js ≡ true → list_any (λ y. y.id == id) (filter q js) ≡ true
 some_there_at q id [] h = absurd cc
@@ -145,23 +138,16 @@ kicks_first kind tube low next jobs j out ids first =
 
 -- which jobs a kick makes ready
 some_buried : (tube : List ℕ) (jobs js : List Job) → 0 < length js → in_order is_buried_before js ≡ kicked_first tube jobs js
-some_buried tube jobs [] h = absurd (omega arith)
-some_buried tube jobs (j ∷ js) h = refl
+some_buried tube jobs js h = grind (arith, common_steps)
 
 pub kickable_buried : (tube : List ℕ) (jobs : List Job) (id : ℕ) → Some id ≡ option_map (λ j. j.id) (first_of (is_buried_in tube) is_buried_before jobs) → jobs_of Buried tube jobs ≡ kickable tube jobs
 kickable_buried tube jobs id first =
-    let some : is_some (first_of (is_buried_in tube) is_buried_before jobs) ≡ true = found (first_of (is_buried_in tube) is_buried_before jobs) first in
-    let any : list_any (is_buried_in tube) jobs ≡ true = sym (first_of_is_some (is_buried_in tube) is_buried_before jobs) ∙ some in
-    some_buried tube jobs (filter (is_buried_in tube) jobs) (some_left (is_buried_in tube) jobs any)
-  where
-    found : (o : Option Job) → Some id ≡ option_map (λ j. j.id) o → is_some o ≡ true
-    found None e = absurd cc
-    found (Some j) e = refl
+    grind (arith, common_steps, cases_Bool, first_of_is_some (is_buried_in tube) is_buried_before jobs, some_buried,
+    some_left)
 
 -- no id, no job
 pub no_id : (o : Option Job) → None ≡ option_map (λ j. j.id) o → o ≡ None
-no_id None e = refl
-no_id (Some j) e = absurd cc
+no_id o e = grind (arith, common_steps)
 
 pub kickable_delayed : (tube : List ℕ) (jobs : List Job) → None ≡ option_map (λ j. j.id) (first_of (is_buried_in tube) is_buried_before jobs) → jobs_of Delayed tube jobs ≡ kickable tube jobs
 kickable_delayed tube jobs none =
@@ -179,8 +165,7 @@ pub one_on : (d n : ℕ) → (d + 1) + n ≡ d + suc n
 one_on d n = omega arith
 
 pub take_none : (n : ℕ) → take {A = Job} n [] ≡ []
-take_none zero = refl
-take_none (suc n) = refl
+take_none n = grind (arith, common_steps)
 
 pub none_kicked : (jobs : List Job) → all_kicked [] jobs ≡ jobs
 none_kicked [] = refl

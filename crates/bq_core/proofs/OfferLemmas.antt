@@ -1,5 +1,5 @@
 -- What a walk over those that wait finds for them.
-use Rattle.std.proofs.{Common.{◌∙◌, ◌∷◌, ◌≡◌, List, None, Option, Some, [], ℕ, ap, arith, false, refl, subst, sym}, lemmas.{Bool.Decides.nat_tests, Grind.common_steps}}
+use Rattle.std.proofs.{Common.{◌∙◌, ◌∷◌, ◌≡◌, List, None, Option, [], ℕ, ap, arith, false, refl, subst, sym}, lemmas.{Bool.Decides.nat_tests, Grind.common_steps}}
 use Rattle.std.specs.{List.sum_by, Prelude.fold}
 use Rattle.bq_job.specs.{declared.job.Job.Job, machine.{SeatRecord, TubeRecord}}
 use Rattle.bq_job.proofs.ChoiceLemmas.{pair_order}
@@ -9,9 +9,7 @@ use Rattle.bq_state.proofs.{SeatPlaces.place_is_seat, WalkLemmas.{chosen, chosen
 
 -- Of two jobs it is the same which is looked at first.
 rank_chosen : (a b : Option (ℕ × ℕ)) → better_rank a b ≡ chosen is_turn_before a b
-rank_chosen None b = refl
-rank_chosen (Some x) None = refl
-rank_chosen (Some x) (Some y) = refl
+rank_chosen a b = grind (arith, common_steps)
 
 ranks_same : (x y : ℕ × ℕ) → is_turn_before x y ≡ false → is_turn_before y x ≡ false → x ≡ y
 ranks_same x y a b = grind (arith, common_steps, nat_tests)

@@ -1,6 +1,7 @@
 -- The next job, where it is known what may be had.
-use Rattle.std.proofs.Common.{◌&&◌, ◌==◌, ◌||◌, ◌∙◌, ◌∷◌, ◌≡◌, ◌≤◌, if◌then◌else◌, Bool, List, None, Option, Some, [], ℕ, ap, arith, false, inl, inr, length, not, refl, subst, sym, true}
-use Rattle.std.proofs.lemmas.{Bool.{and_parts, eqb-true, or_cases}, Grind.common_steps, List.Sums.sum_by-cons}
+use Rattle.std.proofs.Common.{◌&&◌, ◌==◌, ◌||◌, ◌∙◌, ◌∷◌, ◌≡◌, ◌≤◌, Bool, List, None, Option, Some, [], ℕ, ap, arith, false, inl, inr, length, not, refl, subst, sym, true}
+use Rattle.std.proofs.lemmas.{Bool.{and_parts, cases_Bool, eqb-true, or_cases, Decides.nat_tests}, Grind.common_steps}
+use Rattle.std.proofs.lemmas.List.Sums.{sum_by-cons}
 use Rattle.std.specs.{List.{AllByRecursion as All, Contains, list_any, sum_by}, Prelude.option_map}
 use Rattle.bq_job.specs.declared.job.Job.{Job}
 use Rattle.bq_job.specs.{machine.{SeatRecord, first_of, is_job_before, is_paused, is_ready, is_ready_in, is_waiting, is_waiting_for, seat_with, watches, Machine.Machine}, reading.TubeName.is_same_name}
@@ -18,13 +19,8 @@ rank_agrees m p same = ap (option_map (ranked (λ j. j.pri))) (first_of_agrees (
 pub client_waits : (m : Machine) (seat : ℕ) (o : Option SeatRecord) → AreNumbered m.seats → seat_with seat m.seats ≡ o → AreKnown (Client seat) m.jobs m.seats m.tubes
     → All (λ j. list_any (is_waiting_for m j) m.seats ≡ list_any (is_waiting_for m j) (these o)) m.jobs
 client_waits m seat None numbered found known =
-    all_weaker (λ j. All (IsKnown (Client seat) m.tubes j) m.seats) (λ j. list_any (is_waiting_for m j) m.seats ≡ false) m.jobs
-    (λ j all. list_any_not (is_waiting_for m j) m.seats
-    (all_from_members (λ t. is_waiting_for m j t ≡ false) m.seats (λ t c. unwanted (is_waiting_for m j t) (t.number == seat) (all_at (IsKnown (Client seat) m.tubes j) m.seats t all c) (all_at (λ u. (u.number == seat) ≡ false) m.seats t (none_found seat m.seats found) c)))) known
-  where
-    unwanted : (b n : Bool) → (b ≡ true → n ≡ true) → n ≡ false → b ≡ false
-    unwanted false n k e = refl
-    unwanted true n k e = sym (k refl) ∙ e
+    grind (arith, common_steps, cases_Bool, nat_tests, all_weaker, list_any_not, all_from_members, all_at,
+    none_found seat m.seats found)
 client_waits m seat (Some s) numbered found known =
     all_weaker (λ j. All (IsKnown (Client seat) m.tubes j) m.seats) (λ j. list_any (is_waiting_for m j) m.seats ≡ (is_waiting_for m j s || false)) m.jobs (λ j all. go j all (is_waiting_for m j s) refl) known
   where
@@ -35,8 +31,7 @@ client_waits m seat (Some s) numbered found known =
     here = (found_passes (λ t. t.number == seat) m.seats s found).1
 
     unwanted : (j : Job) → is_waiting_for m j s ≡ false → (t : SeatRecord) → (t.number ≡ seat → t ≡ s) → IsKnown (Client seat) m.tubes j t → (b : Bool) → is_waiting_for m j t ≡ b → b ≡ false
-    unwanted j none t same k false e = refl
-    unwanted j none t same k true e = sym e ∙ ap (is_waiting_for m j) (same (eqb-true t.number seat (k e))) ∙ none
+    unwanted j none t same k b e = grind (arith, common_steps, eqb-true)
 
     go : (j : Job) → All (IsKnown (Client seat) m.tubes j) m.seats → (b : Bool) → is_waiting_for m j s ≡ b → list_any (is_waiting_for m j) m.seats ≡ (b || false)
     go j all true e = list_any_with (is_waiting_for m j) m.seats s here e
@@ -105,17 +100,9 @@ entries_within f [] = tt
 entries_within f (s ∷ seats) = grind (arith, common_steps, sum_by-cons, all_weaker, entries_within f seats)
 
 pub client_entries : (seats : List SeatRecord) (seat : ℕ) (o : Option SeatRecord) → seat_with seat seats ≡ o → sum_by waited_tubes (these o) ≤ sum_by waited_tubes seats
-client_entries seats seat None found = omega arith
-client_entries seats seat (Some s) found = grind (arith, common_steps, sum_by-cons, all_at, entries_within, found_passes)
+client_entries seats seat o found = grind (arith, common_steps, sum_by-cons, all_at, entries_within, found_passes)
 
 pub tube_entries : (seats : List SeatRecord) (name : List ℕ) → list_any (is_waiter name) seats ≡ true → 1 ≤ sum_by waited_tubes seats
 tube_entries seats name h =
-    let s = some_passes (is_waiter name) seats h in
-    let within = all_at (λ t. waited_tubes t ≤ sum_by waited_tubes seats) seats s.client (entries_within waited_tubes seats) s.here in
-    let some : 1 ≤ waited_tubes s.client = one (is_waiting s.client) s.client.watched s.passes in
-    omega (arith, within, some)
-  where
-    one : (w : Bool) (names : List (List ℕ)) → (w && list_any (is_same_name name) names) ≡ true → 1 ≤ (if w then length names else 0)
-    one true [] h = absurd cc
-    one true (n ∷ names) h = omega arith
-    one false names h = absurd cc
+    grind (arith, common_steps, cases_Bool, some_passes (is_waiter name) seats h, all_at,
+    entries_within waited_tubes seats)

@@ -1,11 +1,12 @@
 -- What a whole step asks of the shelves, out of its parts.
 use Rattle.std.proofs.{Common.{◌*◌, ◌+◌, ◌∙◌, ◌≡◌, ◌≤◌, List, None, [], ℕ, ap, arith, cond, false, length, max, subst, sym}, lemmas.Nat.mul-le, Math.Nat.add-mul}
+use Rattle.std.proofs.lemmas.Grind.{common_steps}
 use Rattle.std.specs.List.{sum_by}
 use Rattle.bq_job.specs.declared.step.Step.{Step}
 use Rattle.bq_job.specs.{beside.waiting_count, machine.{DispatchTurn, GivenAnswer, SeatRecord, Serves, WaitEndTurn, acted, has_refused_share, is_waiting, next_end, next_job, without_wait, Machine.Machine}}
 use Rattle.bq_job.proofs.LawfulLemmas.{leaves_acted}
-use Rattle.bq_jobs.specs.Kept.{Kept}
 use Rattle.bq_steps.specs.{Cost.{IsStepWithin, changed_jobs, ripening, tubes_watched, watched_tubes}, Outbox.Outbox}
+use Rattle.bq_jobs.specs.Kept.{Kept}
 use Rattle.bq_state.specs.declared.core_parts.CoreParts.{CoreParts}
 use Rattle.bq_state.specs.{Asking.{Asks, AsksAsChanged, AsksByTurn, search_among}, CoreParts.machine_of, Cost.waited}
 use Rattle.bq_core.specs.{Serving.{NoneIsGone, ServesAsking, ServesInto}, Turns.{Gives, none_refused}}
@@ -36,19 +37,7 @@ serve_falls f less first handed ended last s =
 -- The parts of a step ask no more than its changes allow.
 bounded : (t h c g q w v x y : ℕ) → w ≤ q → v ≤ q → x ≤ q → y ≤ q + 1
     → (10 * t + 2) + (h * (w + 9) + w + v + 1) + (9 * c + 10) + (g * (x + 9) + x + y + 1) ≤ (t + h + g + c + 8) * (q + 16)
-bounded t h c g q w v x y a b d e =
-    let r = q + 16 in
-    omega (
-      arith,
-      mul-le h (w + 9) h r (omega arith) (omega arith),
-      mul-le g (x + 9) g r (omega arith) (omega arith),
-      mul-le t 10 t r (omega arith) (omega arith),
-      mul-le c 9 c r (omega arith) (omega arith),
-      add-mul (t + h + g + c) 8 r,
-      add-mul (t + h + g) c r,
-      add-mul (t + h) g r,
-      add-mul t h r,
-    )
+bounded t h c g q w v x y a b d e = grind (arith, common_steps, mul-le, add-mul)
 
 -- four parts, each of which asks among no more jobs than there are at most
 summed : (first fired before left last : Kept) (n k c g most : ℕ) → Asks n first fired → Asks k fired before → AsksAsChanged before left → Asks g left last

@@ -1,8 +1,8 @@
 -- A whole step out of its parts.
-use Rattle.std.proofs.Common.{◌++◌, ◌+◌, ◌<◌, ◌==◌, ◌||◌, ◌∙◌, ◌∷◌, ◌≡◌, ◌≤◌, if◌then◌else◌, Bool, List, None, [], ℕ, ap, arith, false, inl, inr, length, map, refl, subst, sym, true}
-use Rattle.std.proofs.{lemmas.{Bool.and_parts, Grind.common_steps, List.{length-append, Sums.count_by-le-length}}, Math.Bool.or-false}
-use Rattle.std.proofs.Common.{map-id}
-use Rattle.std.specs.{List.{list_all, list_any}, Prelude.filter}
+use Rattle.std.proofs.Common.{◌++◌, ◌+◌, ◌<◌, ◌||◌, ◌∙◌, ◌∷◌, ◌≡◌, if◌then◌else◌, Bool, List, None, [], ℕ, ap, arith, false, inl, inr, length, map, refl, subst, sym}
+use Rattle.std.proofs.{Common.map-id, lemmas.{Bool.Decides.nat_tests, Grind.common_steps, List.length-append}}
+use Rattle.std.proofs.{lemmas.List.Sums.count_by-le-length, Math.Bool.or-false}
+use Rattle.std.specs.List.{list_all, list_any}
 use Rattle.bq_job.specs.machine.{Chain, DispatchTurn, GivenAnswer, IsHandOut, IsStep, SeatRecord, TubeRecord, WaitEndTurn, acted, addressed, after_hand_out, after_timers, at_moment, forgetting, has_refused_share, is_growth_refused}
 use Rattle.bq_job.specs.machine.{is_seated_at, is_share_refused, is_tube, is_waiting, job_after_timers, next_end, next_job, tube_after_timers, with_seat, without_wait, Machine.Machine}
 use Rattle.bq_job.specs.{beside.{IsLawful, waiting_count}, declared.{job.Job.Job, step.Step.Step}}
@@ -30,19 +30,15 @@ changed_alike : (m : Machine) (f : Job → Job) (g : SeatRecord → SeatRecord) 
 changed_alike m f g in_tube at name = grind (arith, common_steps, agree_any)
 
 one_tube : (b : Bool) (x y : Job) → x.tube ≡ y.tube → (if b then x else y).tube ≡ y.tube
-one_tube true x y h = h
-one_tube false x y h = refl
+one_tube b x y h = grind (arith, common_steps)
 
 one_seat : (b : Bool) (x y : SeatRecord) (name : List ℕ) → is_seated_at name x ≡ is_seated_at name y → is_seated_at name (if b then x else y) ≡ is_seated_at name y
-one_seat true x y name h = h
-one_seat false x y name h = refl
+one_seat b x y name h = grind (arith, common_steps)
 
 waits_alike : (m : Machine) (number : ℕ) → SameTubes m (with_seat number without_wait m)
 waits_alike m number = record {
   tubes = refl;
-  exist = λ name.
-      ap (λ jobs. is_tube name (record (with_seat number without_wait m) { jobs = jobs })) (sym (map-id m.jobs))
-      ∙ changed_alike m (λ j. j) (λ s. if s.number == number then without_wait s else s) (λ j. refl) (λ n s. one_seat (s.number == number) (without_wait s) s n refl) name;
+  exist = grind (arith, common_steps, nat_tests, map-id m.jobs, changed_alike, one_seat);
 }
 
 hand_out_alike : (m : Machine) (j : Job) (s : SeatRecord) → SameTubes m (after_hand_out m j s)
@@ -112,11 +108,8 @@ begins first fired at lawful fires = forgets_nothing (after_timers (at_moment at
 -- at the beginning of a step there is room for an answer to each waiting client, and one more
 pub first_room : (first fired : CoreParts) (at : ℕ) (begun : Outbox) → IsLawful (machine_of first) → machine_of fired ≡ after_timers (at_moment at (machine_of first)) → begun.given ≡ [] → first.config.seats < begun.most → HasRoom 1 (machine_of fired) begun
 first_room first fired at begun lawful fires empty h =
-    let same : waiting_count (machine_of fired) ≡ waiting_count (machine_of first) = ap waiting_count fires in
-    let all = seats_many (machine_of first) (kept_of_lawful (machine_of first) lawful) in
-    let few : waiting_count (machine_of first) ≤ length (machine_of first).seats = count_by-le-length is_waiting (machine_of first).seats in
-    let none : length begun.given ≡ 0 = ap length empty in
-    omega arith
+    grind (arith, common_steps, seats_many (machine_of first) (kept_of_lawful (machine_of first) lawful),
+    kept_of_lawful (machine_of first) lawful, count_by-le-length is_waiting (machine_of first).seats)
 
 -- room for one answer more than there are waiting clients is room for those
 pub less_room : (m : Machine) (o : Outbox) → HasRoom 1 m o → HasRoom 0 m o
@@ -180,7 +173,4 @@ whole_step first at seat what begun between asked new acted_state left last empt
     }
   where
     or_comm : (b c : Bool) → (b || c) ≡ (c || b)
-    or_comm true true = refl
-    or_comm true false = refl
-    or_comm false true = refl
-    or_comm false false = refl
+    or_comm b c = grind (arith, common_steps)

@@ -10,8 +10,7 @@ use Rattle.bq_state.specs.Names.{names_of}
 -- A text that is known tells the same of each machine that fits.
 pub told_of : {T E M : Type 0} (r : Result T E) (x : T) (Fits : M → Type 0) (f : M → T)
     → IfOk r (λ t. t ≡ x) → ((m : M) → Fits m → x ≡ f m) → IfOk r (λ t. (m : M) → Fits m → t ≡ f m)
-told_of (Ok t) x Fits f is same = λ m fits. is ∙ same m fits
-told_of (Err e) x Fits f is same = tt
+told_of r x Fits f is same = grind (arith, common_steps)
 
 -- a line of a number that is known
 pub with_number : (key : List ℕ) (p : KeyValue) (n k : ℕ) → p ≡ (key, decimal n) → n ≡ k → p ≡ key_number key k

@@ -3,9 +3,9 @@ use Rattle.std.proofs.{Common.{◌≡◌, IfOk, List, Ok, Result, ℕ, arith, is
 use Rattle.bq_job.specs.{declared.fault.NoMemory.NoMemory, machine.{job_with, showing, telling}}
 use Rattle.bq_job.specs.declared.answer.Answer.TheVariants as answers
 use Rattle.bq_jobs.specs.Seen.{IsBodyOf}
+use Rattle.bq_jobs.proofs.Changes.{found_id}
 use Rattle.bq_state.specs.{CoreParts.{OnlyCompares, machine_of}, declared.core_parts.CoreParts.CoreParts}
 use Rattle.bq_core.proofs.{ActLemmas.some_there, TurnLemmas.if_ok}
-use Rattle.bq_jobs.proofs.Changes.{found_id}
 
 -- A job that is there is shown with its body.
 pub shown_so : (st last : CoreParts) (id : ℕ) (r : Result (List ℕ) NoMemory) (body : List ℕ) → r ≡ Ok body → true ≡ is_some (job_with id (machine_of st).jobs) → IfOk r (IsBodyOf (job_with id (machine_of st).jobs))

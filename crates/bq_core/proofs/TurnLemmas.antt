@@ -1,6 +1,7 @@
 -- A turn of dispatch or of the ends of waits, and chains of them.
-use Rattle.std.proofs.Common.{◌++◌, ◌<◌, ◌||◌, ◌∙◌, ◌∷◌, ◌≡◌, Bool, List, None, Option, Some, [], ℕ, ap, append-nil, arith, false, get_or, length, refl, slice_get, subst, sym, true}
+use Rattle.std.proofs.Common.{◌++◌, ◌<◌, ◌||◌, ◌∙◌, ◌∷◌, ◌≡◌, Bool, List, None, Some, [], ℕ, ap, append-nil, arith, false, get_or, length, refl, slice_get, subst, sym, true}
 use Rattle.std.proofs.{lemmas.{Grind.common_steps, List.length-append, Option.slice_get_read}, Math.Bool.{or-false, or-true}}
+use Rattle.std.proofs.lemmas.Result.{IfOk-weaker}
 use Rattle.std.specs.{List.{Contains, list_any}, Prelude.{IfOk, Ok, Result, option_map}}
 use Rattle.bq_job.specs.machine.{Chain, DispatchTurn, GivenAnswer, IsHandOut, SeatRecord, WaitEndTurn, end_of_wait, has_refused_share, is_job_before, is_out_of_memory, is_waiting, is_waiting_for, next_end, next_job, next_seat, reserved_by}
 use Rattle.bq_job.specs.{beside.waiting_count, declared.{answer.Answer.Answer, fault.NoMemory.NoMemory, job.Job.Job}}
@@ -10,7 +11,6 @@ use Rattle.bq_job.proofs.{ChoiceLemmas.first_of_none_passes, ComputedLemmas.{nex
 use Rattle.bq_steps.specs.Outbox.{Outbox}
 use Rattle.bq_state.specs.{CoreParts.machine_of, declared.core_parts.CoreParts.CoreParts}
 use Rattle.bq_core.specs.{HandOuts.{AddsHandOut, HandsOut}, Turns.{Gives, HasRoom, none_refused}, WaitEnds.AddsWaitEnd}
-use Rattle.std.proofs.lemmas.Result.{IfOk-weaker}
 
 -- a hand-out takes the client away, whether the share was given or not
 hand_out_falls : (m : Machine) (j : Job) (s : SeatRecord) (g : GivenAnswer) (next : Machine) → Contains m.seats s → is_waiting s ≡ true → IsHandOut m j s g next → waiting_count next < waiting_count m
@@ -33,8 +33,7 @@ one_turn m next old new j s job seat here waits adds =
 
 -- nobody waits: there is no next job
 unwanted_at : (m : Machine) (s : SeatRecord) (seats : List SeatRecord) (j : Job) (b : Bool) → is_waiting s ≡ b → (list_any is_waiting seats ≡ false → list_any (is_waiting_for m j) seats ≡ false) → list_any is_waiting (s ∷ seats) ≡ false → list_any (is_waiting_for m j) (s ∷ seats) ≡ false
-unwanted_at m s seats j true e rest h = absurd (let x : (true || list_any is_waiting seats) ≡ false = rw e at h in cc)
-unwanted_at m s seats j false e rest h = rw e (rest (rw e at h))
+unwanted_at m s seats j b e rest h = grind (arith, common_steps)
 
 unwanted : (m : Machine) (seats : List SeatRecord) (j : Job) → list_any is_waiting seats ≡ false → list_any (is_waiting_for m j) seats ≡ false
 unwanted m [] j h = refl
@@ -54,20 +53,12 @@ if_ok r x P e p = subst (λ z. IfOk z P) e p
 -- the job of this id is the next one
 module _ (st : CoreParts) (id : ℕ) (job_is : Some id ≡ option_map (λ j. j.id) (next_job (machine_of st))) where
   the_job : (j : Job) × (next_job (machine_of st) ≡ Some j) × (id ≡ j.id)
-  the_job = some_of (next_job (machine_of st)) job_is
-    where
-      some_of : (o : Option Job) → Some id ≡ option_map (λ j. j.id) o → (j : Job) × (o ≡ Some j) × (id ≡ j.id)
-      some_of None e = absurd cc
-      some_of (Some j) e = (j, refl, cc)
+  the_job = grind (arith, common_steps)
 
   -- and some client waits for it: the one at the seat of this number
   module _ (number : ℕ) (seat_is : (j : Job) → next_job (machine_of st) ≡ Some j → Some number ≡ option_map (λ s. s.number) (next_seat (machine_of st) j)) where
     the_seat : (s : SeatRecord) × (next_seat (machine_of st) the_job.0 ≡ Some s) × (number ≡ s.number)
-    the_seat = some_of (next_seat (machine_of st) the_job.0) (seat_is the_job.0 the_job.1)
-      where
-        some_of : (o : Option SeatRecord) → Some number ≡ option_map (λ s. s.number) o → (s : SeatRecord) × (o ≡ Some s) × (number ≡ s.number)
-        some_of None e = absurd cc
-        some_of (Some s) e = (s, refl, cc)
+    the_seat = grind (arith, common_steps, the_job)
 
     waits : Contains st.seats.items the_seat.0 × (is_waiting the_seat.0 ≡ true)
     waits = let w = next_seat_waits (machine_of st) the_job.0 the_seat.0 the_seat.1 in (w.0, w.1)
@@ -103,8 +94,7 @@ gives_joined Turn refused joined first middle last old between new a b = grind (
 
 -- turns that take a waiting client away for each answer leave the room that there was
 pub room_kept : (Turn : Machine → GivenAnswer → Machine → Type 0) (refused : List GivenAnswer → Bool) (more : ℕ) (first last : Machine) (old new : Outbox) → Gives Turn refused first last old new → HasRoom more first old → HasRoom more last new
-room_kept Turn refused more first last old new gives room =
-    omega (arith, ap length gives.added, length-append old.given gives.given, gives.taken, gives.most, room)
+room_kept Turn refused more first last old new gives room = grind (arith, common_steps, length-append)
 
 -- one end of a wait is a chain of them
 pub one_end : (m next : Machine) (old new : Outbox) (s : SeatRecord) → next_end m ≡ Some s → Contains m.seats s → is_waiting s ≡ true → AddsWaitEnd m s old new next → Gives WaitEndTurn none_refused m next old new

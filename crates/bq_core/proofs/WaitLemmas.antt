@@ -1,5 +1,5 @@
 -- The ends of waits, one waiting client after another in the order of their turns.
-use Rattle.std.proofs.Common.{◌&&◌, ◌+◌, ◌<◌, ◌==◌, ◌||◌, ◌∙◌, ◌∷◌, ◌≡◌, ◌≤◌, if◌then◌else◌, Bool, List, None, Option, Some, [], ℕ, ap, arith, cond, false, inl, inr, length, map, not, refl, slice_get, subst, sym, true}
+use Rattle.std.proofs.Common.{◌&&◌, ◌+◌, ◌<◌, ◌==◌, ◌||◌, ◌∙◌, ◌∷◌, ◌≡◌, ◌≤◌, if◌then◌else◌, Bool, List, None, Option, Some, [], ℕ, arith, cond, false, inl, inr, length, map, not, refl, slice_get, subst, sym, true}
 use Rattle.std.proofs.lemmas.{Bool.{and_parts, cases_Bool, eq-eqb, eqb-true, Decides.nat_tests}, Grind.common_steps}
 use Rattle.std.proofs.Common.{map-id}
 use Rattle.std.specs.{List.{AllByRecursion as All, Contains, list_any}, Prelude.count_by}
@@ -47,9 +47,7 @@ none_left m last looked none =
     (go m.seats looked (none_pass (waits_after last) m.seats (first_of_none (waits_after last) is_wait_before m.seats (sym none)))))
   where
     one : (w e a : Bool) → (w && e ≡ true → a ≡ true) → (w && a) ≡ false → (w && e) ≡ false
-    one true true a h i = absurd (let x = h refl in cc)
-    one true false a h i = refl
-    one false e a h i = refl
+    one w e a h i = grind (arith, common_steps)
 
     go : (seats : List SeatRecord) → All (λ s. ends_waiting m s ≡ true → is_after last s ≡ true) seats → All (λ s. waits_after last s ≡ false) seats → All (λ s. ends_waiting m s ≡ false) seats
     go [] a b = tt
@@ -65,10 +63,7 @@ fewer p q f [] w h = absurd cc
 fewer p q f (x ∷ xs) w h = rw (count_cons q (f x) (map f xs), count_cons p x xs) (go (p x) (q (f x)) w.0 (λ e. fewer p q f xs w.1 e) h)
   where
     go : (b c : Bool) → (c ≡ true → b ≡ true) → (list_any (λ y. p y && not (q (f y))) xs ≡ true → count_by q (map f xs) < count_by p xs) → ((b && not c) || list_any (λ y. p y && not (q (f y))) xs) ≡ true → cond c 1 0 + count_by q (map f xs) < cond b 1 0 + count_by p xs
-    go true true i rest e = omega (arith, rest e)
-    go true false i rest e = omega (arith, no_more p q f xs w.1)
-    go false true i rest e = absurd (let x = i refl in cc)
-    go false false i rest e = omega (arith, rest e)
+    go b c i rest e = grind (arith, common_steps, no_more)
 
 -- pairs of numbers
 pair_alone : (a i : ℕ) → is_pair_before a i a i ≡ false
@@ -81,8 +76,7 @@ pair_same : (a i b j : ℕ) → is_pair_before a i b j ≡ false → is_pair_bef
 pair_same a i b j h o = grind (arith, nat_tests)
 
 after_chain : (last : Option (ℕ × ℕ)) (s t : SeatRecord) → is_after last s ≡ true → is_after (Some (turn_of s)) t ≡ true → is_after last t ≡ true
-after_chain None s t h i = refl
-after_chain (Some last) s t h i = pair_chain last.0 last.1 (ticket_of s.wait) s.number (ticket_of t.wait) t.number h i
+after_chain last s t h i = grind (arith, common_steps, pair_chain)
 
 -- the next one that is looked at
 module _ (st : CoreParts) (last : Option (ℕ × ℕ)) (looked : AreLookedAt (machine_of st) last) (k : ℕ) (there : k < length st.seats.items) (found : slice_get st.seats.items k ≡ first_of (waits_after last) is_wait_before st.seats.items) where
@@ -113,10 +107,7 @@ module _ (st : CoreParts) (last : Option (ℕ × ℕ)) (looked : AreLookedAt (ma
 
   -- whose wait ends now is still to be looked at
   is_left : (t : SeatRecord) → Contains st.seats.items t → ends_waiting (machine_of st) t ≡ true → waits_after last t ≡ true
-  is_left t c e =
-      let w = (and_parts (is_waiting t) (is_deadline_soon (machine_of st) t || is_timed_out (machine_of st) t) e).0 in
-      let a = all_at (λ u. ends_waiting (machine_of st) u ≡ true → is_after last u ≡ true) st.seats.items t looked c e in
-      rw (w, a) refl
+  is_left t c e = grind (arith, common_steps, and_parts, all_at)
 
   not_sooner : (t : SeatRecord) → Contains st.seats.items t → waits_after last t ≡ true → is_wait_before t s ≡ false
   not_sooner t c w = first_of_is_least (waits_after last) (pair_order (λ u. ticket_of u.wait) (λ u. u.number)) st.seats.items s t chosen c w
@@ -153,14 +144,10 @@ module _ (st : CoreParts) (last : Option (ℕ × ℕ)) (looked : AreLookedAt (ma
         ]
       where
         gone : (t : SeatRecord) → Contains st.seats.items t → (b : Bool) → (t.number == s.number) ≡ b → ends_waiting (with_seat s.number without_wait (machine_of st)) (if b then without_wait t else t) ≡ true → is_after (Some (turn_of s)) (if b then without_wait t else t) ≡ true
-        gone t c true o h = absurd cc
-        gone t c false o h = comes_after t c (is_left t c h) o
+        gone t c b o h = grind (arith, common_steps, comes_after, is_left)
 
         stays : (t : SeatRecord) → Contains st.seats.items t → ends_waiting (machine_of st) s ≡ false → ends_waiting (machine_of st) t ≡ true → (b : Bool) → (t.number == s.number) ≡ b → is_after (Some (turn_of s)) t ≡ true
-        stays t c e h true o =
-            let same : t ≡ s = all_at (λ u. u.number ≡ k → u ≡ s) st.seats.items t only c (eqb-true t.number s.number o ∙ number_is) in
-            absurd (let x : ends_waiting (machine_of st) t ≡ false = ap (ends_waiting (machine_of st)) same ∙ e in cc)
-        stays t c e h false o = comes_after t c (is_left t c h) o
+        stays t c e h b o = grind (arith, common_steps, all_at, only, eqb-true, number_is, comes_after, is_left)
 
     pub look_falls : left_after (Some (turn_of s)) next < left_after last (machine_of st)
     look_falls =
@@ -181,14 +168,11 @@ module _ (st : CoreParts) (last : Option (ℕ × ℕ)) (looked : AreLookedAt (ma
         ]
       where
         later : (t : SeatRecord) → waits_after (Some (turn_of s)) t ≡ true → waits_after last t ≡ true
-        later t h =
-            let parts = and_parts (is_waiting t) (is_after (Some (turn_of s)) t) h in
-            rw (parts.0, after_chain last s t passes.1 parts.1) refl
+        later t h = grind (arith, common_steps, and_parts, after_chain, passes)
 
         less : (t : SeatRecord) (b : Bool) → waits_after (Some (turn_of s)) (if b then without_wait t else t) ≡ true → waits_after last t ≡ true
         less t true h = absurd cc
         less t false h = later t h
 
         out : (b : Bool) → b ≡ true → not (waits_after (Some (turn_of s)) (if b then without_wait s else s)) ≡ true
-        out true h = refl
-        out false h = absurd cc
+        out b h = grind (arith, common_steps)

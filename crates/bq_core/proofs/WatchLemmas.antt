@@ -1,10 +1,10 @@
 -- The tubes that the clients watch who wait, as commands change the seats.
-use Rattle.std.proofs.{Common.{◌&&◌, ◌==◌, ◌||◌, ◌∙◌, ◌∷◌, ◌≡◌, ◌≤◌, if◌then◌else◌, Bool, List, [], ℕ, arith, cond, false, length, map, subst, true}, lemmas.{Bool.eqb-true, Grind.common_steps, List.Sums.sum_by-cons}}
+use Rattle.std.proofs.{Common.{◌∙◌, ◌∷◌, ◌≡◌, ◌≤◌, List, [], ℕ, arith, false, length, map, subst, true}, lemmas.{Bool.eqb-true, Grind.common_steps, List.Sums.sum_by-cons}}
 use Rattle.std.specs.{List.{AllByRecursion as All, sum_by}, Prelude.count_by}
 use Rattle.bq_job.specs.declared.{request.Request.Request, step.Step.Step}
-use Rattle.bq_job.specs.beside.{IsLawful, has_one, none_twice, waiting_count, watches_once}
-use Rattle.bq_job.specs.machine.{Effect, Memory, SeatRecord, acted, after_close, after_connect, asked, empty_seat, is_waiting, numbers, raised, waiting_from, with_end, with_seat, Machine.Machine}
-use Rattle.bq_job.proofs.{CommandKinds.kind_of, EachEvent.{IsSeat, each_acted}, EffectKinds.{Kind, adds, changes_jobs, changes_seat, changes_tube, deletes, passes, tells, waits}, KeptLemmas.only_seat}
+use Rattle.bq_job.specs.beside.{IsLawful, waiting_count, watches_once}
+use Rattle.bq_job.specs.machine.{Effect, Memory, SeatRecord, acted, after_close, after_connect, asked, empty_seat, is_waiting, numbers, with_end, with_seat, Machine.Machine}
+use Rattle.bq_job.proofs.{CommandKinds.kind_of, EachEvent.{IsSeat, each_acted}, EffectKinds.Kind, KeptLemmas.only_seat}
 use Rattle.bq_job.proofs.ListLemmas.{all_always, all_pass, all_weaker, count_cons}
 use Rattle.bq_steps.specs.Cost.{tubes_watched, watched_tubes}
 use Rattle.bq_state.specs.Cost.{waited, waited_tubes}
@@ -40,14 +40,7 @@ quiet_few f m s waits_as alone quiet = grind (arith, common_steps, with_seat_few
 
 -- every kind of command
 kind_few : (request : Request) (m : Machine) (s : SeatRecord) {e : Effect} → Kind m s request e → All (λ t. t.number ≡ s.number → t ≡ s) m.seats → is_waiting s ≡ false → waited e.machine ≤ watched_tubes s.number m
-kind_few request m s (passes none) alone quiet = waited_few s.number m
-kind_few request m s (tells answer one common unclosed) alone quiet = waited_few s.number m
-kind_few request m s (waits until one waiting) alone quiet = always_few s.number (waiting_from (raised m.tickets) until) m (λ t. omega arith)
-kind_few request m s (adds pri delay ttr body one accepts free) alone quiet = waited_few s.number m
-kind_few request m s (deletes id j asks found free) alone quiet = waited_few s.number m
-kind_few request m s (changes_jobs answer f burials says changes) alone quiet = waited_few s.number m
-kind_few request m s (changes_seat answer f says changes) alone quiet = quiet_few f m s changes.wait alone quiet
-kind_few request m s (changes_tube tube seconds one) alone quiet = waited_few s.number m
+kind_few request m s h alone quiet = grind (arith, common_steps, waited_few, always_few, quiet_few)
 
 alone_at : (m : Machine) (seat : ℕ) (s : SeatRecord) → map (λ s. s.number) m.seats ≡ numbers 0 m.settings.seats → IsSeat m seat s → All (λ t. t.number ≡ s.number → t ≡ s) m.seats
 alone_at m seat s seated is =
@@ -71,16 +64,6 @@ acted_few memory m seat what seated = each_acted m seat (λ what e. waited e.mac
 pub waiting_few : (seat : ℕ) (m : Machine) → IsLawful m → waiting_count m ≤ watched_tubes seat m
 waiting_few seat m lawful = go m.seats (all_pass watches_once m.seats lawful.watched)
   where
-    some_watched : (names : List (List ℕ)) (b : Bool) → (has_one names && b) ≡ true → 1 ≤ length names
-    some_watched [] b h = absurd cc
-    some_watched (name ∷ names) b h = omega arith
-
-    one : (s : SeatRecord) (w b : Bool) → 1 ≤ length s.watched → cond w 1 0 ≤ (if (w || b) then length s.watched else 0)
-    one s true b l = l
-    one s false b l = omega arith
-
     go : (seats : List SeatRecord) → All (λ s. watches_once s ≡ true) seats → count_by is_waiting seats ≤ sum_by (tubes_watched seat) seats
     go [] all = omega arith
-    go (s ∷ seats) all =
-        let here = one s (is_waiting s) (s.number == seat) (some_watched s.watched (none_twice s.watched) all.0) in
-        omega (arith, count_cons is_waiting s seats, sum_by-cons (tubes_watched seat) s seats, here, go seats all.1)
+    go (s ∷ seats) all = grind (arith, common_steps, count_cons, sum_by-cons, go seats all.1)
