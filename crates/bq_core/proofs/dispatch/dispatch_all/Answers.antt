@@ -1,4 +1,4 @@
-use Rattle.std.proofs.Common.{◌-◌, ap, arith, length, refl}
+use Rattle.std.proofs.{Common.{◌-◌, ap, arith, length, refl}, lemmas.Grind.common_steps}
 use Rattle.bq_job.specs.machine.{DispatchTurn, has_refused_share}
 use Rattle.bq_steps.specs.Outbox.{Outbox}
 use Rattle.bq_state.specs.{CoreParts.machine_of, Cost.{waited, waited_tubes}}
@@ -6,11 +6,7 @@ use Rattle.bq_core.proofs.{AskLemmas.{asks_more, asks_none, asks_then}, CostLemm
 use Rattle.bq_core.proofs.dispatch.dispatch_all.Goals as goal
 
 pub loop-init : goal.loop-init
-loop-init c = record {
-  given = gives_nothing DispatchTurn has_refused_share refl (machine_of c.args.state.now) c.args.outs.now;
-  asks = asks_more _ (omega arith) (asks_none c.args.state.now.jobs);
-  room = c.requires.room;
-}
+loop-init c = grind (arith, common_steps, gives_nothing, asks_more, asks_none)
 
 pub loop-preserved : goal.loop-preserved
 loop-preserved c =

@@ -1,19 +1,18 @@
-use Rattle.std.proofs.Common.{◌&&◌, ◌∙◌, ◌≡◌, ◌≤◌, if◌then◌else◌, Bool, List, None, ℕ, ap, arith, false, not, refl, rules, subst, sym, true}
-use Rattle.std.specs.{List.{list_any, sum_by}, Prelude.{fold, nat_lt, option_map}}
+use Rattle.std.proofs.Common.{◌&&◌, ◌∙◌, ◌≡◌, if◌then◌else◌, Bool, List, None, ℕ, ap, arith, false, not, refl, subst, sym, true}
+use Rattle.std.specs.{List.list_any, Prelude.{fold, option_map}}
 use Rattle.bq_job.specs.machine.{is_job_before, is_paused, is_ready_in, is_waiting_for, seat_with}
 use Rattle.bq_job.proofs.{ChoiceLemmas.first_of_none_passes, ListLemmas.{all_always, list_any_not}}
 use Rattle.bq_jobs.specs.Kept.{ranked}
-use Rattle.bq_state.specs.declared.{core_parts.CoreParts.CoreParts, known.Stir.{Stir, TheVariants.Nothing}, tubes.entry.Crowd.Crowd}
-use Rattle.bq_state.specs.{CoreParts.machine_of, Cost.waited_tubes, Crowds.is_waiter, Offers.{is_waited_at, next_rank, offered, these, with_offers}, Stirs.AreKnown}
+use Rattle.bq_state.specs.declared.{core_parts.CoreParts.CoreParts, known.Stir.{Stir, TheVariants.Nothing}}
+use Rattle.bq_state.specs.{CoreParts.machine_of, Crowds.is_waiter, Offers.{is_waited_at, next_rank, offered, these, with_offers}, Stirs.AreKnown}
 use Rattle.bq_state.proofs.{ClientLemmas.some_pass, CrowdPlaces.crowd_there, StirLemmas.none_known, TubeLemmas.paused_is}
 use Rattle.bq_core.proofs.{AskLemmas.asks_more, DispatchLemmas.{next_offer, offered_is}, SearchLemmas.{client_entries, client_waits, rank_agrees, tube_entries, tube_waits}}
 use Rattle.bq_core.proofs.dispatch.next_offer.Goals as goal
+use Rattle.std.proofs.lemmas.Grind.{common_steps}
 
 -- the tube's count tells whether somebody waits at it
 counted_there : (name : List ℕ) (st : CoreParts) → is_waited_at name st.tubes ≡ list_any (is_waiter name) st.seats.items
-counted_there name st =
-    ap (λ (k : Crowd). nat_lt 0 k.waiting) (crowd_there name st.tubes.crowds st.seats.items st.tubes.entries st.sound.entries.of_seats st.sound.known.crowds)
-    ∙ some_pass (is_waiter name) st.seats.items
+counted_there name st = grind (arith, common_steps, crowd_there, some_pass)
 
 pub returns-in-Nothing-clause-next : goal.returns-in-Nothing-clause-next
 returns-in-Nothing-clause-next c =
@@ -43,16 +42,7 @@ returns-in-Tube-clause-next c =
         ∙ sym (rank_agrees m (λ j. is_ready_in name j && not (is_paused name m)) (tube_waits m name true e known))
 
 pub returns-in-Tube-clause-kept : goal.returns-in-Tube-clause-kept
-returns-in-Tube-clause-kept c =
-    record {
-      same = search rules;
-      asks =
-          asks_more _ (go (is_waited_at c.in-Tube.name c.args.state.now.tubes) (sym (counted_there c.in-Tube.name c.args.state.now))) c.offer_to.ensures.asks;
-    }
-  where
-    go : (w : Bool) → list_any (is_waiter c.in-Tube.name) c.args.state.now.seats.items ≡ w → (if w then 1 else 0) ≤ sum_by waited_tubes c.args.state.now.seats.items
-    go true e = tube_entries c.args.state.now.seats.items c.in-Tube.name e
-    go false e = omega arith
+returns-in-Tube-clause-kept c = grind (arith, common_steps, asks_more, counted_there, tube_entries)
 
 pub returns-in-Client-clause-next : goal.returns-in-Client-clause-next
 returns-in-Client-clause-next c =
@@ -66,15 +56,7 @@ returns-in-Client-clause-next c =
     ∙ sym (rank_agrees m (λ j. list_any (is_waiting_for m j) (these o)) (client_waits m c.in-Client.seat o c.args.state.now.sound.numbered refl known))
 
 pub returns-in-Client-clause-kept : goal.returns-in-Client-clause-kept
-returns-in-Client-clause-kept c =
-    let seats = c.args.state.now.seats.items in
-    let slice = ap (λ ss. sum_by waited_tubes (these (seat_with c.in-Client.seat ss))) c.as_slice.ensures.value in
-    let few = client_entries seats c.in-Client.seat (seat_with c.in-Client.seat seats) refl in
-    record {
-      same = search rules;
-      asks =
-          asks_more _ (omega (arith, slice, few)) c.best_of_client.ensures.asks;
-    }
+returns-in-Client-clause-kept c = grind (arith, common_steps, client_entries, asks_more)
 
 pub returns-in-Any-clause-next : goal.returns-in-Any-clause-next
 returns-in-Any-clause-next c =

@@ -1,14 +1,13 @@
 use Rattle.std.proofs.Common.{◌==◌, ◌∙◌, ◌≡◌, if◌then◌else◌, ap, arith, count_by, map, subst, sym}
-use Rattle.bq_job.specs.{declared.job.Job.Job, machine.{first_of, kicked, Machine.Machine}}
+use Rattle.bq_job.specs.{declared.job.Job.Job, machine.{kicked, Machine.Machine}}
 use Rattle.bq_state.specs.{CoreParts.{machine_held, machine_of}, JobKinds.{is_before_of, is_of}}
 use Rattle.bq_core.specs.Kicking.{KicksFirst}
 use Rattle.bq_core.proofs.{FiringLemmas.{chosen, one_fewer}, KickLemmas.{kicks_first, no_id, none_of_kind}}
 use Rattle.bq_core.proofs.kicks.kick_first.Goals as goal
+use Rattle.std.proofs.lemmas.Grind.{common_steps}
 
 pub returns-in_default-clause-none : goal.returns-in_default-clause-none
-returns-in_default-clause-none c _ =
-    let jobs = (machine_of c.args.state.now).jobs in
-    (none_of_kind c.args.kind c.args.tube.now jobs (sym (no_id (first_of (is_of c.args.kind c.args.tube.now) (is_before_of c.args.kind) jobs) c.in_default.ensures.id)), ap machine_held c.in_default.ensures.kept.same)
+returns-in_default-clause-none c _ = grind (arith, common_steps, none_of_kind, no_id)
 
 pub returns-clause-kicked : goal.returns-clause-kicked
 returns-clause-kicked c _ =
@@ -22,12 +21,7 @@ returns-clause-kicked c _ =
     (kicks_first c.args.kind c.args.tube.now 1 m.next_id m.jobs one.job c.requires.out c.args.state.now.sound.ids one.first)
 
 pub returns-clause-others : goal.returns-clause-others
-returns-clause-others c =
-    let m = machine_of c.args.state.now in
-    let jobs = ap (λ (x : Machine). x.jobs) c.change_job.ensures.after in
-    c.change_job.ensures.after
-    ∙ ap (λ (x : Machine). record x { jobs = map (λ (k : Job). if k.id == c.in-Some.id then kicked k else k) x.jobs }) (ap machine_held c.in-Some.ensures.kept.same)
-    ∙ ap (λ js. record m { jobs = js }) (sym (jobs ∙ ap (λ (x : Machine). map (λ (k : Job). if k.id == c.in-Some.id then kicked k else k) x.jobs) (ap machine_held c.in-Some.ensures.kept.same)))
+returns-clause-others c = grind (arith, common_steps)
 
 pub returns-clause-fewer : goal.returns-clause-fewer
 returns-clause-fewer c _ =

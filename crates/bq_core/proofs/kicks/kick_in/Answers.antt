@@ -1,5 +1,5 @@
-use Rattle.std.proofs.Common.{◌∙◌, ◌≡◌, ap, arith, count_by, length, take}
-use Rattle.bq_job.specs.machine.{after_kick, Machine.Machine}
+use Rattle.std.proofs.{Common.{◌∙◌, ◌≡◌, ap, arith, count_by, take}, lemmas.Grind.common_steps}
+use Rattle.bq_job.specs.machine.Machine.{Machine}
 use Rattle.bq_jobs.specs.Kept.{Kept}
 use Rattle.bq_state.specs.{CoreParts.machine_of, JobKinds.is_of}
 use Rattle.bq_state.proofs.PartsLemmas.{compared_sound}
@@ -11,20 +11,12 @@ pub invariant_of-state : goal.invariant_of-state
 invariant_of-state c = record { sound = compared_sound c.args.state.now _ c.kind_to_kick-kind.ensures.same }
 
 pub returns-clause-kicked : goal.returns-clause-kicked
-returns-clause-kicked c =
-    let m = machine_of c.args.state.now in
-    let same : c.kind_to_kick-kind.new.jobs.jobs ≡ m.jobs = ap (λ (k : Kept). k.jobs) c.kind_to_kick-kind.ensures.same in
-    c.kick_some.ensures.kicked
-    ∙ ap (λ js. after_kick (take c.args.bound (jobs_of c.kind_to_kick-kind.result c.args.tube.now js)) (record m { jobs = js })) same
-    ∙ ap (λ chosen. after_kick (take c.args.bound chosen) m) c.kind_to_kick-kind.ensures.order
+returns-clause-kicked c = grind (arith, common_steps)
 
 pub returns-clause-count : goal.returns-clause-count
 returns-clause-count c =
-    let m = machine_of c.args.state.now in
-    let same : c.kind_to_kick-kind.new.jobs.jobs ≡ m.jobs = ap (λ (k : Kept). k.jobs) c.kind_to_kick-kind.ensures.same in
-    c.kick_some.ensures.count
-    ∙ ap (λ js. length (take c.args.bound (jobs_of c.kind_to_kick-kind.result c.args.tube.now js))) same
-    ∙ ap (λ chosen. length (take c.args.bound chosen)) c.kind_to_kick-kind.ensures.order
+    grind (arith, common_steps, c.kind_to_kick-kind.ensures.same, c.kick_some.ensures.count,
+    c.kind_to_kick-kind.ensures.order)
 
 pub returns-clause-changed : goal.returns-clause-changed
 returns-clause-changed c =

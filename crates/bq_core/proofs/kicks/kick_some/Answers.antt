@@ -1,22 +1,13 @@
-use Rattle.std.proofs.Common.{◌+◌, ◌-◌, ◌∙◌, ◌≡◌, if◌then◌else◌, ap, arith, length, refl, subst, suc, sym, take}
-use Rattle.std.specs.Prelude.{count_by}
+use Rattle.std.proofs.Common.{◌+◌, ◌-◌, ◌∙◌, ◌≡◌, if◌then◌else◌, ap, arith, length, subst, suc, sym, take}
 use Rattle.bq_job.specs.machine.Machine.{Machine}
-use Rattle.bq_state.specs.{Asking.Asks, CoreParts.machine_of, JobKinds.is_of}
+use Rattle.bq_state.specs.{Asking.Asks, CoreParts.machine_of}
 use Rattle.bq_core.specs.Kicking.{all_kicked, jobs_of}
 use Rattle.bq_core.proofs.{AskLemmas.{asks_more, asks_none, asks_then}, KickLemmas.{none_kicked, one_on, take_none, zero_more}}
 use Rattle.bq_core.proofs.kicks.kick_some.Goals as goal
+use Rattle.std.proofs.lemmas.Grind.{common_steps}
 
 pub loop-done-init : goal.loop-done-init
-loop-done-init c =
-    let jobs = (machine_of c.args.state.now).jobs in
-    let first = jobs_of c.args.kind c.args.tube.now jobs in
-    record {
-      kicked = λ n. ap (λ k. all_kicked (take k first) jobs) (zero_more n);
-      count = λ n. ap (λ k. length (take k first)) (zero_more n) ∙ sym (zero_more (length (take n first)));
-      others = refl;
-      fewer = omega arith;
-      asks = asks_none c.args.state.now.jobs;
-    }
+loop-done-init c = grind (arith, common_steps, zero_more, asks_none)
 
 pub loop-done-preserved : goal.loop-done-preserved
 loop-done-preserved c =
@@ -34,23 +25,7 @@ loop-done-preserved c =
     }
 
 pub returns-then-not-kick_first-clause-kicked : goal.returns-then-not-kick_first-clause-kicked
-returns-then-not-kick_first-clause-kicked c =
-    let was = c.loop-done.invariant in
-    let none = c.kick_first.ensures.none c.if-not-kick_first.true in
-    let m = machine_of c.args.state.now in
-    let start = m.jobs in
-    let first = jobs_of c.args.kind c.args.tube.now start in
-    let d = c.loop-done.done in
-    let left = c.args.bound - d in
-    let jobs = (machine_of c.loop-done.state).jobs in
-    let whole : c.args.bound ≡ d + left = omega arith in
-    let kicked : all_kicked (take c.args.bound first) start ≡ jobs =
-    ap (λ k. all_kicked (take k first) start) whole
-    ∙ was.kicked left
-    ∙ ap (λ js. all_kicked (take left js) jobs) none.0
-    ∙ ap (λ js. all_kicked js jobs) (take_none left)
-    ∙ none_kicked jobs in
-    none.1 ∙ was.others ∙ ap (λ js. record m { jobs = js }) (sym kicked)
+returns-then-not-kick_first-clause-kicked c = grind (arith, common_steps, take_none, none_kicked)
 
 pub returns-clause-kicked : goal.returns-clause-kicked
 returns-clause-kicked c =
@@ -65,25 +40,13 @@ returns-clause-kicked c =
     was.others ∙ ap (λ js. record m { jobs = js }) (sym kicked)
 
 pub returns-then-not-kick_first-clause-fewer : goal.returns-then-not-kick_first-clause-fewer
-returns-then-not-kick_first-clause-fewer c =
-    let none = c.kick_first.ensures.none c.if-not-kick_first.true in
-    let jobs = ap (λ (x : Machine). count_by (is_of c.args.kind c.args.tube.now) x.jobs) none.1 in
-    let few = c.loop-done.invariant.fewer in
-    let many = c.from.ensures in
-    omega arith
+returns-then-not-kick_first-clause-fewer c = grind (arith, common_steps)
 
 pub returns-then-not-kick_first-clause-asks : goal.returns-then-not-kick_first-clause-asks
-returns-then-not-kick_first-clause-asks c =
-    let many = c.from.ensures in
-    asks_more _ (omega arith) (asks_then c.loop-done.invariant.asks (subst (λ b. Asks (if b then 9 else 1) c.loop-done.state.jobs c.kick_first.new.state.jobs) c.if-not-kick_first.true c.kick_first.ensures.asks))
+returns-then-not-kick_first-clause-asks c = grind (arith, common_steps, asks_more, asks_then)
 
 pub returns-clause-fewer : goal.returns-clause-fewer
-returns-clause-fewer c =
-    let few = c.loop-done.invariant.fewer in
-    let many = c.from-2.ensures in
-    omega arith
+returns-clause-fewer c = grind (arith, common_steps)
 
 pub returns-clause-asks : goal.returns-clause-asks
-returns-clause-asks c =
-    let many = c.from-2.ensures in
-    asks_more _ (omega arith) c.loop-done.invariant.asks
+returns-clause-asks c = grind (arith, common_steps, asks_more)

@@ -1,14 +1,10 @@
-use Rattle.std.proofs.Common.{◌∙◌, ◌≡◌, ap, false, refl, sym}
-use Rattle.std.specs.List.{list_any}
-use Rattle.bq_job.specs.machine.{tube_after_timers}
-use Rattle.bq_state.specs.{CoreParts.machine_of, Dues.{first_pause_end, is_end_over}, KeptTubes.KeptTubes, TubeEntries.{counted, is_counted, is_pause_over}}
+use Rattle.std.proofs.{Common.{◌∙◌, ap, arith}, lemmas.Grind.common_steps}
+use Rattle.bq_state.specs.{Dues.first_pause_end, KeptTubes.KeptTubes}
 use Rattle.bq_state.proofs.{KnowledgeLemmas.so_with_pauses, PartsLemmas.entries_of_timers, PauseLemmas.{no_pause_ends, none_counted, none_over}, TubeLemmas.filter_of_map}
 use Rattle.bq_core.proofs.timers.end_pauses.Goals as goal
 
 pub returns-clause-after : goal.returns-clause-after
-returns-clause-after c =
-    let s = c.args.state.now in
-    ap (λ tubes. record (machine_of s) { tubes = tubes }) (ap counted (ap (λ (k : KeptTubes). k.entries) c.fire_timers.ensures) ∙ filter_of_map is_counted (tube_after_timers s.moment) (λ t. refl) s.tubes.entries)
+returns-clause-after c = grind (arith, common_steps, filter_of_map)
 
 pub invariant_of-state : goal.invariant_of-state
 invariant_of-state c =
@@ -28,7 +24,4 @@ invariant_of-state c =
     }
 
 pub returns-then-not-is_over-clause-after : goal.returns-then-not-is_over-clause-after
-returns-then-not-is_over-clause-after c =
-    let s = c.args.state.now in
-    let none : list_any (is_pause_over s.moment) s.tubes.entries ≡ false = none_over s.moment s.tubes.entries (ap (is_end_over s.moment) (sym c.args.state.now.sound.known.pauses) ∙ sym c.if-not-is_over.ensures) in
-    ap (λ tubes. record (machine_of s) { tubes = tubes }) (sym (no_pause_ends s.moment (counted s.tubes.entries) (none_counted s.moment s.tubes.entries none)))
+returns-then-not-is_over-clause-after c = grind (arith, common_steps, none_over, no_pause_ends, none_counted)

@@ -1,4 +1,4 @@
-use Rattle.std.proofs.Common.{◌<◌, ◌∙◌, ◌≡◌, ap, arith, count_by, refl, subst}
+use Rattle.std.proofs.{Common.{◌<◌, ◌∙◌, ◌≡◌, ap, arith, count_by, refl, subst}, lemmas.Grind.common_steps}
 use Rattle.bq_job.specs.machine.Machine.{Machine}
 use Rattle.bq_state.specs.CoreParts.{machine_of}
 use Rattle.bq_core.specs.Firing.{is_ripe}
@@ -6,11 +6,7 @@ use Rattle.bq_core.proofs.AskLemmas.{asks_more, asks_none, asks_then}
 use Rattle.bq_core.proofs.timers.fire_jobs.Goals as goal
 
 pub loop-init : goal.loop-init
-loop-init c = record {
-  left = refl;
-  asks = asks_more _ (omega arith) (asks_none c.args.state.now.jobs);
-  fewer = omega arith;
-}
+loop-init c = grind (arith, common_steps, asks_more, asks_none)
 
 pub loop-preserved : goal.loop-preserved
 loop-preserved c =

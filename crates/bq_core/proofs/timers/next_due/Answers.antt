@@ -1,15 +1,13 @@
-use Rattle.std.proofs.Common.{◌∙◌, ◌≡◌, None, ap, flat_map, fold, is_some, sym}
+use Rattle.std.proofs.{Common.{◌∙◌, ◌≡◌, None, ap, arith, flat_map, fold, sym}, lemmas.Grind.common_steps}
 use Rattle.bq_job.specs.declared.job.Job.{Job}
 use Rattle.bq_job.specs.{beside.{dues_of_pause, dues_of_state, dues_of_wait, earliest}, machine.{SeatRecord, TubeRecord}}
 use Rattle.bq_jobs.specs.Kept.{Kept}
-use Rattle.bq_state.specs.{CoreParts.{held, machine_held, machine_of}, Dues.{earlier_of_both, with_seat_due, with_warning_due}, TubeEntries.counted}
+use Rattle.bq_state.specs.{CoreParts.machine_of, Dues.{earlier_of_both, with_seat_due, with_warning_due}, TubeEntries.counted}
 use Rattle.bq_state.proofs.{DueLemmas.{all_due, earliest_of_all, jobs_due_is, pauses_counted}, KnowledgeLemmas.so_settled}
 use Rattle.bq_core.proofs.timers.next_due.Goals as goal
 
 pub warnings_due-warning-requires-clause-warned : goal.warnings_due-warning-requires-clause-warned
-warnings_due-warning-requires-clause-warned c =
-    let same = ap (λ (k : Kept). k.jobs) c.jobs_due-jobs.ensures.same in
-    rw (same, c.as_slice.ensures.value) c.args.state.now.sound.known.warnings
+warnings_due-warning-requires-clause-warned c = grind (arith, common_steps)
 
 pub returns-clause-due : goal.returns-clause-due
 returns-clause-due c =
@@ -32,19 +30,9 @@ returns-clause-due c =
     ∙ sym (all_due (flat_map of_job st.jobs.jobs) (flat_map of_tube (counted st.tubes.entries)) (flat_map of_seat st.seats.items))
 
 pub returns-clause-same : goal.returns-clause-same
-returns-clause-same c =
-    let st = c.args.state.now in
-    ap (λ (k : Kept). machine_held (record (held st) { jobs = k })) (c.warnings_due-warning.ensures.same ∙ ap (λ (k : Kept). record k { comparisons = c.warnings_due-warning.new.jobs.comparisons }) c.jobs_due-jobs.ensures.same)
+returns-clause-same c = grind (arith, common_steps)
 
 pub invariant_of-state : goal.invariant_of-state
 invariant_of-state c =
-    let st = c.args.state.now in
-    let was = c.args.state.now.sound in
-    let kept = ap (λ (k : Kept). k.jobs) c.jobs_due-jobs.ensures.same in
-    let jobs = ap (λ (k : Kept). k.jobs) c.warnings_due-warning.ensures.same ∙ kept in
-    let due = c.is_some.ensures ∙ ap is_some c.warnings_due-warning.ensures.due ∙ (λ i. is_some (fold (with_warning_due (kept i)) None (c.as_slice.ensures.value i))) in
-    record {
-      sound =
-          rw (c.settle.ensures, jobs)
-          (record { entries = was.entries; numbered = was.numbered; next = was.next; ids = was.ids; waiting = was.waiting; known = so_settled st c.is_some.result due });
-    }
+    grind (arith, common_steps, so_settled, c.jobs_due-jobs.ensures.same, c.warnings_due-warning.ensures.same,
+    c.is_some.ensures, c.warnings_due-warning.ensures.due, c.as_slice.ensures.value, c.settle.ensures)

@@ -1,4 +1,4 @@
-use Rattle.std.proofs.Common.{◌∙◌, ◌≡◌, ap, not, sym}
+use Rattle.std.proofs.{Common.{◌∙◌, ◌≡◌, ap, arith, not, sym}, lemmas.Grind.common_steps}
 use Rattle.std.specs.List.{list_any}
 use Rattle.bq_job.specs.declared.answer.Answer.TheVariants as answers
 use Rattle.bq_job.specs.{machine.{SeatRecord, telling}, reading.TubeName.is_same_name}
@@ -7,10 +7,7 @@ use Rattle.bq_core.proofs.ActLemmas.{ignored_now, not_ignored}
 use Rattle.bq_core.proofs.tube_acts.ignore.Goals as goal
 
 pub returns-then-not-watches_other-clause-reply : goal.returns-then-not-watches_other-clause-reply
-returns-then-not-watches_other-clause-reply c s found =
-    let here = c.in-Some.ensures in
-    let same : c.in-Some.client.now ≡ s = cc in
-    not_ignored (machine_of c.args.state.now) s c.args.tube.now (ap (λ (r : SeatRecord). list_any (λ name. not (is_same_name c.args.tube.now name)) r.watched) (sym same) ∙ sym c.if-not-watches_other.ensures)
+returns-then-not-watches_other-clause-reply c s found = grind (arith, common_steps, not_ignored)
 
 pub returns-clause-reply : goal.returns-clause-reply
 returns-clause-reply c s found =

@@ -1,4 +1,4 @@
-use Rattle.std.proofs.Common.{arith, refl}
+use Rattle.std.proofs.{Common.{arith, refl}, lemmas.Grind.common_steps}
 use Rattle.bq_job.specs.machine.{WaitEndTurn}
 use Rattle.bq_state.specs.CoreParts.{machine_of}
 use Rattle.bq_core.specs.Turns.{none_refused}
@@ -17,19 +17,7 @@ loop-last-init c =
     }
 
 pub loop-last-preserved : goal.loop-last-preserved
-loop-last-preserved c =
-    let was = c.loop-last.invariant in
-    let given = c.loop-last-test.ensures.given refl in
-    let falls = c.loop-last-test.ensures.fewer refl in
-    let most = was.fewer in
-    record {
-      given = gives_joined WaitEndTurn none_refused (λ _ _. refl) _ _ _ _ _ _ was.given given;
-      looked = c.loop-last-test.ensures.looked refl;
-      fewer = omega arith;
-      asks = asks_more _ (omega arith) (asks_then was.asks c.loop-last-test.ensures.asks);
-      room = room_kept WaitEndTurn none_refused 0 (machine_of c.loop-last.state) (machine_of c.turn.new.state) c.loop-last.outs c.turn.new.outs given was.room;
-    }
+loop-last-preserved c = grind (arith, common_steps, gives_joined, asks_more, asks_then, room_kept)
 
 pub returns-clause-asks : goal.returns-clause-asks
-returns-clause-asks c =
-    asks_more _ (omega arith) (asks_then c.loop-last.invariant.asks c.loop-last-test.ensures.asks)
+returns-clause-asks c = grind (arith, common_steps, asks_more, asks_then)

@@ -1,4 +1,4 @@
-use Rattle.std.proofs.Common.{ap, refl, subst}
+use Rattle.std.proofs.{Common.{ap, arith, subst}, lemmas.Grind.common_steps}
 use Rattle.bq_job.specs.machine.Machine.{Machine}
 use Rattle.bq_state.specs.CoreParts.{machine_held, machine_of}
 use Rattle.bq_core.specs.WaitEnds.{EndsWait}
@@ -6,13 +6,7 @@ use Rattle.bq_core.proofs.WaitLemmas.{told_is, told_nothing}
 use Rattle.bq_core.proofs.waits.look_at.Goals as goal
 
 pub returns-in-None-clause-looked : goal.returns-in-None-clause-looked
-returns-in-None-clause-looked c s found waits =
-    let m = machine_of c.args.state.now in
-    let none = told_nothing m s (c.in-None.ensures.told s found) in
-    record {
-      ends = λ e. absurd (let x = none in cc);
-      stays = λ e. record { machine = ap machine_held c.in-None.ensures.kept.same; outs = refl };
-    }
+returns-in-None-clause-looked c s found waits = grind (arith, common_steps, told_nothing)
 
 pub returns-in-Some-clause-looked : goal.returns-in-Some-clause-looked
 returns-in-Some-clause-looked c s found waits =

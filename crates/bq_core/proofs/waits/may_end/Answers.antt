@@ -1,7 +1,6 @@
-use Rattle.std.proofs.Common.{◌∙◌, ◌≡◌, ap, false, sym}
+use Rattle.std.proofs.{Common.{◌∙◌, ◌≡◌, ap, arith, false, sym}, lemmas.Grind.common_steps}
 use Rattle.std.specs.List.{list_any}
-use Rattle.bq_jobs.specs.Kept.{Kept}
-use Rattle.bq_state.specs.{CoreParts.{Held, held, machine_held, machine_of}, EndingWaits.is_lease_short}
+use Rattle.bq_state.specs.{CoreParts.{Held, machine_of}, EndingWaits.is_lease_short}
 use Rattle.bq_state.proofs.PartsLemmas.{compared_sound}
 use Rattle.bq_core.proofs.FiringLemmas.{nobody_ends, none_ends}
 use Rattle.bq_core.proofs.waits.may_end.Goals as goal
@@ -17,8 +16,7 @@ returns-clause-none c none =
     none_ends m (sym c.if-is_some_wait_over.ensures.over) soon
 
 pub returns-clause-same : goal.returns-clause-same
-returns-clause-same c =
-    ap (λ (k : Kept). machine_held (record (held c.is_some_wait_over.new.state) { jobs = k })) c.is_some_deadline_soon.ensures.same ∙ ap machine_held c.if-is_some_wait_over.ensures.same
+returns-clause-same c = grind (arith, common_steps)
 
 pub invariant_of-state : goal.invariant_of-state
 invariant_of-state c = record { sound = compared_sound c.is_some_wait_over.new.state _ c.is_some_deadline_soon.ensures.same }

@@ -1,14 +1,10 @@
-use Rattle.std.proofs.Common.{◌<◌, ◌∙◌, ap, find, length, slice_get, subst, sym}
-use Rattle.bq_job.specs.machine.{first_of, is_wait_before}
+use Rattle.std.proofs.{Common.{◌<◌, ◌∙◌, ap, arith, find, length, slice_get, subst, sym}, lemmas.Grind.common_steps}
 use Rattle.bq_state.specs.{EndingWaits.waits_after, WaitingTurns.is_turn_after}
 use Rattle.bq_state.proofs.WalkLemmas.{first_read, next_turn, none_first}
 use Rattle.bq_core.proofs.waits.next_waiting.Goals as goal
 
 pub returns-in-None-clause-least : goal.returns-in-None-clause-least
-returns-in-None-clause-least c =
-    let st = c.args.state.now in
-    none_first (first_of (waits_after c.args.last) is_wait_before st.seats.items)
-    (c.in-None.ensures ∙ ap (find (is_turn_after c.args.last)) c.args.state.now.sound.waiting.turns ∙ next_turn c.args.last st.seats.items c.args.state.now.sound.numbered)
+returns-in-None-clause-least c = grind (arith, common_steps, none_first, next_turn)
 
 pub returns-in-Some-clause-bound : goal.returns-in-Some-clause-bound
 returns-in-Some-clause-bound c =
