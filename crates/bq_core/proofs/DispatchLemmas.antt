@@ -161,8 +161,15 @@ some_at_tube m j e =
 -- and it is known to be one that may have it
 pub takers_known : (m : Machine) (stir : Stir) (j : Job) → next_job m ≡ Some j → AreKnown stir m.jobs m.seats m.tubes → All (λ s. waits_at j.tube s ≡ true → may_get stir j.tube s.number ≡ true) m.seats
 takers_known m stir j e known =
-    grind (arith, common_steps, cases_Bool, all_weaker, waits_alike, all_at,
-    first_of_contains (λ j. list_any (is_waiting_for m j) m.seats) is_job_before m.jobs j e)
+    grind (
+      arith,
+      common_steps,
+      cases_Bool,
+      all_weaker,
+      waits_alike,
+      all_at,
+      first_of_contains (λ j. list_any (is_waiting_for m j) m.seats) is_job_before m.jobs j e,
+    )
 
 -- where one client alone may have jobs, it is the first that waits at the tube
 pub taker_known : (asker : ℕ) (stir : Stir) (tube : List ℕ) (seats : List SeatRecord) → stir ≡ Client asker → list_any (waits_at tube) seats ≡ true

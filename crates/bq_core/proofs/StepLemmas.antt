@@ -108,8 +108,13 @@ begins first fired at lawful fires = forgets_nothing (after_timers (at_moment at
 -- at the beginning of a step there is room for an answer to each waiting client, and one more
 pub first_room : (first fired : CoreParts) (at : ℕ) (begun : Outbox) → IsLawful (machine_of first) → machine_of fired ≡ after_timers (at_moment at (machine_of first)) → begun.given ≡ [] → first.config.seats < begun.most → HasRoom 1 (machine_of fired) begun
 first_room first fired at begun lawful fires empty h =
-    grind (arith, common_steps, seats_many (machine_of first) (kept_of_lawful (machine_of first) lawful),
-    kept_of_lawful (machine_of first) lawful, count_by-le-length is_waiting (machine_of first).seats)
+    grind (
+      arith,
+      common_steps,
+      seats_many (machine_of first) (kept_of_lawful (machine_of first) lawful),
+      kept_of_lawful (machine_of first) lawful,
+      count_by-le-length is_waiting (machine_of first).seats,
+    )
 
 -- room for one answer more than there are waiting clients is room for those
 pub less_room : (m : Machine) (o : Outbox) → HasRoom 1 m o → HasRoom 0 m o

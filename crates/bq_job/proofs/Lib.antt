@@ -27,7 +27,6 @@ pub mod ClientStepLemmas
 pub mod OrderLemmas
 pub mod OutcomeLemmas
 pub mod OwnAnswerLemmas
-pub mod PutLemmas
 pub mod QuietLemmas
 pub mod ReadsLemmas
 pub mod RecordLemmas

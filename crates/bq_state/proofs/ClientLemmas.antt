@@ -3,9 +3,9 @@ use Rattle.std.proofs.Common.{◌+◌, ◌<◌, ◌==◌, ◌∙◌, ◌∷◌, 
 use Rattle.std.proofs.lemmas.{Bool.{cases_Bool, eqb-true, ne_eqb}, Grind.common_steps}
 use Rattle.std.proofs.lemmas.List.{length-map, Sums.count_by-le-length}
 use Rattle.std.specs.{List.list_any, Prelude.{count_by, nat_lt}}
-use Rattle.bq_job.specs.machine.{SeatRecord, empty_seat, greatest, is_waiting, numbers, seat_with, watching}
+use Rattle.bq_job.specs.machine.{SeatRecord, greatest, is_waiting, numbers, seat_with, watching}
 use Rattle.bq_job.proofs.ListLemmas.{count_cons}
-use Rattle.bq_state.specs.declared.{known.Clients.Clients, seats.SeatChange.SeatChange}
+use Rattle.bq_state.specs.declared.seats.SeatChange.{SeatChange}
 use Rattle.bq_state.specs.{Clients.{clients_of, clients_with, clients_without, seat_passes}, SeatChanges.{AreNumbered, seat_changed, seat_changed_at}, Tallies.{count_with, count_without}}
 use Rattle.bq_state.proofs.{PartsLemmas.{changed_there, number_kept}, TallyLemmas.{with_is, without_is}}
 
@@ -120,11 +120,3 @@ clients_moved n what seats h h' fits = λ i. record {
 pub clients_watching : (names : List (List ℕ)) (i : ℕ) (s : SeatRecord) (seats : List SeatRecord) → slice_get seats i ≡ Some s → AreNumbered seats
     → clients_of (set seats i (watching names s)) ≡ clients_of seats
 clients_watching names i s seats found h = grind (arith, common_steps, changed_there seats i s (watching names) h found)
-
--- at the start there is none
-pub nobody : (p : SeatRecord → Bool) → ((n : ℕ) → p (empty_seat n) ≡ false) → (ns : List ℕ) → count_by p (map empty_seat ns) ≡ 0
-nobody p none [] = refl
-nobody p none (n ∷ ns) = count_cons p (empty_seat n) (map empty_seat ns) ∙ (λ i. cond (none n i) 1 0 + nobody p none ns i)
-
-pub first_clients : (c : Clients) → (c.connected ≡ 0) × (c.waiting ≡ 0) → (ns : List ℕ) → c ≡ clients_of (map empty_seat ns)
-first_clients c zero ns = grind (arith, nobody)

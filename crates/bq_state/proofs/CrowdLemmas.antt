@@ -63,6 +63,7 @@ module _ (f : Crowd → Crowd) where
   none_else n ns once name e =
       ap (λ m. list_any (is_same_name m) ns) (sym (same_name n name e))
       ∙ not-true (list_any (is_same_name n) ns) (and_parts (not (list_any (is_same_name n) ns)) (none_twice ns) once).0
+
   -- and at names of which none stands twice
   at_all_named : (names : List (List ℕ)) (g : TubeRecord → Crowd) (es : List TubeRecord) → AreInOrder es → none_twice names ≡ true
       → crowds_at_all names f es (map g es) ≡ map (λ t. if list_any (is_same_name t.name) names then f (g t) else g t) es

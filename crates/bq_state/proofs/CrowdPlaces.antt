@@ -57,8 +57,13 @@ crowds_of_provided name crowds seats es has was = record { each = ap (crowds_pro
     go false e =
         let n = prefix_len (λ t. is_name_before t.name name) es in
         let put : crowds_provided name es (crowds_of seats es) ≡ insert (crowds_of seats es) n no_crowd = rw e refl in
-        grind (arith, common_steps, nobody_there name es e seats has was.seated,
-        inserted_beside (crowd_in seats) es n (fresh_tube name), provided_new name es e)
+        grind (
+          arith,
+          common_steps,
+          nobody_there name es e seats has was.seated,
+          inserted_beside (crowd_in seats) es n (fresh_tube name),
+          provided_new name es e,
+        )
 
 -- an entry changes but for its name
 pub crowds_kept : (f : TubeRecord → TubeRecord) → ((t : TubeRecord) → (f t).name ≡ t.name) → (crowds : List Crowd) (seats : List SeatRecord) (es : List TubeRecord)

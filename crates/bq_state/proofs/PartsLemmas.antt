@@ -3,7 +3,7 @@ use Rattle.std.proofs.Common.{◌++◌, ◌+◌, ◌<◌, ◌==◌, ◌^◌, ◌
 use Rattle.std.proofs.lemmas.{Bool.{and_parts, cases_Bool, eq-eqb, ne_eqb, or_cases}, List.length-map, Option.slice_get-get_or}
 use Rattle.std.proofs.lemmas.Grind.{common_steps}
 use Rattle.std.specs.{List.{AllByRecursion as All, Contains, list_any}, Prelude.{filter, nat_le}}
-use Rattle.bq_job.specs.machine.{SeatRecord, TubeRecord, default_tube, empty_seat, fresh_tube, greatest, is_seated_at, job_with, numbers, raised, seat_with, tube_after_timers, watches, watching}
+use Rattle.bq_job.specs.machine.{SeatRecord, TubeRecord, default_tube, empty_seat, fresh_tube, greatest, is_seated_at, job_with, numbers, seat_with, tube_after_timers, watches, watching}
 use Rattle.bq_job.specs.{beside.AreIdsWithin, declared.job.Job.Job, reading.TubeName.is_same_name}
 use Rattle.bq_job.proofs.{LawfulLemmas.length_numbers, ListLemmas.{all_at, all_from_members, all_weaker, found_passes}}
 use Rattle.bq_jobs.specs.Kept.{Kept, with_added}
@@ -51,6 +51,7 @@ has_of_job jobs seats entries id j e found = grind (arith, common_steps, found_p
 pub ids_below : (low next : ℕ) (jobs : List Job) → AreIdsWithin low jobs next → All (λ k. (low ≤ k.id) × (k.id < next)) jobs
 ids_below low next [] h = tt
 ids_below low next (k ∷ jobs) h = grind (arith, low_below, all_weaker, ids_below (suc k.id) next jobs h.1)
+
 pub given_of_job : (next id : ℕ) (jobs : List Job) (j : Job) → AreIdsWithin 1 jobs next → job_with id jobs ≡ Some j → (1 ≤ j.id) × (j.id < next)
 given_of_job next id jobs j ids found =
     all_at (λ k. (1 ≤ k.id) × (k.id < next)) jobs j (ids_below 1 next jobs ids) ((found_passes (λ k. k.id == id) jobs j found).1)
@@ -107,9 +108,6 @@ numbered_after number what seats h = grind (arith, numbers_of_map, length-map)
 -- changes of tubes
 pub tube_name_kept : (what : TubeChange) (t : TubeRecord) → (tube_changed what t).name ≡ t.name
 tube_name_kept what t = grind (arith, common_steps)
-
-pub raised_some : (n : ℕ) → 1 ≤ raised n
-raised_some n = omega arith
 
 pub tube_counts : (what : TubeChange) (t : TubeRecord) → is_counted (tube_changed what t) ≡ true
 tube_counts what t = grind (arith)

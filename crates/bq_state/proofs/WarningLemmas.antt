@@ -133,8 +133,12 @@ found_already : (holder : ℕ) (jobs : List Job) (t : SeatRecord) (seats : List 
     → fold (with_warning_due jobs) (warning_due jobs t) seats ≡ warning_due jobs t
 found_already holder jobs t [] known only = refl
 found_already holder jobs t (s ∷ seats) known only =
-    grind (arith, not_known, of_first,
-    found_already holder jobs t seats (of_rest (Client holder) jobs s seats known) only.1)
+    grind (
+      arith,
+      not_known,
+      of_first,
+      found_already holder jobs t seats (of_rest (Client holder) jobs s seats known) only.1,
+    )
 
 among : (holder : ℕ) (jobs : List Job) (o : Option SeatRecord) (seats : List SeatRecord) → seat_with holder seats ≡ o → AreWarned (Client holder) jobs seats
     → ((t : SeatRecord) → o ≡ Some t → All (λ u. u.number ≡ holder → u ≡ t) seats) → fold (with_warning_due jobs) None seats ≡ warning_due_at jobs o

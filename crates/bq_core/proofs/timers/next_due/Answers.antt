@@ -34,5 +34,14 @@ returns-clause-same c = grind (arith, common_steps)
 
 pub invariant_of-state : goal.invariant_of-state
 invariant_of-state c =
-    grind (arith, common_steps, so_settled, c.jobs_due-jobs.ensures.same, c.warnings_due-warning.ensures.same,
-    c.is_some.ensures, c.warnings_due-warning.ensures.due, c.as_slice.ensures.value, c.settle.ensures)
+    grind (
+      arith,
+      common_steps,
+      so_settled,
+      c.jobs_due-jobs.ensures.same,
+      c.warnings_due-warning.ensures.same,
+      c.is_some.ensures,
+      c.warnings_due-warning.ensures.due,
+      c.as_slice.ensures.value,
+      c.settle.ensures,
+    )
