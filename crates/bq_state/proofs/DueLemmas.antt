@@ -12,6 +12,7 @@ use Rattle.bq_jobs.specs.{Kept.ranked, Leases.{deadline_of, is_lease_before}}
 use Rattle.bq_state.specs.{Dues.{earlier_of_both, jobs_due, warning_due, with_seat_due, with_warning_due}, FirstEnds.{IsThere, is_gone_in_wait}, SeatChanges.AreNumbered, TubeEntries.{IsFreshUnlessCounted, counted}}
 use Rattle.bq_state.specs.WaitingTurns.{at_turn, turns_of}
 use Rattle.bq_state.proofs.{WalkLemmas.walked, WarningLemmas.no_other}
+use Rattle.bq_job.proofs.ListLemmas.{list_any_not}
 
 in_any_order : (a b c : Option ℕ) → earlier_of_both (earlier_of_both a b) c ≡ earlier_of_both a (earlier_of_both b c)
 in_any_order a b c = grind (arith)
@@ -30,6 +31,17 @@ all_there seats none = none_pass is_gone_in_wait seats (sym none)
 -- A client holds a job where there is a lease of it that ends first.
 pub held_some : (seat : ℕ) (jobs : List Job) → is_some (option_map (ranked (λ j. deadline_of j.state)) (first_of (is_held_by seat) is_lease_before jobs)) ≡ list_any (is_held_by seat) jobs
 held_some seat jobs = grind (arith, first_of_is_some (is_held_by seat) is_lease_before jobs)
+
+-- No client does where nobody holds one.
+pub none_held : (seat : ℕ) (jobs : List Job) → list_any (λ j. is_reserved j.state) jobs ≡ false → list_any (is_held_by seat) jobs ≡ false
+none_held seat jobs none =
+    list_any_not (is_held_by seat) jobs (all_weaker (λ j. is_reserved j.state ≡ false) (λ j. is_held_by seat j ≡ false) jobs (λ j. free j.state) (none_pass (λ j. is_reserved j.state) jobs none))
+  where
+    free : (state : JobState) → is_reserved state ≡ false → is_holder seat state ≡ false
+    free states.Ready e = refl
+    free (states.Delayed due) e = refl
+    free (states.Reserved holder deadline) e = absurd cc
+    free (states.Buried number) e = refl
 
 -- A walk over those that wait finds the first who gives up, and the first who is told of its deadline.
 pub ends_walked : (seats : List SeatRecord) → AreNumbered seats → fold (at_turn with_seat_due seats) None (turns_of seats) ≡ fold with_seat_due None seats

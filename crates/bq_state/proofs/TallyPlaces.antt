@@ -92,6 +92,19 @@ pub counted_taken : (low next id : ℕ) (j : Job) (tally : Tally) (tallies : Lis
     → AreCounted tally tallies jobs es → AreCounted (tally_without j tally) (tallies_without j es tallies) (without id jobs) es
 counted_taken low next id j tally tallies jobs es ids found order was = grind (arith, whole_taken, tallies_taken)
 
+no_more : (n : ℕ) → 0 + n ≡ n
+no_more n = omega arith
+
+-- a job is counted where one passes
+pub some_pass : (p : Job → Bool) (jobs : List Job) → nat_lt 0 (count_by p jobs) ≡ list_any p jobs
+some_pass p [] = refl
+some_pass p (j ∷ jobs) =
+    ap (nat_lt 0) (count_cons p j jobs)
+    ∙ elim (cases_Bool (p j)) [
+      | inl e ↦ rw e (lt-ltb 0 (1 + count_by p jobs) (omega arith))
+      | inr e ↦ rw e (ap (nat_lt 0) (no_more (count_by p jobs)) ∙ some_pass p jobs)
+    ]
+
 has_one : (j : Job) (jobs : List Job) → has_jobs (tally_of (j ∷ jobs)) ≡ true
 has_one j jobs = grind (arith, common_steps)
 

@@ -153,7 +153,7 @@ pub fn note_leases(state: &mut CoreParts, seat: Seat)
     ensures after { machine_of state.new ≡ machine_of state.old }
     ensures asks { Asks 1 state.old.jobs state.new.jobs }
 {
-    let holds = job_store::holds_some(&mut state.jobs, seat);
+    let holds = state.holds_some(seat);
     state.known.warns.warn_if(seat, holds);
 }
 

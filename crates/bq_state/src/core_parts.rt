@@ -41,7 +41,8 @@ impl CoreParts {
     ghost use Rattle.std.specs.Prelude.{◌≡◌, ◌&&◌, filter, is_some, IfSome, IfOk};
     ghost use Rattle.std.specs.List.{list_any};
     ghost use Rattle.std.specs.Option.{option_map};
-    ghost use Rattle.bq_job.specs.machine.Changes.{is_ready, is_waiting, job_with, seat_with};
+    ghost use Rattle.bq_job.specs.machine.Changes.{is_held_by, is_ready, is_waiting, job_with, seat_with};
+    ghost use Rattle.bq_job.specs.machine.JobStates.{is_reserved};
     ghost use Rattle.bq_job.specs.reading.TubeName.{is_same_name};
     ghost use Rattle.bq_jobs.specs.Seen.{IsBodyOf};
     ghost use Rattle.bq_state.specs.JobKinds.{first_of_kind};
@@ -121,6 +122,25 @@ impl CoreParts {
         ensures kept { Looks 1 self.old self.new }
     {
         job_store::first(&mut self.jobs, kind, tube)
+    }
+
+    /// Whether some client holds a job.
+    pub fn has_lease(&self) -> bool
+        ensures { result ≡ list_any (λ j. is_reserved j.state) self.now.jobs.jobs }
+    {
+        self.known.tally.reserved > 0
+    }
+
+    /// Whether the client at the seat holds a job. Where nobody holds one, none is looked for.
+    #[tactic(auto, using(crate::proofs::PartsLemmas::compared_sound, crate::proofs::DueLemmas::none_held))]
+    pub(crate) fn holds_some(&mut self, seat: Seat) -> bool
+        ensures holds { result ≡ list_any (is_held_by seat) self.old.jobs.jobs }
+        ensures kept { Looks 1 self.old self.new }
+    {
+        if !self.has_lease() {
+            return false;
+        }
+        job_store::holds_some(&mut self.jobs, seat)
     }
 
     /// Whether somebody waits.
