@@ -1,12 +1,12 @@
 -- Timers of jobs fire one after another, and jobs are given back one after another.
-use Rattle.std.proofs.Common.{◌&&◌, ◌+◌, ◌-◌, ◌<◌, ◌==◌, ◌||◌, ◌∙◌, ◌∷◌, ◌≡◌, ◌≤◌, if◌then◌else◌, Bool, List, None, Option, Some, [], ℕ, ap, arith, false, inl, inr, map, min, refl, suc, sym, true}
+use Rattle.std.proofs.Common.{◌&&◌, ◌+◌, ◌-◌, ◌<◌, ◌==◌, ◌||◌, ◌∙◌, ◌∷◌, ◌≡◌, ◌≤◌, if◌then◌else◌, Bool, List, None, Option, Some, [], ℕ, ap, arith, false, inl, inr, is_some, map, min, refl, suc, sym, true}
 use Rattle.std.proofs.lemmas.{Bool.{cases_Bool, eqb-true, or_left, or_right, Decides.nat_tests}, Grind.common_steps}
 use Rattle.std.specs.{List.{AllByRecursion as All, list_any}, Prelude.{count_by, nat_le, option_map}}
-use Rattle.bq_job.specs.machine.{SeatRecord, due_of, ends_waiting, first_of, given_back, greatest, grown, in_state, is_deadline_soon, is_delayed, is_due, is_ending_lease, is_expired, is_held_by, is_holder, is_pair_before, is_reserved}
+use Rattle.bq_job.specs.machine.{SeatRecord, due_of, ends_waiting, first_of, given_back, greatest, grown, in_state, is_deadline_soon, is_delayed, is_due, is_due_before, is_ending_lease, is_expired, is_held_by, is_holder, is_pair_before, is_reserved}
 use Rattle.bq_job.specs.machine.{is_timed_out, is_timed_out_at, is_wait_before, is_waiting, job_after_timers, job_with, next_end, raised, with_job, with_timeout, Machine.Machine}
 use Rattle.bq_job.specs.{beside.AreIdsWithin, declared.job.{Job.Job, JobState.JobState}}
 use Rattle.bq_job.specs.declared.job.JobState.TheVariants as states
-use Rattle.bq_job.proofs.ChoiceLemmas.{first_of_contains, first_of_is_least, first_of_none, first_of_none_passes, first_of_passes, pair_order}
+use Rattle.bq_job.proofs.ChoiceLemmas.{first_of_contains, first_of_is_least, first_of_is_some, first_of_none, first_of_none_passes, first_of_passes, pair_order}
 use Rattle.bq_job.proofs.ListLemmas.{all_always, all_at, all_from_members, all_weaker, count_all_not, count_cons, list_any_not, list_any_with, map_all_same, none_pass}
 use Rattle.bq_jobs.specs.{Kept.ranked, Leases.{deadline_of, is_lease_before}}
 use Rattle.bq_jobs.proofs.Changes.{all_found, none_changed, others_above}
@@ -182,6 +182,10 @@ module _ (p : Job → Bool) (number : Job → ℕ) (q : ℕ → Job → Bool) (q
         | inr fail ↦ rw fail refl
       ]) c.least)
 
+  -- there is none of the kind
+  pub none_such : (t : ℕ) → list_any p jobs ≡ false → list_any (q t) jobs ≡ false
+  none_such t none = list_any_not (q t) jobs (all_weaker (λ k. p k ≡ false) (λ k. q t k ≡ false) jobs (λ k fail. q_is t k ∙ rw fail refl) (none_pass p jobs none))
+
   -- there is none at all
   pub none_there : (t : ℕ) → None ≡ option_map (ranked number) (first_of p (λ a b. is_pair_before (number a) a.id (number b) b.id) jobs) → list_any (q t) jobs ≡ false
   none_there t e =
@@ -190,6 +194,23 @@ module _ (p : Job → Bool) (number : Job → ℕ) (q : ℕ → Job → Bool) (q
     where
       no_rank : (o : Option Job) → None ≡ option_map (ranked number) o → o ≡ None
       no_rank o h = grind (arith, common_steps)
+
+-- where none passes, there is no first one
+none_first : (p : Job → Bool) (before : Job → Job → Bool) (number : Job → ℕ) (jobs : List Job) → list_any p jobs ≡ false
+    → None ≡ option_map number (first_of p before jobs)
+none_first p before number jobs none = at (first_of p before jobs) (first_of_is_some p before jobs ∙ none)
+  where
+    at : (o : Option Job) → is_some o ≡ false → None ≡ option_map number o
+    at None e = refl
+    at (Some j) e = absurd cc
+
+pub no_first_due : (has : Bool) (jobs : List Job) → has ≡ list_any (λ j. is_delayed j.state) jobs → has ≡ false
+    → None ≡ option_map (λ j. due_of j.state) (first_of (λ j. is_delayed j.state) is_due_before jobs)
+no_first_due has jobs is none = none_first (λ j. is_delayed j.state) is_due_before (λ j. due_of j.state) jobs (sym is ∙ none)
+
+pub no_first_deadline : (has : Bool) (jobs : List Job) → has ≡ list_any (λ j. is_reserved j.state) jobs → has ≡ false
+    → None ≡ option_map (λ j. deadline_of j.state) (first_of (λ j. is_reserved j.state) is_lease_before jobs)
+no_first_deadline has jobs is none = none_first (λ j. is_reserved j.state) is_lease_before (λ j. deadline_of j.state) jobs (sym is ∙ none)
 
 pub dues_are : (t : ℕ) (j : Job) → is_due t j.state ≡ (is_delayed j.state && nat_le (due_of j.state) t)
 dues_are t j = due_is t j.state

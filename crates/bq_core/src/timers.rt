@@ -12,7 +12,9 @@ ghost use Rattle.bq_state.specs.CoreParts.{machine_of, count_jobs};
 ghost use Rattle.bq_core.specs.Firing.{HaveFired};
 ghost use Rattle.bq_job.specs.machine.Asked.{state_once_left};
 ghost use Rattle.bq_job.specs.machine.Changes.{is_held_by, is_waiting};
-ghost use Rattle.bq_job.specs.machine.JobStates.{is_reserved};
+ghost use Rattle.bq_job.specs.machine.Changes.{first_of};
+ghost use Rattle.bq_job.specs.machine.JobStates.{due_of, is_delayed, is_due_before, is_reserved};
+ghost use Rattle.bq_jobs.specs.Leases.{deadline_of, is_lease_before};
 ghost use Rattle.std.specs.Option.{option_copied, option_map};
 ghost use Rattle.bq_job.specs.beside.NextDue.{next_due as next_due_of};
 ghost use Rattle.bq_state.specs.Dues.{earlier_of_both, is_end_over, timers_due, warning_due};
@@ -30,7 +32,7 @@ use bq_state::known::{FirstEnd, Stir, Warns, earlier_of, first_to_give_up, is_ov
 use bq_state::seats::{SeatRecord, Turn};
 use bq_state::{changes, job_store, seats};
 
-// The delayed job that is due first, if its moment has come.
+// The delayed job that is due first, if its moment has come. Where none is delayed, none is looked for.
 #[tactic(auto, using(bq_state::proofs::PartsLemmas::compared_sound))]
 fn first_ripe(state: &mut CoreParts) -> Option<JobId>
     ensures found { IfSome result
@@ -39,11 +41,14 @@ fn first_ripe(state: &mut CoreParts) -> Option<JobId>
         → list_any (λ j. is_due state.old.moment j.state) state.old.jobs.jobs ≡ false }
     ensures kept { Looks 1 state.old state.new }
 {
+    if !state.has_delayed() {
+        return None;
+    }
     let (due, id) = state.jobs.next_due()?;
     if due <= state.moment { Some(id) } else { None }
 }
 
-// The job whose time to run is over first, if that moment has come.
+// The job whose time to run is over first, if that moment has come. Where nobody holds one, none is looked for.
 #[tactic(auto, using(bq_state::proofs::PartsLemmas::compared_sound))]
 fn first_expired(state: &mut CoreParts) -> Option<JobId>
     ensures found { IfSome result
@@ -52,6 +57,9 @@ fn first_expired(state: &mut CoreParts) -> Option<JobId>
         → list_any (λ j. is_expired state.old.moment j.state) state.old.jobs.jobs ≡ false }
     ensures kept { Looks 1 state.old state.new }
 {
+    if !state.has_lease() {
+        return None;
+    }
     let (deadline, id) = state.jobs.next_deadline()?;
     if deadline <= state.moment {
         Some(id)
@@ -288,14 +296,46 @@ fn warnings_due(
     }
 }
 
+// When the first delay ends. Where no job is delayed, none is looked for.
+#[tactic(auto, using(crate::proofs::FiringLemmas::no_first_due))]
+fn first_due(jobs: &mut Jobs, has_delayed: bool) -> Option<Moment>
+    requires { has_delayed ≡ list_any (λ j. is_delayed j.state) jobs.old.jobs }
+    ensures due { result
+        ≡ option_map (λ j. due_of j.state) (first_of (λ j. is_delayed j.state) is_due_before jobs.old.jobs) }
+    ensures same { jobs.new ≡ record jobs.old { comparisons = jobs.new.comparisons } }
+    ensures asks { Asks 1 jobs.old jobs.new }
+{
+    if !has_delayed {
+        return None;
+    }
+    moment_of(jobs.next_due())
+}
+
+// When the first time to run ends. Where nobody holds a job, none is looked for.
+#[tactic(auto, using(crate::proofs::FiringLemmas::no_first_deadline))]
+fn first_deadline(jobs: &mut Jobs, has_lease: bool) -> Option<Moment>
+    requires { has_lease ≡ list_any (λ j. is_reserved j.state) jobs.old.jobs }
+    ensures due { result
+        ≡ option_map (λ j. deadline_of j.state) (first_of (λ j. is_reserved j.state) is_lease_before jobs.old.jobs) }
+    ensures same { jobs.new ≡ record jobs.old { comparisons = jobs.new.comparisons } }
+    ensures asks { Asks 1 jobs.old jobs.new }
+{
+    if !has_lease {
+        return None;
+    }
+    moment_of(jobs.next_deadline())
+}
+
 // When something is due of a job, but for the warnings.
-fn jobs_due(jobs: &mut Jobs) -> Option<Moment>
+fn jobs_due(jobs: &mut Jobs, has_delayed: bool, has_lease: bool) -> Option<Moment>
+    requires delayed { has_delayed ≡ list_any (λ j. is_delayed j.state) jobs.old.jobs }
+    requires lease { has_lease ≡ list_any (λ j. is_reserved j.state) jobs.old.jobs }
     ensures due { result ≡ timers_due jobs.old.jobs }
     ensures same { jobs.new ≡ record jobs.old { comparisons = jobs.new.comparisons } }
     ensures asks { Asks 2 jobs.old jobs.new }
 {
-    let due = moment_of(jobs.next_due());
-    let deadline = moment_of(jobs.next_deadline());
+    let due = first_due(jobs, has_delayed);
+    let deadline = first_deadline(jobs, has_lease);
     earlier_of(due, deadline)
 }
 
@@ -319,7 +359,8 @@ pub(crate) fn next_due(state: &mut CoreParts) -> Option<Moment>
     ensures asks { Asks
         (count_by is_waiting state.old.seats.items + 2) state.old.jobs state.new.jobs }
 {
-    let jobs = jobs_due(&mut state.jobs);
+    let (has_delayed, has_lease) = (state.has_delayed(), state.has_lease());
+    let jobs = jobs_due(&mut state.jobs, has_delayed, has_lease);
     let warning = warnings_due(
         &mut state.jobs,
         state.seats.as_slice(),

@@ -1,10 +1,10 @@
 -- The counts of tubes stand at the places of their entries.
-use Rattle.std.proofs.{Common.{◌∙◌, ◌∷◌, ◌≡◌, ◌≤◌, Bool, List, Some, [], ℕ, ap, arith, false, inl, inr, length, map, refl, sym, true}, lemmas.{Bool.cases_Bool, List.{drop-map, map-append, take-map}}}
+use Rattle.std.proofs.{Common.{◌+◌, ◌∙◌, ◌∷◌, ◌≡◌, ◌≤◌, Bool, List, Some, [], ℕ, ap, arith, false, inl, inr, length, map, refl, sym, true}, lemmas.{Bool.{cases_Bool, lt-ltb}, List.{drop-map, map-append, take-map}}}
 use Rattle.std.proofs.lemmas.Grind.{common_steps}
-use Rattle.std.specs.{Cmp.Lexicographic.bytes_decides, List.{AllByRecursion as All, insert, list_any}, Prelude.filter}
+use Rattle.std.specs.{Cmp.Lexicographic.bytes_decides, List.{AllByRecursion as All, insert, list_any}, Prelude.{count_by, filter, nat_lt}}
 use Rattle.bq_job.specs.declared.job.Job.{Job}
-use Rattle.bq_job.specs.{beside.AreIdsWithin, machine.{TubeRecord, greatest, is_name_before, job_with}, reading.TubeName.is_same_name}
-use Rattle.bq_job.proofs.NameOrderLemmas.{not_same}
+use Rattle.bq_job.specs.{beside.AreIdsWithin, machine.{TubeRecord, greatest, is_delayed, is_name_before, is_reserved, job_with}, reading.TubeName.is_same_name}
+use Rattle.bq_job.proofs.{ListLemmas.count_cons, NameOrderLemmas.not_same}
 use Rattle.bq_jobs.specs.Kept.{with_added, without}
 use Rattle.bq_state.specs.declared.known.Tally.{Tally}
 use Rattle.bq_state.specs.{Tallies.{AreCounted, has_jobs, tallies_at, tallies_of, tallies_provided, tallies_with, tallies_without, tally_at, tally_in, tally_of, tally_with, tally_without}, TubeEntries.{AreInOrder, has_entry, provided}}
@@ -96,7 +96,7 @@ no_more : (n : ℕ) → 0 + n ≡ n
 no_more n = omega arith
 
 -- a job is counted where one passes
-pub some_pass : (p : Job → Bool) (jobs : List Job) → nat_lt 0 (count_by p jobs) ≡ list_any p jobs
+some_pass : (p : Job → Bool) (jobs : List Job) → nat_lt 0 (count_by p jobs) ≡ list_any p jobs
 some_pass p [] = refl
 some_pass p (j ∷ jobs) =
     ap (nat_lt 0) (count_cons p j jobs)
@@ -104,6 +104,12 @@ some_pass p (j ∷ jobs) =
       | inl e ↦ rw e (lt-ltb 0 (1 + count_by p jobs) (omega arith))
       | inr e ↦ rw e (ap (nat_lt 0) (no_more (count_by p jobs)) ∙ some_pass p jobs)
     ]
+
+pub some_reserved : (t : Tally) (jobs : List Job) → t ≡ tally_of jobs → nat_lt 0 t.reserved ≡ list_any (λ j. is_reserved j.state) jobs
+some_reserved t jobs whole = ap (λ (t : Tally). nat_lt 0 t.reserved) whole ∙ some_pass (λ j. is_reserved j.state) jobs
+
+pub some_delayed : (t : Tally) (jobs : List Job) → t ≡ tally_of jobs → nat_lt 0 t.delayed ≡ list_any (λ j. is_delayed j.state) jobs
+some_delayed t jobs whole = ap (λ (t : Tally). nat_lt 0 t.delayed) whole ∙ some_pass (λ j. is_delayed j.state) jobs
 
 has_one : (j : Job) (jobs : List Job) → has_jobs (tally_of (j ∷ jobs)) ≡ true
 has_one j jobs = grind (arith, common_steps)

@@ -42,7 +42,7 @@ impl CoreParts {
     ghost use Rattle.std.specs.List.{list_any};
     ghost use Rattle.std.specs.Option.{option_map};
     ghost use Rattle.bq_job.specs.machine.Changes.{is_held_by, is_ready, is_waiting, job_with, seat_with};
-    ghost use Rattle.bq_job.specs.machine.JobStates.{is_reserved};
+    ghost use Rattle.bq_job.specs.machine.JobStates.{is_delayed, is_reserved};
     ghost use Rattle.bq_job.specs.reading.TubeName.{is_same_name};
     ghost use Rattle.bq_jobs.specs.Seen.{IsBodyOf};
     ghost use Rattle.bq_state.specs.JobKinds.{first_of_kind};
@@ -125,10 +125,19 @@ impl CoreParts {
     }
 
     /// Whether some client holds a job.
+    #[tactic(auto, using(crate::proofs::TallyPlaces::some_reserved))]
     pub fn has_lease(&self) -> bool
         ensures { result ≡ list_any (λ j. is_reserved j.state) self.now.jobs.jobs }
     {
         self.known.tally.reserved > 0
+    }
+
+    /// Whether some job is delayed.
+    #[tactic(auto, using(crate::proofs::TallyPlaces::some_delayed))]
+    pub fn has_delayed(&self) -> bool
+        ensures { result ≡ list_any (λ j. is_delayed j.state) self.now.jobs.jobs }
+    {
+        self.known.tally.delayed > 0
     }
 
     /// Whether the client at the seat holds a job. Where nobody holds one, none is looked for.

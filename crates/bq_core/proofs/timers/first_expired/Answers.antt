@@ -1,8 +1,12 @@
 use Rattle.std.proofs.Common.{◌∙◌, arith, sym}
 use Rattle.bq_job.specs.machine.{is_expired, is_reserved}
 use Rattle.bq_jobs.specs.Leases.{deadline_of}
-use Rattle.bq_core.proofs.FiringLemmas.{expiries_are, first_past, none_past, none_there}
+use Rattle.bq_core.proofs.FiringLemmas.{expiries_are, first_past, none_past, none_such, none_there}
 use Rattle.bq_core.proofs.timers.first_expired.Goals as goal
+
+pub returns-then-not-has_lease-clause-none : goal.returns-then-not-has_lease-clause-none
+returns-then-not-has_lease-clause-none c _ =
+    none_such (λ j. is_reserved j.state) (λ j. deadline_of j.state) (λ t j. is_expired t j.state) expiries_are 1 c.args.state.now.next_id c.args.state.now.jobs.jobs c.args.state.now.sound.ids c.args.state.now.moment (rw c.has_lease.ensures at c.if-not-has_lease.true)
 
 pub returns-in_err-deadline-clause-none : goal.returns-in_err-deadline-clause-none
 returns-in_err-deadline-clause-none c _ =

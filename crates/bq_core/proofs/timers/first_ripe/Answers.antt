@@ -1,7 +1,11 @@
 use Rattle.std.proofs.Common.{◌∙◌, arith, sym}
 use Rattle.bq_job.specs.machine.{due_of, is_delayed, is_due}
-use Rattle.bq_core.proofs.FiringLemmas.{dues_are, first_past, none_past, none_there}
+use Rattle.bq_core.proofs.FiringLemmas.{dues_are, first_past, none_past, none_such, none_there}
 use Rattle.bq_core.proofs.timers.first_ripe.Goals as goal
+
+pub returns-then-not-has_delayed-clause-none : goal.returns-then-not-has_delayed-clause-none
+returns-then-not-has_delayed-clause-none c _ =
+    none_such (λ j. is_delayed j.state) (λ j. due_of j.state) (λ t j. is_due t j.state) dues_are 1 c.args.state.now.next_id c.args.state.now.jobs.jobs c.args.state.now.sound.ids c.args.state.now.moment (rw c.has_delayed.ensures at c.if-not-has_delayed.true)
 
 pub returns-in_err-due-clause-none : goal.returns-in_err-due-clause-none
 returns-in_err-due-clause-none c _ =
