@@ -320,7 +320,9 @@ fn turn(state: &mut CoreParts, outs: &mut Outs) -> bool
 }
 
 // While some waiting client may have a ready job, the least of them goes to the client that has
-// waited longest.
+// waited longest. It is out of line: it makes room for a name, which a call fills, and mostly nobody may
+// have a job.
+#[inline(never)]
 fn dispatch_all(state: &mut CoreParts, outs: &mut Outs)
     requires room { HasRoom 0 (machine_of state.old) outs.old }
     ensures given { Gives DispatchTurn has_refused_share
