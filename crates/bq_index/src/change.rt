@@ -233,10 +233,10 @@ where
     }
 }
 
-// Takes the entry out of a box that has a side, and gives the box that is spare then.
+// Takes the entry out of a box that has a side, and puts its value in a place with the box that is spare then.
 #[tactic(auto, using(crate::proofs::Parts::come_apart))]
 #[inline(never)]
-fn take_out<K, V>(here: &mut Node<K, V>) -> (Box<Node<K, V>>, V)
+fn take_out<K, V>(here: &mut Node<K, V>, found: &mut Option<(Box<Node<K, V>>, V)>)
 where
     K: Drop,
     V: Drop,
@@ -244,7 +244,7 @@ where
     requires high { 1 < height_in here.old }
     requires fits { height_in here.old < 200 }
     ensures is { entries_in here.new ≡ entries_of (left_in here.old) ++ entries_of (right_in here.old) }
-    ensures value { Some result.1 ≡ option_map (λ e. e.1) (entry_in here.old) }
+    ensures value { option_map (λ p. p.1) found.new ≡ option_map (λ e. e.1) (entry_in here.old) }
     ensures balanced { IsLevel here.new }
     ensures not_higher { height_in here.new ≤ height_in here.old }
     ensures not_lower { height_in here.old ≤ height_in here.new + 1 }
@@ -253,11 +253,11 @@ where
     match take_first(right) {
         None => {
             let spare = move_up(here, left);
-            (spare, entry.1)
+            *found = Some((spare, entry.1));
         }
         Some((spare, first, rest)) => {
             balance(here, left, first, rest, 0, false);
-            (spare, entry.1)
+            *found = Some((spare, entry.1));
         }
     }
 }
@@ -279,14 +279,16 @@ where
     }
 }
 
-// Removes the key on the left of a box, and takes that apart.
+// Removes the key on the left of a box, and takes that apart. What was there comes into a place, so that who calls makes no
+// room for it: a call fills all the room that it may need before it begins.
 #[tactic(auto, using(crate::proofs::Parts::come_apart))]
 #[inline(never)]
 fn cut_left<K: Ord, V>(
     here: &mut Node<K, V>,
     key: &K,
     count: &mut u64,
-) -> Option<(Box<Node<K, V>>, V)>
+    found: &mut Option<(Box<Node<K, V>>, V)>,
+)
 where
     K: Drop,
     V: Drop,
@@ -296,7 +298,7 @@ where
     ensures is { entries_in here.new ≡ remove_entry (is_at (K.cmp key.now)) (entries_of (left_in here.old))
         ++ (option_to_list (entry_in here.old) ++ entries_of (right_in here.old)) }
     ensures balanced { IsLevel here.new }
-    ensures found { option_map (λ p. p.1) result
+    ensures found { option_map (λ p. p.1) found.new
         ≡ lookup (is_at (K.cmp key.now)) (entries_of (left_in here.old)) }
     ensures not_higher { height_in here.new ≤ height_in here.old }
     ensures not_lower { height_in here.old ≤ height_in here.new + 1 }
@@ -304,9 +306,9 @@ where
 {
     let (high, before) = (here.height(), here.left_height());
     let (left, entry, right) = here.take_parts();
-    let (left, found) = remove_apart(left, key, count);
+    let (left, there) = remove_apart(left, key, count);
     with_left(here, left, entry, right, high, before);
-    found
+    *found = there;
 }
 
 // Removes the key on the right of a box, and takes that apart.
@@ -316,7 +318,8 @@ fn cut_right<K: Ord, V>(
     here: &mut Node<K, V>,
     key: &K,
     count: &mut u64,
-) -> Option<(Box<Node<K, V>>, V)>
+    found: &mut Option<(Box<Node<K, V>>, V)>,
+)
 where
     K: Drop,
     V: Drop,
@@ -326,7 +329,7 @@ where
     ensures is { entries_in here.new ≡ entries_of (left_in here.old)
         ++ (option_to_list (entry_in here.old) ++ remove_entry (is_at (K.cmp key.now)) (entries_of (right_in here.old))) }
     ensures balanced { IsLevel here.new }
-    ensures found { option_map (λ p. p.1) result
+    ensures found { option_map (λ p. p.1) found.new
         ≡ lookup (is_at (K.cmp key.now)) (entries_of (right_in here.old)) }
     ensures not_higher { height_in here.new ≤ height_in here.old }
     ensures not_lower { height_in here.old ≤ height_in here.new + 1 }
@@ -334,9 +337,9 @@ where
 {
     let (high, before) = (here.height(), here.right_height());
     let (left, entry, right) = here.take_parts();
-    let (right, found) = remove_apart(right, key, count);
+    let (right, there) = remove_apart(right, key, count);
     with_right(here, left, entry, right, high, before);
-    found
+    *found = there;
 }
 
 // Removes the key from a box that has a side, or from below it, and puts what was there in a place that the calls hand
@@ -366,7 +369,7 @@ where
         Ordering::Less => {
             let before = here.left_height();
             if before <= 1 {
-                *found = cut_left(here, key, count);
+                cut_left(here, key, count, found);
                 return;
             }
             match here {
@@ -380,7 +383,7 @@ where
         Ordering::Greater => {
             let before = here.right_height();
             if before <= 1 {
-                *found = cut_right(here, key, count);
+                cut_right(here, key, count, found);
                 return;
             }
             match here {
@@ -391,7 +394,7 @@ where
                 _ => unreachable!(),
             }
         }
-        Ordering::Equal => *found = Some(take_out(here)),
+        Ordering::Equal => take_out(here, found),
     }
 }
 
