@@ -19,7 +19,7 @@ use crate::room::{Room, write_answer};
 use bq_job::{LARGEST_BODY, NoMemory, Step};
 use bq_line::Door;
 use bq_line::line::{Line, is_nothing_yet};
-use bq_seat::{Action, Event, PIECE_ROOM, SeatMachine};
+use bq_seat::{Action, Event, PIECE_ROOM, SeatMachine, Told};
 use std::alloc::Global;
 use std::{io, mem};
 
@@ -177,7 +177,7 @@ pub fn carry_out<L: Line, K: Link>(
     match action {
         Action::Submit(step) => {
             if link.submit(step) {
-                machine.on_in_place(alloc, Event::Submitted, action);
+                machine.on_told(alloc, Told::Submitted, action);
                 true
             } else {
                 false
@@ -191,17 +191,17 @@ pub fn carry_out<L: Line, K: Link>(
             } else {
                 // The answer may take long.
                 line.expect_more(false);
-                machine.on_in_place(alloc, Event::NothingYet, action);
+                machine.on_told(alloc, Told::NothingYet, action);
                 false
             }
         }
         Action::Write(answer) => {
             expect_answers(machine, line);
             if write_answer(line, answer, room) {
-                machine.on_in_place(alloc, Event::WriteDone, action);
+                machine.on_told(alloc, Told::WriteDone, action);
                 true
             } else {
-                machine.on_in_place(alloc, Event::WriteFault, action);
+                machine.on_told(alloc, Told::WriteFault, action);
                 true
             }
         }
@@ -246,7 +246,7 @@ fn hand_on<L: Line>(
     if count == 0 {
         return read_piece(alloc, machine, next, line, room);
     }
-    machine.on_in_place(alloc, Event::Bytes(&line.unread()[..count]), next);
+    machine.on_told(alloc, Told::Bytes(&line.unread()[..count]), next);
     line.take_unread(count);
     true
 }
@@ -265,11 +265,11 @@ fn read_piece<L: Line>(
 {
     match read_line(machine, line, room) {
         Ok(0) => {
-            machine.on_in_place(alloc, Event::EndOfInput, next);
+            machine.on_told(alloc, Told::EndOfInput, next);
             true
         }
         Ok(count) => {
-            machine.on_in_place(alloc, Event::Bytes(&room[..count]), next);
+            machine.on_told(alloc, Told::Bytes(&room[..count]), next);
             true
         }
         Err(e) => tell_error(alloc, machine, next, &e),
@@ -283,10 +283,10 @@ fn tell_error(alloc: Global, machine: &mut SeatMachine, next: &mut Action, e: &i
         (after_fill (Err e.now) seen) next.new [] [] }
 {
     if is_nothing_yet(e) {
-        machine.on_in_place(alloc, Event::NothingYet, next);
+        machine.on_told(alloc, Told::NothingYet, next);
         false
     } else {
-        machine.on_in_place(alloc, Event::ReadFault, next);
+        machine.on_told(alloc, Told::ReadFault, next);
         true
     }
 }

@@ -10,12 +10,24 @@ use Rattle.bq_seat.specs.declared.machine.Event.TheVariants as events
 use Rattle.bq_seat.specs.declared.machine.Action.{Action}
 use Rattle.bq_seat.specs.declared.machine.Action.TheVariants as actions
 use Rattle.bq_seat.specs.declared.machine.SeatMachine.{SeatMachine}
+use Rattle.bq_seat.specs.declared.machine.Told.{Told}
+use Rattle.bq_seat.specs.declared.machine.Told.TheVariants as tellings
 use Rattle.bq_seat.specs.declared.machine.TheConstants.{PIECE_ROOM}
 
 -- No more bytes are handed in at once than there is room for.
 abbrev pub FitsPiece : Event → Type 0
 FitsPiece (events.Bytes bytes) = length bytes.now ≤ PIECE_ROOM
 FitsPiece _ = Unit {0}
+
+-- the event of the same name
+abbrev pub event_told : Told → Event
+event_told tellings.Submitted = events.Submitted
+event_told (tellings.Bytes bytes) = events.Bytes bytes
+event_told tellings.NothingYet = events.NothingYet
+event_told tellings.EndOfInput = events.EndOfInput
+event_told tellings.ReadFault = events.ReadFault
+event_told tellings.WriteDone = events.WriteDone
+event_told tellings.WriteFault = events.WriteFault
 
 -- An opened line that was awaited begins by its connect, and has a past of its own.
 abbrev pub OpensPast : Event → Action → SeatMachine → Type 0

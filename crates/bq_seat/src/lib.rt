@@ -5,7 +5,7 @@
 
 pub use bq_job::LineEnd;
 pub use laws::pasts_are_orderly;
-pub use machine::{Action, Event, PIECE_ROOM, SeatMachine};
+pub use machine::{Action, Event, PIECE_ROOM, SeatMachine, Told};
 
 mod laws;
 mod machine;

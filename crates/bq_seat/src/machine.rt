@@ -30,6 +30,26 @@ pub enum Event<'a> {
     WriteFault,
 }
 
+/// An event that brings no answer, each as the one of its name. An `Event` has room for an answer, which a call fills before
+/// it makes one, and that takes longer than most events do.
+#[derive(Debug, Drop)]
+pub enum Told<'a> {
+    /// The step was submitted.
+    Submitted,
+    /// These bytes were read, 4,096 at most.
+    Bytes(&'a [u8]),
+    /// There was nothing to read, or no mail.
+    NothingYet,
+    /// The client sends no more.
+    EndOfInput,
+    /// A read of the line failed.
+    ReadFault,
+    /// The answer was written whole.
+    WriteDone,
+    /// A write to the line failed.
+    WriteFault,
+}
+
 /// What to do next for a connection.
 #[derive(Debug, Drop)]
 pub enum Action {
@@ -90,7 +110,7 @@ impl SeatMachine {
     ghost use Rattle.bq_job.specs.declared.answer.Answer.{Answer};
     ghost use Rattle.bq_job.specs.machine.OneClient.{is_closed_answer};
     ghost use Rattle.bq_seat.specs.Outstanding.{ReadsWith};
-    ghost use Rattle.bq_seat.specs.SeatMoves.{FitsPiece, IsMove};
+    ghost use Rattle.bq_seat.specs.SeatMoves.{event_told, FitsPiece, IsMove};
     ghost use Rattle.bq_seat.specs.SeatParts.{GoesOn, IsStagedMove, asking_stage, holding, in_stage, reads_on};
     ghost use Rattle.bq_seat.specs.SeatStands.{awaited, kept_bytes};
 
@@ -146,6 +166,22 @@ impl SeatMachine {
             }
             Event::WriteDone => self.write_done(alloc, next),
             Event::WriteFault => self.write_fault(next),
+        }
+    }
+
+    /// The same as `on_in_place` by an event that brings no answer.
+    pub fn on_told(&mut self, alloc: Global, told: Told<'_>, next: &mut Action)
+        requires { FitsPiece (event_told told) }
+        ensures { IsMove self.old (event_told told.entry) next.new self.new }
+    {
+        match told {
+            Told::Submitted => self.submitted(alloc, next),
+            Told::Bytes(bytes) => self.bytes(alloc, bytes, next),
+            Told::NothingYet => self.nothing_yet(next),
+            Told::EndOfInput => self.end_of_input(next),
+            Told::ReadFault => self.read_fault(next),
+            Told::WriteDone => self.write_done(alloc, next),
+            Told::WriteFault => self.write_fault(next),
         }
     }
 

@@ -6,7 +6,7 @@ use Rattle.bq_driver.proofs.attendant.carry_out.Goals as goal
 
 pub returns-then-submit-clause-carried : goal.returns-then-submit-clause-carried
 returns-then-submit-clause-carried g c =
-    comes_by g.K.Link.went _ _ _ _ _ _ _ _ (actions.Submit c.in-Submit.step) c.in-Submit.is (as_submitted c.in-Submit.step) [] (rw c.if-submit.true at c.submit.ensures.went) (refl, refl, inl (refl, c.on_in_place.ensures))
+    comes_by g.K.Link.went _ _ _ _ _ _ _ _ (actions.Submit c.in-Submit.step) c.in-Submit.is (as_submitted c.in-Submit.step) [] (rw c.if-submit.true at c.submit.ensures.went) (refl, refl, inl (refl, c.on_told.ensures))
 
 pub returns-else-submit-clause-carried : goal.returns-else-submit-clause-carried
 returns-else-submit-clause-carried g c =
@@ -18,11 +18,11 @@ returns-in-Read-clause-carried g c = comes_by g.K.Link.went _ _ _ _ _ _ _ _ acti
 
 pub returns-then-write_answer-clause-carried : goal.returns-then-write_answer-clause-carried
 returns-then-write_answer-clause-carried g c =
-    comes_by g.K.Link.went _ _ _ _ _ _ _ _ (actions.Write c.in-Write.answer) c.in-Write.is [] [] refl (refl, refl, inl (rw (c.if-write_answer.true, c.expect_answers.ensures.seen) at c.write_answer.ensures.text, c.on_in_place-then-write_answer.ensures))
+    comes_by g.K.Link.went _ _ _ _ _ _ _ _ (actions.Write c.in-Write.answer) c.in-Write.is [] [] refl (refl, refl, inl (rw (c.if-write_answer.true, c.expect_answers.ensures.seen) at c.write_answer.ensures.text, c.on_told-then-write_answer.ensures))
 
 pub returns-else-write_answer-clause-carried : goal.returns-else-write_answer-clause-carried
 returns-else-write_answer-clause-carried g c =
-    comes_by g.K.Link.went _ _ _ _ _ _ _ _ (actions.Write c.in-Write.answer) c.in-Write.is [] [] refl (refl, refl, inr (rw (c.if-write_answer.false, c.expect_answers.ensures.seen) at c.write_answer.ensures.text, c.on_in_place-else-write_answer.ensures))
+    comes_by g.K.Link.went _ _ _ _ _ _ _ _ (actions.Write c.in-Write.answer) c.in-Write.is [] [] refl (refl, refl, inr (rw (c.if-write_answer.false, c.expect_answers.ensures.seen) at c.write_answer.ensures.text, c.on_told-else-write_answer.ensures))
 
 pub returns-then-mail-clause-carried : goal.returns-then-mail-clause-carried
 returns-then-mail-clause-carried g c =
@@ -32,7 +32,7 @@ returns-then-mail-clause-carried g c =
 pub returns-else-mail-clause-carried : goal.returns-else-mail-clause-carried
 returns-else-mail-clause-carried g c =
     let none = rw c.if-mail.false at c.mail.ensures.went in
-    comes_by g.K.Link.went _ _ _ _ _ _ _ _ actions.PollMail c.in-PollMail.is [] [] none.1 (c.expect_more.ensures.seen, refl, inl (refl, c.on_in_place-else-mail.ensures))
+    comes_by g.K.Link.went _ _ _ _ _ _ _ _ actions.PollMail c.in-PollMail.is [] [] none.1 (c.expect_more.ensures.seen, refl, inl (refl, c.on_told-else-mail.ensures))
 
 pub returns-in-LineOver-clause-carried : goal.returns-in-LineOver-clause-carried
 returns-in-LineOver-clause-carried g c =
