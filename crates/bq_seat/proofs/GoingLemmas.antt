@@ -1,5 +1,6 @@
 -- A machine that goes on while nothing is outstanding.
-use Rattle.std.proofs.Common.{◌≡◌, ℕ, true, false, List, [], Option, Some, refl, sym, subst, ◌∙◌, drop, IfSome}
+use Rattle.std.proofs.Common.{◌≡◌, ◌==◌, ◌∷◌, ℕ, true, false, List, [], Option, Some, refl, sym, subst, ◌∙◌, arith, drop, length, IfSome}
+use Rattle.std.proofs.lemmas.Bool.{eqb-true}
 use Rattle.bq_job.specs.declared.line_end.LineEnd.TheVariants as ends
 use Rattle.bq_job.specs.declared.request.Request.{Request}
 use Rattle.bq_job.specs.declared.request.Request.TheVariants as requests
@@ -26,6 +27,19 @@ goes_told m kept told = record {
   limit = refl;
   past = λ p o. ends_line m.reader kept m.end_told p.ended p o (o.stepped.told_well told).1 (o.stepped.ended_is ∙ told);
 }
+
+-- nothing is kept, so the line is read
+pub goes_reading : (m : SeatMachine) → m.end_told ≡ false → (length m.kept == 0) ≡ true → GoesOn m actions.Read (in_stage stages.Reading m)
+goes_reading m untold empty = record {
+  further = tt;
+  awaits = refl;
+  limit = refl;
+  past = λ p o. (o, none m.kept empty, untold);
+}
+  where
+    none : (bytes : List ℕ) → (length bytes == 0) ≡ true → bytes ≡ []
+    none [] e = refl
+    none (b ∷ bytes) e = absurd (let f : length (b ∷ bytes) ≡ 0 = eqb-true _ _ e in omega (arith, f))
 
 -- the machine after it has fed what it kept and asked a request
 abbrev pub after_asking : SeatMachine → ReaderState → ℕ → Request → SeatMachine

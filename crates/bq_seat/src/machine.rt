@@ -328,6 +328,9 @@ impl SeatMachine {
         if self.end_told {
             return self.close(LineEnd::EndOfInput, next);
         }
+        if self.kept.is_empty() {
+            return self.read(next);
+        }
         let mut request = None;
         let taken = self
             .reader
