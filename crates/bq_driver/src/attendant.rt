@@ -16,7 +16,7 @@ ghost use Rattle.bq_driver.specs.Carried.{Carried, HasGone};
 
 use crate::link::Link;
 use crate::room::{Room, write_answer};
-use bq_job::{LARGEST_BODY, NoMemory, Step};
+use bq_job::{LARGEST_BODY, LineEnd, NoMemory, Step};
 use bq_line::Door;
 use bq_line::line::{Line, is_nothing_yet};
 use bq_seat::{Action, Event, PIECE_ROOM, SeatMachine, Told};
@@ -99,12 +99,7 @@ impl<L: Line + Drop> Attendant<L> {
             LinePlace::On(line, action) => match action {
                 Action::LineOver(end) => {
                     let end = *end;
-                    if let LinePlace::On(line, _) = mem::replace(
-                        &mut self.place,
-                        LinePlace::Between,
-                    ) {
-                        door.shut(line, end);
-                    }
+                    shut_line(&mut self.place, door, end);
                     true
                 }
                 other => carry_out(alloc, &mut self.machine, other, line, link, room),
@@ -136,6 +131,24 @@ fn open_line<L: Line + Drop, D: Door<Line = L>>(
         Ok(Some(line)) => LinePlace::On(line, machine.on(alloc, Event::Opened)),
         Ok(None) => LinePlace::Leaving,
         Err(_) => LinePlace::Leaving,
+    }
+}
+
+// The line is over, and its place is free. That is a function of its own, since a call makes room for a line, and fills
+// that, whether it comes to it or not.
+fn shut_line<L: Line + Drop, D: Door<Line = L>>(
+    place: &mut LinePlace<L>,
+    door: &mut D,
+    end: LineEnd,
+)
+    requires over { (line : L) × (place.old ≡ LinePlace.On line (Action.LineOver end)) }
+    requires placed { IsPlaced place.old (door_seen D.is_out D.is_at_end D.lines_over door.old) }
+    ensures went { let at = door_seen D.is_out D.is_at_end D.lines_over in
+        (machine : SeatMachine) → Tends L.seen (attendant machine place.old) (at door.old) [] [] (attendant machine place.new) (at door.new) }
+    ensures same { (first : D) → D.same first door.old → D.same first door.new }
+{
+    if let LinePlace::On(line, _) = mem::replace(place, LinePlace::Between) {
+        door.shut(line, end);
     }
 }
 

@@ -3,7 +3,7 @@ use Rattle.bq_seat.specs.declared.machine.Action.TheVariants as actions
 use Rattle.bq_driver.specs.declared.attendant.LinePlace.{LinePlace}
 use Rattle.bq_driver.specs.declared.attendant.LinePlace.TheVariants as places
 use Rattle.bq_driver.specs.Tending.{GoesOn, attendant, door_seen}
-use Rattle.bq_driver.proofs.TendingLemmas.{from_place, tends_acted, tends_shut, tends_still}
+use Rattle.bq_driver.proofs.TendingLemmas.{from_place, tends_acted, tends_still}
 use Rattle.bq_driver.proofs.attendant.Attendant.go_on.Goals as goal
 
 pub returns-in-Between-clause-went : goal.returns-in-Between-clause-went
@@ -12,15 +12,14 @@ returns-in-Between-clause-went g c =
     from_place g.K.Link.went c.args.link.now c.args.link.now g.L.Line.seen c.args.self.now.machine c.open_line.new.machine c.args.self.now.place places.Between c.open_line.result (at c.args.door.now) (at c.open_line.new.door)
     c.in-Between.is ([], [], inr (refl, refl, refl), c.open_line.ensures.went)
 
-pub returns-in-On-replace-clause-went : goal.returns-in-On-replace-clause-went
-returns-in-On-replace-clause-went g c =
+pub returns-in-LineOver-clause-went : goal.returns-in-LineOver-clause-went
+returns-in-LineOver-clause-went g c =
     let at = door_seen g.D.Door.is_out g.D.Door.is_at_end g.D.Door.lines_over in
-    let over : c.args.self.now.place ≡ places.On c.in-On-replace.line (actions.LineOver c.in-LineOver.end) =
-    let first = c.in-On.is in let second = c.in-LineOver.is in let third = c.in-On-replace.is in let fourth = c.replace.ensures.value in cc in
-    subst (λ (q : LinePlace g.row.L.Denot). GoesOn g.K.Link.went c.args.link.now c.args.link.now g.L.Line.seen (attendant c.args.self.now.machine c.args.self.now.place) (at c.args.door.now) (attendant c.args.self.now.machine q) (at c.shut.new.self))
-    (sym c.replace.ensures.after)
-    (from_place g.K.Link.went c.args.link.now c.args.link.now g.L.Line.seen c.args.self.now.machine c.args.self.now.machine c.args.self.now.place (places.On c.in-On-replace.line (actions.LineOver c.in-LineOver.end)) places.Between (at c.args.door.now) (at c.shut.new.self)
-    over ([], [], inr (refl, refl, refl), tends_shut g.L.Line.seen c.args.self.now.machine c.in-On-replace.line c.in-LineOver.end _ _ c.shut.ensures.over c.shut.ensures.inside c.shut.ensures.at_end))
+    let m = c.args.self.now.machine in
+    let over : c.args.self.now.place ≡ places.On c.in-On.line (actions.LineOver c.in-LineOver.end) =
+    let first = c.in-On.is in let second = c.in-LineOver.is in cc in
+    from_place g.K.Link.went c.args.link.now c.args.link.now g.L.Line.seen m m c.args.self.now.place (places.On c.in-On.line (actions.LineOver c.in-LineOver.end)) c.shut_line.new.place (at c.args.door.now) (at c.shut_line.new.door)
+    over ([], [], inr (refl, refl, refl), c.shut_line.ensures.went m)
 
 pub returns-in_default-clause-went : goal.returns-in_default-clause-went
 returns-in_default-clause-went g c =
