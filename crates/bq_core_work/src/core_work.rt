@@ -149,8 +149,7 @@ impl Sender {
         false
     }
 
-    // Takes the oldest step out of the intake. It is asked first whether one waits, so that nothing is moved where none
-    // does.
+    // Takes the oldest step out of the intake.
     fn next_step<R: Wait, J: Record>(&mut self, rt: &R, intake: &Intake<J>) -> Option<(Seat, Step)>
         requires intake { self.old.end.intake ≡ intake.now.id }
         requires may { MayTake J.was }
@@ -159,9 +158,6 @@ impl Sender {
         ensures number { IfSome result (λ t. t.0 < length self.old.end.rings) }
         ensures none { IfNone result ((self.new ≡ self.old) × J.was self.old.end.taken []) }
     {
-        if self.has_none(intake) {
-            return None;
-        }
         self.end.take(rt, intake)
     }
 

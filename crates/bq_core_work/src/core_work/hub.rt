@@ -230,9 +230,32 @@ impl<C: Clock + Drop, K: QueueCore + Drop> Hub<C, K> {
         ensures busy { result ≡ true → TookOne self.old.sender.end self.new.sender.end
             ⊎ HasTicked K.machine self.old self.new }
     {
+        if self.sender.has_none(intake) {
+            self.tick_if_due()
+        } else {
+            self.take_one(rt, intake)
+        }
+    }
+
+    // The same, where one was seen to wait. It is out of line, since it makes room for steps, and a call fills that.
+    #[inline(never)]
+    fn take_one<R: Wait, J: Record>(&mut self, rt: &R, intake: &Intake<J>) -> bool
+        requires intake { self.old.sender.end.intake ≡ intake.now.id }
+        requires may { MayTake J.was }
+        requires order { IsInOrder K.machine self.old }
+        requires none { self.old.outs.given ≡ [] }
+        ensures on { WorksOn C.given K.machine K.comparisons self.old self.new }
+        ensures stuck { AreStuck self.old.sender.end self.old.sender.kept.items
+            → AreStuck self.new.sender.end self.new.sender.kept.items }
+        ensures empty { result ≡ false → J.was self.old.sender.end.taken [] }
+        ensures idle { result ≡ false
+            → is_before self.new.heard (next_due (K.machine self.old.core)) ≡ true }
+        ensures busy { result ≡ true → TookOne self.old.sender.end self.new.sender.end
+            ⊎ HasTicked K.machine self.old self.new }
+    {
         match self.sender.next_step(rt, intake) {
-            Some((seat, what)) => {
-                self.take_step(seat, &what);
+            Some(taken) => {
+                self.take_step(taken.0, &taken.1);
                 true
             }
             None => self.tick_if_due(),
