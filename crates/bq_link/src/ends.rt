@@ -248,6 +248,27 @@ impl SeatEnd {
         self.mail.pop().ok()
     }
 
+    /// Whether an answer waits. Who asks first, takes without a way back: an answer that is handed out beside the news that
+    /// there is none is moved more often.
+    pub fn has_mail(&mut self) -> bool
+        ensures some { result ≡ true → 0 < length self.new.waiting }
+        ensures none { result ≡ false → (self.old.waiting ≡ []) × (self.new ≡ self.old) }
+        ensures known { IsPrefix self.old.waiting self.new.waiting }
+        ensures rest { self.new ≡ record self.old { waiting = self.new.waiting } }
+    {
+        !self.mail.is_empty()
+    }
+
+    /// Takes the oldest answer, where one is known to wait.
+    pub fn take_mail(&mut self) -> Answer
+        requires { 0 < length self.old.waiting }
+        ensures taken { self.new
+            ≡ record self.old { taken = self.old.taken ++ result ∷ []; waiting = self.new.waiting } }
+        ensures next { self.old.waiting ≡ result ∷ self.new.waiting }
+    {
+        self.mail.pop_known()
+    }
+
     /// Waits until an answer is sent to this end, or some time has passed. It may return at once, and says
     /// nothing of why it returned.
     pub fn wait<J: Record, R: Wait>(&mut self, rt: &R, intake: &Intake<J>, most: Duration)

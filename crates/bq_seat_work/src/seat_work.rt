@@ -289,13 +289,11 @@ fn look(end: &mut SeatEnd, place: &mut Action) -> bool
     ensures none { result ≡ false
         → (end.old.waiting ≡ []) × (end.new ≡ end.old) × (place.new ≡ place.old) }
 {
-    match end.mail() {
-        Some(answer) => {
-            *place = Action::Write(answer);
-            true
-        }
-        None => false,
+    if !end.has_mail() {
+        return false;
     }
+    *place = Action::Write(end.take_mail());
+    true
 }
 
 /// One action of a seat that attends to a door, by its end of the links. Says whether something moved. The pace goes from
