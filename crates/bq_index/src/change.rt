@@ -10,7 +10,7 @@ ghost use Rattle.bq_index.specs.Tree.{HasParts, IsBalanced, IsLevel, DifferByAtM
 
 use super::find::{compare, compare_to};
 use super::rotation::{balance, mend_left, mend_right, with_left, with_right};
-use super::tree::{Node, Tree, open};
+use super::tree::{Node, Tree, open, put};
 use std::cmp::Ordering;
 use std::mem;
 
@@ -31,8 +31,9 @@ where
     ensures not_lower { height_in here.old ≤ height_in here.new }
     ensures not_higher { height_in here.new ≤ height_in here.old + 1 }
 {
-    let (_none, entry, right) = here.take_parts();
-    *here = Node::over(Tree::Fork(node), entry, right);
+    let (none, entry, right) = here.take_parts();
+    drop(none);
+    put(here, Node::over(Tree::Fork(node), entry, right));
 }
 
 // Hangs a box with an entry alone on the right of one that has nothing there.
@@ -52,8 +53,9 @@ where
     ensures not_lower { height_in here.old ≤ height_in here.new }
     ensures not_higher { height_in here.new ≤ height_in here.old + 1 }
 {
-    let (left, entry, _none) = here.take_parts();
-    *here = Node::over(left, entry, Tree::Fork(node));
+    let (left, entry, none) = here.take_parts();
+    drop(none);
+    put(here, Node::over(left, entry, Tree::Fork(node)));
 }
 
 // Puts a box with an entry alone below another one.
@@ -253,11 +255,11 @@ where
     match take_first(right) {
         None => {
             let spare = move_up(here, left);
-            *found = Some((spare, entry.1));
+            put(found, Some((spare, entry.1)));
         }
         Some((spare, first, rest)) => {
             balance(here, left, first, rest, 0, false);
-            *found = Some((spare, entry.1));
+            put(found, Some((spare, entry.1)));
         }
     }
 }
@@ -273,7 +275,7 @@ where
     match tree {
         Tree::Leaf => unreachable!(),
         Tree::Fork(mut low) => {
-            *here = mem::replace(&mut *low, Node::Spare);
+            put(here, mem::replace(&mut *low, Node::Spare));
             low
         }
     }
@@ -308,7 +310,7 @@ where
     let (left, entry, right) = here.take_parts();
     let (left, there) = remove_apart(left, key, count);
     with_left(here, left, entry, right, high, before);
-    *found = there;
+    put(found, there);
 }
 
 // Removes the key on the right of a box, and takes that apart.
@@ -339,7 +341,7 @@ where
     let (left, entry, right) = here.take_parts();
     let (right, there) = remove_apart(right, key, count);
     with_right(here, left, entry, right, high, before);
-    *found = there;
+    put(found, there);
 }
 
 // Removes the key from a box that has a side, or from below it, and puts what was there in a place that the calls hand

@@ -4,7 +4,7 @@ ghost use Rattle.std.specs.Option.{option_to_list};
 ghost use Rattle.bq_index.specs.Tree.{entries, entries_in, entries_of, entry_in, height, height_in, height_of, held, left_in, right_in};
 ghost use Rattle.bq_index.specs.Tree.{IsBalanced, IsBalancedFrom, IsLevel, DifferByAtMost, IsRebalanced};
 
-use super::tree::{Node, Tree, open};
+use super::tree::{Node, Tree, open, put};
 
 // Fills a box with an entry whose left side has changed by a level at most: it was `before` high, and the box `high`.
 // The whole has risen or fallen no more than that side.
@@ -185,7 +185,7 @@ where
     ensures { IsRebalanced (held left) (Some entry) (held right) (Some node.new) }
 {
     if same {
-        *node = Node::of(high, left, entry, right);
+        put(node, Node::of(high, left, entry, right));
         return;
     }
     let (l, r) = (left.height(), right.height());
@@ -194,7 +194,7 @@ where
     } else if r > l + 1 {
         lean_right(node, left, entry, right);
     } else {
-        *node = Node::over(left, entry, right);
+        put(node, Node::over(left, entry, right));
     }
 }
 
@@ -214,16 +214,16 @@ where
         unreachable!()
     };
     if outer.height() >= inner.height() {
-        *low = Node::over(inner, entry, right);
-        *node = Node::over(outer, top, Tree::Fork(low));
+        put(&mut *low, Node::over(inner, entry, right));
+        put(node, Node::over(outer, top, Tree::Fork(low)));
         return;
     }
     let Some((near, mut other, middle, far)) = open(inner) else {
         unreachable!()
     };
-    *low = Node::over(outer, top, near);
-    *other = Node::over(far, entry, right);
-    *node = Node::over(Tree::Fork(low), middle, Tree::Fork(other));
+    put(&mut *low, Node::over(outer, top, near));
+    put(&mut *other, Node::over(far, entry, right));
+    put(node, Node::over(Tree::Fork(low), middle, Tree::Fork(other)));
 }
 
 #[inline(never)]
@@ -241,14 +241,14 @@ where
         unreachable!()
     };
     if outer.height() >= inner.height() {
-        *low = Node::over(left, entry, inner);
-        *node = Node::over(Tree::Fork(low), top, outer);
+        put(&mut *low, Node::over(left, entry, inner));
+        put(node, Node::over(Tree::Fork(low), top, outer));
         return;
     }
     let Some((far, mut other, middle, near)) = open(inner) else {
         unreachable!()
     };
-    *other = Node::over(left, entry, far);
-    *low = Node::over(near, top, outer);
-    *node = Node::over(Tree::Fork(other), middle, Tree::Fork(low));
+    put(&mut *other, Node::over(left, entry, far));
+    put(&mut *low, Node::over(near, top, outer));
+    put(node, Node::over(Tree::Fork(other), middle, Tree::Fork(low)));
 }

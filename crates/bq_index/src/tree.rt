@@ -251,6 +251,15 @@ where
     source.box_of(Node::Spare)
 }
 
+// Puts a value into a place. An assignment there would do the same, but the proof of a function that has one goes through all
+// that may have lain in the place.
+#[inline(always)]
+pub(crate) fn put<T: Drop>(place: &mut T, value: T)
+    ensures { place.new ≡ value }
+{
+    *place = value;
+}
+
 // Puts a box before a chain.
 pub(crate) fn link<K, V>(mut node: Box<Node<K, V>>, chain: Tree<K, V>) -> Tree<K, V>
 where
@@ -258,10 +267,11 @@ where
     V: Drop,
     ensures { chain_length result ≡ chain_length chain + 1 }
 {
-    *node = match chain {
+    let spare = match chain {
         Tree::Leaf => Node::Spare,
         Tree::Fork(next) => Node::SpareBefore(next),
     };
+    put(&mut *node, spare);
     Tree::Fork(node)
 }
 
