@@ -1,4 +1,4 @@
-//! The tests of the jobs of a queue. Each uses public calls alone.
+//! The tests of shelves and of the jobs of a queue, which lie in them. Each uses public calls alone.
 #![tactic(auto)]
 
 #[cfg(test)]
@@ -9,5 +9,7 @@ mod firsts;
 mod many_jobs;
 #[cfg(test)]
 mod putting;
+#[cfg(test)]
+mod shelves;
 #[cfg(test)]
 mod states;

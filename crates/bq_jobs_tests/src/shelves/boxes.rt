@@ -1,6 +1,6 @@
 //! Boxes are asked for one by one, and those before a refusal are kept.
 
-use crate::putting::put;
+use super::putting::put;
 use bq_index::{BoxSource, NoMemory, Shelf};
 use std::alloc::Global;
 use std::mem::size_of_val;

@@ -1,6 +1,6 @@
 //! Each call of a shelf, against values found by hand.
 
-use crate::putting::put;
+use super::putting::put;
 use bq_index::{NoMemory, Shelf};
 use std::process::Abort;
 use std::test::Fail;

@@ -1,14 +1,16 @@
 //! Sessions of one line: a client that does one thing after another, and a clock that goes on, that falls or that
 //! can't be read. What each command is answered, the model and the programs' runs show.
 
+mod refused;
+mod runs;
 mod scripted;
 
-use crate::runs::on_one_line;
 use bq_clients::settings::config;
 use bq_job::USUAL_BODY;
 use bq_line::clock::ScriptClock;
 use bq_line::line::MemLine;
 use bq_run_one::One;
+use runs::on_one_line;
 use scripted::{SCRIPTED, Scripted};
 use std::alloc::Global;
 use std::sync::Wait;

@@ -1,6 +1,6 @@
 //! Runs of one line that are refused.
 
-use crate::runs::on_one_line;
+use super::runs::on_one_line;
 use bq_clients::clients::{PUTS, ROOM, STILL};
 use bq_clients::refused::{REFUSED, Refused};
 use bq_clients::settings::config;

@@ -1,6 +1,6 @@
 //! A shelf of more entries than any usual queue has jobs.
 
-use crate::putting::put;
+use super::putting::put;
 use bq_index::Shelf;
 use std::test::Fail;
 

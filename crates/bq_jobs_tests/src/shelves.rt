@@ -1,0 +1,8 @@
+//! The tests of shelves.
+
+mod boxes;
+mod by_hand;
+mod comparisons;
+mod many_entries;
+mod putting;
+mod walks;
