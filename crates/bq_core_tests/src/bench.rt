@@ -45,9 +45,9 @@ pub(crate) fn config(seats: u16, max_job_size: u32) -> Config
 impl Bench {
     /// A new core of this configuration, where nobody is connected.
     pub(crate) fn new(alloc: Global, config: Config) -> Result<Bench, Fail> {
-        let core = Core::new(alloc, config)?;
         let outs = Outs::new(alloc, config.seats)?;
         let reader = RequestReader::new(alloc, 10)?;
+        let core = Core::new(alloc, config)?;
         Ok(Bench {
             alloc,
             core,

@@ -61,7 +61,13 @@ fn is_found(answer: &Option<(Seat, Answer)>, wanted: Option<JobId>) -> bool {
     }
 }
 
-// What the three peeks of the used tube find.
+// What one peek of the used tube finds.
+fn peek(bench: &mut Bench, turn: u32, request: Request, job: Option<JobId>) -> Result<(), Fail> {
+    bench.ask(0, request);
+    ended(is_found(&bench.answer(), job), turn)
+}
+
+// What the three peeks find.
 fn see(
     bench: &mut Bench,
     turn: u32,
@@ -69,12 +75,9 @@ fn see(
     delayed: Option<JobId>,
     buried: Option<JobId>,
 ) -> Result<(), Fail> {
-    bench.ask(0, Request::PeekReady);
-    ended(is_found(&bench.answer(), ready), turn)?;
-    bench.ask(0, Request::PeekDelayed);
-    ended(is_found(&bench.answer(), delayed), turn)?;
-    bench.ask(0, Request::PeekBuried);
-    ended(is_found(&bench.answer(), buried), turn)
+    peek(bench, turn, Request::PeekReady, ready)?;
+    peek(bench, turn, Request::PeekDelayed, delayed)?;
+    peek(bench, turn, Request::PeekBuried, buried)
 }
 
 fn see_job(bench: &mut Bench, turn: u32) -> Result<(), Fail> {

@@ -2,7 +2,7 @@
 
 use crate::putting::{job, put, tube};
 use bq_index::{BoxSource, NoMemory as Refused};
-use bq_job::{JobState, NoMemory, TubeName};
+use bq_job::{JobId, JobState, NoMemory, TubeName};
 use bq_jobs::Jobs;
 use std::alloc::Global;
 use std::mem::size_of_val;
@@ -27,17 +27,40 @@ impl BoxSource for Refusing {
     }
 }
 
+// Adds the jobs below an id, each to room of its own.
+fn fill(
+    rt: &impl Abort,
+    alloc: Global,
+    jobs: &mut Jobs,
+    name: TubeName,
+    end: JobId,
+) -> Result<(), Fail> {
+    for id in 0..end {
+        jobs.reserve_one(alloc)?;
+        assert!(rt; put(alloc, jobs, job(alloc, id, name, 0, JobState::Ready)?));
+    }
+    Ok(())
+}
+
+// Removes the jobs of these ids, and tells whether each was there.
+fn remove_all(jobs: &mut Jobs, first: JobId, end: JobId) -> bool {
+    let mut are_there = true;
+    for id in first..end {
+        are_there = jobs.remove(id).is_some() && are_there;
+    }
+    are_there
+}
+
 /// Whichever box is refused, the others are kept for the next call, which asks for those that are left.
 fn refuse_one(
     rt: &impl Abort,
     alloc: Global,
+    jobs: &mut Jobs,
     name: TubeName,
     refused: usize,
     left: usize,
 ) -> Result<(), Fail> {
-    let mut jobs = Jobs::new();
-    jobs.reserve_one(alloc)?;
-    assert!(rt; put(alloc, &mut jobs, job(alloc, 1, name, 0, JobState::Ready)?));
+    fill(rt, alloc, jobs, name, 1)?;
     let mut source = Refusing {
         heap: alloc,
         asked: 0,
@@ -45,21 +68,21 @@ fn refuse_one(
     };
     assert!(rt; jobs.reserve_one_from(&mut source) == Err(NoMemory));
     assert_eq!(rt; (source.asked, jobs.len(), jobs.room()), (refused, 1, 0));
-    assert_eq!(rt; jobs.first_ready(&name), Some(1));
+    assert_eq!(rt; jobs.first_ready(&name), Some(0));
     source.asked = 0;
     source.refused = 4;
     assert!(rt; jobs.reserve_one_from(&mut source).is_ok());
     assert_eq!(rt; (source.asked, jobs.room()), (left, 1));
-    assert!(rt; put(alloc, &mut jobs, job(alloc, 2, name, 0, JobState::Ready)?));
+    assert!(rt; put(alloc, jobs, job(alloc, 1, name, 0, JobState::Ready)?));
     Ok(())
 }
 
 #[test]
 fn each_box_refused_in_turn(rt: HostRuntime) -> Result<(), Fail> {
     let name = tube(&rt, "default");
-    refuse_one(&rt, rt.alloc(), name, 1, 3)?;
-    refuse_one(&rt, rt.alloc(), name, 2, 2)?;
-    refuse_one(&rt, rt.alloc(), name, 3, 1)
+    refuse_one(&rt, rt.alloc(), &mut Jobs::new(), name, 1, 3)?;
+    refuse_one(&rt, rt.alloc(), &mut Jobs::new(), name, 2, 2)?;
+    refuse_one(&rt, rt.alloc(), &mut Jobs::new(), name, 3, 1)
 }
 
 /// Gives back the room of as many jobs as there is room for, and tells of how many it went.
@@ -71,45 +94,37 @@ fn give_back_all(jobs: &mut Jobs) -> usize {
     before.saturating_sub(jobs.room())
 }
 
-/// After a peak the room goes back to the heap, three boxes for each job, but for that of the jobs there are.
-#[test]
-fn room_of_a_peak_given_back(rt: HostRuntime) -> Result<(), Fail> {
-    let name = tube(&rt, "default");
-    let mut jobs = Jobs::new();
-    for id in 0..200 {
-        jobs.reserve_one(rt.alloc())?;
-        assert!(rt;
-            put(
-                rt.alloc(),
-                &mut jobs,
-                job(rt.alloc(), id, name, 0, JobState::Ready)?
-            )
-        );
-    }
+// A peak of 200 jobs, of which 3 are left and then none.
+fn peak_passes(
+    rt: &impl Abort,
+    alloc: Global,
+    jobs: &mut Jobs,
+    name: TubeName,
+) -> Result<(), Fail> {
+    fill(rt, alloc, jobs, name, 200)?;
     jobs.give_back();
     assert_eq!(rt; (jobs.len(), jobs.room()), (200, 0));
-    for id in 3..200 {
-        assert!(rt; jobs.remove(id).is_some());
-    }
+    assert!(rt; remove_all(jobs, 3, 200));
     assert_eq!(rt; (jobs.len(), jobs.room()), (3, 197));
-    assert_eq!(rt; (give_back_all(&mut jobs), jobs.room()), (194, 3));
+    assert_eq!(rt; (give_back_all(jobs), jobs.room()), (194, 3));
     jobs.give_back();
     assert_eq!(rt; (jobs.len(), jobs.room()), (3, 3));
-    for id in 0..3 {
-        assert!(rt; jobs.remove(id).is_some());
-    }
-    assert_eq!(rt;
-        (give_back_all(&mut jobs), jobs.len(), jobs.room()),
-        (6, 0, 0)
-    );
+    assert!(rt; remove_all(jobs, 0, 3));
+    assert_eq!(rt; (give_back_all(jobs), jobs.len(), jobs.room()), (6, 0, 0));
     let mut source = Refusing {
-        heap: rt.alloc(),
+        heap: alloc,
         asked: 0,
         refused: 4,
     };
     assert!(rt; jobs.reserve_one_from(&mut source).is_ok());
     assert_eq!(rt; (source.asked, jobs.room()), (3, 1));
     Ok(())
+}
+
+/// After a peak the room goes back to the heap, three boxes for each job, but for that of the jobs there are.
+#[test]
+fn room_of_a_peak_given_back(rt: HostRuntime) -> Result<(), Fail> {
+    peak_passes(&rt, rt.alloc(), &mut Jobs::new(), tube(&rt, "default"))
 }
 
 /// A heap that notes how large the last three boxes are that it is asked for.

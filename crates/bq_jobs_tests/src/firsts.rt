@@ -3,6 +3,7 @@
 use crate::putting::{job, put, tube};
 use bq_job::{JobId, JobState, Pri, Seat};
 use bq_jobs::Jobs;
+use std::alloc::Global;
 use std::process::Abort;
 use std::test::Fail;
 
@@ -62,25 +63,30 @@ fn first_of(rt: &impl Abort, jobs: &mut Jobs, kind: Kind) -> Option<JobId> {
     }
 }
 
-#[test]
-fn first_of_each_kind(rt: HostRuntime) -> Result<(), Fail> {
-    let mut jobs = Jobs::new();
+// Adds the jobs of all rows.
+fn add_all(rt: &impl Abort, alloc: Global, jobs: &mut Jobs) -> Result<(), Fail> {
     for (id, name, pri, state) in JOBS {
-        jobs.reserve_one(rt.alloc())?;
-        assert!(rt;
-            put(
-                rt.alloc(),
-                &mut jobs,
-                job(rt.alloc(), *id, tube(&rt, name), *pri, *state)?
-            )
-        );
+        jobs.reserve_one(alloc)?;
+        assert!(rt; put(alloc, jobs, job(alloc, *id, tube(rt, name), *pri, *state)?));
     }
     assert!(rt; jobs.len() == 16);
+    Ok(())
+}
+
+// Looks for the first job of each kind.
+fn look(rt: &impl Abort, jobs: &mut Jobs) {
     for (kind, wanted) in FIRSTS {
         let before = jobs.comparisons();
-        assert!(rt; first_of(&rt, &mut jobs, *kind) == *wanted);
+        assert!(rt; first_of(rt, jobs, *kind) == *wanted);
         // What a look compares is counted; a tube without jobs isn't looked for among them.
         assert!(rt; jobs.comparisons() > before || wanted.is_none());
     }
+}
+
+#[test]
+fn first_of_each_kind(rt: HostRuntime) -> Result<(), Fail> {
+    let mut jobs = Jobs::new();
+    add_all(&rt, rt.alloc(), &mut jobs)?;
+    look(&rt, &mut jobs);
     Ok(())
 }

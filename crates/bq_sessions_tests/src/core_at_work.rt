@@ -1,5 +1,6 @@
 //! The core at work for ends that a test holds.
-ghost use Rattle.std.specs.Prelude.{◌≡◌, ◌+◌, ◌<◌, All, IfOk, false, length};
+ghost use Rattle.std.specs.Prelude.{◌≡◌, ◌+◌, ◌<◌, [], All, IfOk, false, length};
+ghost use Rattle.bq_core_work.specs.CoreWork.{IsNewRoom};
 ghost use Rattle.bq_job.specs.promise.History.{is_tick};
 ghost use Rattle.bq_link.specs.NewEnds.{IsNewCore};
 
@@ -8,6 +9,7 @@ use bq_clients::settings::config;
 use bq_core::{Core, Outs};
 use bq_core_work::core_work::{CoreRoom, core_work};
 use bq_job::{Answer, NoMemory, Request, Step, USUAL_BODY};
+use bq_line::clock::ScriptClock;
 use bq_link::{CoreEnd, Intake, NoTicks, SeatEnd, links};
 use std::alloc::{AllocError, Global};
 use std::sync::Wait;
@@ -66,17 +68,25 @@ struct CoreSide<'a> {
     ghost new_end: { IsNewCore 4 end },
 }
 
+// What a core for three seats works with beside its end.
+fn beside(alloc: Global) -> Result<(Outs, CoreRoom, ScriptClock), NoMemory>
+    ensures outs { IfOk result (λ b. (b.0.given ≡ []) × (3 < b.0.most)) }
+    ensures room { IfOk result (λ b. IsNewRoom 4 b.1) }
+{
+    let outs = Outs::new(alloc, 3)?;
+    let room = CoreRoom::new(alloc, 3)?;
+    Ok((outs, room, clock(alloc, STILL)?))
+}
+
 impl<'a> CoreSide<'a> {
     // Works until all ends are gone.
     fn work<R: Wait>(self, rt: &R, alloc: Global) -> Result<(), NoMemory> {
-        let CoreSide { intake, end } = self;
-        let outs = Outs::new(alloc, 3)?;
-        let room = CoreRoom::new(alloc, 3)?;
-        let clock = clock(alloc, STILL)?;
         let Ok(core) = Core::new(alloc, config(3, USUAL_BODY)) else {
             return Err(NoMemory);
         };
-        let (_end, _core, _clock) = core_work(rt, alloc, intake, end, core, outs, room, clock);
+        let (outs, room, clock) = beside(alloc)?;
+        let CoreSide { intake, end } = self;
+        drop(core_work(rt, alloc, intake, end, core, outs, room, clock));
         Ok(())
     }
 }
