@@ -75,6 +75,18 @@ fn has_mail(end: &mut SeatEnd, ids: Range<u64>) -> bool
     true
 }
 
+// The same, where each is taken once it is known to wait, and then none waits.
+fn has_known_mail(end: &mut SeatEnd, ids: Range<u64>) -> bool
+    ensures { IsSameSeat end.old end.new }
+{
+    for id in ids {
+        if !end.has_mail() || !is_inserted(Some(end.take_mail()), id) {
+            return false;
+        }
+    }
+    !end.has_mail()
+}
+
 // Whether its ring has room for four answers, and hands the fifth back.
 fn fills_ring(core: &mut CoreEnd) -> bool
     requires { 0 < length core.old.rings }
@@ -91,6 +103,6 @@ fn ring_by_hand(rt: HostRuntime) -> Result<(), Fail> {
     assert!(rt; core.left(&mut first) == 3);
     assert!(rt; has_mail(&mut first, 2..5) && first.mail().is_none());
     assert!(rt; core.left(&mut first) == 0);
-    assert!(rt; send_all(&mut core, 5..9));
+    assert!(rt; send_all(&mut core, 5..9) && has_known_mail(&mut first, 5..9));
     Ok(())
 }

@@ -1,0 +1,6 @@
+-- the end stays the same one
+use Rattle.bq_link.specs.EndStates.{IsSameSeat}
+use Rattle.bq_link_tests.proofs.by_hand.has_known_mail.Given as goal
+
+abbrev pub invariant-loop-id : goal.invariant-loop-id
+invariant-loop-id l = IsSameSeat l.fn.end l.end
