@@ -27,9 +27,6 @@ leaves_telling m n answer h less = record { keeps = h; waiting = omega arith }
 leaves_silent : (m n : Machine) → Keeps n → waiting_count n ≤ waiting_count m → Leaves m (silent n)
 leaves_silent m n h less = record { keeps = h; waiting = omega arith }
 
-leaves_itself : (m : Machine) → Keeps m → Leaves m (silent m)
-leaves_itself m h = leaves_silent m m h (omega arith)
-
 -- the seat is one of the machine's, and no other has its number
 record IsThere (m : Machine) (s : SeatRecord) : Type 0 where
   alone : All (λ t. t.number ≡ s.number → t ≡ s) m.seats
@@ -98,7 +95,7 @@ leaves_reserve until m s h there c = record {
 
 -- every kind of command
 leaves_kind : (request : Request) (m : Machine) (s : SeatRecord) {e : Effect} → Kind m s request e → Keeps m → IsThere m s → s.connected ≡ true → Leaves m e
-leaves_kind request m s (passes none) h there c = leaves_itself m h
+leaves_kind request m s (passes none) h there c = leaves_silent m m h (omega arith)
 leaves_kind request m s (tells answer one common unclosed) h there c = leaves_jobs m m answer h refl
 leaves_kind request m s (waits until one waiting) h there c = leaves_reserve until m s h there c
 leaves_kind request m s (adds pri delay ttr body one accepts free) h there c =
@@ -121,9 +118,6 @@ leaves_close : (m : Machine) (seat : ℕ) → Keeps m → Leaves m (telling answ
 leaves_close m seat h =
     leaves_telling m (after_close m seat) answers.Closed (kept_of_close (state_once_left m) seat (free_by_delay m.settings.requeue_delay m.moment) h) (no_more_wait seat (λ s. empty_seat s.number) m (λ s w. absurd cc))
 
-leaves_drain : (m : Machine) → Keeps m → Leaves m (silent (record m { draining = true }))
-leaves_drain m h = leaves_silent m (record m { draining = true }) (kept_of_drain h) (omega arith)
-
 there_of : (m : Machine) (seat : ℕ) (s : SeatRecord) → Keeps m → IsSeat m seat s → IsThere m s
 there_of m seat s h is = record {
   alone = all_weaker (λ t. t.number ≡ seat → t ≡ s) (λ t. t.number ≡ s.number → t ≡ s) m.seats (λ t only i. only (i ∙ is.number)) (only_seat 0 m.settings.seats seat m.seats s h.seated is.found);
@@ -133,10 +127,10 @@ there_of m seat s h is = record {
 -- every event
 pub leaves_effect : (m : Machine) (seat : ℕ) (what : Step) → Keeps m → Leaves m (effect m seat what)
 leaves_effect m seat what h = each_event m seat (λ what e. Leaves m e) (record {
-  nothing = λ what. leaves_itself m h;
+  nothing = λ what. (leaves_silent m m h (omega arith));
   connects = λ s is. leaves_connect m s.number h;
   asks = λ request s is c w. leaves_kind request m s (kind_of request m s) h (there_of m seat s h is) c;
   ends = λ s is. leaves_silent m (with_seat s.number with_end m) (kept_of_quiet_seat s.number with_end m h (λ t. refl) (λ t. refl) (λ t. refl)) (no_more_wait s.number with_end m (λ t w. w));
   closes = λ s is. leaves_close m s.number h;
-  drains = leaves_drain m h;
+  drains = leaves_silent m (record m { draining = true }) (kept_of_drain h) (omega arith);
 }) what

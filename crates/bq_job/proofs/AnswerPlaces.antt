@@ -1,12 +1,12 @@
 -- Where in a step's answers each RESERVED, INSERTED and DELETED stands, and what is so then.
 use Rattle.std.proofs.Common.{ℕ, ◌≡◌, Bool, true, false, not, List, [], ◌∷◌, ◌++◌, arith, refl, sym, ap, ◌∙◌, subst, inl, inr, ◌⊎◌, Option, Some, None, append-nil}
-use Rattle.std.proofs.lemmas.{Bool.{both_ways, cases_Bool, cond_both, or_from, Decides.nat_tests}, Grind.common_steps}
+use Rattle.std.proofs.lemmas.{Bool.{both_ways, cases_Bool, or_from}, Grind.common_steps}
 use Rattle.std.proofs.lemmas.List.{Elements.Contains-append_cases, Folds.list_any-append}
 use Rattle.std.specs.{List.{AllByRecursion as All, Contains}, Prelude.{◌==◌, IsTrue, filter, flat_map}}
-use Rattle.bq_job.specs.machine.{Chain, DispatchTurn, Dispatches, Effect, GivenAnswer, IsHandOut, IsStep, Machine.Machine, Memory, Outcome}
-use Rattle.bq_job.specs.machine.{SeatRecord, Serves, WaitEndTurn, acted, addressed, after_timers, at_moment, end_of_wait, forgetting}
+use Rattle.bq_job.specs.machine.{Chain, DispatchTurn, Dispatches, Effect, GivenAnswer, IsStep, Machine.Machine, Memory, Outcome}
+use Rattle.bq_job.specs.machine.{Serves, WaitEndTurn, acted, addressed, after_timers, at_moment, forgetting}
 use Rattle.bq_job.specs.laws.{GivesLeast, IsDeletion, IsDispatchedLeast, IsReservedById, has_inserted, is_inserted}
-use Rattle.bq_job.specs.machine.{is_deadline_soon, is_held_by, is_possible, is_reserved, job_with, last_id}
+use Rattle.bq_job.specs.machine.{is_held_by, is_possible, is_reserved, job_with, last_id}
 use Rattle.bq_job.specs.{promise.{GoesBy, IsTransition, Parts, Transition, parts_of}, Types.{Answer, Job, Step}}
 use Rattle.bq_job.specs.declared.answer.Answer.TheVariants as answers
 use Rattle.bq_job.specs.declared.request.Request.TheVariants as requests
@@ -29,13 +29,7 @@ pub record InSecond {X : Type 0} (xs ys early : List X) (x : X) (more : List X) 
 pub split_at : {X : Type 0} (xs ys early : List X) (x : X) (more : List X) → xs ++ ys ≡ early ++ x ∷ more → InFirst xs ys early x more ⊎ InSecond xs ys early x more
 split_at [] ys early x more e = inr (record { begin = early; early_is = refl; second_is = e })
 split_at (z ∷ xs) ys [] x more e = inl (record { rest = xs; first_is = (let same : z ≡ x = (cc) in ap (λ y. y ∷ xs) same); more_is = (cc) })
-split_at (z ∷ xs) ys (w ∷ early) x more e =
-    let same : z ≡ w = (cc) in
-    let rest : xs ++ ys ≡ early ++ x ∷ more = (cc) in
-    elim (split_at xs ys early x more rest) [
-      | inl i ↦ inl (record { rest = i.rest; first_is = subst (λ v. z ∷ xs ≡ v ∷ (early ++ x ∷ i.rest)) same (ap (λ ys. z ∷ ys) i.first_is); more_is = i.more_is })
-      | inr i ↦ inr (record { begin = i.begin; early_is = subst (λ v. v ∷ early ≡ z ∷ (xs ++ i.begin)) same (ap (λ ys. z ∷ ys) i.early_is); second_is = i.second_is })
-    ]
+split_at (z ∷ xs) ys (w ∷ early) x more e = grind (arith, common_steps, split_at xs ys early x more)
 
 all_in_place : {X : Type 0} (P : X → Type 0) (xs early : List X) (x : X) (more : List X) → xs ≡ early ++ x ∷ more → All P xs → P x
 all_in_place {X = X} P xs early x more e h = go early (subst (All P) e h)
@@ -48,13 +42,10 @@ all_in_place {X = X} P xs early x more e h = go early (subst (All P) e h)
 abbrev AreCommon : List GivenAnswer → Type 0
 AreCommon given = All (λ g. is_common (Some g.1) ≡ true) given
 
-common_end : (m : Machine) (s : SeatRecord) → is_common (Some (end_of_wait m s)) ≡ true
-common_end m s = cond_both (is_deadline_soon m s) answers.DeadlineSoon answers.TimedOut (λ a. is_common (Some a) ≡ true) (λ e. refl) (λ e. refl)
-
 ends_are_common : (m : Machine) (given : List GivenAnswer) (n : Machine) → Chain WaitEndTurn m given n → AreCommon given
 ends_are_common m [] n chain = tt
 ends_are_common m (g ∷ given) n chain =
-    grind (arith, common_steps, end_of, common_end, ends_are_common chain.0 given n chain.2)
+    grind (arith, common_steps, end_of, ends_are_common chain.0 given n chain.2)
 
 -- and dispatch only RESERVED and OUT_OF_MEMORY.
 abbrev is_of_dispatch : Answer → Bool
@@ -65,13 +56,10 @@ is_of_dispatch _ = false
 abbrev AreOfDispatch : List GivenAnswer → Type 0
 AreOfDispatch given = All (λ g. is_of_dispatch g.1 ≡ true) given
 
-hand_out_answers : (m : Machine) (j : Job) (s : SeatRecord) (g : GivenAnswer) (n : Machine) → IsHandOut m j s g n → (is_of_dispatch g.1 ≡ true) × (n.draining ≡ m.draining)
-hand_out_answers m j s g n h = grind (arith, common_steps, cases_Bool)
-
 turns_answer : (m : Machine) (given : List GivenAnswer) (n : Machine) → Chain DispatchTurn m given n → AreOfDispatch given × (n.draining ≡ m.draining)
 turns_answer m [] n chain = (tt, ap (λ (l : Machine). l.draining) chain)
 turns_answer m (g ∷ given) n chain =
-    grind (arith, common_steps, turn_of, hand_out_answers, turns_answer chain.0 given n chain.2)
+    grind (arith, common_steps, turn_of, turns_answer chain.0 given n chain.2)
 
 ends_keep_draining : (m : Machine) (given : List GivenAnswer) (n : Machine) → Chain WaitEndTurn m given n → n.draining ≡ m.draining
 ends_keep_draining m [] n chain = ap (λ (l : Machine). l.draining) chain
@@ -180,27 +168,20 @@ step_of_run first (t ∷ taken) last goes = (goes.1, step_of_run t.last taken la
 pub run_gives_least : (first : Machine) (taken : List Transition) (last : Machine) (t : Transition) → GoesBy first taken last → Contains taken t → GivesLeast t
 run_gives_least first taken last t goes i = transition_gives_least t (all_at IsTransition taken t (step_of_run first taken last goes) i)
 
--- Once draining no answer is INSERTED.
-of_dispatch_not_inserted : (a : Answer) → is_of_dispatch a ≡ true → is_inserted a ≡ false
-of_dispatch_not_inserted a e = grind (arith, common_steps, cases_Bool)
-
 none_in_dispatch : (given : List GivenAnswer) → AreOfDispatch given → has_inserted given ≡ false
 none_in_dispatch [] h = refl
 none_in_dispatch (g ∷ given) h =
-    or_from (is_inserted g.1) (has_inserted given) (of_dispatch_not_inserted g.1 h.0) (none_in_dispatch given h.1)
-
-common_not_inserted : (a : Answer) → is_common (Some a) ≡ true → is_inserted a ≡ false
-common_not_inserted a e = grind (arith, common_steps, cases_Bool)
+    or_from (is_inserted g.1) (has_inserted given) (grind (arith, common_steps, cases_Bool)) (none_in_dispatch given h.1)
 
 none_in_ends : (given : List GivenAnswer) → AreCommon given → has_inserted given ≡ false
 none_in_ends [] h = refl
-none_in_ends (g ∷ given) h = or_from (is_inserted g.1) (has_inserted given) (common_not_inserted g.1 h.0) (none_in_ends given h.1)
+none_in_ends (g ∷ given) h = or_from (is_inserted g.1) (has_inserted given) (grind (arith, common_steps, cases_Bool)) (none_in_ends given h.1)
 
 none_joined : (xs ys : List GivenAnswer) → has_inserted xs ≡ false → has_inserted ys ≡ false → has_inserted (xs ++ ys) ≡ false
 none_joined xs ys h i = list_any-append (λ (g : GivenAnswer). is_inserted g.1) xs ys ∙ or_from (has_inserted xs) (has_inserted ys) h i
 
 own_none : (m : Machine) (seat : ℕ) (what : Step) (e : Effect) → Tells m seat what e → m.draining ≡ true → has_inserted (addressed seat e.answer) ≡ false
-own_none m seat what e tells d = grind (arith, common_steps, or_from, common_not_inserted, both_ways)
+own_none m seat what e tells d = grind (arith, common_steps, or_from, both_ways)
 
 -- what is so of a step that begins while draining, and of one whose command begins it
 pub record StaysDraining (given : List GivenAnswer) (last : Machine) : Type 0 where
@@ -240,10 +221,6 @@ none_after_drain first [] t more last goes drains =
     none_joined t.given (flat_map (λ (t : Transition). t.given) more) s.none (none_while_draining t.last more last goes.2 s.draining)
 none_after_drain first (u ∷ early) t more last goes drains = none_after_drain u.last early t more last goes.2 drains
 
--- the answers of a step after the last id
-last_id_drains : (m : Machine) (seat : ℕ) (what : Step) (e : Effect) → Tells m seat what e → e.answer ≡ Some (answers.Inserted last_id) → e.machine.draining ≡ true
-last_id_drains m seat what e h is = grind (arith, common_steps, cases_Bool, common_not, nat_tests)
-
 dispatch_not_inserted : (id : ℕ) → is_of_dispatch (answers.Inserted id) ≡ true → ⊥
 dispatch_not_inserted id e = cc
 
@@ -254,9 +231,8 @@ after_last_at first last at seat what outcome given s early by more (in_handed r
 after_last_at first last at seat what outcome given s early by more (in_ended begin rest e) =
     absurd (common_not (answers.Inserted last_id) refl (all_in_place (λ g. is_common (Some g.1) ≡ true) s.ended begin (by, answers.Inserted last_id) rest e (serves_answers (forgetting (after_timers (at_moment at first))) s.handed s.ended s.before s.serves).by_ends))
 after_last_at first last at seat what outcome given s early by more (in_own begin rest place e more_is) =
-    let o = own_place seat (acted s.memory s.before seat what).answer begin (by, answers.Inserted last_id) rest e in
     let b = serves_answers s.after s.handed_then s.ended_then last s.serves_then in
-    grind (arith, common_steps, last_id_drains, tells_acted, none_joined, none_in_dispatch, none_in_ends)
+    grind (arith, common_steps, tells_acted, none_joined, none_in_dispatch, none_in_ends, own_place)
 after_last_at first last at seat what outcome given s early by more (in_handed_then begin rest place e) =
     absurd (dispatch_not_inserted last_id (all_in_place (λ g. is_of_dispatch g.1 ≡ true) s.handed_then begin (by, answers.Inserted last_id) rest e (serves_answers s.after s.handed_then s.ended_then last s.serves_then).by_dispatch))
 after_last_at first last at seat what outcome given s early by more (in_ended_then begin rest e) =
@@ -288,9 +264,6 @@ record Deletes (m : Machine) (seat : ℕ) (what : Step) (e : Effect) : Type 0 wh
 deletes : (m : Machine) (seat : ℕ) (what : Step) (e : Effect) → Tells m seat what e → e.answer ≡ Some answers.Deleted → Deletes m seat what e
 deletes m seat what e h is = grind (arith, common_steps, cases_Bool, common_not)
 
-of_dispatch_not_deleted : is_of_dispatch answers.Deleted ≡ true → ⊥
-of_dispatch_not_deleted e = cc
-
 own_contains : (seat by : ℕ) (answer : Answer) (o : Option Answer) → Contains (addressed seat o) (by, answer) → (seat ≡ by) × (o ≡ Some answer)
 own_contains seat by answer o i = grind (arith, common_steps, cases_Bool, all_at)
 
@@ -321,10 +294,8 @@ deletion_of t is seat i =
     let own = own_answers t s.memory s.before in
     let a = serves_answers (forgetting (after_timers (at_moment t.entry.moment t.first))) s.handed s.ended s.before s.serves in
     let b = serves_answers s.after s.handed_then s.ended_then t.last s.serves_then in
-    let dispatched : (given : List GivenAnswer) → AreOfDispatch given → Contains given (seat, answers.Deleted) → ⊥ =
-    λ given h c. of_dispatch_not_deleted (all_at (λ g. is_of_dispatch g.1 ≡ true) given (seat, answers.Deleted) h c) in
-    let ended : (given : List GivenAnswer) → AreCommon given → Contains given (seat, answers.Deleted) → ⊥ =
-    λ given h c. common_not answers.Deleted refl (all_at (λ g. is_common (Some g.1) ≡ true) given (seat, answers.Deleted) h c) in
+    let dispatched : (given : List GivenAnswer) → AreOfDispatch given → Contains given (seat, answers.Deleted) → ⊥ = grind (arith, common_steps, all_at) in
+    let ended : (given : List GivenAnswer) → AreCommon given → Contains given (seat, answers.Deleted) → ⊥ = grind (arith, common_steps, common_not, all_at) in
     let at : Contains own (seat, answers.Deleted) =
     elim (Contains-append_cases (s.handed ++ s.ended ++ own ++ s.handed_then) s.ended_then (seat, answers.Deleted) (subst (λ gs. Contains gs (seat, answers.Deleted)) s.answers_are i)) [
       | inl c ↦ elim (Contains-append_cases (s.handed ++ s.ended ++ own) s.handed_then (seat, answers.Deleted) c) [

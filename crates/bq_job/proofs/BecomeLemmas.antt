@@ -1,11 +1,11 @@
 -- What becomes of a job that a command changes: who held it, and what is told of it.
-use Rattle.std.proofs.Common.{ℕ, zero, suc, ◌≡◌, Bool, true, false, ◌||◌, cond, List, [], ◌∷◌, sym, ap, ◌∙◌, refl, subst, inl, inr, Some, arith}
+use Rattle.std.proofs.Common.{ℕ, zero, suc, ◌≡◌, Bool, true, false, ◌||◌, cond, List, [], ◌∷◌, refl, Some, arith}
 use Rattle.std.proofs.lemmas.Bool.{and_parts, or_cases, or_left, or_right, cond_both, eqb-true, eq-eqb, cases_Bool}
 use Rattle.std.proofs.lemmas.Grind.{common_steps}
 use Rattle.std.specs.{List.{AllByRecursion as All, Contains, list_any}, Prelude.{◌==◌, filter, take}}
 use Rattle.bq_job.specs.machine.{delayed_by, in_order, is_buried, is_buried_before, is_buried_in, is_delayed}
-use Rattle.bq_job.specs.machine.{is_held_by, is_ready, is_ready_state, is_reserved, job_with, kickable, kicked_first, later}
-use Rattle.bq_job.specs.{beside.AreIdsWithin, laws.{Happening, change, disturbs, given_up, named, taken_up}}
+use Rattle.bq_job.specs.machine.{is_held_by, is_ready, is_reserved, job_with, kickable, kicked_first, later}
+use Rattle.bq_job.specs.{beside.AreIdsWithin, laws.{Happening, change, disturbs, given_up, named}}
 use Rattle.bq_job.specs.{machine.put_in_order, reading.TubeName.is_same_name, Types.{Job, JobState, Step}}
 use Rattle.bq_job.specs.declared.job.JobState.TheVariants as states
 use Rattle.bq_job.proofs.{ChangeLemmas.{Becomes, becomes_itself}, ListLemmas.{all_from_members, all_of_filter}}
@@ -24,10 +24,6 @@ put_aside_not_held s h i = grind (arith, common_steps, cases_Bool)
 -- A held job that its holder gives up is told of,
 pub told_if_given_up : (what : Step) (id : ℕ) (before after : JobState) → is_reserved before ≡ true → is_reserved after ≡ false → list_any (disturbs id) (given_up what id) ≡ true → list_any (disturbs id) (change what id before after) ≡ true
 told_if_given_up what id before after held free told = grind (arith, common_steps, cases_Bool)
-
--- and so is a ready one that somebody takes.
-pub told_if_taken : (what : Step) (id : ℕ) (before : JobState) (seat deadline : ℕ) → is_ready_state before ≡ true → list_any (disturbs id) (taken_up what id) ≡ true → list_any (disturbs id) (change what id before (states.Reserved seat deadline)) ≡ true
-told_if_taken what id before seat deadline ready told = grind (arith, common_steps, cases_Bool)
 
 pub itself_told : (id : ℕ) → ((id == id) || false) ≡ true
 itself_told id = or_left (id == id) false (eq-eqb id id refl)
@@ -71,13 +67,7 @@ kickable_aside tube jobs next ids =
 pub chosen_not_held : (jobs chosen : List Job) (j : Job) → job_with j.id jobs ≡ Some j → All (IsAside jobs) chosen → list_any (λ k. k.id == j.id) chosen ≡ true → is_reserved j.state ≡ true → ⊥
 chosen_not_held jobs [] j found h any held = absurd cc
 chosen_not_held jobs (k ∷ chosen) j found h any held =
-    elim (or_cases (k.id == j.id) (list_any (λ k. k.id == j.id) chosen) any) [
-      | inl e ↦
-          let both : Some k ≡ Some j = sym h.0.0 ∙ ap (λ id. job_with id jobs) (eqb-true k.id j.id e) ∙ found in
-          let same : k ≡ j = (cc) in
-          h.0.1 (subst (λ (l : Job). is_reserved l.state ≡ true) (sym same) held)
-      | inr e ↦ chosen_not_held jobs chosen j found h.1 e held
-    ]
+    grind (arith, common_steps, or_cases, eqb-true, chosen_not_held jobs chosen j)
 
 -- Where the job of one id changes, each job of the list becomes what it may.
 pub one_becomes : (what : Step) (id : ℕ) (f : Job → Job) (jobs : List Job) (next : ℕ) (j : Job) → AreIdsWithin 1 jobs next → job_with id jobs ≡ Some j → Becomes what j (f j) → (k : Job) → Contains jobs k → Becomes what k (cond (k.id == id) (f k) k)

@@ -4,10 +4,10 @@ use Rattle.std.proofs.lemmas.Bool.{or_left, or_right, or_cases, both_ways, cond_
 use Rattle.std.proofs.{Common.map-id, lemmas.{Grind.common_steps, List.Folds.list_any-append}}
 use Rattle.std.specs.Prelude.{filter, flat_map, is_none, option_map, ◌==◌}
 use Rattle.std.specs.List.{AllByRecursion as All, Contains, list_any}
-use Rattle.bq_job.specs.{beside.AreIdsWithin, laws.{Happening, change, change_or_removal, changes, deleted, disturbs}}
-use Rattle.bq_job.specs.{laws.{given_up, named, put, removed, taken_up}, machine.{is_full, is_ready, is_reserved}}
-use Rattle.bq_job.specs.{machine.{job_with, Machine.Machine}, Types.{Job, JobState, Step}}
-use Rattle.bq_job.proofs.JobMoves.{Fate, GoesOnAs, Move, quiet, putting, is_plain}
+use Rattle.bq_job.specs.{beside.AreIdsWithin, laws.{change, change_or_removal, changes, deleted, disturbs}}
+use Rattle.bq_job.specs.{laws.removed, machine.{is_full, is_ready, is_reserved}}
+use Rattle.bq_job.specs.{machine.{job_with, Machine.Machine}, Types.{Job, Step}}
+use Rattle.bq_job.proofs.JobMoves.{Fate, Move, quiet, putting, is_plain}
 use Rattle.bq_job.proofs.ListLemmas.{all_from_members, all_of_append, all_of_filter, all_of_map, all_weaker, list_any_with}
 use Rattle.bq_job.proofs.LookupLemmas.{found_job, job_found, job_in_map, job_in_more, job_in_rest}
 
@@ -36,36 +36,10 @@ unchanged what limit jobs next = changed (λ j. j) (sym (map-id jobs)) refl (λ 
 any_in_parts : {X Y : Type 0} (p : Y → Bool) (g : X → List Y) (xs : List X) → list_any (λ x. list_any p (g x)) xs ≡ true → list_any p (flat_map g xs) ≡ true
 any_in_parts p g [] h = h
 any_in_parts p g (x ∷ xs) h =
-    list_any-append p (g x) (flat_map g xs)
-    ∙ elim (or_cases (list_any p (g x)) (list_any (λ x. list_any p (g x)) xs) h) [
-      | inl e ↦ or_left (list_any p (g x)) (list_any p (flat_map g xs)) e
-      | inr e ↦ or_right (list_any p (g x)) (list_any p (flat_map g xs)) (any_in_parts p g xs e)
-    ]
-
--- what became of one job is told
-told_of_job : (p : Happening → Bool) (what : Step) (before after : List Job) (j : Job) → Contains before j → list_any p (change_or_removal what j (job_with j.id after)) ≡ true → list_any p (changes what before after) ≡ true
-told_of_job p what before after j i h = grind (arith, common_steps, list_any-append, or_left, any_in_parts, list_any_with)
-
-plain_named : (other id : ℕ) (h : Happening) → is_plain h ≡ true → All (λ h. is_plain h ≡ true) (named other id h)
-plain_named other id h p = cond_both (other == id) (h ∷ []) [] (All (λ h. is_plain h ≡ true)) (λ e. (p, tt)) (λ e. tt)
-
-plain_given_up : (what : Step) (id : ℕ) → All (λ h. is_plain h ≡ true) (given_up what id)
-plain_given_up what id = grind (arith, common_steps, cases_Bool, plain_named)
-
-plain_taken_up : (what : Step) (id : ℕ) → All (λ h. is_plain h ≡ true) (taken_up what id)
-plain_taken_up what id = grind (arith, common_steps, cases_Bool, plain_named)
-
-plain_removed : (what : Step) (id : ℕ) → All (λ h. is_plain h ≡ true) (removed what id)
-plain_removed what id = grind (arith, common_steps, cases_Bool, plain_named)
-
-plain_change : (what : Step) (id : ℕ) (before after : JobState) → All (λ h. is_plain h ≡ true) (change what id before after)
-plain_change what id before after = grind (arith, common_steps, cases_Bool, plain_given_up, plain_taken_up)
-
-no_change : (what : Step) (id : ℕ) (state : JobState) → change what id state state ≡ []
-no_change what id state = grind (arith, common_steps, cases_Bool)
+    grind (arith, common_steps, list_any-append, or_cases, or_left, or_right, any_in_parts p g xs)
 
 plain_change_or_removal : (what : Step) (j : Job) (o : Option Job) → All (λ h. is_plain h ≡ true) (change_or_removal what j o)
-plain_change_or_removal what j o = grind (arith, common_steps, cases_Bool, plain_removed, plain_change)
+plain_change_or_removal what j o = grind (arith, common_steps, cases_Bool)
 
 all_of_parts : {X Y : Type 0} (P : Y → Type 0) (g : X → List Y) (xs : List X) → ((x : X) → All P (g x)) → All P (flat_map g xs)
 all_of_parts P g [] h = tt
@@ -106,7 +80,7 @@ changed_fate what before after f id (Some j) e g becomes =
     let b = becomes j found.1 in
     let here : job_with j.id after ≡ Some (f j) = subst (λ n. job_with n after ≡ Some (f j)) (sym found.0) g in
     let disturbed : list_any (disturbs j.id) (change what j.id j.state (f j).state) ≡ true → list_any (disturbs id) (changes what before after) ≡ true =
-    λ h. subst (λ n. list_any (disturbs n) (changes what before after) ≡ true) found.0 (told_of_job (disturbs j.id) what before after j found.1 (ap (λ o. list_any (disturbs j.id) (change_or_removal what j o)) here ∙ h)) in
+    λ h. subst (λ n. list_any (disturbs n) (changes what before after) ≡ true) found.0 (grind (arith, common_steps, list_any-append, or_left, any_in_parts, list_any_with)) in
     record {
       same = b.id;
       tube = b.tube;
@@ -121,12 +95,9 @@ changed_fate what before after f id (Some j) e g becomes =
       ];
     }
 
-goes_on_as_itself : (id : ℕ) (j : Job) (happened : List Happening) → GoesOnAs id j j happened
-goes_on_as_itself id j happened = record { same = refl; tube = refl; body = refl; ready = λ h still. (h, refl); held = λ h still. h }
-
 removed_fate : (what : Step) (before after : List Job) (gone id : ℕ) (o : Option Job) → removed what gone ≡ deleted gone ∷ [] → job_with id before ≡ o → job_with id after ≡ cond (id == gone) None o → Fate id (changes what before after) o (cond (id == gone) None o)
 removed_fate what before after gone id o told e g =
-    grind (arith, common_steps, cond_both, id, found_job, told_of_job, eqb-true, or_left, eq-eqb, goes_on_as_itself)
+    grind (arith, common_steps, cond_both, id, found_job, list_any-append, any_in_parts, list_any_with, eqb-true, or_left, eq-eqb)
 
 -- A command is a move: quiet, or a put.
 pub move_of_jobs : (what : Step) (m n : Machine) → AreIdsWithin 1 m.jobs m.next_id → JobsAfter what m.settings.max_jobs m.jobs m.next_id n.jobs n.next_id → Move m (changes what m.jobs n.jobs) n
@@ -141,32 +112,13 @@ move_of_jobs what m n ids (changed f after next same becomes) =
       fates = λ id. subst (Fate id (changes what m.jobs n.jobs) (job_with id m.jobs)) (sym (lookup id)) (changed_fate what m.jobs n.jobs f id (job_with id m.jobs) refl (lookup id) becomes);
     })
 move_of_jobs what m n ids (removed_one gone told after next) =
-    let lookup : (id : ℕ) → job_with id n.jobs ≡ cond (id == gone) None (job_with id m.jobs) = λ id. ap (job_with id) after ∙ job_in_rest gone id m.jobs in
-    quiet (record {
-      next = next;
-      plain = plain_changes what m.jobs n.jobs
-          (subst (All (λ j. is_none (job_with j.id m.jobs) ≡ false)) (sym after)
-          (all_weaker (λ j. (is_none (job_with j.id m.jobs) ≡ false) × (not (j.id == gone) ≡ true)) (λ j. is_none (job_with j.id m.jobs) ≡ false) (filter (λ k. not (k.id == gone)) m.jobs) (λ j c. c.0)
-          (all_of_filter (λ j. is_none (job_with j.id m.jobs) ≡ false) (λ k. not (k.id == gone)) m.jobs (were_there m.jobs m.next_id ids))));
-      fates = λ id. subst (Fate id (changes what m.jobs n.jobs) (job_with id m.jobs)) (sym (lookup id)) (removed_fate what m.jobs n.jobs gone id (job_with id m.jobs) told refl (lookup id));
-    })
+    grind (arith, common_steps, job_in_rest, quiet, plain_changes, all_weaker, all_of_filter, were_there, removed_fate)
 move_of_jobs what m n ids (added j after next is at_once free) =
     let silent : All (λ k. change_or_removal what k (job_with k.id n.jobs) ≡ []) m.jobs =
     all_from_members (λ k. change_or_removal what k (job_with k.id n.jobs) ≡ []) m.jobs (λ k i.
     let found = job_found 1 m.next_id m.jobs k ids i in
     let less = found.1 in
     let other : (j.id == k.id) ≡ false = false_from_ne_true (j.id == k.id) (λ t. let at = eqb-true j.id k.id t in absurd (omega arith)) in
-    ap (λ o. change_or_removal what k o) (ap (job_with k.id) after ∙ job_in_more k.id m.jobs j other ∙ found.0) ∙ no_change what k.id k.state) in
-    let new : filter (λ k. is_none (job_with k.id m.jobs)) n.jobs ≡ j ∷ [] =
-    ap (filter (λ k. is_none (job_with k.id m.jobs))) after
-    ∙ last_kept (λ k. is_none (job_with k.id m.jobs)) m.jobs j (were_there m.jobs m.next_id ids) (ap is_none (ap (λ id. job_with id m.jobs) is ∙ none_at 1 m.next_id m.jobs ids)) in
-    putting (record {
-      job = j;
-      happened_is = ap (λ hs. hs ++ map put (filter (λ k. is_none (job_with k.id m.jobs)) n.jobs)) (none_of_parts (λ k. change_or_removal what k (job_with k.id n.jobs)) m.jobs silent)
-          ∙ ap (λ ks. map put ks) new;
-      id = is;
-      next = next;
-      jobs = after;
-      ids = subst (AreIdsWithin 1 m.jobs) (sym is) ids;
-      at_once = at_once;
-    })
+    ap (λ o. change_or_removal what k o) (ap (job_with k.id) after ∙ job_in_more k.id m.jobs j other ∙ found.0) ∙ (grind (arith, common_steps, cases_Bool))) in
+    let new : filter (λ k. is_none (job_with k.id m.jobs)) n.jobs ≡ j ∷ [] = grind (arith, common_steps, last_kept, were_there, none_at) in
+    putting (grind (arith, common_steps, none_of_parts))

@@ -1,6 +1,6 @@
 -- The first of those that pass a test: it is one of the list, it passes, and none that passes comes before it.
 use Rattle.std.proofs.Common.{◌||◌, ◌∙◌, ◌∷◌, ◌≡◌, ◌⊎◌, Bool, List, None, Option, Some, [], ℕ, ap, arith, false, inl, inr, refl, subst, sym, true}
-use Rattle.std.proofs.{Common.◌==◌, lemmas.Bool.{and_cases, and_parts, both_ways, cases_Bool, Decides.nat_tests}}
+use Rattle.std.proofs.{Common.◌==◌, lemmas.Bool.{and_parts, cases_Bool, Decides.nat_tests}}
 use Rattle.std.proofs.lemmas.{Grind.common_steps, List.Elements.{All-contains, All-from_recursion}}
 use Rattle.std.proofs.{lemmas.List.Folds.list_any-from_Any, Math.Bool.or_assoc}
 use Rattle.std.specs.{Cmp.IsStrictWeakOrder, List.{AllByRecursion, Contains, list_any}, Prelude.{IfSome, fold, is_some}}
@@ -20,38 +20,21 @@ abbrev IsNotAfter : {X : Type 0} → (X → X → Bool) → Option X → X → T
 IsNotAfter before None z = Unit {0}
 IsNotAfter before (Some b) z = before b z ≡ false
 
--- nothing comes before itself
-pub not_before_itself : {X : Type 0} {before : X → X → Bool} (order : IsStrictWeakOrder before) (x : X) → before x x ≡ false
-not_before_itself order x = grind (arith, order.one_way, cases_Bool)
-
-better_is_least : {X : Type 0} (passes : X → Bool) {before : X → X → Bool} (order : IsStrictWeakOrder before) (best : Option X) (x z : X) → IsNotAfter before (better_of passes before best x) z → IsNotAfter before best z × (passes x ≡ true → before x z ≡ false)
-better_is_least passes order best x z h = grind (arith, common_steps, cases_Bool, and_parts, and_cases, both_ways)
-
 -- Nothing in the list that passes comes before the one that is chosen, nor did the best one so far.
 fold_is_least : {X : Type 0} (passes : X → Bool) {before : X → X → Bool} (order : IsStrictWeakOrder before) (best : Option X) (xs : List X) (z : X) → fold (better_of passes before) best xs ≡ Some z → IsNotAfter before best z × AllByRecursion (λ y. passes y ≡ true → before y z ≡ false) xs
-fold_is_least passes {before = before} order best [] z h = (subst (λ b. IsNotAfter before b z) (sym h) (not_before_itself order z), tt)
+fold_is_least passes {before = before} order best [] z h = (subst (λ b. IsNotAfter before b z) (sym h) (grind (arith, order.one_way, cases_Bool)), tt)
 fold_is_least passes {before = before} order best (x ∷ xs) z h =
-    let rest = fold_is_least passes order (better_of passes before best x) xs z h in
-    let here = better_is_least passes order best x z rest.0 in
-    (here.0, (here.1, rest.1))
-
--- the same of the choice among the whole list, by recursion on it
-pub first_of_least : {X : Type 0} (passes : X → Bool) {before : X → X → Bool} (order : IsStrictWeakOrder before) (xs : List X) (z : X) → first_of passes before xs ≡ Some z → AllByRecursion (λ y. passes y ≡ true → before y z ≡ false) xs
-first_of_least passes order xs z h = (fold_is_least passes order None xs z h).1
+    grind (arith, common_steps, fold_is_least passes order (better_of passes before best x) xs z h)
 
 -- nobody that passes comes before the chosen one
 pub first_of_is_least : {X : Type 0} (passes : X → Bool) {before : X → X → Bool} (order : IsStrictWeakOrder before) (xs : List X) (z y : X) → first_of passes before xs ≡ Some z → Contains xs y → passes y ≡ true → before y z ≡ false
 first_of_is_least passes {before = before} order xs z y h i p =
     All-contains (λ y. passes y ≡ true → before y z ≡ false) xs y
-    (All-from_recursion (λ y. passes y ≡ true → before y z ≡ false) xs (first_of_least passes order xs z h)) i p
-
--- The chosen one passes, as the best one so far did.
-better_passes : {X : Type 0} (passes : X → Bool) (before : X → X → Bool) (best : Option X) (x : X) → IfSome best (λ b. passes b ≡ true) → IfSome (better_of passes before best x) (λ b. passes b ≡ true)
-better_passes passes before best x h = grind (arith, common_steps, cases_Bool, and_parts)
+    (All-from_recursion (λ y. passes y ≡ true → before y z ≡ false) xs ((fold_is_least passes order None xs z h).1)) i p
 
 fold_passes : {X : Type 0} (passes : X → Bool) (before : X → X → Bool) (best : Option X) (xs : List X) → IfSome best (λ b. passes b ≡ true) → IfSome (fold (better_of passes before) best xs) (λ b. passes b ≡ true)
 fold_passes passes before best [] h = h
-fold_passes passes before best (x ∷ xs) h = fold_passes passes before (better_of passes before best x) xs (better_passes passes before best x h)
+fold_passes passes before best (x ∷ xs) h = fold_passes passes before (better_of passes before best x) xs (grind (arith, common_steps, cases_Bool, and_parts))
 
 -- the chosen one passes
 pub first_of_passes : {X : Type 0} (passes : X → Bool) (before : X → X → Bool) (xs : List X) (z : X) → first_of passes before xs ≡ Some z → passes z ≡ true
@@ -66,14 +49,11 @@ fold_contains passes before best (x ∷ xs) z h =
 pub first_of_contains : {X : Type 0} (passes : X → Bool) (before : X → X → Bool) (xs : List X) (z : X) → first_of passes before xs ≡ Some z → Contains xs z
 first_of_contains passes before xs z h = elim (fold_contains passes before None xs z h) [ inl e ↦ absurd cc | inr i ↦ i ]
 
-better_is_some : {X : Type 0} (passes : X → Bool) (before : X → X → Bool) (best : Option X) (x : X) → is_some (better_of passes before best x) ≡ (is_some best || passes x)
-better_is_some passes before best x = grind (arith, common_steps, cases_Bool)
-
 fold_is_some : {X : Type 0} (passes : X → Bool) (before : X → X → Bool) (best : Option X) (xs : List X) → is_some (fold (better_of passes before) best xs) ≡ (is_some best || list_any passes xs)
 fold_is_some passes before None [] = refl
 fold_is_some passes before (Some b) [] = refl
 fold_is_some passes before best (x ∷ xs) =
-    grind (arith, common_steps, better_is_some, or_assoc, fold_is_some passes before (better_of passes before best x) xs)
+    grind (arith, common_steps, or_assoc, fold_is_some passes before (better_of passes before best x) xs)
 
 -- One is chosen exactly where one passes.
 pub first_of_is_some : {X : Type 0} (passes : X → Bool) (before : X → X → Bool) (xs : List X) → is_some (first_of passes before xs) ≡ list_any passes xs
@@ -105,13 +85,10 @@ first_of_is passes {before = before} order xs x i p least unique =
     let e : z.0 ≡ x = unique z.0 c (first_of_is_least passes order xs z.0 x z.1 i p) (least z.0 c (first_of_passes passes before xs z.0 z.1)) in
     z.1 ∙ ap Some e
 
-better_agrees : {X : Type 0} (p q : X → Bool) (before : X → X → Bool) (best : Option X) (x : X) → p x ≡ q x → better_of p before best x ≡ better_of q before best x
-better_agrees p q before best x e = grind (arith, common_steps)
-
 fold_agrees : {X : Type 0} (p q : X → Bool) (before : X → X → Bool) (best : Option X) (xs : List X) → AllByRecursion (λ x. p x ≡ q x) xs → fold (better_of p before) best xs ≡ fold (better_of q before) best xs
 fold_agrees p q before best [] h = refl
 fold_agrees p q before best (x ∷ xs) h =
-    grind (arith, common_steps, better_agrees, fold_agrees p q before (better_of q before best x) xs h.1)
+    grind (arith, common_steps, fold_agrees p q before (better_of q before best x) xs h.1)
 
 -- Two tests that agree on the list choose the same.
 pub first_of_agrees : {X : Type 0} (p q : X → Bool) (before : X → X → Bool) (xs : List X) → AllByRecursion (λ x. p x ≡ q x) xs → first_of p before xs ≡ first_of q before xs

@@ -1,14 +1,14 @@
 -- What a step gives to one client: to the one that takes it, and to every other.
-use Rattle.std.proofs.Common.{ℕ, ◌≡◌, ◌<◌, ◌+◌, Bool, true, false, ◌&&◌, ◌||◌, not, cond, List, [], ◌∷◌, ◌++◌, map, length, length-append, append_assoc, arith, refl, sym, ap, ◌∙◌, subst, inl, inr, Option, Some, None}
-use Rattle.std.proofs.lemmas.{Bool.{and_parts, and_right, both_ways, cases_Bool, cond_both, eq-eqb}, Grind.common_steps}
+use Rattle.std.proofs.Common.{ℕ, ◌≡◌, ◌<◌, ◌+◌, Bool, true, false, ◌&&◌, ◌||◌, cond, List, [], ◌∷◌, ◌++◌, map, length, length-append, append_assoc, arith, refl, sym, ap, ◌∙◌, subst, inl, inr, Option, Some, None}
+use Rattle.std.proofs.lemmas.{Bool.{and_parts, and_right, both_ways, cases_Bool, cond_both}, Grind.common_steps}
 use Rattle.std.specs.{List.AllByRecursion as All, Prelude.{◌==◌, IsTrue}}
-use Rattle.bq_job.specs.machine.{Chain, Effect, GivenAnswer, IsHandOut, IsStep, Machine.Machine, Memory, Outcome, SeatRecord}
+use Rattle.bq_job.specs.machine.{Chain, Effect, GivenAnswer, IsStep, Machine.Machine, Memory, Outcome, SeatRecord}
 use Rattle.bq_job.specs.machine.{at_found, at_moment, close_effect, connect_effect, effect, empty_seat, end_effect, ends_waiting}
-use Rattle.bq_job.specs.machine.{forgetting, has_closed, is_connected_at, is_deadline_soon, is_possible}
-use Rattle.bq_job.specs.machine.{is_until_over, is_wait_before, is_waiting, seat_with, shares_body, silent}
+use Rattle.bq_job.specs.machine.{forgetting, is_connected_at, is_deadline_soon, is_possible}
+use Rattle.bq_job.specs.machine.{is_until_over, is_wait_before, is_waiting, seat_with, silent}
 use Rattle.bq_job.specs.beside.{GetsAnswer, GetsAtMost, GetsClosed, GetsWhatWaits, GivesClient, IsLawful, owing}
-use Rattle.bq_job.specs.machine.{Serves, acted, addressed, after_close, after_connect, after_timers, step_takes_memory}
-use Rattle.bq_job.specs.{machine.{telling, with_end, with_seat}, promise.answers_to, Types.{Answer, Job, Request, Step}}
+use Rattle.bq_job.specs.machine.{acted, addressed, after_close, after_connect, after_timers, step_takes_memory}
+use Rattle.bq_job.specs.{machine.{telling, with_end, with_seat}, promise.answers_to, Types.{Answer, Request, Step}}
 use Rattle.bq_job.specs.declared.answer.Answer.TheVariants as answers
 use Rattle.bq_job.specs.declared.step.Step.TheVariants as steps
 use Rattle.bq_job.proofs.ListLemmas.{all_always, all_at, all_both, all_pass, all_weaker, keys_of_map, list_any_not, none_pass}
@@ -40,14 +40,10 @@ parts_of client first last at seat what outcome given s = record {
   given_is = grind (arith, common_steps, append_assoc);
 }
 
--- Where no memory is taken and no body shared, none is refused.
-acted_fully : (memory : Memory) (m : Machine) (seat : ℕ) (what : Step) → step_takes_memory what ≡ false → shares_body (effect m seat what).answer ≡ false → IsTrue (is_possible memory m seat what) → acted memory m seat what ≡ effect m seat what
-acted_fully memory m seat what h i p = grind (arith, common_steps, both_ways, and_parts)
-
 -- A command tells nobody anything, and the client waits and is connected as before.
 gets_quiet : (client : ℕ) (first last : Machine) (seat : ℕ) (what : Step) (given : List GivenAnswer) → Parts client first last seat what given → step_takes_memory what ≡ false → ((m : Machine) → (effect m seat what).answer ≡ None) → ((m : Machine) → waits_in client ((effect m seat what).machine).seats ≡ waits_in client m.seats) → ((m : Machine) → connected_in client ((effect m seat what).machine).seats ≡ connected_in client m.seats) → GetsWhatWaits first last client (answers_to client given)
 gets_quiet client first last seat what given p takes untold waits connects =
-    grind (arith, common_steps, acted_fully, answers_append, unclosed_append)
+    grind (arith, common_steps, answers_append, unclosed_append)
 
 end_untold : (m : Machine) (o : Option SeatRecord) → (at_found end_effect m o).answer ≡ None
 end_untold m o = grind (arith, common_steps, cases_Bool, cond_both)
@@ -70,22 +66,16 @@ none_waited n b h = grind (arith, common_steps, cases_Bool)
 no_length : (xs : List Answer) → length xs ≡ 0 → xs ≡ []
 no_length xs h = grind (arith, common_steps, cases_Bool)
 
-addressed_told : (seat : ℕ) (o : Option Answer) → answers_to seat (addressed seat o) ≡ told o
-addressed_told seat o = grind (arith, common_steps, cases_Bool, eq-eqb)
-
 -- the answers to the client that takes the step
 answers_of_parts : (seat : ℕ) (o : Option Answer) (early late given : List GivenAnswer) → given ≡ early ++ (addressed seat o ++ late) → answers_to seat given ≡ answers_to seat early ++ (told o ++ answers_to seat late)
-answers_of_parts seat o early late given e = grind (arith, common_steps, answers_append, addressed_told)
-
-no_wait : (here connected waits : Bool) → (not waits || connected) ≡ true → (here && connected) ≡ false → (here && waits) ≡ false
-no_wait here connected waits h i = grind (arith, common_steps, cases_Bool)
+answers_of_parts seat o early late given e = grind (arith, common_steps, answers_append)
 
 -- Where nobody is connected nobody waits.
 unconnected_waits_not : (seat : ℕ) (seats : List SeatRecord) → All (λ s. is_open_wait s ≡ true) seats → connected_in seat seats ≡ false → waits_in seat seats ≡ false
 unconnected_waits_not seat seats waits c =
     list_any_not (λ s. s.number == seat && is_waiting s) seats
     (all_weaker (λ s. (is_open_wait s ≡ true) × ((s.number == seat && s.connected) ≡ false)) (λ s. (s.number == seat && is_waiting s) ≡ false) seats
-    (λ s h. no_wait (s.number == seat) s.connected (is_waiting s) h.0 h.1)
+    (λ s h. grind (arith, common_steps, cases_Bool))
     (all_both (λ s. is_open_wait s ≡ true) (λ s. (s.number == seat && s.connected) ≡ false) seats waits (none_pass (λ s. s.number == seat && s.connected) seats c)))
 
 -- the seat that the step is at, before the command's own effect
@@ -106,19 +96,13 @@ gives_connect first last seat given h there p c =
     let effect_is : effect m seat steps.Connect ≡ silent (after_connect m s.number) =
     ap (at_found connect_effect m) f.found ∙ ap (λ b. cond b (silent m) (silent (after_connect m s.number))) gone in
     let e : acted p.memory m seat steps.Connect ≡ silent (after_connect m s.number) =
-    acted_fully p.memory m seat steps.Connect refl (ap (λ (x : Effect). shares_body x.answer) effect_is) p.possible ∙ effect_is in
+    (grind (arith, common_steps, both_ways, and_parts)) ∙ effect_is in
     let goes : Passes seat (changed s.number seated m.seats) last.seats p.late = subst (λ (x : Effect). Passes seat (x.machine).seats last.seats p.late) e p.goes in
     let waits_after : waits_in seat (changed s.number seated m.seats) ≡ false =
     subst (λ n. waits_in n (changed s.number seated m.seats) ≡ false) f.number (changed_none s.number seated is_waiting m.seats (λ t. refl)) in
     let connected_after : connected_in seat (changed s.number seated m.seats) ≡ true =
     subst (λ n. connected_in n (changed s.number seated m.seats) ≡ true) f.number (changed_some seated (λ t. t.connected) m.seats s f.there (λ t. refl) (λ t. refl)) in
-    let then = none_waited (length (answers_to seat p.late)) (waits_in seat last.seats) (goes.count ∙ ap one_for waits_after) in
-    let nothing : answers_to seat given ≡ answers_to seat p.early ++ answers_to seat p.late =
-    answers_of_parts seat None p.early p.late given (p.given_is ∙ ap (λ (x : Effect). p.early ++ (addressed seat x.answer ++ p.late)) e) in (
-      nothing ∙ ap (λ xs. xs ++ answers_to seat p.late) (no_length (answers_to seat p.early) begin.0) ∙ no_length (answers_to seat p.late) then.0,
-      ap one_for then.1,
-      goes.connected ∙ connected_after,
-    )
+    grind (arith, common_steps, no_length, none_waited, answers_of_parts)
 
 gives_answer : (first last : Machine) (seat : ℕ) (request : Request) (given : List GivenAnswer) → IsLawful first → seat < first.settings.seats → Parts seat first last seat (steps.Ask request) given → connected_in seat first.seats ≡ true → owing seat first ≡ 0 → GetsAnswer first last seat request (answers_to seat given)
 gives_answer first last seat request given h there p c none =
@@ -137,23 +121,14 @@ gives_closed first last seat given h there p c =
     let effect_is : effect m seat steps.Close ≡ telling answers.Closed (after_close m s.number) =
     ap (at_found close_effect m) f.found ∙ ap (λ b. cond b (telling answers.Closed (after_close m s.number)) (silent m)) here in
     let e : acted p.memory m seat steps.Close ≡ telling answers.Closed (after_close m s.number) =
-    acted_fully p.memory m seat steps.Close refl (ap (λ (x : Effect). shares_body x.answer) effect_is) p.possible ∙ effect_is in
+    (grind (arith, common_steps, both_ways, and_parts)) ∙ effect_is in
     let emptied : SeatRecord → SeatRecord = λ s. empty_seat s.number in
     let goes : Passes seat (changed s.number emptied m.seats) last.seats p.late = subst (λ (x : Effect). Passes seat (x.machine).seats last.seats p.late) e p.goes in
     let waits_after : waits_in seat (changed s.number emptied m.seats) ≡ false =
     subst (λ n. waits_in n (changed s.number emptied m.seats) ≡ false) f.number (changed_none s.number emptied is_waiting m.seats (λ t. refl)) in
     let connected_after : connected_in seat (changed s.number emptied m.seats) ≡ false =
     subst (λ n. connected_in n (changed s.number emptied m.seats) ≡ false) f.number (changed_none s.number emptied (λ t. t.connected) m.seats (λ t. refl)) in
-    let then = none_waited (length (answers_to seat p.late)) (waits_in seat last.seats) (goes.count ∙ ap one_for waits_after) in
-    record {
-      early = answers_to seat p.early;
-      given_is = answers_of_parts seat (Some answers.Closed) p.early p.late given (p.given_is ∙ ap (λ (x : Effect). p.early ++ (addressed seat x.answer ++ p.late)) e)
-          ∙ ap (λ xs. answers_to seat p.early ++ (answers.Closed ∷ xs)) (no_length (answers_to seat p.late) then.0);
-      count = let a = p.comes.count in omega arith;
-      unclosed = p.comes.unclosed;
-      none = ap one_for then.1;
-      gone = goes.connected ∙ connected_after;
-    }
+    grind (arith, common_steps, answers_of_parts, no_length)
 
 -- A tick at any seat gives to any client what it waits for.
 pub tick_gives_client : (first last : Machine) (at seat client : ℕ) (outcome : Outcome) (given : List GivenAnswer) → IsStep first at seat steps.Tick outcome given last → GetsWhatWaits first last client (answers_to client given)
@@ -170,17 +145,13 @@ gives_end first last seat given h i there p c =
     let f = found_before first last seat steps.End given h there p in
     let s = f.client in
     let here : s.connected ≡ true = sym f.connected ∙ p.comes.connected ∙ c in
-    let effect_is : effect m seat steps.End ≡ silent (with_seat s.number with_end m) =
-    ap (at_found end_effect m) f.found ∙ ap (λ b. cond b (silent (with_seat s.number with_end m)) (silent m)) here in
+    let effect_is : effect m seat steps.End ≡ silent (with_seat s.number with_end m) = grind (arith, common_steps) in
     let e : acted p.memory m seat steps.End ≡ silent (with_seat s.number with_end m) =
-    acted_fully p.memory m seat steps.End refl (ap (λ (x : Effect). shares_body x.answer) effect_is) p.possible ∙ effect_is in
+    (grind (arith, common_steps, both_ways, and_parts)) ∙ effect_is in
     let goes : Passes seat (changed s.number with_end m.seats) last.seats p.late = subst (λ (x : Effect). Passes seat (x.machine).seats last.seats p.late) e p.goes in
     let ended_after : ended_in seat (changed s.number with_end m.seats) ≡ true =
     subst (λ n. ended_in n (changed s.number with_end m.seats) ≡ true) f.number (changed_some with_end (λ t. t.ended) m.seats s f.there (λ t. refl) (λ t. refl)) in
-    let same_numbers : map (λ t. t.number) (changed s.number with_end m.seats) ≡ map (λ t. t.number) m.seats =
-    keys_of_map (λ t. t.number) (λ t. cond (t.number == s.number) (with_end t) t) m.seats
-    (all_always (λ t. (cond (t.number == s.number) (with_end t) t).number ≡ t.number) m.seats
-    (λ t. cond_both (t.number == s.number) (with_end t) t (λ u. u.number ≡ t.number) (λ e. refl) (λ e. refl))) in
+    let same_numbers : map (λ t. t.number) (changed s.number with_end m.seats) ≡ map (λ t. t.number) m.seats = grind (arith, common_steps, keys_of_map, all_always, cond_both) in
     let g = finds first.settings.seats seat last.seats (goes.numbers ∙ same_numbers ∙ p.comes.numbers ∙ h.seats) there in
     let r = g.client in
     let is_over : r.ended ≡ true = sym g.ended ∙ goes.ended ∙ ended_after in
@@ -206,10 +177,6 @@ step_gives_client first last at seat steps.Tick outcome given h there s = tick_g
 step_gives_client first last at seat steps.Gone outcome given h there s =
     gets_quiet seat first last seat steps.Gone given (parts_of seat first last at seat steps.Gone outcome given s) refl (λ m. refl) (λ m. refl) (λ m. refl)
 
--- A client that asks while it waits changes nothing.
-silent_asked : (memory : Memory) (m : Machine) (seat : ℕ) (request : Request) → effect m seat (steps.Ask request) ≡ silent m → IsTrue (is_possible memory m seat (steps.Ask request)) → acted memory m seat (steps.Ask request) ≡ silent m
-silent_asked memory m seat request e p = grind (arith, common_steps, both_ways, and_parts)
-
 asks_in_vain : (m : Machine) (seat : ℕ) (request : Request) (f : Found seat m.seats) → waits_in seat m.seats ≡ true → effect m seat (steps.Ask request) ≡ silent m
 asks_in_vain m seat request f w = grind (arith, common_steps, and_right)
 
@@ -222,33 +189,17 @@ asks_at_most first last at seat request outcome given h there c step =
     let o = (acted p.memory m seat (steps.Ask request)).answer in
     let all : answers_to seat given ≡ answers_to seat p.early ++ (told o ++ answers_to seat p.late) = answers_of_parts seat o p.early p.late given p.given_is in
     elim (cases_Bool (waits_in seat m.seats)) [
-      | inl w ↦
-          let e = silent_asked p.memory m seat request (asks_in_vain m seat request f w) p.possible in
-          let goes : Passes seat m.seats last.seats p.late = subst (λ (x : Effect). Passes seat (x.machine).seats last.seats p.late) e p.goes in
-          let less : answers_to seat given ≡ answers_to seat p.early ++ answers_to seat p.late =
-          all ∙ ap (λ (x : Effect). answers_to seat p.early ++ (told x.answer ++ answers_to seat p.late)) e in
-          record {
-            count = let long : length (answers_to seat given) ≡ length (answers_to seat p.early) + length (answers_to seat p.late) = ap length less ∙ simp length-append in
-                let a = p.comes.count in let b = goes.count in omega arith;
-            unclosed = ap has_closed less ∙ unclosed_append (answers_to seat p.early) (answers_to seat p.late) p.comes.unclosed goes.unclosed;
-            connected = goes.connected ∙ p.comes.connected ∙ c;
-          }
+      | inl w ↦ grind (arith, common_steps, asks_in_vain, length-append, unclosed_append)
       | inr w ↦
           let reply = replies_acted p.memory m seat request w p.possible (replies_effect m seat request f (p.comes.connected ∙ c) w) in
           let before : one_for (waits_in seat m.seats) ≡ 0 = ap one_for w in
-          record {
-            count = let long : length (answers_to seat given) ≡ length (answers_to seat p.early) + (length (told o) + length (answers_to seat p.late)) = ap length all ∙ simp length-append in
-                let a = p.comes.count in let b = p.goes.count in let d = reply.count in omega arith;
-            unclosed = ap has_closed all ∙ unclosed_append (answers_to seat p.early) (told o ++ answers_to seat p.late) p.comes.unclosed (unclosed_append (told o) (answers_to seat p.late) reply.unclosed p.goes.unclosed);
-            connected = p.goes.connected ∙ reply.connected ∙ p.comes.connected ∙ c;
-          }
+          grind (arith, common_steps, length-append, unclosed_append)
     ]
 
 -- A step of another seat gives the client what it waits for, and nothing else.
 pub others_give : (first last : Machine) (at seat client : ℕ) (what : Step) (outcome : Outcome) (given : List GivenAnswer) → (seat == client) ≡ false → IsStep first at seat what outcome given last → GetsWhatWaits first last client (answers_to client given)
 others_give first last at seat client what outcome given other step =
     let p : Parts client first last seat what given = parts_of client first last at seat what outcome given step in
-    let m = p.before in
     grind (arith, common_steps, stays_acted, answers_append, told_elsewhere, unclosed_append)
 
 -- settings stay in turns
@@ -256,13 +207,7 @@ chain_settings : (Turns : Machine → GivenAnswer → Machine → Type 0) (first
 chain_settings Turns first [] last each chain = ap (λ (n : Machine). n.settings) chain
 chain_settings Turns first (g ∷ given) last each chain = chain_settings Turns chain.0 given last each chain.2 ∙ each first g chain.0 chain.1
 
-hand_out_settings : (m : Machine) (j : Job) (s : SeatRecord) (given : GivenAnswer) (next : Machine) → IsHandOut m j s given next → next.settings ≡ m.settings
-hand_out_settings m j s given next h = grind (arith, common_steps, cases_Bool)
-
-serves_settings : (first : Machine) (handed ended : List GivenAnswer) (last : Machine) → Serves first handed ended last → last.settings ≡ first.settings
-serves_settings first handed ended last s = grind (arith, common_steps, chain_settings, end_of, turn_of, hand_out_settings)
-
 pub step_settings : (first last : Machine) (at seat : ℕ) (what : Step) (outcome : Outcome) (given : List GivenAnswer) → IsStep first at seat what outcome given last → last.settings ≡ first.settings
 step_settings first last at seat what outcome given s =
-    serves_settings s.after s.handed_then s.ended_then last s.serves_then ∙ ap (λ (n : Machine). n.settings) s.acts ∙ (stays_acted 0 s.memory s.before seat what).settings
-    ∙ serves_settings (forgetting (after_timers (at_moment at first))) s.handed s.ended s.before s.serves
+    (grind (arith, common_steps, chain_settings, end_of, turn_of)) ∙ ap (λ (n : Machine). n.settings) s.acts ∙ (stays_acted 0 s.memory s.before seat what).settings
+    ∙ (grind (arith, common_steps, chain_settings, end_of, turn_of))

@@ -1,18 +1,18 @@
 -- Of which kind each command is: the one list of cases over all requests.
-use Rattle.std.proofs.Common.{◌||◌, ◌≡◌, ◌≤◌, ◌⊎◌, Bool, List, None, Option, Some, ℕ, ap, arith, cond, false, inl, inr, not, refl, sym, true}
+use Rattle.std.proofs.Common.{◌||◌, ◌≡◌, ◌≤◌, ◌⊎◌, Bool, List, None, Some, ℕ, ap, arith, cond, false, inl, inr, not, refl, true}
 use Rattle.std.proofs.lemmas.{Bool.{and_parts, cond_both, eq-eqb}, Grind.common_steps}
 use Rattle.std.specs.{List.list_any, Prelude.{◌==◌, filter, length, take}}
-use Rattle.bq_job.specs.machine.{is_buried, is_buried_before, is_buried_in, is_closed_answer, is_delayed, is_delayed_in, is_due_before}
-use Rattle.bq_job.specs.{beside.{has_one, is_refusal, none_twice, watches_once}, laws.reserved_by_id, machine.Effect}
-use Rattle.bq_job.specs.machine.{SeatRecord, after_delete, asked, first_of, greatest, is_free_for, is_job_before}
-use Rattle.bq_job.specs.machine.{is_ready_in, is_reserved, job_statistics_or_not, job_with, kickable, kicked, later}
-use Rattle.bq_job.specs.machine.{name_list, on_job, refusal_answer, reserved_by, server_statistics, showing, telling}
+use Rattle.bq_job.specs.machine.{is_buried, is_closed_answer, is_delayed}
+use Rattle.bq_job.specs.{beside.{has_one, is_refusal, none_twice, watches_once}, machine.Effect}
+use Rattle.bq_job.specs.machine.{SeatRecord, after_delete, asked, greatest, is_free_for}
+use Rattle.bq_job.specs.machine.{is_reserved, job_with, kickable, kicked, later}
+use Rattle.bq_job.specs.machine.{name_list, on_job, reserved_by, server_statistics, telling}
 use Rattle.bq_job.specs.machine.{tubes, watched_with, watching, watching_or_refused, with_job, Machine.Machine}
-use Rattle.bq_job.specs.{promise.answers_wanted, reading.TubeName.is_same_name, Types.{Answer, Job, Refusal, Request}}
+use Rattle.bq_job.specs.{promise.answers_wanted, reading.TubeName.is_same_name, Types.{Answer, Job, Request}}
 use Rattle.bq_job.specs.declared.answer.Answer.TheVariants as answers
 use Rattle.bq_job.specs.declared.request.Request.TheVariants as requests
 use Rattle.bq_job.specs.declared.step.Step.TheVariants as steps
-use Rattle.bq_job.proofs.BecomeLemmas.{IsAside, all_of_take, chosen_not_held, free_by_delay, held_not_ready, kickable_aside, one_becomes, put_aside_not_held, told_by_name, told_if_given_up, told_if_taken}
+use Rattle.bq_job.proofs.BecomeLemmas.{IsAside, all_of_take, chosen_not_held, free_by_delay, held_not_ready, kickable_aside, one_becomes, put_aside_not_held, told_by_name, told_if_given_up}
 use Rattle.bq_job.proofs.EffectKinds.{IsFreeOrOwn, Kind, SaysDone, adds, changes_jobs, changes_seat, changes_tube, deletes, is_common, passes, tells, waits}
 use Rattle.bq_job.proofs.{ChangeLemmas.{Becomes, becomes_itself}, LookupLemmas.{found_job, job_found}}
 use Rattle.bq_job.proofs.WatchedLemmas.{none_twice_filter, watched_still}
@@ -29,12 +29,7 @@ on_one request id test act m s one each = grind (arith, common_steps, tells, con
 one_changes : (request : Request) (m : Machine) (s : SeatRecord) (answer : Answer) (id : ℕ) (f : Job → Job) (burials : ℕ) (j : Job) → job_with id m.jobs ≡ Some j → SaysDone request answer → (m.burials ≤ greatest → burials ≤ greatest)
     → ((k : Job) → (f k).id ≡ k.id) → ((k : Job) → IsFreeOrOwn s (f k)) → Becomes (steps.Ask request) j (f j) → Kind m s request (telling answer (record (with_job id f m) { burials = burials }))
 one_changes request m s answer id f burials j found done counts same holder becomes =
-    changes_jobs answer (λ k. cond (k.id == id) (f k) k) burials done (record {
-      counts = counts;
-      same = λ k. cond_both (k.id == id) (f k) k (λ l. l.id ≡ k.id) (λ e. same k) (λ e. refl);
-      holder = λ k. cond_both (k.id == id) (f k) k (λ l. (l ≡ k) ⊎ IsFreeOrOwn s l) (λ e. inr (holder k)) (λ e. inl refl);
-      becomes = λ ids k i. one_becomes (steps.Ask request) id f m.jobs m.next_id j ids found becomes k i;
-    })
+    changes_jobs answer (λ k. cond (k.id == id) (f k) k) burials done (grind (arith, common_steps, cond_both, one_becomes))
 
 reserve_job_kind : (id : ℕ) (m : Machine) (s : SeatRecord) → Kind m s (requests.ReserveJob id) (asked (requests.ReserveJob id) m s)
 reserve_job_kind id m s =
@@ -43,13 +38,7 @@ reserve_job_kind id m s =
     one_changes (requests.ReserveJob id) m s (answers.Reserved j.id j.body) id (reserved_by m.moment s.number) m.burials j e
     (record { wanted = refl; unclosed = refl; done = refl; own = inr (id, j.body, refl, ap (λ n. answers.Reserved n j.body) (found_job id m.jobs j e).0) })
     (λ h. h) (λ k. refl) (λ k. inr (eq-eqb s.number s.number refl))
-    (record {
-      id = refl;
-      tube = refl;
-      body = refl;
-      ready = λ h. inr (told_if_taken (steps.Ask (requests.ReserveJob id)) j.id j.state s.number (later m.moment j.ttr) h (told_by_name id j.id (reserved_by_id j.id) (sym (found_job id m.jobs j e).0) (eq-eqb j.id j.id refl)));
-      held = λ h. inl refl;
-    }))
+    (grind (arith, common_steps, told_by_name, found_job, eq-eqb)))
 
 delete_kind : (id : ℕ) (m : Machine) (s : SeatRecord) → Kind m s (requests.Delete id) (asked (requests.Delete id) m s)
 delete_kind id m s = on_one (requests.Delete id) id (is_free_for s) (λ j. telling answers.Deleted (after_delete m j)) m s refl (λ j e p. deletes id j refl e p)
@@ -57,13 +46,6 @@ delete_kind id m s = on_one (requests.Delete id) id (is_free_for s) (λ j. telli
 release_kind : (id pri delay : ℕ) (m : Machine) (s : SeatRecord) → Kind m s (requests.Release id pri delay) (asked (requests.Release id pri delay) m s)
 release_kind id pri delay m s =
     grind (arith, common_steps, on_one, one_changes, says, free_by_delay, held_not_ready, told_if_given_up, told_by_name, found_job, eq-eqb)
-
-bury_kind : (id pri : ℕ) (m : Machine) (s : SeatRecord) → Kind m s (requests.Bury id pri) (asked (requests.Bury id pri) m s)
-bury_kind id pri m s =
-    grind (arith, common_steps, on_one, one_changes, says, held_not_ready, told_if_given_up, told_by_name, found_job, eq-eqb)
-
-touch_kind : (id : ℕ) (m : Machine) (s : SeatRecord) → Kind m s (requests.Touch id) (asked (requests.Touch id) m s)
-touch_kind id m s = grind (arith, common_steps, on_one, one_changes, says, eq-eqb, held_not_ready)
 
 kick_kind : (bound : ℕ) (m : Machine) (s : SeatRecord) → Kind m s (requests.Kick bound) (asked (requests.Kick bound) m s)
 kick_kind bound m s =
@@ -84,13 +66,6 @@ kick_job_kind id m s =
     one_changes (requests.KickJob id) m s answers.Kicked id kicked m.burials j e (says answers.Kicked refl refl refl refl) (λ h. h) (λ k. refl) (λ k. inl refl)
     (record { id = refl; tube = refl; body = refl; ready = λ h. inl (refl, refl); held = λ h. absurd (put_aside_not_held j.state p h) }))
 
--- commands that show a job, or tell of one
-showing_kind : (request : Request) (m : Machine) (s : SeatRecord) (o : Option Job) → answers_wanted request ≡ 1 → Kind m s request (showing m o)
-showing_kind request m s o one = grind (arith, common_steps, tells)
-
-statistics_kind : (request : Request) (m : Machine) (s : SeatRecord) (o : Option Job) → answers_wanted request ≡ 1 → Kind m s request (job_statistics_or_not m o)
-statistics_kind request m s o one = grind (arith, common_steps, tells)
-
 watch_kind : (tube : List ℕ) (m : Machine) (s : SeatRecord) → Kind m s (requests.Watch tube) (asked (requests.Watch tube) m s)
 watch_kind tube m s =
     let watched = watched_with tube s in
@@ -105,9 +80,6 @@ ignore_kind tube m s =
     of_rest : (names : List (List ℕ)) → (watches_once s ≡ true → none_twice names ≡ true) → Kind m s (requests.Ignore tube) (watching_or_refused names m s)
     of_rest names once = grind (arith, common_steps, tells, changes_seat, says)
 
-refused_kind : (why : Refusal) (m : Machine) (s : SeatRecord) → Kind m s (requests.Refused why) (telling (refusal_answer why) m)
-refused_kind why m s = grind (arith, common_steps, tells)
-
 -- every request
 pub kind_of : (request : Request) (m : Machine) (s : SeatRecord) → Kind m s request (asked request m s)
 kind_of (requests.Put pri delay ttr body) m s = grind (arith, common_steps, tells, adds)
@@ -116,23 +88,23 @@ kind_of (requests.ReserveWithTimeout seconds) m s = waits (Some (later m.moment 
 kind_of (requests.ReserveJob id) m s = reserve_job_kind id m s
 kind_of (requests.Delete id) m s = delete_kind id m s
 kind_of (requests.Release id pri delay) m s = release_kind id pri delay m s
-kind_of (requests.Bury id pri) m s = bury_kind id pri m s
-kind_of (requests.Touch id) m s = touch_kind id m s
+kind_of (requests.Bury id pri) m s = grind (arith, common_steps, on_one, one_changes, says, held_not_ready, told_if_given_up, told_by_name, found_job, eq-eqb)
+kind_of (requests.Touch id) m s = grind (arith, common_steps, on_one, one_changes, says, eq-eqb, held_not_ready)
 kind_of (requests.Kick bound) m s = kick_kind bound m s
 kind_of (requests.KickJob id) m s = kick_job_kind id m s
 kind_of (requests.Use tube) m s = grind (arith, common_steps, changes_seat, says)
 kind_of requests.ListTubeUsed m s = tells (answers.Using s.used) refl refl refl
 kind_of (requests.Watch tube) m s = watch_kind tube m s
 kind_of (requests.Ignore tube) m s = ignore_kind tube m s
-kind_of (requests.Peek id) m s = showing_kind (requests.Peek id) m s (job_with id m.jobs) refl
-kind_of requests.PeekReady m s = showing_kind requests.PeekReady m s (first_of (is_ready_in s.used) is_job_before m.jobs) refl
-kind_of requests.PeekDelayed m s = showing_kind requests.PeekDelayed m s (first_of (is_delayed_in s.used) is_due_before m.jobs) refl
-kind_of requests.PeekBuried m s = showing_kind requests.PeekBuried m s (first_of (is_buried_in s.used) is_buried_before m.jobs) refl
+kind_of (requests.Peek id) m s = grind (arith, common_steps, tells)
+kind_of requests.PeekReady m s = grind (arith, common_steps, tells)
+kind_of requests.PeekDelayed m s = grind (arith, common_steps, tells)
+kind_of requests.PeekBuried m s = grind (arith, common_steps, tells)
 kind_of (requests.PauseTube tube delay) m s = grind (arith, common_steps, cond_both, changes_tube, tells)
-kind_of (requests.StatsJob id) m s = statistics_kind (requests.StatsJob id) m s (job_with id m.jobs) refl
+kind_of (requests.StatsJob id) m s = grind (arith, common_steps, tells)
 kind_of (requests.StatsTube tube) m s = grind (arith, common_steps, cond_both, tells)
 kind_of requests.Stats m s = tells (answers.Ok (server_statistics m)) refl refl refl
 kind_of requests.ListTubes m s = tells (answers.Ok (name_list (tubes m))) refl refl refl
 kind_of requests.ListTubesWatched m s = tells (answers.Ok (name_list s.watched)) refl refl refl
 kind_of requests.Quit m s = passes refl
-kind_of (requests.Refused why) m s = refused_kind why m s
+kind_of (requests.Refused why) m s = grind (arith, common_steps, tells)

@@ -1,62 +1,38 @@
 -- What is computed is a step of the machine.
-use Rattle.std.proofs.Common.{ℕ, zero, suc, ◌≡◌, ◌≤◌, ◌<◌, true, false, ◌&&◌, ◌||◌, not, cond, arith, refl, inl, inr, Option, Some, None, append_assoc, rules}
-use Rattle.std.proofs.lemmas.{Bool.{and_left, and_parts, cases_Bool, eq-eqb}, Grind.common_steps}
-use Rattle.std.specs.{List.{AllByRecursion as All, Contains, list_any}, Prelude.◌==◌}
+use Rattle.std.proofs.Common.{ℕ, zero, suc, ◌≡◌, ◌≤◌, ◌<◌, true, false, ◌||◌, arith, refl, Option, Some, None, append_assoc, rules}
+use Rattle.std.proofs.lemmas.{Bool.{and_left, and_parts, cases_Bool}, Grind.common_steps}
+use Rattle.std.specs.List.{Contains, list_any}
 use Rattle.bq_job.specs.declared.answer.Answer.TheVariants as answers
 use Rattle.bq_job.specs.Types.{Job, Step}
 use Rattle.bq_job.specs.machine.{Chain, DispatchTurn, Dispatches, EndsWaits, IsStep, Machine.Machine, SeatRecord, Serves, WaitEndTurn}
-use Rattle.bq_job.specs.machine.{after_hand_out, after_timers, at_moment, effect, end_of_wait, ends_waiting, forgetting, granted}
+use Rattle.bq_job.specs.machine.{after_hand_out, after_timers, at_moment, effect, ends_waiting, forgetting}
 use Rattle.bq_job.specs.machine.{has_refused_share, is_deadline_soon, is_job_before, is_timed_out, is_wait_before, is_waiting}
 use Rattle.bq_job.specs.machine.{is_waiting_for, may_have, next_end, next_job, next_seat, with_seat, without_wait}
 use Rattle.bq_job.specs.beside.Computed.{Served, ample, after_dispatch, after_serving, after_wait_ends, dispatched, ended_at, handed_out, handed_to, stepped, wait_ended, waiting_count}
 use Rattle.bq_job.proofs.ChoiceLemmas.{first_of_contains, first_of_none_passes, first_of_passes, first_of_some}
 use Rattle.bq_job.proofs.ListLemmas.{all_always, all_weaker, count_falls, count_none, list_any_not, list_any_with}
 
--- Nobody who waits begins to.
-unwait_waits_less : (number : ℕ) (s : SeatRecord) → is_waiting (cond (s.number == number) (without_wait s) s) ≡ true → is_waiting s ≡ true
-unwait_waits_less number s h = elim (cases_Bool (s.number == number)) [ inl e ↦ absurd (let g = rw e at h in cc) | inr e ↦ rw e at h ]
-
--- who waits, and waits no more once this wait is over
-waits_no_more : (number : ℕ) (s : SeatRecord) → s.number ≡ number → is_waiting s ≡ true → (is_waiting s && not (is_waiting (cond (s.number == number) (without_wait s) s))) ≡ true
-waits_no_more number s e w = rw (w, eq-eqb s.number number e) refl
-
 -- One client fewer waits once this one's wait is over.
 pub waiting_falls : (m : Machine) (s : SeatRecord) → Contains m.seats s → is_waiting s ≡ true → waiting_count (with_seat s.number without_wait m) < waiting_count m
-waiting_falls m s i w = grind (arith, common_steps, count_falls, all_always, unwait_waits_less, list_any_with, waits_no_more)
-
--- a turn of dispatch that gives the job
-pub hand_out_turn : (m : Machine) (j : Job) (s : SeatRecord) → next_job m ≡ Some j → next_seat m j ≡ Some s → DispatchTurn m (s.number, answers.Reserved j.id j.body) (after_hand_out m j s)
-hand_out_turn m j s e f = rw (e, f) (inl (refl, refl))
-
-handed_to_turns : (rest : Machine → Served) (m : Machine) (j : Job) (o : Option SeatRecord) → ((n : Machine) → Chain DispatchTurn n (rest n).given (rest n).machine) → next_job m ≡ Some j → next_seat m j ≡ o → Chain DispatchTurn m (handed_to rest m j o).given (handed_to rest m j o).machine
-handed_to_turns rest m j None goes e f = refl
-handed_to_turns rest m j (Some s) goes e f = (after_hand_out m j s, hand_out_turn m j s e f, goes (after_hand_out m j s))
+waiting_falls m s i w = grind (arith, common_steps, count_falls, all_always, list_any_with)
 
 handed_out_turns : (rest : Machine → Served) (m : Machine) (o : Option Job) → ((n : Machine) → Chain DispatchTurn n (rest n).given (rest n).machine) → next_job m ≡ o → Chain DispatchTurn m (handed_out rest m o).given (handed_out rest m o).machine
-handed_out_turns rest m o goes e = grind (arith, common_steps, cases_Bool, handed_to_turns)
+handed_out_turns rest m o goes e = grind (arith, common_steps, cases_Bool)
 
 -- Every turn of dispatch that is computed is a turn,
 pub dispatched_turns : (turns : ℕ) (m : Machine) → Chain DispatchTurn m (dispatched turns m).given (dispatched turns m).machine
 dispatched_turns zero m = refl
 dispatched_turns (suc turns) m = handed_out_turns (λ next. dispatched turns next) m (next_job m) (λ n. dispatched_turns turns n) refl
 
--- no share is refused in them,
-handed_to_shared : (rest : Machine → Served) (m : Machine) (j : Job) (o : Option SeatRecord) → ((n : Machine) → has_refused_share (rest n).given ≡ false) → has_refused_share (handed_to rest m j o).given ≡ false
-handed_to_shared rest m j o goes = grind (arith, common_steps, cases_Bool)
-
 handed_out_shared : (rest : Machine → Served) (m : Machine) (o : Option Job) → ((n : Machine) → has_refused_share (rest n).given ≡ false) → has_refused_share (handed_out rest m o).given ≡ false
-handed_out_shared rest m o goes = grind (arith, common_steps, cases_Bool, handed_to_shared)
+handed_out_shared rest m o goes = grind (arith, common_steps, cases_Bool)
 
 pub dispatched_shared : (turns : ℕ) (m : Machine) → has_refused_share (dispatched turns m).given ≡ false
 dispatched_shared zero m = refl
 dispatched_shared (suc turns) m = handed_out_shared (λ next. dispatched turns next) m (next_job m) (λ n. dispatched_shared turns n)
 
--- where nobody waits no job is next,
-nobody_for : (m : Machine) (j : Job) → All (λ s. is_waiting s ≡ false) m.seats → list_any (is_waiting_for m j) m.seats ≡ false
-nobody_for m j h = grind (arith, common_steps, list_any_not, all_weaker, and_left)
-
 none_waits : (m : Machine) → waiting_count m ≤ 0 → next_job m ≡ None
-none_waits m w = search (rules, count_none, first_of_none_passes, list_any_not, all_always, nobody_for)
+none_waits m w = search (rules, count_none, first_of_none_passes, list_any_not, all_always, all_weaker, and_left)
 
 -- The next job has a next client,
 pub next_has_seat : (m : Machine) (j : Job) → next_job m ≡ Some j → (s : SeatRecord) × (next_seat m j ≡ Some s)
@@ -85,13 +61,9 @@ pub dispatched_all : (turns : ℕ) (m : Machine) → waiting_count m ≤ turns �
 dispatched_all zero m w = none_waits m w
 dispatched_all (suc turns) m w = handed_out_all (λ next. dispatched turns next) turns m (next_job m) (λ n. dispatched_all turns n) w refl
 
--- one wait that ends
-pub wait_end_turn : (m : Machine) (s : SeatRecord) → next_end m ≡ Some s → WaitEndTurn m (s.number, end_of_wait m s) (with_seat s.number without_wait m)
-wait_end_turn m s e = rw e (refl, refl)
-
 ended_at_turns : (rest : Machine → Served) (m : Machine) (o : Option SeatRecord) → ((n : Machine) → Chain WaitEndTurn n (rest n).given (rest n).machine) → next_end m ≡ o → Chain WaitEndTurn m (ended_at rest m o).given (ended_at rest m o).machine
 ended_at_turns rest m None goes e = refl
-ended_at_turns rest m (Some s) goes e = (with_seat s.number without_wait m, wait_end_turn m s e, goes (with_seat s.number without_wait m))
+ended_at_turns rest m (Some s) goes e = (with_seat s.number without_wait m, (rw e (refl, refl)), goes (with_seat s.number without_wait m))
 
 -- Every end of a wait that is computed is one,
 pub wait_ended_turns : (turns : ℕ) (m : Machine) → Chain WaitEndTurn m (wait_ended turns m).given (wait_ended turns m).machine
@@ -126,11 +98,7 @@ pub computed_ends_waits : (m : Machine) → EndsWaits m (after_wait_ends m).give
 computed_ends_waits m = grind (arith, common_steps, wait_ended_turns, wait_ended_all)
 
 pub computed_serves : (m : Machine) → Serves m (after_dispatch m).given (after_wait_ends (after_dispatch m).machine).given (after_serving m).machine
-computed_serves m = record {
-  between = (after_dispatch m).machine;
-  dispatches = computed_dispatches m;
-  ends_waits = computed_ends_waits (after_dispatch m).machine;
-}
+computed_serves m = grind (arith, common_steps, computed_dispatches m, computed_ends_waits (after_dispatch m).machine)
 
 -- What is computed is a step.
 pub stepped_is_step : (m : Machine) (at seat : ℕ) (what : Step) → IsStep m at seat what ample (stepped m at seat what).given (stepped m at seat what).machine
@@ -138,19 +106,4 @@ stepped_is_step m at seat what =
     let begin : Machine = forgetting (after_timers (at_moment at m)) in
     let before : Machine = (after_serving begin).machine in
     let after : Machine = forgetting (effect before seat what).machine in
-    record {
-      memory = granted;
-      before = before;
-      after = after;
-      handed = (after_dispatch begin).given;
-      ended = (after_wait_ends (after_dispatch begin).machine).given;
-      handed_then = (after_dispatch after).given;
-      ended_then = (after_wait_ends (after_dispatch after).machine).given;
-      serves = computed_serves begin;
-      possible = refl;
-      acts = refl;
-      serves_then = computed_serves after;
-      answers_are = simp append_assoc;
-      left_out = refl;
-      unshared = rw (dispatched_shared (waiting_count begin) begin, dispatched_shared (waiting_count after) after) refl;
-    }
+    grind (arith, common_steps, computed_serves begin, computed_serves after, append_assoc, dispatched_shared)

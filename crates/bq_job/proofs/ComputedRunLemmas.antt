@@ -1,16 +1,14 @@
 -- What is computed over a history is a run.
 use Rattle.std.proofs.Common.{List, [], ◌∷◌, refl}
-use Rattle.bq_job.specs.machine.{Machine.Machine, Serves, after_timers, at_moment, effect, forgetting, granted}
-use Rattle.bq_job.specs.beside.{after_dispatch, after_wait_ends, machine_after, transition, transitions, waiting_count}
+use Rattle.bq_job.specs.machine.{Machine.Machine, Serves, after_timers, at_moment, effect, forgetting}
+use Rattle.bq_job.specs.beside.{after_dispatch, after_wait_ends, machine_after, transition, transitions}
 use Rattle.bq_job.specs.promise.{Entry, GoesBy, IsTransition}
 use Rattle.bq_job.proofs.ComputedLemmas.{computed_dispatches, computed_ends_waits, dispatched_shared}
+use Rattle.std.proofs.lemmas.Grind.{common_steps}
+use Rattle.std.proofs.Common.{arith}
 
 serves_so : (m : Machine) → Serves m (after_dispatch m).given (after_wait_ends (after_dispatch m).machine).given (after_wait_ends (after_dispatch m).machine).machine
-serves_so m = record {
-  between = (after_dispatch m).machine;
-  dispatches = computed_dispatches m;
-  ends_waits = computed_ends_waits (after_dispatch m).machine;
-}
+serves_so m = grind (arith, common_steps, computed_dispatches m, computed_ends_waits (after_dispatch m).machine)
 
 transition_is_one : (m : Machine) (e : Entry) → IsTransition (transition m e)
 unfolding serves_so
@@ -19,22 +17,7 @@ transition_is_one m e =
     let before : Machine = (after_wait_ends (after_dispatch begin).machine).machine in
     let after : Machine = forgetting (effect before e.seat e.what).machine in
     record {
-      step = record {
-        memory = granted;
-        before = before;
-        after = after;
-        handed = (after_dispatch begin).given;
-        ended = (after_wait_ends (after_dispatch begin).machine).given;
-        handed_then = (after_dispatch after).given;
-        ended_then = (after_wait_ends (after_dispatch after).machine).given;
-        serves = serves_so begin;
-        possible = refl;
-        acts = refl;
-        serves_then = serves_so after;
-        answers_are = refl;
-        left_out = refl;
-        unshared = rw (dispatched_shared (waiting_count begin) begin, dispatched_shared (waiting_count after) after) refl;
-      };
+      step = grind (arith, common_steps, serves_so begin, serves_so after, dispatched_shared);
       parts_are = refl;
     }
 

@@ -1,7 +1,7 @@
 -- Answers line by line: where a list of them is cut.
 use Rattle.std.proofs.Common.{◌++◌, ◌+◌, ◌∙◌, ◌∷◌, ◌≡◌, ◌≤◌, List, [], ℕ, ap, arith, false, length, refl, suc}
 use Rattle.std.proofs.lemmas.{Bool.or_parts, Grind.common_steps}
-use Rattle.bq_job.specs.{beside.AreLinesServed, machine.{has_closed, is_closed_answer}, promise.LineOver, Types.Answer}
+use Rattle.bq_job.specs.{beside.AreLinesServed, machine.has_closed, promise.LineOver, Types.Answer}
 use Rattle.bq_job.specs.Types.{Step}
 use Rattle.bq_job.specs.declared.answer.Answer.TheVariants as answers
 use Rattle.bq_job.proofs.{GivenLemmas.{AreParts, most_of_lines}, ListLemmas.heads}
@@ -38,19 +38,11 @@ lines_close size [] own taken h = omega arith
 lines_close size (line ∷ lines) own taken h =
     grind (arith, common_steps, closes_append, lines_close size lines h.1 h.3 h.7)
 
--- a list with no `Closed` begins with none
-begins_unclosed : (x : Answer) (xs : List Answer) → has_closed (x ∷ xs) ≡ false → answers.Closed ≡ x → ⊥
-begins_unclosed x xs h e = grind (arith, common_steps)
-
 -- A list is cut at its first `Closed` in one way. No case is made for each kind of answer: that would be one for
 -- each two of them.
 pub same_cut : (xs ys later rest : List Answer) → has_closed xs ≡ false → has_closed ys ≡ false → xs ++ answers.Closed ∷ later ≡ ys ++ answers.Closed ∷ rest → (xs ≡ ys) × (later ≡ rest)
 same_cut [] [] later rest h i e = (refl, (heads answers.Closed answers.Closed later rest e).1)
-same_cut [] (y ∷ ys) later rest h i e = absurd (begins_unclosed y ys i (heads answers.Closed y later (ys ++ answers.Closed ∷ rest) e).0)
-same_cut (x ∷ xs) [] later rest h i e = grind (arith, common_steps, begins_unclosed, heads)
+same_cut [] (y ∷ ys) later rest h i e = absurd (grind (arith, common_steps))
+same_cut (x ∷ xs) [] later rest h i e = grind (arith, common_steps, heads)
 same_cut (x ∷ xs) (y ∷ ys) later rest h i e =
-    let both = heads x y (xs ++ answers.Closed ∷ later) (ys ++ answers.Closed ∷ rest) e in
-    let none = (or_parts (is_closed_answer x) (has_closed xs) h).1 in
-    let nor = (or_parts (is_closed_answer y) (has_closed ys) i).1 in
-    let cut = same_cut xs ys later rest none nor both.1 in
-    (ap (λ (z : Answer). z ∷ xs) both.0 ∙ ap (λ (zs : List Answer). y ∷ zs) cut.0, cut.1)
+    grind (arith, common_steps, heads, or_parts, same_cut xs ys later rest)

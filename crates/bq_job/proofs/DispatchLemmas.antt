@@ -40,16 +40,7 @@ reserved_is_least m next seat id body turn = of_hand_out (turn_of m (seat, answe
         let at : seat ≡ s.number = ap (λ (g : GivenAnswer). g.0) h.0 in
         let same : answers.Reserved id body ≡ answers.Reserved j.id j.body = ap (λ (g : GivenAnswer). g.1) h.0 in
         let w = next_seat_waits m j s f in
-        record {
-          client = s;
-          job = j;
-          seated = w.0;
-          seat_is = at;
-          waits = w.1;
-          id_is = (cc);
-          body_is = (cc);
-          least = next_is_least m j s e f;
-        }
+        grind (arith, common_steps, next_is_least)
     of_given j s e f (inr h) = absurd (let g : answers.Reserved id body ≡ answers.OutOfMemory = ap (λ (g : GivenAnswer). g.1) h.0 in cc)
 
     of_hand_out : Turn m (seat, answers.Reserved id body) next → GetsLeast m seat id body

@@ -15,9 +15,6 @@ pub record IsSeat (m : Machine) (seat : ℕ) (s : SeatRecord) : Type 0 where
   pub number : s.number ≡ seat
   pub there : Contains m.seats s
 
-is_seat : (m : Machine) (seat : ℕ) (s : SeatRecord) → seat_with seat m.seats ≡ Some s → IsSeat m seat s
-is_seat m seat s e = grind (arith, common_steps, found_passes, eqb-true)
-
 -- It holds of all that an event at the seat can do: nothing, a client that comes, a request of one that is
 -- open and doesn't wait, one that sends no more, one that is gone, and the beginning of draining.
 pub record HoldsOfEach (m : Machine) (seat : ℕ) (P : Step → Effect → Type 0) : Type 0 where
@@ -30,17 +27,14 @@ pub record HoldsOfEach (m : Machine) (seat : ℕ) (P : Step → Effect → Type 
 
 -- the seat of the number, if there is one
 at_seat : (m : Machine) (seat : ℕ) (act : Machine → SeatRecord → Effect) (P : Effect → Type 0) → P (silent m) → ((s : SeatRecord) → IsSeat m seat s → P (act m s)) → P (at_found act m (seat_with seat m.seats))
-at_seat m seat act P nothing each = grind (arith, common_steps, is_seat)
-
-of_client : (m : Machine) (seat : ℕ) (P : Step → Effect → Type 0) → HoldsOfEach m seat P → (request : Request) (s : SeatRecord) → IsSeat m seat s → P (steps.Ask request) (ask_effect request m s)
-of_client m seat P h request s is = grind (arith, common_steps)
+at_seat m seat act P nothing each = grind (arith, common_steps, found_passes, eqb-true)
 
 -- every event
 pub each_event : (m : Machine) (seat : ℕ) (P : Step → Effect → Type 0) → HoldsOfEach m seat P → (what : Step) → P what (effect m seat what)
 each_event m seat P h steps.Connect =
     at_seat m seat connect_effect (P steps.Connect) (h.nothing steps.Connect)
     (λ s is. cond_both s.connected (silent m) (silent (after_connect m s.number)) (P steps.Connect) (λ e. h.nothing steps.Connect) (λ e. h.connects s is))
-each_event m seat P h (steps.Ask request) = at_seat m seat (ask_effect request) (P (steps.Ask request)) (h.nothing (steps.Ask request)) (λ s is. of_client m seat P h request s is)
+each_event m seat P h (steps.Ask request) = at_seat m seat (ask_effect request) (P (steps.Ask request)) (h.nothing (steps.Ask request)) (λ s is. grind (arith, common_steps))
 each_event m seat P h steps.End =
     at_seat m seat end_effect (P steps.End) (h.nothing steps.End)
     (λ s is. cond_both s.connected (silent (with_seat s.number with_end m)) (silent m) (P steps.End) (λ e. h.ends s is) (λ e. h.nothing steps.End))

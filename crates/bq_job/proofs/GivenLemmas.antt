@@ -1,7 +1,7 @@
 -- What the seats and the core did joins: what a run gives a seat, line by line, and that this is what the
 -- seat took.
 use Rattle.std.proofs.Common.{◌≡◌, ℕ, ◌+◌, ◌≤◌, ◌<◌, Bool, true, false, ◌&&◌, not, List, [], ◌∷◌, ◌++◌, map, length, refl, sym, ap, ◌∙◌, arith, subst, inl, inr, ◌⊎◌, append_assoc, rules}
-use Rattle.std.proofs.lemmas.{Bool.{and_parts, both_ways, cases_Bool, eqb-true}, Grind.common_steps, List.length-append}
+use Rattle.std.proofs.lemmas.{Bool.{and_parts, both_ways, cases_Bool}, Grind.common_steps, List.length-append}
 use Rattle.std.specs.Prelude.{◌==◌}
 use Rattle.bq_job.specs.promise.{Entry, LineHeard, LineOver, MayTellEnd, Run, answered_count, answers_to, answers_wanted}
 use Rattle.bq_job.specs.beside.{AreLinesServed, GetsAtMost, GetsClosed, GetsWhatWaits, IsLawful, owing}
@@ -19,9 +19,6 @@ is_here t e = not (is_tick e.what) && e.seat == t
 
 first_here : (t : ℕ) (e : Entry) (history : List Entry) → is_here t e ≡ true → steps_at t (e ∷ history) ≡ e.what ∷ steps_at t history
 first_here t e history h = grind (arith, common_steps, and_parts, cases_Bool)
-
-first_elsewhere : (t : ℕ) (e : Entry) (history : List Entry) → is_here t e ≡ false → steps_at t (e ∷ history) ≡ steps_at t history
-first_elsewhere t e history h = grind (arith, common_steps, cases_Bool)
 
 -- the machine serves this seat
 pub record Serves (t : ℕ) (m : Machine) : Type 0 where
@@ -82,15 +79,8 @@ ends_after most now all unclosed few is r = record {
   goes = r.goes;
 }
 
--- the entry is the seat's own step
-own_step : (t : ℕ) (e : Entry) → is_here t e ≡ true → e.seat ≡ t
-own_step t e h = eqb-true e.seat t ((and_parts (not (is_tick e.what)) (e.seat == t) h).1)
-
 still_few : (now owed before more : ℕ) → now + owed ≤ before → now + (owed + more) ≤ before + more
 still_few now owed before more few = omega arith
-
-still_fewer : (now owed before one more : ℕ) → now + owed ≤ before + one → now + (owed + more) ≤ before + (one + more)
-still_fewer now owed before one more few = omega arith
 
 at_most : {a b : ℕ} → a ≡ b → a ≤ b
 at_most e = omega arith
@@ -123,10 +113,8 @@ one_entry t m last e history given s r =
       serves = serves_on t m b.next e.moment e.seat e.what b.outcome b.now s b.step;
       runs = b.rest;
       whose = elim (cases_Bool (is_here t e)) [
-        | inl h ↦
-            let at = own_step t e h in
-            inl (first_here t e history h, subst (λ (n : ℕ). IsStep m e.moment n e.what b.outcome b.now b.next) at b.step)
-        | inr h ↦ inr (first_elsewhere t e history h, elsewhere t m b.next e.moment e.seat e.what b.outcome b.now s h b.step)
+        | inl h ↦ grind (arith, common_steps, first_here)
+        | inr h ↦ inr ((grind (arith, common_steps, cases_Bool)), elsewhere t m b.next e.moment e.seat e.what b.outcome b.now s h b.step)
       ];
     }
 
@@ -148,10 +136,7 @@ line_ends t m last (e ∷ history) given ss more s c w r is =
     line_ends t o.next last history o.rest ss' more o.serves c' w' o.runs tail in
     elim o.whose [
       | inl h ↦ own o behind ss w (sym h.0 ∙ is) h.1
-      | inr h ↦
-          let few = still_few (length (answers_to t o.now)) (owing t o.next) (owing t m) (wanted ss) (at_most h.1.count) in
-          let r' = behind ss (h.1.connected ∙ c) w (sym h.0 ∙ is) in
-          ends_after (owing t m + wanted ss) (answers_to t o.now) (answers_to t given) h.1.unclosed few o.all r'
+      | inr h ↦ grind (arith, common_steps, still_few, at_most, ends_after)
     ]
   where
     own : (o : OneEntry t m last e history (answers_to t given))
@@ -164,29 +149,12 @@ line_ends t m last (e ∷ history) given ss more s c w r is =
         let g : GetsClosed m o.next t (answers_to t o.now) =
         step_gives_client m o.next e.moment t steps.Close o.outcome o.now s.lawful s.within (own_entry o steps.Close is.0 step) c in
         let later = answers_to t o.rest in
-        record {
-          part = g.early;
-          later = later;
-          given_is = o.all ∙ ap (λ (xs : List Answer). xs ++ later) g.given_is ∙ append_assoc g.early (answers.Closed ∷ []) later;
-          unclosed = g.unclosed;
-          few = at_least (owing t m) g.count;
-          goes = record {
-            first = o.next;
-            history = history;
-            given = o.rest;
-            serves = o.serves;
-            free = g.gone;
-            owes = g.none;
-            runs = o.runs;
-            steps_are = is.1;
-            answers_are = refl;
-          };
-        }
+        grind (arith, common_steps, append_assoc, at_least)
     own o behind (steps.Ask request ∷ ss) w both step =
         let is = heads e.what (steps.Ask request) (steps_at t history) (ss ++ steps.Close ∷ more) both in
         let g : GetsAtMost m o.next t request (answers_to t o.now) =
         asks_at_most m o.next e.moment t request o.outcome o.now s.lawful s.within c (own_entry o (steps.Ask request) is.0 step) in
-        let few = still_fewer (length (answers_to t o.now)) (owing t o.next) (owing t m) (answers_wanted request) (wanted ss) g.count in
+        let few : (length (answers_to t o.now)) + ((owing t o.next) + (wanted ss)) ≤ (owing t m) + ((answers_wanted request) + (wanted ss)) = omega arith in
         let r' = behind ss g.connected w is.1 in
         ends_after (owing t m + wanted (steps.Ask request ∷ ss)) (answers_to t o.now) (answers_to t given) g.unclosed few o.all r'
     own o behind (steps.End ∷ ss) w both step =
@@ -212,10 +180,6 @@ pub record Connects (t : ℕ) (more : List Step) (given : List Answer) (last : M
 
 pub none_in : {X : Type 0} (xs : List X) → length xs ≤ 0 → xs ≡ []
 none_in xs h = grind (arith, common_steps, cases_Bool)
-
--- who waits for nothing gets nothing
-gets_nothing : (m next : Machine) (t : ℕ) (given : List Answer) → owing t m ≡ 0 → GetsWhatWaits m next t given → (given ≡ []) × (owing t next ≡ 0)
-gets_nothing m next t given none g = grind (arith, common_steps, none_in)
 
 -- nothing comes before the rest
 nothing_first : (now rest all : List Answer) → all ≡ now ++ rest → now ≡ [] → all ≡ rest
@@ -247,7 +211,7 @@ connects t m last (e ∷ history) given more s free none r is =
             answers_are = quiet;
           }
       | inr h ↦
-          let quiet = gets_nothing m o.next t now none h.1 in
+          let quiet : (now ≡ []) × (owing t o.next ≡ 0) = grind (arith, common_steps, none_in) in
           let c = connects t o.next last history o.rest more o.serves (h.1.connected ∙ free) quiet.1 o.runs (sym h.0 ∙ is) in
           subst (λ (xs : List Answer). Connects t more xs last) (sym (nothing_first now rest (answers_to t given) o.all quiet.0)) c
     ]
@@ -268,7 +232,7 @@ nothing_behind t m last [] given s none r gone = ap (answers_to t) ((run_of_none
 nothing_behind t m last (e ∷ history) given s none r gone =
     let o = one_entry t m last e history given s r in
     let finish : GetsWhatWaits m o.next t (answers_to t o.now) → are_gone (steps_at t history) ≡ true → answers_to t given ≡ [] = λ g gone'.
-    let quiet = gets_nothing m o.next t (answers_to t o.now) none g in
+    let quiet : ((answers_to t o.now) ≡ []) × (owing t o.next ≡ 0) = grind (arith, common_steps, none_in) in
     nothing_first (answers_to t o.now) (answers_to t o.rest) (answers_to t given) o.all quiet.0
     ∙ nothing_behind t o.next last history o.rest o.serves quiet.1 o.runs gone' in
     elim o.whose [
@@ -303,18 +267,11 @@ within_asked : (asked : List Request) (told : List Step) → are_within told ≡
 within_asked [] told h = h
 within_asked (r ∷ asked) told h = within_asked asked told h
 
-within_line : (seen : LineHeard) (asked : List Request) (told : List Step) → MayTellEnd seen asked told → are_within (map steps.Ask asked ++ told) ≡ true
-within_line seen asked told h = grind (arith, common_steps, cases_Bool, within_asked)
-
 told_wants : (seen : LineHeard) (asked : List Request) (told : List Step) → MayTellEnd seen asked told → wanted told ≡ 0
 told_wants seen asked told h = grind (arith, common_steps, cases_Bool)
 
 line_wants : (seen : LineHeard) (asked : List Request) (told : List Step) → MayTellEnd seen asked told → wanted (map steps.Ask asked ++ told) ≡ answered_count asked
 line_wants seen asked told e = omega (arith, wanted_append (map steps.Ask asked) told, told_wants seen asked told e)
-
--- the steps of a line, and those behind it
-line_then : (ss more rest : List Step) → ((ss ++ steps.Close ∷ []) ++ more) ++ rest ≡ ss ++ steps.Close ∷ (more ++ rest)
-line_then ss more rest = append_assoc (ss ++ steps.Close ∷ []) more rest ∙ append_assoc ss (steps.Close ∷ []) (more ++ rest)
 
 pub gives_parts : (t : ℕ) (size : ℕ) (lines : List LineOver) (own : List Step) (taken : List Answer) (h : AreLinesServed size lines own taken)
     → (m last : Machine) (history : List Entry) (given : List GivenAnswer) → Serves t m → is_connected_at t m ≡ false → owing t m ≡ 0
@@ -325,10 +282,9 @@ gives_parts t size (line ∷ lines) own taken h m last history given s free none
     let l = h.4.line_owed.steps in
     let ss = map steps.Ask l.asked ++ l.end_steps in
     let more = h.1 ++ tail in
-    let whole : own ++ tail ≡ steps.Connect ∷ (ss ++ steps.Close ∷ more) =
-    ap (λ (xs : List Step). xs ++ tail) (h.5 ∙ ap (λ (xs : List Step). xs ++ h.1) l.steps_are) ∙ ap (λ (xs : List Step). steps.Connect ∷ xs) (line_then ss h.1 tail) in
+    let whole : own ++ tail ≡ steps.Connect ∷ (ss ++ steps.Close ∷ more) = grind (arith, common_steps) in
     let c = connects t m last history given (ss ++ steps.Close ∷ more) s free none r (is ∙ whole) in
-    let e = line_ends t c.first last c.history c.rest ss more c.serves c.connected (within_line (heard line.seen) l.asked l.end_steps l.ends) c.runs c.steps_are in
+    let e = line_ends t c.first last c.history c.rest ss more c.serves c.connected (grind (arith, common_steps, cases_Bool, within_asked)) c.runs c.steps_are in
     let g = e.goes in
     let later = gives_parts t size lines h.1 h.3 h.7 g.first last g.history g.given g.serves g.free g.owes tail gone g.runs g.steps_are in (
       e.part,

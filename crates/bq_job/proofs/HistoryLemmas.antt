@@ -1,6 +1,6 @@
 -- A run that is computed, as part of a history; and the lines of a door, each with its steps.
 use Rattle.std.proofs.Common.{◌≡◌, ℕ, suc, Bool, true, false, List, [], ◌∷◌, ◌++◌, map, length, Option, ◌⊎◌, refl, ap, inl, arith, rules, subst}
-use Rattle.std.proofs.lemmas.{Bool.{cases_Bool, or_right}, Grind.common_steps}
+use Rattle.std.proofs.lemmas.{Bool.cases_Bool, Grind.common_steps}
 use Rattle.std.specs.List.{list_any}
 use Rattle.bq_job.specs.promise.{AreAllAnswered, AreDoorsOwed, AreLinesOwed, ArePickedFrom, AreSeatsUpTo, Entry, IsControlDone}
 use Rattle.bq_job.specs.promise.{IsDoorOwed, IsLineOwed, IsOverBy, IsRun, IsStepsOfLine, IsTimedBy, IsWritten, LineOver, heard, steps_at}
@@ -29,13 +29,7 @@ computed_IsRun settings readings history timed =
     record {
       runs = (
         map (λ t. t.outcome) (transitions first history),
-        record {
-          taken = transitions first history;
-          goes = computed_goes first history;
-          history_is = entries_stay first history;
-          outcomes_are = refl;
-          given_is = refl;
-        },
+        (grind (arith, common_steps, transitions first history, computed_goes first history, entries_stay first history)),
       );
       timed = timed;
     }
@@ -54,8 +48,7 @@ pub line_so : (line : LineOver) (read asked : List Request) (given : List Answer
     → IsLineOwed usual line (steps.Connect ∷ [] ++ map steps.Ask asked ++ [] ++ steps.Close ∷ []) given
 line_so line read asked given is_read over answered written =
     let reads = subst (λ (r : List Request × List ℕ). Reads usual line.seen.read r.0 r.1) is_read (reading-Reads usual line.seen.read) in
-    let s : IsStepsOfLine usual (heard line.seen) line.over (steps.Connect ∷ [] ++ map steps.Ask asked ++ [] ++ steps.Close ∷ []) =
-    record { requests = read; rest = []; asked = asked; end_steps = []; reads = reads; is_over = over; ends = inl refl; steps_are = refl } in
+    let s : IsStepsOfLine usual (heard line.seen) line.over (steps.Connect ∷ [] ++ map steps.Ask asked ++ [] ++ steps.Close ∷ []) = grind (arith, common_steps) in
     record { steps = s; answered = answered; written = written }
 
 -- one line more, before others
@@ -79,10 +72,6 @@ abbrev is_close : Step → Bool
 is_close steps.Close = true
 is_close _ = false
 
-close_behind : (xs ys : List Step) → list_any is_close ys ≡ true → list_any is_close (xs ++ ys) ≡ true
-close_behind [] ys h = h
-close_behind (x ∷ xs) ys h = or_right (is_close x) (list_any is_close (xs ++ ys)) (close_behind xs ys h)
-
 close_before : (xs ys : List Step) → list_any is_close xs ≡ true → list_any is_close (xs ++ ys) ≡ true
 close_before [] ys h = absurd cc
 close_before (steps.Close ∷ xs) ys h = refl
@@ -92,7 +81,7 @@ close_before (x ∷ xs) ys h = close_before xs ys h
 lines_are_shut : (size : ℕ) (lines : List LineOver) (own : List Step) (given : List Answer) → AreLinesOwed size lines own given
     → (own ≡ []) ⊎ (list_any is_close own ≡ true)
 lines_are_shut size [] own given h = inl h.0
-lines_are_shut size (line ∷ lines) own given h = grind (arith, common_steps, close_behind, close_before)
+lines_are_shut size (line ∷ lines) own given h = grind (arith, common_steps, close_before)
 
 -- no lines have these steps
 pub dropped_none : (lines : List LineOver) (given : List Answer)

@@ -1,8 +1,8 @@
 -- What a part of a step may do to jobs, as moves: a quiet one, a put, and a job that dispatch hands out.
-use Rattle.std.proofs.Common.{ℕ, suc, ◌≡◌, ◌<◌, Bool, true, false, cond, List, [], ◌∷◌, ◌++◌, map, refl, sym, ap, ◌∙◌, subst, append_assoc, Option, Some, None}
+use Rattle.std.proofs.Common.{ℕ, suc, ◌≡◌, ◌<◌, Bool, true, false, cond, List, [], ◌∷◌, ◌++◌, map, subst, Option, Some, None}
 use Rattle.std.specs.{List.{AllByRecursion as All, Contains, list_any}, Prelude.◌==◌}
 use Rattle.bq_job.specs.{beside.AreIdsWithin, declared.job.Job.Job, laws.{Happening, Part, disturbs, handed_out}}
-use Rattle.bq_job.specs.{laws.{happenings, is_deletion, put}, machine.{is_job_before, is_ready, is_reserved, job_with}}
+use Rattle.bq_job.specs.{laws.{is_deletion, put}, machine.{is_job_before, is_ready, is_reserved, job_with}}
 use Rattle.bq_job.specs.machine.{reserved_by, Machine.Machine}
 
 -- neither a put nor a hand-out
@@ -63,7 +63,3 @@ Moves m (p ∷ parts) n = Move m p.happened p.machine × Moves p.machine parts n
 pub moves_append : (m k n : Machine) (parts more : List Part) → Moves m parts k → Moves k more n → Moves m (parts ++ more) n
 moves_append m k n [] more h i = subst (λ l. Moves l more n) h i
 moves_append m k n (p ∷ parts) more h i = (h.0, moves_append p.machine k n parts more h.1 i)
-
-pub happenings_append : (parts more : List Part) → happenings (parts ++ more) ≡ happenings parts ++ happenings more
-happenings_append [] more = refl
-happenings_append (p ∷ parts) more = ap (λ hs. p.happened ++ hs) (happenings_append parts more) ∙ sym (append_assoc p.happened (happenings parts) (happenings more))

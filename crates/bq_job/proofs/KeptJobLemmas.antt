@@ -1,13 +1,13 @@
 -- A job that was put is there until it is deleted, and one client at most holds it.
-use Rattle.std.proofs.Common.{◌++◌, ◌<◌, ◌∙◌, ◌∷◌, ◌≡◌, ◌⊎◌, List, Option, Some, [], ℕ, ap, arith, cond, false, inl, inr, refl, subst, sym, true}
-use Rattle.std.proofs.{Common.map-id, lemmas.Bool.{and_from, and_parts, both_ways, cases_Bool, cond_both, eq-eqb}}
+use Rattle.std.proofs.Common.{◌++◌, ◌<◌, ◌∙◌, ◌∷◌, ◌≡◌, ◌⊎◌, List, Some, [], ℕ, ap, arith, cond, false, inl, inr, refl, subst, sym, true}
+use Rattle.std.proofs.lemmas.Bool.{cases_Bool, cond_both}
 use Rattle.std.proofs.lemmas.{Bool.{eqb-true, or_parts}, Grind.common_steps, List.Folds.list_any-append}
 use Rattle.std.specs.{List.{AllByRecursion as All, Contains, list_any}, Prelude.{◌==◌, option_map}}
-use Rattle.bq_job.specs.machine.{Settings, is_connected_at, is_held_by, is_holder, is_reserved, job_with, Machine.Machine}
+use Rattle.bq_job.specs.machine.{Settings, is_holder, job_with, Machine.Machine}
 use Rattle.bq_job.specs.laws.{Happening, IsHeldByOne, IsKept, Part, happenings, is_deletion, parts_of_run, put}
 use Rattle.bq_job.specs.{machine.{new_machine, reserved_by}, promise.{GoesBy, Transition}, Types.{Job, JobState}}
-use Rattle.bq_job.proofs.{JobMoves.{Fate, Move, Moves, handing, putting, quiet}, KeptLemmas.Keeps}
-use Rattle.bq_job.proofs.{LawfulLemmas.new_is_lawful, ListLemmas.{all_at, list_any_of_map}, LookupLemmas.found_job}
+use Rattle.bq_job.proofs.{JobMoves.{Move, Moves, handing, putting, quiet}, KeptLemmas.Keeps}
+use Rattle.bq_job.proofs.{LawfulLemmas.new_is_lawful, ListLemmas.all_at, LookupLemmas.found_job}
 use Rattle.bq_job.proofs.{LookupLemmas.{job_at_end, job_found}, OrderLemmas.{put_behind, put_now_or_behind}}
 use Rattle.bq_job.proofs.{SpentLemmas.{handed_lookup, put_lookup}, StepMoves.{ArePartsGone, parts_go, run_gone}}
 
@@ -19,24 +19,15 @@ pub record IsThere (j : Job) (m : Machine) : Type 0 where
   pub tube : job.tube ≡ j.tube
   pub body : job.body ≡ j.body
 
-there_by_fate : (j : Job) (m n : Machine) (happened : List Happening) (h : IsThere j m) (o : Option Job) → job_with j.id n.jobs ≡ o → n.next_id ≡ m.next_id → Fate j.id happened (Some h.job) o → list_any (is_deletion j.id) happened ≡ false → IsThere j n
-there_by_fate j m n happened h o e next fate none = grind (arith, common_steps, cases_Bool, both_ways)
-
 there_after : (j : Job) (m n : Machine) (happened : List Happening) → Move m happened n → list_any (is_deletion j.id) happened ≡ false → IsThere j m → IsThere j n
-there_after j m n happened (quiet q) none h = grind (arith, common_steps, there_by_fate)
+there_after j m n happened (quiet q) none h = grind (arith, common_steps)
 there_after j m n happened (putting p) none h =
-    let less = h.below in let next = p.next in
+    let less = h.below in
     record { job = h.job; found = put_lookup j.id m n happened p less ∙ h.found; below = omega arith; tube = h.tube; body = h.body }
 there_after j m n happened (handing g) none h =
-    let less = h.below in let next = g.next in
+    let next = g.next in
     let seen = handed_lookup j.id m n happened g ∙ ap (option_map (λ i. cond (i.id == g.job.id) (reserved_by m.moment g.seat i) i)) h.found in
-    record {
-      job = cond (h.job.id == g.job.id) (reserved_by m.moment g.seat h.job) h.job;
-      found = seen;
-      below = omega arith;
-      tube = cond_both (h.job.id == g.job.id) (reserved_by m.moment g.seat h.job) h.job (λ k. k.tube ≡ j.tube) (λ e. h.tube) (λ e. h.tube);
-      body = cond_both (h.job.id == g.job.id) (reserved_by m.moment g.seat h.job) h.job (λ k. k.body ≡ j.body) (λ e. h.body) (λ e. h.body);
-    }
+    grind (arith, common_steps, cond_both)
 
 -- there now, or put by a move that comes
 there_or_to_come : (j : Job) (m n : Machine) (happened more : List Happening) → Move m happened n → list_any (is_deletion j.id) happened ≡ false → IsThere j m ⊎ Contains (happened ++ more) (put j) → IsThere j n ⊎ Contains more (put j)
@@ -83,18 +74,10 @@ accepted_is_kept settings taken last early late p j goes split accepted none =
 one_holder : (seat other : ℕ) (s : JobState) → is_holder seat s ≡ true → is_holder other s ≡ true → seat ≡ other
 one_holder seat other s h i = grind (arith, common_steps, cases_Bool, eqb-true)
 
-held_is_reserved : (seat : ℕ) (s : JobState) → is_holder seat s ≡ true → is_reserved s ≡ true
-held_is_reserved seat s h = grind (arith, common_steps, cases_Bool)
-
-holder_connected : (seat : ℕ) (m : Machine) (j : Job) → Keeps m → Contains m.jobs j → is_held_by seat j ≡ true → is_connected_at seat m ≡ true
-holder_connected seat m j keeps i h =
-    grind (arith, common_steps, all_at, held_is_reserved, map-id, list_any_of_map, and_parts, and_from, eq-eqb, one_holder)
-
 held_by_one : (m : Machine) → Keeps m → IsHeldByOne m
 held_by_one m keeps seat other id h i =
-    let a = job_found 1 m.next_id m.jobs h.0 keeps.ids h.1 in
     let b = job_found 1 m.next_id m.jobs i.0 keeps.ids i.1 in
-    grind (arith, common_steps, one_holder, holder_connected)
+    grind (arith, common_steps, one_holder, job_found)
 
 part_keeps : (m n : Machine) (parts : List Part) → ArePartsGone m parts n → All (λ p. Keeps p.machine) parts
 part_keeps m n [] h = tt

@@ -3,7 +3,7 @@ use Rattle.std.proofs.Common.{ℕ, zero, suc, ◌≡◌, ◌≤◌, ◌+◌, Boo
 use Rattle.std.proofs.lemmas.Bool.{cases_Bool, and_parts, and_from, or_parts, or_left, or_right, or_cases, both_ways, cond_both, eqb-true, eqb-false, leb-false}
 use Rattle.std.proofs.lemmas.Grind.{common_steps}
 use Rattle.std.specs.{List.{AllByRecursion as All, list_any}, Prelude.{◌==◌, filter, find, nat_le}}
-use Rattle.bq_job.specs.machine.{Machine.Machine, SeatRecord, empty_seat, given_back, in_state, is_held_by, is_reserved, is_waiting}
+use Rattle.bq_job.specs.machine.{Machine.Machine, SeatRecord, empty_seat, given_back, is_held_by, is_reserved, is_waiting}
 use Rattle.bq_job.specs.{beside.{AreIdsWithin, IsLawful}, machine.{last_id, numbers}, Types.{Job, JobState}}
 use Rattle.bq_job.proofs.ListLemmas.{all_always, all_both, all_of_append, all_of_filter, all_of_map, all_pass, all_weaker, keys_of_map, list_any_of_map}
 
@@ -51,10 +51,7 @@ ids_of_push low next (k ∷ jobs) j e h = (h.0, ids_of_push (suc k.id) next jobs
 -- Jobs change, each keeps its id, and whoever holds one is connected.
 pub kept_of_jobs : {places next : ℕ} {jobs : List Job} {seats : List SeatRecord} {draining : Bool} (f : Job → Job) → Kept places jobs seats next draining → ((j : Job) → (f j).id ≡ j.id) → ((j : Job) → has_holder seats j ≡ true → has_holder seats (f j) ≡ true) → Kept places (map f jobs) seats next draining
 kept_of_jobs {next = next} {jobs = jobs} {seats = seats} f h same held =
-    let ids = ids_of_map f 1 next jobs same h.ids in
-    let holders = all_of_map (λ j. has_holder seats j ≡ true) f jobs
-    (all_weaker (λ j. has_holder seats j ≡ true) (λ j. has_holder seats (f j) ≡ true) jobs held h.holders) in
-    assumption
+    grind (arith, common_steps, ids_of_map, all_of_map, all_weaker)
 
 -- the same where the job of one id changes
 pub kept_of_job : {places next : ℕ} {jobs : List Job} {seats : List SeatRecord} {draining : Bool} (id : ℕ) (f : Job → Job) → Kept places jobs seats next draining → ((j : Job) → (f j).id ≡ j.id) → ((j : Job) → has_holder seats (f j) ≡ true) → Kept places (map (λ j. cond (j.id == id) (f j) j) jobs) seats next draining
@@ -109,9 +106,7 @@ pub numbers_above : (low n : ℕ) (seats : List SeatRecord) → map (λ s. s.num
 numbers_above low n [] e = tt
 numbers_above low zero (s ∷ seats) e = absurd cc
 numbers_above low (suc n) (s ∷ seats) e =
-    let here : s.number ≡ low = (cc) in
-    let rest : map (λ s. s.number) seats ≡ numbers (suc low) n = (cc) in
-    (omega arith, all_weaker (λ s. suc low ≤ s.number) (λ s. low ≤ s.number) seats (λ s h. omega arith) (numbers_above (suc low) n seats rest))
+    grind (arith, common_steps, all_weaker, numbers_above (suc low) n seats)
 
 -- The seat that is found is the only one of its number.
 pub only_seat : (low n number : ℕ) (seats : List SeatRecord) (s : SeatRecord) → map (λ s. s.number) seats ≡ numbers low n → find (λ s. s.number == number) seats ≡ Some s → All (λ t. t.number ≡ number → t ≡ s) seats
@@ -149,36 +144,16 @@ held_elsewhere seat seats j e h =
 
 -- A client goes: the jobs that it holds are held by nobody, and its seat is empty.
 pub kept_of_close : {places next : ℕ} {jobs : List Job} {seats : List SeatRecord} {draining : Bool} (state : JobState) (seat : ℕ) → is_reserved state ≡ false → Kept places jobs seats next draining → Kept places (map (given_back state seat) jobs) (map (λ s. cond (s.number == seat) (empty_seat s.number) s) seats) next draining
-kept_of_close {next = next} {jobs = jobs} {seats = seats} state seat free h = record {
-  ids = ids_of_map (given_back state seat) 1 next jobs (λ j. cond_both (is_held_by seat j) (in_state state j) j (λ k. k.id ≡ j.id) (λ e. refl) (λ e. refl)) h.ids;
-  accepts = h.accepts;
-  fits = h.fits;
-  holders = all_of_map (λ j. has_holder (map (emptied seat) seats) j ≡ true) (given_back state seat) jobs
-      (all_weaker (λ j. has_holder seats j ≡ true) (λ j. has_holder (map (emptied seat) seats) (given_back state seat j) ≡ true) jobs
-      (λ j i. cond_both (is_held_by seat j) (in_state state j) j (λ k. has_holder (map (emptied seat) seats) k ≡ true) (λ e. rw free refl)
-      (λ e. held_elsewhere seat seats j e i)) h.holders);
-  seated = grind (arith, common_steps, keys_of_map, all_always, cond_both);
-  waits = grind (arith, common_steps, all_of_map, all_weaker, cond_both);
-}
+kept_of_close {next = next} {jobs = jobs} {seats = seats} state seat free h = grind (arith, common_steps, ids_of_map, cond_both, all_of_map, all_weaker, held_elsewhere, keys_of_map, all_always)
 
 -- A job is added that nobody holds.
 pub kept_of_push : {places next : ℕ} {jobs : List Job} {seats : List SeatRecord} {draining : Bool} (j : Job) → Kept places jobs seats next draining → draining ≡ false → j.id ≡ next → is_reserved j.state ≡ false → Kept places (jobs ++ j ∷ []) seats (next + 1) (draining || nat_le last_id next)
-kept_of_push {next = next} {jobs = jobs} {seats = seats} {draining = draining} j h opens is free = record {
-  ids = ids_of_push 1 next jobs j is h.ids;
-  accepts = λ e. let n = h.accepts opens in let parts = or_parts draining (nat_le last_id next) e in let less = leb-false last_id next parts.1 in omega arith;
-  fits = let n = h.accepts opens in omega arith;
-  holders = all_of_append (λ j. has_holder seats j ≡ true) jobs (j ∷ []) h.holders (rw free refl, tt);
-  seated = h.seated;
-  waits = h.waits;
-}
+kept_of_push {next = next} {jobs = jobs} {seats = seats} {draining = draining} j h opens is free = grind (arith, common_steps, ids_of_push, or_parts, leb-false, all_of_append)
 
 -- Jobs are taken out.
 pub kept_of_filter : {places next : ℕ} {jobs : List Job} {seats : List SeatRecord} {draining : Bool} (p : Job → Bool) → Kept places jobs seats next draining → Kept places (filter p jobs) seats next draining
 kept_of_filter {next = next} {jobs = jobs} {seats = seats} p h =
-    let ids = ids_of_filter p 1 next jobs h.ids in
-    let holders = all_weaker (λ j. (has_holder seats j ≡ true) × (p j ≡ true)) (λ j. has_holder seats j ≡ true) (filter p jobs) (λ j c. c.0)
-    (all_of_filter (λ j. has_holder seats j ≡ true) p jobs h.holders) in
-    assumption
+    grind (arith, common_steps, ids_of_filter, all_weaker, all_of_filter)
 
 -- Draining begins.
 pub kept_of_drain : {places next : ℕ} {jobs : List Job} {seats : List SeatRecord} {draining : Bool} → Kept places jobs seats next draining → Kept places jobs seats next true

@@ -2,13 +2,13 @@
 use Rattle.std.proofs.Common.{ℕ, zero, suc, ◌≡◌, ◌≤◌, ◌<◌, ◌+◌, true, false, ◌&&◌, not, cond, List, [], ◌∷◌, map, length, arith, refl, sym, ap, ◌∙◌, subst, inl, inr, Option, Some, None, rules}
 use Rattle.std.proofs.lemmas.{Bool.{cases_Bool, cond_both, eq-eqb, le-leb, or_left, or_right}, Grind.common_steps}
 use Rattle.std.proofs.lemmas.List.{length-map, Sums.count_by-le-length}
-use Rattle.std.specs.{Cmp.Lexicographic.bytes_decides, List.{Contains, list_all, list_any}, Prelude.{◌==◌, nat_le}}
+use Rattle.std.specs.{Cmp.Lexicographic.bytes_decides, List.{Contains, list_all, list_any}, Prelude.◌==◌}
 use Rattle.bq_job.specs.machine.{Chain, DispatchTurn, Dispatches, EndsWaits, GivenAnswer, IsHandOut, IsStep, Machine.Machine, Memory}
 use Rattle.bq_job.specs.machine.{Outcome, SeatRecord, Serves, Settings, TubeRecord, WaitEndTurn, acted, addressed, after_timers, at_moment}
 use Rattle.bq_job.specs.machine.{is_waiting, is_waiting_for, job_after_timers, new_machine, next_end, next_job, next_seat}
 use Rattle.bq_job.specs.machine.{numbers, reserved_by, share_refused, watches, with_job, with_seat, with_timeout, without_wait}
 use Rattle.bq_job.specs.{beside.{IsLawful, has_open_holder, waiting_count, watches_once}, machine.empty_seat}
-use Rattle.bq_job.specs.machine.{end_of_wait, forgetting, granted, greatest, growth_refused, in_state, is_paused}
+use Rattle.bq_job.specs.machine.{end_of_wait, forgetting, granted, growth_refused, in_state, is_paused}
 use Rattle.bq_job.specs.{machine.{is_ready, is_tube}, reading.TubeName.is_same_name, Types.{Answer, Job, Step}}
 use Rattle.bq_job.specs.declared.job.JobState.TheVariants as states
 use Rattle.bq_job.proofs.KeptLemmas.{Keeps, has_holder, is_open_wait, kept_of_job, kept_of_jobs, kept_of_lawful, kept_of_seat, IsMild}
@@ -86,9 +86,7 @@ pub record AreTurns (first : Machine) (given : List GivenAnswer) (last : Machine
 turns_of_chain : (Turns : Machine → GivenAnswer → Machine → Type 0) (first : Machine) (given : List GivenAnswer) (last : Machine) → ((m : Machine) (g : GivenAnswer) (n : Machine) → Keeps m → Turns m g n → IsTurn m n) → Keeps first → Chain Turns first given last → AreTurns first given last
 turns_of_chain Turns first [] last each h chain = record { keeps = subst Keeps (sym chain) h; waiting = let e : waiting_count last ≡ waiting_count first = ap waiting_count chain in omega arith }
 turns_of_chain Turns first (g ∷ given) last each h chain =
-    let one = each first g chain.0 h chain.1 in
-    let more = turns_of_chain Turns chain.0 given last each one.keeps chain.2 in
-    record { keeps = more.keeps; waiting = let a = one.waiting in let b = more.waiting in omega arith }
+    grind (arith, common_steps, turns_of_chain Turns chain.0 given last each (each first g chain.0 h chain.1).keeps chain.2)
 
 -- Dispatch keeps it, and gives at most as many answers as clients wait no more.
 pub turns_of_dispatches : (first : Machine) (given : List GivenAnswer) (last : Machine) → Keeps first → Dispatches first given last → AreTurns first given last
@@ -153,9 +151,6 @@ only_tubes m =
     (all_weaker (λ t. Unit {0} × (is_tube t.name m ≡ true)) (λ t. is_tube t.name (forgetting m) ≡ true) (forgetting m).tubes (λ t c. c.1)
     (all_of_filter (λ t. Unit {0}) (λ t. is_tube t.name m) m.tubes (all_always (λ t. Unit {0}) m.tubes (λ t. tt))))
 
-counts_fit : (m : Machine) → Booked m → list_all (λ n. nat_le n greatest) (m.timeouts ∷ m.puts ∷ m.connections ∷ m.burials ∷ m.tickets ∷ []) ≡ true
-counts_fit m b = grind (arith, common_steps, list_all_from, le-leb)
-
 -- Where no job and no wait is next, the machine is lawful once tubes that are gone are forgotten.
 pub lawful_when_done : (m : Machine) → Keeps m → Booked m → next_job m ≡ None → next_end m ≡ None → IsLawful (forgetting m)
 lawful_when_done m h b jobs ends = record {
@@ -170,7 +165,7 @@ lawful_when_done m h b jobs ends = record {
   tubes = only_tubes m;
   tube_order = (booked_forgetting m b).order;
   watched = list_all_from watches_once m.seats b.watched;
-  counts = counts_fit m b;
+  counts = grind (arith, common_steps, list_all_from, le-leb);
 }
 
 -- After dispatch and the ends of waits the machine is lawful.
@@ -227,6 +222,4 @@ few_answers first last at seat what outcome given h s =
     let before = served begin s.handed s.ended s.before (kept_of_timers at first k) s.serves in
     let act = leaves_acted s.memory s.before seat what before.keeps in
     let then = served s.after s.handed_then s.ended_then last (subst Keeps (sym s.acts) act.keeps) s.serves_then in
-    let answered = length_addressed seat (acted s.memory s.before seat what).answer in
-    let same : waiting_count s.after ≡ waiting_count (acted s.memory s.before seat what).machine = ap waiting_count s.acts in
-    grind (arith, common_steps, seats_many, count_by-le-length)
+    grind (arith, common_steps, seats_many, count_by-le-length, length_addressed)

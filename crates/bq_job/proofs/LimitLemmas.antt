@@ -1,12 +1,12 @@
 -- There are never more jobs than there may be.
-use Rattle.std.proofs.Common.{◌∙◌, ◌∷◌, ◌≡◌, ◌≤◌, List, Option, Some, [], ℕ, ap, arith, false, length, not, refl, subst, suc, sym}
-use Rattle.std.proofs.lemmas.{Bool.{cases_Bool, leb-false}, Grind.common_steps, List.length-map}
-use Rattle.std.specs.{List.{AllByRecursion as All, Contains}, Prelude.◌==◌}
+use Rattle.std.proofs.Common.{◌∙◌, ◌∷◌, ◌≡◌, ◌≤◌, List, Some, [], ℕ, ap, arith, length, refl, subst, sym}
+use Rattle.std.proofs.lemmas.{Bool.cases_Bool, Grind.common_steps, List.length-map}
+use Rattle.std.specs.List.{AllByRecursion as All, Contains}
 use Rattle.bq_job.specs.{beside.IsLawful, laws.{Part, parts_in, parts_of_run}, machine.{Chain, Dispatches, EndsWaits}}
-use Rattle.bq_job.specs.machine.{GivenAnswer, IsHandOut, SeatRecord, acted, after_timers, at_moment}
-use Rattle.bq_job.specs.machine.{forgetting, is_full, new_machine, Machine.Machine}
-use Rattle.bq_job.specs.{promise.{GoesBy, IsTransition, Parts, Transition}, Types.{Job, Settings, Step}}
-use Rattle.bq_job.proofs.{ActMoves.{After, after_acted}, ChangeLemmas.{added, changed, removed_one}}
+use Rattle.bq_job.specs.machine.{GivenAnswer, acted, after_timers, at_moment}
+use Rattle.bq_job.specs.machine.{forgetting, new_machine, Machine.Machine}
+use Rattle.bq_job.specs.{promise.{GoesBy, IsTransition, Parts, Transition}, Types.{Settings, Step}}
+use Rattle.bq_job.proofs.ActMoves.{After, after_acted}
 use Rattle.bq_job.proofs.{DispatchLemmas.turn_of, KeptLemmas.{Keeps, kept_of_lawful}, LawfulLemmas.end_of}
 use Rattle.bq_job.proofs.{LawfulLemmas.{kept_of_timers, new_is_lawful, served, step_is_lawful}, ListLemmas.all_at}
 use Rattle.bq_job.proofs.{ListLemmas.{all_of_append, filter_no_longer}, ReplyLemmas.stays_acted}
@@ -35,29 +35,16 @@ by_turns : (Turns : Machine → GivenAnswer → Machine → Type 0) (first : Mac
 by_turns Turns first [] last each chain = adds_none first last first chain refl refl
 by_turns Turns first (g ∷ given) last each chain = then_adds_none first chain.0 last (each first g chain.0 chain.1) (by_turns Turns chain.0 given last each chain.2)
 
-by_hand_out : (m : Machine) (j : Job) (s : SeatRecord) (given : GivenAnswer) (next : Machine) → IsHandOut m j s given next → AddsNone m next
-by_hand_out m j s given next h = grind (arith, common_steps, adds_none, length-map)
-
 by_dispatch : (m : Machine) (given : List GivenAnswer) (n : Machine) → Dispatches m given n → AddsNone m n
-by_dispatch m given n d = grind (arith, common_steps, then_adds_none, by_turns, turn_of, by_hand_out, adds_none)
+by_dispatch m given n d = grind (arith, common_steps, then_adds_none, by_turns, turn_of, adds_none)
 
 by_ends : (m : Machine) (given : List GivenAnswer) (n : Machine) → EndsWaits m given n → AddsNone m n
 by_ends m given n w = grind (arith, common_steps, then_adds_none, by_turns, adds_none, end_of)
 
-by_timers : (at : ℕ) (m : Machine) → AddsNone m (forgetting (after_timers (at_moment at m)))
-by_timers at m = grind (arith, common_steps, adds_none, length-map)
-
--- Where there is a place for a job, there may be one job more.
-one_more_fits : (limit : Option ℕ) (jobs : List Job) (most : ℕ) → is_full limit jobs ≡ false → limit ≡ Some most → suc (length jobs) ≤ most
-one_more_fits limit jobs most free e = grind (arith, common_steps, cases_Bool, leb-false)
-
 -- A command adds a job only where there is a place for it.
 by_command : (settings : Settings) (what : Step) (m n : Machine) → n.settings ≡ m.settings → After what m n → IsWithin settings m → IsWithin settings n
-by_command settings what m n same (changed f after next ids becomes) w =
-    within_then settings m n w (record { same = same; fewer = let many : length n.jobs ≡ length m.jobs = ap length after ∙ length-map m.jobs f in omega arith })
-by_command settings what m n same (removed_one id told after next) w =
-    within_then settings m n w (record { same = same; fewer = let many = ap length after in let less = filter_no_longer (λ k. not (k.id == id)) m.jobs in omega arith })
-by_command settings what m n same (added j after next is at_once free) w = grind (arith, common_steps, one_more_fits)
+by_command settings what m n same v6 w =
+    grind (arith, common_steps, cases_Bool, within_then, length-map, filter_no_longer)
 
 -- the parts of a step
 within_parts : (settings : Settings) (t : Transition) → Keeps t.first → IsTransition t → IsWithin settings t.first → All (λ p. IsWithin settings p.machine) (parts_in t) × IsWithin settings t.last
@@ -68,7 +55,7 @@ within_parts settings t keeps is w =
     let k0 = kept_of_timers t.entry.moment m keeps in
     let k2 = (served timed s.handed s.ended s.before k0 s.serves).keeps in
     let done = (acted s.memory s.before t.entry.seat t.entry.what).machine in
-    let w0 = within_then settings m timed w (by_timers t.entry.moment m) in
+    let w0 = within_then settings m timed w (grind (arith, common_steps, adds_none, length-map)) in
     let w1 = within_then settings timed s.serves.between w0 (by_dispatch timed s.handed s.serves.between s.serves.dispatches) in
     let w2 = within_then settings s.serves.between s.before w1 (by_ends s.serves.between s.ended s.before s.serves.ends_waits) in
     let a = by_command settings t.entry.what s.before done (stays_acted 0 s.memory s.before t.entry.seat t.entry.what).settings (after_acted s.memory s.before t.entry.seat t.entry.what k2.ids) w2 in

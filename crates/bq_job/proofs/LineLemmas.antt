@@ -1,5 +1,5 @@
 -- The first line of a text, and of a text that goes on.
-use Rattle.std.proofs.Common.{◌≡◌, ℕ, Bool, true, false, ◌==◌, ◌&&◌, List, [], ◌∷◌, ◌++◌, Option, Some, ◌⊎◌, inl, inr, refl, ap, arith, option_map, if◌then◌else◌, rules}
+use Rattle.std.proofs.Common.{◌≡◌, ℕ, Bool, true, false, List, [], ◌∷◌, ◌++◌, Option, Some, ◌⊎◌, inl, inr, ap, arith, option_map, if◌then◌else◌, rules}
 use Rattle.std.proofs.lemmas.{Bool.{cases_Bool, Decides.nat_tests}, Grind.common_steps}
 use Rattle.bq_job.specs.reading.Line.{first_line, onto_line, are_line_end}
 
@@ -32,14 +32,10 @@ first_line_is (a ∷ b ∷ bytes) l e =
     line_here : (a b : ℕ) (bytes : List ℕ) (l : List ℕ × List ℕ) → are_line_end a b ≡ true → ([], bytes) ≡ l → (a ∷ b ∷ bytes) ≡ l.0 ++ 13 ∷ 10 ∷ l.1
     line_here a b bytes l t e = rw (← e) (grind (arith, nat_tests))
 
--- no byte before a CR ends a line with it
-no_end-cr : (a : ℕ) → are_line_end a 13 ≡ false
-no_end-cr a = elim (a == 13) as (λ t. (t && false) ≡ false) [ true ↦ refl | false ↦ refl ]
-
 -- a byte in front of a line, and of what follows the line
 first_line-onto : (a b : ℕ) (bytes after other line : List ℕ) → are_line_end a b ≡ false → b ∷ bytes ≡ line ++ 13 ∷ 10 ∷ after
     → first_line (line ++ 13 ∷ 10 ∷ other) ≡ Some (line, other) → first_line (a ∷ (line ++ 13 ∷ 10 ∷ other)) ≡ Some (a ∷ line, other)
-first_line-onto a b bytes after other line f e ih = search (rules, cases_Bool, no_end-cr, common_steps)
+first_line-onto a b bytes after other line f e ih = search (rules, cases_Bool, common_steps)
 
 -- the first line is the same, whatever comes after its CR LF
 pub first_line_again : (text other : List ℕ) (l : List ℕ × List ℕ) → first_line text ≡ Some l → first_line (l.0 ++ 13 ∷ 10 ∷ other) ≡ Some (l.0, other)

@@ -21,9 +21,6 @@ contains_tail x xs y h = Contains-append_right (x ∷ []) xs y h
 pub all_at : {X : Type 0} (P : X → Type 0) (xs : List X) (x : X) → All P xs → Contains xs x → P x
 all_at P xs x h i = All-contains P xs x (All-from_recursion P xs h) i
 
-pub all_members : {X : Type 0} (xs : List X) → All (Contains xs) xs
-all_members xs = recursion_from_All (Contains xs) xs (All-contains_itself xs)
-
 pub all_always : {X : Type 0} (P : X → Type 0) (xs : List X) → ((x : X) → P x) → All P xs
 all_always P [] h = tt
 all_always P (x ∷ xs) h = (h x, all_always P xs h)
@@ -34,7 +31,7 @@ all_weaker P Q (x ∷ xs) w h = (w x h.0, all_weaker P Q xs w h.1)
 
 -- what holds of each that is in the list
 pub all_from_members : {X : Type 0} (P : X → Type 0) (xs : List X) → ((x : X) → Contains xs x → P x) → All P xs
-all_from_members P xs h = all_weaker (Contains xs) P xs h (all_members xs)
+all_from_members P xs h = all_weaker (Contains xs) P xs h (recursion_from_All (Contains xs) xs (All-contains_itself xs))
 
 pub all_both : {X : Type 0} (P Q : X → Type 0) (xs : List X) → All P xs → All Q xs → All (λ x. P x × Q x) xs
 all_both P Q [] h i = tt
@@ -82,10 +79,7 @@ list_any_with p xs x i h = list_any-from_Any p xs (i.0, x, i.1, i.2, h)
 pub list_any_of_map : {X Y : Type 0} (p : X → Bool) (q : Y → Bool) (f : X → Y) (xs : List X) → All (λ x. p x ≡ true → q (f x) ≡ true) xs → list_any p xs ≡ true → list_any q (map f xs) ≡ true
 list_any_of_map p q f [] w h = h
 list_any_of_map p q f (x ∷ xs) w h =
-    elim (or_cases (p x) (list_any p xs) h) [
-      | inl e ↦ or_left (q (f x)) (list_any q (map f xs)) (w.0 e)
-      | inr e ↦ or_right (q (f x)) (list_any q (map f xs)) (list_any_of_map p q f xs w.1 e)
-    ]
+    grind (arith, common_steps, or_cases, or_left, or_right, list_any_of_map p q f xs)
 
 -- a change that leaves the keys leaves the list of the keys
 pub keys_of_map : {X K : Type 0} (key : X → K) (f : X → X) (xs : List X) → All (λ x. key (f x) ≡ key x) xs → map key (map f xs) ≡ map key xs
@@ -98,9 +92,6 @@ count_cons p x xs = sum_by-cons (λ x. cond (p x) 1 0) x xs
 pub one_or_none : (b c : Bool) → (c ≡ true → b ≡ true) → cond c 1 0 ≤ cond b 1 0
 one_or_none b c w = grind (arith, common_steps, cases_Bool)
 
-none_after_one : (b c : Bool) → (b && not c) ≡ true → cond c 1 0 < cond b 1 0
-none_after_one b c h = grind (arith, common_steps, cases_Bool)
-
 -- Where the change makes nobody pass, no more pass,
 pub count_of_map : {X : Type 0} (p : X → Bool) (f : X → X) (xs : List X) → All (λ x. p (f x) ≡ true → p x ≡ true) xs → count_by p (map f xs) ≤ count_by p xs
 count_of_map p f [] w = omega arith
@@ -110,34 +101,18 @@ count_of_map p f (x ∷ xs) w = grind (arith, common_steps, count_cons, one_or_n
 pub count_falls : {X : Type 0} (p : X → Bool) (f : X → X) (xs : List X) → All (λ x. p (f x) ≡ true → p x ≡ true) xs → list_any (λ x. p x && not (p (f x))) xs ≡ true → count_by p (map f xs) < count_by p xs
 count_falls p f [] w h = absurd cc
 count_falls p f (x ∷ xs) w h =
-    rw (count_cons p (f x) (map f xs), count_cons p x xs) (elim (or_cases (p x && not (p (f x))) (list_any (λ x. p x && not (p (f x))) xs) h) [
-      | inl e ↦ omega (arith, none_after_one (p x) (p (f x)) e, count_of_map p f xs w.1)
-      | inr e ↦ omega (arith, one_or_none (p x) (p (f x)) w.0, count_falls p f xs w.1 e)
-    ])
+    grind (arith, common_steps, count_cons, or_cases, count_of_map, one_or_none, count_falls p f xs)
 
 -- where none is counted, none passes
 pub count_none : {X : Type 0} (p : X → Bool) (xs : List X) → count_by p xs ≤ 0 → All (λ x. p x ≡ false) xs
 count_none p [] h = tt
-count_none p (x ∷ xs) h =
-    let g : cond (p x) 1 0 + count_by p xs ≤ 0 = rw (count_cons p x xs) at h in
-    (none_here (p x) (omega arith), count_none p xs (omega arith))
-  where
-    none_here : (b : Bool) → cond b 1 0 ≤ 0 → b ≡ false
-    none_here b h = grind (arith, common_steps)
+count_none p (x ∷ xs) h = grind (arith, common_steps, count_cons, count_none p xs)
 
 -- what a search finds passes and is in the list
 pub found_passes : {X : Type 0} (p : X → Bool) (xs : List X) (x : X) → find p xs ≡ Some x → (p x ≡ true) × Contains xs x
 found_passes p [] x h = absurd cc
 found_passes p (y ∷ ys) x h =
-    elim (cases_Bool (p y)) [
-      | inl e ↦
-          let same : Some y ≡ Some x = rw e at h in
-          let is : y ≡ x = (cc) in
-          (subst (λ z. p z ≡ true) is e, subst (Contains (y ∷ ys)) is (contains_head y ys))
-      | inr e ↦
-          let rest = found_passes p ys x (rw e at h) in
-          (rest.0, contains_tail y ys x rest.1)
-    ]
+    grind (arith, common_steps, cases_Bool, contains_head, contains_tail, found_passes p ys x)
 
 -- A filter that keeps all that passes leaves what a search finds.
 pub find_in_filter : {X : Type 0} (p q : X → Bool) (xs : List X) → All (λ x. p x ≡ true → q x ≡ true) xs → find p (filter q xs) ≡ find p xs

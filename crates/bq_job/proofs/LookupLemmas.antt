@@ -55,6 +55,5 @@ pub job_at_end : (low : ℕ) (jobs : List Job) (j : Job) → AreIdsWithin low jo
 job_at_end low [] j h = rw (eq-eqb j.id j.id refl) refl
 job_at_end low (k ∷ jobs) j h =
     let found = job_found low j.id (k ∷ jobs) k h (contains_head k jobs) in
-    let less = found.1 in
     let other : (k.id == j.id) ≡ false = false_from_ne_true (k.id == j.id) (λ t. let is = eqb-true k.id j.id t in absurd (omega arith)) in
     rw other (job_at_end (suc k.id) jobs j h.1)

@@ -1,7 +1,7 @@
 -- Names in byte order, and the tubes that are listed.
 use Rattle.std.proofs.Common.{◌++◌, ◌||◌, ◌∙◌, ◌∷◌, ◌≡◌, Bool, List, [], ℕ, ap, append-nil, append_assoc, arith, false, map, refl, rules, sym, true}
 use Rattle.std.proofs.lemmas.{Bool.{and_parts, cases_Bool}, Cmp.nat_list_cmp_total, Grind.common_steps}
-use Rattle.std.proofs.{lemmas.Map.Lookups.exact_bytes, Math.Bool.{or-false, or_assoc}}
+use Rattle.std.proofs.{lemmas.Map.Lookups.exact_bytes, Math.Bool.or-false}
 use Rattle.std.specs.{Cmp.Lexicographic.slice_cmp, List.{AllByRecursion as All, list_any}, Prelude.{flat_map, fold}}
 use Rattle.std.specs.{declared.cmp.Ordering.{Ordering, TheVariants.Less}, Ordering.{is_lt, nat_cmp, ordering_reverse}}
 use Rattle.bq_job.specs.machine.{Machine.Machine, SeatRecord, is_name_before, is_seated_at, is_tube, seated_tubes, tubes}
@@ -52,8 +52,7 @@ rest_in_order o names h = grind (arith, common_steps, cases_Bool, and_parts)
 pub first_of_order : (o : List ℕ) (names : List (List ℕ)) → is_in_order (o ∷ names) ≡ true → All (λ n. is_name_before o n ≡ true) names
 first_of_order o [] h = tt
 first_of_order o (x ∷ names) h =
-    let k = and_parts _ _ h in
-    (k.0, all_weaker (λ n. is_name_before x n ≡ true) (λ n. is_name_before o n ≡ true) names (λ n. before_trans o x n k.0) (first_of_order x names k.1))
+    grind (arith, common_steps, and_parts, all_weaker, before_trans, first_of_order x names)
 
 pub in_order_from : (o : List ℕ) (names : List (List ℕ)) → All (λ n. is_name_before o n ≡ true) names → is_in_order names ≡ true → is_in_order (o ∷ names) ≡ true
 in_order_from o names first h = grind (arith, common_steps, cases_Bool)
@@ -67,31 +66,16 @@ put_last n (o ∷ names) more h =
 pub stays_fold : (names so_far : List (List ℕ)) → is_in_order (so_far ++ names) ≡ true → fold with_name so_far names ≡ so_far ++ names
 stays_fold [] so_far h = sym (append-nil so_far)
 stays_fold (n ∷ names) so_far h =
-    let one = put_last n so_far names h in
-    let moved : so_far ++ n ∷ names ≡ (so_far ++ n ∷ []) ++ names = sym (append_assoc so_far (n ∷ []) names) in
-    rw one (stays_fold names (so_far ++ n ∷ []) (rw (← moved) h) ∙ sym moved)
-
-or_swap : (a b c : Bool) → (a || (b || c)) ≡ (b || (a || c))
-or_swap a b c = grind (arith, common_steps, cases_Bool)
-
-or_twice : (a c : Bool) → (a || c) ≡ (a || (a || c))
-or_twice a c = grind (arith, common_steps, cases_Bool)
-
-or_middle : (a b c : Bool) → ((a || b) || c) ≡ (b || (a || c))
-or_middle a b c = grind (arith, common_steps, cases_Bool)
+    grind (arith, common_steps, put_last, append_assoc, stays_fold names (so_far ++ n ∷ []))
 
 -- a name is among names to which one was added, if it is that one or was among them
 any_with : (p : List ℕ → Bool) (n : List ℕ) (names : List (List ℕ)) → list_any p (with_name names n) ≡ (p n || list_any p names)
 any_with p n [] = refl
-any_with p n (o ∷ names) = search (rules, or_twice, or_swap, any_with p n names)
+any_with p n (o ∷ names) = search (rules, any_with p n names)
 
 any_fold : (p : List ℕ → Bool) (names so_far : List (List ℕ)) → list_any p (fold with_name so_far names) ≡ (list_any p so_far || list_any p names)
 any_fold p [] so_far = sym (or-false (list_any p so_far))
-any_fold p (n ∷ names) so_far = grind (arith, common_steps, any_with, or_middle, any_fold p names (with_name so_far n))
-
-any-append : (p : List ℕ → Bool) (xs ys : List (List ℕ)) → list_any p (xs ++ ys) ≡ (list_any p xs || list_any p ys)
-any-append p [] ys = refl
-any-append p (x ∷ xs) ys = ap (λ b. p x || b) (any-append p xs ys) ∙ sym (or_assoc (p x) (list_any p xs) (list_any p ys))
+any_fold p (n ∷ names) so_far = grind (arith, common_steps, any_with, any_fold p names (with_name so_far n))
 
 any-jobs : (p : List ℕ → Bool) (jobs : List Job) → list_any p (map (λ j. j.tube) jobs) ≡ list_any (λ j. p j.tube) jobs
 any-jobs p [] = refl
@@ -102,8 +86,8 @@ seated name s = grind (arith, common_steps)
 
 any-seats : (name : List ℕ) (seats : List SeatRecord) → list_any (is_same_name name) (flat_map seated_tubes seats) ≡ list_any (is_seated_at name) seats
 any-seats name [] = refl
-any-seats name (s ∷ seats) = grind (arith, common_steps, any-append, seated, any-seats name seats)
+any-seats name (s ∷ seats) = grind (arith, common_steps, seated, any-seats name seats)
 
 -- a tube is listed if it exists
 pub listed : (name : List ℕ) (m : Machine) → list_any (is_same_name name) (tubes m) ≡ is_tube name m
-listed name m = grind (arith, common_steps, any_fold, any-append, any-jobs, any-seats)
+listed name m = grind (arith, common_steps, any_fold, any-jobs, any-seats)

@@ -1,14 +1,14 @@
 -- Before the next due moment a tick changes nothing but the moment.
-use Rattle.std.proofs.Common.{◌&&◌, ◌++◌, ◌+◌, ◌<◌, ◌||◌, ◌∙◌, ◌∷◌, ◌≡◌, Bool, List, None, Option, [], ℕ, ap, arith, cond, false, inl, inr, map, refl, subst, true}
-use Rattle.std.proofs.lemmas.Bool.{and_from, cases_Bool, eq-eqb, eqb-true, le-leb, leb-true, lt-leb, or_parts}
+use Rattle.std.proofs.Common.{◌&&◌, ◌++◌, ◌+◌, ◌<◌, ◌||◌, ◌∙◌, ◌∷◌, ◌≡◌, List, None, Option, [], ℕ, ap, arith, false, inl, inr, refl, subst, true}
+use Rattle.std.proofs.lemmas.Bool.{and_from, cases_Bool, eq-eqb, le-leb, leb-true, lt-leb, or_parts}
 use Rattle.std.proofs.{lemmas.Grind.common_steps, Math.Nat.min-eq_left}
 use Rattle.std.specs.{List.{AllByRecursion as All, Contains}, Prelude.{◌-◌, ◌==◌, IsTrue, count_by, flat_map, nat_lt}}
 use Rattle.bq_job.specs.machine.{GivenAnswer, IsStep, Machine.Machine, Memory, Outcome, Pause, SeatRecord, Serves, TubeRecord, Wait, acted}
 use Rattle.bq_job.specs.machine.{addressed, after_timers, at_moment, ends_waiting, forgetting, grown}
-use Rattle.bq_job.specs.machine.{is_deadline_soon, is_due, is_ending_lease, is_expired, is_past, is_possible, is_timed_out, is_until_over}
-use Rattle.bq_job.specs.machine.{is_wait_before, is_waiting, is_waiting_at, job_after_timers, next_end, next_job, pause_after_timers}
-use Rattle.bq_job.specs.beside.{IsLawful, dues, dues_of_pause, dues_of_state, dues_of_until, dues_of_wait, earlier, earliest, is_before}
-use Rattle.bq_job.specs.{beside.next_due, machine.tube_after_timers, Types.{Job, JobState}}
+use Rattle.bq_job.specs.machine.{is_deadline_soon, is_due, is_expired, is_possible, is_timed_out, is_until_over}
+use Rattle.bq_job.specs.machine.{is_wait_before, is_waiting, is_waiting_at, next_end}
+use Rattle.bq_job.specs.beside.{IsLawful, dues, dues_of_pause, dues_of_state, dues_of_wait, earlier, earliest, is_before}
+use Rattle.bq_job.specs.{beside.next_due, machine.tube_after_timers, Types.JobState}
 use Rattle.bq_job.specs.declared.step.Step.TheVariants as steps
 use Rattle.bq_job.proofs.ListLemmas.{all_at, all_from_members, all_of_flat_map, all_parts, all_weaker, count_all_not, list_any_not, list_any_with, map_all_same, none_pass}
 use Rattle.bq_job.proofs.{ChoiceLemmas.{first_of_none, first_of_none_passes}, QuietLemmas.forgets_nothing}
@@ -26,32 +26,17 @@ before_all moment [] h = tt
 before_all moment (due ∷ others) h = let both = before_both moment due (earliest others) h in (both.0, before_all moment others both.1)
 
 module _ (m : Machine) (now : ℕ) where
-  lease_later : (waits : Bool) (soon deadline : ℕ) → All (IsLater now) (cond waits (soon ∷ deadline ∷ []) (deadline ∷ [])) → now < deadline
-  lease_later waits soon deadline h = grind (arith, common_steps)
-
   not_due : (state : JobState) → All (IsLater now) (dues_of_state m state) → is_due now state ≡ false
   not_due state h = grind (arith, common_steps, lt-leb)
 
   not_expired : (state : JobState) → All (IsLater now) (dues_of_state m state) → is_expired now state ≡ false
-  not_expired state h = grind (arith, common_steps, lt-leb, lease_later)
-
-  job_same : (j : Job) → All (IsLater now) (dues_of_state m j.state) → job_after_timers now j ≡ j
-  job_same j h = rw (not_due j.state h, not_expired j.state h) refl
-
-  pause_same : (o : Option Pause) → All (IsLater now) (dues_of_pause o) → pause_after_timers now o ≡ o
-  pause_same o h = grind (arith, common_steps, lt-leb)
+  not_expired state h = grind (arith, common_steps, lt-leb)
 
   tube_same : (t : TubeRecord) → All (IsLater now) (dues_of_pause t.pause) → tube_after_timers now t ≡ t
-  tube_same t h = ap (λ (p : Option Pause). record t { pause = p }) (pause_same t.pause h)
-
-  lease_not_soon : (number : ℕ) (state : JobState) → is_waiting_at number m ≡ true → All (IsLater now) (dues_of_state m state) → is_ending_lease now number state ≡ false
-  lease_not_soon number state w h = grind (arith, common_steps, cases_Bool, eqb-true, lt-leb)
-
-  not_past : (o : Option ℕ) → All (IsLater now) (dues_of_until o) → is_past now o ≡ false
-  not_past o h = grind (arith, common_steps, lt-leb)
+  tube_same t h = ap (λ (p : Option Pause). record t { pause = p }) (grind (arith, common_steps, lt-leb))
 
   not_over : (o : Option Wait) → All (IsLater now) (dues_of_wait o) → is_until_over now o ≡ false
-  not_over o h = grind (arith, common_steps, not_past)
+  not_over o h = grind (arith, common_steps)
 
 module _ (m : Machine) (at : ℕ) (h : IsLawful m) (early : IsTrue (is_before (at_moment at m).moment (next_due m))) where
   abbrev now : ℕ
@@ -78,19 +63,12 @@ module _ (m : Machine) (at : ℕ) (h : IsLawful m) (early : IsTrue (is_before (a
   seats_later : All (λ s. All (IsLater now) (dues_of_wait s.wait)) m.seats
   seats_later = all_of_flat_map (IsLater now) (λ s. dues_of_wait s.wait) m.seats (all_parts (IsLater now) (of_jobs ++ of_tubes) of_seats all_later).1
 
-  -- no timer fires
-  jobs_same : map (job_after_timers now) m.jobs ≡ m.jobs
-  jobs_same = map_all_same (job_after_timers now) m.jobs (all_weaker (λ j. All (IsLater now) (dues_of_state m j.state)) (λ j. job_after_timers now j ≡ j) m.jobs (λ j k. job_same m now j k) jobs_later)
-
-  tubes_same : map (tube_after_timers now) m.tubes ≡ m.tubes
-  tubes_same = map_all_same (tube_after_timers now) m.tubes (all_weaker (λ t. All (IsLater now) (dues_of_pause t.pause)) (λ t. tube_after_timers now t ≡ t) m.tubes (λ t k. tube_same m now t k) tubes_later)
-
   timeouts_same : grown (count_by (λ j. is_expired now j.state) m.jobs) m.timeouts ≡ m.timeouts
   timeouts_same =
       grind (arith, common_steps, count_all_not, all_weaker, not_expired, jobs_later, min-eq_left, booked_of_lawful)
 
   fired_same : after_timers (at_moment at m) ≡ at_moment at m
-  fired_same = grind (arith, common_steps, jobs_same, tubes_same, timeouts_same)
+  fired_same = grind (arith, common_steps, map_all_same, all_weaker, jobs_later, tube_same, tubes_later, timeouts_same)
 
   forgotten_same : forgetting (at_moment at m) ≡ at_moment at m
   forgotten_same = forgets_nothing (at_moment at m) h.tubes
@@ -105,9 +83,7 @@ module _ (m : Machine) (at : ℕ) (h : IsLawful m) (early : IsTrue (is_before (a
             let kept : (is_deadline_soon m s || is_timed_out m s) ≡ false = rw w at before in
             let untimed : is_timed_out m s ≡ false = (or_parts (is_deadline_soon m s) (is_timed_out m s) kept).1 in
             let stays : s.ended ≡ false = (or_parts (is_until_over m.moment s.wait) s.ended untimed).1 in
-            let soon : is_deadline_soon (at_moment at m) s ≡ false =
-            list_any_not (λ j. is_ending_lease now s.number j.state) m.jobs
-            (all_weaker (λ j. All (IsLater now) (dues_of_state m j.state)) (λ j. is_ending_lease now s.number j.state ≡ false) m.jobs (λ j k. lease_not_soon m now s.number j.state waits k) jobs_later) in
+            let soon : is_deadline_soon (at_moment at m) s ≡ false = grind (arith, common_steps, list_any_not, all_weaker, jobs_later) in
             let over : is_until_over now s.wait ≡ false = not_over m now s.wait (all_at (λ t. All (IsLater now) (dues_of_wait t.wait)) m.seats s seats_later there) in
             rw (w, soon, over, stays) refl
         | inr w ↦ rw w refl
@@ -118,12 +94,9 @@ module _ (m : Machine) (at : ℕ) (h : IsLawful m) (early : IsTrue (is_before (a
       first_of_none_passes (ends_waiting (at_moment at m)) is_wait_before m.seats
       (list_any_not (ends_waiting (at_moment at m)) m.seats (all_from_members (λ s. ends_waiting (at_moment at m) s ≡ false) m.seats wait_stays))
 
-  no_job_next : next_job (at_moment at m) ≡ None
-  no_job_next = h.dispatched
-
   serves_none : (first : Machine) (handed ended : List GivenAnswer) (last : Machine) → first ≡ at_moment at m → Serves first handed ended last → (handed ≡ []) × (ended ≡ []) × (last ≡ at_moment at m)
   serves_none first handed ended last is s =
-      let q = serves_nobody (at_moment at m) handed ended last no_job_next no_wait_ends forgotten_same (subst (λ (n : Machine). Serves n handed ended last) is s) in
+      let q = serves_nobody (at_moment at m) handed ended last h.dispatched no_wait_ends forgotten_same (subst (λ (n : Machine). Serves n handed ended last) is s) in
       (q.none_handed, q.none_ended, q.same)
 
   granted_here : (memory : Memory) (n : Machine) (seat : ℕ) → IsTrue (is_possible memory n seat steps.Tick) → ((acted memory n seat steps.Tick).machine ≡ n) × (addressed seat (acted memory n seat steps.Tick).answer ≡ [])

@@ -70,10 +70,6 @@ unwaited_itself seat seats =
 unwaited_another : (seat number : ℕ) (seats : List SeatRecord) → (number == seat) ≡ false → waits_in seat (map (unwaited number) seats) ≡ waits_in seat seats
 unwaited_another seat number seats other = grind (arith, common_steps, any_of_map, cond_both, eqb-true)
 
--- a wait that is over changes nothing else
-unwaited_connected : (seat number : ℕ) (seats : List SeatRecord) → connected_in seat (map (unwaited number) seats) ≡ connected_in seat seats
-unwaited_connected seat number seats = grind (arith, common_steps, any_of_map, cond_both)
-
 unwaited_ended : (seat number : ℕ) (seats : List SeatRecord) → ended_in seat (map (unwaited number) seats) ≡ ended_in seat seats
 unwaited_ended seat number seats = grind (arith, common_steps, any_of_map, cond_both)
 
@@ -83,29 +79,7 @@ unwaited_numbers number seats = grind (arith, common_steps, keys_of_map, all_alw
 -- One who waits is answered, and waits no longer.
 passes_turn : (seat : ℕ) (seats : List SeatRecord) (s : SeatRecord) (answer : Answer) → Contains seats s → is_waiting s ≡ true → is_closed_answer answer ≡ false → Passes seat seats (map (unwaited s.number) seats) ((s.number, answer) ∷ [])
 passes_turn seat seats s answer there waits stays =
-    elim (cases_Bool (s.number == seat)) [
-      | inl e ↦
-          let is : s.number ≡ seat = eqb-true s.number seat e in
-          let told : answers_to seat ((s.number, answer) ∷ []) ≡ answer ∷ [] = rw e refl in
-          let waited : waits_in seat seats ≡ true = list_any_with (λ t. t.number == seat && is_waiting t) seats s there (and_from (s.number == seat) (is_waiting s) e waits) in
-          let over : waits_in seat (map (unwaited s.number) seats) ≡ false = subst (λ n. waits_in seat (map (unwaited n) seats) ≡ false) (sym is) (unwaited_itself seat seats) in
-          record {
-            count = rw (told, waited, over) refl;
-            unclosed = rw (told, stays) refl;
-            connected = unwaited_connected seat s.number seats;
-            ended = unwaited_ended seat s.number seats;
-            numbers = unwaited_numbers s.number seats;
-          }
-      | inr e ↦
-          let told : answers_to seat ((s.number, answer) ∷ []) ≡ [] = rw e refl in
-          record {
-            count = rw (told, unwaited_another seat s.number seats e) (omega arith);
-            unclosed = rw told refl;
-            connected = unwaited_connected seat s.number seats;
-            ended = unwaited_ended seat s.number seats;
-            numbers = unwaited_numbers s.number seats;
-          }
-    ]
+    grind (arith, common_steps, cases_Bool, eqb-true, list_any_with, and_from, unwaited_itself, any_of_map, cond_both, unwaited_ended, unwaited_numbers, unwaited_another)
 
 -- the same where the turn is known by equations
 passes_turn_to : (seat : ℕ) (m next : Machine) (s : SeatRecord) (answer : Answer) (given : GivenAnswer) → Contains m.seats s → is_waiting s ≡ true → is_closed_answer answer ≡ false → given ≡ (s.number, answer) → next.seats ≡ map (unwaited s.number) m.seats → Passes seat m.seats next.seats (given ∷ [])
@@ -146,9 +120,7 @@ passes_serves seat first handed ended last s =
     let e = s.ends_waits in
     let begin = passes_chain DispatchTurn seat first handed d.end (passes_dispatch seat) d.turns in
     let then = passes_chain WaitEndTurn seat s.between ended e.end (passes_wait_end seat) e.turns in
-    passes_then seat first.seats (s.between).seats last.seats handed ended
-    (subst (λ (n : Machine). Passes seat first.seats n.seats handed) (sym d.forgets) begin)
-    (subst (λ (n : Machine). Passes seat (s.between).seats n.seats ended) (sym e.forgets) then)
+    grind (arith, common_steps, passes_then)
 
 -- The only seat of its number.
 pub record Found (seat : ℕ) (seats : List SeatRecord) : Type 0 where

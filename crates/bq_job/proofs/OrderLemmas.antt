@@ -1,27 +1,19 @@
 -- Undisturbed jobs of one tube and priority are handed out in the order of their puts.
-use Rattle.std.proofs.Common.{ℕ, ◌≡◌, ◌≤◌, ◌<◌, Bool, true, false, ◌||◌, cond, List, [], ◌∷◌, ◌++◌, arith, refl, sym, ap, ◌∙◌, subst, inl, inr, ◌⊎◌, Option, Some}
-use Rattle.std.proofs.lemmas.Bool.{both_ways, cases_Bool, eq-eqb, eqb-true, or_from, or_parts, Decides.nat_tests}
+use Rattle.std.proofs.Common.{ℕ, ◌≡◌, ◌≤◌, ◌<◌, Bool, true, false, ◌||◌, cond, List, [], ◌∷◌, ◌++◌, arith, refl, sym, ap, ◌∙◌, subst, inl, inr, ◌⊎◌, Some}
+use Rattle.std.proofs.lemmas.Bool.{both_ways, cases_Bool, eq-eqb, eqb-true, or_from, or_parts}
 use Rattle.std.proofs.lemmas.{Grind.common_steps, List.{Elements.Contains-append_cases, Folds.list_any-append}}
 use Rattle.std.specs.{List.{AllByRecursion as All, Contains, list_any}, Prelude.{◌==◌, option_map}}
 use Rattle.bq_job.specs.{declared.job.Job.Job, laws.{Happening, Part, comes_first, disturbs, happenings, is_hand_out}}
-use Rattle.bq_job.specs.{laws.{is_put, put}, machine.{is_job_before, is_ready, job_with, reserved_by, Machine.Machine}}
-use Rattle.bq_job.proofs.JobMoves.{Fate, IsHandOutMove, IsPutMove, IsQuiet, Move, Moves, quiet, putting, handing, is_plain}
+use Rattle.bq_job.specs.{laws.{is_put, put}, machine.{is_ready, job_with, reserved_by, Machine.Machine}}
+use Rattle.bq_job.proofs.JobMoves.{IsHandOutMove, IsPutMove, IsQuiet, Move, Moves, quiet, putting, handing, is_plain}
 use Rattle.bq_job.proofs.{ListLemmas.all_at, LookupLemmas.{found_job, job_at_end}, SpentLemmas.{IsSpent, handed_lookup}}
-use Rattle.bq_job.proofs.SpentLemmas.{held_is_not_ready, none_handed, none_more, put_lookup, spent_after, still_parts}
+use Rattle.bq_job.proofs.SpentLemmas.{none_handed, none_more, put_lookup, spent_after, still_parts}
 
 -- What happens in a part that has neither of two things leaves their order.
 comes_behind : (one other : Happening → Bool) (happened more : List Happening) → list_any one happened ≡ false → list_any other happened ≡ false → comes_first one other (happened ++ more) ≡ comes_first one other more
 comes_behind one other [] more h i = refl
 comes_behind one other (x ∷ happened) more h i =
-    let a = or_parts (one x) (list_any one happened) h in
-    let b = or_parts (other x) (list_any other happened) i in
-    rw (a.0, b.0) (comes_behind one other happened more a.1 b.1)
-
-contained_put : (j : Job) (x : Happening) (more : List Happening) → Contains (x ∷ more) (put j) → (x ≡ put j) ⊎ Contains more (put j)
-contained_put j x more h = grind (arith, common_steps, Contains-append_cases, all_at)
-
-plain_has_no_put : (j : Job) (happened : List Happening) → All (λ h. is_plain h ≡ true) happened → Contains happened (put j) → ⊥
-plain_has_no_put j happened plain i = let e : is_plain (put j) ≡ true = all_at (λ h. is_plain h ≡ true) happened (put j) plain i in absurd cc
+    grind (arith, common_steps, or_parts, comes_behind one other happened more)
 
 plain_puts_none : (id : ℕ) (happened : List Happening) → All (λ h. is_plain h ≡ true) happened → list_any (is_put id) happened ≡ false
 plain_puts_none id [] plain = refl
@@ -32,21 +24,17 @@ pub put_behind : (j : Job) (m n : Machine) (happened more : List Happening) → 
 put_behind j m n happened more move h = elim (Contains-append_cases happened more (put j) h) [ inl e ↦ absurd (of_move move e) | inr e ↦ e ]
   where
     of_move : IsQuiet m happened n ⊎ IsHandOutMove m happened n → Contains happened (put j) → ⊥
-    of_move h i = grind (arith, common_steps, plain_has_no_put, all_at)
+    of_move h i = grind (arith, common_steps, all_at)
 
 -- a put that comes with a put, or later
 pub put_now_or_behind : (j : Job) (m n : Machine) (happened more : List Happening) (p : IsPutMove m happened n) → Contains (happened ++ more) (put j) → (p.job ≡ j) ⊎ Contains more (put j)
-put_now_or_behind j m n happened more p h = grind (arith, common_steps, contained_put)
+put_now_or_behind j m n happened more p h = grind (arith, common_steps)
 
 -- A job that is put later gets an id that isn't given yet.
 pub put_above : (j : Job) (m n : Machine) (parts : List Part) → Moves m parts n → Contains (happenings parts) (put j) → m.next_id ≤ j.id
 put_above j m n [] moves i = absurd (let less = i.1 in omega arith)
-put_above j m n (p ∷ parts) moves i = at_move (put_above j p.machine n parts moves.1) moves.0
-  where
-    at_move : (Contains (happenings parts) (put j) → p.machine.next_id ≤ j.id) → Move m p.happened p.machine → m.next_id ≤ j.id
-    at_move go (quiet q) = let next = q.next in let rest = go (put_behind j m p.machine p.happened (happenings parts) (inl q) i) in omega arith
-    at_move go (handing h) = let next = h.next in let rest = go (put_behind j m p.machine p.happened (happenings parts) (inr h) i) in omega arith
-    at_move go (putting q) = grind (arith, common_steps, put_now_or_behind)
+put_above j m n (p ∷ parts) moves i =
+    grind (arith, common_steps, quiet, put_behind, handing, putting, put_now_or_behind, put_above j p.machine n parts moves.1)
 
 -- Of two jobs that are put, the one that is put first has no greater id.
 pub ids_in_order : (id : ℕ) (b : Job) (m n : Machine) (parts : List Part) → Moves m parts n → comes_first (is_put id) (is_put b.id) (happenings parts) ≡ true → Contains (happenings parts) (put b) → id ≤ b.id
@@ -65,16 +53,7 @@ ids_in_order id b m n (p ∷ parts) moves first i = at_move (ids_in_order id b p
               let at = eqb-true q.job.id id e in let is = q.id in
               let above = put_above b m n (p ∷ parts) moves i in
               omega arith
-          | inr e ↦ elim (cases_Bool (q.job.id == b.id)) [
-            | inl f ↦
-                let never : comes_first (is_put id) (is_put b.id) (put q.job ∷ happenings parts) ≡ false = rw (e, f) refl in
-                let now : comes_first (is_put id) (is_put b.id) (put q.job ∷ happenings parts) ≡ true = subst (λ hs. comes_first (is_put id) (is_put b.id) (hs ++ happenings parts) ≡ true) q.happened_is first in
-                absurd (both_ways (comes_first (is_put id) (is_put b.id) (put q.job ∷ happenings parts)) never now)
-            | inr f ↦ elim (put_now_or_behind b m p.machine p.happened (happenings parts) q i) [
-              | inl g ↦ absurd (both_ways (q.job.id == b.id) f (eq-eqb q.job.id b.id (ap (λ (k : Job). k.id) g)))
-              | inr g ↦ later go (ap (list_any (is_put id)) q.happened_is ∙ rw e refl) (ap (list_any (is_put b.id)) q.happened_is ∙ rw f refl) g
-            ]
-          ]
+          | inr e ↦ grind (arith, common_steps, cases_Bool, both_ways, put_now_or_behind, eq-eqb)
         ]
 
 -- the job is ready, as it was put
@@ -92,49 +71,28 @@ pub data Stands (j : Job) (m : Machine) (more : List Happening) : Type 0 where
   waits : IsReadyAs j m → Stands j m more
   unborn : m.next_id ≤ j.id → Contains more (put j) → Stands j m more
 
-ready_after_fate : (j : Job) (m n : Machine) (happened more : List Happening) (r : IsReadyAs j m) (o : Option Job) → job_with j.id n.jobs ≡ o → n.next_id ≡ m.next_id → Fate j.id happened (Some r.job) o → list_any (disturbs j.id) happened ≡ false → Stands j n more
-ready_after_fate j m n happened more r o e next fate still = grind (arith, common_steps, cases_Bool)
-
 ready_mapped : (j : Job) (m n : Machine) (more : List Happening) (r : IsReadyAs j m) (id moment seat : ℕ) → n.next_id ≡ m.next_id → job_with j.id n.jobs ≡ Some (cond (r.job.id == id) (reserved_by moment seat r.job) r.job) → Stands j n more
 ready_mapped j m n more r id moment seat next e = grind (arith, common_steps, cases_Bool)
 
 -- where it stands after a move
 stands_after : (j : Job) (m n k : Machine) (happened : List Happening) (parts : List Part) → Move m happened n → Moves n parts k → j.delay ≡ 0 → list_any (disturbs j.id) happened ≡ false → Stands j m (happened ++ happenings parts) → Stands j n (happenings parts)
 stands_after j m n k happened parts move moves now still (spent s) = spent (spent_after j.id m n happened move still s)
-stands_after j m n k happened parts (quiet q) moves now still (waits r) = grind (arith, common_steps, ready_after_fate)
+stands_after j m n k happened parts (quiet q) moves now still (waits r) = grind (arith, common_steps)
 stands_after j m n k happened parts (putting p) moves now still (waits r) =
-    let less = r.below in let next = p.next in
+    let less = r.below in
     waits (record { job = r.job; there = put_lookup j.id m n happened p less ∙ r.there; below = omega arith; ready = r.ready; pri = r.pri; tube = r.tube })
 stands_after j m n k happened parts (handing h) moves now still (waits r) =
     ready_mapped j m n (happenings parts) r h.job.id m.moment h.seat h.next
     (handed_lookup j.id m n happened h ∙ ap (option_map (λ i. cond (i.id == h.job.id) (reserved_by m.moment h.seat i) i)) r.there)
 stands_after j m n k happened parts (quiet q) moves now still (unborn above i) =
-    let next = q.next in unborn (omega arith) (put_behind j m n happened (happenings parts) (inl q) i)
+    unborn (omega arith) (put_behind j m n happened (happenings parts) (inl q) i)
 stands_after j m n k happened parts (handing h) moves now still (unborn above i) =
-    let next = h.next in unborn (omega arith) (put_behind j m n happened (happenings parts) (inr h) i)
+    unborn (omega arith) (put_behind j m n happened (happenings parts) (inr h) i)
 stands_after j m n k happened parts (putting p) moves now still (unborn above i) =
     elim (put_now_or_behind j m n happened (happenings parts) p i) [
-      | inl e ↦ let next = p.next in let is = p.id in
-          let same : p.job.id ≡ j.id = ap (λ (k : Job). k.id) e in
-          waits (record {
-            job = p.job;
-            there = subst (λ id. job_with id n.jobs ≡ Some p.job) same (ap (job_with p.job.id) p.jobs ∙ job_at_end 1 m.jobs p.job p.ids);
-            below = omega arith;
-            ready = p.at_once (ap (λ (k : Job). k.delay) e ∙ now);
-            pri = ap (λ (k : Job). k.pri) e;
-            tube = ap (λ (k : Job). k.tube) e;
-          })
+      | inl e ↦ grind (arith, common_steps, job_at_end)
       | inr e ↦ unborn (put_above j n k parts moves e) e
     ]
-
--- The least job of one tube and priority has the least id.
-least_by_id : (a b k job : Job) → k.pri ≡ a.pri → k.id ≡ a.id → job.pri ≡ b.pri → job.id ≡ b.id → a.pri ≡ b.pri → a.id < b.id → is_job_before k job ≡ true
-least_by_id a b k job p q r s same less = grind (arith, common_steps, nat_tests)
-
--- While one job waits, no other of its tube and priority with a greater id is handed out.
-not_before_its_turn : (a b : Job) (m n : Machine) (happened more : List Happening) (h : IsHandOutMove m happened n) → a.pri ≡ b.pri → a.tube ≡ b.tube → a.id < b.id → h.job.id ≡ b.id → Stands b m more → IsReadyAs a m → ⊥
-not_before_its_turn a b m n happened more h pri tube less is x11 r =
-    grind (arith, common_steps, cases_Bool, held_is_not_ready, found_job, both_ways, least_by_id)
 
 -- of two jobs that stand so, the first is handed out first
 pub handed_in_order : (a b : Job) (m n : Machine) (parts : List Part) → Moves m parts n → a.delay ≡ 0 → b.delay ≡ 0 → a.pri ≡ b.pri → a.tube ≡ b.tube → a.id < b.id
@@ -163,7 +121,7 @@ handed_in_order a b m n (p ∷ parts) moves now_a now_b pri tube less still_a st
 
     of_second : (h : IsHandOutMove m p.happened p.machine) → h.job.id ≡ b.id → Stands a m (p.happened ++ happenings parts) → ⊥
     of_second h is (spent s) = both_ways (list_any (is_hand_out a.id) (p.happened ++ happenings parts)) (none_more a.id m n (p ∷ parts) moves still_a s) out_a
-    of_second h is (waits r) = not_before_its_turn a b m p.machine p.happened (p.happened ++ happenings parts) h pri tube less is at_b r
+    of_second h is (waits r) = grind (arith, common_steps, cases_Bool, found_job, both_ways)
     of_second h is (unborn above i) = let below = h.below in omega arith
 
     at_move : (Stands a p.machine (happenings parts) → Stands b p.machine (happenings parts) → list_any (is_hand_out a.id) (happenings parts) ≡ true → list_any (is_hand_out b.id) (happenings parts) ≡ true → comes_first (is_hand_out a.id) (is_hand_out b.id) (happenings parts) ≡ true)

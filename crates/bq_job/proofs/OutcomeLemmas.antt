@@ -1,27 +1,23 @@
 -- Where no share of a body is refused, a step has one result.
 use Rattle.std.proofs.Common.{ℕ, ◌≡◌, Bool, false, ◌||◌, List, [], ◌∷◌, refl, sym, ap, ◌∙◌, subst, Option, Some, None, arith}
-use Rattle.std.proofs.lemmas.{Bool.{cases_Bool, or_parts}, Grind.common_steps}
+use Rattle.std.proofs.lemmas.{Bool.or_parts, Grind.common_steps}
 use Rattle.std.specs.List.{list_any}
 use Rattle.bq_job.specs.declared.answer.Answer.TheVariants as answers
-use Rattle.bq_job.specs.machine.{Chain, DispatchTurn, Effect, GivenAnswer, IsHandOut, IsStep, Machine.Machine, Memory, Outcome, SeatRecord}
-use Rattle.bq_job.specs.machine.{Serves, WaitEndTurn, acted, after_hand_out, after_timers, at_moment, forgetting}
-use Rattle.bq_job.specs.machine.{has_refused_share, is_growth_refused, is_out_of_memory, is_share_refused, next_end}
-use Rattle.bq_job.specs.{beside.{ample, stepped}, machine.next_job, Types.{Job, Step}}
+use Rattle.bq_job.specs.machine.{Chain, DispatchTurn, Effect, GivenAnswer, IsStep, Machine.Machine, Memory, Outcome}
+use Rattle.bq_job.specs.machine.{Serves, WaitEndTurn, acted, after_timers, at_moment, forgetting}
+use Rattle.bq_job.specs.machine.{has_refused_share, is_out_of_memory, is_share_refused, next_end}
+use Rattle.bq_job.specs.{beside.{ample, stepped}, machine.next_job, Types.Step}
 use Rattle.bq_job.proofs.{ComputedLemmas.stepped_is_step, DispatchLemmas.turn_of, LawfulLemmas.end_of}
 
 -- two turns from one machine: the same answer, and the same machine
 abbrev IsSame : GivenAnswer → GivenAnswer → Machine → Machine → Type 0
 IsSame g h n o = (g ≡ h) × (n ≡ o)
 
--- a turn of dispatch that gives its job
-hand_out_is : (m : Machine) (j : Job) (s : SeatRecord) (g : GivenAnswer) (n : Machine) → is_out_of_memory g.1 ≡ false → IsHandOut m j s g n → IsSame g (s.number, answers.Reserved j.id j.body) n (after_hand_out m j s)
-hand_out_is m j s g n e h = grind (arith, common_steps, cases_Bool)
-
 same_some : {A : Type 0} (o : Option A) (x y : A) → o ≡ Some x → o ≡ Some y → x ≡ y
-same_some o x y e f = let k : Some x ≡ Some y = sym e ∙ f in cc
+same_some o x y e f = cc
 
 dispatch_one : (m : Machine) (g h : GivenAnswer) (n o : Machine) → is_out_of_memory g.1 ≡ false → is_out_of_memory h.1 ≡ false → DispatchTurn m g n → DispatchTurn m h o → IsSame g h n o
-dispatch_one m g h n o e f a b = grind (arith, common_steps, turn_of, same_some, hand_out_is)
+dispatch_one m g h n o e f a b = grind (arith, common_steps, turn_of, same_some)
 
 wait_end_one : (m : Machine) (g h : GivenAnswer) (n o : Machine) → WaitEndTurn m g n → WaitEndTurn m h o → IsSame g h n o
 wait_end_one m g h n o a b = grind (arith, common_steps, end_of, same_some)
@@ -41,11 +37,7 @@ module _ (Turns : Machine → GivenAnswer → Machine → Type 0) (fine : GivenA
   chain_one first [] (y ∷ ys) last end e f d c a b = absurd (none first y b.0 (subst Done a d) b.1)
   chain_one first (x ∷ xs) [] last end e f d c a b = absurd (none first x a.0 (subst Done b c) a.1)
   chain_one first (x ∷ xs) (y ∷ ys) last end e f d c a b =
-      let p = or_parts (fine x) (list_any fine xs) e in
-      let q = or_parts (fine y) (list_any fine ys) f in
-      let here = one first x y a.0 b.0 p.0 q.0 a.1 b.1 in
-      let rest = chain_one a.0 xs ys last end p.1 q.1 d c a.2 (subst (λ (m : Machine). Chain Turns m ys end) (sym here.1) b.2) in
-      (ap (λ g. g ∷ xs) here.0 ∙ ap (λ gs. y ∷ gs) rest.0, rest.1)
+      grind (arith, common_steps, or_parts, chain_one a.0 xs ys last end)
 
 none_fails : (given : List GivenAnswer) → list_any (λ g. false) given ≡ false
 none_fails [] = refl
@@ -65,15 +57,11 @@ serves_one first xs ys zs ws last other e f a b =
     let w = chain_one WaitEndTurn (λ g. false) (λ m. next_end m ≡ None) (λ m g h n o x y. wait_end_one m g h n o) no_wait_end a.between ys ws a.ends_waits.end b.ends_waits.end (none_fails ys) (none_fails ws) a.ends_waits.done b.ends_waits.done a.ends_waits.turns turns in
     record { handed_same = d.0; ended_same = w.0; last_same = a.ends_waits.forgets ∙ ap forgetting w.1 ∙ sym b.ends_waits.forgets }
 
--- The outcome tells what became of the memory, where no share was refused.
-same_memory : (a b : Memory) → is_share_refused a ≡ false → is_share_refused b ≡ false → is_growth_refused a ≡ is_growth_refused b → a ≡ b
-same_memory a b x y e = grind (arith, common_steps)
-
 pub one_result : (first last other : Machine) (at seat : ℕ) (what : Step) (outcome : Outcome) (given others : List GivenAnswer) → outcome.unshared ≡ false → IsStep first at seat what outcome given last → IsStep first at seat what outcome others other → (given ≡ others) × (last ≡ other)
 one_result first last other at seat what outcome given others shared a b =
     let p = parts_of_sharing a.memory a.handed a.handed_then (sym a.unshared ∙ shared) in
     let q = parts_of_sharing b.memory b.handed b.handed_then (sym b.unshared ∙ shared) in
-    let memory : a.memory ≡ b.memory = same_memory a.memory b.memory p.0 q.0 (sym a.left_out ∙ b.left_out) in
+    let memory : a.memory ≡ b.memory = grind (arith, common_steps) in
     let one = serves_one (forgetting (after_timers (at_moment at first))) a.handed a.ended b.handed b.ended a.before b.before p.1 q.1 a.serves b.serves in
     let act : acted a.memory a.before seat what ≡ acted b.memory b.before seat what = ap (λ x. acted x a.before seat what) memory ∙ ap (λ (m : Machine). acted b.memory m seat what) one.last_same in
     let after : a.after ≡ b.after = a.acts ∙ ap (λ (e : Effect). forgetting e.machine) act ∙ sym b.acts in

@@ -1,6 +1,6 @@
 -- The answers of a step: which part gives RESERVED, INSERTED and DELETED, and that draining never ends.
-use Rattle.std.proofs.Common.{◌==◌, ◌||◌, ◌≡◌, ◌⊎◌, List, Some, ℕ, ap, arith, false, filter, inl, inr, nat_le, not}
-use Rattle.std.proofs.{Common.{refl, subst, true}, lemmas.{Bool.{cases_Bool, or_left, or_right}, Grind.common_steps}}
+use Rattle.std.proofs.Common.{◌==◌, ◌≡◌, ◌⊎◌, List, Some, ℕ, ap, arith, false, filter, inl, inr, nat_le, not}
+use Rattle.std.proofs.{Common.{refl, subst, true}, lemmas.{Bool.or_right, Grind.common_steps}}
 use Rattle.bq_job.specs.Types.{Answer, Job, Request, Step}
 use Rattle.bq_job.specs.machine.{Effect, Machine.Machine, Memory, SeatRecord, acted, is_held_by, is_reserved, job_with, last_id, telling}
 use Rattle.bq_job.specs.declared.answer.Answer.TheVariants as answers
@@ -16,9 +16,6 @@ pub data Tells (m : Machine) (seat : ℕ) (what : Step) (e : Effect) : Type 0 wh
   inserting : e.answer ≡ Some (answers.Inserted m.next_id) → m.draining ≡ false → (nat_le last_id m.next_id ≡ true → e.machine.draining ≡ true) → Tells m seat what e
   deleting : (id : ℕ) (j : Job) → what ≡ steps.Ask (requests.Delete id) → job_with id m.jobs ≡ Some j → (is_reserved j.state ≡ false) ⊎ (is_held_by seat j ≡ true) → e.answer ≡ Some answers.Deleted → e.machine.jobs ≡ filter (λ k. not (k.id == j.id)) m.jobs → Tells m seat what e
 
-free_or_held : (seat : ℕ) (j : Job) → (not (is_reserved j.state) || is_held_by seat j) ≡ true → (is_reserved j.state ≡ false) ⊎ (is_held_by seat j ≡ true)
-free_or_held seat j h = grind (arith, common_steps)
-
 tells_done : (m : Machine) (seat : ℕ) (request : Request) (answer : Answer) (n : Machine) → SaysDone request answer → Tells m seat (steps.Ask request) (telling answer n)
 tells_done m seat request answer n says = elim says.own [
   | inl common ↦ commonly common
@@ -32,7 +29,7 @@ tells_kind request m seat s (tells answer one common unclosed) at = commonly com
 tells_kind request m seat s (waits until one waiting) at = commonly refl
 tells_kind request m seat s (adds pri delay ttr body one accepts free) at = inserting refl accepts (λ last. or_right m.draining (nat_le last_id m.next_id) last)
 tells_kind request m seat s (deletes id j asks found free) at =
-    deleting id j (ap steps.Ask asks) found (subst (λ n. (is_reserved j.state ≡ false) ⊎ (is_held_by n j ≡ true)) at (free_or_held s.number j free)) refl refl
+    deleting id j (ap steps.Ask asks) found (subst (λ n. (is_reserved j.state ≡ false) ⊎ (is_held_by n j ≡ true)) at (grind (arith, common_steps))) refl refl
 tells_kind request m seat s (changes_jobs answer f burials says changes) at = tells_done m seat request answer _ says
 tells_kind request m seat s (changes_seat answer f says changes) at = tells_done m seat request answer _ says
 tells_kind request m seat s (changes_tube tube seconds one) at = commonly refl
@@ -48,12 +45,5 @@ tells_acted memory m seat what = each_acted m seat (λ what e. Tells m seat what
   drains = commonly refl;
 }) (λ what. commonly refl) memory what
 
--- Draining never ends.
-abbrev Drains : Effect → Type 0
-Drains e = e.machine.draining ≡ true
-
-drains_kind : (request : Request) (m : Machine) (s : SeatRecord) {e : Effect} → Kind m s request e → m.draining ≡ true → Drains e
-drains_kind request m s h d = grind (arith, common_steps, cases_Bool, or_left)
-
 pub drains_acted : (memory : Memory) (m : Machine) (seat : ℕ) (what : Step) → m.draining ≡ true → (acted memory m seat what).machine.draining ≡ true
-drains_acted memory m seat what d = grind (arith, common_steps, each_acted, drains_kind, kind_of)
+drains_acted memory m seat what d = grind (arith, common_steps, each_acted, kind_of)

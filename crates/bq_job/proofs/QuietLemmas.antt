@@ -1,7 +1,7 @@
 -- Parts of a step in which nothing happens.
-use Rattle.std.proofs.Common.{◌≡◌, true, List, [], ◌∷◌, refl, ap, subst, Option, None, arith}
+use Rattle.std.proofs.Common.{◌≡◌, true, List, [], ◌∷◌, refl, ap, None, arith}
 use Rattle.std.proofs.lemmas.Grind.{common_steps}
-use Rattle.std.specs.{List.list_all, Prelude.MatchOption}
+use Rattle.std.specs.List.{list_all}
 use Rattle.bq_job.specs.machine.{Chain, GivenAnswer, Machine.Machine, Serves, TubeRecord, forgetting, is_tube}
 use Rattle.bq_job.specs.machine.{next_end, next_job}
 use Rattle.bq_job.proofs.ListLemmas.{all_pass, filter_all}
@@ -9,9 +9,6 @@ use Rattle.bq_job.proofs.ListLemmas.{all_pass, filter_all}
 -- Where nothing is kept of tubes that are gone, nothing is forgotten.
 pub forgets_nothing : (m : Machine) → list_all (λ t. is_tube t.name m) m.tubes ≡ true → forgetting m ≡ m
 forgets_nothing m h = ap (λ (ts : List TubeRecord). record m { tubes = ts }) (filter_all (λ t. is_tube t.name m) m.tubes (all_pass (λ t. is_tube t.name m) m.tubes h))
-
-no_turn_of : {A : Type 0} (o : Option A) (B : A → Type 0) → o ≡ None → MatchOption o ⊥ B → ⊥
-no_turn_of o B e h = subst (λ (x : Option _). MatchOption x ⊥ B) e h
 
 none_in_chain : (Turns : Machine → GivenAnswer → Machine → Type 0) (first : Machine) (given : List GivenAnswer) (last : Machine) → ((g : GivenAnswer) (n : Machine) → Turns first g n → ⊥) → Chain Turns first given last → (given ≡ []) × (last ≡ first)
 none_in_chain Turns first [] last none chain = (refl, chain)
@@ -25,4 +22,4 @@ pub record IsQuiet (first : Machine) (handed ended : List GivenAnswer) (last : M
 
 -- Where no job and no wait is next, nobody is served.
 pub serves_nobody : (first : Machine) (handed ended : List GivenAnswer) (last : Machine) → next_job first ≡ None → next_end first ≡ None → forgetting first ≡ first → Serves first handed ended last → IsQuiet first handed ended last
-serves_nobody first handed ended last jobs ends kept s = grind (arith, common_steps, none_in_chain, no_turn_of)
+serves_nobody first handed ended last jobs ends kept s = grind (arith, common_steps, none_in_chain)

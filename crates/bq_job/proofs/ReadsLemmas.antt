@@ -2,9 +2,9 @@
 use Rattle.std.proofs.Common.{◌≡◌, ℕ, zero, suc, ◌≤◌, Bool, true, false, List, [], ◌∷◌, ◌++◌, Option, Some, None, ◌⊎◌, inl, inr, refl, sym, ap, ◌∙◌, arith, length, length-append, append_assoc, IsTrue, not, ◌&&◌}
 use Rattle.std.proofs.lemmas.{Bool.cases_Bool, Grind.common_steps}
 use Rattle.bq_job.specs.reading.Reading.{Reads, AreUnits, IsUnit, BeginsNoUnit, is_quit, quits_last, ends_by_quit}
-use Rattle.bq_job.specs.beside.{AreSameRequests, IsSameRequest, first_unit, had_memory, onto_reading, reading, reading_within}
+use Rattle.bq_job.specs.beside.{AreSameRequests, IsSameRequest, first_unit, onto_reading, reading, reading_within}
 use Rattle.bq_job.specs.declared.request.Request.{Request}
-use Rattle.bq_job.proofs.UnitLemmas.{first_unit-append, first_unit-unit, no_first_unit, some_pair, IsComputed}
+use Rattle.bq_job.proofs.UnitLemmas.{first_unit-append, first_unit-unit, no_first_unit, some_pair}
 
 none_read : (n : ℕ) (size : ℕ) (text : List ℕ) → first_unit size text ≡ None → reading_within (suc n) size text ≡ ([], text)
 none_read n size text e = rw (e, reading_within) refl
@@ -15,10 +15,6 @@ quit_read n size text after r e q = rw (e, q, reading_within) refl
 more_read : (n : ℕ) (size : ℕ) (text after : List ℕ) (r : Request) → first_unit size text ≡ Some (r, after) → is_quit r ≡ false
     → reading_within (suc n) size text ≡ onto_reading r (reading_within n size after)
 more_read n size text after r e q = rw (e, q, reading_within) refl
-
--- a reading of nothing
-pub Reads-none : (size : ℕ) (text : List ℕ) → BeginsNoUnit size text → Reads size text [] text
-Reads-none size text none = record { units = []; text_is = refl; are_units = refl; last_quits = refl; ended = inr none }
 
 -- a reading of a quit
 pub Reads-quit : (size : ℕ) (text unit after : List ℕ) (r : Request) → text ≡ unit ++ after → IsUnit size unit r → is_quit r ≡ true → Reads size text (r ∷ []) after
@@ -42,7 +38,7 @@ Reads-onto size text unit after rest r requests is u q more = record {
     go requests e = grind (arith, common_steps)
 
 reading_within-Reads : (n : ℕ) (size : ℕ) (text : List ℕ) → length text ≤ n → Reads size text (reading_within n size text).0 (reading_within n size text).1
-reading_within-Reads zero size [] short = Reads-none size [] (no_first_unit size [] refl)
+reading_within-Reads zero size [] short = record { units = []; text_is = refl; are_units = refl; last_quits = refl; ended = inr (no_first_unit size [] refl) }
 reading_within-Reads zero size (b ∷ text) short = absurd (grind (arith, common_steps))
 reading_within-Reads (suc n) size text short = go (reading_within-Reads n size) (first_unit size text) refl
   where
@@ -60,7 +56,7 @@ reading_within-Reads (suc n) size text short = go (reading_within-Reads n size) 
 
     go : ((after : List ℕ) → length after ≤ n → Reads size after (reading_within n size after).0 (reading_within n size after).1)
         → (o : Option (Request × List ℕ)) → first_unit size text ≡ o → Reads size text (reading_within (suc n) size text).0 (reading_within (suc n) size text).1
-    go next None e = rw (none_read n size text e) (Reads-none size text (no_first_unit size text e))
+    go next None e = rw (none_read n size text e) (record { units = []; text_is = refl; are_units = refl; last_quits = refl; ended = inr (no_first_unit size text e) })
     go next (Some (r, after)) e = read_on next after r e (is_quit r) refl
 
 pub reading-Reads : (size : ℕ) (text : List ℕ) → Reads size text (reading size text).0 (reading size text).1
@@ -69,78 +65,46 @@ reading-Reads size text = reading_within-Reads (length text) size text (omega ar
 -- the same, by a name that an attribute can cite
 pub ruleset computed_readings = (reading-Reads)
 
--- a put that had its memory is no quit
-had_memory-quit : (r : Request) → IsTrue (had_memory r) → is_quit r ≡ false
-had_memory-quit r h = grind (arith, common_steps, cases_Bool)
-
-IsSameRequest-quit : (r s : Request) → IsSameRequest r s → is_quit r ≡ is_quit s
-IsSameRequest-quit r s h = grind (arith, common_steps, cases_Bool, had_memory-quit)
-
-IsComputed-same : (r s q : Request) → IsComputed r q → IsComputed s q → IsSameRequest r s
-IsComputed-same r s q h k = grind (arith, common_steps, cases_Bool)
-
--- two units that begin one text end at one place
-units_end : (size : ℕ) (first second after other : List ℕ) (r s : Request) → first ++ after ≡ second ++ other → IsUnit size first r → IsUnit size second s
-    → (after ≡ other) × IsSameRequest r s
-units_end size first second after other r s e a b =
-    let one = first_unit-append size first after r a in
-    let two = first_unit-append size second other s b in
-    grind (arith, common_steps, some_pair, IsComputed-same)
-
 quits_later : (r s : Request) (rs : List Request) → IsTrue (quits_last (r ∷ s ∷ rs)) → IsTrue (quits_last (s ∷ rs))
 quits_later r s rs h = (elim (is_quit r) as (λ t. (not t && quits_last (s ∷ rs)) ≡ true → quits_last (s ∷ rs) ≡ true) [ true ↦ λ e. cc | false ↦ λ e. e ]) h
 
 abbrev IsEnded : ℕ → List Request → List ℕ → Type 0
 IsEnded size requests rest = IsTrue (ends_by_quit requests) ⊎ BeginsNoUnit size rest
 
--- a text whose reading has ended begins with no units
-ended_there : (size : ℕ) (s : Request) (ss : List Request) (v rest other : List ℕ) → rest ≡ v ++ other → AreUnits size v (s ∷ ss) → BeginsNoUnit size rest → ⊥
-ended_there size s ss v rest other e units none = grind (arith, common_steps, append_assoc)
-
 -- the unit that two lists of units begin with
 first_same : (size : ℕ) (r s : Request) (rs ss : List Request) (u v rest other : List ℕ) → u ++ rest ≡ v ++ other
     → (a : AreUnits size u (r ∷ rs)) (b : AreUnits size v (s ∷ ss)) → (a.1 ++ rest ≡ b.1 ++ other) × IsSameRequest r s
 first_same size r s rs ss u v rest other e a b =
-    let whole : a.0 ++ (a.1 ++ rest) ≡ b.0 ++ (b.1 ++ other) =
-    sym (append_assoc a.0 a.1 rest) ∙ ap (λ x. x ++ rest) (sym a.2) ∙ e ∙ ap (λ x. x ++ other) b.2 ∙ append_assoc b.0 b.1 other in
-    units_end size a.0 b.0 (a.1 ++ rest) (b.1 ++ other) r s whole a.3 b.3
+    let whole : a.0 ++ (a.1 ++ rest) ≡ b.0 ++ (b.1 ++ other) = grind (arith, common_steps, append_assoc) in
+    let one = first_unit-append size a.0 (a.1 ++ rest) r a.3 in let two = first_unit-append size b.0 (b.1 ++ other) s b.3 in grind (arith, common_steps, some_pair)
 
 units_unique : (size : ℕ) (firsts seconds : List Request) (u v rest other : List ℕ) → u ++ rest ≡ v ++ other
     → AreUnits size u firsts → AreUnits size v seconds → IsTrue (quits_last firsts) → IsTrue (quits_last seconds)
     → IsEnded size firsts rest → IsEnded size seconds other → (rest ≡ other) × AreSameRequests firsts seconds
 units_unique size [] [] u v rest other e a b fq sq fe se = (cc, tt)
 units_unique size [] (s ∷ ss) u v rest other e a b fq sq (inl quit) se = cc
-units_unique size [] (s ∷ ss) u v rest other e a b fq sq (inr none) se = grind (arith, common_steps, ended_there)
+units_unique size [] (s ∷ ss) u v rest other e a b fq sq (inr none) se = grind (arith, common_steps)
 units_unique size (r ∷ rs) [] u v rest other e a b fq sq fe (inl quit) = cc
-units_unique size (r ∷ rs) [] u v rest other e a b fq sq fe (inr none) = grind (arith, common_steps, ended_there)
+units_unique size (r ∷ rs) [] u v rest other e a b fq sq fe (inr none) = grind (arith, common_steps)
 units_unique size (r ∷ []) (s ∷ []) u v rest other e a b fq sq fe se =
     let same = first_same size r s [] [] u v rest other e a b in
-    let rests : a.1 ++ rest ≡ b.1 ++ other = same.0 in
-    let one : a.1 ≡ [] = a.4 in
-    let two : b.1 ≡ [] = b.4 in
     (cc, (same.1, tt))
 units_unique size (r ∷ []) (s ∷ t ∷ ss) u v rest other e a b fq sq (inl quit) se =
     let same = first_same size r s [] (t ∷ ss) u v rest other e a b in
-    let is_quit_s : is_quit s ≡ true = sym (IsSameRequest-quit r s same.1) ∙ quit in
-    let no : false ≡ true = rw is_quit_s at sq in
+    let is_quit_s : is_quit s ≡ true = sym (grind (arith, common_steps, cases_Bool)) ∙ quit in
     cc
 units_unique size (r ∷ []) (s ∷ t ∷ ss) u v rest other e a b fq sq (inr none) se =
     let same = first_same size r s [] (t ∷ ss) u v rest other e a b in
-    let one : a.1 ≡ [] = a.4 in
-    let rests : a.1 ++ rest ≡ b.1 ++ other = same.0 in
     let rest_is : rest ≡ b.1 ++ other = cc in
-    absurd (ended_there size t ss b.1 rest other rest_is b.4 none)
+    absurd (grind (arith, common_steps, append_assoc))
 units_unique size (r ∷ t ∷ rs) (s ∷ []) u v rest other e a b fq sq fe (inl quit) =
     let same = first_same size r s (t ∷ rs) [] u v rest other e a b in
-    let is_quit_r : is_quit r ≡ true = IsSameRequest-quit r s same.1 ∙ quit in
-    let no : false ≡ true = rw is_quit_r at fq in
+    let is_quit_r : is_quit r ≡ true = (grind (arith, common_steps, cases_Bool)) ∙ quit in
     cc
 units_unique size (r ∷ t ∷ rs) (s ∷ []) u v rest other e a b fq sq fe (inr none) =
     let same = first_same size r s (t ∷ rs) [] u v rest other e a b in
-    let one : b.1 ≡ [] = b.4 in
-    let rests : a.1 ++ rest ≡ b.1 ++ other = same.0 in
     let rest_is : other ≡ a.1 ++ rest = cc in
-    absurd (ended_there size t rs a.1 other rest rest_is a.4 none)
+    absurd (grind (arith, common_steps, append_assoc))
 units_unique size (r ∷ r2 ∷ rs) (s ∷ s2 ∷ ss) u v rest other e a b fq sq fe se =
     let same = first_same size r s (r2 ∷ rs) (s2 ∷ ss) u v rest other e a b in
     let more = units_unique size (r2 ∷ rs) (s2 ∷ ss) a.1 b.1 rest other same.0 a.4 b.4

@@ -1,15 +1,15 @@
 -- What is kept beside jobs through a step: counts stay within their end, what is kept of tubes stays in
 -- order, and each seat watches at least one tube and none twice.
-use Rattle.std.proofs.Common.{ℕ, ◌≡◌, ◌≤◌, ◌+◌, Bool, true, cond, List, [], ◌∷◌, map, refl, sym, subst, Option, arith, rules}
+use Rattle.std.proofs.Common.{ℕ, ◌≡◌, ◌≤◌, ◌+◌, Bool, true, cond, List, [], ◌∷◌, map, refl, sym, subst, arith, rules}
 use Rattle.std.proofs.{lemmas.{Bool.{cases_Bool, cond_both, leb-true}, Grind.common_steps}, Math.Nat.min-le_right}
 use Rattle.std.specs.{Cmp.Lexicographic.bytes_decides, List.AllByRecursion as All, Prelude.{filter, nat_le}}
-use Rattle.bq_job.specs.machine.{Chain, DispatchTurn, Effect, GivenAnswer, IsHandOut, Machine.Machine, Memory, SeatRecord, Serves}
-use Rattle.bq_job.specs.machine.{TubeRecord, WaitEndTurn, acted, after_close, after_connect, after_timers, at_moment, empty_seat}
+use Rattle.bq_job.specs.machine.{Chain, DispatchTurn, Effect, GivenAnswer, Machine.Machine, Memory, SeatRecord, Serves}
+use Rattle.bq_job.specs.machine.{TubeRecord, WaitEndTurn, acted, after_close, after_timers, at_moment, empty_seat}
 use Rattle.bq_job.specs.{beside.{IsLawful, is_in_order, watches_once}, machine.{forgetting, greatest, grown}}
-use Rattle.bq_job.specs.machine.{is_name_before, is_tube, reserve_effect, with_end, with_record, with_seat}
-use Rattle.bq_job.specs.{reading.TubeName.is_same_name, Types.{Job, Request, Step}}
+use Rattle.bq_job.specs.machine.{is_name_before, is_tube, with_end, with_record, with_seat}
+use Rattle.bq_job.specs.{reading.TubeName.is_same_name, Types.{Request, Step}}
 use Rattle.bq_job.proofs.ListLemmas.{all_at, all_always, all_before_map, all_of_filter, all_of_map, all_pass, all_weaker, keys_of_map}
-use Rattle.bq_job.proofs.{CommandKinds.kind_of, DispatchLemmas.turn_of, EachEvent.each_acted, EffectKinds.Kind}
+use Rattle.bq_job.proofs.{CommandKinds.kind_of, EachEvent.each_acted, EffectKinds.Kind}
 use Rattle.bq_job.proofs.NameOrderLemmas.{after, first_of_order, in_order_from, rest_in_order}
 
 -- all that is kept beside the jobs
@@ -75,19 +75,12 @@ booked_forgetting m h = let order = ordered_filter (λ t. is_tube t.name m) m.tu
 pub booked_timers : (at : ℕ) (m : Machine) → Booked m → Booked (forgetting (after_timers (at_moment at m)))
 booked_timers at m h = search (rules, booked_forgetting, grown_fits, keys_of_map, all_always)
 
--- a tube's record is put in its place, and puts are counted
-booked_tube : (t : TubeRecord) (m : Machine) (puts : ℕ) → puts ≤ greatest → Booked m → Booked (record m { tubes = with_record t m.tubes; puts = puts })
-booked_tube t m puts fit h = let order = ordered_with t m.tubes h.order in assumption
-
 -- the seat of one number changes
 booked_seat : (number : ℕ) (f : SeatRecord → SeatRecord) (m : Machine) → Booked m → ((s : SeatRecord) → watches_once s ≡ true → watches_once (f s) ≡ true) → Booked (with_seat number f m)
 booked_seat number f m h well = grind (arith, common_steps, all_of_map, all_weaker, cond_both)
 
-booked_hand_out : (m : Machine) (j : Job) (s : SeatRecord) (given : GivenAnswer) (next : Machine) → Booked m → IsHandOut m j s given next → Booked next
-booked_hand_out m j s given next h k = grind (arith, common_steps, cases_Bool, booked_seat)
-
 booked_dispatch : (m : Machine) (given : GivenAnswer) (next : Machine) → Booked m → DispatchTurn m given next → Booked next
-booked_dispatch m given next h turn = let t = turn_of m given next turn in booked_hand_out m t.job t.client given next h t.hands
+booked_dispatch m given next h turn = grind (arith, common_steps, cases_Bool, booked_seat)
 
 booked_wait_end : (m : Machine) (given : GivenAnswer) (next : Machine) → Booked m → WaitEndTurn m given next → Booked next
 booked_wait_end m given next h turn = grind (arith, common_steps, booked_seat)
@@ -107,21 +100,10 @@ booked_served first handed ended last h s =
 pub booked_through : (first : Machine) (handed ended : List GivenAnswer) (last : Machine) → Booked first → (s : Serves first handed ended last) → Booked last
 booked_through first handed ended last h s = subst Booked (sym s.ends_waits.forgets) (booked_forgetting s.ends_waits.end (booked_served first handed ended last h s))
 
--- the client begins to wait
-booked_reserve : (until : Option ℕ) (m : Machine) (s : SeatRecord) → Booked m → Booked (reserve_effect until m s).machine
-booked_reserve until m s h = grind (arith, common_steps, booked_seat, grown_fits)
-
--- jobs change, and burials are counted on
-booked_burials : (m : Machine) (jobs : List Job) (burials : ℕ) → burials ≤ greatest → Booked m → Booked (record m { jobs = jobs; burials = burials })
-booked_burials m jobs burials fit h = assumption
-
 -- every kind of command
 booked_kind : (request : Request) (m : Machine) (s : SeatRecord) {e : Effect} → Kind m s request e → Booked m → watches_once s ≡ true → Booked e.machine
 booked_kind request m s k h w =
-    grind (arith, common_steps, cases_Bool, booked_reserve, booked_tube, grown_fits, booked_burials, booked_seat)
-
-booked_connect : (m : Machine) (seat : ℕ) → Booked m → Booked (after_connect m seat)
-booked_connect m seat h = grind (arith, common_steps, booked_seat, grown_fits)
+    grind (arith, common_steps, cases_Bool, ordered_with, grown_fits, booked_seat)
 
 booked_close : (m : Machine) (seat : ℕ) → Booked m → Booked (after_close m seat)
 booked_close m seat h = booked_seat seat (λ s. empty_seat s.number) m h (λ s w. refl)
@@ -130,7 +112,7 @@ booked_close m seat h = booked_seat seat (λ s. empty_seat s.number) m h (λ s w
 pub booked_acted : (memory : Memory) (m : Machine) (seat : ℕ) (what : Step) → Booked m → Booked (acted memory m seat what).machine
 booked_acted memory m seat what h = each_acted m seat (λ what e. Booked e.machine) (record {
   nothing = λ what. h;
-  connects = λ s is. booked_connect m s.number h;
+  connects = λ s is. grind (arith, common_steps, booked_seat, grown_fits);
   asks = λ request s is c w. booked_kind request m s (kind_of request m s) h (all_at (λ t. watches_once t ≡ true) m.seats s h.watched is.there);
   ends = λ s is. booked_seat s.number with_end m h (λ t i. i);
   closes = λ s is. booked_close m s.number h;

@@ -1,5 +1,5 @@
 -- A command that is refused changes nothing.
-use Rattle.std.proofs.Common.{◌++◌, ◌∙◌, ◌∷◌, ◌≡◌, IsTrue, List, Some, [], ℕ, ap, append-nil, arith, false, refl, subst}
+use Rattle.std.proofs.Common.{◌∙◌, ◌≡◌, IsTrue, List, Some, ℕ, ap, append-nil, arith, false, refl, subst}
 use Rattle.std.proofs.{Common.true, lemmas.{Bool.{both_ways, cases_Bool}, Grind.common_steps}}
 use Rattle.bq_job.specs.machine.{Effect, GivenAnswer, IsStep, Machine.Machine, Memory, Outcome, SeatRecord, Serves, acted, after_timers}
 use Rattle.bq_job.specs.{beside.{ChangesNothing, IsLawful, is_refusal}, machine.{at_moment, forgetting, silent}}
@@ -16,15 +16,12 @@ Honest m e = (answer : Answer) → e.answer ≡ Some answer → is_refusal answe
 unchanged : (m : Machine) (answer : Answer) → Honest m (telling answer m)
 unchanged m answer = λ a e r. refl
 
-carried_out : (m n : Machine) (answer : Answer) → is_refusal answer ≡ false → Honest m (telling answer n)
-carried_out m n answer good = λ a e r. absurd (let same : answer ≡ a = (cc) in both_ways (is_refusal a) (subst (λ x. is_refusal x ≡ false) same good) r)
-
 unanswered : (m n : Machine) → Honest m (silent n)
 unanswered m n = λ a e r. absurd cc
 
 -- every kind of command
 honest_kind : (request : Request) (m : Machine) (s : SeatRecord) {e : Effect} → Kind m s request e → Honest m e
-honest_kind request m s h = grind (arith, common_steps, cases_Bool, unanswered, unchanged, carried_out)
+honest_kind request m s h = grind (arith, common_steps, cases_Bool, unanswered, unchanged)
 
 -- every event
 honest_acted : (memory : Memory) (m : Machine) (seat : ℕ) (what : Step) → Honest m (acted memory m seat what)
@@ -33,7 +30,7 @@ honest_acted memory m seat what = each_acted m seat (λ what e. Honest m e) (rec
   connects = λ s is. unanswered m _;
   asks = λ request s is c w. honest_kind request m s (kind_of request m s);
   ends = λ s is. unanswered m _;
-  closes = λ s is. carried_out m _ answers.Closed refl;
+  closes = λ s is. (λ a e r. absurd (let same : answers.Closed ≡ a = (cc) in both_ways (is_refusal a) (subst (λ x. is_refusal x ≡ false) same refl) r));
   drains = unanswered m _;
 }) (λ what. unchanged m answers.OutOfMemory) memory what
 
@@ -46,8 +43,4 @@ refused_is_tick first last at seat what outcome given answer h s e r =
     let kept = forgets_nothing s.before before.tubes in
     let after : s.after ≡ s.before = s.acts ∙ ap forgetting same ∙ kept in
     let quiet = serves_nobody s.before s.handed_then s.ended_then last before.dispatched before.wait_ends kept (subst (λ (m : Machine). Serves m s.handed_then s.ended_then last) after s.serves_then) in
-    record {
-      machine = same;
-      last_is = quiet.same;
-      given_is = s.answers_are ∙ rw (e, quiet.none_handed, quiet.none_ended) (append-nil (s.handed ++ s.ended ++ (seat, answer) ∷ [] ++ []) ∙ append-nil (s.handed ++ s.ended ++ (seat, answer) ∷ []));
-    }
+    grind (arith, common_steps, append-nil)

@@ -36,11 +36,6 @@ replay_more settings journal entry given more next last r step =
           ∙ ap (λ (xs : List GivenAnswer). given ++ xs) (append-nil more);
     }
 
--- a step that was taken, at the entry and the outcome that a journal names
-step_at : (first : Machine) (entry : JournalEntry) (t : Transition) → t.first ≡ first → t.entry ≡ entry_of entry → t.outcome ≡ outcome_of entry → IsTransition t
-    → IsStep first entry.moment entry.seat entry.step (outcome_of entry) t.given t.last
-step_at first entry t starts is came_out taken = grind (arith, common_steps)
-
 -- Two runs from one machine over one journal give the same answers and end alike.
 one_run : (first last other : Machine) (journal : List JournalEntry) (taken others : List Transition)
     → GoesBy first taken last → map (λ t. t.entry) taken ≡ map entry_of journal → map (λ t. t.outcome) taken ≡ map outcome_of journal
@@ -58,8 +53,8 @@ one_run first last other (entry ∷ journal) (t ∷ taken) (u ∷ others) g h o 
     let b = heads t.outcome (outcome_of entry) (map (λ t. t.outcome) taken) outcomes o in
     let a' = heads u.entry (entry_of entry) (map (λ t. t.entry) others) entries h' in
     let b' = heads u.outcome (outcome_of entry) (map (λ t. t.outcome) others) outcomes o' in
-    let step = step_at first entry t g.0 a.0 b.0 g.1 in
-    let step' = step_at first entry u g'.0 a'.0 b'.0 g'.1 in
+    let step : IsStep first entry.moment entry.seat entry.step (outcome_of entry) t.given t.last = grind (arith, common_steps) in
+    let step' : IsStep first entry.moment entry.seat entry.step (outcome_of entry) u.given u.last = grind (arith, common_steps) in
     let one = one_result first t.last u.last entry.moment entry.seat entry.step (outcome_of entry) t.given u.given refl step step' in
     let rest = one_run t.last last other journal taken others g.2 a.1 b.1 (subst (λ (m : Machine). GoesBy m others other) (sym one.1) g'.2) a'.1 b'.1 in
     (ap (λ (xs : List GivenAnswer). xs ++ flat_map (λ (v : Transition). v.given) taken) one.0 ∙ ap (λ (xs : List GivenAnswer). u.given ++ xs) rest.0, rest.1)

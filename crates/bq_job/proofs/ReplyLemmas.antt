@@ -5,8 +5,8 @@ use Rattle.std.proofs.lemmas.{Bool.{and_from, and_parts, cases_Bool}, Grind.comm
 use Rattle.std.specs.{List.Contains, Prelude.{◌==◌, IsTrue, is_some}}
 use Rattle.bq_job.specs.machine.{Effect, Machine.Machine, Memory, SeatRecord, acted, addressed, after_close, after_connect, after_delete}
 use Rattle.bq_job.specs.machine.{after_put, ask_effect, asked, at_found, effect, empty_seat, has_closed}
-use Rattle.bq_job.specs.machine.{is_closed_answer, is_possible, is_waiting, new_job, raised, reserve_effect, shares_body}
-use Rattle.bq_job.specs.machine.{silent, step_takes_memory, telling, waiting_from, with_end, with_seat}
+use Rattle.bq_job.specs.machine.{is_closed_answer, is_possible, is_waiting, new_job, raised, reserve_effect}
+use Rattle.bq_job.specs.machine.{silent, telling, waiting_from, with_end, with_seat}
 use Rattle.bq_job.specs.{promise.{answers_to, answers_wanted, is_waiting_request}, Types.{Answer, Request, Step}}
 use Rattle.bq_job.specs.declared.answer.Answer.TheVariants as answers
 use Rattle.bq_job.specs.declared.step.Step.TheVariants as steps
@@ -77,16 +77,9 @@ replies_effect m seat request f c w =
     (subst (λ n. Replies n (answers_wanted request) (is_waiting_request request) m.seats (asked request m s)) f.number
     (replies_kind request m s (kind_of request m s) f.there (subst (λ n. waits_in n m.seats ≡ false) (sym f.number) w))))
 
-wants_one : (request : Request) → step_takes_memory (steps.Ask request) ≡ true → answers_wanted request ≡ 1
-wants_one request h = grind (arith, common_steps, cases_Bool)
-
--- What shares a body is an answer to a request that wants one.
-shares_one : (request : Request) (o : Option Answer) (n : ℕ) → shares_body o ≡ true → length (told o) + n ≡ answers_wanted request → answers_wanted request ≡ 1
-shares_one request o n h e = grind (arith, common_steps, cases_Bool)
-
 -- the same whatever became of the memory that it wanted
 pub replies_acted : (memory : Memory) (m : Machine) (seat : ℕ) (request : Request) → waits_in seat m.seats ≡ false → IsTrue (is_possible memory m seat (steps.Ask request)) → Replies seat (answers_wanted request) (is_waiting_request request) m.seats (effect m seat (steps.Ask request)) → Replies seat (answers_wanted request) (is_waiting_request request) m.seats (acted memory m seat (steps.Ask request))
-replies_acted memory m seat request w p h = grind (arith, common_steps, wants_one, and_parts, replies_jobs, shares_one)
+replies_acted memory m seat request w p h = grind (arith, common_steps, and_parts, replies_jobs)
 
 -- What a command at a seat leaves to the client of another.
 pub record Stays (client number : ℕ) (m : Machine) (e : Effect) : Type 0 where

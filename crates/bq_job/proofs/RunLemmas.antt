@@ -2,7 +2,7 @@
 use Rattle.std.proofs.Common.{◌++◌, ◌∙◌, ◌∷◌, ◌≡◌, List, [], ap, append_assoc, arith, flat_map, map, refl, subst, sym}
 use Rattle.std.proofs.lemmas.Grind.{common_steps}
 use Rattle.bq_job.specs.machine.{GivenAnswer, IsStep, Machine.Machine, Outcome}
-use Rattle.bq_job.specs.promise.{Entry, GoesBy, IsTransition, Run, Transition, parts_of}
+use Rattle.bq_job.specs.promise.{Entry, GoesBy, Run, Transition, parts_of}
 
 -- A run begins with this step, and the rest is a run.
 pub record Begins (first : Machine) (e : Entry) (history : List Entry) (given : List GivenAnswer) (last : Machine) : Type 0 where
@@ -44,15 +44,12 @@ run_of_none first last given (outcomes, r) = of_taken r.taken r.goes r.history_i
     of_taken [] goes e g = (sym g, goes)
     of_taken (t ∷ taken) goes e g = absurd cc
 
-begins_with : (first last : Machine) (e : Entry) (history : List Entry) (given : List GivenAnswer) (t : Transition) (taken : List Transition) → t.first ≡ first → IsTransition t → GoesBy t.last taken last → t.entry ≡ e → map (λ t. t.entry) taken ≡ history → t.given ++ flat_map (λ t. t.given) taken ≡ given → Begins first e history given last
-begins_with first last e history given t taken starts is goes same rest g = grind (arith, common_steps, run_of)
-
 pub run_first : (first last : Machine) (e : Entry) (history : List Entry) (given : List GivenAnswer) → Run first (e ∷ history) given last → Begins first e history given last
 run_first first last e history given (outcomes, r) = of_taken r.taken r.goes r.history_is r.given_is
   where
     of_taken : (taken : List Transition) → GoesBy first taken last → map (λ t. t.entry) taken ≡ e ∷ history → flat_map (λ t. t.given) taken ≡ given → Begins first e history given last
     of_taken [] goes h g = absurd cc
-    of_taken (t ∷ taken) goes h g = begins_with first last e history given t taken goes.0 goes.1 goes.2 (cc) (cc) g
+    of_taken (t ∷ taken) goes h g = grind (arith, common_steps, run_of)
 
 pub run_append : (first next last : Machine) (history more : List Entry) (given later : List GivenAnswer) → Run first history given next → Run next more later last → Run first (history ++ more) (given ++ later) last
 run_append first next last [] more given later r s =

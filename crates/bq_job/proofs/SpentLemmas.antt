@@ -3,9 +3,9 @@ use Rattle.std.proofs.Common.{ℕ, ◌≡◌, ◌≤◌, ◌<◌, ◌+◌, true,
 use Rattle.std.proofs.lemmas.Bool.{cases_Bool, or_parts, or_from, both_ways, cond_both, eqb-true, eq-eqb, false_from_ne_true}
 use Rattle.std.proofs.lemmas.{Grind.common_steps, List.{Folds.list_any-append, Sums.sum_by-append}}
 use Rattle.std.specs.{List.{AllByRecursion as All, list_any}, Prelude.{◌==◌, count_by, option_map}}
-use Rattle.bq_job.specs.{laws.{Happening, Part, disturbs, handed_out, happenings, is_hand_out}, machine.is_ready}
+use Rattle.bq_job.specs.laws.{Happening, Part, disturbs, handed_out, happenings, is_hand_out}
 use Rattle.bq_job.specs.{machine.{is_reserved, job_with, reserved_by, Machine.Machine}, Types.Job}
-use Rattle.bq_job.proofs.JobMoves.{Fate, IsHandOutMove, IsPutMove, Move, Moves, handing, is_plain, putting, quiet}
+use Rattle.bq_job.proofs.JobMoves.{IsHandOutMove, IsPutMove, Move, Moves, handing, is_plain, putting, quiet}
 use Rattle.bq_job.proofs.{ListLemmas.count_cons, LookupLemmas.{job_in_map, job_in_more}}
 
 -- held, or not there
@@ -17,21 +17,12 @@ IsNotFree (Some j) = is_reserved j.state ≡ true
 abbrev pub IsSpent : ℕ → Machine → Type 0
 IsSpent id m = (id < m.next_id) × IsNotFree (job_with id m.jobs)
 
-pub held_is_not_ready : (j : Job) → is_ready j ≡ true → is_reserved j.state ≡ true → ⊥
-held_is_not_ready j h i = grind (arith, common_steps)
-
 plain_hands_none : (id : ℕ) (h : Happening) → is_plain h ≡ true → is_hand_out id h ≡ false
 plain_hands_none id h e = grind (arith, common_steps, cases_Bool)
 
 pub none_handed : (id : ℕ) (happened : List Happening) → All (λ h. is_plain h ≡ true) happened → list_any (is_hand_out id) happened ≡ false
 none_handed id [] plain = refl
 none_handed id (h ∷ happened) plain = or_from (is_hand_out id h) (list_any (is_hand_out id) happened) (plain_hands_none id h plain.0) (none_handed id happened plain.1)
-
-not_free_after : (id : ℕ) (happened : List Happening) (before after : Option Job) → Fate id happened before after → list_any (disturbs id) happened ≡ false → IsNotFree before → IsNotFree after
-not_free_after id happened before after fate still held = grind (arith, common_steps, cases_Bool)
-
-not_free_mapped : (job : Job) (moment seat : ℕ) (o : Option Job) → IsNotFree o → IsNotFree (option_map (λ j. cond (j.id == job.id) (reserved_by moment seat j) j) o)
-not_free_mapped job moment seat o h = grind (arith, common_steps, cases_Bool, cond_both)
 
 -- the jobs after a hand-out, looked up
 pub handed_lookup : (id : ℕ) (m n : Machine) (happened : List Happening) (h : IsHandOutMove m happened n) → job_with id n.jobs ≡ option_map (λ j. cond (j.id == h.job.id) (reserved_by m.moment h.seat j) j) (job_with id m.jobs)
@@ -42,28 +33,26 @@ pub put_lookup : (id : ℕ) (m n : Machine) (happened : List Happening) (h : IsP
 put_lookup id m n happened h less = grind (arith, common_steps, job_in_more, false_from_ne_true, eqb-true)
 
 pub spent_after : (id : ℕ) (m n : Machine) (happened : List Happening) → Move m happened n → list_any (disturbs id) happened ≡ false → IsSpent id m → IsSpent id n
-spent_after id m n happened (quiet q) still spent = grind (arith, common_steps, not_free_after)
+spent_after id m n happened (quiet q) still spent = grind (arith, common_steps)
 spent_after id m n happened (putting p) still spent =
-    let less = spent.0 in let next = p.next in
+    let less = spent.0 in
     (omega arith, subst IsNotFree (sym (put_lookup id m n happened p less)) spent.1)
 spent_after id m n happened (handing h) still spent =
-    let less = spent.0 in let next = h.next in
-    (omega arith, subst IsNotFree (sym (handed_lookup id m n happened h)) (not_free_mapped h.job m.moment h.seat (job_with id m.jobs) spent.1))
+    (omega arith, subst IsNotFree (sym (handed_lookup id m n happened h)) (grind (arith, common_steps, cases_Bool, cond_both)))
 
 pub spent_not_handed : (id : ℕ) (m n : Machine) (happened : List Happening) → Move m happened n → IsSpent id m → list_any (is_hand_out id) happened ≡ false
 spent_not_handed id m n happened (quiet q) spent = none_handed id happened q.plain
 spent_not_handed id m n happened (putting p) spent = ap (list_any (is_hand_out id)) p.happened_is
-spent_not_handed id m n happened (handing h) spent = grind (arith, common_steps, or_from, false_from_ne_true, eqb-true, held_is_not_ready)
+spent_not_handed id m n happened (handing h) spent = grind (arith, common_steps, or_from, false_from_ne_true, eqb-true)
 
 -- Its job is spent once it is handed out.
 pub spent_by_hand_out : (m n : Machine) (happened : List Happening) (h : IsHandOutMove m happened n) → IsSpent h.job.id n
-spent_by_hand_out m n happened h =
-    let less = h.below in let next = h.next in (
-      omega arith,
-      subst IsNotFree (sym (handed_lookup h.job.id m n happened h ∙ ap (option_map (λ j. cond (j.id == h.job.id) (reserved_by m.moment h.seat j) j)) h.there))
-          (cond_both (h.job.id == h.job.id) (reserved_by m.moment h.seat h.job) h.job (λ k. is_reserved k.state ≡ true) (λ e. refl)
-          (λ e. absurd (both_ways (h.job.id == h.job.id) e (eq-eqb h.job.id h.job.id refl)))),
-    )
+spent_by_hand_out m n happened h = (
+  omega arith,
+  subst IsNotFree (sym (handed_lookup h.job.id m n happened h ∙ ap (option_map (λ j. cond (j.id == h.job.id) (reserved_by m.moment h.seat j) j)) h.there))
+      (cond_both (h.job.id == h.job.id) (reserved_by m.moment h.seat h.job) h.job (λ k. is_reserved k.state ≡ true) (λ e. refl)
+      (λ e. absurd (both_ways (h.job.id == h.job.id) e (eq-eqb h.job.id h.job.id refl)))),
+)
 
 -- A move's happenings, and those of the rest, disturb nothing.
 pub still_parts : (id : ℕ) (happened more : List Happening) → list_any (disturbs id) (happened ++ more) ≡ false → (list_any (disturbs id) happened ≡ false) × (list_any (disturbs id) more ≡ false)
@@ -79,12 +68,7 @@ none_more id m n (p ∷ parts) moves still spent =
 
 none_counted : (id : ℕ) (happened : List Happening) → list_any (is_hand_out id) happened ≡ false → count_by (is_hand_out id) happened ≡ 0
 none_counted id [] h = refl
-none_counted id (x ∷ happened) h =
-    let parts = or_parts (is_hand_out id x) (list_any (is_hand_out id) happened) h in
-    count_cons (is_hand_out id) x happened ∙ rw (parts.0, none_counted id happened parts.1) refl
-
-count_append : (id : ℕ) (xs ys : List Happening) → count_by (is_hand_out id) (xs ++ ys) ≡ count_by (is_hand_out id) xs + count_by (is_hand_out id) ys
-count_append id xs ys = sum_by-append (λ h. cond (is_hand_out id h) 1 0) xs ys
+none_counted id (x ∷ happened) h = grind (arith, common_steps, or_parts, count_cons, none_counted id happened)
 
 -- A job that nothing disturbs is handed out at most once.
 pub handed_once : (id : ℕ) (m n : Machine) (parts : List Part) → Moves m parts n → list_any (disturbs id) (happenings parts) ≡ false → count_by (is_hand_out id) (happenings parts) ≤ 1
@@ -94,7 +78,7 @@ handed_once id m n (p ∷ parts) moves still =
     at_move moves.0 each.0 each.1 (handed_once id p.machine n parts moves.1 each.1)
   where
     later : list_any (is_hand_out id) p.happened ≡ false → count_by (is_hand_out id) (happenings parts) ≤ 1 → count_by (is_hand_out id) (p.happened ++ happenings parts) ≤ 1
-    later none rest = let a = count_append id p.happened (happenings parts) in let b = none_counted id p.happened none in omega arith
+    later none rest = let a = sum_by-append (λ h. cond (is_hand_out id h) 1 0) p.happened (happenings parts) in let b = none_counted id p.happened none in omega arith
 
     at_move : Move m p.happened p.machine → list_any (disturbs id) p.happened ≡ false → list_any (disturbs id) (happenings parts) ≡ false → count_by (is_hand_out id) (happenings parts) ≤ 1 → count_by (is_hand_out id) (p.happened ++ happenings parts) ≤ 1
     at_move (quiet q) still more rest = later (none_handed id p.happened q.plain) rest
@@ -105,7 +89,7 @@ handed_once id m n (p ∷ parts) moves still =
               let spent : IsSpent id p.machine = subst (λ i. IsSpent i p.machine) (eqb-true h.job.id id e) (spent_by_hand_out m p.machine p.happened h) in
               let none = none_counted id (happenings parts) (none_more id p.machine n parts moves.1 more spent) in
               let one : count_by (is_hand_out id) p.happened ≡ 1 = ap (count_by (is_hand_out id)) h.happened_is ∙ count_cons (is_hand_out id) (handed_out h.job.id) [] ∙ rw e refl in
-              let a = count_append id p.happened (happenings parts) in
+              let a = sum_by-append (λ h. cond (is_hand_out id h) 1 0) p.happened (happenings parts) in
               omega arith
           | inr e ↦ later (ap (list_any (is_hand_out id)) h.happened_is ∙ rw e refl) rest
         ]

@@ -3,17 +3,17 @@ use Rattle.std.proofs.Common.{◌&&◌, ◌++◌, ◌∷◌, ◌≡◌, List, No
 use Rattle.std.proofs.lemmas.Bool.{cases_Bool, and_parts, and_from, or_left, or_right, both_ways, cond_both, eq-eqb}
 use Rattle.std.proofs.lemmas.Grind.{common_steps}
 use Rattle.std.specs.{List.{AllByRecursion as All, list_any}, Prelude.{◌==◌, filter, option_map}}
-use Rattle.bq_job.specs.machine.{Chain, DispatchTurn, Dispatches, EndsWaits, GivenAnswer, IsHandOut, Machine.Machine, SeatRecord}
+use Rattle.bq_job.specs.machine.{Chain, DispatchTurn, Dispatches, GivenAnswer, IsHandOut, Machine.Machine, SeatRecord}
 use Rattle.bq_job.specs.machine.{WaitEndTurn, acted, after_timers, at_moment, forgetting, is_due, is_expired, is_paused, is_ready}
-use Rattle.bq_job.specs.machine.{is_reserved, job_after_timers, job_with, may_have, next_job, next_seat, reserved_by, watches}
+use Rattle.bq_job.specs.machine.{job_after_timers, job_with, next_job, next_seat, reserved_by, watches}
 use Rattle.bq_job.specs.laws.{Happening, Part, changes, disturbs, expirations, expired, hand_out, hand_outs, happenings, parts_in}
 use Rattle.bq_job.specs.{beside.{AreIdsWithin, IsLawful}, laws.parts_of_run, promise.{GoesBy, IsTransition, Parts}}
-use Rattle.bq_job.specs.{promise.{Transition, parts_of}, Types.{Job, JobState}}
+use Rattle.bq_job.specs.{promise.{Transition, parts_of}, Types.Job}
 use Rattle.bq_job.proofs.LawfulLemmas.{after_timers_is, end_of, kept_of_timers, leaves_acted, served, step_is_lawful, turns_of_dispatches}
 use Rattle.bq_job.proofs.{ActMoves.{Ids, after_acted}, LookupLemmas.{found_job, job_found, job_in_map}}
 use Rattle.bq_job.proofs.{ChangeLemmas.move_of_jobs, KeptLemmas.{Keeps, ids_of_map, kept_of_lawful}}
 use Rattle.bq_job.proofs.{DispatchLemmas.{next_is_least, turn_of}, ListLemmas.{all_always, all_of_map, list_any_with}}
-use Rattle.bq_job.proofs.JobMoves.{Fate, Move, Moves, handing, happenings_append, is_plain, moves_append, quiet}
+use Rattle.bq_job.proofs.JobMoves.{Fate, Move, Moves, handing, is_plain, moves_append, quiet}
 
 -- The machine goes by moves, and this happens to jobs.
 pub record Goes (m : Machine) (happened : List Happening) (n : Machine) : Type 0 where
@@ -28,15 +28,12 @@ pub goes_one : (m : Machine) (happened : List Happening) (n : Machine) → Move 
 goes_one m happened n move = record { parts = record { happened = happened; machine = n } ∷ []; moves = (move, refl); told = append-nil happened }
 
 pub goes_then : (m k n : Machine) (xs ys : List Happening) → Goes m xs k → Goes k ys n → Goes m (xs ++ ys) n
-goes_then m k n xs ys h i = grind (arith, common_steps, moves_append, happenings_append)
-
-fate_of_itself : (id : ℕ) (happened : List Happening) (o : Option Job) → Fate id happened o o
-fate_of_itself id happened o = grind (arith, common_steps, cases_Bool)
+goes_then m k n xs ys h i = grind (arith, common_steps, moves_append)
 
 -- Nothing happens to jobs.
 still_move : (m n : Machine) → n.jobs ≡ m.jobs → n.next_id ≡ m.next_id → Move m [] n
 still_move m n jobs next =
-    quiet (record { next = next; plain = tt; fates = λ id. subst (λ l. Fate id [] (job_with id m.jobs) (job_with id l)) (sym jobs) (fate_of_itself id [] (job_with id m.jobs)) })
+    quiet (record { next = next; plain = tt; fates = λ id. subst (λ l. Fate id [] (job_with id m.jobs) (job_with id l)) (sym jobs) (grind (arith, common_steps, cases_Bool)) })
 
 -- timers
 plain_expirations : (moment : ℕ) (jobs : List Job) → All (λ h. is_plain h ≡ true) (expirations moment jobs)
@@ -46,9 +43,6 @@ told_to_expire : (moment id : ℕ) (jobs : List Job) → list_any (λ j. is_expi
 told_to_expire moment id [] h = absurd cc
 told_to_expire moment id (j ∷ jobs) h = grind (arith, common_steps, cases_Bool, or_left, or_right, told_to_expire moment id jobs)
 
-not_due_when_ready : (moment : ℕ) (s : JobState) → is_reserved s ≡ true → is_due moment s ≡ false
-not_due_when_ready moment s h = grind (arith, common_steps, cases_Bool)
-
 timed_fate : (moment id : ℕ) (jobs : List Job) (o : Option Job) → job_with id jobs ≡ o → Fate id (expirations moment jobs) o (option_map (job_after_timers moment) o)
 timed_fate moment id jobs None e = refl
 timed_fate moment id jobs (Some j) e = record {
@@ -57,7 +51,7 @@ timed_fate moment id jobs (Some j) e = record {
   body = after_timers_is moment j (λ k. k.body ≡ j.body) refl refl refl;
   ready = λ h still. after_timers_is moment j (λ k. (is_ready k ≡ true) × (k.pri ≡ j.pri)) (refl, refl) (refl, refl) (h, refl);
   held = λ h still.
-      let due = not_due_when_ready moment j.state h in
+      let due : is_due moment j.state ≡ false = grind (arith, common_steps, cases_Bool) in
       elim (cases_Bool (is_expired moment j.state)) [
         | inl f ↦
             let found = found_job id jobs j e in
@@ -66,13 +60,6 @@ timed_fate moment id jobs (Some j) e = record {
         | inr f ↦ rw (due, f) h
       ];
 }
-
-goes_by_timers : (at : ℕ) (m : Machine) → Goes m (expirations (at_moment at m).moment m.jobs) (forgetting (after_timers (at_moment at m)))
-goes_by_timers at m = grind (arith, common_steps, job_in_map, after_timers_is, goes_one, plain_expirations, timed_fate)
-
--- Who may have a job may have each ready one of its tube.
-may_have_too : (m : Machine) (s : SeatRecord) (j k : Job) → may_have m s j ≡ true → is_ready k ≡ true → k.tube ≡ j.tube → may_have m s k ≡ true
-may_have_too m s j k h ready tube = grind (arith, common_steps, and_parts, and_from)
 
 -- one turn of dispatch
 hand_out_move : (m n : Machine) (j : Job) (s : SeatRecord) (given : GivenAnswer) → Ids m → next_job m ≡ Some j → next_seat m j ≡ Some s → IsHandOut m j s given n → Move m (hand_out given.1) n × Ids n
@@ -90,7 +77,7 @@ hand_out_move m n j s given ids e f (inl h) =
         there = found.0;
         below = found.1;
         ready = (and_parts (is_ready j) (watches j.tube s) (and_parts (is_ready j && watches j.tube s) (not (is_paused j.tube m)) least.allowed).0).0;
-        least = λ k i ready tube. least.least k i (may_have_too m s j k least.allowed ready tube);
+        least = λ k i ready tube. least.least k i (grind (arith, common_steps, and_parts, and_from));
       }),
       subst (λ l. AreIdsWithin 1 l n.next_id) (sym jobs) (subst (AreIdsWithin 1 (map (λ k. cond (k.id == j.id) (reserved_by m.moment s.number k) k) m.jobs)) (sym next)
           (ids_of_map (λ k. cond (k.id == j.id) (reserved_by m.moment s.number k) k) 1 m.next_id m.jobs (λ k. cond_both (k.id == j.id) (reserved_by m.moment s.number k) k (λ l. l.id ≡ k.id) (λ e. refl) (λ e. refl)) ids)),
@@ -114,9 +101,6 @@ goes_by_dispatch m given n ids d =
 same_jobs : (m : Machine) (given : List GivenAnswer) (n : Machine) → Chain WaitEndTurn m given n → (n.jobs ≡ m.jobs) × (n.next_id ≡ m.next_id)
 same_jobs m [] n chain = (ap (λ (l : Machine). l.jobs) chain, ap (λ (l : Machine). l.next_id) chain)
 same_jobs m (g ∷ given) n chain = grind (arith, common_steps, end_of, same_jobs chain.0 given n chain.2)
-
-goes_by_ends : (m : Machine) (given : List GivenAnswer) (n : Machine) → EndsWaits m given n → Goes m [] n
-goes_by_ends m given n w = grind (arith, common_steps, same_jobs, goes_one, still_move)
 
 -- A part goes by moves, and keeps what every part keeps.
 pub record PartGoes (m : Machine) (p : Part) : Type 0 where
@@ -147,17 +131,17 @@ parts_gone t keeps is =
     subst (λ (l : Machine). Move s.before (changes t.entry.what s.before.jobs l.jobs) l) (sym s.acts)
     (move_of_jobs t.entry.what s.before (forgetting (acted s.memory s.before t.entry.seat t.entry.what).machine) k2.ids (after_acted s.memory s.before t.entry.seat t.entry.what k2.ids)) in
     let of_step : ArePartsGone m (parts_in (record t { parts = parts_of s })) t.last = (
-      record { goes = goes_by_timers t.entry.moment m; keeps = k0 },
+      record { goes = grind (arith, common_steps, job_in_map, after_timers_is, goes_one, plain_expirations, timed_fate); keeps = k0 },
       (
         record { goes = goes_by_dispatch timed s.handed s.serves.between k0.ids s.serves.dispatches; keeps = k1 },
         (
-          record { goes = goes_by_ends s.serves.between s.ended s.before s.serves.ends_waits; keeps = k2 },
+          record { goes = grind (arith, common_steps, same_jobs, goes_one, still_move); keeps = k2 },
           (
             record { goes = goes_one s.before (changes t.entry.what s.before.jobs s.after.jobs) s.after acts; keeps = k3 },
             (
               record { goes = goes_by_dispatch s.after s.handed_then s.serves_then.between k3.ids s.serves_then.dispatches; keeps = k4 },
               (
-                record { goes = goes_by_ends s.serves_then.between s.ended_then t.last s.serves_then.ends_waits; keeps = k5 },
+                record { goes = grind (arith, common_steps, same_jobs, goes_one, still_move); keeps = k5 },
                 refl,
               ),
             ),

@@ -1,11 +1,12 @@
 -- The first unit of a text, and units that begin texts.
-use Rattle.std.proofs.Common.{◌≡◌, ℕ, ◌<◌, List, [], ◌∷◌, ◌++◌, Option, Some, None, ◌⊎◌, inl, refl, sym, ap, arith, length, take, drop, MatchOption, length-append, append_assoc, IsTrue}
+use Rattle.std.proofs.Common.{◌≡◌, ℕ, ◌<◌, List, [], ◌∷◌, ◌++◌, Option, Some, None, ◌⊎◌, inl, refl, sym, ap, arith, length, MatchOption, length-append, append_assoc}
 use Rattle.std.proofs.lemmas.{Bool.Decides.nat_tests, Grind.common_steps}
-use Rattle.bq_job.specs.beside.{IsRefusedMemory, first_unit, had_memory, put_request, unit_after, unit_of_line}
+use Rattle.bq_job.specs.beside.{IsRefusedMemory, first_unit, put_request, unit_after, unit_of_line}
 use Rattle.bq_job.specs.{declared.request.Request.Request, reading.{Line.first_line, LineRead.{LineRead, PutLine}}}
 use Rattle.bq_job.specs.reading.{LineRead.{PutWaits, Whole, read_line}, Reading.{BeginsNoUnit, IsPutRequest, IsUnit}}
-use Rattle.bq_job.specs.reading.Reading.{IsUnitAfter, put_with_body}
+use Rattle.bq_job.specs.reading.Reading.{IsUnitAfter}
 use Rattle.bq_job.proofs.LineLemmas.{first_line-append, first_line_is, first_line_again}
+use Rattle.std.proofs.lemmas.Bool.{cases_Bool}
 
 -- the request of a unit is the computed one, or its memory was refused
 abbrev pub IsComputed : Request → Request → Type 0
@@ -15,32 +16,18 @@ IsComputed r q = (r ≡ q) ⊎ IsRefusedMemory r q
 pub some_pair : {A B : Type 0} (x y : A × B) → Some x ≡ Some y → (x.0 ≡ y.0) × (x.1 ≡ y.1)
 some_pair x y e = let h : x ≡ y = cc in (ap (λ z. z.0) h, ap (λ z. z.1) h)
 
--- as many bytes as a put wants are taken, and the others are left
-take-all : (after more : List ℕ) (n : ℕ) → length after ≡ n → take n (after ++ more) ≡ after
-take-all after more n e = rw (← e) (grind (arith, common_steps))
-
-drop-all : (after more : List ℕ) (n : ℕ) → length after ≡ n → drop n (after ++ more) ≡ more
-drop-all after more n e = rw (← e) (grind (arith, common_steps))
-
-had_memory-put : (put : PutLine) (bytes : List ℕ) → IsTrue (had_memory (put_with_body put bytes))
-had_memory-put put bytes = grind (arith, common_steps)
-
 put_request-computed : (size : ℕ) (put : PutLine) (bytes : List ℕ) (r : Request) → IsPutRequest size put bytes r → IsComputed r (put_request size put bytes)
-put_request-computed size put bytes r h = grind (arith, common_steps, had_memory-put)
-
--- the computed request of a put is one
-put_request-is : (size : ℕ) (put : PutLine) (bytes : List ℕ) → IsPutRequest size put bytes (put_request size put bytes)
-put_request-is size put bytes = grind (arith, common_steps)
+put_request-computed size put bytes r h = grind (arith, common_steps)
 
 pub unit_after-append : (size : ℕ) (read : LineRead) (after more : List ℕ) (r : Request) → IsUnitAfter size read after r
     → (q : Request) × (unit_after size read (after ++ more) ≡ Some (q, more)) × IsComputed r q
 unit_after-append size (Whole request) after more r h = (request, (rw h.0 refl), inl h.1)
-unit_after-append size (PutWaits put) after more r h = grind (arith, common_steps, nat_tests, take-all, drop-all, put_request-computed)
+unit_after-append size (PutWaits put) after more r h = grind (arith, common_steps, nat_tests, put_request-computed)
 
 pub unit_after-unit : (size : ℕ) (read : LineRead) (after rest : List ℕ) (r : Request) → unit_after size read after ≡ Some (r, rest)
     → (taken : List ℕ) × (after ≡ taken ++ rest) × IsUnitAfter size read taken r
 unit_after-unit size (Whole request) after rest r e = let same = some_pair (request, after) (r, rest) e in ([], same.1, (refl, sym same.0))
-unit_after-unit size (PutWaits put) after rest r e = grind (arith, common_steps, some_pair, nat_tests, put_request-is)
+unit_after-unit size (PutWaits put) after rest r e = grind (arith, common_steps, some_pair, nat_tests)
 
 -- a text that begins with a unit has it as its first
 pub first_unit-append : (size : ℕ) (first more : List ℕ) (r : Request) → IsUnit size first r
@@ -67,9 +54,7 @@ first_unit-unit size text rest r e = go (first_line text) refl e
     go : (o : Option (List ℕ × List ℕ)) → first_line text ≡ o → unit_of_line size o ≡ Some (r, rest)
         → (first : List ℕ) × (text ≡ first ++ rest) × IsUnit size first r × (0 < length first)
     go None is e = cc
-    go (Some l) is e =
-        let taken : (taken : List ℕ) × (l.1 ≡ taken ++ rest) × IsUnitAfter size (read_line l.0) taken r = unit_after-unit size (read_line l.0) l.1 rest r e in
-        from_line l taken.0 is taken.1 taken.2
+    go (Some l) is e = grind (arith, common_steps, cases_Bool, unit_after-unit, from_line)
 
 pub no_first_unit : (size : ℕ) (text : List ℕ) → first_unit size text ≡ None → BeginsNoUnit size text
 no_first_unit size text e first more r is unit =

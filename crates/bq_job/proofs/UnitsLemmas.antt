@@ -3,6 +3,8 @@ use Rattle.std.proofs.Common.{◌++◌, ◌∷◌, ◌≡◌, IsTrue, List, [], 
 use Rattle.std.proofs.lemmas.Bool.{and_parts}
 use Rattle.bq_job.specs.reading.Reading.{AreUnits, IsUnit, is_quit, quits_last, ends_by_quit}
 use Rattle.bq_job.specs.declared.request.Request.{Request}
+use Rattle.std.proofs.lemmas.Grind.{common_steps}
+use Rattle.std.proofs.Common.{arith}
 
 -- a unit behind units
 pub AreUnits-append : (size : ℕ) (requests : List Request) (units unit : List ℕ) (r : Request) → AreUnits size units requests → IsUnit size unit r
@@ -21,5 +23,4 @@ pub quits_last-append : (requests : List Request) (r : Request) → IsTrue (quit
 quits_last-append [] r last no_quit = refl
 quits_last-append (q ∷ []) r last no_quit = rw no_quit refl
 quits_last-append (q ∷ next ∷ requests) r last no_quit =
-    let both = and_parts (not (is_quit q)) (quits_last (next ∷ requests)) last in
-    rw (both.0, quits_last-append (next ∷ requests) r both.1 no_quit)
+    grind (arith, common_steps, and_parts, quits_last-append (next ∷ requests) r (and_parts (not (is_quit q)) (quits_last (next ∷ requests)) last).1 no_quit)

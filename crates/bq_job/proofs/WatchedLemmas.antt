@@ -1,9 +1,9 @@
 -- The tubes that a seat watches: at least one and none twice, through a watch and an ignore.
 use Rattle.std.proofs.lemmas.Bool.{cases_Bool, and_parts, and_from, both_ways, cond_both, false_from_ne_true, or_from, or_parts}
-use Rattle.std.proofs.Common.{◌++◌, ◌||◌, ◌∙◌, ◌∷◌, ◌≡◌, Bool, List, [], ℕ, arith, false, not, refl, sym, true}
+use Rattle.std.proofs.Common.{◌++◌, ◌∷◌, ◌≡◌, Bool, List, [], ℕ, arith, false, refl, sym, true}
 use Rattle.std.proofs.lemmas.{Bool.not-true, Grind.common_steps, List.Folds.list_any-append}
 use Rattle.std.specs.{Cmp.Lexicographic.bytes_decides, List.list_any, Prelude.filter}
-use Rattle.bq_job.specs.{beside.{has_one, none_twice, watches_once}, machine.{SeatRecord, watched_with, watching}}
+use Rattle.bq_job.specs.{beside.{none_twice, watches_once}, machine.{SeatRecord, watched_with, watching}}
 use Rattle.bq_job.specs.reading.TubeName.{is_same_name}
 use Rattle.bq_job.proofs.ListLemmas.{all_of_filter, all_weaker, list_any_not, none_pass}
 
@@ -13,21 +13,12 @@ same_other a b e = false_from_ne_true (is_same_name b a) (λ t. both_ways (is_sa
 pub none_twice_behind : (tube : List ℕ) (names : List (List ℕ)) → list_any (is_same_name tube) names ≡ false → none_twice names ≡ true → none_twice (names ++ tube ∷ []) ≡ true
 none_twice_behind tube [] e h = refl
 none_twice_behind tube (name ∷ names) e h =
-    let other = or_parts (is_same_name tube name) (list_any (is_same_name tube) names) e in
-    let parts = and_parts (not (list_any (is_same_name name) names)) (none_twice names) h in
-    let fresh : list_any (is_same_name name) (names ++ tube ∷ []) ≡ false =
-    list_any-append (is_same_name name) names (tube ∷ []) ∙ or_from (list_any (is_same_name name) names) (is_same_name name tube || false) (not-true (list_any (is_same_name name) names) parts.0) (or_from (is_same_name name tube) false (same_other tube name other.0) refl) in
-    rw fresh (none_twice_behind tube names other.1 parts.1)
-
-one_behind : (tube : List ℕ) (names : List (List ℕ)) → has_one (names ++ tube ∷ []) ≡ true
-one_behind tube names = grind (arith, common_steps, cases_Bool)
+    grind (arith, common_steps, or_parts, and_parts, list_any-append, or_from, not-true, same_other, none_twice_behind tube names)
 
 pub watched_still : (tube : List ℕ) (s : SeatRecord) → watches_once s ≡ true → watches_once (watching (watched_with tube s) s) ≡ true
-watched_still tube s h = grind (arith, common_steps, and_parts, cond_both, and_from, one_behind, none_twice_behind)
+watched_still tube s h = grind (arith, common_steps, and_parts, cond_both, and_from, none_twice_behind)
 
 pub none_twice_filter : (p : List ℕ → Bool) (names : List (List ℕ)) → none_twice names ≡ true → none_twice (filter p names) ≡ true
 none_twice_filter p [] h = refl
 none_twice_filter p (name ∷ names) h =
-    let parts = and_parts (not (list_any (is_same_name name) names)) (none_twice names) h in
-    let rest = none_twice_filter p names parts.1 in
-    grind (arith, common_steps, list_any_not, all_weaker, all_of_filter, none_pass, not-true, cases_Bool)
+    grind (arith, common_steps, and_parts, list_any_not, all_weaker, all_of_filter, none_pass, not-true, cases_Bool, none_twice_filter p names)
