@@ -7,6 +7,7 @@ use Rattle.bq_steps.specs.Cost.{changed_jobs}
 use Rattle.bq_jobs.specs.Kept.{ComparesAtMost, Kept}
 use Rattle.bq_jobs.proofs.Counting.{digits_rise}
 use Rattle.bq_state.specs.Asking.{Asks, AsksAsChanged, AsksWithin, search_among}
+use Rattle.bq_state.proofs.{DueLemmas.warnings_walked, WaitingLemmas.turns_counted, WarningLemmas.{none_due, one_due, one_waits}}
 
 -- among more jobs a search takes no less
 pub search_grows : (i j : ℕ) → i ≤ j → search_among i ≤ search_among j
@@ -28,6 +29,9 @@ asks_summed f xs i d {first = first} {last = last} fits a b = subst (λ n. Asks 
 -- so many searches are no more than more of them
 pub asks_more : {n : ℕ} (k : ℕ) {old new : Kept} → n ≤ k → Asks n old new → Asks k old new
 asks_more {n = n} k {old = old} l a = grind (arith, common_steps, mul-le)
+
+-- whom a warning is due, and what is asked for it, by a name that an attribute can cite
+pub ruleset warnings_asked = (common_steps, asks_more, turns_counted, warnings_walked, none_due, one_due, one_waits)
 
 pub within : {n : ℕ} (k : ℕ) {old new : Kept} → n ≤ k → Asks n old new → AsksWithin k old new
 within {n = n} k {old = old} {new = new} l a = grind (arith, common_steps, mul-le, search_grows)

@@ -276,6 +276,7 @@ fn first_warning(jobs: &mut Jobs, seats: &[SeatRecord], turns: &[Turn]) -> Optio
 
 // When the first of the clients that wait is told so. Only who may hold a job is looked at, and
 // where that is more than one, who waits.
+#[tactic(auto, using(crate::proofs::AskLemmas::warnings_asked))]
 fn warnings_due(
     jobs: &mut Jobs,
     seats: &[SeatRecord],
