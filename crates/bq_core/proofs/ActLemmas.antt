@@ -1,10 +1,10 @@
 -- What each event at a seat does, where its seat is known.
-use Rattle.std.proofs.Common.{◌++◌, ◌+◌, ◌<◌, ◌==◌, ◌||◌, ◌∙◌, ◌∷◌, ◌≡◌, if◌then◌else◌, Bool, List, None, Option, Some, [], ℕ, ap, append-nil, arith, false, filter, inl, inr, is_some, length, map, nat_le, not, refl, set, slice_get, suc}
+use Rattle.std.proofs.Common.{◌++◌, ◌+◌, ◌==◌, ◌∙◌, ◌∷◌, ◌≡◌, if◌then◌else◌, Bool, List, None, Option, Some, [], ℕ, ap, append-nil, arith, false, filter, is_some, length, map, nat_le, not, refl, set, slice_get, suc}
 use Rattle.std.proofs.{Common.{sym, true, zero}, lemmas.{Bool.{and_parts, cases_Bool, eqb-true}, Grind.common_steps}, Math.Bool.or-false}
 use Rattle.std.specs.List.{list_any}
 use Rattle.bq_job.specs.declared.{answer.Answer.Answer, job.Job.Job, request.Request.Request, step.Step.Step}
-use Rattle.bq_job.specs.machine.{Effect, SeatRecord, after_close, after_connect, ask_effect, asked, at_found, close_effect, connect_effect, effect, end_effect, ignore_effect, is_full, is_reserved, job_with, last_id, new_job, on_job}
-use Rattle.bq_job.specs.machine.{put_effect, raised, reserve_job_effect, reserved_by, seat_with, step_takes_memory, takes_memory, telling, watch_effect, watches, watching, watching_or_refused, with_end, with_job, with_put, with_seat}
+use Rattle.bq_job.specs.machine.{SeatRecord, after_close, after_connect, ask_effect, asked, at_found, effect, end_effect, ignore_effect, is_full, is_reserved, job_with, last_id, new_job}
+use Rattle.bq_job.specs.machine.{put_effect, raised, reserve_job_effect, reserved_by, seat_with, step_takes_memory, takes_memory, telling, watch_effect, watches, watching, with_end, with_job, with_put, with_seat}
 use Rattle.bq_job.specs.{machine.{with_tube, Machine.Machine}, reading.TubeName.is_same_name}
 use Rattle.bq_job.specs.declared.answer.Answer.TheVariants as answers
 use Rattle.bq_job.specs.declared.step.Step.TheVariants as steps
@@ -18,12 +18,8 @@ use Rattle.bq_core.specs.{Acting.{Acts, Replies}, declared.acts.Reply.Reply}
 pub number_found : (n : ℕ) (seats : List SeatRecord) (s : SeatRecord) → seat_with n seats ≡ Some s → s.number ≡ n
 number_found n seats s h = eqb-true s.number n (found_passes (λ s. s.number == n) seats s h).0
 
--- a client comes to a seat that is free
-connect_at : (m : Machine) (seat : ℕ) (o : Option SeatRecord) → seat_with seat m.seats ≡ o → is_free o ≡ true → (at_found connect_effect m o).machine ≡ after_connect m seat
-connect_at m seat o e free = grind (arith, common_steps, cases_Bool, number_found)
-
 pub connected_free : (m : Machine) (seat : ℕ) → is_free (seat_with seat m.seats) ≡ true → (effect m seat steps.Connect).machine ≡ after_connect m seat
-connected_free m seat free = connect_at m seat (seat_with seat m.seats) refl free
+connected_free m seat free = grind (arith, common_steps, cases_Bool, number_found)
 
 end_at : (m : Machine) (seat : ℕ) (o : Option SeatRecord) → seat_with seat m.seats ≡ o → is_connected o ≡ true → (at_found end_effect m o).machine ≡ with_seat seat with_end m
 end_at m seat o e there = grind (arith, common_steps, number_found)
@@ -31,18 +27,11 @@ end_at m seat o e there = grind (arith, common_steps, number_found)
 pub ended_connected : (m : Machine) (seat : ℕ) → is_connected (seat_with seat m.seats) ≡ true → (effect m seat steps.End).machine ≡ with_seat seat with_end m
 ended_connected m seat there = end_at m seat (seat_with seat m.seats) refl there
 
-close_at : (m : Machine) (seat : ℕ) (o : Option SeatRecord) → seat_with seat m.seats ≡ o → is_connected o ≡ true → at_found close_effect m o ≡ telling answers.Closed (after_close m seat)
-close_at m seat o e there = grind (arith, common_steps, number_found)
-
 pub closed_connected : (m : Machine) (seat : ℕ) → is_connected (seat_with seat m.seats) ≡ true → effect m seat steps.Close ≡ telling answers.Closed (after_close m seat)
-closed_connected m seat there = close_at m seat (seat_with seat m.seats) refl there
-
--- what a command comes to that finds its job, and one that doesn't
-pub on_job_found : (id : ℕ) (passes : Job → Bool) (act : Job → Effect) (m : Machine) (j : Job) → job_with id m.jobs ≡ Some j → passes j ≡ true → on_job id passes act m ≡ act j
-on_job_found id passes act m j found pass = rw (found, pass) refl
+closed_connected m seat there = grind (arith, common_steps, number_found)
 
 pub reserve_job_done : (m : Machine) (s : SeatRecord) (seat id : ℕ) (j : Job) → s.number ≡ seat → job_with id m.jobs ≡ Some j → is_reserved j.state ≡ false → reserve_job_effect id m s ≡ telling (answers.Reserved id j.body) (with_job id (reserved_by m.moment seat) m)
-reserve_job_done m s seat id j at found free = grind (arith, common_steps, on_job_found, found_id)
+reserve_job_done m s seat id j at found free = grind (arith, common_steps, found_id)
 
 -- what a put comes to that is accepted
 pub put_done : (m : Machine) (s : SeatRecord) (pri delay ttr : ℕ) (body tube : List ℕ) (j : Job) → s.used ≡ tube → m.draining ≡ false → is_full m.settings.max_jobs m.jobs ≡ false → j ≡ new_job m s pri delay ttr body → put_effect pri delay ttr body m s ≡ telling (answers.Inserted m.next_id) (record (with_tube tube with_put m) { jobs = m.jobs ++ j ∷ []; next_id = m.next_id + 1; puts = raised m.puts; draining = nat_le last_id m.next_id })
@@ -70,19 +59,13 @@ watched_now m s seat tube found h =
 -- a tube that isn't watched any more
 pub none_left : {A : Type 0} (p : A → Bool) (xs : List A) → list_any p xs ≡ false → filter p xs ≡ []
 none_left p [] h = refl
-none_left p (x ∷ xs) h = elim (cases_Bool (p x)) [
-  | inl pass ↦ absurd (let e : (true || list_any p xs) ≡ false = rw pass at h in cc)
-  | inr fail ↦ let rest : list_any p xs ≡ false = rw fail at h in rw fail (none_left p xs rest)
-]
+none_left p (x ∷ xs) h = grind (arith, common_steps, cases_Bool, none_left p xs)
 
 pub not_ignored : (m : Machine) (s : SeatRecord) (tube : List ℕ) → list_any (λ name. not (is_same_name tube name)) s.watched ≡ false → ignore_effect tube m s ≡ telling answers.NotIgnored m
 not_ignored m s tube h = rw (none_left (λ name. not (is_same_name tube name)) s.watched h) refl
 
-some_watched : (names : List (List ℕ)) (m : Machine) (s : SeatRecord) → 0 < length names → watching_or_refused names m s ≡ telling (answers.Watching (length names)) (with_seat s.number (watching names) m)
-some_watched names m s h = grind (arith, common_steps)
-
 pub ignored_now : (m : Machine) (s : SeatRecord) (seat : ℕ) (tube : List ℕ) → seat_with seat m.seats ≡ Some s → list_any (λ name. not (is_same_name tube name)) s.watched ≡ true → ignore_effect tube m s ≡ telling (answers.Watching (length (filter (λ name. not (is_same_name tube name)) s.watched))) (with_seat seat (watching (filter (λ name. not (is_same_name tube name)) s.watched)) m)
-ignored_now m s seat tube found h = grind (arith, common_steps, some_watched, some_left, number_found)
+ignored_now m s seat tube found h = grind (arith, common_steps, some_left, number_found)
 
 -- the client who asks
 pub record Asks (m : Machine) (seat : ℕ) (request : Request) : Type 0 where
@@ -91,11 +74,7 @@ pub record Asks (m : Machine) (seat : ℕ) (request : Request) : Type 0 where
   pub asks : at_found (ask_effect request) m (seat_with seat m.seats) ≡ asked request m asker
 
 asks_at : (m : Machine) (seat : ℕ) (request : Request) (o : Option SeatRecord) → seat_with seat m.seats ≡ o → is_asking o ≡ true → Asks m seat request
-asks_at m seat request None e asking = absurd cc
-asks_at m seat request (Some s) e asking = record { asker = s; found = e; asks = rw (e, asking) refl }
-
-pub ask_at : (m : Machine) (seat : ℕ) (request : Request) → is_asking (seat_with seat m.seats) ≡ true → Asks m seat request
-ask_at m seat request asking = asks_at m seat request (seat_with seat m.seats) refl asking
+asks_at m seat request v4 e asking = grind (arith, common_steps, cases_Bool)
 
 -- who asks is connected
 pub asker_connected : (seat : ℕ) (seats : List SeatRecord) (s : SeatRecord) → seat_with seat seats ≡ Some s → is_asking (seat_with seat seats) ≡ true → s.connected ≡ true
@@ -121,5 +100,5 @@ none_there o h = grind (arith, common_steps)
 pub asked_so : (m next : Machine) (seat : ℕ) (what : Step) (request : Request) (reply : Reply) (told : Answer) → what ≡ steps.Ask request → true ≡ is_asking (seat_with seat m.seats)
     → ((s : SeatRecord) → seat_with seat m.seats ≡ Some s → Replies (takes_memory request) m (asked request m s) reply told next) → Replies (step_takes_memory what) m (effect m seat what) reply told next
 asked_so m next seat what request reply told is asking answered =
-    let a = ask_at m seat request (sym asking) in
+    let a = asks_at m seat request (seat_with seat m.seats) refl (sym asking) in
     rw (is, a.asks) (answered a.asker a.found)

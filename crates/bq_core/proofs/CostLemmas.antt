@@ -6,7 +6,7 @@ use Rattle.bq_job.specs.machine.{Chain, DispatchTurn, GivenAnswer, IsHandOut, Se
 use Rattle.bq_job.specs.{beside.{AreIdsWithin, waiting_count}, declared.job.{Job.Job, JobState.JobState}}
 use Rattle.bq_job.specs.declared.job.JobState.TheVariants as states
 use Rattle.bq_job.proofs.{DispatchLemmas.turn_of, LawfulLemmas.end_of, ListLemmas.count_cons, LookupLemmas.job_in_map}
-use Rattle.bq_steps.specs.{Cost.{changed_jobs, is_gone_or_changed, is_same_job, is_same_state, tubes_watched}, Outbox.Outbox}
+use Rattle.bq_steps.specs.{Cost.{changed_jobs, is_gone_or_changed, is_same_job, tubes_watched}, Outbox.Outbox}
 use Rattle.bq_jobs.proofs.Changes.{all_found}
 use Rattle.bq_state.specs.{Cost.waited_tubes, declared.job_store.JobKind.JobKind, JobKinds.is_of}
 use Rattle.bq_core.specs.{Kicking.all_kicked, Turns.Gives}
@@ -96,11 +96,8 @@ module _ (kind : JobKind) (tube : List ℕ) (out : (k : Job) → is_of kind tube
   alike : (k : JobKind) (j : Job) → j.state ≡ states.Ready → is_of k tube j ≡ is_of k tube (kicked j)
   alike k j e = grind (arith, common_steps)
 
-  not_ready : (j : Job) → is_of kind tube j ≡ true → is_same_state j.state states.Ready ≡ false
-  not_ready j h = grind (arith, common_steps, alike)
-
   other : (j : Job) → (is_of kind tube j && not (is_of kind tube (if list_any (λ k. k.id == j.id) chosen then kicked j else j))) ≡ true → is_same_job j (if list_any (λ k. k.id == j.id) chosen then kicked j else j) ≡ false
-  other j h = grind (arith, common_steps, not_ready, and_parts)
+  other j h = grind (arith, common_steps, and_parts)
 
   pub kicked_changed : (low next n : ℕ) (jobs : List Job) → AreIdsWithin low jobs next → count_by (is_of kind tube) (all_kicked chosen jobs) + n ≤ count_by (is_of kind tube) jobs → n ≤ changed_jobs jobs (all_kicked chosen jobs)
   kicked_changed low next n jobs ids few =

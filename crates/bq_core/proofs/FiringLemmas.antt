@@ -3,7 +3,7 @@ use Rattle.std.proofs.Common.{◌&&◌, ◌+◌, ◌-◌, ◌<◌, ◌==◌, ◌
 use Rattle.std.proofs.lemmas.{Bool.{cases_Bool, eqb-true, or_left, or_right, Decides.nat_tests}, Grind.common_steps}
 use Rattle.std.specs.{List.{AllByRecursion as All, list_any}, Prelude.{count_by, nat_le, option_map}}
 use Rattle.bq_job.specs.machine.{SeatRecord, due_of, ends_waiting, first_of, given_back, greatest, grown, in_state, is_deadline_soon, is_delayed, is_due, is_due_before, is_ending_lease, is_expired, is_held_by, is_holder, is_pair_before, is_reserved}
-use Rattle.bq_job.specs.machine.{is_timed_out, is_timed_out_at, is_wait_before, is_waiting, job_after_timers, job_with, next_end, raised, with_job, with_timeout, Machine.Machine}
+use Rattle.bq_job.specs.machine.{is_timed_out, is_timed_out_at, is_wait_before, is_waiting, job_after_timers, job_with, next_end, with_job, with_timeout, Machine.Machine}
 use Rattle.bq_job.specs.{beside.AreIdsWithin, declared.job.{Job.Job, JobState.JobState}}
 use Rattle.bq_job.specs.declared.job.JobState.TheVariants as states
 use Rattle.bq_job.proofs.ChoiceLemmas.{first_of_contains, first_of_is_least, first_of_is_some, first_of_none, first_of_none_passes, first_of_passes, pair_order}
@@ -22,20 +22,8 @@ absorbed f g id (k ∷ jobs) all = grind (arith, common_steps, absorbed f g id j
 -- one job less passes, once the one of this id is changed
 pub one_fewer : (p : Job → Bool) (g : Job → Job) (id low next : ℕ) (jobs : List Job) (j : Job) → AreIdsWithin low jobs next → job_with id jobs ≡ Some j → p j ≡ true → p (g j) ≡ false → count_by p (map (λ k. if k.id == id then g k else k) jobs) + 1 ≡ count_by p jobs
 one_fewer p g id low next [] j ids found was is = absurd cc
-one_fewer p g id low next (k ∷ jobs) j ids found was is = elim (cases_Bool (k.id == id)) [
-  | inl same ↦
-      let e : Some k ≡ Some j = rw same at found in
-      let one : k ≡ j = cc in
-      let at : k.id ≡ id = eqb-true k.id id same in
-      let rest = none_changed id g jobs (others_above id (suc k.id) next jobs (omega arith) ids.1) in
-      let out : p (g k) ≡ false = ap (λ x. p (g x)) one ∙ is in
-      let in_it : p k ≡ true = ap p one ∙ was in
-      rw (same, rest, count_cons p (g k) jobs, count_cons p k jobs, out, in_it) (omega arith)
-  | inr other ↦
-      let there : job_with id jobs ≡ Some j = rw other at found in
-      let rest = one_fewer p g id (suc k.id) next jobs j ids.1 there was is in
-      rw (other, count_cons p k (map (λ k. if k.id == id then g k else k) jobs), count_cons p k jobs) (omega (arith, rest))
-]
+one_fewer p g id low next (k ∷ jobs) j ids found was is =
+    grind (arith, common_steps, cases_Bool, eqb-true, none_changed, others_above, count_cons, one_fewer p g id (suc k.id) next jobs j)
 
 as_many : (p : Job → Bool) (g : Job → Job) (id : ℕ) (jobs : List Job) → All (λ k. (k.id == id) ≡ true → p (g k) ≡ p k) jobs → count_by p (map (λ k. if k.id == id then g k else k) jobs) ≡ count_by p jobs
 as_many p g id [] all = refl
@@ -65,22 +53,14 @@ fired_due m id ids one =
     let due : is_due m.moment k.state ≡ true = ap (λ (j : Job). is_due m.moment j.state) (is e) ∙ one.passes_is in
     ap p (ripened m.moment k due) ∙ sym (not_expired m.moment k.state due)) single in
     let counted = as_many p f id m.jobs same in
-    ap (λ js. record m { jobs = js; timeouts = grown (count_by p (with_job id f m).jobs) m.timeouts }) jobs
-    ∙ ap (λ n. record m { jobs = map f m.jobs; timeouts = grown n m.timeouts }) counted
-
-stops_once : (t c d : ℕ) → d + 1 ≡ c → min (min (t + 1) greatest + d) greatest ≡ min (t + c) greatest
-stops_once t c d e = omega arith
-
--- one reservation ends
-pub fired_expired : (m : Machine) (id : ℕ) → AreIdsWithin 1 m.jobs m.next_id → IsOne (λ j. is_expired m.moment j.state) m.jobs id → after_job_timers (record (with_job id (job_after_timers m.moment) m) { timeouts = raised m.timeouts }) ≡ after_job_timers m
-fired_expired m id ids one = grind (arith, common_steps, absorbed, all_always, fired_once, one_fewer, expired, stops_once)
+    grind (arith, common_steps)
 
 none_more : (t c : ℕ) → min (min (t + 0) greatest + c) greatest ≡ min (t + c) greatest
 none_more t c = omega arith
 
 -- one reservation ended and was counted, or none
 pub counted_fired : (m next : Machine) (t : ℕ) (b : Bool) → AreIdsWithin 1 m.jobs m.next_id → (b ≡ false → (list_any (λ j. is_expired m.moment j.state) m.jobs ≡ false) × (next ≡ m)) → (b ≡ true → ExpiresOne m next) → t ≡ grown (if b then 1 else 0) next.timeouts → after_job_timers (record next { timeouts = t }) ≡ after_job_timers m
-counted_fired m next t b ids none one e = grind (arith, common_steps, fired_expired, none_more)
+counted_fired m next t b ids none one e = grind (arith, common_steps, absorbed, all_always, fired_once, one_fewer, expired, none_more)
 
 -- one timer less is to fire
 fewer_ripe : (m : Machine) (id : ℕ) (one : Job) → AreIdsWithin 1 m.jobs m.next_id → job_with id m.jobs ≡ Some one → is_ripe m.moment one ≡ true → is_ripe m.moment (job_after_timers m.moment one) ≡ false → count_by (is_ripe m.moment) (with_job id (job_after_timers m.moment) m).jobs < count_by (is_ripe m.moment) m.jobs
@@ -154,13 +134,6 @@ chosen_at p number low next jobs at id ids e =
     late : (at id : ℕ) (k : Job) {j : Job} → at ≡ number j → id ≡ j.id → is_pair_before (number k) k.id (number j) j.id ≡ false → at ≤ number k
     late at id k n i h = grind (arith, nat_tests)
 
--- the delayed job that is due first, at this moment
-due_is : (moment : ℕ) (s : JobState) → is_due moment s ≡ (is_delayed s && nat_le (due_of s) moment)
-due_is moment s = grind (arith, common_steps)
-
-expired_is : (moment : ℕ) (s : JobState) → is_expired moment s ≡ (is_reserved s && nat_le (deadline_of s) moment)
-expired_is moment s = grind (arith, common_steps)
-
 ending_is : (moment seat : ℕ) (s : JobState) → is_ending_lease moment seat s ≡ (is_holder seat s && nat_le (deadline_of s) (moment + 1000))
 ending_is moment seat s = grind (arith, common_steps)
 
@@ -177,10 +150,7 @@ module _ (p : Job → Bool) (number : Job → ℕ) (q : ℕ → Job → Bool) (q
   pub none_past : (t at id : ℕ) → Some (at, id) ≡ option_map (ranked number) (first_of p (λ a b. is_pair_before (number a) a.id (number b) b.id) jobs) → t < at → list_any (q t) jobs ≡ false
   none_past t at id e later =
       let c = chosen_at p number low next jobs at id ids e in
-      list_any_not (q t) jobs (all_weaker (λ k. p k ≡ true → at ≤ number k) (λ k. q t k ≡ false) jobs (λ k least. q_is t k ∙ elim (cases_Bool (p k)) [
-        | inl pass ↦ let l = least pass in let past : nat_le (number k) t ≡ false = grind (arith, nat_tests) in rw (pass, past) refl
-        | inr fail ↦ rw fail refl
-      ]) c.least)
+      grind (arith, common_steps, list_any_not, all_weaker, cases_Bool, nat_tests)
 
   -- there is none of the kind
   pub none_such : (t : ℕ) → list_any p jobs ≡ false → list_any (q t) jobs ≡ false
@@ -213,10 +183,10 @@ pub no_first_deadline : (has : Bool) (jobs : List Job) → has ≡ list_any (λ 
 no_first_deadline has jobs is none = none_first (λ j. is_reserved j.state) is_lease_before (λ j. deadline_of j.state) jobs (sym is ∙ none)
 
 pub dues_are : (t : ℕ) (j : Job) → is_due t j.state ≡ (is_delayed j.state && nat_le (due_of j.state) t)
-dues_are t j = due_is t j.state
+dues_are t j = grind (arith, common_steps)
 
 pub expiries_are : (t : ℕ) (j : Job) → is_expired t j.state ≡ (is_reserved j.state && nat_le (deadline_of j.state) t)
-expiries_are t j = expired_is t j.state
+expiries_are t j = grind (arith, common_steps)
 
 -- one job is given back
 held_back : (state : JobState) (seat : ℕ) (j : Job) → is_held_by seat j ≡ true → given_back state seat j ≡ in_state state j
@@ -231,9 +201,7 @@ given_one state seat m id free ids first =
     let one = chosen (is_held_by seat) is_lease_before 1 m.next_id m.jobs id ids first in
     let single = one_of_id id 1 m.next_id m.jobs one.job ids one.found in
     let back : (k : Job) → given_back state seat (in_state state k) ≡ in_state state k = λ k. rw (held_by_none seat state free) refl in
-    ap (λ js. record m { jobs = js })
-    (absorbed (given_back state seat) (in_state state) id m.jobs (all_weaker (λ k. (k.id == id) ≡ true → k ≡ one.job) (λ k. (k.id == id) ≡ true → given_back state seat (in_state state k) ≡ given_back state seat k) m.jobs (λ k is e.
-    back k ∙ sym (held_back state seat k (ap (is_held_by seat) (is e) ∙ one.passes_is))) single))
+    grind (arith, common_steps, absorbed, all_weaker, held_back)
 
 pub given_fewer : (state : JobState) (seat : ℕ) (m : Machine) (id : ℕ) → is_reserved state ≡ false → AreIdsWithin 1 m.jobs m.next_id → Some id ≡ option_map (λ j. j.id) (first_of (is_held_by seat) is_lease_before m.jobs)
     → count_by (is_held_by seat) (with_job id (in_state state) m).jobs < count_by (is_held_by seat) m.jobs
@@ -254,9 +222,6 @@ endings_told : (seat moment : ℕ) (jobs : List Job) → list_any (λ j. is_endi
 endings_told seat moment [] = refl
 endings_told seat moment (j ∷ jobs) = rw (ending_is moment seat j.state, endings_told seat moment jobs) refl
 
-soon_told : (d m s : ℕ) → s ≡ d - 1000 → nat_le s m ≡ nat_le d (m + 1000)
-soon_told d m s e = grind (arith, common_steps, cases_Bool, nat_tests)
-
 -- The first of some leases tells whether one of them ends within a second.
 soon_first : (p : Job → Bool) (moment : ℕ) (jobs : List Job) (found : Option (ℕ × ℕ)) → found ≡ option_map (ranked (λ j. deadline_of j.state)) (first_of p is_lease_before jobs)
     → is_soon moment found ≡ list_any (λ j. p j && nat_le (deadline_of j.state) (moment + 1000)) jobs
@@ -270,7 +235,7 @@ soon_first p moment jobs found is = ap (is_soon moment) is ∙ go (first_of p is
 
     go : (o : Option Job) → first_of p is_lease_before jobs ≡ o → is_soon moment (option_map (ranked (λ j. deadline_of j.state)) o) ≡ list_any q jobs
     go None e = sym (list_any_not q jobs (all_weaker (λ k. p k ≡ false) (λ k. q k ≡ false) jobs (λ k fail. rw fail refl) (none_pass p jobs (first_of_none p is_lease_before jobs e))))
-    go (Some j) e = soon_told (deadline_of j.state) moment (deadline_of j.state - 1000) refl ∙ elim (cases_Bool (nat_le (deadline_of j.state) (moment + 1000))) [
+    go (Some j) e = (grind (arith, common_steps, cases_Bool, nat_tests)) ∙ elim (cases_Bool (nat_le (deadline_of j.state) (moment + 1000))) [
       | inl past ↦ past ∙ sym (list_any_with q jobs j (first_of_contains p is_lease_before jobs j e) (rw (first_of_passes p is_lease_before jobs j e, past) refl))
       | inr later ↦
           later

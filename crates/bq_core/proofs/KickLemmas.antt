@@ -120,11 +120,7 @@ kicks_first kind tube low next jobs j out ids first =
     let beside : All (λ x. p x ≡ true → Beside before j x) jobs =
     all_from_members (λ x. p x ≡ true → Beside before j x) jobs (λ x there pass.
     let late = first_of_is_least p order jobs j x first there pass in
-    record {
-      not_before = late;
-      after = λ other. pair_other (rank_of kind j) j.id (rank_of kind x) x.id late other;
-      one = all_at (λ x. (x.id == j.id) ≡ true → x ≡ j) jobs x one there;
-    }) in
+    grind (arith, common_steps, pair_other, all_at)) in
     let rest = map (λ k. if k.id == j.id then kicked k else k) jobs in
     let ordered : jobs_of kind tube jobs ≡ j ∷ jobs_of kind tube rest =
     first_ordered before j low next (filter p jobs) (ids_of_filter p low next jobs ids) (those (Beside before j) p jobs beside) (some_there p jobs j here passes)

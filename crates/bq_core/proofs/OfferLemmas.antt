@@ -1,21 +1,14 @@
 -- What a walk over those that wait finds for them.
-use Rattle.std.proofs.{Common.{◌∙◌, ◌∷◌, ◌≡◌, List, None, Option, [], ℕ, ap, arith, false, refl, subst, sym}, lemmas.{Bool.Decides.nat_tests, Grind.common_steps}}
+use Rattle.std.proofs.{Common.{◌∙◌, ◌∷◌, ◌≡◌, List, None, Option, [], ℕ, ap, arith, refl, subst, sym}, lemmas.Grind.common_steps}
 use Rattle.std.specs.{List.sum_by, Prelude.fold}
 use Rattle.bq_job.specs.{declared.job.Job.Job, machine.{SeatRecord, TubeRecord}}
 use Rattle.bq_job.proofs.ChoiceLemmas.{pair_order}
 use Rattle.bq_jobs.specs.Kept.{Kept}
-use Rattle.bq_state.specs.{Asking.Asks, Cost.waited_tubes, Offers.{better_rank, with_offers}, SeatChanges.AreNumbered, WaitingTurns.{by_seat, is_turn_before, turns_of, waited_at}}
+use Rattle.bq_state.specs.{Asking.Asks, Cost.waited_tubes, Offers.{better_rank, with_offers}, SeatChanges.AreNumbered, WaitingTurns.{by_seat, turns_of, waited_at}}
 use Rattle.bq_state.proofs.{SeatPlaces.place_is_seat, WalkLemmas.{chosen, chosen_twice, walked}}
 
--- Of two jobs it is the same which is looked at first.
-rank_chosen : (a b : Option (ℕ × ℕ)) → better_rank a b ≡ chosen is_turn_before a b
-rank_chosen a b = grind (arith, common_steps)
-
-ranks_same : (x y : ℕ × ℕ) → is_turn_before x y ≡ false → is_turn_before y x ≡ false → x ≡ y
-ranks_same x y a b = grind (arith, common_steps, nat_tests)
-
 ranks_swap : (b x y : Option (ℕ × ℕ)) → better_rank (better_rank b x) y ≡ better_rank (better_rank b y) x
-ranks_swap b x y = grind (arith, common_steps, rank_chosen, chosen, chosen_twice, pair_order, ranks_same)
+ranks_swap b x y = grind (arith, common_steps, chosen, chosen_twice, pair_order)
 
 -- folds of which it is the same which comes first
 one_later : {A B : Type 0} (g : B → A → B) → ((b : B) (x y : A) → g (g b x) y ≡ g (g b y) x) → (b : B) (y : A) (xs : List A) → fold g (g b y) xs ≡ g (fold g b xs) y
@@ -33,9 +26,5 @@ fold_same g h same b (x ∷ xs) = ap (λ c. fold g c xs) (same b x) ∙ fold_sam
 pub offers_walked : (jobs : List Job) (entries : List TubeRecord) (seats : List SeatRecord) → AreNumbered seats → fold (by_seat (with_offers jobs entries) seats) None (turns_of seats) ≡ fold (with_offers jobs entries) None seats
 offers_walked jobs entries seats h = grind (arith, common_steps, fold_same, place_is_seat, walked, folds_swap, ranks_swap)
 
--- and how many tubes those that wait watch
-tubes_walked : (seats : List SeatRecord) → AreNumbered seats → sum_by (waited_at seats) (turns_of seats) ≡ sum_by waited_tubes seats
-tubes_walked seats h = grind (arith, common_steps, fold_same, place_is_seat, walked)
-
 pub asks_walked : (seats : List SeatRecord) {old new : Kept} → AreNumbered seats → Asks (sum_by (waited_at seats) (turns_of seats)) old new → Asks (sum_by waited_tubes seats) old new
-asks_walked seats {old = old} {new = new} numbered asked = subst (λ n. Asks n old new) (tubes_walked seats numbered) asked
+asks_walked seats {old = old} {new = new} numbered asked = subst (λ n. Asks n old new) (grind (arith, common_steps, fold_same, place_is_seat, walked)) asked

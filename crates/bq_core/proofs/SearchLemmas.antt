@@ -1,5 +1,5 @@
 -- The next job, where it is known what may be had.
-use Rattle.std.proofs.Common.{◌&&◌, ◌==◌, ◌||◌, ◌∙◌, ◌∷◌, ◌≡◌, ◌≤◌, Bool, List, None, Option, Some, [], ℕ, ap, arith, false, inl, inr, length, not, refl, subst, sym, true}
+use Rattle.std.proofs.Common.{◌&&◌, ◌==◌, ◌||◌, ◌∙◌, ◌∷◌, ◌≡◌, ◌≤◌, Bool, List, None, Option, Some, [], ℕ, ap, arith, false, length, not, refl, subst, sym, true}
 use Rattle.std.proofs.lemmas.{Bool.{and_parts, cases_Bool, eqb-true, or_cases, Decides.nat_tests}, Grind.common_steps}
 use Rattle.std.proofs.lemmas.List.Sums.{sum_by-cons}
 use Rattle.std.specs.{List.{AllByRecursion as All, Contains, list_any, sum_by}, Prelude.option_map}
@@ -45,9 +45,7 @@ client_waits m seat (Some s) numbered found known =
     go : (j : Job) → All (IsKnown (Client seat) m.tubes j) m.seats → (b : Bool) → is_waiting_for m j s ≡ b → list_any (is_waiting_for m j) m.seats ≡ (b || false)
     go j all true e = list_any_with (is_waiting_for m j) m.seats s here e
     go j all false e =
-        list_any_not (is_waiting_for m j) m.seats
-        (all_from_members (λ t. is_waiting_for m j t ≡ false) m.seats
-        (λ t c. unwanted j e t (all_at (λ u. u.number ≡ seat → u ≡ s) m.seats t only c) (all_at (IsKnown (Client seat) m.tubes j) m.seats t all c) (is_waiting_for m j t) refl))
+        grind (arith, common_steps, cases_Bool, list_any_not, all_from_members, unwanted, all_at, only)
 
 -- some client passes
 record Passes (p : SeatRecord → Bool) (seats : List SeatRecord) : Type 0 where
@@ -57,10 +55,8 @@ record Passes (p : SeatRecord → Bool) (seats : List SeatRecord) : Type 0 where
 
 some_passes : (p : SeatRecord → Bool) (seats : List SeatRecord) → list_any p seats ≡ true → Passes p seats
 some_passes p [] h = absurd cc
-some_passes p (s ∷ seats) h = elim (or_cases (p s) (list_any p seats) h) [
-  | inl e ↦ record { client = s; here = contains_head s seats; passes = e }
-  | inr e ↦ let more = some_passes p seats e in record { client = more.client; here = contains_tail s seats more.client more.here; passes = more.passes }
-]
+some_passes p (s ∷ seats) h =
+    grind (arith, common_steps, or_cases, contains_head, contains_tail, some_passes p seats)
 
 -- of one tube
 pub tube_waits : (m : Machine) (name : List ℕ) (w : Bool) → list_any (is_waiter name) m.seats ≡ w → AreKnown (Tube name) m.jobs m.seats m.tubes

@@ -9,17 +9,11 @@ use Rattle.bq_state.specs.contracts.tubes.Tubes as Tubes
 use Rattle.bq_core.specs.contracts.step.Core as Core
 use denote.Param.Send.{IsSend, sendable}
 
-rows_send : IsSend (Rows.the_field).row
-rows_send = search (Crossing.crosses, TheKnot.crosses, sendable) depth 60 fits 20000
-
 numbered_tubes_send : IsSend (NumberedTubes.the_field).row
 numbered_tubes_send = search (Crossing.crosses, TheKnot.crosses, sendable) depth 60 fits 20000
-
-jobs_send : IsSend (Jobs.the_field).row
-jobs_send = search (rows_send, numbered_tubes_send, Crossing.crosses, TheKnot.crosses, sendable) depth 60 fits 20000
 
 tubes_sends : IsSend (Tubes.the_field).row
 tubes_sends = search (Crossing.crosses, TheKnot.crosses, sendable) depth 60 fits 20000
 
 pub core_sends : IsSend (Core.the_field).row
-core_sends = search (jobs_send, tubes_sends, Crossing.crosses, TheKnot.crosses, sendable) depth 60 fits 20000
+core_sends = search (tubes_sends, Crossing.crosses, TheKnot.crosses, sendable) depth 60 fits 20000

@@ -60,10 +60,6 @@ pub chain_alike : (Turn : Machine → GivenAnswer → Machine → Type 0) → ((
 chain_alike Turn keeps first [] last chain none = subst NoneIsGone (sym chain) none
 chain_alike Turn keeps first (g ∷ given) last chain none = chain_alike Turn keeps chain.0 given last chain.2 (keeps first g chain.0 chain.1 none)
 
--- timers leave jobs in their tubes
-timer_tube : (moment : ℕ) (j : Job) → (job_after_timers moment j).tube ≡ j.tube
-timer_tube moment j = grind (arith, common_steps)
-
 names_alike : (p : List ℕ → Bool) (f : TubeRecord → TubeRecord) → ((t : TubeRecord) → (f t).name ≡ t.name) → (ts : List TubeRecord) → list_all (λ t. p t.name) (map f ts) ≡ list_all (λ t. p t.name) ts
 names_alike p f keeps [] = refl
 names_alike p f keeps (t ∷ ts) = rw (keeps t, names_alike p f keeps ts) refl
@@ -75,7 +71,7 @@ timers_alike at m none =
     names_alike (λ name. is_tube name n) (tube_after_timers now) (λ t. refl) m.tubes
     ∙ list_all_agree (λ t. is_tube t.name n) (λ t. is_tube t.name m) (λ t.
     ap (λ seats. is_tube t.name (record n { seats = seats })) (sym (map-id m.seats))
-    ∙ changed_alike m (job_after_timers now) (λ s. s) (timer_tube now) (λ name s. refl) t.name) m.tubes
+    ∙ changed_alike m (job_after_timers now) (λ s. s) (λ j. grind (arith, common_steps)) (λ name s. refl) t.name) m.tubes
     ∙ none
 
 pub forgotten_none : (m : Machine) → NoneIsGone (forgetting m)

@@ -1,5 +1,5 @@
 -- The ends of waits, one waiting client after another in the order of their turns.
-use Rattle.std.proofs.Common.{◌&&◌, ◌+◌, ◌<◌, ◌==◌, ◌||◌, ◌∙◌, ◌∷◌, ◌≡◌, ◌≤◌, if◌then◌else◌, Bool, List, None, Option, Some, [], ℕ, arith, cond, false, inl, inr, length, map, not, refl, slice_get, subst, sym, true}
+use Rattle.std.proofs.Common.{◌&&◌, ◌<◌, ◌==◌, ◌||◌, ◌∙◌, ◌∷◌, ◌≡◌, ◌≤◌, if◌then◌else◌, Bool, List, None, Option, Some, [], ℕ, arith, false, inl, inr, length, map, not, refl, slice_get, subst, sym, true}
 use Rattle.std.proofs.lemmas.{Bool.{and_parts, cases_Bool, eq-eqb, eqb-true, Decides.nat_tests}, Grind.common_steps}
 use Rattle.std.proofs.Common.{map-id}
 use Rattle.std.specs.{List.{AllByRecursion as All, Contains, list_any}, Prelude.count_by}
@@ -60,23 +60,17 @@ no_more p q f (x ∷ xs) w = rw (count_cons q (f x) (map f xs), count_cons p x x
 
 fewer : (p q : SeatRecord → Bool) (f : SeatRecord → SeatRecord) (xs : List SeatRecord) → All (λ x. q (f x) ≡ true → p x ≡ true) xs → list_any (λ x. p x && not (q (f x))) xs ≡ true → count_by q (map f xs) < count_by p xs
 fewer p q f [] w h = absurd cc
-fewer p q f (x ∷ xs) w h = rw (count_cons q (f x) (map f xs), count_cons p x xs) (go (p x) (q (f x)) w.0 (λ e. fewer p q f xs w.1 e) h)
-  where
-    go : (b c : Bool) → (c ≡ true → b ≡ true) → (list_any (λ y. p y && not (q (f y))) xs ≡ true → count_by q (map f xs) < count_by p xs) → ((b && not c) || list_any (λ y. p y && not (q (f y))) xs) ≡ true → cond c 1 0 + count_by q (map f xs) < cond b 1 0 + count_by p xs
-    go b c i rest e = grind (arith, common_steps, no_more)
+fewer p q f (x ∷ xs) w h = grind (arith, common_steps, count_cons, no_more, fewer p q f xs)
 
 -- pairs of numbers
 pair_alone : (a i : ℕ) → is_pair_before a i a i ≡ false
 pair_alone a i = grind (arith, nat_tests)
 
-pair_chain : (a i b j c k : ℕ) → is_pair_before a i b j ≡ true → is_pair_before b j c k ≡ true → is_pair_before a i c k ≡ true
-pair_chain a i b j c k h o = grind (arith, nat_tests)
-
 pair_same : (a i b j : ℕ) → is_pair_before a i b j ≡ false → is_pair_before b j a i ≡ false → i ≡ j
 pair_same a i b j h o = grind (arith, nat_tests)
 
 after_chain : (last : Option (ℕ × ℕ)) (s t : SeatRecord) → is_after last s ≡ true → is_after (Some (turn_of s)) t ≡ true → is_after last t ≡ true
-after_chain last s t h i = grind (arith, common_steps, pair_chain)
+after_chain last s t h i = grind (arith, common_steps)
 
 -- the next one that is looked at
 module _ (st : CoreParts) (last : Option (ℕ × ℕ)) (looked : AreLookedAt (machine_of st) last) (k : ℕ) (there : k < length st.seats.items) (found : slice_get st.seats.items k ≡ first_of (waits_after last) is_wait_before st.seats.items) where

@@ -24,9 +24,6 @@ one_seat number s = grind (arith, common_steps)
 pub waited_few : (number : ℕ) (m : Machine) → waited m ≤ watched_tubes number m
 waited_few number m = sum_no_more waited_tubes (tubes_watched number) m.seats (all_always (λ s. waited_tubes s ≤ tubes_watched number s) m.seats (one_seat number))
 
-at_most_watched : (s : SeatRecord) → waited_tubes s ≤ length s.watched
-at_most_watched s = grind (arith, common_steps)
-
 -- a change of one seat that lets no more be waited for than was watched there
 with_seat_few : (number : ℕ) (f : SeatRecord → SeatRecord) (m : Machine) → All (λ s. s.number ≡ number → waited_tubes (f s) ≤ length s.watched) m.seats → waited (with_seat number f m) ≤ watched_tubes number m
 with_seat_few number f m less = grind (arith, common_steps, sum_of_map, all_weaker, eqb-true)
@@ -34,13 +31,9 @@ with_seat_few number f m less = grind (arith, common_steps, sum_of_map, all_weak
 always_few : (number : ℕ) (f : SeatRecord → SeatRecord) (m : Machine) → ((s : SeatRecord) → waited_tubes (f s) ≤ length s.watched) → waited (with_seat number f m) ≤ watched_tubes number m
 always_few number f m less = with_seat_few number f m (all_always (λ s. s.number ≡ number → waited_tubes (f s) ≤ length s.watched) m.seats (λ s e. less s))
 
--- who asks doesn't wait, and its seat waits no more than before
-quiet_few : (f : SeatRecord → SeatRecord) (m : Machine) (s : SeatRecord) → ((t : SeatRecord) → (f t).wait ≡ t.wait) → All (λ t. t.number ≡ s.number → t ≡ s) m.seats → is_waiting s ≡ false → waited (with_seat s.number f m) ≤ watched_tubes s.number m
-quiet_few f m s waits_as alone quiet = grind (arith, common_steps, with_seat_few, all_weaker)
-
 -- every kind of command
 kind_few : (request : Request) (m : Machine) (s : SeatRecord) {e : Effect} → Kind m s request e → All (λ t. t.number ≡ s.number → t ≡ s) m.seats → is_waiting s ≡ false → waited e.machine ≤ watched_tubes s.number m
-kind_few request m s h alone quiet = grind (arith, common_steps, waited_few, always_few, quiet_few)
+kind_few request m s h alone quiet = grind (arith, common_steps, waited_few, always_few, with_seat_few, all_weaker)
 
 alone_at : (m : Machine) (seat : ℕ) (s : SeatRecord) → map (λ s. s.number) m.seats ≡ numbers 0 m.settings.seats → IsSeat m seat s → All (λ t. t.number ≡ s.number → t ≡ s) m.seats
 alone_at m seat s seated is =
@@ -52,7 +45,7 @@ acted_few memory m seat what seated = each_acted m seat (λ what e. waited e.mac
   nothing = λ what. waited_few seat m;
   connects = λ s is. here (after_connect m s.number) is (always_few s.number (λ t. record (empty_seat t.number) { connected = true }) m (λ t. omega arith));
   asks = λ request s is c w. here (asked request m s).machine is (kind_few request m s (kind_of request m s) (alone_at m seat s seated is) w);
-  ends = λ s is. here (with_seat s.number with_end m) is (always_few s.number with_end m at_most_watched);
+  ends = λ s is. here (with_seat s.number with_end m) is (always_few s.number with_end m (λ s. grind (arith, common_steps)));
   closes = λ s is. here (after_close m s.number) is (always_few s.number (λ t. empty_seat t.number) m (λ t. omega arith));
   drains = waited_few seat m;
 }) (λ what. waited_few seat m) memory what

@@ -10,18 +10,9 @@ pub invariant_of-state : goal.invariant_of-state
 invariant_of-state c =
     let s = c.args.state.now in
     let was = c.args.state.now.sound in
-    record {
-      sound =
-          rw (c.first_pause_end-state.ensures ∙ ap (λ (k : KeptTubes). first_pause_end k.entries) c.fire_timers.ensures, c.fire_timers.ensures)
-          (record {
-            entries = entries_of_timers s.moment s.jobs.jobs s.seats.items s.tubes.entries was.entries;
-            numbered = was.numbered;
-            next = was.next;
-            ids = was.ids;
-            waiting = was.waiting;
-            known = so_with_pauses s;
-          });
-    }
+    let entries = entries_of_timers s.moment s.jobs.jobs s.seats.items s.tubes.entries was.entries in
+    let known = so_with_pauses s in
+    record { sound = rw (c.first_pause_end-state.ensures ∙ ap (λ (k : KeptTubes). first_pause_end k.entries) c.fire_timers.ensures, c.fire_timers.ensures) assumption }
 
 pub returns-then-not-is_over-clause-after : goal.returns-then-not-is_over-clause-after
 returns-then-not-is_over-clause-after c = grind (arith, common_steps, none_over, no_pause_ends, none_counted)
