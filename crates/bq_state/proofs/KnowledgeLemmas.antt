@@ -1,6 +1,6 @@
 -- What is known without a search follows each change of the jobs, the seats and the tubes.
 use Rattle.std.proofs.Common.{◌&&◌, ◌++◌, ◌==◌, ◌∙◌, ◌∷◌, ◌≡◌, ◌≤◌, if◌then◌else◌, Bool, List, None, Some, [], ℕ, ap, false, filter, fold, is_some, length, map, not, refl, set, slice_get, subst, sym, true}
-use Rattle.std.proofs.{Common.arith, lemmas.Grind.common_steps}
+use Rattle.std.proofs.{Common.arith, lemmas.{Grind.common_steps, List.length-map}}
 use Rattle.std.specs.List.{AllByRecursion as All, list_any}
 use Rattle.bq_job.specs.declared.job.Job.{Job}
 use Rattle.bq_job.specs.{machine.{SeatRecord, TubeRecord, empty_seat, greatest, is_ready, is_ready_state, is_waiting, job_with, next_job, numbers, seat_with, tube_after_timers, watches, watching}, reading.TubeName.is_same_name}
@@ -16,6 +16,7 @@ use Rattle.bq_state.proofs.{ClientLemmas.{clients_moved, clients_watching}, Crow
 use Rattle.bq_state.proofs.{FirstEndLemmas.{first_timeouts, timeouts_of_seat, timeouts_watching}, LeavingLemmas.alive_left}
 use Rattle.bq_state.proofs.LossLemmas.{alive_added, alive_forgotten, alive_ignoring, alive_provided, alive_renamed, alive_taken, alive_watching, end_of_those_left}
 use Rattle.bq_state.proofs.{MovedLemmas.{alive_changed, counted_moved, known_moved, one_tube, tube_kept, warned_moved}, PartsLemmas.{all_filtered, counted_provided, id_kept, name_kept_at, numbered_after, tube_counts, tube_name_kept}}
+use Rattle.bq_state.proofs.{PartsLemmas.{entries_of_seat, first_entries, first_numbered}, WaitingLemmas.{many_seats, none_in_turn, rising_left, turns_moved, turns_within}}
 use Rattle.bq_state.proofs.{PauseLemmas.{end_after_change, end_provided}, StirLemmas.{known_added, known_any, known_forgotten, known_ignoring, known_nothing, known_of_change, known_of_seat, known_watching}}
 use Rattle.bq_state.proofs.{TallyPlaces.{counted_added, counted_kept, counted_provided as tallies_of_provided, counted_taken}, TubeLemmas.{filters_swap, record_changed}}
 use Rattle.bq_state.proofs.WarningLemmas.{warned_added, warned_by_due, warned_of_seat, warned_watching}
@@ -220,3 +221,8 @@ module _ (st : CoreParts) where
 -- At the start there is nothing to know.
 pub so_at_first : (n : ℕ) → IsSo nothing_known [] (map empty_seat (numbers 0 n)) first_tubes
 so_at_first n = grind (arith, common_steps, first_crowds (numbers 0 n), first_timeouts (numbers 0 n))
+
+-- what is so of new parts, and after a change of a seat, by names that an attribute can cite
+pub ruleset known_at_first = (common_steps, so_at_first, first_entries, first_numbered, none_in_turn, many_seats)
+
+pub ruleset kept_by_seat = (common_steps, so_with_seat, entries_of_seat, numbered_after, rising_left, turns_moved, turns_within, length-map)

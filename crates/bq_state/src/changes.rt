@@ -123,6 +123,7 @@ pub fn change_job(state: &mut CoreParts, id: JobId, what: &JobChange)
 }
 
 /// Changes the seat of this number. A tube that it uses then has an entry already.
+#[tactic(auto, using(crate::proofs::KnowledgeLemmas::kept_by_seat))]
 pub fn change_seat(state: &mut CoreParts, seat: Seat, what: &SeatChange)
     requires entry { has_tube_of what.now state.old.tubes.entries ≡ true }
     requires waits { may_wait what.now (seat_with seat state.old.seats.items) ≡ true }
@@ -288,6 +289,7 @@ pub fn raise_moment(state: &mut CoreParts, at: Moment)
 }
 
 /// No jobs, and nobody at the seats.
+#[tactic(auto, using(crate::proofs::KnowledgeLemmas::known_at_first))]
 pub fn new_parts(
     config: Config,
     seats: Vec<SeatRecord, Global>,

@@ -88,6 +88,7 @@ pub(crate) fn watch(
 
 /// The client at the seat of this number watches a tube no longer, where another one is still
 /// watched. Tells how many it watches then.
+#[tactic(auto, using(std::proofs::lemmas::Grind::common_steps, std::proofs::lemmas::Option::slice_get_read))]
 pub(crate) fn ignore(seats: &mut Vec<SeatRecord, Global>, number: Seat, name: &TubeName) -> u64
     requires there { number < length seats.old.items }
     requires other { AtPlace seats.old.items number (λ s. watches_other name.now s ≡ true) }
