@@ -1,5 +1,5 @@
 -- Counts of seats, once one seat changes.
-use Rattle.std.proofs.Common.{◌+◌, ◌<◌, ◌==◌, ◌∙◌, ◌∷◌, ◌≡◌, ◌≤◌, if◌then◌else◌, Bool, List, Some, [], ℕ, ap, arith, cond, false, filter, inl, inr, length, map, not, refl, set, slice_get, suc, sym, true}
+use Rattle.std.proofs.Common.{◌+◌, ◌<◌, ◌==◌, ◌∙◌, ◌∷◌, ◌≡◌, ◌≤◌, if◌then◌else◌, Bool, List, Some, [], ℕ, ap, arith, cond, filter, length, map, not, refl, set, slice_get, suc, sym}
 use Rattle.std.proofs.lemmas.{Bool.{cases_Bool, eqb-true, ne_eqb}, Grind.common_steps}
 use Rattle.std.proofs.lemmas.List.{length-map, Sums.count_by-le-length}
 use Rattle.std.specs.{List.list_any, Prelude.{count_by, nat_lt}}
@@ -21,9 +21,7 @@ heads low s seats h = (cc, cc)
 pub all_others : (n high : ℕ) (seats : List SeatRecord) → n < high → map (λ s. s.number) seats ≡ numbers high (length seats) → others n seats ≡ seats
 all_others n high [] less h = refl
 all_others n high (s ∷ seats) less h =
-    let parts = heads high s seats h in
-    let other : (s.number == n) ≡ false = ne_eqb s.number n (λ e. absurd (let a = parts.0 in omega arith)) in
-    rw other (ap (λ ts. s ∷ ts) (all_others n (suc high) seats (omega arith) parts.1))
+    grind (arith, common_steps, heads, ne_eqb, all_others n (suc high) seats)
 
 -- a change of the seat of a number leaves the others
 pub others_left : (n : ℕ) (f : SeatRecord → SeatRecord) → ((s : SeatRecord) → (f s).number ≡ s.number) → (seats : List SeatRecord)
@@ -37,18 +35,7 @@ module _ (p : SeatRecord → Bool) where
       → cond (seat_passes p (seat_with n seats)) 1 0 + count_by p (others n seats) ≡ count_by p seats
   parted n low [] h = refl
   parted n low (s ∷ seats) h =
-      let parts = heads low s seats h in
-      elim (cases_Bool (s.number == n)) [
-        | inl e ↦
-            let at : s.number ≡ n = eqb-true s.number n e in
-            let rest = all_others n (suc low) seats (let a = parts.0 in omega arith) parts.1 in
-            rw e (ap (λ ts. cond (p s) 1 0 + count_by p ts) rest ∙ sym (count_cons p s seats))
-        | inr e ↦
-            let rest = parted n (suc low) seats parts.1 in
-            let one = count_cons p s (others n seats) in
-            let all = count_cons p s seats in
-            rw e (omega (arith, rest, one, all))
-      ]
+      grind (arith, common_steps, heads, cases_Bool, eqb-true, all_others, count_cons, parted n (suc low) seats)
 
   -- the count of those that pass, once the seat of a number is changed
   count_moved : (n : ℕ) (f : SeatRecord → SeatRecord) → ((s : SeatRecord) → (f s).number ≡ s.number) → (seats : List SeatRecord)
@@ -60,8 +47,7 @@ module _ (p : SeatRecord → Bool) where
       let new = map g seats in
       let rest = count_by p (others n seats) in
       let was = without_is (seat_passes p (seat_with n seats)) (count_by p seats) rest (parted n 0 seats h) in
-      let is : cond (seat_passes p (seat_with n new)) 1 0 + rest ≡ count_by p new =
-      ap (λ ts. cond (seat_passes p (seat_with n new)) 1 0 + count_by p ts) (sym (others_left n f keeps seats)) ∙ parted n 0 new h' in
+      let is : cond (seat_passes p (seat_with n new)) 1 0 + rest ≡ count_by p new = grind (arith, common_steps, others_left, parted) in
       let few = count_by-le-length p new in
       let many = length-map seats g in
       ap (count_with (seat_passes p (seat_with n new))) was ∙ with_is (seat_passes p (seat_with n new)) rest (omega (arith, is, few, many, fits)) ∙ is
@@ -80,15 +66,7 @@ module _ (p : SeatRecord → Bool) where
 pub found_changed : (n : ℕ) (f : SeatRecord → SeatRecord) → ((s : SeatRecord) → (f s).number ≡ s.number) → (s : SeatRecord) (seats : List SeatRecord)
     → seat_with n seats ≡ Some s → seat_with n (map (λ t. if t.number == n then f t else t) seats) ≡ Some (f s)
 found_changed n f keeps s [] found = absurd cc
-found_changed n f keeps s (t ∷ seats) found =
-    elim (cases_Bool (t.number == n)) [
-      | inl e ↦
-          let here : Some t ≡ Some s = rw e at found in
-          let one : t ≡ s = cc in
-          let same : ((f t).number == n) ≡ true = ap (λ k. k == n) (keeps t) ∙ e in
-          rw (e, same) (ap (λ u. Some (f u)) one)
-      | inr e ↦ let rest : seat_with n seats ≡ Some s = rw e at found in rw (e, e) (found_changed n f keeps s seats rest)
-    ]
+found_changed n f keeps s (t ∷ seats) found = grind (arith, common_steps, cases_Bool, found_changed n f keeps s seats)
 
 -- the count of seats that pass, once the seat of a number is changed that is known
 pub count_changed : (p : SeatRecord → Bool) (n : ℕ) (f : SeatRecord → SeatRecord) → ((s : SeatRecord) → (f s).number ≡ s.number) → (s : SeatRecord) (seats : List SeatRecord)
@@ -104,9 +82,7 @@ pub count_unchanged : (p : SeatRecord → Bool) (n : ℕ) (f : SeatRecord → Se
     → count_by p (map (λ s. if s.number == n then f s else s) seats) ≡ count_by p seats
 count_unchanged p n f keeps s seats h h' found same =
     let new = map (λ t. if t.number == n then f t else t) seats in
-    let there : seat_passes p (seat_with n new) ≡ p (f s) = ap (seat_passes p) (found_changed n f keeps s seats found) in
-    let was : seat_passes p (seat_with n seats) ≡ p s = ap (seat_passes p) found in
-    grind (arith, common_steps, parted p n 0 new h', others_left, parted p n 0 seats h)
+    grind (arith, common_steps, parted p n 0 new h', others_left, parted p n 0 seats h, found_changed)
 
 -- How many clients there are, once the seat of a number is changed,
 pub clients_moved : (n : ℕ) (what : SeatChange) (seats : List SeatRecord) → AreNumbered seats → AreNumbered (map (seat_changed_at n what) seats) → length seats ≤ greatest

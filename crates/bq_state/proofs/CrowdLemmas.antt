@@ -1,5 +1,5 @@
 -- Counts of the clients at tubes, once a seat changes.
-use Rattle.std.proofs.{Common.{◌&&◌, ◌==◌, ◌||◌, ◌∙◌, ◌∷◌, ◌≡◌, ◌≤◌, if◌then◌else◌, Bool, List, None, Option, Some, [], ℕ, ap, false, inl, inr, length, map, not, refl, sym, true}, lemmas.Bool.{and_parts, cases_Bool}}
+use Rattle.std.proofs.{Common.{◌&&◌, ◌==◌, ◌||◌, ◌∙◌, ◌∷◌, ◌≡◌, ◌≤◌, if◌then◌else◌, Bool, List, None, Option, Some, [], ℕ, ap, false, length, map, not, refl, sym, true}, lemmas.Bool.{and_parts, cases_Bool}}
 use Rattle.std.proofs.{Common.arith, lemmas.{Bool.not-true, Grind.common_steps}}
 use Rattle.std.specs.{Cmp.Lexicographic.bytes_decides, List.{AllByRecursion as All, list_any}, Prelude.count_by}
 use Rattle.bq_job.specs.{beside.none_twice, machine.{SeatRecord, TubeRecord, greatest, is_name_before, is_seated_at, is_waiting, seat_with, watches}, reading.TubeName.is_same_name}
@@ -87,16 +87,6 @@ pub all_recounted : (moving : Moving) (what : Share) (s : SeatRecord) (g : TubeR
     → crowds_recounted moving what s es (map g es) ≡ map (λ t. recounted moving (share_at what s t.name) (g t)) es
 all_recounted moving what s g es order once = grind (arith, common_steps, at_named, at_all_named, combine, same_turned)
 
--- What a change doesn't touch stays.
-user_stays : (name : List ℕ) (what : SeatChange) → (touched what).using ≡ false → (t : SeatRecord) → is_user name (seat_changed what t) ≡ is_user name t
-user_stays name what e t = grind (arith, common_steps)
-
-watcher_stays : (name : List ℕ) (what : SeatChange) → (touched what).watching ≡ false → (t : SeatRecord) → is_watcher name (seat_changed what t) ≡ is_watcher name t
-watcher_stays name what e t = grind (arith, common_steps)
-
-waiter_stays : (name : List ℕ) (what : SeatChange) → (touched what).waiting ≡ false → (t : SeatRecord) → is_waiter name (seat_changed what t) ≡ is_waiter name t
-waiter_stays name what e t = grind (arith, common_steps)
-
 and_turned : (a b : Bool) → a && b ≡ b && a
 and_turned a b = grind (arith, common_steps)
 
@@ -113,9 +103,9 @@ module _ (n : ℕ) (what : SeatChange) (s : SeatRecord) (seats : List SeatRecord
   -- the counts of a tube, once the seat is changed
   pub crowd_moved : (name : List ℕ) → crowd_with (share_at (touched what) (seat_changed what s) name) (crowd_without (share_at (touched what) s name) (crowd_of seats name)) ≡ crowd_of (map (seat_changed_at n what) seats) name
   crowd_moved name = λ i. record {
-    using = field (is_user name) (λ t. is_same_name name t.used) (λ t. t.connected) (touched what).using (λ t. refl) (user_stays name what) i;
-    watching = field (is_watcher name) (watches name) (λ t. t.connected) (touched what).watching (λ t. refl) (watcher_stays name what) i;
-    waiting = field (is_waiter name) (watches name) is_waiting (touched what).waiting (λ t. refl) (waiter_stays name what) i;
+    using = field (is_user name) (λ t. is_same_name name t.used) (λ t. t.connected) (touched what).using (λ t. refl) (λ e t. grind (arith, common_steps)) i;
+    watching = field (is_watcher name) (watches name) (λ t. t.connected) (touched what).watching (λ t. refl) (λ e t. grind (arith, common_steps)) i;
+    waiting = field (is_waiter name) (watches name) is_waiting (touched what).waiting (λ t. refl) (λ e t. grind (arith, common_steps)) i;
   }
 
   -- and of all tubes
@@ -130,14 +120,7 @@ module _ (n : ℕ) (what : SeatChange) (s : SeatRecord) (seats : List SeatRecord
 -- where there is no seat of the number, none is changed
 pub none_changed : (n : ℕ) (f : SeatRecord → SeatRecord) (seats : List SeatRecord) → seat_with n seats ≡ None → map (λ s. if s.number == n then f s else s) seats ≡ seats
 none_changed n f [] h = refl
-none_changed n f (s ∷ seats) h = elim (cases_Bool (s.number == n)) [
-  | inl e ↦ absurd (let g : Some s ≡ None = rw e at h in cc)
-  | inr e ↦ let rest : seat_with n seats ≡ None = rw e at h in rw e (ap (λ ts. s ∷ ts) (none_changed n f seats rest))
-]
-
--- a change of a seat keeps who waits connected, and what is watched once
-seat_seated : (what : SeatChange) (s : SeatRecord) → may_wait what (Some s) ≡ true → IsSeated s → IsSeated (seat_changed what s)
-seat_seated what s may is = grind (arith, common_steps)
+none_changed n f (s ∷ seats) h = grind (arith, common_steps, cases_Bool, none_changed n f seats)
 
 -- The counts of the clients at tubes, once the seat of a number is changed, if there is one.
 pub crowds_moved : (n : ℕ) (what : SeatChange) (crowds : List Crowd) (seats : List SeatRecord) (es : List TubeRecord) → AreNumbered seats → length seats ≤ greatest → AreInOrder es
@@ -156,7 +139,7 @@ crowds_moved n what crowds seats es h fits order may was = go (seat_with n seats
         let place = seat_there seats n s h found in
         let is = all_read IsSeated seats n s was.seated place in
         let may_here : may_wait what (Some s) ≡ true = ap (may_wait what) (sym found) ∙ may in
-        let now = seat_seated what s may_here is in
+        let now : IsSeated (seat_changed what s) = grind (arith, common_steps) in
         record {
           each = grind (arith, common_steps, some_moved);
           seated = rw (changed_there seats n s (seat_changed what) h place) (all_set IsSeated seats n (seat_changed what s) was.seated now);

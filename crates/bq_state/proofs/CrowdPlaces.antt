@@ -32,13 +32,10 @@ module _ (name : List ℕ) (es : List TubeRecord) (missing : has_entry name es �
       go true is false e = refl
       go false is b e = refl
 
-  not_watching : (s : SeatRecord) → HasTubes es s → is_watcher name s ≡ false
-  not_watching s has = grind (arith, at_none)
-
   none_of : (seats : List SeatRecord) → All (HasTubes es) seats → All IsSeated seats
       → All (λ s. is_user name s ≡ false) seats × (All (λ s. is_watcher name s ≡ false) seats × All (λ s. is_waiter name s ≡ false) seats)
   none_of [] has is = (tt, (tt, tt))
-  none_of (s ∷ seats) has is = grind (arith, not_using, not_watching, none_of seats has.1 is.1)
+  none_of (s ∷ seats) has is = grind (arith, not_using, at_none, none_of seats has.1 is.1)
 
   pub nobody_there : (seats : List SeatRecord) → All (HasTubes es) seats → All IsSeated seats → crowd_of seats name ≡ no_crowd
   nobody_there seats has is = grind (arith, none_of, count_all_not)
@@ -85,11 +82,7 @@ named_crowd name g (t ∷ es) h =
 
 crowd_missing : (name : List ℕ) (seats : List SeatRecord) (es : List TubeRecord) → has_entry name es ≡ false → crowd_at name es (crowds_of seats es) ≡ no_crowd
 crowd_missing name seats [] h = refl
-crowd_missing name seats (t ∷ es) h =
-    elim (cases_Bool (is_same_name name t.name)) [
-      | inl e ↦ absurd (let g = rw e at h in cc)
-      | inr e ↦ rw e (crowd_missing name seats es (rw e at h))
-    ]
+crowd_missing name seats (t ∷ es) h = grind (arith, common_steps, cases_Bool, crowd_missing name seats es)
 
 pub crowd_there : (name : List ℕ) (crowds : List Crowd) (seats : List SeatRecord) (es : List TubeRecord) → All (HasTubes es) seats → AreCrowds crowds seats es
     → crowd_at name es crowds ≡ crowd_of seats name

@@ -14,15 +14,8 @@ use Rattle.bq_state.specs.WaitingTurns.{at_turn, turns_of}
 use Rattle.bq_state.proofs.{WalkLemmas.walked, WarningLemmas.no_other}
 use Rattle.bq_job.proofs.ListLemmas.{list_any_not}
 
-in_any_order : (a b c : Option ℕ) → earlier_of_both (earlier_of_both a b) c ≡ earlier_of_both a (earlier_of_both b c)
-in_any_order a b c = grind (arith)
-
--- the first of two lists of moments
-one_or_other : (a b : Option ℕ) → earlier_of_both a b ≡ earlier_of_both b a
-one_or_other a b = grind (arith)
-
 dues_swap : (b x y : Option ℕ) → earlier_of_both (earlier_of_both b x) y ≡ earlier_of_both (earlier_of_both b y) x
-dues_swap b x y = in_any_order b x y ∙ ap (earlier_of_both b) (one_or_other x y) ∙ sym (in_any_order b y x)
+dues_swap b x y = grind (arith)
 
 -- nobody waits who sends no more
 pub all_there : (seats : List SeatRecord) → false ≡ list_any is_gone_in_wait seats → All IsThere seats
@@ -52,7 +45,7 @@ warnings_walked jobs seats h = walked (with_warning_due jobs) (λ s e b. rw e (n
 
 pub earliest_of_both : (xs ys : List ℕ) → earliest (xs ++ ys) ≡ earlier_of_both (earliest xs) (earliest ys)
 earliest_of_both [] ys = refl
-earliest_of_both (x ∷ xs) ys = ap (λ o. earlier_of_both (Some x) o) (earliest_of_both xs ys) ∙ sym (in_any_order (Some x) (earliest xs) (earliest ys))
+earliest_of_both (x ∷ xs) ys = ap (λ o. earlier_of_both (Some x) o) (earliest_of_both xs ys) ∙ sym (grind (arith))
 
 earliest_from : {A : Type 0} (f : A → List ℕ) (best : Option ℕ) (xs : List A) → fold (λ b x. earlier_of_both b (earliest (f x))) best xs ≡ earlier_of_both best (earliest (flat_map f xs))
 earliest_from f best [] = sym (no_other best)
@@ -93,12 +86,9 @@ before_earliest : (t : ℕ) (xs : List ℕ) → is_before t (earliest xs) ≡ li
 before_earliest t [] = refl
 before_earliest t (x ∷ xs) = before_both t (Some x) (earliest xs) ∙ ap (λ b. nat_lt t x && b) (before_earliest t xs)
 
-and_thrice : (a b c : Bool) → ((a && b) && c) ≡ (a && (b && c))
-and_thrice a b c = grind (arith, common_steps)
-
 all_joined : {A : Type 0} (p : A → Bool) (xs ys : List A) → list_all p (xs ++ ys) ≡ (list_all p xs && list_all p ys)
 all_joined p [] ys = refl
-all_joined p (x ∷ xs) ys = ap (λ b. p x && b) (all_joined p xs ys) ∙ sym (and_thrice (p x) (list_all p xs) (list_all p ys))
+all_joined p (x ∷ xs) ys = ap (λ b. p x && b) (all_joined p xs ys) ∙ sym (grind (arith, common_steps))
 
 all_flat : {A B : Type 0} (p : B → Bool) (f : A → List B) (xs : List A) → list_all p (flat_map f xs) ≡ list_all (λ x. list_all p (f x)) xs
 all_flat p f [] = refl

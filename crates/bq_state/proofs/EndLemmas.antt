@@ -12,30 +12,19 @@ use Rattle.bq_state.specs.{Dues.{earlier_of_both, first_pause_end, is_end_over, 
 use Rattle.bq_state.specs.PauseEnds.{AreEnds, Ends, end_cmp, end_total, ends_at, first_end, found_end, has_end, if_over, is_end_in, is_end_of, with_end, without_end}
 use Rattle.bq_state.proofs.{NamedLemmas.ties, TubeLemmas.same_itself}
 
--- Two ends tie where they are of one moment and of one tube.
-pub ends_tie : (e f : PauseEnd) → is_eq (end_cmp e f) ≡ (e.until == f.until && is_same_name e.name f.name)
-ends_tie e f = grind (arith, ties)
-
 -- an end of another tube
 pub ends_apart : (e f : PauseEnd) → is_same_name e.name f.name ≡ false → is_eq (end_cmp e f) ≡ false
-ends_apart e f h = grind (arith, ends_tie)
+ends_apart e f h = grind (arith, ties)
 
 -- an end of the same tube
 pub ends_alike : (e f : PauseEnd) → is_same_name e.name f.name ≡ true → is_eq (end_cmp e f) ≡ (e.until == f.until)
-ends_alike e f h = grind (arith, ends_tie)
-
--- what is found after an end was put in, and after one was taken out
-if_there : (b : Bool) (o : Option (Unit {0})) → is_some (cond b (Some tt) o) ≡ (b || is_some o)
-if_there b o = grind (arith, common_steps)
-
-if_gone : (b : Bool) (o : Option (Unit {0})) → is_some (cond b None o) ≡ cond b false (is_some o)
-if_gone b o = grind (arith, common_steps)
+ends_alike e f h = grind (arith, ties)
 
 pub has_entered : (q e : PauseEnd) (ends : Ends) → found_end e ends ≡ None → has_end q (with_end (Some e) ends) ≡ (is_eq (end_cmp q e) || has_end q ends)
-has_entered q e ends absent = ap is_some (lookup_inserted end_total q e tt ends absent) ∙ if_there (is_eq (end_cmp q e)) (found_end q ends)
+has_entered q e ends absent = ap is_some (lookup_inserted end_total q e tt ends absent) ∙ (grind (arith, common_steps))
 
 pub has_left : (q e : PauseEnd) (ends : Ends) → InOrder end_cmp ends → has_end q (without_end (Some e) ends) ≡ cond (is_eq (end_cmp e q)) false (has_end q ends)
-has_left q e ends s = ap is_some (lookup_removed end_total q e ends s) ∙ if_gone (is_eq (end_cmp e q)) (found_end q ends)
+has_left q e ends s = ap is_some (lookup_removed end_total q e ends s) ∙ (grind (arith, common_steps))
 
 -- The first end is the least.
 not_later : (a b : ℕ) (o : Ordering) → ordering_then (nat_cmp a b) o ≡ Less → a ≤ b
@@ -51,7 +40,7 @@ above x q (e ∷ ends) a h = elim (cases_Bool (is_eq (end_cmp q e.0))) [
 least_end : (x : PauseEnd × Unit {0}) (ends : Ends) → InOrder end_cmp (x ∷ ends) → (q : PauseEnd) → has_end q (x ∷ ends) ≡ true → x.0.until ≤ q.until
 unfolding IsStrictlySortedBy
 least_end x ends s q h = elim (cases_Bool (is_eq (end_cmp q x.0))) [
-  | inl t ↦ let same = first_of_both (q.until == x.0.until) (is_same_name q.name x.0.name) (sym (ends_tie q x.0) ∙ t) in grind (arith, nat_tests)
+  | inl t ↦ let same = first_of_both (q.until == x.0.until) (is_same_name q.name x.0.name) (sym (grind (arith, ties)) ∙ t) in grind (arith, nat_tests)
   | inr t ↦ not_later x.0.until q.until (slice_cmp nat_cmp x.0.name q.name) (above x.0 q ends s.0 (rw t at h))
 ]
   where
@@ -123,16 +112,10 @@ least_found m (t ∷ ts) best h all hit = elim (cases_Bool (ends_at m t.pause)) 
 
 hit_of : (e : PauseEnd) (ts : List TubeRecord) → is_end_in e ts ≡ true → list_any (λ t. ends_at e.until t.pause) ts ≡ true
 hit_of e [] h = absurd cc
-hit_of e (t ∷ ts) h = elim (cases_Bool (is_end_of e t)) [
-  | inl here ↦ ap (λ b. b || list_any (λ t. ends_at e.until t.pause) ts) (second_of_both (is_same_name e.name t.name) (ends_at e.until t.pause) here)
-  | inr other ↦ ap (λ b. ends_at e.until t.pause || b) (hit_of e ts (rw other at h)) ∙ or-true (ends_at e.until t.pause)
-]
-  where
-    second_of_both : (a b : Bool) → (a && b) ≡ true → b ≡ true
-    second_of_both a b h = grind (arith, common_steps)
+hit_of e (t ∷ ts) h = grind (arith, common_steps, cases_Bool, or-true, hit_of e ts)
 
 first_there : (x : PauseEnd × Unit {0}) (ends : Ends) → has_end x.0 (x ∷ ends) ≡ true
-first_there x ends = ap (λ b. is_some (cond b (Some x.1) (found_end x.0 ends))) (ends_tie x.0 x.0 ∙ (λ i. (same_moment x.0.until i) && (same_itself x.0.name i)))
+first_there x ends = ap (λ b. is_some (cond b (Some x.1) (found_end x.0 ends))) ((grind (arith, ties)) ∙ (λ i. (same_moment x.0.until i) && (same_itself x.0.name i)))
 
 -- The first end that has come is one of them, and has come.
 pub one_over : (moment : ℕ) (e : PauseEnd) (ends : Ends) → Some e ≡ if_over moment (first_end ends) → (has_end e ends ≡ true) × (nat_le e.until moment ≡ true)

@@ -4,7 +4,7 @@ use Rattle.std.proofs.{lemmas.{Bool.{cases_Bool, eqb-true, or_parts}, Grind.comm
 use Rattle.std.specs.{Borrow.Bor, Map.{lookup, remove_entry}, Option.{ForSome, option_map}, Ordering.is_eq, Prelude.{◌==◌, count_by, nat_le}}
 use Rattle.bq_index.specs.{Catalog.CatalogSeen, Order.InOrder}
 use Rattle.bq_index.proofs.Order.{length_inserted, length_removed}
-use Rattle.bq_job.specs.{machine.{Pause as PauseRecord, TubeRecord, fresh_tube, is_name_before, pause_after_timers, tube_after_timers, with_record}, reading.TubeName.is_same_name}
+use Rattle.bq_job.specs.{machine.{Pause as PauseRecord, TubeRecord, fresh_tube, pause_after_timers, tube_after_timers, with_record}, reading.TubeName.is_same_name}
 use Rattle.bq_state.specs.declared.tubes.{entry.TubeChange.TubeChange, pauses.PauseEnd.PauseEnd}
 use Rattle.bq_state.specs.KeptTubes.{KeptTube, Named, edited, ended, is_named_at, kept_changed, record_at, record_of}
 use Rattle.bq_state.specs.PauseEnds.{AreEnds, Ends, end_cmp, end_of, ends_at, first_end, found_end, has_end, if_over, is_end_in, is_paused, pause_at, with_end, without_end}
@@ -183,20 +183,11 @@ module _ (name : List ℕ) (f : TubeRecord → TubeRecord) (keeps : (t : TubeRec
   length_changed [] = refl
   length_changed (t ∷ ts) = ap suc (length_changed ts)
 
-  named_kept : (b : Bool) (t : TubeRecord) → (if b then f t else t).name ≡ t.name
-  named_kept b t = grind (arith, common_steps)
-
   pub order_changed : (ts : List TubeRecord) → AreInOrder ts → AreInOrder (map (changed_one name f) ts)
-  order_changed ts order = order_kept (changed_one name f) (λ t. named_kept (is_same_name name t.name) t) ts order
+  order_changed ts order = order_kept (changed_one name f) (λ t. grind (arith, common_steps)) ts order
 
   pub moves_changed : (ts : List TubeRecord) → AreInOrder ts → Moves name (pause_at name ts) (pause_at name (map (changed_one name f) ts)) ts (map (changed_one name f) ts)
-  moves_changed ts order = record {
-    others = λ e other. others_changed e other ts;
-    was = λ m. named_ends name m ts order;
-    is = λ m. named_ends name m (map (changed_one name f) ts) (order_changed ts order);
-    count = count_changed ts order;
-    fewer = omega (arith, length_changed ts);
-  }
+  moves_changed ts order = grind (arith, common_steps, others_changed, named_ends, order_changed, count_changed, length_changed)
 
 -- it goes
 module _ (name : List ℕ) where
@@ -226,33 +217,16 @@ module _ (name : List ℕ) where
   length_rest (x ∷ es) = grind (arith, length_rest es)
 
   pub moves_out : (es : List Named) → AreInOrder (map record_at es) → Moves name (pause_at name (map record_at es)) None (map record_at es) (map record_at (remove_entry (is_named_at name) es))
-  moves_out es order = record {
-    others = λ e other. others_stay e other es;
-    was = λ m. named_ends name m (map record_at es) order;
-    is = λ m. none_stay m es order;
-    count = omega (arith, count_rest es);
-    fewer = length_rest es;
-  }
+  moves_out es order = grind (arith, common_steps, others_stay, named_ends, none_stay, count_rest, length_rest)
 
   -- it comes
   fresh_ends : (e : PauseEnd) (ts : List TubeRecord) → has_entry name ts ≡ false → is_end_in e (with_record (fresh_tube name) ts) ≡ is_end_in e ts
   fresh_ends e [] h = ap (λ b. b || false) (not_both (is_same_name e.name name))
-  fresh_ends e (t ∷ ts) h =
-      let parts = or_parts (is_same_name name t.name) (has_entry name ts) h in
-      rw parts.0 (go (is_name_before name t.name) (fresh_ends e ts parts.1))
-    where
-      go : (b : Bool) → is_end_in e (with_record (fresh_tube name) ts) ≡ is_end_in e ts → is_end_in e (if b then fresh_tube name ∷ t ∷ ts else t ∷ with_record (fresh_tube name) ts) ≡ is_end_in e (t ∷ ts)
-      go b more = grind (arith)
+  fresh_ends e (t ∷ ts) h = grind (arith, common_steps, or_parts, fresh_ends e ts)
 
   fresh_count : (ts : List TubeRecord) → has_entry name ts ≡ false → (count_by is_paused (with_record (fresh_tube name) ts) ≡ count_by is_paused ts) × (length (with_record (fresh_tube name) ts) ≡ length ts + 1)
   fresh_count [] h = (refl, refl)
-  fresh_count (t ∷ ts) h =
-      let parts = or_parts (is_same_name name t.name) (has_entry name ts) h in
-      rw parts.0 (go (is_name_before name t.name) (fresh_count ts parts.1))
-    where
-      go : (b : Bool) → (count_by is_paused (with_record (fresh_tube name) ts) ≡ count_by is_paused ts) × (length (with_record (fresh_tube name) ts) ≡ length ts + 1)
-          → (count_by is_paused (if b then fresh_tube name ∷ t ∷ ts else t ∷ with_record (fresh_tube name) ts) ≡ count_by is_paused (t ∷ ts)) × (length (if b then fresh_tube name ∷ t ∷ ts else t ∷ with_record (fresh_tube name) ts) ≡ length (t ∷ ts) + 1)
-      go b more = grind (arith, common_steps)
+  fresh_count (t ∷ ts) h = grind (arith, common_steps, or_parts, fresh_count ts)
 
   pub ends_provided : (ts : List TubeRecord) (ends last : CatalogSeen PauseEnd (Unit {0})) → AreEnds ts ends → has_entry name ts ≡ false → last.entries ≡ ends.entries → length ts + 1 ≤ length last.entries + last.spare → AreEnds (with_record (fresh_tube name) ts) last
   ends_provided ts ends last h none same room = grind (arith, fresh_ends, fresh_count)
@@ -270,9 +244,6 @@ module _ (f : TubeRecord → TubeRecord) (named : (t : TubeRecord) → (f t).nam
 abbrev pub pause_lent : Option (Bor KeptTube) → Option PauseRecord
 pause_lent None = None
 pause_lent (Some t) = t.now.pause
-
-pub lent_end : (name : List ℕ) (es : List Named) (o x : Option (Bor KeptTube)) → o ≡ x → option_map (λ (t : Bor KeptTube). t.now) o ≡ lookup (is_named_at name) es → end_of name (pause_lent x) ≡ end_of name (pause_at name (map record_at es))
-lent_end name es o x is e = grind (arith, found_entry name es)
 
 -- A change of what is kept of one tube, as an entry and as a record.
 module _ (name : List ℕ) (f : KeptTube → KeptTube) (g : TubeRecord → TubeRecord) (made : (n : List ℕ) (t : KeptTube) → record_of n (f t) ≡ g (record_of n t)) (keeps : (t : TubeRecord) → (g t).name ≡ t.name)
@@ -316,8 +287,7 @@ module _ (moment : ℕ) (name : List ℕ) where
   pause_then (t ∷ ts) = grind (arith, pause_then ts)
 
 own_end : (name : List ℕ) (u : ℕ) (p : Option PauseRecord) → ends_at u p ≡ true → end_of name p ≡ Some (record { until = u; name = name })
-own_end name u None h = absurd cc
-own_end name u (Some p) h = let same : p.until ≡ u = eqb-true p.until u h in ap (λ n. Some (record { until = n; name = name })) same
+own_end name u v3 h = grind (arith, common_steps, cases_Bool, eqb-true)
 
 over_ends : (moment u : ℕ) (p : Option PauseRecord) → ends_at u p ≡ true → nat_le u moment ≡ true → pause_after_timers moment p ≡ None
 over_ends moment u p h come = grind (arith)
@@ -354,8 +324,8 @@ module _ (moment : ℕ) (e : PauseEnd) (es last : List Named) (ends : CatalogSee
 
 -- The end of the pause of a tube whose entry is lent,
 pub none_lent : (name : List ℕ) (es : List Named) (o : Option (Bor KeptTube)) → o ≡ None → option_map (λ (t : Bor KeptTube). t.now) o ≡ lookup (is_named_at name) es → None ≡ end_of name (pause_at name (map record_at es))
-none_lent name es o is e = lent_end name es o None is e
+none_lent name es o is e = grind (arith, found_entry name es)
 
 pub some_lent : (name : List ℕ) (es : List Named) (o : Option (Bor KeptTube)) (t : Bor KeptTube) (r : Option PauseEnd) → o ≡ Some t → option_map (λ (t : Bor KeptTube). t.now) o ≡ lookup (is_named_at name) es
     → r ≡ end_of name t.now.pause → r ≡ end_of name (pause_at name (map record_at es))
-some_lent name es o t r is e told = told ∙ lent_end name es o (Some t) is e
+some_lent name es o t r is e told = told ∙ (grind (arith, found_entry name es))

@@ -1,5 +1,5 @@
 -- Entries whose tubes are gone are dropped from the catalog of the tubes; the others are counted and listed.
-use Rattle.std.proofs.Common.{◌&&◌, ◌++◌, ◌+◌, ◌∙◌, ◌∷◌, ◌≡◌, ◌≤◌, if◌then◌else◌, Bool, List, None, Option, Some, [], ℕ, ap, append_assoc, arith, false, inl, inr, length, map, not, refl, sym, true}
+use Rattle.std.proofs.Common.{◌++◌, ◌+◌, ◌∙◌, ◌∷◌, ◌≡◌, ◌≤◌, if◌then◌else◌, Bool, List, None, Option, Some, [], ℕ, ap, append_assoc, arith, false, inl, inr, length, map, not, refl, sym, true}
 use Rattle.std.proofs.lemmas.{Bool.cases_Bool, Grind.common_steps, List.append-nil}
 use Rattle.std.specs.{Borrow.Bor, Cmp.Lexicographic.{nat_list_cmp_total, slice_cmp}, declared.cmp.Ordering.{Ordering, TheVariants.{Equal, Greater, Less}}, List.{AllByRecursion as All, Sorted.IsStrictlySortedBy}}
 use Rattle.std.specs.{Map.{keys_of, lookup, remove_entry}, Option.option_map, Ordering.{is_eq, is_gt, nat_cmp, ordering_reverse}, Prelude.{filter, find, fold}}
@@ -19,9 +19,6 @@ abbrev IsTallied : List Job → List SeatRecord → Named → Type 0
 IsTallied jobs seats x = (x.1.tally ≡ tally_in jobs (record_at x)) × (x.1.crowd ≡ crowd_in seats (record_at x))
 
 module _ (jobs : List Job) (seats : List SeatRecord) where
-  first_tallied : (x : Named) (es : List Named) → AreTallied jobs seats (x ∷ es) → IsTallied jobs seats x
-  first_tallied x es h = (let a = h.0 in cc, let b = h.1 in cc)
-
   rest_tallied : (x : Named) (es : List Named) → AreTallied jobs seats (x ∷ es) → AreTallied jobs seats es
   rest_tallied x es h = (let a = h.0 in cc, let b = h.1 in cc)
 
@@ -48,9 +45,6 @@ module _ (jobs : List Job) (seats : List SeatRecord) where
   abbrev names : List Named → List (List ℕ)
   names es = names_alive jobs seats (map record_at es)
 
-  one_name : (x : Named) (es : List Named) (b : Bool) → is_tube_of jobs seats x.0 ≡ b → names_alive jobs seats (map record_at (x ∷ es)) ≡ (if b then x.0 ∷ [] else []) ++ names_alive jobs seats (map record_at es)
-  one_name x es b e = grind (arith, common_steps)
-
   -- They are listed
   pub listed_names : (listed : List (Bor (List ℕ) × Bor KeptTube)) (so_far : List (List ℕ)) → AreTallied jobs seats (map entry_of listed)
       → fold (with_name_of) so_far listed ≡ so_far ++ names_alive jobs seats (map record_at (map entry_of listed))
@@ -58,10 +52,10 @@ module _ (jobs : List Job) (seats : List SeatRecord) where
   listed_names (e ∷ listed) so_far h =
       let x : Named = entry_of e in
       let es = map entry_of listed in
-      let alive = alive_is x (first_tallied x es h) in
+      let alive = alive_is x (let a = h.0 in cc, let b = h.1 in cc) in
       listed_names listed (with_name_of so_far e) (rest_tallied x es h)
       ∙ append_assoc so_far (if is_alive_at x then x.0 ∷ [] else []) (names es)
-      ∙ ap (λ ns. so_far ++ ns) (sym (one_name x es (is_alive_at x) (sym alive)))
+      ∙ ap (λ ns. so_far ++ ns) (sym (grind (arith, common_steps)))
 
   -- and counted.
   pub counted_names : (es : List Named) (n : ℕ) → AreTallied jobs seats es → n + length es ≤ greatest
@@ -89,12 +83,7 @@ module _ (jobs : List Job) (seats : List SeatRecord) where
           let is : name ≡ x.0 = same_name name x.0 e in
           let others = all_kept_alive jobs seats (map record_at es) (others_alive x.0 jobs seats (map record_at es) order.0 (renamed is all.1)) in
           rw (ties name x.0 ∙ e) (here is (is_alive_at x) refl others)
-      | inr e ↦
-          let kept : is_tube_of jobs seats x.0 ≡ true = alive_or (is_tube_of jobs seats x.0) (alive_but (is_tube_of jobs seats x.0) (is_same_name name x.0) all.0 e) in
-          let rest = one_left es order.1 all.1 (rest_tallied x es h) in
-          let away : is_named_at name x.0 ≡ false = ties name x.0 ∙ e in
-          let same : lookup (is_named_at name) (x ∷ es) ≡ lookup (is_named_at name) es = rw away refl in
-          grind (arith, common_steps, left)
+      | inr e ↦ grind (arith, common_steps, alive_or, alive_but, rest_tallied, ties, one_left es order.1 all.1 (rest_tallied x es h))
     ]
       where
         renamed : name ≡ x.0 → AreAlive (Of name) jobs seats (map record_at es) → AreAlive (Of x.0) jobs seats (map record_at es)
@@ -108,27 +97,17 @@ module _ (jobs : List Job) (seats : List SeatRecord) where
 abbrev pub AllLeftBefore : Option (List ℕ) → List Named → Type 0
 AllLeftBefore from es = All (λ e. is_from from e ≡ false → is_alive_at e ≡ true) es
 
-gone_or : (a b : Bool) → (a && not b) ≡ false → (a ≡ false → b ≡ true) → b ≡ true
-gone_or a b h left = grind (arith)
-
 -- Where none is found any more, none is left.
 pub none_gone : (from : Option (List ℕ)) (es : List Named) → find (is_gone_from from) es ≡ None → AllLeftBefore from es → filter (is_alive_at) es ≡ es
 none_gone from [] h all = refl
-none_gone from (x ∷ es) h all = go (is_gone_from from x) refl h (λ g. none_gone from es g all.1)
-  where
-    go : (b : Bool) → is_gone_from from x ≡ b → (if b then Some x else find (is_gone_from from) es) ≡ None → (find (is_gone_from from) es ≡ None → filter (is_alive_at) es ≡ es)
-        → filter (is_alive_at) (x ∷ es) ≡ x ∷ es
-    go b e h rest = grind (arith)
+none_gone from (x ∷ es) h all = grind (arith, common_steps, none_gone from es)
 
 abbrev order : List ℕ → List ℕ → Ordering
 order = slice_cmp nat_cmp
 
 found_key : (P : List ℕ → Type 0) (q : Named → Bool) (e : Named) (es : List Named) → All P (keys_of es) → find q es ≡ Some e → P e.0
 found_key P q e [] all h = absurd (let g : None ≡ Some e = h in cc)
-found_key P q e (x ∷ es) all h = go (q x) h (λ g. found_key P q e es all.1 g)
-  where
-    go : (b : Bool) → (if b then Some x else find q es) ≡ Some e → (find q es ≡ Some e → P e.0) → P e.0
-    go b h rest = grind (arith, common_steps)
+found_key P q e (x ∷ es) all h = grind (arith, common_steps, found_key P q e es)
 
 itself : (a : List ℕ) → order a a ≡ Equal
 itself a = go (order a a) refl
@@ -160,12 +139,8 @@ one_removed from e (x ∷ es) s h all = go (is_gone_from from x) refl h (λ g. o
         let less : order x.0 e.0 ≡ Less = found_key (λ y. order x.0 y ≡ Less) (is_gone_from from) e es s.0 h in
         let more : order e.0 x.0 ≡ Greater = nat_list_cmp_total.antisymm e.0 x.0 ∙ ap ordering_reverse less in
         let away : is_named_at e.0 x.0 ≡ false = ap is_eq more in
-        let alive : is_alive_at x ≡ true = gone_or (is_from from x) (is_alive_at x) g all.0 in
-        record {
-          before = rw away ((λ _. alive), rest.before);
-          left = rw (away, alive) (ap (λ ts. x ∷ ts) rest.left);
-          fewer = rw away (let f = rest.fewer in omega arith);
-        }
+        let alive : is_alive_at x ≡ true = grind (arith) in
+        grind (arith, common_steps)
 
 pub name_removed : (from : Option (List ℕ)) (name : List ℕ) (es : List Named) → InOrder (slice_cmp nat_cmp) es → option_map (λ (e : Named). e.0) (find (is_gone_from from) es) ≡ Some name → AllLeftBefore from es → Removed name es
 name_removed from name es s h all = grind (arith, one_removed)

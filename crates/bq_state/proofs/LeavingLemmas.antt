@@ -9,24 +9,16 @@ use Rattle.bq_state.specs.declared.{known.Loss.Loss, seats.SeatChange.SeatChange
 use Rattle.bq_state.specs.{Crowds.{IsSeated, crowd_at, crowd_in, crowd_of, crowd_with, crowd_without, crowds_of, crowds_recounted, crowds_recounted_for, has_seats, touched}, KeptTubes.KeptTubes}
 use Rattle.bq_state.specs.{Leaving.{exists_in, loss_of, lost_all, lost_if, lost_unless}, Losses.{AreAlive, is_accounted, may_be_gone}, SeatChanges.{AreNumbered, seat_changed, seat_changed_at}}
 use Rattle.bq_state.specs.{Tallies.{has_jobs, tallies_of, tally_at}, TubeEntries.{AreInOrder, has_entry, is_tube_of}}
-use Rattle.bq_state.proofs.{CrowdLemmas.{all_recounted, crowd_moved, has_seats_of, none_changed, share_at}, CrowdPlaces.named_crowd, LossLemmas.{any_set, by_job, by_loss, by_seat, now_lost, still_accounted, still_lost}}
+use Rattle.bq_state.proofs.{CrowdLemmas.{all_recounted, crowd_moved, has_seats_of, none_changed, share_at}, CrowdPlaces.named_crowd, LossLemmas.{any_set, by_job, by_loss, by_seat, still_accounted, still_lost}}
 use Rattle.bq_state.proofs.{PartsLemmas.{all_read, changed_there, seat_there}, TallyPlaces.{has_jobs_in, tally_there}, TubeLemmas.{same_itself, same_name}}
 
 module _ (k : KeptTubes) where
-  -- What may be gone still may,
-  one_keeps : (b : Bool) (more name : List ℕ) (loss : Loss) → may_be_gone loss name ≡ true → may_be_gone (lost_unless b more loss) name ≡ true
-  one_keeps b more name loss h = grind (arith, still_lost)
-
   all_keeps : (names : List (List ℕ)) (name : List ℕ) (loss : Loss) → may_be_gone loss name ≡ true → may_be_gone (lost_all k names loss) name ≡ true
   all_keeps [] name loss h = h
-  all_keeps (n ∷ ns) name loss h = all_keeps ns name (lost_unless (exists_in k n) n loss) (one_keeps (exists_in k n) n name loss h)
+  all_keeps (n ∷ ns) name loss h = all_keeps ns name (lost_unless (exists_in k n) n loss) (grind (arith, still_lost))
 
   if_keeps : (b : Bool) (names : List (List ℕ)) (name : List ℕ) (loss : Loss) → may_be_gone loss name ≡ true → may_be_gone (lost_if b k names loss) name ≡ true
   if_keeps b names name loss h = grind (arith, all_keeps)
-
-  -- and what is left may be gone, unless it exists.
-  one_lost : (b : Bool) (name : List ℕ) (loss : Loss) → b ≡ false → may_be_gone (lost_unless b name loss) name ≡ true
-  one_lost b name loss e = grind (arith, now_lost)
 
   all_lost : (names : List (List ℕ)) (name : List ℕ) (loss : Loss) → list_any (is_same_name name) names ≡ true → exists_in k name ≡ false → may_be_gone (lost_all k names loss) name ≡ true
   all_lost [] name loss there gone = absurd cc
@@ -34,7 +26,7 @@ module _ (k : KeptTubes) where
       elim (or_cases (is_same_name name n) (list_any (is_same_name name) ns) there) [
         | inl same ↦
             let is = same_name name n same in
-            let here : may_be_gone (lost_unless (exists_in k n) n loss) name ≡ true = rw (sym is) (one_lost (exists_in k name) name loss gone) in
+            let here : may_be_gone (lost_unless (exists_in k n) n loss) name ≡ true = rw (sym is) (grind (arith, same_itself)) in
             all_keeps ns name (lost_unless (exists_in k n) n loss) here
         | inr more ↦ all_lost ns name (lost_unless (exists_in k n) n loss) more gone
       ]
@@ -63,8 +55,7 @@ module _ (n : ℕ) (what : SeatChange) (loss : Loss) (jobs : List Job) (seats : 
         let mid : crowd_at name k.entries k.crowds ≡ crowd_without (share_at (touched what) s name) (crowd_of seats name) =
         (λ i. crowd_at name (same_entries i) ((left ∙ all_recounted Goes (touched what) s (crowd_in seats) es order once) i))
         ∙ named_crowd name (λ m. crowd_without (share_at (touched what) s m) (crowd_of seats m)) es there in
-        let some : has_jobs (tally_at name k.entries k.tallies) ≡ list_any (λ j. is_same_name name j.tube) jobs =
-        ap has_jobs ((λ i. tally_at name (same_entries i) (counted i)) ∙ tally_there name jobs es of_jobs) ∙ has_jobs_in name jobs in
+        let some : has_jobs (tally_at name k.entries k.tallies) ≡ list_any (λ j. is_same_name name j.tube) jobs = grind (arith, common_steps, tally_there, has_jobs_in) in
         let now : has_seats (crowd_at name k.entries k.crowds) ≡ true → list_any (is_seated_at name) new ≡ true =
         λ has. sym (ap has_seats (crowd_moved n what s seats h fits found name) ∙ has_seats_of new name)
         ∙ still_seats (share_at (touched what) (seat_changed what s) name) (crowd_without (share_at (touched what) s name) (crowd_of seats name)) (ap has_seats (sym mid) ∙ has) in

@@ -5,10 +5,6 @@ use Rattle.std.proofs.{Common.{◌+◌, ◌<◌, ◌≡◌, List, ℕ, arith, fo
 pub folded_more : {A B : Type 0} (step : B → A → B) (init : B) (xs : List A) (i : ℕ) (x : A) (best new : B) → i < length xs → x ≡ get_or xs i x → best ≡ fold step init (take i xs) → new ≡ step best x → new ≡ fold step init (take (i + 1) xs)
 folded_more step init xs i x best new fits read so_far made = grind (arith, fold_more)
 
--- the same, where the element is read in place
-pub folded_on : {A B : Type 0} (step : B → A → B) (init : B) (xs : List A) (i : ℕ) (d : A) (best new : B) → i < length xs → best ≡ fold step init (take i xs) → new ≡ step best (get_or xs i d) → new ≡ fold step init (take (i + 1) xs)
-folded_on step init xs i d best new fits so_far made = grind (arith, fold_more)
-
 -- the same, where the step looks at something that is as it was
 pub folded_beside : {A B S : Type 0} (step : S → B → A → B) (s t : S) → t ≡ s → (init : B) (xs : List A) (i : ℕ) (d : A) (best new : B) → i < length xs → best ≡ fold (step s) init (take i xs) → new ≡ step t best (get_or xs i d) → new ≡ fold (step s) init (take (i + 1) xs)
-folded_beside step s t same init xs i d best new fits so_far made = grind (arith, folded_on)
+folded_beside step s t same init xs i d best new fits so_far made = grind (arith, fold_more)

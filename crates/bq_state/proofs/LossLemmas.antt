@@ -1,11 +1,11 @@
 -- Which entries may be of tubes that are gone, as jobs and seats change.
-use Rattle.std.proofs.Common.{◌++◌, ◌==◌, ◌||◌, ◌∙◌, ◌∷◌, ◌≡◌, ◌≤◌, ◌⊎◌, if◌then◌else◌, Bool, List, Option, Some, [], ℕ, ap, arith, false, inl, inr, length, map, not, refl, set, slice_get, suc, sym, true, zero}
+use Rattle.std.proofs.Common.{◌++◌, ◌||◌, ◌∙◌, ◌∷◌, ◌≡◌, ◌≤◌, ◌⊎◌, if◌then◌else◌, Bool, List, Option, Some, [], ℕ, ap, arith, false, inl, inr, length, map, not, refl, set, slice_get, suc, sym, true, zero}
 use Rattle.std.proofs.lemmas.{Bool.{cases_Bool, eqb-true, or_cases, or_left, or_right}, Grind.common_steps}
 use Rattle.std.specs.{List.{AllByRecursion as All, list_any}, Prelude.filter}
 use Rattle.bq_job.specs.declared.job.Job.{Job}
 use Rattle.bq_job.specs.{beside.AreIdsWithin, machine.{SeatRecord, TubeRecord, default_tube, fresh_tube, is_name_before, is_seated_at, job_with, watching, with_record}, reading.TubeName.is_same_name}
 use Rattle.bq_job.proofs.{ListLemmas.{all_weaker, filter_no_longer}, NameOrderLemmas.not_same}
-use Rattle.bq_jobs.specs.Kept.{is_id_before, with_added, without}
+use Rattle.bq_jobs.specs.Kept.{with_added, without}
 use Rattle.bq_jobs.proofs.Changes.{all_kept, others_above}
 use Rattle.bq_state.specs.declared.known.Loss.{Loss, TheVariants.{Any, Nothing, Of}}
 use Rattle.bq_state.specs.{Dues.{first_pause_end, pause_end_left}, Losses.{AreAlive, is_accounted, may_be_gone, with_lost, with_regained}, TubeEntries.{has_entry, is_tube_of, provided}}
@@ -21,11 +21,8 @@ still_lost more (Of lost) name h = go (is_same_name lost more) refl
     go false e = refl
 still_lost more Any name h = refl
 
-pub now_lost : (name : List ℕ) (loss : Loss) → may_be_gone (with_lost name loss) name ≡ true
-now_lost name loss = grind (arith, same_itself)
-
 named_lost : (name more : List ℕ) (loss : Loss) → is_same_name name more ≡ true → may_be_gone (with_lost more loss) name ≡ true
-named_lost name more loss same = ap (may_be_gone (with_lost more loss)) (same_name name more same) ∙ now_lost more loss
+named_lost name more loss same = ap (may_be_gone (with_lost more loss)) (same_name name more same) ∙ (grind (arith, same_itself))
 
 -- why a tube is accounted for
 module _ (loss : Loss) (jobs : List Job) (seats : List SeatRecord) (name : List ℕ) where
@@ -48,10 +45,7 @@ still_accounted loss loss' jobs jobs' seats seats' name job seat lost h = grind 
 -- a job comes
 still_some : (p : Job → Bool) (j : Job) (jobs : List Job) → list_any p jobs ≡ true → list_any p (with_added j jobs) ≡ true
 still_some p j [] h = absurd cc
-still_some p j (k ∷ jobs) h = go (is_id_before k j) (λ more. still_some p j jobs more)
-  where
-    go : (b : Bool) → (list_any p jobs ≡ true → list_any p (with_added j jobs) ≡ true) → list_any p (if b then k ∷ with_added j jobs else j ∷ k ∷ jobs) ≡ true
-    go b rest = grind (arith)
+still_some p j (k ∷ jobs) h = grind (arith, common_steps, still_some p j jobs)
 
 now_some : (p : Job → Bool) (j : Job) (jobs : List Job) → p j ≡ true → list_any p (with_added j jobs) ≡ true
 now_some p j [] h = or_left (p j) _ h
@@ -80,22 +74,8 @@ alive_added j loss jobs seats entries all =
 module _ (p : Job → Bool) where
   left_over : (low next id : ℕ) (j : Job) (jobs : List Job) → AreIdsWithin low jobs next → job_with id jobs ≡ Some j → list_any p jobs ≡ true → (list_any p (without id jobs) ≡ true) ⊎ (p j ≡ true)
   left_over low next id j [] ids found h = absurd cc
-  left_over low next id j (k ∷ jobs) ids found h = elim (cases_Bool (k.id == id)) [
-    | inl same ↦
-        let e : Some k ≡ Some j = rw same at found in
-        let one : k ≡ j = cc in
-        let at : k.id ≡ id = eqb-true k.id id same in
-        grind (arith, common_steps, cases_Bool, or_cases, all_kept, others_above)
-    | inr other ↦
-        let there : job_with id jobs ≡ Some j = rw other at found in
-        elim (or_cases (p k) (list_any p jobs) h) [
-          | inl here ↦ inl (rw other (or_left (p k) _ here))
-          | inr more ↦ elim (left_over (suc k.id) next id j jobs ids.1 there more) [
-            | inl rest ↦ inl (rw other (or_right (p k) _ rest))
-            | inr it ↦ inr it
-          ]
-        ]
-  ]
+  left_over low next id j (k ∷ jobs) ids found h =
+      grind (arith, common_steps, cases_Bool, eqb-true, or_cases, all_kept, others_above, or_left, or_right, left_over (suc k.id) next id j jobs)
 
 pub alive_taken : (low next id : ℕ) (j : Job) (loss : Loss) (jobs : List Job) (seats : List SeatRecord) (entries : List TubeRecord) → AreIdsWithin low jobs next → job_with id jobs ≡ Some j
     → AreAlive loss jobs seats entries → AreAlive (with_lost j.tube loss) (without id jobs) seats entries
@@ -123,20 +103,11 @@ pub any_set : (p : SeatRecord → Bool) (Q : Type 0) (seats : List SeatRecord) (
 any_set p Q [] i s new found keeps h = absurd cc
 any_set p Q (t ∷ seats) zero s new found keeps h = grind (arith)
 any_set p Q (t ∷ seats) (suc i) s new found keeps h =
-    elim (or_cases (p t) (list_any p seats) h) [
-      | inl here ↦ inl (or_left (p t) _ here)
-      | inr more ↦ elim (any_set p Q seats i s new found keeps more) [
-        | inl rest ↦ inl (or_right (p t) _ rest)
-        | inr q ↦ inr q
-      ]
-    ]
+    grind (arith, common_steps, or_cases, or_left, or_right, any_set p Q seats i s new)
 
 any_joined : {A : Type 0} (p : A → Bool) (xs ys : List A) → list_any p xs ≡ true → list_any p (xs ++ ys) ≡ true
 any_joined p [] ys h = absurd cc
-any_joined p (x ∷ xs) ys h = elim (or_cases (p x) (list_any p xs) h) [
-  | inl here ↦ or_left (p x) _ here
-  | inr more ↦ or_right (p x) _ (any_joined p xs ys more)
-]
+any_joined p (x ∷ xs) ys h = grind (arith, common_steps, or_cases, or_left, or_right, any_joined p xs ys)
 
 watches_more : (name more : List ℕ) (s : SeatRecord) → is_seated_at name s ≡ true → is_seated_at name (watching (s.watched ++ more ∷ []) s) ≡ true
 watches_more name more s h = grind (arith, any_joined)
@@ -155,23 +126,13 @@ alive_watching more i s loss jobs seats entries found all =
 -- or one tube fewer
 others_left : (lost name : List ℕ) (names : List (List ℕ)) → list_any (is_same_name name) names ≡ true → (list_any (is_same_name name) (filter (λ other. not (is_same_name lost other)) names) ≡ true) ⊎ (is_same_name name lost ≡ true)
 others_left lost name [] h = absurd cc
-others_left lost name (n ∷ names) h = go (is_same_name lost n) refl (λ more. others_left lost name names more)
-  where
-    left : List (List ℕ)
-    left = filter (λ other. not (is_same_name lost other)) names
-
-    go : (b : Bool) → is_same_name lost n ≡ b → (list_any (is_same_name name) names ≡ true → (list_any (is_same_name name) left ≡ true) ⊎ (is_same_name name lost ≡ true))
-        → (list_any (is_same_name name) (if not b then n ∷ left else left) ≡ true) ⊎ (is_same_name name lost ≡ true)
-    go b e rest = grind (arith, same_name)
-
-watches_fewer : (lost name : List ℕ) (s : SeatRecord) → is_seated_at name s ≡ true → (is_seated_at name (watching (filter (λ other. not (is_same_name lost other)) s.watched) s) ≡ true) ⊎ (is_same_name name lost ≡ true)
-watches_fewer lost name s h = grind (arith, others_left)
+others_left lost name (n ∷ names) h = grind (arith, common_steps, same_name, others_left lost name names)
 
 pub alive_ignoring : (lost : List ℕ) (i : ℕ) (s : SeatRecord) (loss : Loss) (jobs : List Job) (seats : List SeatRecord) (entries : List TubeRecord) → slice_get seats i ≡ Some s
     → AreAlive loss jobs seats entries → AreAlive (with_lost lost loss) jobs (set seats i (watching (filter (λ other. not (is_same_name lost other)) s.watched) s)) entries
 alive_ignoring lost i s loss jobs seats entries found all =
     alive_reseated loss (with_lost lost loss) jobs seats (set seats i new) entries
-    (λ name h. elim (any_set (is_seated_at name) (is_same_name name lost ≡ true) seats i s new found (watches_fewer lost name s) h) [
+    (λ name h. elim (any_set (is_seated_at name) (is_same_name name lost ≡ true) seats i s new found (λ h. grind (arith, others_left)) h) [
       | inl still ↦ by_seat (with_lost lost loss) jobs (set seats i new) name still
       | inr it ↦ by_loss (with_lost lost loss) jobs (set seats i new) name (named_lost name lost loss it)
     ])
@@ -189,17 +150,11 @@ alive_provided name loss jobs seats entries all = go (has_entry name entries)
     weaker = alive_reseated loss (with_lost name loss) jobs seats seats entries (λ n h. by_seat (with_lost name loss) jobs seats n h) (λ n h. still_lost name loss n h) all
 
     new : is_accounted (with_lost name loss) jobs seats name ≡ true
-    new = by_loss (with_lost name loss) jobs seats name (now_lost name loss)
+    new = by_loss (with_lost name loss) jobs seats name (grind (arith, same_itself))
 
     inserted : (entries : List TubeRecord) → AreAlive (with_lost name loss) jobs seats entries → AreAlive (with_lost name loss) jobs seats (with_record (fresh_tube name) entries)
     inserted [] all = (new, tt)
-    inserted (t ∷ entries) all = at (is_same_name name t.name) (is_name_before name t.name) (inserted entries all.1)
-      where
-        at : (same before : Bool) → AreAlive (with_lost name loss) jobs seats (with_record (fresh_tube name) entries)
-            → AreAlive (with_lost name loss) jobs seats (if same then fresh_tube name ∷ entries else (if before then fresh_tube name ∷ t ∷ entries else t ∷ with_record (fresh_tube name) entries))
-        at true before rest = (new, all.1)
-        at false true rest = (new, all)
-        at false false rest = (all.0, rest)
+    inserted (t ∷ entries) all = grind (arith, common_steps, cases_Bool, new, inserted entries all.1)
 
     go : (b : Bool) → AreAlive (if not b then with_lost name loss else loss) jobs seats (if b then entries else with_record (fresh_tube name) entries)
     go true = all

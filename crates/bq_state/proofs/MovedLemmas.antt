@@ -14,9 +14,6 @@ use Rattle.bq_state.specs.Warnings.{AreWarned, has_waiting_holder, with_holder_o
 use Rattle.bq_state.proofs.{PartsLemmas.{all_filtered, all_kept}, StirLemmas.known_added, TallyPlaces.{counted_added, counted_taken}, WarningLemmas.warned_added}
 use Rattle.bq_state.proofs.PartsLemmas.{same_id}
 
-same_tube : (b : Bool) (x y : Job) (tube : List ℕ) → x.tube ≡ tube → y.tube ≡ tube → (if b then x else y).tube ≡ tube
-same_tube b x y tube h i = grind (arith, common_steps)
-
 -- no change depends on the tube
 pub tube_ignored : (change : JobChange) → IgnoresTube (changed change)
 tube_ignored change j tube = grind (arith)
@@ -31,7 +28,7 @@ module _ (id : ℕ) (f : Job → Job) where
   one_id keeps k = same_id (k.id == id) (f k) k k.id (keeps k) refl
 
   pub one_tube : KeepsTube f → KeepsTube (λ k. if k.id == id then f k else k)
-  one_tube stays k = same_tube (k.id == id) (f k) k k.tube (stays k) refl
+  one_tube stays k = grind (arith, common_steps)
 
 module _ (g : Job → Job) (stays : KeepsTube g) where
   pub entries_of_changed : (jobs : List Job) (seats : List SeatRecord) (entries : List TubeRecord) → AreEntries jobs seats entries → AreEntries (map g jobs) seats entries

@@ -8,6 +8,7 @@ use Rattle.bq_job.proofs.NameOrderLemmas.{after, first_of_order, in_order_fold, 
 use Rattle.bq_job.proofs.NameOrderLemmas.{stays_fold}
 use Rattle.bq_state.specs.{Names.{is_named, names_of}, TubeEntries.{AreEntries, AreInOrder, IsFreshUnlessCounted, counted, has_entry, is_counted, is_tube_of, names_alive}}
 use Rattle.bq_state.proofs.{PartsLemmas.tube_has_entry, TubeLemmas.{before_differs, none_found, none_later, order_filtered, same_itself, same_name}}
+use Rattle.std.proofs.lemmas.Bool.{cases_Bool}
 
 -- names that come later are others
 none_listed : (name : List ℕ) (names : List (List ℕ)) → All (λ n. is_name_before name n ≡ true) names → list_any (is_same_name name) names ≡ false
@@ -62,9 +63,7 @@ same_order (x ∷ xs) (y ∷ ys) h k same =
         let is : name ≡ x = same_name name x e in
         ap (λ n. list_any (is_same_name n) xs) is ∙ none_listed x xs later_x
         ∙ sym (ap (λ n. list_any (is_same_name n) ys) (is ∙ head) ∙ none_listed y ys later_y)
-    tail name false e =
-        let other : is_same_name name y ≡ false = ap (is_same_name name) (sym head) ∙ e in
-        sym (ap (λ b. b || list_any (is_same_name name) xs) e) ∙ same name ∙ ap (λ b. b || list_any (is_same_name name) ys) other
+    tail name false e = grind (arith, common_steps, cases_Bool, head)
 
 -- the names of entries in order
 later_names : (name : List ℕ) (entries : List TubeRecord) → All (λ u. is_name_before name u.name ≡ true) entries → All (λ n. is_name_before name n ≡ true) (map (λ t. t.name) entries)

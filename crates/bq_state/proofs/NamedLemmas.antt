@@ -61,8 +61,7 @@ module _ (name : List ℕ) where
       no_pause : (ts : List TubeRecord) → has_entry name ts ≡ false → list_any (λ t. is_same_name name t.name && is_some t.pause) ts ≡ false
       no_pause [] h = refl
       no_pause (t ∷ ts) h =
-          let parts = or_parts (is_same_name name t.name) (has_entry name ts) h in
-          rw parts.0 (no_pause ts parts.1)
+          grind (arith, common_steps, cases_Bool, or_parts, no_pause ts (or_parts (is_same_name name t.name) (has_entry name ts) h).1)
 
   -- and how many jobs it has.
   pub found_tally : (es : List Named) → tally_by (lookup (is_named_at name) es) ≡ tally_at name (map record_at es) (map tally_kept es)
@@ -92,18 +91,12 @@ module _ (name : List ℕ) where
     pub edit_tally : (g : Tally → Tally) → ((t : KeptTube) → (f t).tally ≡ g t.tally) → (es : List Named)
         → map tally_kept (edited name f (lookup (is_named_at name) es) es) ≡ tallies_at name g (map record_at es) (map tally_kept es)
     edit_tally g made [] = refl
-    edit_tally g made (x ∷ es) = elim (cases_Bool (is_same_name name x.0)) [
-      | inl e ↦ ap (map tally_kept) (edited_here x es e) ∙ (λ i. made x.1 i ∷ map tally_kept es) ∙ sym (rw e refl)
-      | inr e ↦ ap (map tally_kept) (edited_past x es e) ∙ ap (λ ts. x.1.tally ∷ ts) (edit_tally g made es) ∙ sym (rw e refl)
-    ]
+    edit_tally g made (x ∷ es) = grind (arith, common_steps, cases_Bool, edited_here, edited_past, edit_tally g made es)
 
     pub edit_crowd : (g : Crowd → Crowd) → ((t : KeptTube) → (f t).crowd ≡ g t.crowd) → (es : List Named)
         → map crowd_kept (edited name f (lookup (is_named_at name) es) es) ≡ crowds_at name g (map record_at es) (map crowd_kept es)
     edit_crowd g made [] = refl
-    edit_crowd g made (x ∷ es) = elim (cases_Bool (is_same_name name x.0)) [
-      | inl e ↦ ap (map crowd_kept) (edited_here x es e) ∙ (λ i. made x.1 i ∷ map crowd_kept es) ∙ sym (rw e refl)
-      | inr e ↦ ap (map crowd_kept) (edited_past x es e) ∙ ap (λ cs. x.1.crowd ∷ cs) (edit_crowd g made es) ∙ sym (rw e refl)
-    ]
+    edit_crowd g made (x ∷ es) = grind (arith, common_steps, cases_Bool, edited_here, edited_past, edit_crowd g made es)
 
     pub edit_same_records : ((n : List ℕ) (t : KeptTube) → record_of n (f t) ≡ record_of n t) → (es : List Named) → map record_at (edited name f (lookup (is_named_at name) es) es) ≡ map record_at es
     edit_same_records same [] = refl

@@ -1,5 +1,5 @@
 -- What changes of the state keep.
-use Rattle.std.proofs.Common.{◌++◌, ◌+◌, ◌<◌, ◌==◌, ◌^◌, ◌||◌, ◌∙◌, ◌∷◌, ◌≡◌, ◌≤◌, if◌then◌else◌, Bool, List, None, Some, [], ℕ, ap, arith, false, get_or, inl, inr, length, map, refl, set, slice_get, subst, suc, sym, true, zero}
+use Rattle.std.proofs.Common.{◌++◌, ◌+◌, ◌<◌, ◌==◌, ◌^◌, ◌||◌, ◌∙◌, ◌∷◌, ◌≡◌, ◌≤◌, if◌then◌else◌, Bool, List, None, Some, [], ℕ, ap, arith, get_or, inl, inr, length, map, refl, set, slice_get, subst, suc, sym, true, zero}
 use Rattle.std.proofs.lemmas.{Bool.{and_parts, cases_Bool, eq-eqb, ne_eqb, or_cases}, List.length-map, Option.slice_get-get_or}
 use Rattle.std.proofs.lemmas.Grind.{common_steps}
 use Rattle.std.specs.{List.{AllByRecursion as All, Contains, list_any}, Prelude.{filter, nat_le}}
@@ -11,7 +11,7 @@ use Rattle.bq_jobs.proofs.Changes.{low_below}
 use Rattle.bq_state.specs.declared.{core_parts.CoreParts.CoreParts, job_store.JobChange.JobChange}
 use Rattle.bq_state.specs.declared.{seats.SeatChange.SeatChange, tubes.entry.TubeChange.TubeChange}
 use Rattle.bq_state.specs.{JobChanges.changed, SeatChanges.{AreNumbered, has_tube_of, seat_changed, seat_changed_at}, Soundness.Soundness}
-use Rattle.bq_state.specs.TubeEntries.{AreEntries, AreInOrder, HasTubes, IsFreshUnlessCounted, counted, has_entry, is_counted, is_tube_of, provided, tube_changed, tube_changed_at}
+use Rattle.bq_state.specs.TubeEntries.{AreEntries, HasTubes, IsFreshUnlessCounted, counted, has_entry, is_counted, is_tube_of, provided, tube_changed, tube_changed_at}
 use Rattle.bq_state.proofs.TubeLemmas.{counted_inserted, entry_filtered, fresh_inserted, has_inserted, order_filtered, order_inserted, order_kept, same_entries, same_itself, same_name, still_has}
 
 -- what all elements have is kept where each change keeps it
@@ -22,10 +22,7 @@ all_kept P f keeps (x ∷ xs) all = (keeps x all.0, all_kept P f keeps xs all.1)
 -- and a part of them has it
 pub all_filtered : {A : Type 0} (P : A → Type 0) (p : A → Bool) (xs : List A) → All P xs → All P (filter p xs)
 all_filtered P p [] all = tt
-all_filtered {A = A} P p (x ∷ xs) all = kept (p x) (all_filtered P p xs all.1)
-  where
-    kept : (b : Bool) → All P (filter p xs) → All P (if b then x ∷ filter p xs else filter p xs)
-    kept b rest = grind (arith, common_steps)
+all_filtered {A = A} P p (x ∷ xs) all = grind (arith, common_steps, all_filtered P p xs)
 
 pub same_id : (b : Bool) (x y : Job) (id : ℕ) → x.id ≡ id → y.id ≡ id → (if b then x else y).id ≡ id
 same_id b x y id h i = grind (arith, common_steps)
@@ -73,10 +70,7 @@ few_jobs next (k ∷ jobs) given h = let few = as_many_ids 1 (2 ^ 64) (k ∷ job
 -- where there is no job of the id, none is changed
 pub no_job_changed : (id : ℕ) (f : Job → Job) (jobs : List Job) → job_with id jobs ≡ None → map (λ j. if j.id == id then f j else j) jobs ≡ jobs
 no_job_changed id f [] h = refl
-no_job_changed id f (k ∷ jobs) h = elim (cases_Bool (k.id == id)) [
-  | inl same ↦ absurd (let e : Some k ≡ None = rw same at h in cc)
-  | inr other ↦ let rest : job_with id jobs ≡ None = rw other at h in rw other (ap (λ ks. k ∷ ks) (no_job_changed id f jobs rest))
-]
+no_job_changed id f (k ∷ jobs) h = grind (arith, common_steps, cases_Bool, no_job_changed id f jobs)
 
 -- Where jobs were only looked at, the state is still sound.
 pub compared_sound : (st : CoreParts) (jobs : Kept) → jobs ≡ record st.jobs { comparisons = jobs.comparisons }
@@ -118,17 +112,13 @@ name_kept_at name what t = grind (arith)
 fresh_at : (name : List ℕ) (what : TubeChange) (t : TubeRecord) → IsFreshUnlessCounted t → IsFreshUnlessCounted (tube_changed_at name what t)
 fresh_at name what t fresh = grind (arith)
 
--- entries whose names are the same
-pub entries_of_other : (jobs : List Job) (seats : List SeatRecord) (entries entries' : List TubeRecord) → AreInOrder entries' → All IsFreshUnlessCounted entries' → ((name : List ℕ) → has_entry name entries ≡ true → has_entry name entries' ≡ true) → AreEntries jobs seats entries → AreEntries jobs seats entries'
-entries_of_other jobs seats entries entries' order fresh still e = grind (arith, all_weaker)
-
 pub entries_of_tube : (name : List ℕ) (what : TubeChange) (jobs : List Job) (seats : List SeatRecord) (entries : List TubeRecord) → AreEntries jobs seats entries → AreEntries jobs seats (map (tube_changed_at name what) entries)
 entries_of_tube name what jobs seats entries e =
-    grind (arith, entries_of_other, order_kept, name_kept_at, all_kept, fresh_at, same_entries)
+    grind (arith, all_weaker, order_kept, name_kept_at, all_kept, fresh_at, same_entries)
 
 -- an entry is provided
 pub entries_provided : (name : List ℕ) (jobs : List Job) (seats : List SeatRecord) (entries : List TubeRecord) → AreEntries jobs seats entries → AreEntries jobs seats (provided name entries)
-entries_provided name jobs seats entries e = grind (arith, entries_of_other, order_inserted, fresh_inserted, still_has)
+entries_provided name jobs seats entries e = grind (arith, all_weaker, order_inserted, fresh_inserted, still_has)
 
 pub counted_provided : (name : List ℕ) (entries : List TubeRecord) → counted (provided name entries) ≡ counted entries
 counted_provided name entries = grind (arith, counted_inserted)
@@ -142,9 +132,6 @@ job_is_in_tube jobs seats j here = grind (arith, common_steps, same_itself)
 
 seat_is_at_tube : (jobs : List Job) (seats : List SeatRecord) (s : SeatRecord) (name : List ℕ) → Contains seats s → is_seated_at name s ≡ true → is_tube_of jobs seats name ≡ true
 seat_is_at_tube jobs seats s name here at = grind (arith, common_steps)
-
-used_at : (s : SeatRecord) → s.connected ≡ true → is_seated_at s.used s ≡ true
-used_at s c = rw (c, same_itself s.used) refl
 
 watched_at : (s : SeatRecord) (name : List ℕ) → s.connected ≡ true → Contains s.watched name → is_seated_at name s ≡ true
 watched_at s name c here = grind (arith, common_steps, same_itself)
@@ -165,7 +152,7 @@ entries_forgotten jobs seats entries e =
       of_seats = all_from_members (HasTubes (filter p entries)) seats (λ s here.
           let has : HasTubes entries s = all_at (HasTubes entries) seats s e.of_seats here in
           record {
-            used = λ c. still s.used (seat_is_at_tube jobs seats s s.used here (used_at s c)) (has.used c);
+            used = λ c. still s.used (seat_is_at_tube jobs seats s s.used here (rw (c, same_itself s.used) refl)) (has.used c);
             watched = λ c. all_from_members (λ name. has_entry name (filter p entries) ≡ true) s.watched (λ name there. still name (seat_is_at_tube jobs seats s name here (watched_at s name c there)) (all_at (λ name. has_entry name entries ≡ true) s.watched name (has.watched c) there));
           });
     }
@@ -229,17 +216,7 @@ first_numbered n = grind (arith, numbers_read, length-map, length_numbers)
 seat_at : (low : ℕ) (seats : List SeatRecord) (i : ℕ) (s : SeatRecord) → map (λ s. s.number) seats ≡ numbers low (length seats) → seat_with (low + i) seats ≡ Some s → slice_get seats i ≡ Some s
 seat_at low [] i s h found = absurd cc
 seat_at low (t ∷ seats) zero s h found = grind (arith)
-seat_at low (t ∷ seats) (suc i) s h found =
-    let parts = heads h in
-    let other : (t.number == low + suc i) ≡ false = ne_eqb t.number (low + suc i) (λ e. absurd (omega arith)) in
-    let rest : seat_with (low + suc i) seats ≡ Some s = rw other at found in
-    seat_at (suc low) seats i s parts.1 (ap (λ n. seat_with n seats) (next low i) ∙ rest)
-  where
-    heads : (map (λ s. s.number) (t ∷ seats) ≡ numbers low (length (t ∷ seats))) → (t.number ≡ low) × (map (λ s. s.number) seats ≡ numbers (suc low) (length seats))
-    heads h = (cc, cc)
-
-    next : (low i : ℕ) → suc low + i ≡ low + suc i
-    next low i = omega arith
+seat_at low (t ∷ seats) (suc i) s h found = grind (arith, common_steps, ne_eqb, seat_at (suc low) seats i s)
 
 pub seat_there : (seats : List SeatRecord) (i : ℕ) (s : SeatRecord) → AreNumbered seats → seat_with i seats ≡ Some s → slice_get seats i ≡ Some s
 seat_there seats i s h found = seat_at 0 seats i s h (ap (λ n. seat_with n seats) (from_zero i) ∙ found)
@@ -251,12 +228,7 @@ seat_there seats i s h found = seat_at 0 seats i s h (ap (λ n. seat_with n seat
 none_changed : (low high : ℕ) (seats : List SeatRecord) (f : SeatRecord → SeatRecord) → low < high → map (λ s. s.number) seats ≡ numbers high (length seats) → map (λ s. if s.number == low then f s else s) seats ≡ seats
 none_changed low high [] f less h = refl
 none_changed low high (t ∷ seats) f less h =
-    let parts = heads h in
-    let other : (t.number == low) ≡ false = ne_eqb t.number low (λ e. absurd (let a = parts.0 in omega arith)) in
-    rw other (ap (λ ts. t ∷ ts) (none_changed low (suc high) seats f (omega arith) parts.1))
-  where
-    heads : (map (λ s. s.number) (t ∷ seats) ≡ numbers high (length (t ∷ seats))) → (t.number ≡ high) × (map (λ s. s.number) seats ≡ numbers (suc high) (length seats))
-    heads h = (cc, cc)
+    grind (arith, common_steps, ne_eqb, none_changed low (suc high) seats f)
 
 set_at_place : (low : ℕ) (seats : List SeatRecord) (i : ℕ) (s : SeatRecord) (f : SeatRecord → SeatRecord) → map (λ s. s.number) seats ≡ numbers low (length seats) → slice_get seats i ≡ Some s → map (λ s. if s.number == low + i then f s else s) seats ≡ set seats i (f s)
 set_at_place low [] i s f h found = absurd cc
@@ -274,15 +246,7 @@ set_at_place low (t ∷ seats) zero s f h found =
     no_more : (low : ℕ) → low + 0 ≡ low
     no_more low = omega arith
 set_at_place low (t ∷ seats) (suc i) s f h found =
-    let parts = heads h in
-    let other : (t.number == low + suc i) ≡ false = ne_eqb t.number (low + suc i) (λ e. absurd (let a = parts.0 in omega arith)) in
-    rw other (ap (λ ts. t ∷ ts) (ap (λ n. map (λ s. if s.number == n then f s else s) seats) (sym (next low i)) ∙ set_at_place (suc low) seats i s f parts.1 found))
-  where
-    heads : (map (λ s. s.number) (t ∷ seats) ≡ numbers low (length (t ∷ seats))) → (t.number ≡ low) × (map (λ s. s.number) seats ≡ numbers (suc low) (length seats))
-    heads h = (cc, cc)
-
-    next : (low i : ℕ) → suc low + i ≡ low + suc i
-    next low i = omega arith
+    grind (arith, common_steps, ne_eqb, set_at_place (suc low) seats i s f)
 
 pub changed_there : (seats : List SeatRecord) (i : ℕ) (s : SeatRecord) (f : SeatRecord → SeatRecord) → AreNumbered seats → slice_get seats i ≡ Some s → map (λ s. if s.number == i then f s else s) seats ≡ set seats i (f s)
 changed_there seats i s f h found = grind (arith, set_at_place 0 seats i s f h found)
@@ -290,16 +254,7 @@ changed_there seats i s f h found = grind (arith, set_at_place 0 seats i s f h f
 read_at : (low : ℕ) (seats : List SeatRecord) (i : ℕ) (s : SeatRecord) → map (λ s. s.number) seats ≡ numbers low (length seats) → slice_get seats i ≡ Some s → seat_with (low + i) seats ≡ Some s
 read_at low [] i s h found = absurd cc
 read_at low (t ∷ seats) zero s h found = grind (arith)
-read_at low (t ∷ seats) (suc i) s h found =
-    let parts = heads h in
-    let other : (t.number == low + suc i) ≡ false = ne_eqb t.number (low + suc i) (λ e. absurd (let a = parts.0 in omega arith)) in
-    rw other (ap (λ n. seat_with n seats) (sym (next low i)) ∙ read_at (suc low) seats i s parts.1 found)
-  where
-    heads : (map (λ s. s.number) (t ∷ seats) ≡ numbers low (length (t ∷ seats))) → (t.number ≡ low) × (map (λ s. s.number) seats ≡ numbers (suc low) (length seats))
-    heads h = (cc, cc)
-
-    next : (low i : ℕ) → suc low + i ≡ low + suc i
-    next low i = omega arith
+read_at low (t ∷ seats) (suc i) s h found = grind (arith, common_steps, ne_eqb, read_at (suc low) seats i s)
 
 -- a place of which the number is known
 pub seat_read : (seats : List SeatRecord) (i : ℕ) (s : SeatRecord) → AreNumbered seats → slice_get seats i ≡ Some s → seat_with i seats ≡ Some s
@@ -331,7 +286,7 @@ pub watching_fewer : (p : List ℕ → Bool) (i : ℕ) (s : SeatRecord) (jobs : 
 watching_fewer p i s jobs seats entries found e = grind (arith, common_steps, all_read, all_filtered)
 
 pub entries_of_timers : (moment : ℕ) (jobs : List Job) (seats : List SeatRecord) (entries : List TubeRecord) → AreEntries jobs seats entries → AreEntries jobs seats (map (tube_after_timers moment) entries)
-entries_of_timers moment jobs seats entries e = grind (arith, entries_of_other, order_kept, all_kept, same_entries)
+entries_of_timers moment jobs seats entries e = grind (arith, all_weaker, order_kept, all_kept, same_entries)
 
 -- a place within a list is taken
 pub some_at : {A : Type 0} (xs : List A) (i : ℕ) → i < length xs → (x : A) × (slice_get xs i ≡ Some x)

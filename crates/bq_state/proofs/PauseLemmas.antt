@@ -1,8 +1,8 @@
 -- When the first of the pauses ends.
-use Rattle.std.proofs.Common.{◌∷◌, ◌≡◌, if◌then◌else◌, Bool, List, None, Option, [], ℕ, arith, false, map, refl}
+use Rattle.std.proofs.Common.{◌∷◌, ◌≡◌, List, None, Option, [], ℕ, arith, false, map, refl}
 use Rattle.std.proofs.lemmas.{Bool.or_parts, Grind.common_steps}
 use Rattle.std.specs.{List.list_any, Prelude.fold}
-use Rattle.bq_job.specs.{beside.{dues_of_pause, earliest}, machine.{TubeRecord, fresh_tube, is_name_before, tube_after_timers, with_record}, reading.TubeName.is_same_name}
+use Rattle.bq_job.specs.{beside.{dues_of_pause, earliest}, machine.{TubeRecord, fresh_tube, tube_after_timers, with_record}}
 use Rattle.bq_job.proofs.ListLemmas.{all_of_filter, all_weaker, list_any_not, map_all_same, none_pass}
 use Rattle.bq_state.specs.declared.tubes.entry.TubeChange.{TubeChange}
 use Rattle.bq_state.specs.{Dues.{earlier_of_both, first_pause_end, is_end_over, pause_end_after, with_tube_due}, TubeEntries.{counted, has_entry, is_pause_over, provided, tube_changed_at}}
@@ -16,11 +16,7 @@ end_after_change name what entries last h = grind (arith, common_steps)
 fresh_adds_none : (name : List ℕ) (entries : List TubeRecord) (best : Option ℕ) → has_entry name entries ≡ false → fold with_tube_due best (with_record (fresh_tube name) entries) ≡ fold with_tube_due best entries
 fresh_adds_none name [] best h = no_other best
 fresh_adds_none name (t ∷ entries) best h =
-    let parts = or_parts (is_same_name name t.name) (has_entry name entries) h in
-    rw parts.0 (go (is_name_before name t.name) (fresh_adds_none name entries (earlier_of_both best (earliest (dues_of_pause t.pause))) parts.1))
-  where
-    go : (b : Bool) → fold with_tube_due best (t ∷ with_record (fresh_tube name) entries) ≡ fold with_tube_due best (t ∷ entries) → fold with_tube_due best (if b then fresh_tube name ∷ t ∷ entries else t ∷ with_record (fresh_tube name) entries) ≡ fold with_tube_due best (t ∷ entries)
-    go b rest = grind (arith)
+    grind (arith, common_steps, or_parts, fresh_adds_none name entries (earlier_of_both best (earliest (dues_of_pause t.pause))))
 
 pub end_provided : (name : List ℕ) (entries : List TubeRecord) → first_pause_end (provided name entries) ≡ first_pause_end entries
 end_provided name entries = grind (arith, fresh_adds_none)

@@ -1,10 +1,11 @@
 -- Seats that are numbered in order are found by their places.
-use Rattle.std.proofs.Common.{◌++◌, ◌+◌, ◌<◌, ◌==◌, ◌∙◌, ◌∷◌, ◌≡◌, ◌≤◌, if◌then◌else◌, List, None, Option, Some, [], ℕ, ap, arith, false, get_or, length, map, refl, slice_get, suc, sym, zero}
+use Rattle.std.proofs.Common.{◌++◌, ◌+◌, ◌<◌, ◌==◌, ◌∙◌, ◌∷◌, ◌≡◌, ◌≤◌, if◌then◌else◌, List, None, Option, Some, [], ℕ, ap, arith, get_or, length, map, refl, slice_get, suc, sym, zero}
 use Rattle.std.proofs.lemmas.{Bool.ne_eqb, List.map-append, Option.{slice_get_past, slice_get_read}}
 use Rattle.std.specs.{Borrow.Bor, List.HoldsAt, Option.{IfSome, MatchOption, option_copied}}
 use Rattle.bq_job.specs.machine.{SeatRecord, empty_seat, numbers, seat_with}
 use Rattle.bq_state.specs.SeatChanges.{AreNumbered}
 use Rattle.bq_state.proofs.PartsLemmas.{seat_read, seat_there}
+use Rattle.std.proofs.lemmas.Grind.{common_steps}
 
 -- what stands at the place of a number is the seat of that number, if there is one
 pub place_is_seat : (seats : List SeatRecord) (i : ℕ) → AreNumbered seats → slice_get seats i ≡ seat_with i seats
@@ -19,11 +20,7 @@ found_there seats i (Some s) h read there = sym (slice_get_read seats (length se
 -- where there is no seat of a number, a change of it changes none
 none_from : (low i : ℕ) (seats : List SeatRecord) (f : SeatRecord → SeatRecord) → map (λ s. s.number) seats ≡ numbers low (length seats) → low + length seats ≤ i → map (λ s. if s.number == i then f s else s) seats ≡ seats
 none_from low i [] f h less = refl
-none_from low i (t ∷ seats) f h less =
-    let first : t.number ≡ low = cc in
-    let more : map (λ s. s.number) seats ≡ numbers (suc low) (length seats) = cc in
-    let other : (t.number == i) ≡ false = ne_eqb t.number i (λ e. absurd (omega arith)) in
-    rw other (ap (λ ts. t ∷ ts) (none_from (suc low) i seats f more (omega arith)))
+none_from low i (t ∷ seats) f h less = grind (arith, common_steps, ne_eqb, none_from (suc low) i seats f)
 
 pub none_there : (seats : List SeatRecord) (i : ℕ) (f : SeatRecord → SeatRecord) → AreNumbered seats → length seats ≤ i → map (λ s. if s.number == i then f s else s) seats ≡ seats
 none_there seats i f h less = none_from 0 i seats f h (omega arith)

@@ -23,9 +23,6 @@ still_stirred name (Tube stirred) tube seat h = elim (cases_Bool (is_same_name s
 still_stirred name (Client asker) tube seat h = refl
 still_stirred name Any tube seat h = refl
 
-now_stirred : (name : List ℕ) (stir : Stir) (seat : ℕ) → may_get (with_stirred name stir) name seat ≡ true
-now_stirred name stir seat = grind (arith, same_itself)
-
 -- what is known of each job and client after a change
 known_then : (stir stir' : Stir) (jobs : List Job) (seats : List SeatRecord) (tubes tubes' : List TubeRecord)
     → ((j : Job) → Contains jobs j → (s : SeatRecord) → IsKnown stir tubes j s → IsKnown stir' tubes' j s) → AreKnown stir jobs seats tubes → AreKnown stir' jobs seats tubes'
@@ -33,12 +30,8 @@ known_then stir stir' jobs seats tubes tubes' goes known =
     all_from_members (λ j. All (IsKnown stir' tubes' j) seats) jobs
     (λ j c. all_weaker (IsKnown stir tubes j) (IsKnown stir' tubes' j) seats (goes j c) (all_at (λ k. All (IsKnown stir tubes k) seats) jobs j known c))
 
--- a client waits for a job where it waits, the job is ready, and its tube is watched
-wanted_parts : (w r n d : Bool) → (w && (r && n && not d)) ≡ true → (w ≡ true) × (r ≡ true) × (n ≡ true) × (d ≡ false)
-wanted_parts w r n d h = grind (arith, common_steps)
-
 pub parts_of : (tubes : List TubeRecord) (j : Job) (s : SeatRecord) → is_wanted_by tubes j s ≡ true → (is_waiting s ≡ true) × (is_ready j ≡ true) × (watches j.tube s ≡ true) × (is_paused_by tubes j.tube ≡ false)
-parts_of tubes j s h = wanted_parts (is_waiting s) (is_ready j) (watches j.tube s) (is_paused_by tubes j.tube) h
+parts_of tubes j s h = grind (arith, common_steps)
 
 -- a pause that goes on leaves no job to be had
 paused_then : (stir stir' : Stir) (tubes tubes' : List TubeRecord) (j : Job) (s : SeatRecord) → (may_get stir j.tube s.number ≡ true → may_get stir' j.tube s.number ≡ true)
@@ -79,7 +72,7 @@ known_added j stir jobs seats tubes known = go (is_ready j && list_any (is_waite
     unwanted none s c wanted = grind (arith, common_steps)
 
     go : (b : Bool) → (is_ready j && list_any (is_waiter j.tube) seats) ≡ b → AreKnown (if b then with_stirred j.tube stir else stir) (with_added j jobs) seats tubes
-    go true e = grind (arith, all_added, all_always, now_stirred, known_then, still_stirred)
+    go true e = grind (arith, all_added, all_always, same_itself, known_then, still_stirred)
     go false e = all_added (λ k. All (IsKnown stir tubes k) seats) j jobs (all_from_members (IsKnown stir tubes j) seats (unwanted e)) known
 
 -- a seat is changed
@@ -165,7 +158,7 @@ known_of_change tube (PauseFor seconds moment) m stir known = go (seconds == 0) 
 
     one : (j : Job) (s : SeatRecord) → IsKnown stir m.tubes j s → IsKnown (with_stirred tube stir) after j s
     one j s k = elim (cases_Bool (is_same_name tube j.tube)) [
-      | inl same ↦ λ w. subst (λ n. may_get (with_stirred tube stir) n s.number ≡ true) (same_name tube j.tube same) (now_stirred tube stir s.number)
+      | inl same ↦ λ w. subst (λ n. may_get (with_stirred tube stir) n s.number ≡ true) (same_name tube j.tube same) (grind (arith, same_itself))
       | inr other ↦ paused_then stir (with_stirred tube stir) m.tubes after j s (still_stirred tube stir j.tube s.number) (other_paused j.tube tube (with_pause seconds moment) m (λ t. refl) other) k
     ]
 

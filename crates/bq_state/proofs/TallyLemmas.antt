@@ -16,13 +16,6 @@ pub without_is : (counts : Bool) (n rest : ℕ) → cond counts 1 0 + rest ≡ n
 without_is counts n rest e = grind (arith, common_steps)
 
 module _ (chosen passes : Job → Bool) where
-  -- whether a chosen job counts
-  counts_chosen : (j : Job) → chosen j ≡ true → cond {A = ℕ} (chosen j && passes j) 1 0 ≡ cond (passes j) 1 0
-  counts_chosen j e = rw e refl
-
-  counts_other : (j : Job) (n : ℕ) → chosen j ≡ false → cond (chosen j && passes j) 1 0 + n ≡ n
-  counts_other j n e = rw e (omega arith)
-
   -- how many of those that are chosen pass
   both_count : (jobs : List Job) → count_by passes (filter chosen jobs) ≡ count_by (λ k. chosen k && passes k) jobs
   both_count [] = refl
@@ -32,22 +25,18 @@ module _ (chosen passes : Job → Bool) where
       → count_by passes (filter chosen (with_added j jobs)) ≡ count_with (passes j) (count_by passes (filter chosen jobs))
   some_added j jobs fits e = grind (arith, common_steps, both_count, count_added)
 
-  none_added : (j : Job) (jobs : List Job) → chosen j ≡ false
-      → count_by passes (filter chosen (with_added j jobs)) ≡ count_by passes (filter chosen jobs)
-  none_added j jobs e = grind (arith, both_count, count_added)
-
   module _ (low next id : ℕ) (j : Job) (jobs : List Job) (ids : AreIdsWithin low jobs next) (found : job_with id jobs ≡ Some j) where
     some_taken : chosen j ≡ true → count_by passes (filter chosen (without id jobs)) ≡ count_without (passes j) (count_by passes (filter chosen jobs))
     some_taken e =
         let taken = count_taken (λ k. chosen k && passes k) low next id j jobs ids found in
         let a = ap (λ n. cond (passes j) 1 0 + n) (both_count (without id jobs)) in
-        let c = ap (λ n. n + count_by (λ k. chosen k && passes k) (without id jobs)) (sym (counts_chosen j e)) in
+        let c = ap (λ n. n + count_by (λ k. chosen k && passes k) (without id jobs)) (sym (rw e refl)) in
         sym (without_is (passes j) _ _ (a ∙ c ∙ taken ∙ sym (both_count jobs)))
 
     none_taken : chosen j ≡ false → count_by passes (filter chosen (without id jobs)) ≡ count_by passes (filter chosen jobs)
     none_taken e =
         let taken = count_taken (λ k. chosen k && passes k) low next id j jobs ids found in
-        both_count (without id jobs) ∙ sym (counts_other j (count_by (λ k. chosen k && passes k) (without id jobs)) e) ∙ taken ∙ sym (both_count jobs)
+        both_count (without id jobs) ∙ sym (rw e (omega arith)) ∙ taken ∙ sym (both_count jobs)
 
 -- The counts of chosen jobs, once one of them comes,
 pub tally_added : (chosen : Job → Bool) (j : Job) (jobs : List Job) → length (with_added j jobs) ≤ greatest → chosen j ≡ true
@@ -57,7 +46,7 @@ tally_added chosen j jobs fits e = grind (arith, some_added)
 -- or another one comes,
 pub tally_stays_added : (chosen : Job → Bool) (j : Job) (jobs : List Job) → chosen j ≡ false
     → tally_of (filter chosen (with_added j jobs)) ≡ tally_of (filter chosen jobs)
-tally_stays_added chosen j jobs e = grind (arith, none_added)
+tally_stays_added chosen j jobs e = grind (arith, both_count, count_added)
 
 -- one of them goes,
 pub tally_taken : (chosen : Job → Bool) (low next id : ℕ) (j : Job) (jobs : List Job) → AreIdsWithin low jobs next → job_with id jobs ≡ Some j

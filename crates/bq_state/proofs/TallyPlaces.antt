@@ -1,7 +1,7 @@
 -- The counts of tubes stand at the places of their entries.
 use Rattle.std.proofs.{Common.{◌+◌, ◌∙◌, ◌∷◌, ◌≡◌, ◌≤◌, Bool, List, Some, [], ℕ, ap, arith, false, inl, inr, length, map, refl, sym, true}, lemmas.{Bool.{cases_Bool, lt-ltb}, List.{drop-map, map-append, take-map}}}
 use Rattle.std.proofs.lemmas.Grind.{common_steps}
-use Rattle.std.specs.{Cmp.Lexicographic.bytes_decides, List.{AllByRecursion as All, insert, list_any}, Prelude.{count_by, filter, nat_lt}}
+use Rattle.std.specs.{Cmp.Lexicographic.bytes_decides, List.{AllByRecursion as All, list_any}, Prelude.{count_by, filter, nat_lt}}
 use Rattle.bq_job.specs.declared.job.Job.{Job}
 use Rattle.bq_job.specs.{beside.AreIdsWithin, machine.{TubeRecord, greatest, is_delayed, is_name_before, is_reserved, job_with}, reading.TubeName.is_same_name}
 use Rattle.bq_job.proofs.{ListLemmas.count_cons, NameOrderLemmas.not_same}
@@ -36,12 +36,6 @@ module _ (j : Job) (old new : List Job) (f : Tally → Tally)
       turned false g e = refl
       turned true g e = let back : is_same_name j.tube t.name ≡ true = (bytes_decides j.tube t.name).1 (sym ((bytes_decides t.name j.tube).0 g)) in cc
 
--- the counts of each tube, once a job comes
-pub tallies_added : (j : Job) (jobs : List Job) → length (with_added j jobs) ≤ greatest → (es : List TubeRecord) → AreInOrder es
-    → tallies_with j es (tallies_of jobs es) ≡ tallies_of (with_added j jobs) es
-tallies_added j jobs fits = followed j jobs (with_added j jobs) (tally_with j)
-    (λ t e. tally_added (λ k. is_same_name t.name k.tube) j jobs fits e) (λ t e. tally_stays_added (λ k. is_same_name t.name k.tube) j jobs e)
-
 -- or goes
 pub tallies_taken : (low next id : ℕ) (j : Job) (jobs : List Job) → AreIdsWithin low jobs next → job_with id jobs ≡ Some j → (es : List TubeRecord) → AreInOrder es
     → tallies_without j es (tallies_of jobs es) ≡ tallies_of (without id jobs) es
@@ -70,21 +64,18 @@ no_job_there name (j ∷ jobs) es none all =
       | inr e ↦ rw e (no_job_there name jobs es none all.1)
     ]
 
-inserted_tallies : (jobs : List Job) (es : List TubeRecord) (n : ℕ) (x : TubeRecord) → insert (tallies_of jobs es) n (tally_in jobs x) ≡ tallies_of jobs (insert es n x)
-inserted_tallies jobs es n x = grind (arith, take-map, drop-map, map-append)
-
 pub counted_provided : (name : List ℕ) (tally : Tally) (tallies : List Tally) (jobs : List Job) (es : List TubeRecord) → All (λ j. has_entry j.tube es ≡ true) jobs
     → AreCounted tally tallies jobs es → AreCounted tally (tallies_provided name es tallies) jobs (provided name es)
 counted_provided name tally tallies jobs es all was = record { whole = was.whole; each = ap (tallies_provided name es) was.each ∙ go (has_entry name es) refl }
   where
     go : (b : Bool) → has_entry name es ≡ b → tallies_provided name es (tallies_of jobs es) ≡ tallies_of jobs (provided name es)
     go true e = rw e refl
-    go false e = grind (arith, no_job_there name jobs es e all, inserted_tallies, provided_new name es e)
+    go false e = grind (arith, no_job_there name jobs es e all, take-map, drop-map, map-append, provided_new name es e)
 
 -- a job comes,
 pub counted_added : (j : Job) (tally : Tally) (tallies : List Tally) (jobs : List Job) (es : List TubeRecord) → length (with_added j jobs) ≤ greatest → AreInOrder es
     → AreCounted tally tallies jobs es → AreCounted (tally_with j tally) (tallies_with j es tallies) (with_added j jobs) es
-counted_added j tally tallies jobs es fits order was = grind (arith, whole_added, tallies_added)
+counted_added j tally tallies jobs es fits order was = grind (arith, whole_added, followed, tally_added, tally_stays_added)
 
 -- or goes
 pub counted_taken : (low next id : ℕ) (j : Job) (tally : Tally) (tallies : List Tally) (jobs : List Job) (es : List TubeRecord)
@@ -132,11 +123,7 @@ tally_named name jobs (t ∷ es) h =
 
 tally_missing : (name : List ℕ) (jobs : List Job) (es : List TubeRecord) → has_entry name es ≡ false → tally_at name es (tallies_of jobs es) ≡ tally_of []
 tally_missing name jobs [] h = refl
-tally_missing name jobs (t ∷ es) h =
-    elim (cases_Bool (is_same_name name t.name)) [
-      | inl e ↦ absurd (let g = rw e at h in cc)
-      | inr e ↦ rw e (tally_missing name jobs es (rw e at h))
-    ]
+tally_missing name jobs (t ∷ es) h = grind (arith, common_steps, cases_Bool, tally_missing name jobs es)
 
 -- the counts that stand at a name are those of its jobs
 pub tally_there : (name : List ℕ) (jobs : List Job) (es : List TubeRecord) → All (λ j. has_entry j.tube es ≡ true) jobs

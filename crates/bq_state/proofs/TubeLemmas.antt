@@ -94,10 +94,7 @@ first_record x (t ∷ entries) later = grind (arith, before_differs, first_recor
 comes_before : (name : List ℕ) (t : TubeRecord) (entries : List TubeRecord) → All (λ u. is_name_before t.name u.name ≡ true) entries → has_entry name entries ≡ true → is_name_before t.name name ≡ true
 comes_before name t [] later h = absurd cc
 comes_before name t (u ∷ entries) later h =
-    elim (or_cases (is_same_name name u.name) (has_entry name entries) h) [
-      | inl same ↦ let e : name ≡ u.name = same_name name u.name same in ap (λ n. is_name_before t.name n) e ∙ later.0
-      | inr more ↦ comes_before name t entries later.1 more
-    ]
+    grind (arith, common_steps, or_cases, same_name, comes_before name t entries)
 
 found_name : (name : List ℕ) (entries : List TubeRecord) → (found name entries).name ≡ name
 found_name name entries = go (counted entries)
@@ -160,13 +157,7 @@ order_filtered p (t ∷ entries) order =
 pub entry_filtered : (p : TubeRecord → Bool) (name : List ℕ) → ((t : TubeRecord) → name ≡ t.name → p t ≡ true) → (entries : List TubeRecord) → has_entry name entries ≡ true → has_entry name (filter p entries) ≡ true
 entry_filtered p name passes [] h = absurd cc
 entry_filtered p name passes (t ∷ entries) h =
-    elim (or_cases (is_same_name name t.name) (has_entry name entries) h) [
-      | inl same ↦ rw (passes t (same_name name t.name same), same) refl
-      | inr more ↦ go (p t) (entry_filtered p name passes entries more)
-    ]
-  where
-    go : (b : Bool) → has_entry name (filter p entries) ≡ true → has_entry name (if b then t ∷ filter p entries else filter p entries) ≡ true
-    go b rest = grind (arith)
+    grind (arith, common_steps, or_cases, same_name, entry_filtered p name passes entries)
 
 -- the place of a new entry
 pub placed : (x : TubeRecord) (entries : List TubeRecord) → has_entry x.name entries ≡ false → insert entries (prefix_len (λ t. is_name_before t.name x.name) entries) x ≡ with_record x entries
@@ -208,12 +199,7 @@ fresh_inserted x f (t ∷ entries) all = grind (arith, fresh_inserted x f entrie
 
 pub counted_inserted : (x : TubeRecord) → is_counted x ≡ false → (entries : List TubeRecord) → has_entry x.name entries ≡ false → counted (with_record x entries) ≡ counted entries
 counted_inserted x c [] h = rw c refl
-counted_inserted x c (t ∷ entries) h =
-    let parts = or_parts (is_same_name x.name t.name) (has_entry x.name entries) h in
-    rw parts.0 (go (is_name_before x.name t.name) (counted_inserted x c entries parts.1))
-  where
-    go : (b : Bool) → counted (with_record x entries) ≡ counted entries → counted (if b then x ∷ t ∷ entries else t ∷ with_record x entries) ≡ counted (t ∷ entries)
-    go b rest = grind (arith, common_steps)
+counted_inserted x c (t ∷ entries) h = grind (arith, common_steps, or_parts, counted_inserted x c entries)
 
 -- an inserted record is there, and the others of other names stay
 pub has_inserted : (x : TubeRecord) (entries : List TubeRecord) → has_entry x.name (with_record x entries) ≡ true
@@ -222,12 +208,7 @@ has_inserted x (t ∷ entries) = grind (arith, same_itself, has_inserted x entri
 
 pub still_has : (x : TubeRecord) (name : List ℕ) (entries : List TubeRecord) → has_entry x.name entries ≡ false → has_entry name entries ≡ true → has_entry name (with_record x entries) ≡ true
 still_has x name [] none h = absurd cc
-still_has x name (t ∷ entries) none h =
-    let parts = or_parts (is_same_name x.name t.name) (has_entry x.name entries) none in
-    rw parts.0 (go (is_name_before x.name t.name) (λ more. still_has x name entries parts.1 more))
-  where
-    go : (b : Bool) → (has_entry name entries ≡ true → has_entry name (with_record x entries) ≡ true) → has_entry name (if b then x ∷ t ∷ entries else t ∷ with_record x entries) ≡ true
-    go b rest = grind (arith)
+still_has x name (t ∷ entries) none h = grind (arith, common_steps, or_parts, still_has x name entries)
 
 pub provided_new : (name : List ℕ) (entries : List TubeRecord) → has_entry name entries ≡ false → insert entries (prefix_len (λ t. is_name_before t.name name) entries) (fresh_tube name) ≡ provided name entries
 provided_new name entries none = placed (fresh_tube name) entries none ∙ sym (ap (λ b. if b then entries else with_record (fresh_tube name) entries) none)
@@ -235,10 +216,7 @@ provided_new name entries none = placed (fresh_tube name) entries none ∙ sym (
 -- where some element passes, some are left
 pub some_left : {A : Type 0} (p : A → Bool) (xs : List A) → list_any p xs ≡ true → 0 < length (filter p xs)
 some_left p [] h = absurd cc
-some_left {A = A} p (x ∷ xs) h = go (p x) refl (λ more. some_left p xs more)
-  where
-    go : (b : Bool) → p x ≡ b → (list_any p xs ≡ true → 0 < length (filter p xs)) → 0 < length (if b then x ∷ filter p xs else filter p xs)
-    go b e rest = grind (arith, common_steps)
+some_left {A = A} p (x ∷ xs) h = grind (arith, common_steps, some_left p xs)
 
 -- The place of the first that doesn't pass, or the end, where the search for it is told.
 pub place_told : {A : Type 0} (p : A → Bool) (xs : List A) (o : Option ℕ) (r : ℕ) → r ≡ unwrap_or o (length xs) → o ≡ position (λ x. not (p x)) xs → r ≡ prefix_len p xs

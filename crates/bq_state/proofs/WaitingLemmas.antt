@@ -28,10 +28,8 @@ placed_length before x (y ∷ ys) = grind (arith, placed_length before x ys)
 -- Of two that differ one comes before the other, so it is the same which is put in first.
 pub placed_twice : {A : Type 0} {before : A → A → Bool} (order : IsStrictWeakOrder before) (a b : A) (xs : List A) → (before a b ≡ false → before b a ≡ true) → placed before a (placed before b xs) ≡ placed before b (placed before a xs)
 placed_twice {before = before} order a b [] apart = grind (arith)
-placed_twice {A = A} {before = before} order a b (x ∷ xs) apart = go (before x a) (before x b) refl refl (placed_twice order a b xs apart)
-  where
-    go : (p q : Bool) → before x a ≡ p → before x b ≡ q → placed before a (placed before b xs) ≡ placed before b (placed before a xs) → placed before a (placed before b (x ∷ xs)) ≡ placed before b (placed before a (x ∷ xs))
-    go p q e f rest = grind (arith)
+placed_twice {A = A} {before = before} order a b (x ∷ xs) apart =
+    grind (arith, common_steps, placed_twice order a b xs)
 
 -- turns of which the seats differ
 turn_apart : (a b : ℕ × ℕ) → (a.1 == b.1) ≡ false → is_turn_before a b ≡ false → is_turn_before b a ≡ true
@@ -55,20 +53,7 @@ turns_parted : (n low : ℕ) (seats : List SeatRecord) → map (λ s. s.number) 
     → turns_of seats ≡ with_turn (seat_with n seats) (turns_of (others n seats))
 turns_parted n low [] h = refl
 turns_parted n low (s ∷ seats) h =
-    let parts = heads low s seats h in
-    elim (cases_Bool (s.number == n)) [
-      | inl e ↦
-          let at : s.number ≡ n = eqb-true s.number n e in
-          let rest = all_others n (suc low) seats (let a = parts.0 in omega arith) parts.1 in
-          rw e (ap (λ ts. with_turn (Some s) (turns_of ts)) (sym rest))
-      | inr e ↦
-          let rest = turns_parted n (suc low) seats parts.1 in
-          let swap = turns_swap s (seat_with n seats) (turns_of (others n seats)) (λ t found. other t found e) in
-          rw e (ap (with_turn (Some s)) rest ∙ swap)
-    ]
-  where
-    other : (t : SeatRecord) → seat_with n seats ≡ Some t → (s.number == n) ≡ false → (s.number == t.number) ≡ false
-    other t found e = grind (arith, found_passes)
+    grind (arith, common_steps, heads, cases_Bool, eqb-true, all_others, turns_swap, found_passes, turns_parted n (suc low) seats)
 
 -- none of those others has this number
 pub all_placed : {A : Type 0} (P : A → Type 0) (before : A → A → Bool) (x : A) (xs : List A) → P x → All P xs → All P (placed before x xs)
@@ -103,17 +88,13 @@ turns_changed : (n : ℕ) (f : SeatRecord → SeatRecord) → ((s : SeatRecord) 
     → with_turn (seat_with n (map (λ s. if s.number == n then f s else s) seats)) (without_turn (seat_with n seats) (turns_of seats)) ≡ turns_of (map (λ s. if s.number == n then f s else s) seats)
 turns_changed n f keeps seats h h' =
     let new = map (λ (s : SeatRecord). if s.number == n then f s else s) seats in
-    ap (with_turn (seat_with n new)) (turns_left n seats h ∙ ap turns_of (sym (others_left n f keeps seats)))
-    ∙ sym (turns_parted n 0 new h')
+    grind (arith, common_steps, turns_left, others_left, turns_parted)
 
 -- They stand in order.
 pub rising_placed : {A : Type 0} {before : A → A → Bool} (order : IsStrictWeakOrder before) (x : A) (ys : List A) → IsRising before ys → IsRising before (placed before x ys)
 rising_placed order x [] rising = (tt, tt)
 rising_placed {before = before} order x (y ∷ ys) rising =
-    elim (cases_Bool (before y x)) [
-      | inl e ↦ rw e ((all_placed (λ z. before z y ≡ false) before x ys (order.one_way y x e) rising.0, rising_placed order x ys rising.1))
-      | inr e ↦ rw e (((e, all_weaker (λ z. before z y ≡ false) (λ z. before z x ≡ false) ys (λ z h. order.chain z y x h e) rising.0), rising))
-    ]
+    grind (arith, common_steps, cases_Bool, all_placed, all_weaker, rising_placed order x ys)
 
 rising_turns : (seats : List SeatRecord) → IsRising is_turn_before (turns_of seats)
 rising_turns [] = tt
@@ -131,10 +112,8 @@ rising_ends : {A : Type 0} {before : A → A → Bool} (order : IsStrictWeakOrde
 rising_ends order t [] k l rising read ends e = absurd cc
 rising_ends {before = before} order t (x ∷ []) zero l rising read ends e = grind (arith, common_steps)
 rising_ends order t (x ∷ y ∷ ys) zero l rising read ends e = absurd (omega (arith, ends))
-rising_ends {before = before} order t (x ∷ xs) (suc k) l rising read ends e = go (before x t) refl (rising_ends order t xs k l rising.1 read (omega (arith, ends)) e)
-  where
-    go : (b : Bool) → before x t ≡ b → prefix_len (λ u. before u t) xs ≡ length xs → cond b (1 + prefix_len (λ u. before u t) xs) 0 ≡ suc (length xs)
-    go b f rest = grind (arith, all_read)
+rising_ends {before = before} order t (x ∷ xs) (suc k) l rising read ends e =
+    grind (arith, common_steps, all_read, rising_ends order t xs k l)
 
 pub all_before : (t : ℕ × ℕ) (turns : List (ℕ × ℕ)) → IsRising is_turn_before turns → is_none_or_before t (slice_get turns (length turns - 1)) ≡ true → prefix_len (λ u. is_turn_before u t) turns ≡ length turns
 all_before t [] rising ends = refl

@@ -43,10 +43,7 @@ read_in_turn seats h = all_in_turn (λ s. slice_get seats s.number ≡ Some s) s
 -- a fold in which it is the same what comes first
 fold_placed : {A B : Type 0} (f : B → A → B) (before : A → A → Bool) (x : A) (ys : List A) → All (λ y. (b : B) → f (f b x) y ≡ f (f b y) x) ys → (b : B) → fold f b (placed before x ys) ≡ fold f (f b x) ys
 fold_placed f before x [] all b = refl
-fold_placed {A = A} {B = B} f before x (y ∷ ys) all b = go (before y x) (fold_placed f before x ys all.1 (f b y))
-  where
-    go : (c : Bool) → fold f (f b y) (placed before x ys) ≡ fold f (f (f b y) x) ys → fold f b (if c then y ∷ placed before x ys else x ∷ y ∷ ys) ≡ fold f (f (f b x) y) ys
-    go c rest = grind (arith, common_steps)
+fold_placed {A = A} {B = B} f before x (y ∷ ys) all b = grind (arith, common_steps, fold_placed f before x ys)
 
 fold_in_turn : {B : Type 0} (f : B → SeatRecord → B) → ((s : SeatRecord) → is_waiting s ≡ false → (b : B) → f b s ≡ b) → ((s t : SeatRecord) → (s.number == t.number) ≡ false → (b : B) → f (f b s) t ≡ f (f b t) s)
     → (low : ℕ) (seats : List SeatRecord) → map (λ s. s.number) seats ≡ numbers low (length seats) → (b : B) → fold f b (in_turn seats) ≡ fold f b seats
@@ -136,18 +133,13 @@ pub first_turn : (q : ℕ × ℕ → Bool) (p : SeatRecord → Bool) (seats : Li
     → find q (turns_of seats) ≡ option_map turn_of (first_of p is_wait_before seats)
 first_turn q p seats h waits agrees =
     let there = all_in_turn (λ s. q (turn_of s) ≡ p s) seats (all_weaker (λ s. slice_get seats s.number ≡ Some s) (λ s. is_waiting s ≡ true → q (turn_of s) ≡ p s) seats (λ s read waiting. agrees s waiting read) (read_each seats h)) in
-    let skips = λ (s : SeatRecord) (e : is_waiting s ≡ false) (b : Option SeatRecord). better_chosen p is_wait_before b s ∙ ap (λ c. chosen is_wait_before b (if c then Some s else None)) (waits s e) ∙ no_other is_wait_before b in
     grind (arith, common_steps, turns_in, find_mapped, first_rising, rising_in_turn, fold_in_turn, better_swaps)
-
--- what stands at the place of the first that passes
-pub found_at : {A : Type 0} (q : A → Bool) (xs : List A) (i : ℕ) → position q xs ≡ Some i → slice_get xs i ≡ find q xs
-found_at q xs i h = grind (arith, find_at)
 
 pub none_at : {A : Type 0} (q : A → Bool) (xs : List A) → position q xs ≡ None → find q xs ≡ None
 none_at q xs h = grind (arith, find_at, slice_get_past)
 
 pub item_found : {A : Type 0} (q : A → Bool) (xs : List A) → item_at xs (position q xs) ≡ find q xs
-item_found q xs = grind (arith, none_at, found_at)
+item_found q xs = grind (arith, none_at, find_at)
 
 pub number_of_turn : (o : Option SeatRecord) → option_map (λ t. t.1) (option_map turn_of o) ≡ option_map (λ s. s.number) o
 number_of_turn o = grind (arith, common_steps)

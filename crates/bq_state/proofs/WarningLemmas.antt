@@ -1,5 +1,5 @@
 -- What is known of the clients that wait while they hold a job.
-use Rattle.std.proofs.Common.{◌-◌, ◌==◌, ◌∙◌, ◌∷◌, ◌≡◌, ◌≤◌, if◌then◌else◌, Bool, List, None, Option, Some, [], ℕ, ap, arith, false, map, refl, set, slice_get, sym, true}
+use Rattle.std.proofs.Common.{◌-◌, ◌==◌, ◌∙◌, ◌∷◌, ◌≡◌, ◌≤◌, if◌then◌else◌, Bool, List, None, Option, Some, [], ℕ, ap, arith, false, map, refl, set, slice_get, true}
 use Rattle.std.proofs.lemmas.{Bool.and_parts, Grind.common_steps}
 use Rattle.std.specs.{List.{AllByRecursion as All, Contains, list_any}, Prelude.{count_by, fold, is_some, length, option_map}}
 use Rattle.bq_job.specs.declared.job.{Job.Job, JobState.JobState}
@@ -11,6 +11,7 @@ use Rattle.bq_state.specs.declared.{known.Warns.{Warns, TheVariants.{Client, Nob
 use Rattle.bq_state.specs.{Dues.{earlier_of_both, warning_due, warning_due_at, with_warning_due}, SeatChanges.{AreNumbered, seat_changed, seat_changed_at}}
 use Rattle.bq_state.specs.Warnings.{AreWarned, IsWarned, has_waiting_holder, holds_in_wait, is_waiting_there, may_hold, may_warn, warned_by_seat, warned_if_due, with_holder, with_holder_of}
 use Rattle.bq_state.proofs.PartsLemmas.{all_added, all_read, all_set}
+use Rattle.std.proofs.lemmas.Bool.{cases_Bool}
 
 -- beside no moment
 pub no_other : (a : Option ℕ) → earlier_of_both a None ≡ a
@@ -19,9 +20,6 @@ no_other a = grind (arith, common_steps)
 -- more may be known
 abbrev AtLeast : Warns → Warns → Type 0
 AtLeast warns more = (number : ℕ) → may_warn warns number ≡ true → may_warn more number ≡ true
-
-warned_more : (warns more : Warns) → AtLeast warns more → (jobs : List Job) (seats : List SeatRecord) → AreWarned warns jobs seats → AreWarned more jobs seats
-warned_more warns more at_least jobs seats known = grind (arith, all_weaker)
 
 -- that one more client may hold a job
 more_if : (b : Bool) (state : JobState) (warns : Warns) → AtLeast warns (if b then with_holder_of state warns else warns)
@@ -60,7 +58,7 @@ holder_found j seats s numbered here h = go j.state (parts.1)
 pub warned_added : (j : Job) (warns : Warns) (jobs : List Job) (seats : List SeatRecord) → AreNumbered seats → AreWarned warns jobs seats
     → AreWarned (if has_waiting_holder j.state seats then with_holder_of j.state warns else warns) (with_added j jobs) seats
 warned_added j warns jobs seats numbered known =
-    grind (arith, all_added, all_from_members, known_of, holder_found, and_parts, warned_more, more_if)
+    grind (arith, all_added, all_from_members, known_of, holder_found, and_parts, all_weaker, more_if)
 
 -- a seat is changed
 pub warned_of_seat : (number : ℕ) (what : SeatChange) (warns : Warns) (jobs : List Job) (seats : List SeatRecord) → may_hold what number warns jobs ≡ true → AreWarned warns jobs seats
@@ -83,14 +81,9 @@ all_none : {A : Type 0} (f : A → Option ℕ) (best : Option ℕ) (xs : List A)
 all_none f best [] h = (h, tt)
 all_none f best (x ∷ xs) h = grind (arith, all_none f (earlier_of_both best (f x)) xs h)
 
--- who holds no job while it waits is never told
-unheld : (jobs : List Job) (s : SeatRecord) → All (λ j. holds_in_wait j s ≡ false) jobs → warning_due jobs s ≡ None
-unheld jobs s none =
-    grind (arith, first_of_none_passes (is_held_by s.number) is_lease_before jobs, list_any_not, all_weaker)
-
 -- of a client that can't hold one while it waits, by what is known
 not_known : (warns : Warns) (jobs : List Job) (s : SeatRecord) → may_warn warns s.number ≡ false → All (λ j. IsWarned warns j s) jobs → warning_due jobs s ≡ None
-not_known warns jobs s e all = unheld jobs s (all_weaker (λ j. IsWarned warns j s) (λ j. holds_in_wait j s ≡ false) jobs (λ j k. go (holds_in_wait j s) k) all)
+not_known warns jobs s e all = grind (arith, first_of_none_passes (is_held_by s.number) is_lease_before jobs, list_any_not, all_weaker)
   where
     go : (b : Bool) → (b ≡ true → may_warn warns s.number ≡ true) → b ≡ false
     go b k = grind (arith, common_steps)
@@ -111,9 +104,7 @@ warned_by_due warns jobs seats known = go (fold (with_warning_due jobs) None sea
         unmapped o h = grind (arith, common_steps)
 
     quiet : (s : SeatRecord) → warning_due jobs s ≡ None → (j : Job) → Contains jobs j → IsWarned Nobody j s
-    quiet s none j c h =
-        let parts = and_parts (is_waiting s) (is_held_by s.number j) h in
-        sym (all_at (λ k. is_held_by s.number k ≡ false) jobs j (held_by_none s none parts.0) c) ∙ parts.1
+    quiet s none j c h = grind (arith, common_steps, cases_Bool, and_parts, all_at, held_by_none)
 
     go : (o : Option ℕ) → fold (with_warning_due jobs) None seats ≡ o → AreWarned (warned_if_due (is_some o) warns) jobs seats
     go (Some due) e = known
@@ -133,22 +124,13 @@ found_already : (holder : ℕ) (jobs : List Job) (t : SeatRecord) (seats : List 
     → fold (with_warning_due jobs) (warning_due jobs t) seats ≡ warning_due jobs t
 found_already holder jobs t [] known only = refl
 found_already holder jobs t (s ∷ seats) known only =
-    grind (
-      arith,
-      not_known,
-      of_first,
-      found_already holder jobs t seats (of_rest (Client holder) jobs s seats known) only.1,
-    )
+    grind (arith, common_steps, not_known, of_first, of_rest, found_already holder jobs t seats)
 
 among : (holder : ℕ) (jobs : List Job) (o : Option SeatRecord) (seats : List SeatRecord) → seat_with holder seats ≡ o → AreWarned (Client holder) jobs seats
     → ((t : SeatRecord) → o ≡ Some t → All (λ u. u.number ≡ holder → u ≡ t) seats) → fold (with_warning_due jobs) None seats ≡ warning_due_at jobs o
 among holder jobs o [] e known only = ap (warning_due_at jobs) e
 among holder jobs o (s ∷ seats) e known only =
-    go (s.number == holder) refl e (λ i. among holder jobs o seats i (of_rest (Client holder) jobs s seats known) (λ t j. (only t j).1))
-  where
-    go : (b : Bool) → (s.number == holder) ≡ b → (if b then Some s else seat_with holder seats) ≡ o
-        → (seat_with holder seats ≡ o → fold (with_warning_due jobs) None seats ≡ warning_due_at jobs o) → fold (with_warning_due jobs) (warning_due jobs s) seats ≡ warning_due_at jobs o
-    go b f i rest = grind (arith, found_already, of_rest, not_known, of_first)
+    grind (arith, common_steps, of_rest, found_already, not_known, of_first, among holder jobs o seats)
 
 pub one_due : (holder : ℕ) (jobs : List Job) (seats : List SeatRecord) → AreNumbered seats → AreWarned (Client holder) jobs seats → fold (with_warning_due jobs) None seats ≡ warning_due_at jobs (seat_with holder seats)
 one_due holder jobs seats numbered known = grind (arith, among, only_seat)

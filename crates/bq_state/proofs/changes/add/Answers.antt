@@ -14,15 +14,6 @@ invariant_of-state c =
     let ids = added_within 1 st.next_id j st.jobs.jobs c.requires.given.0 c.requires.given.1 c.requires.free was.ids in
     let fits = few_jobs st.next_id (with_added j st.jobs.jobs) ids (subst (λ jobs. AreIdsWithin 0 jobs (2 ^ 64)) c.add.ensures.jobs c.add.ensures.ordered) in
     let known = c.add_job.ensures ∙ (λ i. with_job j (c.is_wanted-is_wanted.ensures i) (c.has_waiting_holder-waits.ensures i) st.known) in
-    record {
-      sound =
-          rw (known, c.add_job-2.ensures, c.add.ensures.jobs)
-          (record {
-            entries = entries_of_added j st.jobs.jobs st.seats.items st.tubes.entries c.requires.entry was.entries;
-            numbered = was.numbered;
-            next = was.next;
-            ids = ids;
-            waiting = was.waiting;
-            known = so_with_job st j fits;
-          });
-    }
+    let entries = entries_of_added j st.jobs.jobs st.seats.items st.tubes.entries c.requires.entry was.entries in
+    let so = so_with_job st j fits in
+    record { sound = rw (known, c.add_job-2.ensures, c.add.ensures.jobs) assumption }

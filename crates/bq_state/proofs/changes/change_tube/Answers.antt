@@ -11,15 +11,6 @@ invariant_of-state c =
     let st = c.args.state.now in
     let was = c.args.state.now.sound in
     let known = c.change_tube.ensures ∙ ap (λ (k : KeptTubes). with_tube_changed c.args.tube.now c.args.what k.entries st.known) c.change.ensures in
-    record {
-      sound =
-          rw (known, c.change.ensures)
-          (record {
-            entries = entries_of_tube c.args.tube.now c.args.what st.jobs.jobs st.seats.items st.tubes.entries was.entries;
-            numbered = was.numbered;
-            next = was.next;
-            ids = was.ids;
-            waiting = was.waiting;
-            known = so_with_tube st c.args.tube.now c.args.what c.requires.entry;
-          });
-    }
+    let entries = entries_of_tube c.args.tube.now c.args.what st.jobs.jobs st.seats.items st.tubes.entries was.entries in
+    let so = so_with_tube st c.args.tube.now c.args.what c.requires.entry in
+    record { sound = rw (known, c.change.ensures) assumption }

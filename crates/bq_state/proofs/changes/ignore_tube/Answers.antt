@@ -30,18 +30,11 @@ invariant_of-state c =
     let few : length st.seats.items ≤ greatest = omega (arith, c.len.ensures) in
     let fewer = λ (other : List ℕ). not (is_same_name name other) in
     let tubes = c.recount.ensures ∙ ap (λ share. with_crowds_at name (recounted Goes share) st.tubes) c.at-share.ensures in
-    record {
-      sound =
-          rw (c.lose.ensures, tubes, c.ignore.ensures.ignored t here)
-          (record {
-            entries = watching_fewer fewer n t st.jobs.jobs st.seats.items st.tubes.entries here was.entries;
-            numbered = watching_numbered (filter fewer t.watched) n t st.seats.items here was.numbered;
-            next = was.next;
-            ids = was.ids;
-            waiting = in_turn_watching (filter fewer t.watched) n t st.waiting st.seats.items here was.numbered was.waiting;
-            known = so_ignoring st name n t here few;
-          });
-    }
+    let entries = watching_fewer fewer n t st.jobs.jobs st.seats.items st.tubes.entries here was.entries in
+    let numbered = watching_numbered (filter fewer t.watched) n t st.seats.items here was.numbered in
+    let waiting = in_turn_watching (filter fewer t.watched) n t st.waiting st.seats.items here was.numbered was.waiting in
+    let known = so_ignoring st name n t here few in
+    record { sound = rw (c.lose.ensures, tubes, c.ignore.ensures.ignored t here) assumption }
 
 pub returns-else-from-len-clause-after : goal.returns-else-from-len-clause-after
 returns-else-from-len-clause-after c s found = grind (arith, common_steps, slice_get_within, seat_there)

@@ -13,18 +13,9 @@ pub invariant_of-state : goal.invariant_of-state
 invariant_of-state c =
     let st = c.args.state.now in
     let was = c.args.state.now.sound in
-    record {
-      sound =
-          rw (c.lose_if.ensures, c.in-Ok.ensures.told, c.in-Ok.ensures.after)
-          (record {
-            entries = entries_provided c.args.tube.now st.jobs.jobs st.seats.items st.tubes.entries was.entries;
-            numbered = was.numbered;
-            next = was.next;
-            ids = was.ids;
-            waiting = was.waiting;
-            known = so_provided st c.args.tube.now;
-          });
-    }
+    let entries = entries_provided c.args.tube.now st.jobs.jobs st.seats.items st.tubes.entries was.entries in
+    let known = so_provided st c.args.tube.now in
+    record { sound = rw (c.lose_if.ensures, c.in-Ok.ensures.told, c.in-Ok.ensures.after) assumption }
 
 pub returns-in-Err-clause-after : goal.returns-in-Err-clause-after
 returns-in-Err-clause-after c = ap (λ tubes. record (machine_of c.args.state.now) { tubes = counted tubes }) (ap (λ (k : KeptTubes). k.entries) c.in-Err.ensures.after)

@@ -45,15 +45,8 @@ invariant_of-state c =
     let few : length mid.seats.items ≤ greatest = omega (arith, c.len.ensures) in
     let tubes = c.recount.ensures ∙ ap (λ what. with_crowds_at name (recounted Comes what) mid.tubes) share in
     let stir = c.stir_all_if.ensures ∙ ap (λ (s : Share). if s.waiting then with_anything mid.known.stir else mid.known.stir) share in
-    record {
-      sound =
-          rw (stir, tubes, c.in-Ok.ensures.watched t here)
-          (record {
-            entries = watching_more name n t mid.jobs.jobs mid.seats.items mid.tubes.entries here p.entry was.entries;
-            numbered = watching_numbered (t.watched ++ name ∷ []) n t mid.seats.items here was.numbered;
-            next = was.next;
-            ids = was.ids;
-            waiting = in_turn_watching (t.watched ++ name ∷ []) n t mid.waiting mid.seats.items here was.numbered was.waiting;
-            known = so_watching mid name n t here few fresh;
-          });
-    }
+    let entries = watching_more name n t mid.jobs.jobs mid.seats.items mid.tubes.entries here p.entry was.entries in
+    let numbered = watching_numbered (t.watched ++ name ∷ []) n t mid.seats.items here was.numbered in
+    let waiting = in_turn_watching (t.watched ++ name ∷ []) n t mid.waiting mid.seats.items here was.numbered was.waiting in
+    let known = so_watching mid name n t here few fresh in
+    record { sound = rw (stir, tubes, c.in-Ok.ensures.watched t here) assumption }
