@@ -5,7 +5,7 @@ use Rattle.std.proofs.lemmas.Grind.{common_steps}
 use Rattle.std.specs.{List.{AllByRecursion as All, Contains, list_any}, Prelude.{◌==◌, filter, take}}
 use Rattle.bq_job.specs.machine.{delayed_by, in_order, is_buried, is_buried_before, is_buried_in, is_delayed}
 use Rattle.bq_job.specs.machine.{is_held_by, is_ready, is_reserved, job_with, kickable, kicked_first, later}
-use Rattle.bq_job.specs.{beside.AreIdsWithin, laws.{Happening, change, disturbs, given_up, named}}
+use Rattle.bq_job.specs.{beside.AreIdsWithin, laws.{change, disturbs, given_up}}
 use Rattle.bq_job.specs.{machine.put_in_order, reading.TubeName.is_same_name, Types.{Job, JobState, Step}}
 use Rattle.bq_job.specs.declared.job.JobState.TheVariants as states
 use Rattle.bq_job.proofs.{ChangeLemmas.{Becomes, becomes_itself}, ListLemmas.{all_from_members, all_of_filter}}
@@ -27,9 +27,6 @@ told_if_given_up what id before after held free told = grind (arith, common_step
 
 pub itself_told : (id : ℕ) → ((id == id) || false) ≡ true
 itself_told id = or_left (id == id) false (eq-eqb id id refl)
-
-pub told_by_name : (other id : ℕ) (h : Happening) → other ≡ id → disturbs id h ≡ true → list_any (disturbs id) (named other id h) ≡ true
-told_by_name other id h e d = rw (eq-eqb other id e) (or_left (disturbs id h) false d)
 
 -- what holds of all holds of all in order, and of the first of them
 all_put_in_order : (P : Job → Type 0) (before : Job → Job → Bool) (j : Job) (jobs : List Job) → P j → All P jobs → All P (put_in_order before j jobs)

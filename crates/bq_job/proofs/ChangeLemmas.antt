@@ -79,8 +79,7 @@ changed_fate what before after f id (Some j) e g becomes =
     let found = found_job id before j e in
     let b = becomes j found.1 in
     let here : job_with j.id after ≡ Some (f j) = subst (λ n. job_with n after ≡ Some (f j)) (sym found.0) g in
-    let disturbed : list_any (disturbs j.id) (change what j.id j.state (f j).state) ≡ true → list_any (disturbs id) (changes what before after) ≡ true =
-    λ h. subst (λ n. list_any (disturbs n) (changes what before after) ≡ true) found.0 (grind (arith, common_steps, list_any-append, or_left, any_in_parts, list_any_with)) in
+    let disturbed : list_any (disturbs j.id) (change what j.id j.state (f j).state) ≡ true → list_any (disturbs id) (changes what before after) ≡ true = grind (arith, common_steps, list_any-append, or_left, any_in_parts, list_any_with) in
     record {
       same = b.id;
       tube = b.tube;

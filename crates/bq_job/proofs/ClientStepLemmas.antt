@@ -1,9 +1,9 @@
 -- What a step gives to one client: to the one that takes it, and to every other.
-use Rattle.std.proofs.Common.{ℕ, ◌≡◌, ◌<◌, ◌+◌, Bool, true, false, ◌&&◌, ◌||◌, cond, List, [], ◌∷◌, ◌++◌, map, length, length-append, append_assoc, arith, refl, sym, ap, ◌∙◌, subst, inl, inr, Option, Some, None}
-use Rattle.std.proofs.lemmas.{Bool.{and_parts, and_right, both_ways, cases_Bool, cond_both}, Grind.common_steps}
+use Rattle.std.proofs.Common.{ℕ, ◌≡◌, ◌<◌, ◌+◌, Bool, true, false, ◌&&◌, ◌||◌, List, [], ◌∷◌, ◌++◌, map, length, length-append, append_assoc, arith, refl, sym, ap, ◌∙◌, subst, inl, inr, Option, Some, None}
+use Rattle.std.proofs.lemmas.{Bool.{and_parts, both_ways, cases_Bool, cond_both}, Grind.common_steps}
 use Rattle.std.specs.{List.AllByRecursion as All, Prelude.{◌==◌, IsTrue}}
 use Rattle.bq_job.specs.machine.{Chain, Effect, GivenAnswer, IsStep, Machine.Machine, Memory, Outcome, SeatRecord}
-use Rattle.bq_job.specs.machine.{at_found, at_moment, close_effect, connect_effect, effect, empty_seat, end_effect, ends_waiting}
+use Rattle.bq_job.specs.machine.{at_found, at_moment, effect, empty_seat, end_effect, ends_waiting}
 use Rattle.bq_job.specs.machine.{forgetting, is_connected_at, is_deadline_soon, is_possible}
 use Rattle.bq_job.specs.machine.{is_until_over, is_wait_before, is_waiting, seat_with, silent}
 use Rattle.bq_job.specs.beside.{GetsAnswer, GetsAtMost, GetsClosed, GetsWhatWaits, GivesClient, IsLawful, owing}
@@ -60,9 +60,6 @@ end_connects client m (Some s) =
     cond_both s.connected (silent (with_seat s.number with_end m)) (silent m) (λ e. connected_in client (e.machine).seats ≡ connected_in client m.seats)
     (λ e. changed_quiet client s.number with_end (λ t. t.connected) m.seats (λ t. refl) (λ t. refl)) (λ e. refl)
 
-none_waited : (n : ℕ) (b : Bool) → n + one_for b ≡ 0 → (n ≡ 0) × (b ≡ false)
-none_waited n b h = grind (arith, common_steps, cases_Bool)
-
 no_length : (xs : List Answer) → length xs ≡ 0 → xs ≡ []
 no_length xs h = grind (arith, common_steps, cases_Bool)
 
@@ -91,10 +88,9 @@ gives_connect first last seat given h there p c =
     let f = found_before first last seat steps.Connect given h there p in
     let s = f.client in
     let waits_first : waits_in seat first.seats ≡ false = unconnected_waits_not seat first.seats (all_pass is_open_wait first.seats h.waits) c in
-    let begin = none_waited (length (answers_to seat p.early)) (waits_in seat m.seats) (p.comes.count ∙ ap one_for waits_first) in
+    let begin : ((length (answers_to seat p.early)) ≡ 0) × ((waits_in seat m.seats) ≡ false) = grind (arith, common_steps, cases_Bool) in
     let gone : s.connected ≡ false = sym f.connected ∙ p.comes.connected ∙ c in
-    let effect_is : effect m seat steps.Connect ≡ silent (after_connect m s.number) =
-    ap (at_found connect_effect m) f.found ∙ ap (λ b. cond b (silent m) (silent (after_connect m s.number))) gone in
+    let effect_is : effect m seat steps.Connect ≡ silent (after_connect m s.number) = grind (arith, common_steps) in
     let e : acted p.memory m seat steps.Connect ≡ silent (after_connect m s.number) =
     (grind (arith, common_steps, both_ways, and_parts)) ∙ effect_is in
     let goes : Passes seat (changed s.number seated m.seats) last.seats p.late = subst (λ (x : Effect). Passes seat (x.machine).seats last.seats p.late) e p.goes in
@@ -102,15 +98,15 @@ gives_connect first last seat given h there p c =
     subst (λ n. waits_in n (changed s.number seated m.seats) ≡ false) f.number (changed_none s.number seated is_waiting m.seats (λ t. refl)) in
     let connected_after : connected_in seat (changed s.number seated m.seats) ≡ true =
     subst (λ n. connected_in n (changed s.number seated m.seats) ≡ true) f.number (changed_some seated (λ t. t.connected) m.seats s f.there (λ t. refl) (λ t. refl)) in
-    grind (arith, common_steps, no_length, none_waited, answers_of_parts)
+    grind (arith, common_steps, no_length, answers_of_parts)
 
 gives_answer : (first last : Machine) (seat : ℕ) (request : Request) (given : List GivenAnswer) → IsLawful first → seat < first.settings.seats → Parts seat first last seat (steps.Ask request) given → connected_in seat first.seats ≡ true → owing seat first ≡ 0 → GetsAnswer first last seat request (answers_to seat given)
 gives_answer first last seat request given h there p c none =
     let m = p.before in
     let f = found_before first last seat (steps.Ask request) given h there p in
-    let begin = none_waited (length (answers_to seat p.early)) (waits_in seat m.seats) (p.comes.count ∙ none) in
+    let begin : ((length (answers_to seat p.early)) ≡ 0) × ((waits_in seat m.seats) ≡ false) = grind (arith, common_steps, cases_Bool) in
     let reply = replies_acted p.memory m seat request begin.1 p.possible (replies_effect m seat request f (p.comes.connected ∙ c) begin.1) in
-    grind (arith, common_steps, answers_of_parts, no_length, none_waited, unclosed_append)
+    grind (arith, common_steps, answers_of_parts, no_length, unclosed_append)
 
 gives_closed : (first last : Machine) (seat : ℕ) (given : List GivenAnswer) → IsLawful first → seat < first.settings.seats → Parts seat first last seat steps.Close given → connected_in seat first.seats ≡ true → GetsClosed first last seat (answers_to seat given)
 gives_closed first last seat given h there p c =
@@ -118,8 +114,7 @@ gives_closed first last seat given h there p c =
     let f = found_before first last seat steps.Close given h there p in
     let s = f.client in
     let here : s.connected ≡ true = sym f.connected ∙ p.comes.connected ∙ c in
-    let effect_is : effect m seat steps.Close ≡ telling answers.Closed (after_close m s.number) =
-    ap (at_found close_effect m) f.found ∙ ap (λ b. cond b (telling answers.Closed (after_close m s.number)) (silent m)) here in
+    let effect_is : effect m seat steps.Close ≡ telling answers.Closed (after_close m s.number) = grind (arith, common_steps) in
     let e : acted p.memory m seat steps.Close ≡ telling answers.Closed (after_close m s.number) =
     (grind (arith, common_steps, both_ways, and_parts)) ∙ effect_is in
     let emptied : SeatRecord → SeatRecord = λ s. empty_seat s.number in
@@ -146,8 +141,7 @@ gives_end first last seat given h i there p c =
     let s = f.client in
     let here : s.connected ≡ true = sym f.connected ∙ p.comes.connected ∙ c in
     let effect_is : effect m seat steps.End ≡ silent (with_seat s.number with_end m) = grind (arith, common_steps) in
-    let e : acted p.memory m seat steps.End ≡ silent (with_seat s.number with_end m) =
-    (grind (arith, common_steps, both_ways, and_parts)) ∙ effect_is in
+    let e : acted p.memory m seat steps.End ≡ silent (with_seat s.number with_end m) = grind (arith, common_steps, both_ways, and_parts) in
     let goes : Passes seat (changed s.number with_end m.seats) last.seats p.late = subst (λ (x : Effect). Passes seat (x.machine).seats last.seats p.late) e p.goes in
     let ended_after : ended_in seat (changed s.number with_end m.seats) ≡ true =
     subst (λ n. ended_in n (changed s.number with_end m.seats) ≡ true) f.number (changed_some with_end (λ t. t.ended) m.seats s f.there (λ t. refl) (λ t. refl)) in
@@ -177,9 +171,6 @@ step_gives_client first last at seat steps.Tick outcome given h there s = tick_g
 step_gives_client first last at seat steps.Gone outcome given h there s =
     gets_quiet seat first last seat steps.Gone given (parts_of seat first last at seat steps.Gone outcome given s) refl (λ m. refl) (λ m. refl) (λ m. refl)
 
-asks_in_vain : (m : Machine) (seat : ℕ) (request : Request) (f : Found seat m.seats) → waits_in seat m.seats ≡ true → effect m seat (steps.Ask request) ≡ silent m
-asks_in_vain m seat request f w = grind (arith, common_steps, and_right)
-
 -- A connected client that asks, whether it waits or not.
 pub asks_at_most : (first last : Machine) (at seat : ℕ) (request : Request) (outcome : Outcome) (given : List GivenAnswer) → IsLawful first → seat < first.settings.seats → is_connected_at seat first ≡ true → IsStep first at seat (steps.Ask request) outcome given last → GetsAtMost first last seat request (answers_to seat given)
 asks_at_most first last at seat request outcome given h there c step =
@@ -189,7 +180,7 @@ asks_at_most first last at seat request outcome given h there c step =
     let o = (acted p.memory m seat (steps.Ask request)).answer in
     let all : answers_to seat given ≡ answers_to seat p.early ++ (told o ++ answers_to seat p.late) = answers_of_parts seat o p.early p.late given p.given_is in
     elim (cases_Bool (waits_in seat m.seats)) [
-      | inl w ↦ grind (arith, common_steps, asks_in_vain, length-append, unclosed_append)
+      | inl w ↦ grind (arith, common_steps, length-append, unclosed_append)
       | inr w ↦
           let reply = replies_acted p.memory m seat request w p.possible (replies_effect m seat request f (p.comes.connected ∙ c) w) in
           let before : one_for (waits_in seat m.seats) ≡ 0 = ap one_for w in

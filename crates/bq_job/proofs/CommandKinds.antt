@@ -12,7 +12,7 @@ use Rattle.bq_job.specs.{promise.answers_wanted, reading.TubeName.is_same_name, 
 use Rattle.bq_job.specs.declared.answer.Answer.TheVariants as answers
 use Rattle.bq_job.specs.declared.request.Request.TheVariants as requests
 use Rattle.bq_job.specs.declared.step.Step.TheVariants as steps
-use Rattle.bq_job.proofs.BecomeLemmas.{IsAside, all_of_take, chosen_not_held, free_by_delay, held_not_ready, kickable_aside, one_becomes, put_aside_not_held, told_by_name, told_if_given_up}
+use Rattle.bq_job.proofs.BecomeLemmas.{IsAside, all_of_take, chosen_not_held, free_by_delay, held_not_ready, kickable_aside, one_becomes, put_aside_not_held, told_if_given_up}
 use Rattle.bq_job.proofs.EffectKinds.{IsFreeOrOwn, Kind, SaysDone, adds, changes_jobs, changes_seat, changes_tube, deletes, is_common, passes, tells, waits}
 use Rattle.bq_job.proofs.{ChangeLemmas.{Becomes, becomes_itself}, LookupLemmas.{found_job, job_found}}
 use Rattle.bq_job.proofs.WatchedLemmas.{none_twice_filter, watched_still}
@@ -38,14 +38,14 @@ reserve_job_kind id m s =
     one_changes (requests.ReserveJob id) m s (answers.Reserved j.id j.body) id (reserved_by m.moment s.number) m.burials j e
     (record { wanted = refl; unclosed = refl; done = refl; own = inr (id, j.body, refl, ap (λ n. answers.Reserved n j.body) (found_job id m.jobs j e).0) })
     (λ h. h) (λ k. refl) (λ k. inr (eq-eqb s.number s.number refl))
-    (grind (arith, common_steps, told_by_name, found_job, eq-eqb)))
+    (grind (arith, common_steps, found_job, eq-eqb)))
 
 delete_kind : (id : ℕ) (m : Machine) (s : SeatRecord) → Kind m s (requests.Delete id) (asked (requests.Delete id) m s)
 delete_kind id m s = on_one (requests.Delete id) id (is_free_for s) (λ j. telling answers.Deleted (after_delete m j)) m s refl (λ j e p. deletes id j refl e p)
 
 release_kind : (id pri delay : ℕ) (m : Machine) (s : SeatRecord) → Kind m s (requests.Release id pri delay) (asked (requests.Release id pri delay) m s)
 release_kind id pri delay m s =
-    grind (arith, common_steps, on_one, one_changes, says, free_by_delay, held_not_ready, told_if_given_up, told_by_name, found_job, eq-eqb)
+    grind (arith, common_steps, on_one, one_changes, says, free_by_delay, held_not_ready, told_if_given_up, found_job, eq-eqb)
 
 kick_kind : (bound : ℕ) (m : Machine) (s : SeatRecord) → Kind m s (requests.Kick bound) (asked (requests.Kick bound) m s)
 kick_kind bound m s =
@@ -88,7 +88,7 @@ kind_of (requests.ReserveWithTimeout seconds) m s = waits (Some (later m.moment 
 kind_of (requests.ReserveJob id) m s = reserve_job_kind id m s
 kind_of (requests.Delete id) m s = delete_kind id m s
 kind_of (requests.Release id pri delay) m s = release_kind id pri delay m s
-kind_of (requests.Bury id pri) m s = grind (arith, common_steps, on_one, one_changes, says, held_not_ready, told_if_given_up, told_by_name, found_job, eq-eqb)
+kind_of (requests.Bury id pri) m s = grind (arith, common_steps, on_one, one_changes, says, held_not_ready, told_if_given_up, found_job, eq-eqb)
 kind_of (requests.Touch id) m s = grind (arith, common_steps, on_one, one_changes, says, eq-eqb, held_not_ready)
 kind_of (requests.Kick bound) m s = kick_kind bound m s
 kind_of (requests.KickJob id) m s = kick_job_kind id m s

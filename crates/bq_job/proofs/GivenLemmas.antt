@@ -79,9 +79,6 @@ ends_after most now all unclosed few is r = record {
   goes = r.goes;
 }
 
-still_few : (now owed before more : ℕ) → now + owed ≤ before → now + (owed + more) ≤ before + more
-still_few now owed before more few = omega arith
-
 at_most : {a b : ℕ} → a ≡ b → a ≤ b
 at_most e = omega arith
 
@@ -136,7 +133,7 @@ line_ends t m last (e ∷ history) given ss more s c w r is =
     line_ends t o.next last history o.rest ss' more o.serves c' w' o.runs tail in
     elim o.whose [
       | inl h ↦ own o behind ss w (sym h.0 ∙ is) h.1
-      | inr h ↦ grind (arith, common_steps, still_few, at_most, ends_after)
+      | inr h ↦ grind (arith, common_steps, at_most, ends_after)
     ]
   where
     own : (o : OneEntry t m last e history (answers_to t given))
@@ -161,7 +158,7 @@ line_ends t m last (e ∷ history) given ss more s c w r is =
         let is = heads e.what steps.End (steps_at t history) (ss ++ steps.Close ∷ more) both in
         let g : GetsWhatWaits m o.next t (answers_to t o.now) =
         (step_gives_client m o.next e.moment t steps.End o.outcome o.now s.lawful s.within (own_entry o steps.End is.0 step)).0 in
-        let few = still_few (length (answers_to t o.now)) (owing t o.next) (owing t m) (wanted ss) (at_most g.count) in
+        let few : (length (answers_to t o.now)) + ((owing t o.next) + (wanted ss)) ≤ (owing t m) + (wanted ss) = omega arith in
         let r' = behind ss (g.connected ∙ c) w is.1 in
         ends_after (owing t m + wanted ss) (answers_to t o.now) (answers_to t given) g.unclosed few o.all r'
     own o behind (x ∷ ss) w both step = absurd (both_ways false refl w)
@@ -177,9 +174,6 @@ pub record Connects (t : ℕ) (more : List Step) (given : List Answer) (last : M
   pub runs : Run first history rest last
   pub steps_are : steps_at t history ≡ more
   pub answers_are : given ≡ answers_to t rest
-
-pub none_in : {X : Type 0} (xs : List X) → length xs ≤ 0 → xs ≡ []
-none_in xs h = grind (arith, common_steps, cases_Bool)
 
 -- nothing comes before the rest
 nothing_first : (now rest all : List Answer) → all ≡ now ++ rest → now ≡ [] → all ≡ rest
@@ -211,7 +205,7 @@ connects t m last (e ∷ history) given more s free none r is =
             answers_are = quiet;
           }
       | inr h ↦
-          let quiet : (now ≡ []) × (owing t o.next ≡ 0) = grind (arith, common_steps, none_in) in
+          let quiet : (now ≡ []) × (owing t o.next ≡ 0) = grind (arith, common_steps) in
           let c = connects t o.next last history o.rest more o.serves (h.1.connected ∙ free) quiet.1 o.runs (sym h.0 ∙ is) in
           subst (λ (xs : List Answer). Connects t more xs last) (sym (nothing_first now rest (answers_to t given) o.all quiet.0)) c
     ]
@@ -232,7 +226,7 @@ nothing_behind t m last [] given s none r gone = ap (answers_to t) ((run_of_none
 nothing_behind t m last (e ∷ history) given s none r gone =
     let o = one_entry t m last e history given s r in
     let finish : GetsWhatWaits m o.next t (answers_to t o.now) → are_gone (steps_at t history) ≡ true → answers_to t given ≡ [] = λ g gone'.
-    let quiet : ((answers_to t o.now) ≡ []) × (owing t o.next ≡ 0) = grind (arith, common_steps, none_in) in
+    let quiet : ((answers_to t o.now) ≡ []) × (owing t o.next ≡ 0) = grind (arith, common_steps) in
     nothing_first (answers_to t o.now) (answers_to t o.rest) (answers_to t given) o.all quiet.0
     ∙ nothing_behind t o.next last history o.rest o.serves quiet.1 o.runs gone' in
     elim o.whose [

@@ -11,12 +11,13 @@ use Rattle.bq_job.specs.declared.answer.Answer.TheVariants as answers
 use Rattle.bq_job.specs.declared.line_end.LineEnd.TheVariants as ends
 use Rattle.bq_job.specs.declared.step.Step.TheVariants as steps
 use Rattle.bq_job.proofs.CutLemmas.{closes, closes_append, closes_unclosed, lines_close, parts_close, same_cut}
-use Rattle.bq_job.proofs.GivenLemmas.{AreParts, Serves, are_gone, gives_parts, most_of_lines, none_in}
+use Rattle.bq_job.proofs.GivenLemmas.{AreParts, Serves, are_gone, gives_parts, most_of_lines}
 use Rattle.bq_job.proofs.{LawfulLemmas.new_is_lawful, OneClientLemmas.unclosed_append}
+use Rattle.std.proofs.lemmas.Bool.{cases_Bool}
 
 -- where all is answered, nothing comes after it
 nothing_after : (own others : List Answer) (n : ℕ) → length own ≡ n → length (own ++ others) ≤ n → own ≡ own ++ others
-nothing_after own others n h i = grind (arith, common_steps, none_in, length-append)
+nothing_after own others n h i = grind (arith, common_steps, length-append)
 
 -- what came and what was written agree with what was asked
 pub record IsDone (over : LineEnd) (asked : List Request) (given : List Answer) (written : List ℕ) : Type 0 where
@@ -31,15 +32,8 @@ late_one asked own (a ∷ []) written waits h i w = grind (arith, common_steps, 
 late_one asked own (a ∷ b ∷ others) written waits h i w = absurd (omega (arith, length-append own (a ∷ b ∷ others)))
 
 is_done : (over : LineEnd) (asked : List Request) (own others : List Answer) (written : List ℕ) → AreAllAnswered over asked own → length (own ++ others) ≤ answered_count asked → IsWritten over asked own written → IsNoneUnwritten over own written → IsDone over asked (own ++ others) written
-is_done ends.Quit asked own others written a i w none =
-    subst (λ (xs : List Answer). IsDone ends.Quit asked xs written) (nothing_after own others (answered_count asked) a i) (record { answered = a; written_is = w })
-is_done ends.EndOfInput asked own others written a i w none =
-    subst (λ (xs : List Answer). IsDone ends.EndOfInput asked xs written) (nothing_after own others (answered_count asked) a i) (record { answered = a; written_is = w })
-is_done ends.ReadFault asked own others written (inl all) i w none =
-    subst (λ (xs : List Answer). IsDone ends.ReadFault asked xs written) (nothing_after own others (answered_count asked) all i) (record { answered = inl all; written_is = inl none })
-is_done ends.ReadFault asked own others written (inr h) i w none = late_one asked own others written h.0 h.1 i none
-is_done ends.WriteFault asked own others written a i w none =
-    subst (λ (xs : List Answer). IsDone ends.WriteFault asked xs written) (nothing_after own others (answered_count asked) a i) (record { answered = a; written_is = w })
+is_done v1 asked own others written a i w none =
+    grind (arith, common_steps, cases_Bool, nothing_after, late_one)
 
 -- A line that was given so much, no more than it asked for, is owed just what it took and was written.
 line_owed : (size : ℕ) (line : LineOver) (own : List Step) (got part : List Answer) (l : IsLineServed size line own got) → part ≡ l.own ++ l.others → length part ≤ answered_count l.line_owed.steps.asked → IsLineOwed size line own part
@@ -62,9 +56,7 @@ lines_owed size (line ∷ lines) own taken waiting given h parts is =
     let d = lines_close size lines h.1 h.3 h.7 in
     let none : closes l.own ≡ 0 = omega arith in
     let unclosed : has_closed (l.own ++ l.others) ≡ false = unclosed_append l.own l.others (closes_unclosed l.own none) l.none_closed in
-    let whole : given ≡ (l.own ++ l.others) ++ answers.Closed ∷ (h.3 ++ waiting) =
-    is ∙ ap (λ (xs : List Answer). xs ++ waiting) h.6 ∙ append_assoc h.2 h.3 waiting ∙ ap (λ (xs : List Answer). xs ++ (h.3 ++ waiting)) l.taken_is
-    ∙ shift l.own l.others (h.3 ++ waiting) in
+    let whole : given ≡ (l.own ++ l.others) ++ answers.Closed ∷ (h.3 ++ waiting) = grind (arith, common_steps, append_assoc) in
     let cut = same_cut parts.0 (l.own ++ l.others) parts.1 (h.3 ++ waiting) parts.2 unclosed (sym parts.4 ∙ whole) in
     let rest = lines_owed size lines h.1 h.3 waiting parts.1 h.7 parts.5 cut.1 in
     ((h.0, h.1, parts.0, parts.1, line_owed size line h.0 h.2 parts.0 l cut.0 parts.3, parts.2, h.5, parts.4, rest.0), rest.1)

@@ -3,12 +3,12 @@ use Rattle.std.proofs.Common.{◌&&◌, ◌++◌, ◌+◌, ◌<◌, ◌||◌, �
 use Rattle.std.proofs.lemmas.Bool.{and_from, cases_Bool, eq-eqb, le-leb, leb-true, lt-leb, or_parts}
 use Rattle.std.proofs.{lemmas.Grind.common_steps, Math.Nat.min-eq_left}
 use Rattle.std.specs.{List.{AllByRecursion as All, Contains}, Prelude.{◌-◌, ◌==◌, IsTrue, count_by, flat_map, nat_lt}}
-use Rattle.bq_job.specs.machine.{GivenAnswer, IsStep, Machine.Machine, Memory, Outcome, Pause, SeatRecord, Serves, TubeRecord, Wait, acted}
+use Rattle.bq_job.specs.machine.{GivenAnswer, IsStep, Machine.Machine, Memory, Outcome, SeatRecord, Serves, Wait, acted}
 use Rattle.bq_job.specs.machine.{addressed, after_timers, at_moment, ends_waiting, forgetting, grown}
 use Rattle.bq_job.specs.machine.{is_deadline_soon, is_due, is_expired, is_possible, is_timed_out, is_until_over}
 use Rattle.bq_job.specs.machine.{is_wait_before, is_waiting, is_waiting_at, next_end}
 use Rattle.bq_job.specs.beside.{IsLawful, dues, dues_of_pause, dues_of_state, dues_of_wait, earlier, earliest, is_before}
-use Rattle.bq_job.specs.{beside.next_due, machine.tube_after_timers, Types.JobState}
+use Rattle.bq_job.specs.{beside.next_due, Types.JobState}
 use Rattle.bq_job.specs.declared.step.Step.TheVariants as steps
 use Rattle.bq_job.proofs.ListLemmas.{all_at, all_from_members, all_of_flat_map, all_parts, all_weaker, count_all_not, list_any_not, list_any_with, map_all_same, none_pass}
 use Rattle.bq_job.proofs.{ChoiceLemmas.{first_of_none, first_of_none_passes}, QuietLemmas.forgets_nothing}
@@ -31,9 +31,6 @@ module _ (m : Machine) (now : ℕ) where
 
   not_expired : (state : JobState) → All (IsLater now) (dues_of_state m state) → is_expired now state ≡ false
   not_expired state h = grind (arith, common_steps, lt-leb)
-
-  tube_same : (t : TubeRecord) → All (IsLater now) (dues_of_pause t.pause) → tube_after_timers now t ≡ t
-  tube_same t h = ap (λ (p : Option Pause). record t { pause = p }) (grind (arith, common_steps, lt-leb))
 
   not_over : (o : Option Wait) → All (IsLater now) (dues_of_wait o) → is_until_over now o ≡ false
   not_over o h = grind (arith, common_steps)
@@ -68,7 +65,7 @@ module _ (m : Machine) (at : ℕ) (h : IsLawful m) (early : IsTrue (is_before (a
       grind (arith, common_steps, count_all_not, all_weaker, not_expired, jobs_later, min-eq_left, booked_of_lawful)
 
   fired_same : after_timers (at_moment at m) ≡ at_moment at m
-  fired_same = grind (arith, common_steps, map_all_same, all_weaker, jobs_later, tube_same, tubes_later, timeouts_same)
+  fired_same = grind (arith, common_steps, map_all_same, all_weaker, jobs_later, tubes_later, timeouts_same)
 
   forgotten_same : forgetting (at_moment at m) ≡ at_moment at m
   forgotten_same = forgets_nothing (at_moment at m) h.tubes

@@ -1,11 +1,11 @@
 -- What is kept beside jobs through a step: counts stay within their end, what is kept of tubes stays in
 -- order, and each seat watches at least one tube and none twice.
-use Rattle.std.proofs.Common.{ℕ, ◌≡◌, ◌≤◌, ◌+◌, Bool, true, cond, List, [], ◌∷◌, map, refl, sym, subst, arith, rules}
+use Rattle.std.proofs.Common.{ℕ, ◌≡◌, ◌≤◌, Bool, true, cond, List, [], ◌∷◌, map, refl, sym, subst, arith, rules}
 use Rattle.std.proofs.{lemmas.{Bool.{cases_Bool, cond_both, leb-true}, Grind.common_steps}, Math.Nat.min-le_right}
 use Rattle.std.specs.{Cmp.Lexicographic.bytes_decides, List.AllByRecursion as All, Prelude.{filter, nat_le}}
 use Rattle.bq_job.specs.machine.{Chain, DispatchTurn, Effect, GivenAnswer, Machine.Machine, Memory, SeatRecord, Serves}
 use Rattle.bq_job.specs.machine.{TubeRecord, WaitEndTurn, acted, after_close, after_timers, at_moment, empty_seat}
-use Rattle.bq_job.specs.{beside.{IsLawful, is_in_order, watches_once}, machine.{forgetting, greatest, grown}}
+use Rattle.bq_job.specs.{beside.{IsLawful, is_in_order, watches_once}, machine.{forgetting, greatest}}
 use Rattle.bq_job.specs.machine.{is_name_before, is_tube, with_end, with_record, with_seat}
 use Rattle.bq_job.specs.{reading.TubeName.is_same_name, Types.{Request, Step}}
 use Rattle.bq_job.proofs.ListLemmas.{all_at, all_always, all_before_map, all_of_filter, all_of_map, all_pass, all_weaker, keys_of_map}
@@ -24,9 +24,6 @@ pub record Books (timeouts puts connections burials tickets : ℕ) (tubes : List
 
 abbrev pub Booked : Machine → Type 0
 Booked m = Books m.timeouts m.puts m.connections m.burials m.tickets m.tubes m.seats
-
-grown_fits : (n count : ℕ) → grown n count ≤ greatest
-grown_fits n count = min-le_right (count + n) greatest
 
 pub booked_of_lawful : (m : Machine) → IsLawful m → Booked m
 booked_of_lawful m h =
@@ -73,7 +70,7 @@ pub booked_forgetting : (m : Machine) → Booked m → Booked (forgetting m)
 booked_forgetting m h = let order = ordered_filter (λ t. is_tube t.name m) m.tubes h.order in assumption
 
 pub booked_timers : (at : ℕ) (m : Machine) → Booked m → Booked (forgetting (after_timers (at_moment at m)))
-booked_timers at m h = search (rules, booked_forgetting, grown_fits, keys_of_map, all_always)
+booked_timers at m h = search (rules, booked_forgetting, min-le_right, keys_of_map, all_always)
 
 -- the seat of one number changes
 booked_seat : (number : ℕ) (f : SeatRecord → SeatRecord) (m : Machine) → Booked m → ((s : SeatRecord) → watches_once s ≡ true → watches_once (f s) ≡ true) → Booked (with_seat number f m)
@@ -103,7 +100,7 @@ booked_through first handed ended last h s = subst Booked (sym s.ends_waits.forg
 -- every kind of command
 booked_kind : (request : Request) (m : Machine) (s : SeatRecord) {e : Effect} → Kind m s request e → Booked m → watches_once s ≡ true → Booked e.machine
 booked_kind request m s k h w =
-    grind (arith, common_steps, cases_Bool, ordered_with, grown_fits, booked_seat)
+    grind (arith, common_steps, cases_Bool, ordered_with, booked_seat)
 
 booked_close : (m : Machine) (seat : ℕ) → Booked m → Booked (after_close m seat)
 booked_close m seat h = booked_seat seat (λ s. empty_seat s.number) m h (λ s w. refl)
@@ -112,7 +109,7 @@ booked_close m seat h = booked_seat seat (λ s. empty_seat s.number) m h (λ s w
 pub booked_acted : (memory : Memory) (m : Machine) (seat : ℕ) (what : Step) → Booked m → Booked (acted memory m seat what).machine
 booked_acted memory m seat what h = each_acted m seat (λ what e. Booked e.machine) (record {
   nothing = λ what. h;
-  connects = λ s is. grind (arith, common_steps, booked_seat, grown_fits);
+  connects = λ s is. grind (arith, common_steps, booked_seat);
   asks = λ request s is c w. booked_kind request m s (kind_of request m s) h (all_at (λ t. watches_once t ≡ true) m.seats s h.watched is.there);
   ends = λ s is. booked_seat s.number with_end m h (λ t i. i);
   closes = λ s is. booked_close m s.number h;
