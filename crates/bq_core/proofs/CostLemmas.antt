@@ -16,13 +16,10 @@ pub sum_falls : {X : Type 0} (f : X → ℕ) (g : X → X) → ((x : X) → f (g
 sum_falls f g less [] = omega arith
 sum_falls f g less (x ∷ xs) = omega (arith, sum_by-cons f (g x) (map g xs), sum_by-cons f x xs, less x, sum_falls f g less xs)
 
-one_stops : (f : SeatRecord → ℕ) → ((s : SeatRecord) → f (without_wait s) ≤ f s) → (number : ℕ) (s : SeatRecord) → f (if s.number == number then without_wait s else s) ≤ f s
-one_stops f less number s = grind (arith, common_steps)
-
 -- what is counted of seats falls as waits end
 module _ (f : SeatRecord → ℕ) (less : (s : SeatRecord) → f (without_wait s) ≤ f s) where
   stops : (m : Machine) (number : ℕ) → sum_by f (with_seat number without_wait m).seats ≤ sum_by f m.seats
-  stops m number = sum_falls f (λ s. if s.number == number then without_wait s else s) (one_stops f less number) m.seats
+  stops m number = sum_falls f (λ s. if s.number == number then without_wait s else s) (λ s. grind (arith, common_steps)) m.seats
 
   hand_out_stops : (m : Machine) (j : Job) (s : SeatRecord) (g : GivenAnswer) (next : Machine) → IsHandOut m j s g next → sum_by f next.seats ≤ sum_by f m.seats
   hand_out_stops m j s g next h = grind (arith, common_steps, stops)

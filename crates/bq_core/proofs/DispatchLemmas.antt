@@ -190,4 +190,4 @@ next_is m id x ids first found =
 pub next_there : (m : Machine) (id : ℕ) → AreIdsWithin 1 m.jobs m.next_id → Some id ≡ option_map (λ j. j.id) (next_job m) → None ≡ job_with id m.jobs → ⊥
 next_there m id ids first none =
     let one = chosen (λ j. list_any (is_waiting_for m j) m.seats) is_job_before 1 m.next_id m.jobs id ids first in
-    let f = one.found in cc
+    cc

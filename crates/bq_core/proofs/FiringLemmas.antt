@@ -1,6 +1,6 @@
 -- Timers of jobs fire one after another, and jobs are given back one after another.
 use Rattle.std.proofs.Common.{◌&&◌, ◌+◌, ◌-◌, ◌<◌, ◌==◌, ◌||◌, ◌∙◌, ◌∷◌, ◌≡◌, ◌≤◌, if◌then◌else◌, Bool, List, None, Option, Some, [], ℕ, ap, arith, false, inl, inr, is_some, map, min, refl, suc, sym, true}
-use Rattle.std.proofs.lemmas.{Bool.{cases_Bool, eqb-true, or_left, or_right, Decides.nat_tests}, Grind.common_steps}
+use Rattle.std.proofs.lemmas.{Bool.{cases_Bool, eqb-true, Decides.nat_tests}, Grind.common_steps}
 use Rattle.std.specs.{List.{AllByRecursion as All, list_any}, Prelude.{count_by, nat_le, option_map}}
 use Rattle.bq_job.specs.machine.{SeatRecord, due_of, ends_waiting, first_of, given_back, greatest, grown, in_state, is_deadline_soon, is_delayed, is_due, is_due_before, is_ending_lease, is_expired, is_held_by, is_holder, is_pair_before, is_reserved}
 use Rattle.bq_job.specs.machine.{is_timed_out, is_timed_out_at, is_wait_before, is_waiting, job_after_timers, job_with, next_end, with_job, with_timeout, Machine.Machine}
@@ -49,11 +49,7 @@ fired_due m id ids one =
     let p = λ (j : Job). is_expired m.moment j.state in
     let jobs = absorbed f f id m.jobs (all_always (λ k. (k.id == id) ≡ true → f (f k) ≡ f k) m.jobs (λ k e. fired_once m.moment k)) in
     let single = one_of_id id 1 m.next_id m.jobs one.job ids one.found in
-    let same = all_weaker (λ k. (k.id == id) ≡ true → k ≡ one.job) (λ k. (k.id == id) ≡ true → p (f k) ≡ p k) m.jobs (λ k is e.
-    let due : is_due m.moment k.state ≡ true = ap (λ (j : Job). is_due m.moment j.state) (is e) ∙ one.passes_is in
-    ap p (ripened m.moment k due) ∙ sym (not_expired m.moment k.state due)) single in
-    let counted = as_many p f id m.jobs same in
-    grind (arith, common_steps)
+    grind (arith, common_steps, all_weaker, ripened, not_expired, as_many)
 
 none_more : (t c : ℕ) → min (min (t + 0) greatest + c) greatest ≡ min (t + c) greatest
 none_more t c = omega arith
@@ -62,15 +58,11 @@ none_more t c = omega arith
 pub counted_fired : (m next : Machine) (t : ℕ) (b : Bool) → AreIdsWithin 1 m.jobs m.next_id → (b ≡ false → (list_any (λ j. is_expired m.moment j.state) m.jobs ≡ false) × (next ≡ m)) → (b ≡ true → ExpiresOne m next) → t ≡ grown (if b then 1 else 0) next.timeouts → after_job_timers (record next { timeouts = t }) ≡ after_job_timers m
 counted_fired m next t b ids none one e = grind (arith, common_steps, absorbed, all_always, fired_once, one_fewer, expired, none_more)
 
--- one timer less is to fire
-fewer_ripe : (m : Machine) (id : ℕ) (one : Job) → AreIdsWithin 1 m.jobs m.next_id → job_with id m.jobs ≡ Some one → is_ripe m.moment one ≡ true → is_ripe m.moment (job_after_timers m.moment one) ≡ false → count_by (is_ripe m.moment) (with_job id (job_after_timers m.moment) m).jobs < count_by (is_ripe m.moment) m.jobs
-fewer_ripe m id one ids found was is = grind (arith, common_steps, one_fewer)
-
 pub fewer_due : (m : Machine) (id : ℕ) → AreIdsWithin 1 m.jobs m.next_id → IsOne (λ j. is_due m.moment j.state) m.jobs id → count_by (is_ripe m.moment) (with_job id (job_after_timers m.moment) m).jobs < count_by (is_ripe m.moment) m.jobs
-fewer_due m id ids one = fewer_ripe m id one.job ids one.found (or_left (is_due m.moment one.job.state) (is_expired m.moment one.job.state) one.passes_is) (ap (is_ripe m.moment) (ripened m.moment one.job one.passes_is))
+fewer_due m id ids one = grind (arith, common_steps, one_fewer)
 
 pub fewer_expired : (m : Machine) (id : ℕ) → AreIdsWithin 1 m.jobs m.next_id → IsOne (λ j. is_expired m.moment j.state) m.jobs id → count_by (is_ripe m.moment) (with_job id (job_after_timers m.moment) m).jobs < count_by (is_ripe m.moment) m.jobs
-fewer_expired m id ids one = fewer_ripe m id one.job ids one.found (or_right (is_due m.moment one.job.state) (is_expired m.moment one.job.state) one.passes_is) (ap (is_ripe m.moment) (expired m.moment one.job one.passes_is))
+fewer_expired m id ids one = grind (arith, common_steps, one_fewer)
 
 -- no timer has come
 pub none_fires : (m : Machine) → list_any (λ j. is_due m.moment j.state) m.jobs ≡ false → list_any (λ j. is_expired m.moment j.state) m.jobs ≡ false → record m { timeouts = grown 0 m.timeouts } ≡ after_job_timers m
@@ -188,10 +180,6 @@ dues_are t j = grind (arith, common_steps)
 pub expiries_are : (t : ℕ) (j : Job) → is_expired t j.state ≡ (is_reserved j.state && nat_le (deadline_of j.state) t)
 expiries_are t j = grind (arith, common_steps)
 
--- one job is given back
-held_back : (state : JobState) (seat : ℕ) (j : Job) → is_held_by seat j ≡ true → given_back state seat j ≡ in_state state j
-held_back state seat j h = rw h refl
-
 pub held_by_none : (seat : ℕ) (state : JobState) → is_reserved state ≡ false → is_holder seat state ≡ false
 held_by_none seat state free = grind (arith, common_steps)
 
@@ -200,8 +188,7 @@ pub given_one : (state : JobState) (seat : ℕ) (m : Machine) (id : ℕ) → is_
 given_one state seat m id free ids first =
     let one = chosen (is_held_by seat) is_lease_before 1 m.next_id m.jobs id ids first in
     let single = one_of_id id 1 m.next_id m.jobs one.job ids one.found in
-    let back : (k : Job) → given_back state seat (in_state state k) ≡ in_state state k = λ k. rw (held_by_none seat state free) refl in
-    grind (arith, common_steps, absorbed, all_weaker, held_back)
+    grind (arith, common_steps, absorbed, all_weaker)
 
 pub given_fewer : (state : JobState) (seat : ℕ) (m : Machine) (id : ℕ) → is_reserved state ≡ false → AreIdsWithin 1 m.jobs m.next_id → Some id ≡ option_map (λ j. j.id) (first_of (is_held_by seat) is_lease_before m.jobs)
     → count_by (is_held_by seat) (with_job id (in_state state) m).jobs < count_by (is_held_by seat) m.jobs

@@ -12,8 +12,5 @@ use denote.Param.Send.{IsSend, sendable}
 numbered_tubes_send : IsSend (NumberedTubes.the_field).row
 numbered_tubes_send = search (Crossing.crosses, TheKnot.crosses, sendable) depth 60 fits 20000
 
-tubes_sends : IsSend (Tubes.the_field).row
-tubes_sends = search (Crossing.crosses, TheKnot.crosses, sendable) depth 60 fits 20000
-
 pub core_sends : IsSend (Core.the_field).row
-core_sends = search (tubes_sends, Crossing.crosses, TheKnot.crosses, sendable) depth 60 fits 20000
+core_sends = search (Crossing.crosses, TheKnot.crosses, sendable) depth 60 fits 20000

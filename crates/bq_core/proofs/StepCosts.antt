@@ -3,7 +3,7 @@ use Rattle.std.proofs.{Common.{◌*◌, ◌+◌, ◌∙◌, ◌≡◌, ◌≤◌
 use Rattle.std.proofs.lemmas.Grind.{common_steps}
 use Rattle.std.specs.List.{sum_by}
 use Rattle.bq_job.specs.declared.step.Step.{Step}
-use Rattle.bq_job.specs.{beside.waiting_count, machine.{DispatchTurn, GivenAnswer, SeatRecord, Serves, WaitEndTurn, acted, has_refused_share, is_waiting, next_end, next_job, without_wait, Machine.Machine}}
+use Rattle.bq_job.specs.{beside.waiting_count, machine.{DispatchTurn, GivenAnswer, SeatRecord, Serves, WaitEndTurn, has_refused_share, is_waiting, next_end, next_job, without_wait, Machine.Machine}}
 use Rattle.bq_job.proofs.LawfulLemmas.{leaves_acted}
 use Rattle.bq_steps.specs.{Cost.{IsStepWithin, changed_jobs, ripening, tubes_watched, watched_tubes}, Outbox.Outbox}
 use Rattle.bq_jobs.specs.Kept.{Kept}
@@ -47,9 +47,6 @@ summed first fired before left last n k c g most a b d e few =
     let s = search_among jobs in
     let l = 9 * changed_jobs before.jobs left.jobs + 10 in
     let o = max (length before.jobs) (length left.jobs) in
-    let p = a.many in
-    let q = b.many in
-    let r = e.many in
     omega (
       arith,
       a.rise,
@@ -82,7 +79,6 @@ step_within first at seat what begun between asked new acted_state left last emp
     let fired = machine_of b.fired in
     let before = machine_of b.served_state in
     let q = watched_tubes seat m in
-    let e = acted b.acts.memory before seat what in
     let kept = keeps first at seat what begun between asked acted_state left b in
     let w : waited fired ≤ q = subst (λ (x : Machine). waited x ≤ q) (sym b.fires) (waited_few seat m) in
     let v : waiting_count fired ≤ q = subst (λ (x : Machine). waiting_count x ≤ q) (sym b.fires) (waiting_few seat m b.lawful) in

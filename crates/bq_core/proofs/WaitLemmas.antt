@@ -66,12 +66,6 @@ fewer p q f (x ∷ xs) w h = grind (arith, common_steps, count_cons, no_more, fe
 pair_alone : (a i : ℕ) → is_pair_before a i a i ≡ false
 pair_alone a i = grind (arith, nat_tests)
 
-pair_same : (a i b j : ℕ) → is_pair_before a i b j ≡ false → is_pair_before b j a i ≡ false → i ≡ j
-pair_same a i b j h o = grind (arith, nat_tests)
-
-after_chain : (last : Option (ℕ × ℕ)) (s t : SeatRecord) → is_after last s ≡ true → is_after (Some (turn_of s)) t ≡ true → is_after last t ≡ true
-after_chain last s t h i = grind (arith, common_steps)
-
 -- the next one that is looked at
 module _ (st : CoreParts) (last : Option (ℕ × ℕ)) (looked : AreLookedAt (machine_of st) last) (k : ℕ) (there : k < length st.seats.items) (found : slice_get st.seats.items k ≡ first_of (waits_after last) is_wait_before st.seats.items) where
   pub s : SeatRecord
@@ -113,7 +107,7 @@ module _ (st : CoreParts) (last : Option (ℕ × ℕ)) (looked : AreLookedAt (ma
   next_is e =
       first_of_is (ends_waiting (machine_of st)) (pair_order (λ u. ticket_of u.wait) (λ u. u.number)) st.seats.items s member e
       (λ y c p. not_sooner y c (is_left y c p))
-      (λ y c a b. all_at (λ t. t.number ≡ k → t ≡ s) st.seats.items y only c (pair_same (ticket_of y.wait) y.number (ticket_of s.wait) s.number b a ∙ number_is))
+      (λ y c a b. all_at (λ t. t.number ≡ k → t ≡ s) st.seats.items y only c ((grind (arith, nat_tests)) ∙ number_is))
 
   -- what becomes of it
   module _ (old new : Outbox) (next : Machine) (looks : LooksAt (machine_of st) k old new next) where
@@ -162,7 +156,7 @@ module _ (st : CoreParts) (last : Option (ℕ × ℕ)) (looked : AreLookedAt (ma
         ]
       where
         later : (t : SeatRecord) → waits_after (Some (turn_of s)) t ≡ true → waits_after last t ≡ true
-        later t h = grind (arith, common_steps, and_parts, after_chain, passes)
+        later t h = grind (arith, common_steps, and_parts, passes)
 
         less : (t : SeatRecord) (b : Bool) → waits_after (Some (turn_of s)) (if b then without_wait t else t) ≡ true → waits_after last t ≡ true
         less t true h = absurd cc
