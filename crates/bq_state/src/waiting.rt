@@ -149,6 +149,7 @@ impl Waiting {
     }
 
     /// Puts in the turn of the client, if there is one and it waits.
+    #[tactic(auto, using(std::proofs::lemmas::Grind::common_steps, crate::proofs::WaitingLemmas::placed_length))]
     pub(crate) fn join(&mut self, client: Option<&SeatRecord>)
         requires fits { length (with_turn (option_copied client) self.old.turns) ≤ self.old.room }
         requires rising { IsRising is_turn_before self.old.turns }
