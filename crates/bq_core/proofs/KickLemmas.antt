@@ -138,14 +138,7 @@ some_buried tube jobs js h = grind (arith, common_steps)
 
 pub kickable_buried : (tube : List ℕ) (jobs : List Job) (id : ℕ) → Some id ≡ option_map (λ j. j.id) (first_of (is_buried_in tube) is_buried_before jobs) → jobs_of Buried tube jobs ≡ kickable tube jobs
 kickable_buried tube jobs id first =
-    grind (
-      arith,
-      common_steps,
-      cases_Bool,
-      first_of_is_some (is_buried_in tube) is_buried_before jobs,
-      some_buried,
-      some_left,
-    )
+    grind (arith, common_steps, cases_Bool, first_of_is_some (is_buried_in tube) is_buried_before jobs, some_buried, some_left)
 
 -- no id, no job
 pub no_id : (o : Option Job) → None ≡ option_map (λ j. j.id) o → o ≡ None

@@ -19,17 +19,7 @@ rank_agrees m p same = ap (option_map (ranked (λ j. j.pri))) (first_of_agrees (
 pub client_waits : (m : Machine) (seat : ℕ) (o : Option SeatRecord) → AreNumbered m.seats → seat_with seat m.seats ≡ o → AreKnown (Client seat) m.jobs m.seats m.tubes
     → All (λ j. list_any (is_waiting_for m j) m.seats ≡ list_any (is_waiting_for m j) (these o)) m.jobs
 client_waits m seat None numbered found known =
-    grind (
-      arith,
-      common_steps,
-      cases_Bool,
-      nat_tests,
-      all_weaker,
-      list_any_not,
-      all_from_members,
-      all_at,
-      none_found seat m.seats found,
-    )
+    grind (arith, common_steps, cases_Bool, nat_tests, all_weaker, list_any_not, all_from_members, all_at, none_found seat m.seats found)
 client_waits m seat (Some s) numbered found known =
     all_weaker (λ j. All (IsKnown (Client seat) m.tubes j) m.seats) (λ j. list_any (is_waiting_for m j) m.seats ≡ (is_waiting_for m j s || false)) m.jobs (λ j all. go j all (is_waiting_for m j s) refl) known
   where
@@ -109,11 +99,4 @@ client_entries seats seat o found = grind (arith, common_steps, sum_by-cons, all
 
 pub tube_entries : (seats : List SeatRecord) (name : List ℕ) → list_any (is_waiter name) seats ≡ true → 1 ≤ sum_by waited_tubes seats
 tube_entries seats name h =
-    grind (
-      arith,
-      common_steps,
-      cases_Bool,
-      some_passes (is_waiter name) seats h,
-      all_at,
-      entries_within waited_tubes seats,
-    )
+    grind (arith, common_steps, cases_Bool, some_passes (is_waiter name) seats h, all_at, entries_within waited_tubes seats)

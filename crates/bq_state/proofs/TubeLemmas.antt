@@ -113,14 +113,7 @@ changed_at : (name : List ℕ) (f : TubeRecord → TubeRecord) → ((t : TubeRec
 changed_at name f counts keeps t entries true true e k fresh later h rest =
     grind (arith, same_name name t.name e, none_later t.name entries later, unchanged)
 changed_at name f counts keeps t entries true false e k fresh later h rest =
-    grind (
-      arith,
-      same_name name t.name e,
-      none_later t.name entries later,
-      first_record (f t) entries (rw (keeps t) later),
-      none_found,
-      unchanged,
-    )
+    grind (arith, same_name name t.name e, none_later t.name entries later, first_record (f t) entries (rw (keeps t) later), none_found, unchanged)
 changed_at name f counts keeps t entries false true e k fresh later h rest =
     grind (arith, found_name, not_before, comes_before)
 changed_at name f counts keeps t entries false false e k fresh later h rest = grind (arith, common_steps)

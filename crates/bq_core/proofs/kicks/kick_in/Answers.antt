@@ -15,13 +15,7 @@ returns-clause-kicked c = grind (arith, common_steps)
 
 pub returns-clause-count : goal.returns-clause-count
 returns-clause-count c =
-    grind (
-      arith,
-      common_steps,
-      c.kind_to_kick-kind.ensures.same,
-      c.kick_some.ensures.count,
-      c.kind_to_kick-kind.ensures.order,
-    )
+    grind (arith, common_steps, c.kind_to_kick-kind.ensures.same, c.kick_some.ensures.count, c.kind_to_kick-kind.ensures.order)
 
 pub returns-clause-changed : goal.returns-clause-changed
 returns-clause-changed c =

@@ -24,16 +24,7 @@ returns-clause-told c = grind (arith, common_steps, found_any, lent_any)
 
 pub returns-then-is_some-clause-after : goal.returns-then-is_some-clause-after
 returns-then-is_some-clause-after c =
-    grind (
-      arith,
-      common_steps,
-      found_any,
-      lent_any,
-      kept_alike,
-      provided_there,
-      tallies_provided_there,
-      crowds_provided_there,
-    )
+    grind (arith, common_steps, found_any, lent_any, kept_alike, provided_there, tallies_provided_there, crowds_provided_there)
 
 pub returns-clause-after : goal.returns-clause-after
 returns-clause-after c = grind (arith, common_steps, found_any, lent_any, kept_alike, new_entry, new_tally, new_crowd)
