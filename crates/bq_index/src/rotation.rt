@@ -8,6 +8,7 @@ use super::tree::{Node, Tree, open, put};
 
 // Fills a box with an entry whose left side has changed by a level at most: it was `before` high, and the box `high`.
 // The whole has risen or fallen no more than that side.
+#[tactic(auto, using(crate::proofs::Heights::left_not_higher, crate::proofs::Heights::left_not_lower))]
 pub(crate) fn with_left<K, V>(
     node: &mut Node<K, V>,
     left: Tree<K, V>,
@@ -35,6 +36,7 @@ where
 }
 
 // The same, where the right side has changed.
+#[tactic(auto, using(crate::proofs::Heights::right_not_higher, crate::proofs::Heights::right_not_lower))]
 pub(crate) fn with_right<K, V>(
     node: &mut Node<K, V>,
     left: Tree<K, V>,
@@ -63,7 +65,7 @@ where
 
 // Mends a box whose left side has changed in its place, by a level at most: it was `before` high. The whole rises or falls
 // no more than that side.
-#[tactic(auto, using(crate::proofs::Parts::by_sides, crate::proofs::Parts::still_level))]
+#[tactic(auto, using(crate::proofs::Parts::by_sides, crate::proofs::Parts::still_level, crate::proofs::Heights::left_not_higher, crate::proofs::Heights::left_not_lower))]
 #[inline(always)]
 pub(crate) fn mend_left<K, V>(node: &mut Node<K, V>, before: u8)
 where
@@ -83,38 +85,13 @@ where
     ensures not_lower { height_in node.old ≤ height_in node.new + (before - height_of (left_in node.old)) }
 {
     if node.left_height() != before {
-        change_left(node, before);
+        rebalance(node);
     }
-}
-
-// The same, where it has.
-#[tactic(auto, using(crate::proofs::Parts::by_sides, crate::proofs::Parts::still_level))]
-#[inline(never)]
-fn change_left<K, V>(node: &mut Node<K, V>, before: u8)
-where
-    K: Drop,
-    V: Drop,
-    requires filled { IsSome (entry_in node.old) }
-    requires left_balanced { IsBalancedFrom (left_in node.old) }
-    requires right_balanced { IsBalancedFrom (right_in node.old) }
-    requires known { height_in node.old ≡ max before (height_of (right_in node.old)) + 1 }
-    requires near { DifferByAtMost 1 before (height_of (right_in node.old)) }
-    requires changed { DifferByAtMost 1 before (height_of (left_in node.old)) }
-    requires fits { height_in node.old < 200 }
-    ensures is { entries_in node.new
-        ≡ entries_of (left_in node.old) ++ (option_to_list (entry_in node.old) ++ entries_of (right_in node.old)) }
-    ensures balanced { IsLevel node.new }
-    ensures not_higher { height_in node.new ≤ height_in node.old + (height_of (left_in node.old) - before) }
-    ensures not_lower { height_in node.old ≤ height_in node.new + (before - height_of (left_in node.old)) }
-{
-    let high = node.height();
-    let (left, entry, right) = node.take_parts();
-    with_left(node, left, entry, right, high, before);
 }
 
 // Mends a box whose right side has changed in its place, by a level at most: it was `before` high. The whole rises or falls
 // no more than that side.
-#[tactic(auto, using(crate::proofs::Parts::by_sides, crate::proofs::Parts::still_level))]
+#[tactic(auto, using(crate::proofs::Parts::by_sides, crate::proofs::Parts::still_level, crate::proofs::Heights::right_not_higher, crate::proofs::Heights::right_not_lower))]
 #[inline(always)]
 pub(crate) fn mend_right<K, V>(node: &mut Node<K, V>, before: u8)
 where
@@ -134,33 +111,25 @@ where
     ensures not_lower { height_in node.old ≤ height_in node.new + (before - height_of (right_in node.old)) }
 {
     if node.right_height() != before {
-        change_right(node, before);
+        rebalance(node);
     }
 }
 
-// The same, where it has.
-#[tactic(auto, using(crate::proofs::Parts::by_sides, crate::proofs::Parts::still_level))]
+// Balances a box in its place whose sides differ by up to two.
 #[inline(never)]
-fn change_right<K, V>(node: &mut Node<K, V>, before: u8)
+fn rebalance<K, V>(node: &mut Node<K, V>)
 where
     K: Drop,
     V: Drop,
     requires filled { IsSome (entry_in node.old) }
     requires left_balanced { IsBalancedFrom (left_in node.old) }
     requires right_balanced { IsBalancedFrom (right_in node.old) }
-    requires known { height_in node.old ≡ max before (height_of (left_in node.old)) + 1 }
-    requires near { DifferByAtMost 1 before (height_of (left_in node.old)) }
-    requires changed { DifferByAtMost 1 before (height_of (right_in node.old)) }
-    requires fits { height_in node.old < 200 }
-    ensures is { entries_in node.new
-        ≡ entries_of (left_in node.old) ++ (option_to_list (entry_in node.old) ++ entries_of (right_in node.old)) }
-    ensures balanced { IsLevel node.new }
-    ensures not_higher { height_in node.new ≤ height_in node.old + (height_of (right_in node.old) - before) }
-    ensures not_lower { height_in node.old ≤ height_in node.new + (before - height_of (right_in node.old)) }
+    requires near { DifferByAtMost 2 (height_of (left_in node.old)) (height_of (right_in node.old)) }
+    requires fits { max (height_of (left_in node.old)) (height_of (right_in node.old)) < 254 }
+    ensures { IsRebalanced (left_in node.old) (entry_in node.old) (right_in node.old) (Some node.new) }
 {
-    let high = node.height();
     let (left, entry, right) = node.take_parts();
-    with_right(node, left, entry, right, high, before);
+    balance(node, left, entry, right, 0, false);
 }
 
 // Fills a box with an entry and two sides, whose heights differ by up to two. Where neither changed, the box is as high

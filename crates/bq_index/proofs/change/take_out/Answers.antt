@@ -1,5 +1,5 @@
 use Rattle.std.proofs.Common.{ap, arith}
-use Rattle.bq_index.proofs.Heights.{right_levels}
+use Rattle.bq_index.proofs.Heights.{right_not_lower}
 use Rattle.bq_index.proofs.Parts.{come_apart}
 use Rattle.bq_index.specs.Tree.{height_in, height_of, right_in}
 use Rattle.bq_index.proofs.change.take_out.Goals as goal
@@ -24,5 +24,5 @@ returns-clause-not_lower g c =
     let l = ap height_of c.take_parts-left.ensures.left in
     let r = ap height_of c.take_parts-left.ensures.right in
     let f = c.in-Some.ensures.first in
-    let levels = right_levels c.balance.ensures (height_in c.args.here.now) (height_of (right_in c.args.here.now)) (omega (arith, p.high, l)) (omega (arith, p.near.1, l), omega (arith, p.near.0, l)) (omega (arith, f.not_lower, r), omega (arith, f.not_higher, r)) in
-    omega (arith, levels.1, f.not_lower, r)
+    let lower = right_not_lower _ _ _ _ (height_in c.args.here.now) (height_of (right_in c.args.here.now)) c.balance.ensures (omega (arith, p.high, l)) (omega (arith, p.near.1, l), omega (arith, p.near.0, l)) (omega (arith, f.not_lower, r), omega (arith, f.not_higher, r)) in
+    omega (arith, lower, f.not_lower, r)

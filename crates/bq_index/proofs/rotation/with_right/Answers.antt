@@ -1,8 +1,0 @@
-use Rattle.bq_index.proofs.Heights.{right_levels}
-use Rattle.bq_index.proofs.rotation.with_right.Goals as goal
-
-pub returns-clause-not_higher : goal.returns-clause-not_higher
-returns-clause-not_higher g c = (right_levels c.balance.ensures c.args.high c.args.before c.requires.known c.requires.near c.requires.changed).0
-
-pub returns-clause-not_lower : goal.returns-clause-not_lower
-returns-clause-not_lower g c = (right_levels c.balance.ensures c.args.high c.args.before c.requires.known c.requires.near c.requires.changed).1
