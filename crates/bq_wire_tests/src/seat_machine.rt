@@ -2,11 +2,11 @@
 //! that doesn't answer its last action: each is stray, and what follows is the same.
 
 ghost use Rattle.std.specs.Prelude.{IfSome};
-ghost use Rattle.bq_seat.specs.SeatMoves.{FitsPiece};
+ghost use Rattle.bq_seat.specs.SeatMoves.{FitsPiece, event_told};
 
 use crate::pieces::push_text;
 use bq_job::{Answer, LineEnd, Request, Step};
-use bq_seat::{Action, Event, PIECE_ROOM, SeatMachine};
+use bq_seat::{Action, Event, PIECE_ROOM, SeatMachine, Told};
 use std::alloc::Global;
 use std::process::Abort;
 use std::test::Fail;
@@ -39,6 +39,24 @@ fn event_of<'b>(event: &str, bytes: &'b [u8]) -> Option<Event<'b>>
         "write done" => Some(Event::WriteDone),
         "write fault" => Some(Event::WriteFault),
         _ if bytes.len() <= PIECE_ROOM && !bytes.is_empty() => Some(Event::Bytes(bytes)),
+        _ => None,
+    }
+}
+
+// The same by the other call, where the event brings no answer.
+fn told_of<'b>(event: &str, bytes: &'b [u8]) -> Option<Told<'b>>
+    ensures { IfSome result (λ told. FitsPiece (event_told told)) }
+{
+    match event {
+        "submitted" => Some(Told::Submitted),
+        "nothing yet" => Some(Told::NothingYet),
+        "end of input" => Some(Told::EndOfInput),
+        "read fault" => Some(Told::ReadFault),
+        "write done" => Some(Told::WriteDone),
+        "write fault" => Some(Told::WriteFault),
+        _ if event.starts_with("bytes ") && bytes.len() <= PIECE_ROOM && !bytes.is_empty() => {
+            Some(Told::Bytes(bytes))
+        }
         _ => None,
     }
 }
@@ -81,10 +99,20 @@ fn answers(event: &str, last: &str) -> bool {
     }
 }
 
-// The name of the action that answers an event.
-fn told(alloc: Global, machine: &mut SeatMachine, event: &str) -> Result<&'static str, Fail> {
+// The name of the action that answers an event, which is told by `on_told` where that may be.
+fn told(
+    alloc: Global,
+    machine: &mut SeatMachine,
+    event: &str,
+    is_in_place: bool,
+) -> Result<&'static str, Fail> {
     let mut bytes = Vec::new(alloc);
     push_text(&mut bytes, event.strip_prefix("bytes ").unwrap_or(""))?;
+    if is_in_place && let Some(event) = told_of(event, bytes.as_slice()) {
+        let mut next = Action::PollMail;
+        machine.on_told(alloc, event, &mut next);
+        return Ok(name_of(&next));
+    }
     let Some(event) = event_of(event, bytes.as_slice()) else {
         return Err(Fail::from("no event"));
     };
@@ -97,10 +125,11 @@ fn stray(
     alloc: Global,
     machine: &mut SeatMachine,
     last: &str,
+    is_in_place: bool,
 ) -> Result<(), Fail> {
     for event in ALL_EVENTS.split('\n') {
         if !answers(event, last) {
-            assert!(rt; told(alloc, machine, event)? == "stray");
+            assert!(rt; told(alloc, machine, event, is_in_place)? == "stray");
         }
     }
     Ok(())
@@ -112,12 +141,13 @@ fn play_at(
     alloc: Global,
     machine: &mut SeatMachine,
     session: &str,
+    is_in_place: bool,
 ) -> Result<(), Fail> {
     let mut last = "over";
     for row in session.split('\n') {
         let (event, wanted) = row.split_once('|').ok_or("no row")?;
-        stray(rt, alloc, machine, last)?;
-        last = told(alloc, machine, event)?;
+        stray(rt, alloc, machine, last, is_in_place)?;
+        last = told(alloc, machine, event, is_in_place)?;
         assert!(rt; last == wanted);
     }
     Ok(())
@@ -125,7 +155,9 @@ fn play_at(
 
 fn play(rt: &impl Abort, alloc: Global, session: &str) -> Result<(), Fail> {
     let mut machine = SeatMachine::new(alloc, 65535)?;
-    play_at(rt, alloc, &mut machine, session)
+    play_at(rt, alloc, &mut machine, session, false)?;
+    let mut machine = SeatMachine::new(alloc, 65535)?;
+    play_at(rt, alloc, &mut machine, session, true)
 }
 
 // A line with commands behind a wait, and then one that comes in pieces and quits inside a body first.
