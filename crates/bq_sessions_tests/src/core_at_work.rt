@@ -81,11 +81,11 @@ fn beside(alloc: Global) -> Result<(Outs, CoreRoom, ScriptClock), NoMemory>
 impl<'a> CoreSide<'a> {
     // Works until all ends are gone.
     fn work<R: Wait>(self, rt: &R, alloc: Global) -> Result<(), NoMemory> {
+        let (outs, room, clock) = beside(alloc)?;
+        let CoreSide { intake, end } = self;
         let Ok(core) = Core::new(alloc, config(3, USUAL_BODY)) else {
             return Err(NoMemory);
         };
-        let (outs, room, clock) = beside(alloc)?;
-        let CoreSide { intake, end } = self;
         drop(core_work(rt, alloc, intake, end, core, outs, room, clock));
         Ok(())
     }
