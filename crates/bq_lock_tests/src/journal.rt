@@ -24,8 +24,8 @@ struct Alone {
 
 impl Alone {
     fn new(alloc: Global, config: Config) -> Result<Alone, Fail> {
-        let core = Core::new(alloc, config)?;
         let outs = Outs::new(alloc, config.seats)?;
+        let core = Core::new(alloc, config)?;
         Ok(Alone { alloc, core, outs })
     }
 
