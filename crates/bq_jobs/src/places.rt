@@ -3,7 +3,7 @@ ghost use Rattle.std.specs.Cmp as Cmp;
 ghost use Rattle.bq_jobs.specs.Groups.{group_at, group_cmp, group_number, group_total, list_number};
 ghost use Rattle.bq_jobs.specs.Names.{number_in};
 ghost use Rattle.std.proofs.Common.{refl};
-ghost use Rattle.std.specs.Ordering.{as_partial_cmp, eq_by_cmp};
+ghost use Rattle.std.specs.Ordering.{as_partial_cmp, eq_by_cmp, is_gt, is_lt};
 ghost use Rattle.std.specs.Prelude.{◌≡◌, ◌+◌, ◌<◌, ◌≤◌, length, is_some, if◌then◌else◌, IsSome, OnOk, None};
 ghost use Rattle.bq_jobs.specs.Places.{group_place, in_groups_at, in_timers_at, timer_place};
 ghost use Rattle.bq_index.specs.Shelf.{ComparesFew};
@@ -229,10 +229,29 @@ impl<G: Ord> Ord for ShelfPlace<G> {
     ghost matches_eq = { λ a b. refl };
 
     fn cmp(&self, other: &ShelfPlace<G>) -> Ordering {
-        self.group
-            .cmp(&other.group)
-            .then_with(|| self.cmp_numbers(other))
+        // Each way has a branch of its own, so that a search goes on from it with no order made first.
+        if is_below(&self.group, &other.group) {
+            Ordering::Less
+        } else if is_above(&self.group, &other.group) {
+            Ordering::Greater
+        } else {
+            self.cmp_numbers(other)
+        }
     }
+}
+
+// Whether the one comes before the other, and whether behind it. In a function of its own each is one test of two numbers; an
+// order that is asked twice is made first.
+fn is_below<G: Ord>(group: &G, other: &G) -> bool
+    ensures { result ≡ is_lt (G.cmp group.now other.now) }
+{
+    group.cmp(other).is_lt()
+}
+
+fn is_above<G: Ord>(group: &G, other: &G) -> bool
+    ensures { result ≡ is_gt (G.cmp group.now other.now) }
+{
+    group.cmp(other).is_gt()
 }
 
 /// What ends at a moment: a delay or a lease.
@@ -260,10 +279,14 @@ impl<G> ShelfPlace<G> {
     fn cmp_numbers(&self, other: &ShelfPlace<G>) -> Ordering
         ensures { result ≡ numbers_cmp self.now other.now }
     {
-        self.at
-            .get()
-            .cmp(&other.at.get())
-            .then_with(|| self.id.get().cmp(&other.id.get()))
+        let (at, other_at) = (self.at.get(), other.at.get());
+        if at < other_at {
+            Ordering::Less
+        } else if at > other_at {
+            Ordering::Greater
+        } else {
+            self.id.get().cmp(&other.id.get())
+        }
     }
 }
 
