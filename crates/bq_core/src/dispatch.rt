@@ -206,25 +206,10 @@ fn next_job(state: &mut CoreParts) -> Option<JobId>
     }
 }
 
-// The seat of the client that has waited longest of those that wait at this tube. Where one client
-// alone may have any job, it is that one, and no other is looked at.
-fn taker(stir: &Stir, seats: &[SeatRecord], turns: &[Turn], tube: &TubeName) -> Option<Seat>
-    requires numbered { AreNumbered seats.now }
-    requires turns { turns.now ≡ turns_of seats.now }
-    requires some { list_any (waits_at tube.now) seats.now ≡ true }
-    requires known { AllByRecursion
-        (λ s. waits_at tube.now s ≡ true → may_get stir.now tube.now s.number ≡ true) seats.now }
-    ensures { result
-        ≡ option_map (λ s. s.number) (first_of (waits_at tube.now) is_wait_before seats.now) }
-{
-    match stir {
-        Stir::Client(seat) => Some(*seat),
-        _ => seats::first_waiting(seats, turns, tube),
-    }
-}
-
-// The client that gets the next job, and one more owner of the job's body, unless it is refused.
-fn pick(state: &mut CoreParts, id: JobId) -> Option<(Seat, Result<Body, NoMemory>)>
+// The client that has waited longest at the tube of the next job, and one more owner of the job's body, unless it is
+// refused. It is out of line, since it makes room for the tube's name.
+#[inline(never)]
+fn pick_at_tube(state: &mut CoreParts, id: JobId) -> Option<(Seat, Result<Body, NoMemory>)>
     requires next { Some id ≡ option_map (λ j. j.id) (next_job (machine_of state.old)) }
     ensures some { is_some result ≡ true }
     ensures picked { IfSome result (λ p. IsPicked (machine_of state.old) p.0) }
@@ -232,13 +217,27 @@ fn pick(state: &mut CoreParts, id: JobId) -> Option<(Seat, Result<Body, NoMemory
     ensures kept { Looks 1 state.old state.new }
 {
     let (tube, shared) = state.jobs.share(id)?;
-    let seat = taker(
-        &state.known.stir,
-        state.seats.as_slice(),
-        state.waiting.as_slice(),
-        &tube,
-    )?;
+    let seat = seats::first_waiting(state.seats.as_slice(), state.waiting.as_slice(), &tube)?;
     Some((seat, shared))
+}
+
+// The client that gets the next job, and one more owner of the job's body, unless it is refused. Where one client alone
+// may have any job, it is that one, and neither the others nor the job's tube are looked at.
+fn pick(state: &mut CoreParts, id: JobId) -> Option<(Seat, Result<Body, NoMemory>)>
+    requires next { Some id ≡ option_map (λ j. j.id) (next_job (machine_of state.old)) }
+    ensures some { is_some result ≡ true }
+    ensures picked { IfSome result (λ p. IsPicked (machine_of state.old) p.0) }
+    ensures share { IfSome result (λ p. IfOk p.1 (IsBodyOf (next_job (machine_of state.old)))) }
+    ensures kept { Looks 1 state.old state.new }
+{
+    match &state.known.stir {
+        Stir::Client(seat) => {
+            let seat = *seat;
+            let shared = state.jobs.share_body(id)?;
+            Some((seat, shared))
+        }
+        _ => pick_at_tube(state, id),
+    }
 }
 
 // The client at the seat gets the job, with this share of its body.

@@ -203,6 +203,17 @@ impl Jobs {
         Some((*tube, body))
     }
 
+    /// One more owner of the body of the job of this id, unless that is refused. The name of its tube isn't looked for.
+    #[tactic(auto, using(crate::proofs::NamedJobs::shares))]
+    pub fn share_body(&mut self, id: JobId) -> Option<Result<Body, NoMemory>>
+        ensures none { is_some result ≡ is_some (job_with id self.old.jobs) }
+        ensures body { IfSome result (λ s. IfOk s (IsBodyOf (job_with id self.old.jobs))) }
+        ensures same { self.new ≡ record self.old { comparisons = self.new.comparisons } }
+        ensures comparisons { ComparesAtMost 1 self.old self.new }
+    {
+        self.rows.share_body(id)
+    }
+
     /// The id of the most urgent ready job of a tube: by priority, then by id.
     #[tactic(auto, using(crate::proofs::FirstJobs::held_id))]
     pub fn first_ready(&mut self, tube: &TubeName) -> Option<JobId>

@@ -217,6 +217,19 @@ impl Rows {
         }
     }
 
+    /// One more owner of the body of the job of this id, unless that is refused.
+    pub(crate) fn share_body(&mut self, id: JobId) -> Option<Result<Body, NoMemory>>
+        ensures none { is_some result ≡ is_some (job_with id self.old.jobs) }
+        ensures body { IfSome result (λ s. IfOk s (IsBodyOf (job_with id self.old.jobs))) }
+        ensures same { self.new ≡ record self.old { comparisons = self.new.comparisons } }
+        ensures comparisons { ComparesAtMost 1 self.old self.new }
+    {
+        match self.get(id) {
+            None => None,
+            Some(row) => Some(row.body.share()),
+        }
+    }
+
     /// The number and the id of the first job that a holder has: by that number, then by id.
     pub(crate) fn first_of_group(&mut self, group: Group) -> Option<(u64, JobId)>
         ensures rank { result ≡ first_held group self.old.jobs }

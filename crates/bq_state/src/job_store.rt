@@ -260,10 +260,7 @@ pub(crate) fn share(jobs: &mut Jobs, id: JobId) -> Option<Result<Body, NoMemory>
     ensures same { jobs.new ≡ record jobs.old { comparisons = jobs.new.comparisons } }
     ensures comparisons { ComparesAtMost 1 jobs.old jobs.new }
 {
-    match jobs.share(id) {
-        None => None,
-        Some((_, body)) => Some(body),
-    }
+    jobs.share_body(id)
 }
 
 // The room of one job goes back to the heap, where there is room for so many more than there are.
