@@ -17,6 +17,7 @@ pub mod NameLemmas
 pub mod NamedLemmas
 pub mod PartsLemmas
 pub mod PauseLemmas
+pub mod PausedLemmas
 pub mod SeatPlaces
 pub mod StirLemmas
 pub mod TallyLemmas

@@ -167,11 +167,14 @@ impl Tubes {
         self.kept.peek(name)
     }
 
-    /// Whether the tube of this name is paused.
+    /// Whether the tube of this name is paused. Where none is, it isn't looked for.
     pub fn is_paused(&self, name: &TubeName) -> bool
         ensures { result
             ≡ list_any (λ t. is_same_name name.now t.name && is_some t.pause) self.now.entries }
     {
+        if self.ends.len() == 0 {
+            return false;
+        }
         match self.entry_of(name) {
             None => false,
             Some(entry) => entry.is_paused(),
