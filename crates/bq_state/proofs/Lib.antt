@@ -1,3 +1,4 @@
+pub mod AliveLemmas
 pub mod ClientLemmas
 pub mod CrowdLemmas
 pub mod CrowdPlaces

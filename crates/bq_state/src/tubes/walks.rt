@@ -49,11 +49,12 @@ impl Visitor<TubeName, TubeEntry> for HowMany {
     }
 }
 
-/// Whether the tube of an entry exists.
+/// Whether the tube of an entry exists. Its name is compared last, since that of the default tube is made for it.
+#[tactic(auto, using(crate::proofs::AliveLemmas::name_last))]
 pub(crate) fn is_alive(name: &TubeName, entry: &TubeEntry) -> bool
     ensures { result ≡ is_alive_with name.now entry.now }
 {
-    *name == default_tube() || entry.tally().has_jobs() || entry.crowd().has_seats()
+    entry.tally().has_jobs() || entry.crowd().has_seats() || *name == default_tube()
 }
 
 // Adds the name of an entry, if its tube exists. It takes no memory.
