@@ -1,0 +1,28 @@
+//! Another owner of a job's body.
+
+use crate::putting::{job, put, tube};
+use bq_job::{JobId, JobState};
+use bq_jobs::Jobs;
+use std::test::Fail;
+
+// Whether there is a job of this id, of which another owner reads these bytes.
+fn reads(jobs: &mut Jobs, id: JobId, bytes: &[u8]) -> bool {
+    match jobs.share_body(id) {
+        Some(Ok(body)) => body.as_slice() == bytes,
+        _ => false,
+    }
+}
+
+#[test]
+fn bodies_are_shared(rt: HostRuntime) -> Result<(), Fail> {
+    let name = tube(&rt, "default");
+    let mut jobs = Jobs::new();
+    jobs.reserve_one(rt.alloc())?;
+    let own = job(rt.alloc(), 7, name, 3, JobState::Ready)?;
+    assert!(rt; put(rt.alloc(), &mut jobs, own));
+    assert!(rt; reads(&mut jobs, 7, b"abc"));
+    assert!(rt; jobs.share_body(8).is_none());
+    assert!(rt; jobs.remove(7).is_some());
+    assert!(rt; jobs.share_body(7).is_none());
+    Ok(())
+}
