@@ -3,8 +3,11 @@ use Rattle.std.specs.Prelude.{◌≡◌, if◌then◌else◌, Bool, List, None, 
 use Rattle.bq_job.specs.{declared.job.Job.Job, machine.{SeatRecord, TubeRecord}}
 use Rattle.bq_jobs.specs.declared.row.Moved.{Moved}
 use Rattle.bq_state.specs.declared.{known.Known.Known, seats.SeatChange.SeatChange, tubes.entry.{Share.Share, TubeChange.TubeChange}}
-use Rattle.bq_state.specs.{Clients.{clients_of, clients_with, clients_without}, Crowds.AreCrowds, Dues.{first_pause_end, pause_end_after, pause_end_left}, FirstEnds.{AreTimeouts, end_after}, KeptTubes.KeptTubes, Leaving.loss_of}
-use Rattle.bq_state.specs.{Losses.{AreAlive, with_lost, with_regained}, Stirs.{AreKnown, stirred_by_change, stirred_by_seat, with_stirred}, Tallies.{AreCounted, tally_moved, tally_of, tally_with, tally_without}, TubeEntries.counted}
+use Rattle.bq_state.specs.{Clients.{clients_of, clients_with, clients_without}, Crowds.AreCrowds}
+use Rattle.bq_state.specs.{Dues.{first_pause_end, pause_end_after, pause_end_left}, FirstEnds.{AreTimeouts, end_after}, KeptTubes.KeptTubes}
+use Rattle.bq_state.specs.Leaving.{loss_of}
+use Rattle.bq_state.specs.{Losses.{AreAlive, with_lost, with_regained}, Stirs.{AreKnown, stirred_by_change, stirred_by_seat, with_stirred}}
+use Rattle.bq_state.specs.{Tallies.{AreCounted, tally_moved, tally_of, tally_with, tally_without}, TubeEntries.counted}
 use Rattle.bq_state.specs.Warnings.{AreWarned, warned_by_seat, with_holder_of}
 use Rattle.bq_state.specs.declared.known.FirstEnd.TheVariants as ends
 use Rattle.bq_state.specs.declared.known.Loss.TheVariants as losses
