@@ -115,9 +115,32 @@ where
     }
 }
 
-// Balances a box in its place whose sides differ by up to two.
+// Balances a box in place. Its sides differ by two levels at most.
+#[tactic(auto, using(crate::proofs::Parts::set_level))]
 #[inline(never)]
 fn rebalance<K, V>(node: &mut Node<K, V>)
+where
+    K: Drop,
+    V: Drop,
+    requires filled { IsSome (entry_in node.old) }
+    requires left_balanced { IsBalancedFrom (left_in node.old) }
+    requires right_balanced { IsBalancedFrom (right_in node.old) }
+    requires near { DifferByAtMost 2 (height_of (left_in node.old)) (height_of (right_in node.old)) }
+    requires fits { max (height_of (left_in node.old)) (height_of (right_in node.old)) < 254 }
+    ensures { IsRebalanced (left_in node.old) (entry_in node.old) (right_in node.old) (Some node.new) }
+{
+    let (left, right) = (node.left_height(), node.right_height());
+    if left <= right + 1 && right <= left + 1 {
+        // Only the height changed: no entry moves.
+        node.set_height(left.max(right) + 1);
+        return;
+    }
+    turn(node);
+}
+
+// Takes a box apart and rebuilds it balanced. Called for sides that differ by two levels.
+#[inline(never)]
+fn turn<K, V>(node: &mut Node<K, V>)
 where
     K: Drop,
     V: Drop,

@@ -1,7 +1,7 @@
 // A balanced tree of boxes, seen by its entries in order and its height; and the chain of the spare boxes.
 ghost use Rattle.std.specs.Prelude.{◌≡◌, ◌+◌, ◌<◌, max, [], IsSome, IfSome, IfNone, IfOk, Some};
 ghost use Rattle.bq_index.specs.Tree.{chain_length, entries, entries_of, entry_in, height, height_in};
-ghost use Rattle.bq_index.specs.Tree.{height_of, held, left_in, length_behind, lent, right_in};
+ghost use Rattle.bq_index.specs.Tree.{height_of, held, left_in, length_behind, lent, right_in, with_height};
 ghost use Rattle.bq_index.specs.Tree.{IsBalanced, IsBalancedFrom, IsKeyOf, IsLevel, HasParts, DifferByAtMost};
 
 use super::NoMemory;
@@ -77,6 +77,16 @@ impl<K, V> Node<K, V> {
             Node::OnRight { right, .. } => right.height(),
             Node::Both { right, .. } => right.height(),
             _ => 0,
+        }
+    }
+
+    // Stores a new height in a box with two sides. Other boxes store none.
+    #[inline(always)]
+    pub(crate) fn set_height(&mut self, high: u8)
+        ensures { self.new ≡ with_height high self.old }
+    {
+        if let Node::Both { height, .. } = self {
+            *height = high;
         }
     }
 
