@@ -4,7 +4,8 @@
 
 Each command of README.md, docs/OPERATING.md, docs/MOVING.md and the man pages is run with the given programs, or it
 is known why it isn't; of the other pages it is known. What pages name as code has to be in the tree, and the counts
-of docs/HEADLINE.md have to be those of the definitions. The last line is 'N passed, M failed'; status 1 where one failed.
+of docs/HEADLINE.md have to be those of the definitions. Long sentences and phrases that have a plainer form are counted
+(prose.py). The last line is 'N passed, M failed'; status 1 where one failed.
 """
 import argparse
 import os
@@ -20,6 +21,7 @@ sys.path.insert(1, str(pathlib.Path(__file__).resolve().parent.parent / "runs"))
 
 import commands
 import names
+import prose
 import reach
 from pages import ROOT, codes, manual_commands, manuals, markdown, place, shell_lines
 
@@ -76,6 +78,8 @@ def main():
             faults += [] if known else [f"{where}: `{text}` isn't there"]
         held += 1
         faults += reach.faults()
+        held += len(prose.BUDGETS)
+        faults += prose.faults()
     finally:
         room.close()
     for fault in faults:
