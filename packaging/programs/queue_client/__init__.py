@@ -1,0 +1,5 @@
+"""A client of the work queue's protocol, shared by the programs for operators. Servers: bqd and beanstalkd."""
+from .faults import Fault, Refused, said
+from .server import STATES, Job, Server
+
+__all__ = ["Fault", "Job", "Refused", "STATES", "Server", "said"]

@@ -1,0 +1,47 @@
+"""What there is to show of a server and its tubes at one moment, as a record."""
+from .reading import COUNTS, DELETES, PUTS, TIMEOUTS, rate
+
+# What is shown of a tube: the heading and the statistic that it is.
+COLUMNS = {
+    **COUNTS,
+    "using": "current-using",
+    "watching": "current-watching",
+    "waiting": "current-waiting",
+    "pause": "pause-time-left",
+}
+
+# What is shown of a tube as a rate a second, and the statistic that counts it.
+RATES = {"put_rate": PUTS, "deleted_rate": DELETES}
+
+RATES_OF_SERVER = {"put_rate": PUTS, "timeout_rate": TIMEOUTS}
+
+
+def numbers_of(found):
+    """The numbers of a tube."""
+    return {heading: found[key] for heading, key in COLUMNS.items()}
+
+
+def rates_of(wanted, earlier, later, passed):
+    """The rates of a tube or of the server, by two of its statistics; None for each if no time has passed."""
+    return {name: rate(earlier, later, key, passed) if passed else None for name, key in wanted.items()}
+
+
+def picture(name, earlier, later):
+    """What there is to show of two readings. Without an earlier one there are no rates."""
+    passed = later.moment - earlier.moment if earlier else None
+
+    def tube(it, now):
+        return {"name": it, **numbers_of(now), **rates_of(RATES, earlier and earlier.tubes.get(it), now, passed)}
+
+    return {
+        "server": name,
+        "time": round(later.time, 3),
+        "seconds": passed,
+        **{it: later.server[key] for it, key in COUNTS.items()},
+        "timeouts": later.server[TIMEOUTS],
+        "connections": later.server["current-connections"],
+        "waiting": later.server["current-waiting"],
+        "draining": later.server["draining"] == "true",
+        **rates_of(RATES_OF_SERVER, earlier and earlier.server, later.server, passed),
+        "tubes": [tube(it, now) for it, now in later.tubes.items()],
+    }

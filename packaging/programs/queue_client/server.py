@@ -1,0 +1,179 @@
+"""The commands of the protocol that an operator's programs send, and what their answers mean."""
+import collections
+import re
+
+from .connection import Connection
+from .faults import Refused
+from .texts import names_of, statistics_of
+from .words import shown
+
+# The states in which a job can be peeked at and deleted by whoever likes.
+STATES = ("ready", "delayed", "buried")
+
+# Texts of statistics are some hundred bytes; a list has a line of at most 203 bytes for each tube.
+LARGEST_TEXT = 64 << 20
+
+# beanstalkd can be told to take bodies of up to a gibibyte.
+LARGEST_BODY = 1 << 30
+
+# How many commands are sent before their answers are read: few enough that neither side's buffers fill.
+TOGETHER = 50
+
+# Words by which a server refuses a command. After any of them the next answer is that of the next command.
+REFUSALS = {b"OUT_OF_MEMORY", b"INTERNAL_ERROR", b"DRAINING", b"JOB_TOO_BIG", b"EXPECTED_CRLF", b"BAD_FORMAT",
+            b"UNKNOWN_COMMAND", b"NOT_FOUND"}
+
+Job = collections.namedtuple("Job", "id body")
+
+
+class Server:
+    """A server, by one connection. Each answer has to come within `patience` seconds."""
+
+    def __init__(self, host, port, patience):
+        self.name = shown(host, port)
+        self.connection = Connection(self.name, host, port, patience)
+
+    def close(self):
+        """Closes the connection. Jobs that were reserved by it go back to the queue."""
+        self.connection.close()
+
+    def statistics(self):
+        """Returns the server's statistics by their keys."""
+        self._send("stats")
+        return self._statistics("stats")
+
+    def tubes(self):
+        """Returns the names of the tubes, in the server's order."""
+        self._send("list-tubes")
+        names = names_of(self._text("list-tubes"))
+        if names is None:
+            raise self.connection.odd("list-tubes", "no list of tubes")
+        return names
+
+    def tube_statistics(self, names):
+        """Returns the statistics of these tubes; None for a tube that has gone."""
+        told = []
+        for first in range(0, len(names), TOGETHER):
+            commands = [f"stats-tube {it}" for it in names[first : first + TOGETHER]]
+            self._send(*commands)
+            told += [self._statistics(it, may_lack=True) for it in commands]
+        return told
+
+    def tube(self, name):
+        """Returns the statistics of a tube, or None if there is no such tube."""
+        return self.tube_statistics([name])[0]
+
+    def job(self, job_id):
+        """Returns the statistics of a job, or None if there is no such job."""
+        command = f"stats-job {job_id}"
+        self._send(command)
+        return self._statistics(command, may_lack=True)
+
+    def use(self, tube):
+        """Makes the tube the one that puts, peeks and kicks go to. It exists from then on."""
+        self._send(f"use {tube}")
+        self._answer("use", {b"USING " + tube.encode(): True})
+
+    def peek(self, state):
+        """Returns the first job of that state in the used tube, or None."""
+        self._send(f"peek-{state}")
+        return self._job(f"peek-{state}", b"FOUND")
+
+    def put(self, priority, delay, ttr, body):
+        """Puts a job into the used tube, and returns its id."""
+        self.connection.send(f"put {priority} {delay} {ttr} {len(body)}\r\n".encode() + body + b"\r\n")
+        head = self.connection.head("put")
+        found = re.fullmatch(rb"INSERTED ([0-9]{1,20})", head)
+        if not found:
+            raise self._unwanted("put", head)
+        return int(found[1])
+
+    def reserve_job(self, job_id):
+        """Reserves a ready, delayed or buried job, and returns it; None if it is in no such state."""
+        command = f"reserve-job {job_id}"
+        self._send(command)
+        return self._job(command, b"RESERVED")
+
+    def delete(self, job_id):
+        """Deletes a job. Returns whether it was there and was not reserved by another client."""
+        return self._acts(f"delete {job_id}", b"DELETED")
+
+    def delete_and_peek(self, job_id, state):
+        """Deletes a job as `delete` does, and returns with it the job that `peek` finds then, in one round trip."""
+        self._send(f"delete {job_id}", f"peek-{state}")
+        deleted = self._answer("delete", {b"DELETED": True, b"NOT_FOUND": False})
+        return deleted, self._job(f"peek-{state}", b"FOUND")
+
+    def bury(self, job_id, priority):
+        """Buries a job that this connection reserved. Returns whether it still had it."""
+        return self._acts(f"bury {job_id} {priority}", b"BURIED")
+
+    def release(self, job_id, priority, delay):
+        """Releases a job that this connection reserved. Returns whether it still had it."""
+        return self._acts(f"release {job_id} {priority} {delay}", b"RELEASED")
+
+    def kick(self, bound):
+        """Kicks at most so many buried jobs of the used tube, or delayed ones if none is buried; returns how many."""
+        self._send(f"kick {bound}")
+        head = self.connection.head("kick")
+        found = re.fullmatch(rb"KICKED ([0-9]{1,20})", head)
+        if not found:
+            raise self._unwanted("kick", head)
+        return int(found[1])
+
+    def pause(self, tube, seconds):
+        """Pauses a tube, or with 0 ends its pause. Returns whether there is such a tube."""
+        return self._acts(f"pause-tube {tube} {seconds}", b"PAUSED")
+
+    def _send(self, *commands):
+        self.connection.send("".join(it + "\r\n" for it in commands).encode())
+
+    def _acts(self, command, done):
+        self._send(command)
+        return self._answer(command.split(" ")[0], {done: True, b"NOT_FOUND": False})
+
+    def _answer(self, command, meanings):
+        head = self.connection.head(command)
+        if head not in meanings:
+            raise self._unwanted(command, head)
+        return meanings[head]
+
+    def _job(self, command, word):
+        """The job that the next answer carries behind that word; None for NOT_FOUND."""
+        head = self.connection.head(command)
+        if head == b"NOT_FOUND":
+            return None
+        found = re.fullmatch(word + rb" ([0-9]{1,20}) ([0-9]{1,10})", head)
+        if not found or int(found[2]) > LARGEST_BODY:
+            raise self._unwanted(command, head)
+        body = self.connection.taken(int(found[2]) + 2, command)
+        if not body.endswith(b"\r\n"):
+            raise self.connection.odd(command, "a body without its end")
+        return Job(int(found[1]), body[:-2])
+
+    def _statistics(self, command, may_lack=False):
+        text = self._text(command, may_lack)
+        if text is None:
+            return None
+        found = statistics_of(text)
+        if found is None:
+            raise self.connection.odd(command, "no statistics")
+        return found
+
+    def _text(self, command, may_lack=False):
+        """The text that the next answer has; None for NOT_FOUND, if that may be."""
+        head = self.connection.head(command)
+        if may_lack and head == b"NOT_FOUND":
+            return None
+        found = re.fullmatch(rb"OK ([0-9]{1,9})", head)
+        if not found or int(found[1]) > LARGEST_TEXT:
+            raise self._unwanted(command, head)
+        text = self.connection.taken(int(found[1]) + 2, command)
+        if not text.startswith(b"---\n") or not text.endswith(b"\r\n") or not text.isascii():
+            raise self.connection.odd(command, "a text that is none of its kind")
+        return text[:-2].decode()
+
+    def _unwanted(self, command, head):
+        """The fault that a command was answered by this head."""
+        fault = self.connection.odd(command, repr(head.decode("ascii", "replace")))
+        return Refused(*fault.args) if head in REFUSALS else fault

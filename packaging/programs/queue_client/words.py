@@ -1,0 +1,61 @@
+"""Words of a command line: addresses, tubes and numbers. Each reader fails as argparse wants it."""
+import argparse
+import math
+import re
+
+from .texts import TUBE_NAME
+
+DEFAULT_PORT = 11300
+
+# The largest priority, delay, time to run and bound of the protocol.
+LARGEST_NUMBER = (1 << 32) - 1
+
+
+def address(word, default_port=DEFAULT_PORT):
+    """The host and the port of HOST, HOST:PORT, [HOST] or [HOST]:PORT."""
+    found = re.fullmatch(r"(?:\[([0-9A-Fa-f:.%\w]+)\]|([^\s:\[\]]+))(?::([0-9]{1,5}))?", word)
+    port = int(found[3] or default_port) if found else 0
+    if not 1 <= port <= 65535:
+        raise argparse.ArgumentTypeError(f"{word!r} is no address such as 127.0.0.1:{default_port}")
+    return found[1] or found[2], port
+
+
+def shown(host, port):
+    """An address as one writes it."""
+    return f"[{host}]:{port}" if ":" in host else f"{host}:{port}"
+
+
+def tube(word):
+    """A tube's name."""
+    if not TUBE_NAME.fullmatch(word):
+        raise argparse.ArgumentTypeError(
+            f"{word!r} is no name of a tube: 1 to 200 letters, digits and -+/;.$_(), not - at its beginning")
+    return word
+
+
+def seconds(least, most):
+    """What reads a number of seconds in a range."""
+    def read(word):
+        try:
+            value = float(word)
+        except ValueError:
+            value = math.nan
+        if not least <= value <= most:
+            raise argparse.ArgumentTypeError(f"{word!r} is no number of seconds from {least:.10g} to {most:.10g}")
+        return value
+    return read
+
+
+def whole(least, most=LARGEST_NUMBER):
+    """What reads a whole number in a range."""
+    def read(word):
+        if not re.fullmatch("[0-9]{1,20}", word) or not least <= int(word) <= most:
+            raise argparse.ArgumentTypeError(f"{word!r} is no whole number from {least} to {most}")
+        return int(word)
+    return read
+
+
+def timeout(parser):
+    """Adds the option for how long an answer may take."""
+    parser.add_argument("--timeout", metavar="SECONDS", type=seconds(0.1, 3600), default=5.0,
+                        help="how long an answer may take, 0.1 to 3600; 5 unless chosen")
