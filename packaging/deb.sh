@@ -31,16 +31,17 @@ install -D -m 755 crates/bqd/out/bqd "$tree/usr/bin/bqd"
 # Not in /usr/bin: Google's cloud client has a program of that name there.
 install -D -m 755 crates/bq/out/bq "$tree/usr/lib/bqd/bq"
 strip --remove-section=.comment --remove-section=.note "$tree/usr/bin/bqd" "$tree/usr/lib/bqd/bq"
-for module in queue_client; do
+for module in queue_client queue_control; do
     install -D -m 644 -t "$tree/usr/share/bqd/$module" packaging/programs/$module/*.py
 done
-for program in bqd-drain bqd-top; do
+for program in bqctl bqd-drain bqd-top; do
     install -m 755 "packaging/programs/$program" "$tree/usr/share/bqd/$program"
     ln -s "../share/bqd/$program" "$tree/usr/bin/$program"
 done
+install -D -m 644 -t "$tree/usr/share/bash-completion/completions" packaging/completion/bqctl
 install -D -m 644 -t "$tree/lib/systemd/system" packaging/bqd.service packaging/bqd.socket
 install -D -m 644 packaging/bqd.default "$tree/etc/default/bqd"
-install -D -m 644 -t "$tree/usr/share/man/man1" packaging/bqd.1 packaging/bqd-drain.1 packaging/bqd-top.1
+install -D -m 644 -t "$tree/usr/share/man/man1" packaging/bqd.1 packaging/bqctl.1 packaging/bqd-drain.1 packaging/bqd-top.1
 install -D -m 644 -t "$tree/usr/share/doc/bqd" README.md docs/*.md docs/speed.svg packaging/bq.1
 install -D -m 644 packaging/changelog "$tree/usr/share/doc/bqd/changelog"
 install -D -m 644 LICENSE "$tree/usr/share/doc/bqd/copyright"

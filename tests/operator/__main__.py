@@ -1,11 +1,12 @@
-"""Runs of what an operator watches and drains a server with, bqd-top and bqd-drain of packaging/programs.
+"""Runs of the programs for operators in packaging/programs: bqctl, bqd-drain and bqd-top.
 
     python3 tests/operator --bqd PATH [--beanstalkd PATH] [NAME ..]
 
-Each goes beside bqd, and beside a server made here that answers what it is told to. What bqd-top shows of
-beanstalkd is tried where that is given. The last line is 'N passed, M failed', and the status is 1 where one failed.
+Each goes beside bqd, or beside a server made here that answers what it is told to. If beanstalkd is given, what works
+with it too is run beside it as well. The last line is 'N passed, M failed', and the status is 1 if one failed.
 """
 import argparse
+import functools
 import os
 import pathlib
 import signal
@@ -17,18 +18,36 @@ sys.dont_write_bytecode = True
 sys.path.insert(1, str(pathlib.Path(__file__).resolve().parent.parent / "runs"))
 
 import canned_runs
+import ctl_runs
+import move_runs
 import server_runs
+from beanstalkd import Beanstalkd
+from servers import Server
+
+# The runs, by their files.
+FILES = [canned_runs, server_runs, ctl_runs, move_runs]
 
 
-def passes(run, *programs):
-    """Whether a run goes as it has to. What went wrong is told."""
+def passes(run, words):
+    """Returns whether a run goes as it has to, and prints what went wrong."""
     try:
-        run(*programs)
+        run(*words)
         return True
     except Exception:
         print(f"FAILED {run.__module__}.{run.__name__}: {run.__doc__}")
         traceback.print_exc(file=sys.stdout)
         return False
+
+
+def kinds(bqd, beanstalkd):
+    """What the runs of each kind are given, by how their names begin: each run goes once with each of these words.
+
+    A run beside each server is given what starts one: a call that takes the server's words.
+    """
+    found = {"run_": [[]], "bqd_run_": [[bqd]], "each_run_": [[functools.partial(Server, bqd)]]}
+    if beanstalkd:
+        found["each_run_"].append([functools.partial(Beanstalkd, os.path.abspath(beanstalkd))])
+    return found
 
 
 def main():
@@ -39,18 +58,16 @@ def main():
     words = parser.parse_args()
     # Where it is begun in the background interrupts are ignored, and the programs would take that over.
     signal.signal(signal.SIGINT, signal.default_int_handler)
-    given = {"run_": [], "bqd_run_": [os.path.abspath(words.bqd)]}
-    if words.beanstalkd:
-        given["beanstalkd_run_"] = [os.path.abspath(words.beanstalkd)]
     passed, failed = 0, 0
-    for name, run in [*vars(canned_runs).items(), *vars(server_runs).items()]:
+    for name, run in [pair for file in FILES for pair in vars(file).items()]:
         kind = name[: name.find("run_") + len("run_")]
-        if kind not in given or (words.names and not any(it in name for it in words.names)):
+        if words.names and not any(it in name for it in words.names):
             continue
-        if passes(run, *given[kind]):
-            passed += 1
-        else:
-            failed += 1
+        for given in kinds(os.path.abspath(words.bqd), words.beanstalkd).get(kind, []):
+            if passes(run, given):
+                passed += 1
+            else:
+                failed += 1
     print(f"{passed} passed, {failed} failed")
     return 1 if failed or not passed else 0
 

@@ -19,6 +19,11 @@ def drain(*words, **more):
     return ended(sys.executable, PROGRAMS / "bqd-drain", *words, **more)
 
 
+def ctl(*words, **more):
+    """How bqctl ends with these words."""
+    return ended(sys.executable, PROGRAMS / "bqctl", *words, **more)
+
+
 def ok(text):
     """The answer that has a text."""
     return b"OK %d\r\n%s\r\n" % (len(text), text)

@@ -14,8 +14,14 @@ from programs import Ended, same
 from servers import Server, awaits
 
 
+def each_run_jobs(start):
+    """bqd-top shows the jobs of two tubes by their states, and what is put meanwhile."""
+    with start() as server:
+        shows_jobs(server)
+
+
 def shows_jobs(server):
-    """That bqd-top shows the jobs of two tubes by their states, and what is put meanwhile."""
+    """That bqd-top shows them."""
     client = server.client()
     client.asks(b"put 0 0 60 1\r\na\r\nput 0 60 60 1\r\nb\r\nput 0 0 60 1\r\nc\r\n", b"INSERTED 1\r\nINSERTED 2\r\nINSERTED 3\r\n")
     client.asks(b"reserve-job 1\r\nbury 1 0\r\nreserve-job 3\r\n", b"RESERVED 1 1\r\na\r\nBURIED\r\nRESERVED 3 1\r\nc\r\n")
@@ -37,27 +43,6 @@ def shows_jobs(server):
     same([shown[it] for it in [*states, "connections", "waiting", "draining"]], [1, 1, 1, 1, 2, 0, False])
     mail = next(it for it in shown["tubes"] if it["name"] == "mail")
     same([round(mail[it] * shown["seconds"], 6) for it in ["put_rate", "deleted_rate"]], [1, 1])
-
-
-def bqd_run_jobs(bqd):
-    """Jobs of each state, and rates."""
-    with Server(bqd) as server:
-        shows_jobs(server)
-
-
-def beanstalkd_run_jobs(beanstalkd):
-    """The same of beanstalkd."""
-    with Beanstalkd(beanstalkd) as server:
-        shows_jobs(server)
-
-
-class Beanstalkd(Server):
-    """beanstalkd, which tells nothing when it listens."""
-
-    def __init__(self, program):
-        from servers import free_port
-        port = free_port()
-        super().__init__(program, port=port, listen=["-l", "127.0.0.1", "-p", str(port)], stdout=subprocess.DEVNULL)
 
 
 def bqd_run_many_tubes(bqd):

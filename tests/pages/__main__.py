@@ -39,12 +39,18 @@ def shown_commands():
 
 
 def options(programs):
-    """The options of the programs, as their help has them."""
+    """The options of the programs, as their help has them, and of the commands that it lists."""
     found = set()
     for program in programs:
-        told = subprocess.run([program, "--help"], capture_output=True, text=True, check=True).stdout
-        found.update(re.findall(r"(?<![-\w])--?[A-Za-z][-\w]*", told))
+        told = help_of(program)
+        commands_listed = re.findall(r"^    (\w+)  ", told, re.M) if "COMMAND ..." in told else []
+        for text in [told, *(help_of(program, it) for it in commands_listed)]:
+            found.update(re.findall(r"(?<![-\w])--?[A-Za-z][-\w]*", text))
     return found
+
+
+def help_of(*words):
+    return subprocess.run([*words, "--help"], capture_output=True, text=True, check=True).stdout
 
 
 def faults_of_commands(room):
@@ -72,7 +78,7 @@ def main():
     room = commands.Room(*programs)
     try:
         held, faults = faults_of_commands(room)
-        own = [f"{room.folder}/bin/{it}" for it in ["bqd-top", "bqd-drain"]]
+        own = [f"{room.folder}/bin/{it}" for it in commands.OPERATORS]
         for where, text, known in names.named(options(programs + own), commands.is_command):
             held += 1
             faults += [] if known else [f"{where}: `{text}` isn't there"]

@@ -18,14 +18,18 @@ from pages import ROOT
 from programs import PATIENCE
 from servers import Server, free_port
 
-# The port that pages write, and the pipe of the service.
+# The port that pages write, that of a second server, and the pipe of the service.
 PORT = "11300"
+OTHER = "11301"
 CONTROL = "/run/bqd.control"
 
 RULES = []
 
+# The operator's programs, which the package installs beside the server.
+OPERATORS = ["bqctl", "bqd-drain", "bqd-top"]
+
 # First words of a line that is a command. A program's name alone is none.
-HEADS = """rt tools/build tools/warm tools/edits nc telnet systemctl journalctl apt echo bqd bq bqd-top bqd-drain prlimit ulimit
+HEADS = """rt tools/build tools/warm tools/edits nc telnet systemctl journalctl apt echo bqd bq bqctl bqd-top bqd-drain prlimit ulimit
     python3 sed printf packaging/deb.sh (cd crates/bqd/out/bqd crates/bq/out/bq bash""".split()
 
 
@@ -68,7 +72,7 @@ class Room:
         os.mkdir(f"{self.folder}/bin")
         for name, program in [("bq", bq), ("bqd", bqd)]:
             os.symlink(program, f"{self.folder}/bin/{name}")
-        for name in ["bqd-top", "bqd-drain"]:
+        for name in OPERATORS:
             os.symlink(ROOT / "packaging/programs" / name, f"{self.folder}/bin/{name}")
 
     def close(self):
@@ -157,6 +161,25 @@ def watches(room, command):
                     raise AssertionError(f"{command!r} ended with {process.returncode}")
     if "default" not in output:
         raise AssertionError(f"{command!r} told {output!r}")
+
+
+@rule(r"bqctl (clear|move)")
+def is_command_of_bqctl(room, name):
+    room.ends(f"bqctl {name} --help")
+    return "it is a part of a command"
+
+
+@rule(r"(bqctl .*)")
+def tidies(room, command):
+    """Beside a server whose tube default has a job of each state; a move goes to a second one."""
+    with Server(room.bqd) as server, Server(room.bqd) as other:
+        client = server.client()
+        client.asks(b"put 0 0 60 1\r\na\r\nput 0 60 60 1\r\nb\r\n", b"INSERTED 1\r\nINSERTED 2\r\n")
+        client.asks(b"put 0 0 60 1\r\nc\r\nreserve-job 3\r\nbury 3 0\r\n", b"INSERTED 3\r\nRESERVED 3 1\r\nc\r\nBURIED\r\n")
+        words = command.split(" ", 1)[1].replace(f"127.0.0.1:{OTHER}", f"127.0.0.1:{other.port}")
+        told = f"bqctl --server 127.0.0.1:{server.port} {words}"
+        if not room.ends(told, b"body"):
+            raise AssertionError(f"{command!r} told nothing")
 
 
 @contextlib.contextmanager

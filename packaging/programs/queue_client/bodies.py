@@ -1,0 +1,38 @@
+"""Bodies of jobs as a person can read them: text, or bytes in hexadecimal. They come from strangers."""
+import collections
+
+# What is shown of a body.
+LIMIT = 4096
+
+# `kind` is "text" or "hex", `text` what is shown, `shown` of `size` bytes.
+Body = collections.namedtuple("Body", "kind text shown size")
+
+
+def readable(body, limit=LIMIT):
+    """Returns the beginning of a body, as text if it is printable UTF-8, else as a dump of bytes."""
+    part = body[:limit]
+    text = text_of(part, cut=len(part) < len(body))
+    if text is None:
+        return Body("hex", dump(part), len(part), len(body))
+    return Body("text", text, len(text.encode()), len(body))
+
+
+def text_of(part, cut):
+    """The text of these bytes, or None if they are none. Where they are cut the last character may be cut too."""
+    for lacking in range(4 if cut else 1):
+        try:
+            text = part[: len(part) - lacking].decode()
+        except UnicodeDecodeError:
+            continue
+        return text if all(it.isprintable() or it in "\n\t" for it in text.replace("\r\n", "\n")) else None
+    return None
+
+
+def dump(part):
+    """Lines of sixteen bytes each: where they are, the bytes in hexadecimal, and those that are printable ASCII."""
+    lines = []
+    for first in range(0, len(part), 16):
+        row = part[first : first + 16]
+        ascii_part = "".join(chr(it) if 32 <= it < 127 else "." for it in row)
+        lines.append(f"{first:08x}  {row.hex(' ')[:23]:23}  {row[8:].hex(' '):23}  {ascii_part}")
+    return "\n".join(lines)

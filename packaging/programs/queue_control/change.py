@@ -1,0 +1,75 @@
+"""The commands that change a tube in one step: put, kick, pause and unpause."""
+from queue_client import Fault, said
+from queue_client.reading import COUNTS
+
+from .progress import Progress
+from .results import Result, Unfinished, jobs
+from .show import tube_of
+
+# How many jobs one command kicks at most: a server does nothing else meanwhile.
+KICKED_TOGETHER = 1000
+
+
+def put(server, asked):
+    """Puts a file or standard input as one job."""
+    body = body_of(server, asked.file)
+    server.use(asked.tube)
+    job_id = server.put(asked.priority, asked.delay, asked.ttr, body)
+    return Result({"id": job_id, "tube": asked.tube, "size": len(body)}, [f"put job {job_id} into {asked.tube}"])
+
+
+def body_of(server, path):
+    """Reads the body, if it isn't larger than the server takes."""
+    most = server.statistics().get("max-job-size")
+    if not isinstance(most, int):
+        raise Fault(f"{server.name} answered stats without a number for max-job-size")
+    try:
+        with open(0 if path == "-" else path, "rb", closefd=path != "-") as stream:
+            body = stream.read(most + 1)
+    except OSError as fault:
+        raise Fault(f"cannot read {'standard input' if path == '-' else path}: {said(fault)}") from None
+    if len(body) > most:
+        raise Fault(f"the body is too large: {server.name} takes at most {most} bytes")
+    return body
+
+
+def kick(server, asked):
+    """Makes buried jobs ready, or delayed ones if none is buried."""
+    found = tube_of(server, asked.tube)
+    state = "buried" if found[COUNTS["buried"]] else "delayed"
+    wanted = found[COUNTS[state]] if asked.all else asked.count or 1
+    server.use(asked.tube)
+    kicked, progress = 0, Progress("kicked", wanted)
+    try:
+        while kicked < wanted and (some := server.kick(min(wanted - kicked, KICKED_TOGETHER))):
+            kicked += some
+            progress.at(kicked)
+            if asked.interrupts.came:
+                raise Fault("interrupted")
+    except (Fault, KeyboardInterrupt) as fault:
+        raise Unfinished(fault, was_kicked(asked.tube, kicked, state)) from None
+    finally:
+        progress.end()
+    return was_kicked(asked.tube, kicked, state)
+
+
+def was_kicked(tube, kicked, state):
+    """The result of a kick."""
+    return Result({"tube": tube, "kicked": kicked, "state": state}, [f"kicked {jobs(kicked, kicked and state)} of {tube}"])
+
+
+def pause(server, asked):
+    """Pauses a tube, so that none of its jobs is handed out."""
+    paused(server, asked.tube, asked.seconds)
+    return Result({"tube": asked.tube, "pause": asked.seconds}, [f"paused {asked.tube} for {asked.seconds} seconds"])
+
+
+def unpause(server, asked):
+    """Ends the pause of a tube."""
+    paused(server, asked.tube, 0)
+    return Result({"tube": asked.tube, "pause": 0}, [f"{asked.tube} is not paused any more"])
+
+
+def paused(server, tube, seconds):
+    if not server.pause(tube, seconds):
+        raise Fault(f"{server.name} has no tube {tube}")

@@ -1,0 +1,65 @@
+"""Work on one job of a tube after the other, until none is left or it is interrupted: what clear and move share."""
+from queue_client import Fault
+from queue_client.reading import COUNTS
+
+from .progress import Progress
+from .results import Result, by_state, jobs
+
+
+class Sweep:
+    """Does jobs of the given states. `done` counts those that were done, by their states."""
+
+    def __init__(self, asked):
+        self.asked = asked
+        self.done = dict.fromkeys(asked.state, 0)
+
+    def count(self):
+        """How many jobs were done."""
+        return sum(self.done.values())
+
+    def one(self, state):
+        """Does the first job of a state. Returns whether there was one."""
+        raise NotImplementedError
+
+    def all(self, word, total):
+        """Does all jobs. `word` and `total` are for the line of progress.
+
+        A state is gone through until it has no job, and then all are again until none has: a delayed job may have
+        become ready meanwhile.
+        """
+        progress = Progress(word, total)
+        try:
+            while any([self._all_of(it, progress) for it in self.done]):
+                pass
+        finally:
+            progress.end()
+
+    def _all_of(self, state, progress):
+        """Does all jobs of a state. Returns whether there was one."""
+        found = False
+        while self.count() < self.asked.limit and self.one(state):
+            found = True
+            progress.at(self.count())
+            if self.asked.interrupts.came:
+                raise Fault("interrupted")
+        return found
+
+
+def planned(about, asked):
+    """How many jobs of each state there are to do, by the statistics of the tube."""
+    plan = {}
+    for state in asked.state:
+        plan[state] = min(about[COUNTS[state]], asked.limit - sum(plan.values()))
+    return plan
+
+
+def told(asked, word, counts, about, to=""):
+    """What was deleted or moved, or would be, and how many jobs stay that workers have reserved, if that is known."""
+    count = sum(counts.values())
+    reserved = about[COUNTS["reserved"]] if about else None
+    verb = {"deleted": "would delete", "moved": "would move"}[word] if asked.dry_run else word
+    line = f"{verb} {jobs(count)} of {asked.tube}{to}" + (f": {by_state(counts)}" if count else "")
+    if reserved:
+        line += f"; {jobs(reserved, 'reserved')} {'stays' if reserved == 1 else 'stay'}"
+    record = {"tube": asked.tube, "dry_run": asked.dry_run, word: count, **counts, "reserved": reserved}
+    return Result(record, [line])

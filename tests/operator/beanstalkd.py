@@ -1,0 +1,14 @@
+"""beanstalkd as a server that runs."""
+import subprocess
+
+from servers import Server, connected, free_port
+
+
+class Beanstalkd(Server):
+    """beanstalkd, which tells nothing when it listens, and takes the words `-z BYTES` as bqd does."""
+
+    def __init__(self, program, *words, port=None):
+        port = port or free_port()
+        listen = ["-l", "127.0.0.1", "-p", str(port)]
+        super().__init__(program, *words, port=port, listen=listen, stdout=subprocess.DEVNULL)
+        connected(port).close()

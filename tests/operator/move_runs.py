@@ -1,0 +1,231 @@
+"""Runs of bqctl's moves: a job is never lost, and the tool names those that may be doubled."""
+import collections
+import contextlib
+import json
+import os
+import random
+import re
+import signal
+import subprocess
+import sys
+import time
+
+from canned import PROGRAMS, Canned, ctl, ok, tube, yaml
+from ctl_runs import BYTES, beside, fails, tells
+from jobs import Teller
+from programs import Ended, same
+from servers import awaits
+
+
+def address(server):
+    return f"127.0.0.1:{server.port}"
+
+
+def each_run_move(start):
+    """Jobs of each state arrive with their bodies, priorities, states, times to run and what is left of delays."""
+    with start("-z", "1048576") as source, start("-z", "1048576") as target:
+        here, there = Teller(source), Teller(target)
+        bodies = [b"", b"hello", BYTES, os.urandom(1 << 20)]
+        for number, body in enumerate(bodies):
+            here.put(body, pri=number, ttr=10 + number)
+            here.put(body, pri=number, ttr=20 + number, delay=1000 * (number + 1))
+            here.put(body, pri=number, ttr=30 + number, state="buried")
+        here.put(b"taken")
+        here.ask(b"reserve-job 13")
+        plan = "would move 12 jobs of mail to mail of " + address(target) + ": 4 ready, 4 delayed, 4 buried; 1 reserved job stays"
+        tells(beside(source)("move", "mail", "--to", address(target), "--dry-run"), plan)
+        same((len(here.jobs()), len(there.jobs())), (13, 0))
+        tells(beside(source)("move", "mail", "--to", address(target)), plan.replace("would move", "moved"))
+        found = [(it[0], it[1], it[2], it[4], it[5]) for it in there.jobs().values()]
+        wanted = [("mail", "ready", number, 10 + number, body) for number, body in enumerate(bodies)]
+        wanted += [("mail", "delayed", number, 20 + number, body) for number, body in enumerate(bodies)]
+        wanted += [("mail", "buried", number, 30 + number, body) for number, body in enumerate(bodies)]
+        same(found == wanted, True)
+        left = [it[3] for it in there.jobs().values() if it[1] == "delayed"]
+        for number, seconds in enumerate(left):
+            assert 1000 * (number + 1) - 20 < seconds <= 1000 * (number + 1) + 1, left
+        same([it[:2] for it in here.jobs().values()], [("mail", "reserved")])
+
+
+def each_run_move_words(start):
+    """A limit, chosen states, another tube of the same server, and the tube itself."""
+    with start() as source:
+        here, ask = Teller(source), beside(source)
+        for number in range(5):
+            here.put(b"%d" % number)
+            here.put(b"%d" % number, state="buried")
+        tells(ask("move", "mail", "--to", "/post", "--limit", "3", "--state", "buried,ready"),
+              f"moved 3 jobs of mail to post of {address(source)}: 3 buried")
+        found = json.loads(ask("move", "mail", "--to", f"localhost:{source.port}/post", "--json").output)
+        same(found, {"tube": "mail", "dry_run": False, "moved": 7, "ready": 5, "delayed": 0, "buried": 2, "reserved": 0,
+                     "doubled": []})
+        same(collections.Counter(it[:2] for it in here.jobs().values()), {("post", "ready"): 5, ("post", "buried"): 5})
+        for to in ["/post", f"localhost:{source.port}", f"127.0.0.1:{source.port}/post"]:
+            name = f"localhost:{source.port}" if "localhost" in to else address(source)
+            same(ask("move", "post", "--to", to), Ended(2, b"", f"bqctl: error: post of {name} is the tube itself\n".encode()))
+
+
+def each_run_move_of_paused(start):
+    """A tube that is paused can be moved."""
+    with start() as source, start() as target:
+        here = Teller(source)
+        here.put(b"a")
+        same(here.ask(b"pause-tube mail 1000")[0], b"PAUSED")
+        tells(beside(source)("move", "mail", "--to", address(target)), f"moved 1 job of mail to mail of {address(target)}: 1 ready")
+
+
+def each_run_move_refused(start):
+    """A job that the other server refuses stays as it was, and the move ends."""
+    with start("-z", "2000") as source, start("-z", "1000") as target:
+        here = Teller(source)
+        for state, delay in [("ready", 0), ("delayed", 1000), ("buried", 0)]:
+            here.put(b"a" * 2000, pri=5, delay=delay, state=state, tube=state.encode())
+            fails(beside(source)("move", state, "--to", address(target)),
+                  f"{address(target)} answered put by 'JOB_TOO_BIG': moved 0 jobs of {state} to {state} of {address(target)}")
+        same([it[:3] for it in here.jobs().values()], [(it, it, 5) for it in ["ready", "delayed", "buried"]])
+        assert 980 < here.job(2)[3] <= 1001, here.job(2)
+
+
+def about(job_id, state="ready", left=0):
+    """A server's answer to `stats-job`."""
+    return ok(yaml(id=job_id, tube="mail", state=state, pri=5, age=0, delay=0, ttr=9, time_left=left))
+
+
+SEEN = [tube("mail", current_jobs_ready=1), b"USING mail\r\n", b"FOUND 7 1\r\na\r\n", about(7), b"RESERVED 7 1\r\na\r\n"]
+
+
+def moved_between(source, target):
+    """How a move between two servers ends whose answers these are; the lines that they got."""
+    with Canned(*source) as here, Canned(*target) as there:
+        found = ctl("move", "mail", "--to", f"{there.address}/post", "--state", "ready", "--server", here.address)
+        here.thread.join(10)
+        there.thread.join(10)
+    lines = [[it.decode().strip() for it in side.lines] for side in (here, there)]
+    told = found.errors.decode().replace(here.address, "HERE").replace(there.address, "THERE").splitlines()
+    same((found.status, found.output), (1, b""))
+    return told, lines
+
+
+def run_move_target_lost():
+    """The other server goes away before it answers the put: the job is given back, and named as perhaps doubled."""
+    told, (lines, _) = moved_between([*SEEN, b"RELEASED\r\n"], [b"USING post\r\n"])
+    assert re.fullmatch("bqctl: THERE (closed the connection before it answered put|is lost: .*): "
+                        "moved 0 jobs of mail to post of THERE", told[0]), told
+    same(told[1:], ["bqctl: job 7 of HERE may be doubled, at THERE, which gave no id"])
+    same(lines[-1], "release 7 5 0")
+
+
+def run_move_source_lost():
+    """This server goes away before it answers the delete: the job is named with the id that it has there."""
+    told, (lines, there) = moved_between(SEEN, [b"USING post\r\n", b"INSERTED 9\r\n"])
+    assert re.fullmatch("bqctl: HERE (closed the connection before it answered delete|is lost: .*): "
+                        "moved 0 jobs of mail to post of THERE", told[0]), told
+    same(told[1:], ["bqctl: job 7 of HERE may be doubled, as job 9 of THERE"])
+    same(there, ["use post", "put 5 0 9 1"])
+
+
+def run_move_taken_meanwhile():
+    """A worker here gets the job while it is moved: the copy is deleted again, or named if a worker has it."""
+    here = [*SEEN, b"NOT_FOUND\r\n", b"NOT_FOUND\r\n", b"NOT_FOUND\r\n", tube("mail")]
+    # The body is a line of its own to the other server, and needs no answer.
+    told, (_, there) = moved_between(here, [b"USING post\r\n", b"INSERTED 9\r\n", b"", b"NOT_FOUND\r\n"])
+    same(told, ["bqctl: workers got jobs meanwhile: moved 0 jobs of mail to post of THERE",
+                "bqctl: job 7 of HERE may be doubled, as job 9 of THERE"])
+    same(there, ["use post", "put 5 0 9 1", "a", "delete 9"])
+    with Canned(*here, stays=True) as source:
+        with Canned(b"USING post\r\n", b"INSERTED 9\r\n", b"", b"DELETED\r\n", stays=True) as target:
+            tells(ctl("move", "mail", "--to", f"{target.address}/post", "--state", "ready", "--server", source.address),
+                  f"moved 0 jobs of mail to post of {target.address}")
+
+
+def run_move_buried_is_never_ready():
+    """A buried job is put there with the longest delay and buried there, before it is deleted here."""
+    source = [tube("mail", current_jobs_buried=1), b"USING mail\r\n", b"FOUND 7 1\r\na\r\n", about(7, "buried")]
+    source += [b"RESERVED 7 1\r\na\r\n", b"DELETED\r\n", b"NOT_FOUND\r\n", b"NOT_FOUND\r\n", tube("mail")]
+    target = [b"USING post\r\n", b"INSERTED 9\r\n", b"", b"RESERVED 9 1\r\na\r\n", b"BURIED\r\n"]
+    with Canned(*source, stays=True) as here, Canned(*target, stays=True) as there:
+        tells(ctl("move", "mail", "--to", f"{there.address}/post", "--state", "buried", "--server", here.address),
+              f"moved 1 job of mail to post of {there.address}: 1 buried")
+    same([it.decode().strip() for it in there.lines], ["use post", "put 5 4294967295 9 1", "a", "reserve-job 9", "bury 9 5"])
+
+
+@contextlib.contextmanager
+def moving(source, target):
+    """A move of all jobs that has been started."""
+    command = [sys.executable, PROGRAMS / "bqctl", "--server", address(source), "--json", "move", "mail", "--to", address(target)]
+    with subprocess.Popen(command, stdout=subprocess.PIPE, stderr=subprocess.PIPE) as process:
+        yield process
+
+
+def interrupted(source, target, signals, begun, wait):
+    """Moves, and sends these signals so many seconds after `begun` is so; what the tool told for scripts, if anything."""
+    with moving(source, target) as process:
+        awaits(begun)
+        time.sleep(wait)
+        for it in signals:
+            process.send_signal(it)
+        output, errors = process.communicate(timeout=20)
+    assert b"Traceback" not in errors, errors
+    return json.loads(output) if output else {"moved": None, "doubled": []}, process.returncode
+
+
+def bodies(jobs):
+    return collections.Counter(it[-1] for it in jobs.values())
+
+
+def accounts(round_number, source, target, signals):
+    """One move that is interrupted at a random point. Returns how many jobs it had moved."""
+    with teller_of(source) as here, teller_of(target) as there:
+        return accounts_of(round_number, source, target, signals, here, there)
+
+
+@contextlib.contextmanager
+def teller_of(server):
+    """A client that has gone again when it is left, and with it its seat."""
+    yield Teller(server)
+    server.clients.pop().close()
+
+
+def accounts_of(round_number, source, target, signals, here, there):
+    first_here, first_there = here.last() + 1, there.last() + 1
+    put = [b"%d of round %d" % (number, round_number) for number in range(JOBS)]
+    for number, body in enumerate(put):
+        state = ["ready", "delayed", "buried"][number % 3]
+        here.put(body, delay=1000 if state == "delayed" else 0, state=state)
+    # Mostly within the work, and now and then before it has begun.
+    begun = (lambda: True) if round_number % 10 == 9 else (lambda: there.last() >= first_there)
+    told, status = interrupted(source, target, signals, begun, random.uniform(0, 0.12))
+    left, arrived = here.jobs(first_here), there.jobs(first_there)
+    found = bodies(left) + bodies(arrived)
+    same(set(found), set(put))
+    doubled = {body for body, count in found.items() if count > 1}
+    named = {(left.get(it["source"]) or (None,))[-1] for it in told["doubled"]}
+    if signal.SIGKILL in signals:
+        assert len(doubled) <= 1, doubled
+    elif told["moved"] is None:
+        # The signal came before there was anything to do.
+        same((len(left), status in (-signal.SIGINT, -signal.SIGTERM)), (len(put), True))
+    else:
+        assert doubled <= named, (doubled, told)
+        if len(signals) == 1:
+            same((told["doubled"], told["moved"], len(arrived)), ([], len(arrived), len(put) - len(left)))
+            states = collections.Counter(it[1] for it in [*left.values(), *arrived.values()])
+            same(states, dict.fromkeys(["ready", "delayed", "buried"], JOBS // 3))
+    for teller, jobs in [(here, left), (there, arrived)]:
+        for job_id in jobs:
+            same(teller.ask(b"delete %d" % job_id)[0], b"DELETED")
+    return len(arrived)
+
+
+JOBS = 150
+
+
+def each_run_move_interrupted(start):
+    """A move that is interrupted at fifty random points, once, twice at once, and killed: no job is lost."""
+    with start() as source, start() as target:
+        cut = 0
+        for number in range(50):
+            signals = [[signal.SIGINT], [signal.SIGTERM], [signal.SIGINT] * 2, [signal.SIGKILL]][number % 4]
+            cut += 0 < accounts(number, source, target, signals) < JOBS
+        # Many of the points have to be within the work, or little is tried.
+        assert cut >= 10, cut
