@@ -1,16 +1,34 @@
 //! Runs of one line.
 
 use bq_clients::clients::{clock, parts_of};
-use bq_job::Moment;
+use bq_job::{Moment, NoMemory};
 use bq_line::clock::ScriptClock;
-use bq_line::line::MemLine;
+use bq_line::line::{MemLine, Part};
 use bq_run_one::{One, run_one};
 use bq_run_start::RunFault;
 use bq_steps::Config;
 use std::alloc::Global;
 use std::sync::Wait;
 
-/// A run of one line, whose client does this, by a clock of these readings. All tests go by this one call.
+/// Runs one line of these parts, with a clock that gives these readings. All tests use this one call.
+pub fn on_line_of<R: Wait>(
+    rt: &R,
+    alloc: Global,
+    config: Config,
+    parts: Result<Vec<Part, Global>, NoMemory>,
+    room: usize,
+    readings: &[Option<Moment>],
+) -> Result<One<MemLine, ScriptClock>, RunFault> {
+    let Ok(parts) = parts else {
+        return Err(RunFault::NoMemory);
+    };
+    let (Ok(line), Ok(clock)) = (MemLine::new(alloc, parts, room), clock(alloc, readings)) else {
+        return Err(RunFault::NoMemory);
+    };
+    run_one(rt, alloc, config, line, clock)
+}
+
+/// Does the same for a line whose client does this.
 pub fn on_one_line<R: Wait>(
     rt: &R,
     alloc: Global,
@@ -19,11 +37,5 @@ pub fn on_one_line<R: Wait>(
     room: usize,
     readings: &[Option<Moment>],
 ) -> Result<One<MemLine, ScriptClock>, RunFault> {
-    let Ok(parts) = parts_of(alloc, does) else {
-        return Err(RunFault::NoMemory);
-    };
-    let (Ok(line), Ok(clock)) = (MemLine::new(alloc, parts, room), clock(alloc, readings)) else {
-        return Err(RunFault::NoMemory);
-    };
-    run_one(rt, alloc, config, line, clock)
+    on_line_of(rt, alloc, config, parts_of(alloc, does), room, readings)
 }

@@ -13,11 +13,36 @@ pub type Scripted = (
     LineEnd,
 );
 
+/// One reading a second, up to 20 seconds.
+const SECONDS: &[Option<Moment>] = &[
+    Some(0),
+    Some(1000),
+    Some(2000),
+    Some(3000),
+    Some(4000),
+    Some(5000),
+    Some(6000),
+    Some(7000),
+    Some(8000),
+    Some(9000),
+    Some(10_000),
+    Some(11_000),
+    Some(12_000),
+    Some(13_000),
+    Some(14_000),
+    Some(15_000),
+    Some(16_000),
+    Some(17_000),
+    Some(18_000),
+    Some(19_000),
+    Some(20_000),
+];
+
 pub const SCRIPTED: &[Scripted] = &[
     // A wait of a second ends by the clock, though a further command is there.
     (
         "reserve-with-timeout 1~list-tube-used~",
-        &[Some(0), Some(1000), Some(2000), Some(3000), Some(20_000)],
+        SECONDS,
         ROOM,
         "TIMED_OUT\r\nUSING default\r\n",
         LineEnd::EndOfInput,
