@@ -12,3 +12,5 @@ mod ranges;
 mod session;
 #[cfg(test)]
 mod told;
+#[cfg(test)]
+mod two_seats;

@@ -21,7 +21,7 @@ const PATIENCE: u64 = 10_000;
 
 /// A host whose standard output and standard error are kept.
 #[derive(Drop)]
-struct Heard<R> {
+pub struct Heard<R> {
     host: R,
     alloc: Global,
     output: Mutex<Vec<u8>>,
@@ -31,7 +31,7 @@ struct Heard<R> {
 }
 
 impl<R: Wait> Heard<R> {
-    fn new(host: R, alloc: Global) -> Heard<R> {
+    pub fn new(host: R, alloc: Global) -> Heard<R> {
         Heard {
             host,
             alloc,
