@@ -39,7 +39,7 @@ def broken_cases(bq, library_calls, folder):
         cases = dict(session_cases.cases(broken.Broken(bq, turn, always)))
         yield name, lambda it=cases["bq: put"]: found(it)
     for name, turn in broken.LIBRARY.items():
-        cases = dict(library_cases.cases(broken.Broken(library_calls, turn)))
+        cases = dict(library_cases.cases(broken.Broken(library_calls, turn), None))
         yield name, lambda it=cases["library: calls"]: found(it)
     cases = dict(server_cases.cases(broken.early_server(bq.host, folder)))
     yield "doors_opened_before_the_last_request", lambda: found(cases["bqd: start"])
@@ -63,8 +63,8 @@ def main():
     with tempfile.TemporaryDirectory(prefix="refuse-") as folder:
         host = Host(library(folder), folder)
         bq, bqd = Program(asked.bq, host), Program(asked.bqd, host)
-        library_calls = Program(asked.library, host, library_cases.TEST)
-        cases = [*session_cases.cases(bq), *library_cases.cases(library_calls), *server_cases.cases(bqd)]
+        library_calls, held = (Program(asked.library, host, it) for it in (library_cases.TEST, library_cases.HELD))
+        cases = [*session_cases.cases(bq), *library_cases.cases(library_calls, held), *server_cases.cases(bqd)]
         if asked.self_check:
             cases = broken_cases(bq, library_calls, folder)
         for name, case in cases:

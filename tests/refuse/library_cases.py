@@ -1,7 +1,8 @@
-"""Calls of the libraries, by the one test of bq_refused: each with its requests for memory refused in turn.
+"""Calls of the libraries, by the tests of bq_refused: each with its requests for memory refused in turn.
 
-It tells what came of each call in a line, then the steps of a core, one after another (its steps.rt). What it
-tells where nothing is refused stands in library_told.txt.
+One tells what came of each call in a line, then the steps of a core, one after another (its steps.rt). What it
+tells where nothing is refused stands in library_told.txt. The other tells the steps of a client that holds a job, by a
+core of its own.
 """
 import os
 import pathlib
@@ -12,6 +13,29 @@ from refusal import each_in_turn
 # The test, as its program is asked for it, and what it tells where nothing is refused, with the toolchain's last line.
 TEST = "told::all_calls"
 TOLD = (pathlib.Path(__file__).resolve().parent / "library_told.txt").read_bytes() + b"\ntest result: ok\n"
+
+# The steps of the client that holds a job, with what it is answered: those that come with ample memory, and those from then
+# on. Behind each of these comes a tick, which is answered nothing.
+HELD = "told::held_job"
+HELD_AMPLE = [
+    (b"connect", b""),
+    (b"put", b"INSERTED 1\r\n"),
+    (b"put", b"INSERTED 2\r\n"),
+    (b"put", b"INSERTED 3\r\n"),
+    (b"reserve", b"RESERVED 1 1\r\nx\r\n"),
+    (b"reserve", b"RESERVED 2 1\r\ny\r\n"),
+    (b"bury 2 0", b"BURIED\r\n"),
+]
+HELD_WITHOUT = [
+    (b"bury 1 0", b"BURIED\r\n"),
+    (b"kick 5", b"KICKED 2\r\n"),
+    (b"kick 5", b"KICKED 1\r\n"),
+    (b"kick 5", b"KICKED 0\r\n"),
+    (b"reserve", b"RESERVED 1 1\r\nx\r\n"),
+    (b"touch 1", b"TOUCHED\r\n"),
+    (b"release 1 0 0", b"RELEASED\r\n"),
+    (b"close", None),
+]
 
 # What may come of a call where one request was refused, beside `made`.
 OUTCOMES = {
@@ -95,7 +119,33 @@ def steps_without_memory(program):
     return 3, None if ran == full else f"another end of {ran[1][-80:]!r}"
 
 
-def cases(program):
+def told_of(step, answer):
+    """What is told of a step of the one client; None is the answer to its close."""
+    return b"step " + step + b"\ntaken\n" + (b"to 0: closed\n" if answer is None else b"to 0:\n" + answer if answer else b"")
+
+
+def held_job(program):
+    """The steps of a client that holds a job. From its first bury on a request that is refused changes nothing that is told."""
+    ticks = [it for step in HELD_WITHOUT for it in (step, (b"tick", b""))]
+    told = b"steps: begun\n" + b"".join(told_of(*it) for it in HELD_AMPLE + ticks) + b"\ntest result: ok\n"
+    full = program.run([], b"")
+    if full != (0, told, b""):
+        return 1, f"status {full[0]} though nothing was refused, and it tells {full[1][-120:]!r}"
+    begun = next(count for count, line in marked(program) if line == FIRST_FREE)
+
+    def refused(nth):
+        ran = program.run([], b"", at=nth)
+        if nth <= begun:
+            return program.host.was_refused(), None if (ran[0], ran[2]) == (0, b"") else f"status {ran[0]}, {ran[2][-120:]!r} on standard error"
+        return program.host.was_refused(), None if ran == full else f"another end of {ran[1][-80:]!r}"
+
+    runs, wrong = each_in_turn(refused)
+    all_refused = program.run([], b"", from_=begun + 1)
+    return runs + 3, wrong or (None if all_refused == full else f"with all refused, another end of {all_refused[1][-80:]!r}")
+
+
+def cases(program, held):
     yield "library: calls", lambda: calls_refused(program)
     yield "library: requests of a step", lambda: steps_counted(program)
     yield "library: steps without memory", lambda: steps_without_memory(program)
+    yield "library: held job without memory", lambda: held_job(held)

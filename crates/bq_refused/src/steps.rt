@@ -13,8 +13,8 @@ use std::io::Print;
 #[derive(Clone, Copy)]
 enum Does {
     Connects,
-    /// Delay in seconds. The priority is 0, the time to run nine seconds, and the body one byte.
-    Puts(u32),
+    /// Delay in seconds, and the body. The priority is 0, and the time to run nine seconds.
+    Puts(u32, &'static str),
     Asks(&'static str),
     SendsNoMore,
     Closes,
@@ -26,7 +26,7 @@ impl Does {
     fn words(self) -> &'static str {
         match self {
             Does::Connects => "connect",
-            Does::Puts(_) => "put",
+            Does::Puts(_, _) => "put",
             Does::Asks(words) => words,
             Does::SendsNoMore => "end",
             Does::Closes => "close",
@@ -42,9 +42,9 @@ static WITH_MEMORY: &[Row] = &[
     (0, 0, Does::Connects),
     (0, 1, Does::Connects),
     (0, 2, Does::Connects),
-    (0, 0, Does::Puts(0)),
-    (0, 0, Does::Puts(0)),
-    (0, 0, Does::Puts(100)),
+    (0, 0, Does::Puts(0, "x")),
+    (0, 0, Does::Puts(0, "x")),
+    (0, 0, Does::Puts(100, "x")),
     (0, 0, Does::Asks("use a")),
     (0, 0, Does::Asks("watch a")),
     (0, 0, Does::Asks("list-tubes")),
@@ -101,6 +101,36 @@ static WAITS_AND_LEASES: &[Row] = &[
     (11_000, 0, Does::Closes),
 ];
 
+// A client that holds one job and has buried another. A third job is delayed.
+static HOLDS_A_JOB: &[Row] = &[
+    (0, 0, Does::Connects),
+    (0, 0, Does::Puts(0, "x")),
+    (0, 0, Does::Puts(0, "y")),
+    (0, 0, Does::Puts(100, "z")),
+    (0, 0, Does::Asks("reserve")),
+    (0, 0, Does::Asks("reserve")),
+    (0, 0, Does::Asks("bury 2 0")),
+];
+
+static WITHOUT_MEMORY: &[Row] = &[
+    (0, 0, Does::Asks("bury 1 0")),
+    (0, 0, Does::Rests),
+    (0, 0, Does::Asks("kick 5")),
+    (0, 0, Does::Rests),
+    (0, 0, Does::Asks("kick 5")),
+    (0, 0, Does::Rests),
+    (0, 0, Does::Asks("kick 5")),
+    (0, 0, Does::Rests),
+    (0, 0, Does::Asks("reserve")),
+    (0, 0, Does::Rests),
+    (0, 0, Does::Asks("touch 1")),
+    (0, 0, Does::Rests),
+    (0, 0, Does::Asks("release 1 0 0")),
+    (0, 0, Does::Rests),
+    (0, 0, Does::Closes),
+    (0, 0, Does::Rests),
+];
+
 /// A core of three seats, the room for its answers, and a reader of what clients ask.
 #[derive(Drop)]
 struct Bench {
@@ -134,7 +164,7 @@ impl Bench {
     fn step_of(&mut self, alloc: Global, does: Does) -> Option<Step> {
         match does {
             Does::Connects => Some(Step::Connect),
-            Does::Puts(delay) => put(alloc, delay),
+            Does::Puts(delay, body) => put(alloc, delay, body),
             Does::Asks(words) => self.asked(alloc, words),
             Does::SendsNoMore => Some(Step::End),
             Does::Closes => Some(Step::Close),
@@ -157,12 +187,12 @@ impl Bench {
     }
 }
 
-fn put(alloc: Global, delay: u32) -> Option<Step> {
+fn put(alloc: Global, delay: u32, body: &str) -> Option<Step> {
     Some(Step::Ask(Request::Put {
         pri: 0,
         delay,
         ttr: 9,
-        body: Body::new(alloc, b"x").ok()?,
+        body: Body::new(alloc, body.as_bytes()).ok()?,
     }))
 }
 
@@ -217,6 +247,20 @@ fn tell_with<R: Print>(rt: &R, alloc: Global, bench: &mut Bench) -> io::Result<(
 pub fn tell_all<R: Print>(rt: &R, alloc: Global) -> io::Result<()> {
     match Bench::new(alloc) {
         Some(mut bench) => tell_with(rt, alloc, &mut bench),
+        None => println!(rt; "steps: not begun"),
+    }
+}
+
+fn tell_held<R: Print>(rt: &R, alloc: Global, bench: &mut Bench) -> io::Result<()> {
+    println!(rt; "steps: begun")?;
+    tell_rows(rt, alloc, bench, HOLDS_A_JOB)?;
+    tell_rows(rt, alloc, bench, WITHOUT_MEMORY)
+}
+
+/// Prints the steps of a client that holds a job, with a core of their own. After the first bury, a tick follows each step.
+pub fn tell_held_job<R: Print>(rt: &R, alloc: Global) -> io::Result<()> {
+    match Bench::new(alloc) {
+        Some(mut bench) => tell_held(rt, alloc, &mut bench),
         None => println!(rt; "steps: not begun"),
     }
 }

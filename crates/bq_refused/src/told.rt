@@ -1,4 +1,4 @@
-//! All calls and steps, one after another.
+//! All calls and steps, one after another. A second test has the steps of a client that holds a job.
 
 use crate::{makings, runs, steps};
 use std::test::Fail;
@@ -9,5 +9,11 @@ fn all_calls(rt: HostRuntime) -> Result<(), Fail> {
     makings::tell_all(&rt, alloc)?;
     runs::tell_all(&rt, alloc)?;
     steps::tell_all(&rt, alloc)?;
+    Ok(())
+}
+
+#[test]
+fn held_job(rt: HostRuntime) -> Result<(), Fail> {
+    steps::tell_held_job(&rt, rt.alloc())?;
     Ok(())
 }
