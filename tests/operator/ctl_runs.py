@@ -252,7 +252,7 @@ def each_run_ctl_many_tubes(start):
 
 
 def each_run_ctl_clear_interrupted(start):
-    """An interrupt ends a clear after the job at hand, and what it deleted is what it says."""
+    """An interrupt ends a clear after the current job, and what it deleted is what it says."""
     with start() as server:
         teller = Teller(server)
         for _ in range(3000):

@@ -13,7 +13,7 @@ STATES = ("ready", "delayed", "buried")
 # Texts of statistics are some hundred bytes; a list has a line of at most 203 bytes for each tube.
 LARGEST_TEXT = 64 << 20
 
-# beanstalkd can be told to take bodies of up to a gibibyte.
+# beanstalkd can be set to take bodies of up to a gibibyte.
 LARGEST_BODY = 1 << 30
 
 # How many commands are sent before their answers are read: few enough that neither side's buffers fill.

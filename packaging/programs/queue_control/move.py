@@ -16,9 +16,9 @@ from .sweep import Sweep, planned, told
 
 
 class Step(enum.Enum):
-    """How far the job at hand is."""
+    """How far the current job is."""
 
-    NONE = "no job is at hand"
+    NONE = "there is no current job"
     RESERVED = "it is reserved here, or is about to be"
     SENT = "it was sent there, and no answer has come"
     COPIED = "it is there, and here too unless its deletion was carried out"
@@ -87,7 +87,7 @@ class Move(Sweep):
             pass
 
     def ends(self):
-        """Is done with the job at hand, and notes it if it may be at both places."""
+        """Is done with the current job, and notes it if it may be at both places."""
         if self.step in (Step.SENT, Step.COPIED):
             self.doubled.append((self.about["id"], self.copy))
         self.step = Step.NONE

@@ -33,7 +33,7 @@ class Progress:
 
 
 class Interrupts:
-    """Signals that end the work. The first lets it finish the job at hand; a second one ends it at once."""
+    """Signals that end the work. The first lets it finish the current job; a second one ends it at once."""
 
     SIGNALS = (signal.SIGINT, signal.SIGTERM, signal.SIGHUP)
 
