@@ -31,18 +31,21 @@ install -D -m 755 crates/bqd/out/bqd "$tree/usr/bin/bqd"
 # Not in /usr/bin: Google's cloud client has a program of that name there.
 install -D -m 755 crates/bq/out/bq "$tree/usr/lib/bqd/bq"
 strip --remove-section=.comment --remove-section=.note "$tree/usr/bin/bqd" "$tree/usr/lib/bqd/bq"
-for module in queue_client queue_control; do
+for module in queue_client queue_control queue_web; do
     install -D -m 644 -t "$tree/usr/share/bqd/$module" packaging/programs/$module/*.py
 done
-for program in bqctl bqd-drain bqd-top; do
+install -D -m 644 -t "$tree/usr/share/bqd" packaging/bqd-alerts.yml
+install -D -m 644 -t "$tree/usr/share/bqd/queue_web/page" packaging/programs/queue_web/page/*
+for program in bqctl bqd-drain bqd-top bqd-web; do
     install -m 755 "packaging/programs/$program" "$tree/usr/share/bqd/$program"
     ln -s "../share/bqd/$program" "$tree/usr/bin/$program"
 done
 install -D -m 644 -t "$tree/usr/share/bash-completion/completions" packaging/completion/bqctl
-install -D -m 644 -t "$tree/lib/systemd/system" packaging/bqd.service packaging/bqd.socket
+install -D -m 644 -t "$tree/lib/systemd/system" packaging/bqd.service packaging/bqd.socket packaging/bqd-web.service
 install -D -m 644 packaging/bqd.default "$tree/etc/default/bqd"
-install -D -m 644 -t "$tree/usr/share/man/man1" packaging/bqd.1 packaging/bqctl.1 packaging/bqd-drain.1 packaging/bqd-top.1
-install -D -m 644 -t "$tree/usr/share/doc/bqd" README.md docs/*.md docs/speed.svg packaging/bq.1
+install -D -m 644 packaging/bqd-web.default "$tree/etc/default/bqd-web"
+install -D -m 644 -t "$tree/usr/share/man/man1" packaging/bqd.1 packaging/bqctl.1 packaging/bqd-drain.1 packaging/bqd-top.1 packaging/bqd-web.1
+install -D -m 644 -t "$tree/usr/share/doc/bqd" README.md docs/*.md docs/*.svg docs/*.png packaging/bq.1
 install -D -m 644 packaging/changelog "$tree/usr/share/doc/bqd/changelog"
 install -D -m 644 LICENSE "$tree/usr/share/doc/bqd/copyright"
 install -D -m 644 packaging/debian/lintian-overrides "$tree/usr/share/lintian/overrides/bqd"
@@ -57,7 +60,7 @@ cp packaging/changelog "$room/debian/changelog"
     dpkg-shlibdeps -T"$room/substvars" "$tree/usr/bin/bqd" "$tree/usr/lib/bqd/bq"
     dpkg-gencontrol -pbqd -P"$tree" -T"$room/substvars" -f"$room/files"
 )
-echo /etc/default/bqd > "$tree/DEBIAN/conffiles"
+printf '%s\n' /etc/default/bqd /etc/default/bqd-web > "$tree/DEBIAN/conffiles"
 install -m 755 -t "$tree/DEBIAN" packaging/debian/postinst packaging/debian/prerm packaging/debian/postrm
 (cd "$tree" && find . -path ./DEBIAN -prune -o -type f -printf '%P\0' | LC_ALL=C sort -z | xargs -0 md5sum > DEBIAN/md5sums)
 dpkg-deb --root-owner-group --build "$tree" "$to/bqd_${version}_$(dpkg --print-architecture).deb"

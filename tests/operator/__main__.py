@@ -1,14 +1,15 @@
-"""Runs of the programs for operators in packaging/programs: bqctl, bqd-drain and bqd-top.
+"""Runs of the programs for operators in packaging/programs: bqctl, bqd-drain, bqd-top and bqd-web.
 
-    python3 tests/operator --bqd PATH [--beanstalkd PATH] [NAME ..]
+    python3 tests/operator --bqd PATH [--beanstalkd PATH] [--gate] [NAME ..]
 
 Each goes beside bqd, or beside a server made here that answers what it is told to. If beanstalkd is given, what works
-with it too is run beside it as well. The last line is 'N passed, M failed', and the status is 1 if one failed.
+with it too is run beside it as well. The gate runs those that take no measure of time. The last line is 'N passed, M failed', and the status is 1 if one failed.
 """
 import argparse
 import functools
 import os
 import pathlib
+import re
 import signal
 import sys
 import traceback
@@ -21,11 +22,15 @@ import canned_runs
 import ctl_runs
 import move_runs
 import server_runs
+import web_runs
 from beanstalkd import Beanstalkd
 from servers import Server
 
 # The runs, by their files.
-FILES = [canned_runs, server_runs, ctl_runs, move_runs]
+FILES = [canned_runs, server_runs, ctl_runs, move_runs, web_runs]
+
+# Those of the gate: they neither wait for a moment nor measure how long something takes.
+GATE = re.compile(r"_(ctl|move)_(?!.*interrupted)|_move$|_web_(bad|labels|page|paths|limits|names|forged)")
 
 
 def passes(run, words):
@@ -54,6 +59,7 @@ def main():
     parser = argparse.ArgumentParser(prog="tests/operator")
     parser.add_argument("--bqd", required=True, help="the built program bqd")
     parser.add_argument("--beanstalkd", help="the program beanstalkd")
+    parser.add_argument("--gate", action="store_true", help="those alone that the gate runs")
     parser.add_argument("names", nargs="*", help="the runs whose names have one of these words; all, unless given")
     words = parser.parse_args()
     # Where it is begun in the background interrupts are ignored, and the programs would take that over.
@@ -61,7 +67,7 @@ def main():
     passed, failed = 0, 0
     for name, run in [pair for file in FILES for pair in vars(file).items()]:
         kind = name[: name.find("run_") + len("run_")]
-        if words.names and not any(it in name for it in words.names):
+        if words.names and not any(it in name for it in words.names) or words.gate and not GATE.search(name):
             continue
         for given in kinds(os.path.abspath(words.bqd), words.beanstalkd).get(kind, []):
             if passes(run, given):

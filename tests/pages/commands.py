@@ -13,6 +13,7 @@ import sys
 import tempfile
 import threading
 import time
+import urllib.request
 
 from pages import ROOT
 from programs import PATIENCE
@@ -26,11 +27,11 @@ CONTROL = "/run/bqd.control"
 RULES = []
 
 # The operator's programs, which the package installs beside the server.
-OPERATORS = ["bqctl", "bqd-drain", "bqd-top"]
+OPERATORS = ["bqctl", "bqd-drain", "bqd-top", "bqd-web"]
 
 # First words of a line that is a command. A program's name alone is none.
-HEADS = """rt tools/build tools/warm tools/edits nc telnet systemctl journalctl apt echo bqd bq bqctl bqd-top bqd-drain prlimit ulimit
-    python3 sed printf packaging/deb.sh (cd crates/bqd/out/bqd crates/bq/out/bq bash""".split()
+HEADS = """rt tools/build tools/warm tools/edits nc telnet systemctl journalctl apt echo bqd bq bqctl bqd-top bqd-drain bqd-web prlimit ulimit
+    python3 sed printf packaging/deb.sh promtool curl ssh (cd crates/bqd/out/bqd crates/bq/out/bq bash""".split()
 
 
 def is_command(text):
@@ -182,6 +183,40 @@ def tidies(room, command):
             raise AssertionError(f"{command!r} told nothing")
 
 
+@rule(r"bqd-web((?: .*)?)")
+def serves_a_page(room, words):
+    """Beside a server, at a port of its own: the page and the metrics, and its end by an interrupt."""
+    with Server(room.bqd) as server:
+        port = free_port()
+        own = [("--server", f"127.0.0.1:{server.port}"), ("--listen", f"127.0.0.1:{port}")]
+        kept = re.sub(r" --(?:server|listen) \S+", "", words)
+        with room.started("exec bqd-web" + kept + "".join(f" {name} {value}" for name, value in own)) as process:
+            told = process.stdout.readline().decode()
+            if told != f"listening http://127.0.0.1:{port}/\n":
+                raise AssertionError(f"bqd-web{words} told {told!r}")
+            for path, wanted in [("", "<title>bqd</title>"), ("metrics", "bqd_up ")]:
+                with urllib.request.urlopen(f"http://127.0.0.1:{port}/{path}", timeout=PATIENCE) as answer:
+                    assert wanted in answer.read().decode(), path
+            process.send_signal(signal.SIGINT)
+            if process.wait(PATIENCE):
+                raise AssertionError(f"bqd-web{words} ended with {process.returncode}")
+
+
+@rule(r"promtool check rules (\S+)")
+def checks_rules(room, path):
+    path = path.replace("/usr/share/bqd/", "packaging/")
+    assert (ROOT / path).is_file(), f"no rules {path}"
+    if not shutil.which("promtool"):
+        return "there is no promtool here"
+    room.ends(f"promtool check rules {path}")
+
+
+@rule(r"ssh -L (\d+):127\.0\.0\.1:(\d+) \S+")
+def tunnels(room, here, there):
+    assert f":{here}" in (ROOT / "packaging/bqd-web.default").read_text() and here == there, "another port"
+    return "it wants a second machine"
+
+
 @contextlib.contextmanager
 def piped(room):
     """A server whose control line is a named pipe, as the service's is, and the pipe's path."""
@@ -234,7 +269,7 @@ def installs(room, installed, gone):
     return "it changes the machine"
 
 
-@rule(r"(?:systemctl (?:start|stop|restart|reload|status)|journalctl -u) ([\w.]+)")
+@rule(r"(?:systemctl (?:start|stop|restart|reload|status|enable --now)|journalctl -u) ([-\w.]+)")
 def services(room, unit):
     assert (ROOT / f"packaging/{unit}.service").is_file(), f"no unit {unit}"
     return "it is for a machine with systemd and the package"

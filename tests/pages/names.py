@@ -5,7 +5,7 @@ import re
 from pages import ROOT, codes, manual_options, manuals, markdown, place
 
 # Files of the code and of what goes with it. What a page names has to stand in one of them.
-KINDS = ["*.rt", "*.antt", "*.py", "*.c", "*.edit", "*.sh", "*.service", "*.socket", "*.default", "*.1", "*.txt", "*.md"]
+KINDS = ["*.rt", "*.antt", "*.py", "*.c", "*.edit", "*.sh", "*.yml", "*.html", "*.css", "*.js", "*.service", "*.socket", "*.default", "*.1", "*.txt", "*.md"]
 FOLDERS = ["crates", "packaging", "tests", "tools"]
 
 # What stands in a path for a name that one chooses.

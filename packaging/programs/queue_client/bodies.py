@@ -8,12 +8,12 @@ LIMIT = 4096
 Body = collections.namedtuple("Body", "kind text shown size")
 
 
-def readable(body, limit=LIMIT):
-    """Returns the beginning of a body, as text if it is printable UTF-8, else as a dump of bytes."""
-    part = body[:limit]
+def readable(body, width=16):
+    """Returns the beginning of a body, as text if it is printable UTF-8, else as a dump with `width` bytes a line."""
+    part = body[:LIMIT]
     text = text_of(part, cut=len(part) < len(body))
     if text is None:
-        return Body("hex", dump(part), len(part), len(body))
+        return Body("hex", dump(part, width), len(part), len(body))
     return Body("text", text, len(text.encode()), len(body))
 
 
@@ -28,11 +28,12 @@ def text_of(part, cut):
     return None
 
 
-def dump(part):
-    """Lines of sixteen bytes each: where they are, the bytes in hexadecimal, and those that are printable ASCII."""
+def dump(part, width):
+    """Lines of some bytes each: where they are, the bytes in hexadecimal by eights, and those that are printable ASCII."""
     lines = []
-    for first in range(0, len(part), 16):
-        row = part[first : first + 16]
-        ascii_part = "".join(chr(it) if 32 <= it < 127 else "." for it in row)
-        lines.append(f"{first:08x}  {row.hex(' ')[:23]:23}  {row[8:].hex(' '):23}  {ascii_part}")
+    for first in range(0, len(part), width):
+        row = part[first : first + width]
+        eights = [f"{row[at : at + 8].hex(' '):23}" for at in range(0, width, 8)]
+        printable = "".join(chr(it) if 32 <= it < 127 else "." for it in row)
+        lines.append("  ".join([f"{first:08x}", *eights, printable]))
     return "\n".join(lines)

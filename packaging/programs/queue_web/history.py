@@ -1,0 +1,83 @@
+"""The last ten minutes of each tube, a point every two seconds."""
+import array
+import math
+
+from queue_client.picture import RATES, numbers_of, rates_of
+from queue_client.reading import COUNTS
+
+EVERY = 2.0
+POINTS = 300
+
+# What is kept of a tube. A number takes four bytes, so a tube takes some seven kilobytes.
+KEPT = [*COUNTS, *RATES]
+
+# Of how many tubes it is kept.
+MOST_TUBES = 4000
+
+# How many points there are in a sparkline: each is the largest of those that it stands for.
+SPARK_POINTS = 60
+
+
+class History:
+    """Rings of points by tube and by what is counted. A point without a value is not a number."""
+
+    def __init__(self):
+        self.rings, self.seen = {}, {}
+        self.count, self.next, self.earlier = 0, -math.inf, None
+
+    def add(self, reading, moment):
+        """Adds a point, if it is time for one. Without a reading, since the server is down, it has no values."""
+        if moment < self.next:
+            return
+        # After a pause of the process it goes on from now.
+        self.next = max(self.next + EVERY, moment)
+        at = self.count % POINTS
+        for rings in self.rings.values():
+            for ring in rings.values():
+                ring[at] = math.nan
+        if reading:
+            self._points(reading, at)
+        self.count += 1
+        self.earlier = reading
+        self._forget()
+
+    def _points(self, reading, at):
+        passed = reading.moment - self.earlier.moment if self.earlier else None
+        for name, found in reading.tubes.items():
+            rings = self.rings.get(name) or self._begun(name)
+            if rings:
+                before = self.earlier and self.earlier.tubes.get(name)
+                for key, value in {**numbers_of(found), **rates_of(RATES, before, found, passed)}.items():
+                    if key in rings and value is not None:
+                        rings[key][at] = value
+                self.seen[name] = self.count
+
+    def _begun(self, name):
+        if len(self.rings) < MOST_TUBES:
+            self.rings[name] = {key: array.array("f", [math.nan]) * POINTS for key in KEPT}
+        return self.rings.get(name)
+
+    def _forget(self):
+        """Drops the tubes of which no point is left."""
+        for name in [it for it, seen in self.seen.items() if self.count - seen > POINTS]:
+            del self.rings[name], self.seen[name]
+
+    def of(self, name):
+        """The points of a tube, the oldest first, None for those that have no value."""
+        rings = self.rings.get(name)
+        return {key: self._ordered(ring) for key, ring in rings.items()} if rings else {key: [] for key in KEPT}
+
+    def sparks(self):
+        """The sparkline of each tube: its ready jobs."""
+        return {name: shortened(self._ordered(rings["ready"])) for name, rings in self.rings.items()}
+
+    def _ordered(self, ring):
+        at = self.count % POINTS
+        return [None if math.isnan(it) else round(it, 1) for it in [*ring[at:], *ring[:at]]]
+
+
+def shortened(points):
+    """The points of a sparkline: the largest of each few that follow one another."""
+    some = POINTS // SPARK_POINTS
+    parts = [[it for it in points[at : at + some] if it is not None] for at in range(0, len(points), some)]
+    return [max(it) if it else None for it in parts]
