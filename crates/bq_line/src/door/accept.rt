@@ -1,6 +1,6 @@
 //! The next connection of a listener.
 ghost use Rattle.std.specs.Prelude.{◌≡◌, OnErr, true};
-ghost use Rattle.bq_line.specs.Accepts.{ends_listener, is_of_memory, is_of_peer, is_shortage, is_shortage_number};
+ghost use Rattle.bq_line.specs.Accepts.{ends_listener, is_listener_fault};
 
 use super::Listen;
 use super::refusals::{Met, Refusals};
@@ -11,27 +11,28 @@ use std::sync::{Wait, WaitMethods};
 use std::time::Duration;
 use std::{io, thread};
 
-/// How long an accept that met a shortage rests, in milliseconds.
+/// How long a door waits before it tries again to accept a connection, in milliseconds.
 const REST: u64 = 100;
 
-/// The numbers of Linux's errors for a shortage: of memory, of descriptors in the system and in the
-/// process, and of buffers.
-const SHORTAGES: [i32; 4] = [12, 23, 24, 105];
+/// Linux's numbers of the errors that say that the listener itself is broken: EBADF, EFAULT, EINVAL and ENOTSOCK.
+const LISTENER_FAULTS: [i32; 4] = [9, 14, 22, 88];
 
-/// What an accept that failed says.
+/// What the error of an accept says.
 enum NotAccepted {
-    /// The peer was gone before its connection was accepted.
+    /// The peer had closed its connection, or a signal came. The next connection can be accepted at once.
     OfPeer,
-    /// The system is short of something, which may come back.
-    Shortage,
-    /// The listener accepts no more.
+    /// The system lacks memory or descriptors, the network failed, or a firewall forbade the connection. Linux also
+    /// returns pending network errors of the new socket here. None of these says anything about the listener.
+    Passing,
+    /// The listener is broken.
     OfListener,
 }
 
-/// The next connection. What is written to it goes out at once.
+/// Returns the next connection, set to send each write at once.
 ///
-/// A peer that is gone by then is passed. Where the system is short of something, this rests and tries again,
-/// so that a shortage ends no door. A shortage and the listener's end are told once.
+/// A peer that is gone by then is skipped. After any other error that does not come from the listener itself, the
+/// door waits and tries again, so such an error never ends a door. It is reported once, and so is the end of the
+/// listener.
 pub(super) fn accept<R: Wait + Clock + Eprint, T: Listen>(
     rt: &R,
     listener: &T,
@@ -43,7 +44,7 @@ pub(super) fn accept<R: Wait + Clock + Eprint, T: Listen>(
     for _ in rt.forever() {
         match listener.accept() {
             Ok(mut stream) => {
-                // It can't be set where the peer has gone.
+                // This fails if the peer has gone.
                 if stream.set_gathers(false).is_ok() {
                     met.end();
                     return Ok(Connection::new(stream));
@@ -51,7 +52,7 @@ pub(super) fn accept<R: Wait + Clock + Eprint, T: Listen>(
             }
             Err(e) => match meaning_of(&e) {
                 NotAccepted::OfPeer => {}
-                NotAccepted::Shortage => {
+                NotAccepted::Passing => {
                     met.note(rt, &e);
                     thread::sleep(rt, Duration::from_millis(REST));
                 }
@@ -70,42 +71,25 @@ fn meaning_of(e: &io::Error) -> NotAccepted
 {
     if is_of_peer(e.kind()) {
         NotAccepted::OfPeer
-    } else if is_shortage(e) {
-        NotAccepted::Shortage
-    } else {
+    } else if is_listener_fault(e.raw_os_error()) {
         NotAccepted::OfListener
+    } else {
+        NotAccepted::Passing
     }
 }
 
-fn is_of_peer(kind: ErrorKind) -> bool
-    ensures { result ≡ is_of_peer kind }
-{
+fn is_of_peer(kind: ErrorKind) -> bool {
     match kind {
         ErrorKind::Interrupted | ErrorKind::ConnectionAborted => true,
         _ => false,
     }
 }
 
-fn is_of_memory(kind: ErrorKind) -> bool
-    ensures { result ≡ is_of_memory kind }
-{
-    match kind {
-        ErrorKind::OutOfMemory => true,
-        _ => false,
-    }
-}
-
-fn is_shortage(e: &io::Error) -> bool
-    ensures { result ≡ is_shortage e.now }
-{
-    is_of_memory(e.kind()) || is_shortage_number(e.raw_os_error())
-}
-
-fn is_shortage_number(number: Option<i32>) -> bool
-    ensures { result ≡ is_shortage_number number }
+fn is_listener_fault(number: Option<i32>) -> bool
+    ensures { result ≡ is_listener_fault number }
 {
     match number {
-        Some(number) => SHORTAGES.contains(&number),
+        Some(number) => LISTENER_FAULTS.contains(&number),
         None => false,
     }
 }

@@ -14,8 +14,8 @@ pub trait Listen {
     /// Whether it may come to its end.
     ghost may_fail: { Self → Bool };
 
-    /// Waits for the next connection. An error says that the peer was gone, that the system is short of
-    /// something, or else that no more are accepted; the last only a listener says that may come to its end.
+    /// Waits for the next connection. An error says that this one could not be accepted, or that the listener is broken
+    /// and accepts no more (`ends_listener`). Only a listener that may fail returns an error of the second kind.
     fn accept(&self) -> io::Result<Self::Stream>
         ensures { IfErr result (λ e. ends_listener e ≡ true → may_fail self.now ≡ true) };
 }
