@@ -1,6 +1,6 @@
 //! Streams of both ways: what a line lies over, what a connection needs of a stream, and the connection. Behind them is
 //! the buffer that a stream is read into.
-ghost use Rattle.std.specs.Prelude.{◌≡◌, ◌==◌, ◌≤◌, ◌<◌, ℕ, [], IfOk, IsOk, OnErr, OnOk, List, None, Option, ◌++◌};
+ghost use Rattle.std.specs.Prelude.{◌≡◌, ◌==◌, ◌≤◌, ◌<◌, ℕ, [], Bool, IfOk, OnErr, OnOk, List, None, Option, ◌++◌};
 ghost use Rattle.std.specs.Prelude.{drop, false, length, min, take, true, vec_len};
 ghost use Rattle.std.specs.Io.{ReadsAtMost, WritesAtMost};
 ghost use Rattle.std.specs.Io.KnownBytes.{Consumes, IsAtEnd, Keeps, ReadConsumes, WriteAppends, prepend_known};
@@ -85,13 +85,21 @@ pub fn read_by<S: Duplex>(stream: &mut S, buf: &mut [u8], waits: bool) -> io::Re
 /// A stream whose calls can be switched between waiting and not, and which can hold small writes back for a while so
 /// that they go out together. Switching moves no bytes.
 pub trait Socket: Duplex {
+    /// The stream was switched to calls that wait, or to calls that don't. Only a switch that succeeds says so.
+    ghost is_set_to_wait: { Bool → Self → Type 0 } = { λ waits stream. Unit {0} };
+
+    /// The stream was switched to hold small writes back, or to send each at once. Only a switch that succeeds says so.
+    ghost is_set_to_gather: { Bool → Self → Type 0 } = { λ gathers stream. Unit {0} };
+
     /// Whether its calls wait, for bytes or for room. Those that don't answer `WouldBlock`.
     fn set_waits(&mut self, waits: bool) -> io::Result<()>
+        ensures switched { OnOk result (is_set_to_wait waits self.new) }
         ensures remaining { Keeps (Self.remaining self.old) (Self.remaining self.new) }
         ensures contents { Keeps (Self.contents self.old) (Self.contents self.new) };
 
     /// Whether small writes may be held back. Where they may no more, those that were are sent.
     fn set_gathers(&mut self, gathers: bool) -> io::Result<()>
+        ensures switched { OnOk result (is_set_to_gather gathers self.new) }
         ensures remaining { Keeps (Self.remaining self.old) (Self.remaining self.new) }
         ensures contents { Keeps (Self.contents self.old) (Self.contents self.new) };
 }
@@ -159,7 +167,10 @@ impl<S: Socket> Connection<S> {
 
     // Calls of the stream wait from now on, or they don't.
     fn set_waits(&mut self, waits: bool) -> io::Result<()>
-        ensures switched { IsOk result → self.new.waits ≡ waits }
+        ensures switched { OnOk result (self.new.waits ≡ waits) }
+        // What is remembered is changed by a switch that succeeded, and by no other.
+        ensures made { OnOk result ((self.old.waits ≡ waits → ⊥) → S.is_set_to_wait waits self.new.stream) }
+        ensures kept { OnErr result (self.new.waits ≡ self.old.waits) }
         ensures gathers { self.new.gathers ≡ self.old.gathers }
         ensures remaining { Keeps (S.remaining self.old.stream) (S.remaining self.new.stream) }
         ensures contents { Keeps (S.contents self.old.stream) (S.contents self.new.stream) }
@@ -170,30 +181,68 @@ impl<S: Socket> Connection<S> {
         }
         Ok(())
     }
+
+    // The stream may hold small writes back from now on, or it may not.
+    fn set_gathers(&mut self, gathers: bool) -> io::Result<()>
+        ensures switched { OnOk result (self.new.gathers ≡ gathers) }
+        ensures made { OnOk result ((self.old.gathers ≡ gathers → ⊥) → S.is_set_to_gather gathers self.new.stream) }
+        ensures kept { OnErr result (self.new.gathers ≡ self.old.gathers) }
+        ensures waits { self.new.waits ≡ self.old.waits }
+        ensures remaining { Keeps (S.remaining self.old.stream) (S.remaining self.new.stream) }
+        ensures contents { Keeps (S.contents self.old.stream) (S.contents self.new.stream) }
+    {
+        if self.gathers != gathers {
+            self.stream.set_gathers(gathers)?;
+            self.gathers = gathers;
+        }
+        Ok(())
+    }
 }
 
+// Each call that succeeds was made of a stream that waits, or of one that doesn't, as its clause `waits` says.
 impl<S: Socket> Duplex for Connection<S> {
     ghost remaining = { λ connection. S.remaining connection.stream };
 
     ghost contents = { λ connection. S.contents connection.stream };
 
-    fn read(&mut self, buf: &mut [u8]) -> io::Result<usize> {
+    fn read(&mut self, buf: &mut [u8]) -> io::Result<usize>
+        ensures bound { ReadsAtMost result buf.new }
+        ensures bytes { ReadConsumes (S.remaining self.old.stream) (S.remaining self.new.stream) result buf.new }
+        ensures apart { Keeps (S.contents self.old.stream) (S.contents self.new.stream) }
+        ensures waits { OnOk result (self.new.waits ≡ true) }
+    {
         self.set_waits(true)?;
         self.stream.read(buf)
     }
 
-    fn read_now(&mut self, buf: &mut [u8]) -> io::Result<usize> {
+    fn read_now(&mut self, buf: &mut [u8]) -> io::Result<usize>
+        ensures bound { ReadsAtMost result buf.new }
+        ensures bytes { ReadConsumes (S.remaining self.old.stream) (S.remaining self.new.stream) result buf.new }
+        ensures apart { Keeps (S.contents self.old.stream) (S.contents self.new.stream) }
+        ensures waits { OnOk result (self.new.waits ≡ false) }
+    {
         self.set_waits(false)?;
         self.stream.read(buf)
     }
 
-    fn write(&mut self, buf: &[u8]) -> io::Result<usize> {
+    fn write(&mut self, buf: &[u8]) -> io::Result<usize>
+        ensures bound { WritesAtMost result buf.now }
+        ensures bytes { WriteAppends (S.contents self.old.stream) (S.contents self.new.stream) result buf.now }
+        ensures apart { Keeps (S.remaining self.old.stream) (S.remaining self.new.stream) }
+        ensures waits { OnOk result (self.new.waits ≡ true) }
+    {
         // The last read may not have waited.
         self.set_waits(true)?;
         self.stream.write(buf)
     }
 
-    fn write_together(&mut self, first: &[u8], second: &[u8], third: &[u8]) -> io::Result<usize> {
+    fn write_together(&mut self, first: &[u8], second: &[u8], third: &[u8]) -> io::Result<usize>
+        ensures bound { WritesAtMost result (first.now ++ second.now ++ third.now) }
+        ensures bytes { WriteAppends (S.contents self.old.stream) (S.contents self.new.stream)
+            result (first.now ++ second.now ++ third.now) }
+        ensures apart { Keeps (S.remaining self.old.stream) (S.remaining self.new.stream) }
+        ensures waits { OnOk result (self.new.waits ≡ true) }
+    {
         self.set_waits(true)?;
         self.stream.write_together(first, second, third)
     }
@@ -204,9 +253,7 @@ impl<S: Socket> Duplex for Connection<S> {
 
     fn expect_more(&mut self, more: bool) {
         // A stream that can't be switched stays as it was, and is tried again at the next hint.
-        if self.gathers != more && self.stream.set_gathers(more).is_ok() {
-            self.gathers = more;
-        }
+        let _switched = self.set_gathers(more);
     }
 }
 
