@@ -7,6 +7,7 @@ pub use free_doors::FreeDoors;
 pub use listen::Listen;
 pub use listen_door::ListenDoor;
 pub use mem_door::MemDoor;
+pub use open_doors::OpenDoors;
 pub use refusals::Refusals;
 
 mod accept;
@@ -15,6 +16,7 @@ mod line_record;
 mod listen;
 mod listen_door;
 mod mem_door;
+mod open_doors;
 mod refusals;
 
 use crate::line::Line;

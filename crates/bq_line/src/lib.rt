@@ -4,7 +4,9 @@
 //! memory and one of the machine's own.
 #![tactic(auto)]
 
-pub use door::{Door, DoorFault, FreeDoors, Listen, ListenDoor, MemDoor, Refusals, TcpDoor};
+pub use door::{
+    Door, DoorFault, FreeDoors, Listen, ListenDoor, MemDoor, OpenDoors, Refusals, TcpDoor,
+};
 
 pub mod clock;
 mod door;

@@ -5,6 +5,7 @@ ghost use Rattle.bq_line.specs.InAll.{in_all};
 use super::accept::accept;
 use super::free_doors::FreeDoors;
 use super::line_record::LineRecord;
+use super::open_doors::OpenDoors;
 use super::refusals::Refusals;
 use super::{Door, DoorFault, Listen};
 use crate::line::{BufferedLine, Connection, Line, ReadBuffer, Socket};
@@ -23,6 +24,8 @@ pub struct ListenDoor<'l, R, T> {
     refusals: Option<&'l Refusals>,
     // Where it is told that all doors are taken.
     free: Option<&'l FreeDoors>,
+    // Where it is counted that the door is at its end.
+    counted: Option<&'l OpenDoors>,
     // How many connections still come. None: they come without end.
     left: Option<u32>,
     // What the next connection is read through. It goes out with a connection, and comes back with it.
@@ -62,6 +65,7 @@ impl<'l, R: Wait + Clock + Eprint, S: Socket + Drop + Send, T: Listen<Stream = S
             listener,
             refusals: None,
             free: None,
+            counted: None,
             left: sessions,
             buffer: Some(buffer),
             is_out: false,
@@ -102,6 +106,22 @@ impl<'l, R: Clock + Eprint, T> ListenDoor<'l, R, T> {
         self
     }
 
+    /// The same door, one of these, which are counted.
+    pub fn counted(mut self, among: &'l OpenDoors) -> ListenDoor<'l, R, T>
+        ensures inside { result.is_out ≡ self.entry.is_out }
+        ensures at_end { result.is_at_end ≡ self.entry.is_at_end }
+        ensures over { result.over ≡ self.entry.over }
+        ensures at { result.listener ≡ self.entry.listener }
+        ensures allowed { result.left ≡ self.entry.left }
+        ensures fault { result.met_fault ≡ self.entry.met_fault }
+        ensures refusals { result.refusals ≡ self.entry.refusals }
+        ensures free { result.free ≡ self.entry.free }
+        ensures counted { result.counted ≡ Some among.entry }
+    {
+        self.counted = Some(among);
+        self
+    }
+
     /// Whether the door is at its end because a connection could not be accepted.
     pub fn met_fault(&self) -> bool
         ensures { result ≡ self.now.met_fault }
@@ -128,6 +148,15 @@ impl<'l, R: Clock + Eprint, T> ListenDoor<'l, R, T> {
     fn tell_fault(&self) {
         if let Some(free) = self.free {
             free.leave();
+        }
+        if let Some(doors) = self.counted {
+            doors.fail();
+        }
+    }
+
+    fn tell_end(&self) {
+        if let Some(doors) = self.counted {
+            doors.close();
         }
     }
 
@@ -190,6 +219,7 @@ impl<'l, R: Wait + Clock + Eprint, S: Socket + Drop + Send, T: Listen<Stream = S
     {
         if self.left == Some(0) {
             self.is_at_end = true;
+            self.tell_end();
             return Ok(None);
         }
         match accept(self.rt, self.listener, self.refusals) {
