@@ -44,10 +44,22 @@ def run_connection_that_would_hold_back(bqd):
         same(server.end(), Ended(0, b"", b""))
 
 
+# What a connection can lack, and what Linux returns of a connection that the network or a firewall broke (accept(2)).
+SHORTAGES = [errno.EMFILE, errno.ENFILE, errno.ENOBUFS, errno.ENOMEM]
+OF_THE_NETWORK = [
+    errno.EPROTO, errno.ENETDOWN, errno.ENOPROTOOPT, errno.EHOSTDOWN, errno.ENONET, errno.EHOSTUNREACH, errno.EOPNOTSUPP,
+    errno.ENETUNREACH, errno.EPERM, errno.ETIMEDOUT,
+]
+
+# What says that the listener itself is broken.
+OF_THE_LISTENER = [errno.EINVAL, errno.EBADF, errno.ENOTSOCK, errno.EFAULT]
+
+
 def run_shortages(bqd):
-    """Whatever there is too little of for a connection, the seat rests and tries again, and that is told once."""
-    tries = 3
-    for code in [errno.EMFILE, errno.ENFILE, errno.ENOBUFS, errno.ENOMEM]:
+    """After an error of one connection, and where there is too little of something for one, the seat rests and tries
+    again, and that is told once."""
+    tries = 2
+    for code in SHORTAGES + OF_THE_NETWORK:
         told = f"bqd: no connection can be accepted: {os.strerror(code)} (os error {code})\n".encode()
         begun = time.monotonic()
         with Server(bqd, "--seats", "1", "--sessions", "1", env=faults(accepts=code, times=tries)) as server:
@@ -60,7 +72,7 @@ def run_shortages(bqd):
 
 def run_faults_of_a_listener(bqd):
     """A fault of the listener's own ends a seat for good, told at once and at the end, with status 1; another serves on."""
-    for code in [errno.EINVAL, errno.EBADF, errno.EOPNOTSUPP, errno.EPERM]:
+    for code in OF_THE_LISTENER:
         told = f"bqd: no connection can be accepted: {os.strerror(code)} (os error {code})\n".encode()
         at_the_end = b"bqd: a connection could not be accepted\n"
         with Server(bqd, "--seats", "1", env=faults(accepts=code, times=1)) as server:
