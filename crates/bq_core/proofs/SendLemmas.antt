@@ -2,7 +2,7 @@
 -- shelves would be too long.
 use Rattle.std.proofs.Crossing as Crossing
 use Rattle.bq_index.proofs.tree.Node.TheLaws.TheKnot as TheKnot
-use Rattle.bq_jobs.specs.contracts.jobs.Jobs as Jobs
+use Rattle.bq_jobs.specs.contracts.jobs.NumberedJobs as NumberedJobs
 use Rattle.bq_jobs.specs.contracts.tubes.NumberedTubes as NumberedTubes
 use Rattle.bq_jobs.specs.contracts.rows.Rows as Rows
 use Rattle.bq_state.specs.contracts.tubes.Tubes as Tubes

@@ -22,7 +22,7 @@ ghost use Rattle.bq_core.specs.Turns.{Gives, HasRoom};
 ghost use Rattle.bq_core.specs.Serving.{IsLastTurn};
 
 use bq_job::{Answer, Body, JobId, NoMemory, Seat, TubeName};
-use bq_jobs::Jobs;
+use bq_jobs::NumberedJobs;
 use bq_state::core_parts::CoreParts;
 use bq_state::job_store::JobChange;
 use bq_state::known::Stir;
@@ -52,7 +52,7 @@ fn better(best: Option<Offer>, other: Option<Offer>) -> Option<Offer>
 }
 
 // The most urgent ready job of the tube, unless it is paused.
-fn offer_of(jobs: &mut Jobs, tubes: &Tubes, tube: &TubeName) -> Option<Offer>
+fn offer_of(jobs: &mut NumberedJobs, tubes: &Tubes, tube: &TubeName) -> Option<Offer>
     ensures offer { result ≡ offered jobs.old.jobs tubes.now.entries tube.now }
     ensures same { jobs.new ≡ record jobs.old { comparisons = jobs.new.comparisons } }
     ensures asks { Asks 1 jobs.old jobs.new }
@@ -66,7 +66,7 @@ fn offer_of(jobs: &mut Jobs, tubes: &Tubes, tube: &TubeName) -> Option<Offer>
 
 // The best of this job and those that the tubes of these names offer.
 fn best_among(
-    jobs: &mut Jobs,
+    jobs: &mut NumberedJobs,
     tubes: &Tubes,
     names: &[TubeName],
     first: Option<Offer>,
@@ -84,7 +84,7 @@ fn best_among(
 
 // The best of this job and those that the client waits for.
 fn best_for(
-    jobs: &mut Jobs,
+    jobs: &mut NumberedJobs,
     tubes: &Tubes,
     client: &SeatRecord,
     first: Option<Offer>,
@@ -101,7 +101,7 @@ fn best_for(
 }
 
 // The most urgent ready job of the tube, unless it is paused or nobody waits at it.
-fn offer_to(jobs: &mut Jobs, tubes: &Tubes, tube: &TubeName) -> Option<Offer>
+fn offer_to(jobs: &mut NumberedJobs, tubes: &Tubes, tube: &TubeName) -> Option<Offer>
     ensures offer { result
         ≡ (if is_waited_at tube.now tubes.now
         then offered jobs.old.jobs tubes.now.entries tube.now else None) }
@@ -118,7 +118,7 @@ fn offer_to(jobs: &mut Jobs, tubes: &Tubes, tube: &TubeName) -> Option<Offer>
 // The best of this job and those that the client at this seat waits for, if there is one.
 #[tactic(auto, using(crate::proofs::AskLemmas::asks_more, crate::proofs::AskLemmas::asks_none))]
 fn best_of_client(
-    jobs: &mut Jobs,
+    jobs: &mut NumberedJobs,
     tubes: &Tubes,
     seats: &[SeatRecord],
     seat: Seat,
@@ -140,7 +140,7 @@ fn best_of_client(
 // The best of the jobs that the clients of these turns wait for.
 #[tactic(auto, using(crate::proofs::AskLemmas::asks_summed, bq_state::proofs::LoopLemmas::folded_beside))]
 fn best_of_turns(
-    jobs: &mut Jobs,
+    jobs: &mut NumberedJobs,
     tubes: &Tubes,
     seats: &[SeatRecord],
     turns: &[Turn],
@@ -160,7 +160,12 @@ fn best_of_turns(
 
 // The best of the jobs that waiting clients may have. Only who waits is looked at.
 #[tactic(auto, using(crate::proofs::OfferLemmas::asks_walked, crate::proofs::OfferLemmas::offers_walked))]
-fn best_offer(jobs: &mut Jobs, tubes: &Tubes, seats: &[SeatRecord], turns: &[Turn]) -> Option<Offer>
+fn best_offer(
+    jobs: &mut NumberedJobs,
+    tubes: &Tubes,
+    seats: &[SeatRecord],
+    turns: &[Turn],
+) -> Option<Offer>
     requires numbered { AreNumbered seats.now }
     requires turns { turns.now ≡ turns_of seats.now }
     ensures best { result ≡ fold (with_offers jobs.old.jobs tubes.now.entries) None seats.now }

@@ -11,7 +11,7 @@ ghost use Rattle.bq_state.specs.CoreParts.{machine_of, count_jobs};
 
 use crate::acts::Reply;
 use bq_job::{Answer, Seat, TubeName};
-use bq_jobs::Jobs;
+use bq_jobs::NumberedJobs;
 use bq_state::core_parts::CoreParts;
 use bq_state::job_store::{JobChange, JobKind};
 use bq_state::{changes, seats};
@@ -19,7 +19,7 @@ use bq_state::{changes, seats};
 // Which jobs of a tube a kick makes ready: the buried ones, or where there are none, the delayed
 // ones.
 #[tactic(auto, using(crate::proofs::KickLemmas::kickable_buried, crate::proofs::KickLemmas::kickable_delayed))]
-fn kind_to_kick(jobs: &mut Jobs, tube: &TubeName) -> JobKind
+fn kind_to_kick(jobs: &mut NumberedJobs, tube: &TubeName) -> JobKind
     ensures order { jobs_of result tube.now jobs.old.jobs ≡ kickable tube.now jobs.old.jobs }
     ensures out { (k : Job) → is_of result tube.now (kicked k) ≡ false }
     ensures same { jobs.new ≡ record jobs.old { comparisons = jobs.new.comparisons } }

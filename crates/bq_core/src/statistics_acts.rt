@@ -13,7 +13,7 @@ ghost use Rattle.bq_core.specs.Texts.{TellsJob};
 use crate::acts::Reply;
 use crate::texts::{ServerNumbers, TubeNumbers, job_text, names_text, server_text, tube_text};
 use bq_job::{Answer, JobId, Moment, NoMemory, Seat, Text, TubeName};
-use bq_jobs::Jobs;
+use bq_jobs::NumberedJobs;
 use bq_state::core_parts::CoreParts;
 use bq_state::tubes::TubeEntry;
 use bq_state::{changes, name_lists, seats};
@@ -22,7 +22,7 @@ use std::alloc::Global;
 // The text of the job of this id, unless its memory is refused; None where there is no job.
 #[tactic(auto, using(crate::proofs::TextLemmas::id_of_row))]
 fn text_of_job(
-    jobs: &mut Jobs,
+    jobs: &mut NumberedJobs,
     alloc: Global,
     id: JobId,
     moment: Moment,

@@ -25,7 +25,7 @@ ghost use Rattle.bq_state.specs.SeatChanges.{AreNumbered};
 ghost use Rattle.bq_state.specs.Warnings.{AreWarned, is_waiting_there};
 
 use bq_job::{JobId, JobState, Moment, Seat};
-use bq_jobs::Jobs;
+use bq_jobs::NumberedJobs;
 use bq_state::core_parts::CoreParts;
 use bq_state::job_store::JobChange;
 use bq_state::known::{FirstEnd, Stir, Warns, earlier_of, first_to_give_up, is_over};
@@ -215,7 +215,7 @@ fn moment_of(found: Option<(Moment, JobId)>) -> Option<Moment>
 }
 
 // When the client, if it waits, is told that the time to run of a job that it holds ends soon.
-fn warning_due(jobs: &mut Jobs, client: &SeatRecord) -> Option<Moment>
+fn warning_due(jobs: &mut NumberedJobs, client: &SeatRecord) -> Option<Moment>
     ensures due { result ≡ warning_due jobs.old.jobs client.now }
     ensures same { jobs.new ≡ record jobs.old { comparisons = jobs.new.comparisons } }
     ensures asks { Asks (if is_waiting client.now then 1 else 0) jobs.old jobs.new }
@@ -230,7 +230,7 @@ fn warning_due(jobs: &mut Jobs, client: &SeatRecord) -> Option<Moment>
 }
 
 // The same of the client at a seat, if there is one.
-fn warning_due_at(jobs: &mut Jobs, client: Option<&SeatRecord>) -> Option<Moment>
+fn warning_due_at(jobs: &mut NumberedJobs, client: Option<&SeatRecord>) -> Option<Moment>
     ensures due { result ≡ warning_due_at jobs.old.jobs (option_copied client.entry) }
     ensures same { jobs.new ≡ record jobs.old { comparisons = jobs.new.comparisons } }
     ensures asks { Asks
@@ -245,7 +245,7 @@ fn warning_due_at(jobs: &mut Jobs, client: Option<&SeatRecord>) -> Option<Moment
 // The earlier of this moment and of when the client of this turn is told so.
 fn with_warning_of(
     best: Option<Moment>,
-    jobs: &mut Jobs,
+    jobs: &mut NumberedJobs,
     seats: &[SeatRecord],
     turn: Turn,
 ) -> Option<Moment>
@@ -261,7 +261,7 @@ fn with_warning_of(
 
 // When the first of the clients that have these turns is told so.
 #[tactic(auto, using(crate::proofs::AskLemmas::asks_then, bq_state::proofs::LoopLemmas::folded_beside))]
-fn first_warning(jobs: &mut Jobs, seats: &[SeatRecord], turns: &[Turn]) -> Option<Moment>
+fn first_warning(jobs: &mut NumberedJobs, seats: &[SeatRecord], turns: &[Turn]) -> Option<Moment>
     ensures due { result
         ≡ fold (at_turn (with_warning_due jobs.old.jobs) seats.now) None turns.now }
     ensures same { jobs.new ≡ record jobs.old { comparisons = jobs.new.comparisons } }
@@ -278,7 +278,7 @@ fn first_warning(jobs: &mut Jobs, seats: &[SeatRecord], turns: &[Turn]) -> Optio
 // where that is more than one, who waits.
 #[tactic(auto, using(crate::proofs::AskLemmas::warnings_asked))]
 fn warnings_due(
-    jobs: &mut Jobs,
+    jobs: &mut NumberedJobs,
     seats: &[SeatRecord],
     turns: &[Turn],
     warns: &Warns,
@@ -299,7 +299,7 @@ fn warnings_due(
 
 // When the first delay ends. Where no job is delayed, none is looked for.
 #[tactic(auto, using(crate::proofs::FiringLemmas::no_first_due))]
-fn first_due(jobs: &mut Jobs, has_delayed: bool) -> Option<Moment>
+fn first_due(jobs: &mut NumberedJobs, has_delayed: bool) -> Option<Moment>
     requires { has_delayed ≡ list_any (λ j. is_delayed j.state) jobs.old.jobs }
     ensures due { result
         ≡ option_map (λ j. due_of j.state) (first_of (λ j. is_delayed j.state) is_due_before jobs.old.jobs) }
@@ -314,7 +314,7 @@ fn first_due(jobs: &mut Jobs, has_delayed: bool) -> Option<Moment>
 
 // When the first time to run ends. Where nobody holds a job, none is looked for.
 #[tactic(auto, using(crate::proofs::FiringLemmas::no_first_deadline))]
-fn first_deadline(jobs: &mut Jobs, has_lease: bool) -> Option<Moment>
+fn first_deadline(jobs: &mut NumberedJobs, has_lease: bool) -> Option<Moment>
     requires { has_lease ≡ list_any (λ j. is_reserved j.state) jobs.old.jobs }
     ensures due { result
         ≡ option_map (λ j. deadline_of j.state) (first_of (λ j. is_reserved j.state) is_lease_before jobs.old.jobs) }
@@ -328,7 +328,7 @@ fn first_deadline(jobs: &mut Jobs, has_lease: bool) -> Option<Moment>
 }
 
 // When something is due of a job, but for the warnings.
-fn jobs_due(jobs: &mut Jobs, has_delayed: bool, has_lease: bool) -> Option<Moment>
+fn jobs_due(jobs: &mut NumberedJobs, has_delayed: bool, has_lease: bool) -> Option<Moment>
     requires delayed { has_delayed ≡ list_any (λ j. is_delayed j.state) jobs.old.jobs }
     requires lease { has_lease ≡ list_any (λ j. is_reserved j.state) jobs.old.jobs }
     ensures due { result ≡ timers_due jobs.old.jobs }

@@ -18,7 +18,7 @@ ghost use Rattle.bq_core.specs.Turns.{Gives, HasRoom, none_refused};
 ghost use Rattle.bq_core.specs.WaitEnds.{EndsWait, LooksAt};
 
 use bq_job::{Answer, JobId, Moment, Seat};
-use bq_jobs::Jobs;
+use bq_jobs::NumberedJobs;
 use bq_state::core_parts::CoreParts;
 use bq_state::known::{self, FirstEnd};
 use bq_state::seats::{SeatChange, Turn};
@@ -36,7 +36,7 @@ fn is_soon(found: Option<(Moment, JobId)>, moment: Moment) -> bool
 }
 
 // Whether the client at the seat holds a job whose time to run ends within a second.
-fn is_deadline_soon(jobs: &mut Jobs, seat: Seat, moment: Moment) -> bool
+fn is_deadline_soon(jobs: &mut NumberedJobs, seat: Seat, moment: Moment) -> bool
     ensures soon { result ≡ list_any (λ j. is_ending_lease moment seat j.state) jobs.old.jobs }
     ensures same { jobs.new ≡ record jobs.old { comparisons = jobs.new.comparisons } }
     ensures comparisons { ComparesAtMost 1 jobs.old jobs.new }
@@ -46,7 +46,7 @@ fn is_deadline_soon(jobs: &mut Jobs, seat: Seat, moment: Moment) -> bool
 
 // Whether the time to run of some reserved job ends within a second.
 #[tactic(auto, using(crate::proofs::FiringLemmas::some_warned))]
-fn is_some_deadline_soon(jobs: &mut Jobs, moment: Moment) -> bool
+fn is_some_deadline_soon(jobs: &mut NumberedJobs, moment: Moment) -> bool
     ensures soon { result ≡ list_any (is_lease_short moment) jobs.old.jobs }
     ensures same { jobs.new ≡ record jobs.old { comparisons = jobs.new.comparisons } }
     ensures comparisons { ComparesAtMost 1 jobs.old jobs.new }

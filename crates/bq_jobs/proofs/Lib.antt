@@ -7,6 +7,7 @@ pub mod FirstOfGroup
 pub mod Firsts
 pub mod NamedFirsts
 pub mod NamedJobs
+pub mod NamedParts
 pub mod NumberingLemmas
 pub mod Orders
 pub mod Shelved

@@ -6,6 +6,7 @@ pub mod Kept
 pub mod Laws
 pub mod Leases
 pub mod Lent
+pub mod NamedGroups
 pub mod Names
 pub mod Numbering
 pub mod PlaceOrder

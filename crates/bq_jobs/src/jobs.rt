@@ -1,4 +1,4 @@
-//! The jobs of a work queue.
+//! The jobs of a work queue, with the numbers of their tubes.
 ghost use Rattle.std.specs.Option.{option_and_then, option_map};
 ghost use Rattle.std.specs.Prelude.{◌≡◌, ◌+◌, ◌-◌, ◌<◌, ◌^◌, if◌then◌else◌, [], ℕ, List};
 ghost use Rattle.std.specs.Prelude.{nat_lt, true, false, length, max, is_some, IfOk, IfSome, None, OnOk, OnErr};
@@ -30,16 +30,16 @@ use std::alloc::Global;
 use std::marker::Model;
 
 /// The jobs, of which each is found by its id, and the first of each kind at once. A job comes in by
-/// [`Jobs::add`], into a tube that [`Jobs::know`] made known and with the room that [`Jobs::reserve_one`]
-/// made, and goes out by [`Jobs::remove`], which leaves that room for the next job: so a job that is taken
+/// [`NumberedJobs::add`], into a tube that [`NumberedJobs::know`] made known and with the room that [`NumberedJobs::reserve_one`]
+/// made, and goes out by [`NumberedJobs::remove`], which leaves that room for the next job: so a job that is taken
 /// out, changed and added again takes no memory.
 #[derive(Drop)]
-pub struct Jobs {
+pub struct NumberedJobs {
     rows: Rows,
     tubes: NumberedTubes,
 }
 
-impl Model for Jobs {
+impl Model for NumberedJobs {
     ghost use Rattle.bq_jobs.specs.Kept.{Kept};
     ghost use Rattle.bq_jobs.specs.Numbering.{AreNumbered, kept_named};
 
@@ -50,15 +50,15 @@ impl Model for Jobs {
     ghost invariant = { λ s. AreNumbered s.tubes s.rows.jobs };
 }
 
-impl Jobs {
+impl NumberedJobs {
     ghost use Rattle.std.specs.Borrow.{sem};
-    ghost use Rattle.bq_jobs.specs.Lent.{LeavesJobs};
+    ghost use Rattle.bq_jobs.specs.Lent.{LeavesNumbered};
 
     /// No jobs, and no room for one.
-    pub fn new() -> Jobs
+    pub fn new() -> NumberedJobs
         ensures { result ≡ record { jobs = []; room = 0; comparisons = 0; tubes = [] } }
     {
-        Jobs {
+        NumberedJobs {
             rows: Rows::new(),
             tubes: NumberedTubes::new(),
         }
@@ -119,7 +119,7 @@ impl Jobs {
         self.rows.give_back();
     }
 
-    /// Puts a job in. It uses the room of one. Its tube has to be known, see [`Jobs::know`].
+    /// Puts a job in. It uses the room of one. Its tube has to be known, see [`NumberedJobs::know`].
     #[tactic(auto, using(crate::proofs::NamedJobs::additions))]
     pub fn add(&mut self, job: Job)
         requires room { 0 < self.old.room }
@@ -171,7 +171,7 @@ impl Jobs {
 
     /// The record of the job of this id, which tells all of it but the name of its tube.
     pub fn get(&mut self, id: JobId) -> Option<&Row>
-        ensures* after { sem 𝓛 (LeavesJobs self.entry) }
+        ensures* after { sem 𝓛 (LeavesNumbered self.entry) }
         ensures job { option_map (λ row. but_for_tube row.now) result
             ≡ option_map but_for_tube (job_with id self.old.jobs) }
     {
@@ -395,7 +395,7 @@ impl Jobs {
 
 // The id in a pair.
 #[tactic(auto, unfolding(crate::specs::Ranks::id_in))]
-fn id_in(rank: Option<(u64, JobId)>) -> Option<JobId>
+pub(crate) fn id_in(rank: Option<(u64, JobId)>) -> Option<JobId>
     ensures { result ≡ id_in rank }
 {
     let (_, id) = rank?;

@@ -2,9 +2,10 @@
 //!
 //! A [`Jobs`] has three shelves: the jobs by their ids, and places of jobs by tube and state or by holder,
 //! and by moment. A job has a box in each, used or spare, and so it can go from any state to any other.
-//! Inside, a tube is a number: it is known by one before a job is put into it ([`Jobs::know`]), and once it has
-//! none it can be forgotten. A number is never given again.
-//! What a job with a body of 64 bytes costs of the heap:
+//!
+//! [`NumberedJobs`] is the same with a number in the place of a tube's name, and takes less memory. There a tube is
+//! known by a number before a job is put into it ([`NumberedJobs::know`]), and once it has none it can be forgotten.
+//! A number is never given again. What a job with a body of 64 bytes costs there of the heap:
 //!
 //! | piece | bytes |
 //! |---|---|
@@ -17,11 +18,14 @@
 //! | together | 400 at most |
 #![tactic(auto)]
 
-pub use jobs::{Jobs, adds_at_the_end, chosen_has_its_id, next_is_free};
+pub use jobs::{NumberedJobs, adds_at_the_end, chosen_has_its_id, next_is_free};
+pub use named_jobs::Jobs;
 pub use row::{JobEdit, Moved, Row, Standing};
 pub use tubes::TubeNumber;
 
 mod jobs;
+mod named_group;
+mod named_jobs;
 mod places;
 mod row;
 mod rows;

@@ -80,7 +80,7 @@ impl Group {
 }
 
 // Which of the three lists of a tube it is.
-fn number_of(list: JobList) -> u64
+pub(crate) fn number_of(list: JobList) -> u64
     ensures { result ≡ list_number list }
 {
     match list {
@@ -265,7 +265,7 @@ impl<G> ShelfPlace<G> {
     ghost use Rattle.bq_jobs.specs.PlaceOrder.{numbers_cmp};
 
     /// The place of a job in a group.
-    fn of(group: G, at: u64, id: JobId) -> ShelfPlace<G>
+    pub(crate) fn of(group: G, at: u64, id: JobId) -> ShelfPlace<G>
         ensures { result ≡ record { at = at; id = id; group = group } }
     {
         ShelfPlace {

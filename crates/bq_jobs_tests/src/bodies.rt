@@ -2,11 +2,11 @@
 
 use crate::putting::{job, put, tube};
 use bq_job::{JobId, JobState};
-use bq_jobs::Jobs;
+use bq_jobs::NumberedJobs;
 use std::test::Fail;
 
 // Whether there is a job of this id, of which another owner reads these bytes.
-fn reads(jobs: &mut Jobs, id: JobId, bytes: &[u8]) -> bool {
+fn reads(jobs: &mut NumberedJobs, id: JobId, bytes: &[u8]) -> bool {
     match jobs.share_body(id) {
         Some(Ok(body)) => body.as_slice() == bytes,
         _ => false,
@@ -16,7 +16,7 @@ fn reads(jobs: &mut Jobs, id: JobId, bytes: &[u8]) -> bool {
 #[test]
 fn bodies_are_shared(rt: HostRuntime) -> Result<(), Fail> {
     let name = tube(&rt, "default");
-    let mut jobs = Jobs::new();
+    let mut jobs = NumberedJobs::new();
     jobs.reserve_one(rt.alloc())?;
     let own = job(rt.alloc(), 7, name, 3, JobState::Ready)?;
     assert!(rt; put(rt.alloc(), &mut jobs, own));

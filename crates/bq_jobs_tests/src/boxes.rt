@@ -3,7 +3,7 @@
 use crate::putting::{job, put, tube};
 use bq_index::{BoxSource, NoMemory as Refused};
 use bq_job::{JobId, JobState, NoMemory, TubeName};
-use bq_jobs::Jobs;
+use bq_jobs::NumberedJobs;
 use std::alloc::Global;
 use std::mem::size_of_val;
 use std::process::Abort;
@@ -11,10 +11,10 @@ use std::test::Fail;
 
 /// A heap that refuses one of the boxes that it is asked for.
 #[derive(Drop)]
-struct Refusing {
-    heap: Global,
-    asked: usize,
-    refused: usize,
+pub(crate) struct Refusing {
+    pub(crate) heap: Global,
+    pub(crate) asked: usize,
+    pub(crate) refused: usize,
 }
 
 impl BoxSource for Refusing {
@@ -31,7 +31,7 @@ impl BoxSource for Refusing {
 fn fill(
     rt: &impl Abort,
     alloc: Global,
-    jobs: &mut Jobs,
+    jobs: &mut NumberedJobs,
     name: TubeName,
     end: JobId,
 ) -> Result<(), Fail> {
@@ -43,7 +43,7 @@ fn fill(
 }
 
 // Removes the jobs of these ids, and tells whether each was there.
-fn remove_all(jobs: &mut Jobs, first: JobId, end: JobId) -> bool {
+fn remove_all(jobs: &mut NumberedJobs, first: JobId, end: JobId) -> bool {
     let mut are_there = true;
     for id in first..end {
         are_there = jobs.remove(id).is_some() && are_there;
@@ -55,7 +55,7 @@ fn remove_all(jobs: &mut Jobs, first: JobId, end: JobId) -> bool {
 fn refuse_one(
     rt: &impl Abort,
     alloc: Global,
-    jobs: &mut Jobs,
+    jobs: &mut NumberedJobs,
     name: TubeName,
     refused: usize,
     left: usize,
@@ -80,13 +80,13 @@ fn refuse_one(
 #[test]
 fn each_box_refused_in_turn(rt: HostRuntime) -> Result<(), Fail> {
     let name = tube(&rt, "default");
-    refuse_one(&rt, rt.alloc(), &mut Jobs::new(), name, 1, 3)?;
-    refuse_one(&rt, rt.alloc(), &mut Jobs::new(), name, 2, 2)?;
-    refuse_one(&rt, rt.alloc(), &mut Jobs::new(), name, 3, 1)
+    refuse_one(&rt, rt.alloc(), &mut NumberedJobs::new(), name, 1, 3)?;
+    refuse_one(&rt, rt.alloc(), &mut NumberedJobs::new(), name, 2, 2)?;
+    refuse_one(&rt, rt.alloc(), &mut NumberedJobs::new(), name, 3, 1)
 }
 
 /// Gives back the room of as many jobs as there is room for, and tells of how many it went.
-fn give_back_all(jobs: &mut Jobs) -> usize {
+fn give_back_all(jobs: &mut NumberedJobs) -> usize {
     let before = jobs.room();
     for _ in 0..before {
         jobs.give_back();
@@ -98,7 +98,7 @@ fn give_back_all(jobs: &mut Jobs) -> usize {
 fn peak_passes(
     rt: &impl Abort,
     alloc: Global,
-    jobs: &mut Jobs,
+    jobs: &mut NumberedJobs,
     name: TubeName,
 ) -> Result<(), Fail> {
     fill(rt, alloc, jobs, name, 200)?;
@@ -124,7 +124,12 @@ fn peak_passes(
 /// After a peak the room goes back to the heap, three boxes for each job, but for that of the jobs there are.
 #[test]
 fn room_of_a_peak_given_back(rt: HostRuntime) -> Result<(), Fail> {
-    peak_passes(&rt, rt.alloc(), &mut Jobs::new(), tube(&rt, "default"))
+    peak_passes(
+        &rt,
+        rt.alloc(),
+        &mut NumberedJobs::new(),
+        tube(&rt, "default"),
+    )
 }
 
 /// A heap that notes how large the last three boxes are that it is asked for.
@@ -150,7 +155,7 @@ fn bytes_of_a_job(rt: HostRuntime) -> Result<(), Fail> {
         heap: rt.alloc(),
         sizes: [0; 3],
     };
-    Jobs::new().reserve_one_from(&mut source)?;
+    NumberedJobs::new().reserve_one_from(&mut source)?;
     let [place, timer, record] = source.sizes;
     assert!(rt; 0 < place && place <= 48);
     assert!(rt; 0 < timer && timer <= 40);

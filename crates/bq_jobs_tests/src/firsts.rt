@@ -2,12 +2,12 @@
 
 use crate::putting::{job, put, tube};
 use bq_job::{JobId, JobState, Pri, Seat};
-use bq_jobs::Jobs;
+use bq_jobs::NumberedJobs;
 use std::alloc::Global;
 use std::process::Abort;
 use std::test::Fail;
 
-const JOBS: &[(JobId, &str, Pri, JobState)] = &[
+pub(crate) const JOBS: &[(JobId, &str, Pri, JobState)] = &[
     (1, "ab", 0, JobState::Ready),
     (2, "a", 7, JobState::Ready),
     (3, "a", 5, JobState::Ready),
@@ -28,7 +28,7 @@ const JOBS: &[(JobId, &str, Pri, JobState)] = &[
 
 /// A kind of job, of which the first is asked for.
 #[derive(Clone, Copy)]
-enum Kind {
+pub(crate) enum Kind {
     Ready(&'static str),
     Delayed(&'static str),
     Buried(&'static str),
@@ -37,7 +37,7 @@ enum Kind {
     Held(Seat),
 }
 
-const FIRSTS: &[(Kind, Option<JobId>)] = &[
+pub(crate) const FIRSTS: &[(Kind, Option<JobId>)] = &[
     (Kind::Ready("a"), Some(3)),
     (Kind::Ready("ab"), Some(1)),
     (Kind::Delayed("a"), Some(6)),
@@ -52,7 +52,7 @@ const FIRSTS: &[(Kind, Option<JobId>)] = &[
     (Kind::Held(0), None),
 ];
 
-fn first_of(rt: &impl Abort, jobs: &mut Jobs, kind: Kind) -> Option<JobId> {
+fn first_of(rt: &impl Abort, jobs: &mut NumberedJobs, kind: Kind) -> Option<JobId> {
     match kind {
         Kind::Ready(name) => jobs.first_ready(&tube(rt, name)),
         Kind::Delayed(name) => jobs.first_delayed(&tube(rt, name)),
@@ -64,7 +64,7 @@ fn first_of(rt: &impl Abort, jobs: &mut Jobs, kind: Kind) -> Option<JobId> {
 }
 
 // Adds the jobs of all rows.
-fn add_all(rt: &impl Abort, alloc: Global, jobs: &mut Jobs) -> Result<(), Fail> {
+fn add_all(rt: &impl Abort, alloc: Global, jobs: &mut NumberedJobs) -> Result<(), Fail> {
     for (id, name, pri, state) in JOBS {
         jobs.reserve_one(alloc)?;
         assert!(rt; put(alloc, jobs, job(alloc, *id, tube(rt, name), *pri, *state)?));
@@ -74,7 +74,7 @@ fn add_all(rt: &impl Abort, alloc: Global, jobs: &mut Jobs) -> Result<(), Fail> 
 }
 
 // Looks for the first job of each kind.
-fn look(rt: &impl Abort, jobs: &mut Jobs) {
+fn look(rt: &impl Abort, jobs: &mut NumberedJobs) {
     for (kind, wanted) in FIRSTS {
         let before = jobs.comparisons();
         assert!(rt; first_of(rt, jobs, *kind) == *wanted);
@@ -85,7 +85,7 @@ fn look(rt: &impl Abort, jobs: &mut Jobs) {
 
 #[test]
 fn first_of_each_kind(rt: HostRuntime) -> Result<(), Fail> {
-    let mut jobs = Jobs::new();
+    let mut jobs = NumberedJobs::new();
     add_all(&rt, rt.alloc(), &mut jobs)?;
     look(&rt, &mut jobs);
     Ok(())

@@ -10,6 +10,8 @@ mod firsts;
 #[cfg(test)]
 mod many_jobs;
 #[cfg(test)]
+mod named;
+#[cfg(test)]
 mod putting;
 #[cfg(test)]
 mod shelves;

@@ -2,14 +2,14 @@
 
 use crate::putting::{job, put, tube};
 use bq_job::{JobState, NoMemory, TubeName};
-use bq_jobs::Jobs;
+use bq_jobs::NumberedJobs;
 use std::alloc::Global;
 use std::test::Fail;
 
 const JOBS: u64 = 3_000;
 
 /// Puts all jobs in, each one more urgent than the one before it.
-fn fill(alloc: Global, jobs: &mut Jobs, name: TubeName) -> Result<bool, NoMemory> {
+fn fill(alloc: Global, jobs: &mut NumberedJobs, name: TubeName) -> Result<bool, NoMemory> {
     for id in 0..JOBS {
         let pri = (JOBS - id) as u32;
         jobs.reserve_one(alloc)?;
@@ -21,7 +21,7 @@ fn fill(alloc: Global, jobs: &mut Jobs, name: TubeName) -> Result<bool, NoMemory
 }
 
 /// Takes all jobs out in the order in which they would be handed out: the last one first.
-fn empty(jobs: &mut Jobs, name: &TubeName) -> bool {
+fn empty(jobs: &mut NumberedJobs, name: &TubeName) -> bool {
     for taken in 1..=JOBS {
         match jobs.first_ready(name) {
             Some(id) if id == JOBS - taken => {}
@@ -37,7 +37,7 @@ fn empty(jobs: &mut Jobs, name: &TubeName) -> bool {
 #[test]
 fn three_thousand_jobs(rt: HostRuntime) -> Result<(), Fail> {
     let name = tube(&rt, "default");
-    let mut jobs = Jobs::new();
+    let mut jobs = NumberedJobs::new();
     assert!(rt; fill(rt.alloc(), &mut jobs, name)?);
     assert!(rt; (jobs.len(), jobs.room()) == (3_000, 0));
     assert!(rt; empty(&mut jobs, &name));

@@ -1,7 +1,7 @@
 //! How the tests put jobs in and change them.
 
 use bq_job::{Body, Counts, Job, JobId, JobState, NoMemory, Pri, TubeName};
-use bq_jobs::Jobs;
+use bq_jobs::NumberedJobs;
 use std::alloc::Global;
 use std::process::Abort;
 
@@ -31,7 +31,7 @@ pub fn job(
 }
 
 /// Adds a job, where there is room and no job of its id.
-pub fn put(alloc: Global, jobs: &mut Jobs, job: Job) -> bool {
+pub fn put(alloc: Global, jobs: &mut NumberedJobs, job: Job) -> bool {
     if jobs.room() == 0 || jobs.get(job.id).is_some() || jobs.know(alloc, &job.tube).is_err() {
         return false;
     }
@@ -40,7 +40,7 @@ pub fn put(alloc: Global, jobs: &mut Jobs, job: Job) -> bool {
 }
 
 /// Changes the state of a job by taking it out and adding it again.
-pub fn change(alloc: Global, jobs: &mut Jobs, id: JobId, state: JobState) -> bool {
+pub fn change(alloc: Global, jobs: &mut NumberedJobs, id: JobId, state: JobState) -> bool {
     match jobs.remove(id) {
         None => false,
         Some(mut job) => {

@@ -2,7 +2,7 @@
 
 use crate::putting::{change, job, put, tube};
 use bq_job::{JobState, TubeName};
-use bq_jobs::Jobs;
+use bq_jobs::NumberedJobs;
 use std::test::Fail;
 
 /// States of a job, and of which kinds it is then: ready, delayed, buried, due, a lease, held.
@@ -23,7 +23,7 @@ const STATES: &[(JobState, [bool; 6])] = &[
     (JobState::Ready, [true, false, false, false, false, false]),
 ];
 
-fn kinds_with_jobs(jobs: &mut Jobs, name: &TubeName) -> [bool; 6] {
+fn kinds_with_jobs(jobs: &mut NumberedJobs, name: &TubeName) -> [bool; 6] {
     [
         jobs.first_ready(name).is_some(),
         jobs.first_delayed(name).is_some(),
@@ -37,7 +37,7 @@ fn kinds_with_jobs(jobs: &mut Jobs, name: &TubeName) -> [bool; 6] {
 #[test]
 fn all_states_in_one_room(rt: HostRuntime) -> Result<(), Fail> {
     let name = tube(&rt, "default");
-    let mut jobs = Jobs::new();
+    let mut jobs = NumberedJobs::new();
     assert!(rt; (jobs.len(), jobs.room(), jobs.comparisons()) == (0, 0, 0));
     jobs.reserve_one(rt.alloc())?;
     jobs.reserve_one(rt.alloc())?;

@@ -32,7 +32,7 @@ use crate::tubes::{Moving, TubeChange, Tubes};
 use crate::waiting::Waiting;
 use crate::{job_store, seats, shares};
 use bq_job::{Job, JobId, JobState, Moment, NoMemory, Seat, TubeName};
-use bq_jobs::{Jobs, Moved};
+use bq_jobs::{Moved, NumberedJobs};
 use bq_steps::Config;
 use std::alloc::Global;
 
@@ -305,7 +305,7 @@ pub fn new_parts(
 {
     CoreParts {
         config,
-        jobs: Jobs::new(),
+        jobs: NumberedJobs::new(),
         seats,
         waiting,
         tubes,

@@ -8,7 +8,7 @@ use crate::tubes::{Crowd, Tubes};
 use crate::waiting::Waiting;
 use crate::{job_store, seats};
 use bq_job::{Body, Job, JobId, Moment, NoMemory, Seat, TubeName};
-use bq_jobs::Jobs;
+use bq_jobs::NumberedJobs;
 use bq_steps::Config;
 use std::alloc::Global;
 
@@ -17,7 +17,7 @@ use std::alloc::Global;
 #[derive(Drop)]
 pub struct CoreParts {
     pub config: Config,
-    pub jobs: Jobs,
+    pub jobs: NumberedJobs,
     pub seats: Vec<SeatRecord, Global>,
     /// The clients that wait, in their turn.
     pub waiting: Waiting,

@@ -16,7 +16,7 @@ ghost use Rattle.bq_state.specs.JobKinds.{first_of_kind};
 ghost use Rattle.bq_state.specs.Room.{room_left};
 
 use bq_job::{Body, Job, JobId, JobState, Moment, NoMemory, Pri, Seat, TubeName};
-use bq_jobs::{JobEdit, Jobs, Row};
+use bq_jobs::{JobEdit, NumberedJobs, Row};
 
 // Room for so many more jobs than there are is kept.
 const ROOM_TO_SPARE: usize = 1000;
@@ -100,7 +100,7 @@ pub(crate) fn is_ready(job: &Job) -> bool
 
 /// Whether the client at the seat holds a job.
 #[tactic(auto, using(crate::proofs::DueLemmas::held_some))]
-pub(crate) fn holds_some(jobs: &mut Jobs, seat: Seat) -> bool
+pub(crate) fn holds_some(jobs: &mut NumberedJobs, seat: Seat) -> bool
     ensures holds { result ≡ list_any (held_by seat) jobs.old.jobs }
     ensures same { jobs.new ≡ record jobs.old { comparisons = jobs.new.comparisons } }
     ensures comparisons { ComparesAtMost 1 jobs.old jobs.new }
@@ -188,7 +188,7 @@ impl JobEdit for JobChange {
 }
 
 /// The id of the first job of this kind in this tube.
-pub fn first(jobs: &mut Jobs, kind: JobKind, tube: &TubeName) -> Option<JobId>
+pub fn first(jobs: &mut NumberedJobs, kind: JobKind, tube: &TubeName) -> Option<JobId>
     ensures id { result ≡ option_map (λ j. j.id) (first_of_kind kind tube.now jobs.old.jobs) }
     ensures same { jobs.new ≡ record jobs.old { comparisons = jobs.new.comparisons } }
     ensures comparisons { ComparesAtMost 1 jobs.old jobs.new }
@@ -225,7 +225,7 @@ fn passes(job: &Row, test: JobTest) -> bool
 }
 
 /// Whether there is a job of this id, and it passes.
-pub(crate) fn has(jobs: &mut Jobs, id: JobId, test: JobTest) -> bool
+pub(crate) fn has(jobs: &mut NumberedJobs, id: JobId, test: JobTest) -> bool
     ensures has { result ≡ is_passed_by (passes test) (job_with id jobs.old.jobs) }
     ensures same { jobs.new ≡ record jobs.old { comparisons = jobs.new.comparisons } }
     ensures comparisons { ComparesAtMost 1 jobs.old jobs.new }
@@ -237,7 +237,7 @@ pub(crate) fn has(jobs: &mut Jobs, id: JobId, test: JobTest) -> bool
 }
 
 /// How long the client at the seat may hold the job of this id, in seconds, if it holds it.
-pub(crate) fn time_to_run(jobs: &mut Jobs, id: JobId, seat: Seat) -> Option<u32>
+pub(crate) fn time_to_run(jobs: &mut NumberedJobs, id: JobId, seat: Seat) -> Option<u32>
     ensures ttr { result ≡ ttr_held_by seat (job_with id jobs.old.jobs) }
     ensures same { jobs.new ≡ record jobs.old { comparisons = jobs.new.comparisons } }
     ensures comparisons { ComparesAtMost 1 jobs.old jobs.new }
@@ -254,7 +254,7 @@ pub(crate) fn time_to_run(jobs: &mut Jobs, id: JobId, seat: Seat) -> Option<u32>
 
 /// One more owner of the body of the job of this id, unless it is refused; None where there is no
 /// job.
-pub(crate) fn share(jobs: &mut Jobs, id: JobId) -> Option<Result<Body, NoMemory>>
+pub(crate) fn share(jobs: &mut NumberedJobs, id: JobId) -> Option<Result<Body, NoMemory>>
     ensures none { is_some result ≡ is_some (job_with id jobs.old.jobs) }
     ensures share { IfSome result (λ shared. IfOk shared (IsBodyOf (job_with id jobs.old.jobs))) }
     ensures same { jobs.new ≡ record jobs.old { comparisons = jobs.new.comparisons } }
@@ -264,7 +264,7 @@ pub(crate) fn share(jobs: &mut Jobs, id: JobId) -> Option<Result<Body, NoMemory>
 }
 
 // The room of one job goes back to the heap, where there is room for so many more than there are.
-fn let_one_room_go(jobs: &mut Jobs)
+fn let_one_room_go(jobs: &mut NumberedJobs)
     ensures same { jobs.new ≡ record jobs.old { room = jobs.new.room } }
     ensures given { jobs.new.room ≡ room_left (length jobs.old.jobs) jobs.old.room }
     ensures room { 0 < jobs.old.room → 0 < jobs.new.room }
@@ -276,7 +276,7 @@ fn let_one_room_go(jobs: &mut Jobs)
 
 /// Room that nobody needs goes back to the heap: that of two jobs at a time, so that no step takes
 /// long.
-pub(crate) fn let_room_go(jobs: &mut Jobs)
+pub(crate) fn let_room_go(jobs: &mut NumberedJobs)
     ensures same { jobs.new ≡ record jobs.old { room = jobs.new.room } }
     ensures given { jobs.new.room
         ≡ room_left (length jobs.old.jobs) (room_left (length jobs.old.jobs) jobs.old.room) }

@@ -3,7 +3,7 @@ use Rattle.std.specs.Prelude.{is_ok}
 use Rattle.bq_jobs.specs.Kept.{Kept}
 use Rattle.bq_jobs.specs.Numbering.{AreNumbered, named}
 use Rattle.bq_jobs.proofs.NamedJobs.{named_if, numbered_if}
-use Rattle.bq_jobs.proofs.jobs.Jobs.know.Goals as goal
+use Rattle.bq_jobs.proofs.jobs.NumberedJobs.know.Goals as goal
 
 pub invariant_of-self : goal.invariant_of-self
 invariant_of-self c =

@@ -4,7 +4,7 @@ use Rattle.bq_job.specs.reading.TubeName.{is_same_name}
 use Rattle.bq_jobs.specs.Kept.{Kept}
 use Rattle.bq_jobs.specs.Numbering.{AreNumbered, named}
 use Rattle.bq_jobs.proofs.NamedJobs.{named_left, numbered_left}
-use Rattle.bq_jobs.proofs.jobs.Jobs.forget.Goals as goal
+use Rattle.bq_jobs.proofs.jobs.NumberedJobs.forget.Goals as goal
 
 pub invariant_of-self : goal.invariant_of-self
 invariant_of-self c =

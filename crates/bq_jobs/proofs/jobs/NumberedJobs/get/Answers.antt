@@ -5,7 +5,7 @@ use Rattle.bq_jobs.specs.Kept.{Kept}
 use Rattle.bq_jobs.specs.Numbering.{named}
 use Rattle.bq_jobs.specs.Seen.{but_for_tube}
 use Rattle.bq_jobs.proofs.NamedJobs.{but_named, counted_as, same_looks}
-use Rattle.bq_jobs.proofs.jobs.Jobs.get.Goals as goal
+use Rattle.bq_jobs.proofs.jobs.NumberedJobs.get.Goals as goal
 
 pub returns : goal.returns
 returns c =

@@ -1,0 +1,35 @@
+-- Jobs with the names of their tubes lie as the records with their numbers do, and what is known of those holds of them.
+use Rattle.std.proofs.Common.{◌≡◌, ℕ, Some, None}
+use Rattle.std.specs.Ordering.{nat_cmp}
+use Rattle.std.specs.Map.{lookup, remove_entry}
+use Rattle.std.specs.BTreeMap.{is_at, insert_entry}
+use Rattle.bq_job.specs.declared.job.Job.{Job}
+use Rattle.bq_job.specs.machine.Changes.{job_with}
+use Rattle.bq_jobs.specs.declared.named_jobs.Jobs.TheInside.{Inside}
+use Rattle.bq_jobs.specs.declared.rows.Rows.TheInside.{Inside as Parts}
+use Rattle.bq_jobs.specs.Inside.{jobs_of}
+use Rattle.bq_jobs.specs.Kept.{with_added, without}
+use Rattle.bq_jobs.proofs.Shelved as of_rows
+use Rattle.bq_jobs.proofs.Shelved.{AreShelved}
+
+-- the same three shelves
+abbrev pub parts : Inside → Parts
+parts s = record { by_id = s.by_id; groups = s.groups; timers = s.timers }
+
+pub found_in : (id : ℕ) (s : Inside) → AreShelved (parts s) → lookup (is_at (nat_cmp id)) s.by_id.entries ≡ job_with id (jobs_of s.by_id.entries)
+found_in id s h = of_rows.found_in id (parts s) h
+
+pub found_own : (id : ℕ) (s : Inside) → AreShelved (parts s) → (j : Job) → lookup (is_at (nat_cmp id)) s.by_id.entries ≡ Some j → j.id ≡ id
+found_own id s h j found = of_rows.found_own id (parts s) h j found
+
+pub jobs_added : (j : Job) (s : Inside) → AreShelved (parts s) → job_with j.id (jobs_of s.by_id.entries) ≡ None → jobs_of (insert_entry nat_cmp s.by_id.entries j.id j) ≡ with_added j (jobs_of s.by_id.entries)
+jobs_added j s h free = of_rows.jobs_added j (parts s) h free
+
+pub jobs_removed : (id : ℕ) (s : Inside) → AreShelved (parts s) → jobs_of (remove_entry (is_at (nat_cmp id)) s.by_id.entries) ≡ without id (jobs_of s.by_id.entries)
+jobs_removed id s h = of_rows.jobs_removed id (parts s) h
+
+pub gone_after : (id : ℕ) (s : Inside) → AreShelved (parts s) → job_with id (jobs_of (remove_entry (is_at (nat_cmp id)) s.by_id.entries)) ≡ None
+gone_after id s h = of_rows.gone_after id (parts s) h
+
+-- what the search takes for a removal
+pub ruleset removals = (found_in, found_own, gone_after, jobs_removed)

@@ -1,0 +1,242 @@
+//! The jobs of a work queue, each with the name of its tube.
+ghost use Rattle.std.specs.Option.{option_map};
+ghost use Rattle.std.specs.Prelude.{◌≡◌, ◌+◌, ◌-◌, ◌<◌, ◌^◌, if◌then◌else◌, []};
+ghost use Rattle.std.specs.Prelude.{length, max, is_some, IfSome, None, OnOk, OnErr};
+ghost use Rattle.bq_job.specs.machine.Changes.{first_of, is_held_by, job_with};
+ghost use Rattle.bq_job.specs.machine.Dispatch.{is_job_before};
+ghost use Rattle.bq_job.specs.machine.JobCommands.{is_buried_in, is_delayed_in};
+ghost use Rattle.bq_job.specs.machine.JobStates.{is_buried_before, is_delayed, is_due_before, is_reserved};
+ghost use Rattle.bq_job.specs.beside.Lawful.{AreIdsWithin};
+ghost use Rattle.bq_job.specs.machine.TubeCommands.{is_ready_in};
+ghost use Rattle.bq_jobs.specs.Kept.{ComparesAtMost, with_added, without};
+ghost use Rattle.bq_jobs.specs.Leases.{is_lease_before};
+ghost use Rattle.bq_jobs.specs.Ranks.{first_held, first_timed};
+
+use super::jobs::id_in;
+use super::named_group::{self, NamedGroup};
+use super::places::{self, JobList, ShelfPlace, Timer};
+use bq_index::{BoxSource, Shelf};
+use bq_job::{Job, JobId, Moment, NoMemory, Seat, TubeName};
+use std::alloc::Global;
+use std::marker::Model;
+
+/// The jobs, of which each is found by its id, and the first of each kind at once. A job comes in by
+/// [`Jobs::add`], with the room that [`Jobs::reserve_one`] made, and goes out by [`Jobs::remove`], which leaves
+/// that room for the next job: so a job that is taken out, changed and added again takes no memory.
+#[derive(Drop)]
+pub struct Jobs {
+    by_id: Shelf<JobId, Job>,
+    groups: Shelf<ShelfPlace<NamedGroup>, ()>,
+    timers: Shelf<ShelfPlace<Timer>, ()>,
+}
+
+impl Model for Jobs {
+    ghost use Rattle.bq_jobs.specs.Inside.{kept_in, IsShelved};
+    ghost use Rattle.bq_jobs.specs.Kept.{Kept};
+
+    ghost Value = { Kept };
+
+    ghost view = { λ s. kept_in s.by_id s.groups s.timers };
+
+    ghost invariant = { λ s. IsShelved ⟦<NamedGroup as Ord>⟧.cmp ⟦<Timer as Ord>⟧.cmp s.by_id s.groups s.timers };
+}
+
+impl Jobs {
+    ghost use Rattle.std.specs.Borrow.{sem};
+    ghost use Rattle.bq_jobs.specs.Lent.{LeavesJobs};
+
+    /// No jobs, and no room for one.
+    pub fn new() -> Jobs
+        ensures { result ≡ record { jobs = []; room = 0; comparisons = 0; tubes = [] } }
+    {
+        Jobs {
+            by_id: Shelf::new(),
+            groups: Shelf::new(),
+            timers: Shelf::new(),
+        }
+    }
+
+    /// How many jobs there are.
+    pub fn len(&self) -> usize
+        ensures len { result ≡ length self.now.jobs }
+        ensures ordered { AreIdsWithin 0 self.now.jobs (2 ^ 64) }
+    {
+        self.by_id.len()
+    }
+
+    /// How many more jobs can be added.
+    pub fn room(&self) -> usize
+        ensures { result ≡ self.now.room }
+    {
+        self.by_id.spare()
+    }
+
+    /// The comparisons of keys so far. The count stops at 2^64 - 1.
+    pub fn comparisons(&self) -> u64
+        ensures { result ≡ self.now.comparisons }
+    {
+        self.by_id
+            .comparisons()
+            .saturating_add(self.groups.comparisons())
+            .saturating_add(self.timers.comparisons())
+    }
+
+    /// Makes room for a job, where there is none. What was taken before a refusal is kept for the next
+    /// call. No other call takes memory.
+    pub fn reserve_one(&mut self, alloc: Global) -> Result<(), NoMemory>
+        ensures ok { OnOk result (self.new ≡ record self.old { room = max self.old.room 1 }) }
+        ensures refused { OnErr result (self.old.room ≡ 0) }
+        ensures same { OnErr result (self.new ≡ self.old) }
+    {
+        let mut heap = alloc;
+        self.reserve_one_from(&mut heap)
+    }
+
+    /// The same, out of boxes of a source. The boxes of the other orders come first, so that room for a
+    /// job is only told where all are there.
+    pub fn reserve_one_from<S: BoxSource>(&mut self, source: &mut S) -> Result<(), NoMemory>
+        ensures ok { OnOk result (self.new ≡ record self.old { room = max self.old.room 1 }) }
+        ensures refused { OnErr result (self.old.room ≡ 0) }
+        ensures same { OnErr result (self.new ≡ self.old) }
+    {
+        if self.by_id.spare() > 0 {
+            return Ok(());
+        }
+        let Some(places) = self.by_id.len().checked_add(1) else {
+            return Err(NoMemory);
+        };
+        places::make_room(&mut self.groups, source, places)?;
+        places::make_room(&mut self.timers, source, places)?;
+        match self.by_id.reserve_from(source, 1) {
+            Ok(()) => Ok(()),
+            Err(_) => Err(NoMemory),
+        }
+    }
+
+    /// Puts a job in. It uses the room of one.
+    #[tactic(auto, using(crate::proofs::NamedParts::found_in, crate::proofs::NamedParts::jobs_added))]
+    pub fn add(&mut self, job: Job)
+        requires room { 0 < self.old.room }
+        requires absent { job_with job.id self.old.jobs ≡ None }
+        ensures jobs { self.new.jobs ≡ with_added job self.old.jobs }
+        ensures ordered { AreIdsWithin 0 self.new.jobs (2 ^ 64) }
+        ensures room { self.new.room + 1 ≡ self.old.room }
+        ensures comparisons { ComparesAtMost 4 self.old self.new }
+    {
+        places::enter(&mut self.groups, named_group::place_of(&job));
+        places::enter(&mut self.timers, named_group::timer_place_of(&job));
+        self.by_id.insert(named_group::id_of(&job), job);
+    }
+
+    /// Takes the job of this id out, if there is one. Its room comes back.
+    #[tactic(auto, using(crate::proofs::NamedParts::removals))]
+    pub fn remove(&mut self, id: JobId) -> Option<Job>
+        ensures job { result ≡ job_with id self.old.jobs }
+        ensures jobs { self.new.jobs ≡ without id self.old.jobs }
+        ensures room { self.new.room ≡ self.old.room + (if is_some result then 1 else 0) }
+        ensures id { IfSome result (λ job. job.id ≡ id) }
+        ensures gone { job_with id self.new.jobs ≡ None }
+        ensures comparisons { ComparesAtMost 4 self.old self.new }
+    {
+        let job = self.by_id.remove(&id)?;
+        places::leave(&mut self.groups, named_group::place_of(&job));
+        places::leave(&mut self.timers, named_group::timer_place_of(&job));
+        Some(job)
+    }
+
+    /// The job of this id.
+    pub fn get(&mut self, id: JobId) -> Option<&Job>
+        ensures* after { sem 𝓛 (LeavesJobs self.entry) }
+        ensures job { option_map (λ j. j.now) result ≡ job_with id self.old.jobs }
+    {
+        self.by_id.get(&id)
+    }
+
+    /// The id of the most urgent ready job of a tube: by priority, then by id.
+    #[tactic(auto, using(crate::proofs::FirstJobs::held_id))]
+    pub fn first_ready(&mut self, tube: &TubeName) -> Option<JobId>
+        ensures id { result
+            ≡ option_map (λ j. j.id) (first_of (is_ready_in tube.now) is_job_before self.old.jobs) }
+        ensures same { self.new ≡ record self.old { comparisons = self.new.comparisons } }
+        ensures comparisons { ComparesAtMost 1 self.old self.new }
+    {
+        id_in(self.first_of_group(NamedGroup::list(JobList::Ready, tube)))
+    }
+
+    /// The id of the delayed job of a tube that is due first: by due moment, then by id.
+    #[tactic(auto, using(crate::proofs::FirstJobs::held_id))]
+    pub fn first_delayed(&mut self, tube: &TubeName) -> Option<JobId>
+        ensures id { result
+            ≡ option_map (λ j. j.id)
+            (first_of (is_delayed_in tube.now) is_due_before self.old.jobs) }
+        ensures same { self.new ≡ record self.old { comparisons = self.new.comparisons } }
+        ensures comparisons { ComparesAtMost 1 self.old self.new }
+    {
+        id_in(self.first_of_group(NamedGroup::list(JobList::Delayed, tube)))
+    }
+
+    /// The id of the job of a tube that was buried first: by burial number, then by id.
+    #[tactic(auto, using(crate::proofs::FirstJobs::held_id))]
+    pub fn first_buried(&mut self, tube: &TubeName) -> Option<JobId>
+        ensures id { result
+            ≡ option_map (λ j. j.id)
+            (first_of (is_buried_in tube.now) is_buried_before self.old.jobs) }
+        ensures same { self.new ≡ record self.old { comparisons = self.new.comparisons } }
+        ensures comparisons { ComparesAtMost 1 self.old self.new }
+    {
+        id_in(self.first_of_group(NamedGroup::list(JobList::Buried, tube)))
+    }
+
+    /// The id of the delayed job that is due first, in whatever tube: by due moment, then by id.
+    #[tactic(auto, using(crate::proofs::FirstJobs::timed_id))]
+    pub fn first_due(&mut self) -> Option<JobId>
+        ensures id { result
+            ≡ option_map (λ j. j.id)
+            (first_of (λ j. is_delayed j.state) is_due_before self.old.jobs) }
+        ensures same { self.new ≡ record self.old { comparisons = self.new.comparisons } }
+        ensures comparisons { ComparesAtMost 1 self.old self.new }
+    {
+        id_in(self.first_of_timer(Timer::Due))
+    }
+
+    /// The id of the reserved job whose time to run ends first, whoever holds it: by deadline, then by id.
+    #[tactic(auto, using(crate::proofs::FirstJobs::timed_id))]
+    pub fn first_lease(&mut self) -> Option<JobId>
+        ensures id { result
+            ≡ option_map (λ j. j.id)
+            (first_of (λ j. is_reserved j.state) is_lease_before self.old.jobs) }
+        ensures same { self.new ≡ record self.old { comparisons = self.new.comparisons } }
+        ensures comparisons { ComparesAtMost 1 self.old self.new }
+    {
+        id_in(self.first_of_timer(Timer::Lease))
+    }
+
+    /// The id of the job of the client at a seat whose time to run ends first: by deadline, then by id.
+    #[tactic(auto, using(crate::proofs::FirstJobs::held_id))]
+    pub fn first_held(&mut self, seat: Seat) -> Option<JobId>
+        ensures id { result
+            ≡ option_map (λ j. j.id) (first_of (is_held_by seat) is_lease_before self.old.jobs) }
+        ensures same { self.new ≡ record self.old { comparisons = self.new.comparisons } }
+        ensures comparisons { ComparesAtMost 1 self.old self.new }
+    {
+        id_in(self.first_of_group(NamedGroup::held(seat)))
+    }
+
+    // The number and the id of the first job that a holder has: by that number, then by id.
+    fn first_of_group(&mut self, group: NamedGroup) -> Option<(u64, JobId)>
+        ensures rank { result ≡ first_held group self.old.jobs }
+        ensures same { self.new ≡ record self.old { comparisons = self.new.comparisons } }
+        ensures comparisons { ComparesAtMost 1 self.old self.new }
+    {
+        places::first_rank(&mut self.groups, group)
+    }
+
+    // The moment and the id of the first delay or lease: by moment, then by id.
+    fn first_of_timer(&mut self, timer: Timer) -> Option<(Moment, JobId)>
+        ensures rank { result ≡ first_timed timer self.old.jobs }
+        ensures same { self.new ≡ record self.old { comparisons = self.new.comparisons } }
+        ensures comparisons { ComparesAtMost 1 self.old self.new }
+    {
+        places::first_rank(&mut self.timers, timer)
+    }
+}
