@@ -45,11 +45,10 @@ OUTCOMES = {
 }
 STEPS = b"steps: "
 FIRST_FREE = b"step bury 2 0\n"
-# How many requests a step may make at most: a put the three boxes of a job and, where its tube has no job yet, the two
-# by which the jobs know the tube; a use and a watch the box of a new tube and that of the end of its pause, a watch
-# also a growth of its client's list, and what tells a text that text and the lists that it gathers for it. All others
-# make none.
-MOST = {b"put": 5, b"use": 2, b"watch": 3, b"list-tubes": 3, b"list-tubes-watched": 2, b"stats-job": 1, b"stats-tube": 1, b"stats": 1}
+# How many requests a step may make at most: a put the three boxes of a job. A use and a watch the box of a new tube, that
+# of the end of its pause, and the two by which the jobs know the tube; a watch also a growth of its client's list. What
+# tells a text that text and the lists that it gathers for it. All others make none.
+MOST = {b"put": 3, b"use": 4, b"watch": 5, b"list-tubes": 3, b"list-tubes-watched": 2, b"stats-job": 1, b"stats-tube": 1, b"stats": 1}
 
 
 def parted(out):

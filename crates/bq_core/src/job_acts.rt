@@ -82,9 +82,9 @@ fn is_full(state: &CoreParts) -> bool
     }
 }
 
-/// Puts a job. The growths that it needs, boxes and the number of a tube that had no job, come
-/// before any change, and where there are as many jobs as there may be, none is asked for. The job
-/// is one more owner of the body, which its client's step has still.
+/// Puts a job. The boxes that it needs are had before any change, and where there are as many jobs
+/// as there may be, none is asked for. The job is one more owner of the body, which its client's
+/// step has still.
 pub(crate) fn put(
     state: &mut CoreParts,
     alloc: Global,
@@ -113,7 +113,7 @@ pub(crate) fn put(
         return Reply::LeftOut;
     };
     let job = new_job(state, client.used(), new, shared);
-    let Ok(()) = changes::make_room(state, alloc, &job.tube) else {
+    let Ok(()) = changes::make_room(state, alloc) else {
         return Reply::LeftOut;
     };
     let id = job.id;
@@ -186,7 +186,6 @@ pub(crate) fn delete(state: &mut CoreParts, seat: Seat, id: JobId, told: &mut An
         return;
     };
     changes::change_tube(state, &job.tube, TubeChange::CountDelete);
-    changes::forget_last(state, &job.tube);
     *told = Answer::Deleted;
 }
 

@@ -129,8 +129,11 @@ impl Core {
         let Ok(tubes) = Tubes::new(alloc) else {
             return Err(CoreFault::NoMemory);
         };
+        let Ok(jobs) = changes::no_jobs(alloc) else {
+            return Err(CoreFault::NoMemory);
+        };
         Ok(Core {
-            parts: changes::new_parts(config, seats, waiting, tubes),
+            parts: changes::new_parts(config, jobs, seats, waiting, tubes),
         })
     }
 

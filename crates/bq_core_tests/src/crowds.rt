@@ -3,6 +3,7 @@ use crate::bench::Bench;
 use crate::come_and_go::come_and_go;
 use crate::play::{Script, play};
 use crate::texts::tube;
+use crate::tubes_in_use::{pass_through_tubes, pause_tubes};
 use bq_job::{Answer, Body, Request, Seat, Step};
 use std::alloc::Global;
 use std::test::Fail;
@@ -22,6 +23,17 @@ static TUBES_IN_TURN: &[Script] = &[
     "0 0 crowd of 3000 tubes in turn
     0 1 stats | 1 ..current-jobs-ready: 2/current-jobs-reserved: 1/current-jobs-delayed: 1/current-jobs-buried: 1/
     0 1 stats | 1 ..current-tubes: 7/",
+];
+
+// The last four are watched still, and the last of them is used.
+static WATCHED_TUBES: &[Script] = &[
+    "0 0 crowd of 10000 watched tubes
+    0 2 stats | 2 ..current-jobs-ready: 0/current-jobs-reserved: 0/current-jobs-delayed: 0/current-jobs-buried: 0/
+    0 2 stats | 2 ..total-jobs: 20000/
+    0 2 stats | 2 ..current-tubes: 5/",
+    "0 0 crowd of 2000 paused tubes
+    0 2 stats | 2 ..current-tubes: 1/
+    0 2 due never",
 ];
 
 fn is_inserted(answer: &Option<(Seat, Answer)>, number: u32) -> bool {
@@ -170,6 +182,8 @@ pub(crate) fn has_come(alloc: Global, bench: &mut Bench, words: &str) -> Result<
         "10000 jobs" => put_jobs(alloc, bench, 10_000)?,
         "1200 tubes" => see_tubes(alloc, bench)?,
         "3000 tubes in turn" => come_and_go(alloc, bench)?,
+        "10000 watched tubes" => pass_through_tubes(alloc, bench)?,
+        "2000 paused tubes" => pause_tubes(alloc, bench)?,
         "250 watchers" => watch_all(bench, 250, false)?,
         "250 waiters" => watch_all(bench, 250, true)?,
         _ => return Ok(false),
@@ -180,6 +194,11 @@ pub(crate) fn has_come(alloc: Global, bench: &mut Bench, words: &str) -> Result<
 #[test]
 fn tubes_come_and_go(rt: HostRuntime) -> Result<(), Fail> {
     play(rt.alloc(), TUBES_IN_TURN)
+}
+
+#[test]
+fn tubes_in_use(rt: HostRuntime) -> Result<(), Fail> {
+    play(rt.alloc(), WATCHED_TUBES)
 }
 
 #[test]

@@ -30,3 +30,5 @@ mod requeue;
 mod statistics;
 #[cfg(test)]
 mod texts;
+#[cfg(test)]
+mod tubes_in_use;

@@ -121,6 +121,22 @@ static MANY_TUBES: &[Script] = &[
     0 0 put 0 0 9 1~x | 0 INSERTED 1
     0 1 watch a | 1 WATCHING 2
     0 1 reserve | 1 RESERVED 1 1~x",
+    "# a pause goes with its tube, which comes back without it
+    0 0 use a | 0 USING a
+    0 0 pause-tube a 60 | 0 PAUSED
+    0 0 due 60000
+    0 0 use default | 0 USING default
+    0 0 due never
+    0 1 watch a | 1 WATCHING 2
+    0 0 use a | 0 USING a
+    0 0 put 0 0 9 1~x | 0 INSERTED 1
+    0 1 reserve | 1 RESERVED 1 1~x
+    0 1 delete 1 | 1 DELETED
+    0 0 pause-tube a 5 | 0 PAUSED
+    0 0 put 0 0 9 1~y | 0 INSERTED 2
+    0 1 reserve
+    4999 0 tick
+    5000 0 tick | 1 RESERVED 2 1~y",
     "# bury and kick order
     0 0 put 0 0 9 1~x | 0 INSERTED 1
     0 0 put 0 0 9 1~y | 0 INSERTED 2

@@ -97,6 +97,11 @@ module _ (jobs : List Job) (seats : List SeatRecord) where
 abbrev pub AllLeftBefore : Option (List ℕ) → List Named → Type 0
 AllLeftBefore from es = All (λ e. is_from from e ≡ false → is_alive_at e ≡ true) es
 
+-- Before the first one none was dropped.
+pub none_before : (es : List Named) → AllLeftBefore None es
+none_before [] = tt
+none_before (x ∷ es) = ((λ h. absurd (let g : true ≡ false = h in cc)), none_before es)
+
 -- Where none is found any more, none is left.
 pub none_gone : (from : Option (List ℕ)) (es : List Named) → find (is_gone_from from) es ≡ None → AllLeftBefore from es → filter (is_alive_at) es ≡ es
 none_gone from [] h all = refl

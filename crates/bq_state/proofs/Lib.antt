@@ -24,6 +24,7 @@ pub mod StirLemmas
 pub mod TallyLemmas
 pub mod TallyPlaces
 pub mod TubeLemmas
+pub mod TubeNumberLemmas
 pub mod WaitingLemmas
 pub mod WalkLemmas
 pub mod WarningLemmas

@@ -12,6 +12,7 @@ use Rattle.bq_state.specs.declared.{core_parts.CoreParts.CoreParts, job_store.Jo
 use Rattle.bq_state.specs.declared.{seats.SeatChange.SeatChange, tubes.entry.TubeChange.TubeChange}
 use Rattle.bq_state.specs.{JobChanges.changed, SeatChanges.{AreNumbered, has_tube_of, seat_changed, seat_changed_at}, Soundness.Soundness}
 use Rattle.bq_state.specs.TubeEntries.{AreEntries, HasTubes, IsFreshUnlessCounted, counted, has_entry, is_counted, is_tube_of, provided, tube_changed, tube_changed_at}
+use Rattle.bq_state.specs.TubeNumbers.{HaveNumbers}
 use Rattle.bq_state.proofs.TubeLemmas.{counted_inserted, entry_filtered, fresh_inserted, has_inserted, order_filtered, order_inserted, order_kept, same_entries, same_itself, same_name, still_has}
 
 -- what all elements have is kept where each change keeps it
@@ -76,6 +77,9 @@ no_job_changed id f (k ∷ jobs) h = grind (arith, common_steps, cases_Bool, no_
 pub compared_sound : (st : CoreParts) (jobs : Kept) → jobs ≡ record st.jobs { comparisons = jobs.comparisons }
     → Soundness jobs.jobs st.seats.items st.tubes st.waiting st.known st.next_id st.draining
 compared_sound st jobs same = grind (arith, common_steps)
+
+pub compared_numbered : (st : CoreParts) (jobs : Kept) → jobs ≡ record st.jobs { comparisons = jobs.comparisons } → HaveNumbers jobs.tubes st.tubes.entries
+compared_numbered st jobs same = subst (λ (k : Kept). HaveNumbers k.tubes st.tubes.entries) (sym same) st.numbered
 
 -- or where an id was given.
 pub sound_given : (st : CoreParts) → Soundness st.jobs.jobs st.seats.items st.tubes st.waiting st.known (st.next_id + 1) (nat_le 18446744073709551614 st.next_id)

@@ -26,6 +26,7 @@ pub mod Soundness
 pub mod Stirs
 pub mod Tallies
 pub mod TubeEntries
+pub mod TubeNumbers
 pub mod TubeView
 pub mod WaitingTurns
 pub mod Warnings

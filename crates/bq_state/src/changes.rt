@@ -9,7 +9,6 @@ ghost use Rattle.bq_job.specs.machine.Timers.{at_moment};
 ghost use Rattle.bq_job.specs.machine.TubeOrder.{tubes};
 ghost use Rattle.bq_job.specs.machine.Tubes.{forgetting, watches, with_tube};
 ghost use Rattle.bq_jobs.specs.Kept.{ComparesAtMost, with_added, without};
-ghost use Rattle.bq_jobs.specs.Numbering.{is_known};
 ghost use Rattle.bq_state.specs.Asking.{Asks};
 ghost use Rattle.bq_state.specs.Crowds.{may_wait};
 ghost use Rattle.bq_state.specs.JobChanges.{changed};
@@ -21,6 +20,7 @@ ghost use Rattle.bq_state.specs.Keeping.{Looks};
 ghost use Rattle.bq_state.specs.CoreParts.{held, machine_of};
 ghost use Rattle.bq_state.specs.Names.{names_of};
 ghost use Rattle.bq_state.specs.TubeEntries.{has_entry, is_tube_of, tube_changed};
+ghost use Rattle.bq_state.specs.TubeNumbers.{HaveNumbers};
 ghost use Rattle.bq_state.specs.Warnings.{has_waiting_holder, may_hold, with_holder};
 
 use crate::core_parts::CoreParts;
@@ -30,23 +30,22 @@ use crate::name_lists::Names;
 use crate::seats::{SeatChange, SeatRecord};
 use crate::tubes::{Moving, TubeChange, Tubes};
 use crate::waiting::Waiting;
+use crate::watch_list::default_tube;
 use crate::{job_store, seats, shares};
 use bq_job::{Job, JobId, JobState, Moment, NoMemory, Seat, TubeName};
 use bq_jobs::{Moved, NumberedJobs};
 use bq_steps::Config;
 use std::alloc::Global;
 
-/// Makes room for a job of this tube, where there is none.
-pub fn make_room(state: &mut CoreParts, alloc: Global, tube: &TubeName) -> Result<(), NoMemory>
+/// Makes room for a job, where there is none.
+pub fn make_room(state: &mut CoreParts, alloc: Global) -> Result<(), NoMemory>
     ensures room { IfOk result (λ _. 0 < state.new.jobs.room) }
-    ensures known { IfOk result (λ _. is_known tube.now state.new.jobs ≡ true) }
     ensures after { machine_of state.new ≡ machine_of state.old }
     ensures seats { state.new.seats ≡ state.old.seats }
     ensures tubes { state.new.tubes ≡ state.old.tubes }
     ensures asks { Asks 0 state.old.jobs state.new.jobs }
 {
-    state.jobs.reserve_one(alloc)?;
-    state.jobs.know(alloc, tube)
+    state.jobs.reserve_one(alloc)
 }
 
 /// Puts a job in, where there is room for it. Its id is one that was given, and its tube has an
@@ -55,7 +54,6 @@ pub fn add(state: &mut CoreParts, job: Job)
     requires room { 0 < state.old.jobs.room }
     requires given { (1 ≤ job.id) × (job.id < state.old.next_id) }
     requires free { job_with job.id (machine_of state.old).jobs ≡ None }
-    requires known { is_known job.tube state.old.jobs ≡ true }
     requires entry { has_entry job.tube state.old.tubes.entries ≡ true }
     ensures after { machine_of state.new
         ≡ record (machine_of state.old) { jobs = with_added job (machine_of state.old).jobs } }
@@ -85,18 +83,6 @@ pub fn take(state: &mut CoreParts, id: JobId) -> Option<Job>
     state.known.remove_job(&job);
     state.tubes.remove_job(&job);
     Some(job)
-}
-
-/// The jobs know a tube no longer where none is left in it.
-pub fn forget_last(state: &mut CoreParts, tube: &TubeName)
-    ensures gone { list_any (λ j. is_same_name tube.now j.tube) state.old.jobs.jobs ≡ false
-        → is_known tube.now state.new.jobs ≡ false }
-    ensures jobs { state.new.jobs ≡ record state.old.jobs { tubes = state.new.jobs.tubes } }
-    ensures after { machine_of state.new ≡ machine_of state.old }
-{
-    if !state.has_job_in(tube) {
-        state.jobs.forget(tube);
-    }
 }
 
 // Whether the job is ready now, and somebody waits at its tube, by the counts that are kept.
@@ -179,19 +165,27 @@ pub fn change_tube(state: &mut CoreParts, tube: &TubeName, what: TubeChange)
     state.known.change_tube(tube, what, &state.tubes);
 }
 
-/// Sees to it that a tube has an entry. The growth that this needs comes before any change.
+/// Sees to it that a tube has an entry, and a number. The growth that this needs comes before any
+/// change.
 pub fn provide_tube(state: &mut CoreParts, alloc: Global, tube: &TubeName) -> Result<(), NoMemory>
     ensures after { machine_of state.new ≡ machine_of state.old }
     ensures entry { IfOk result (λ _. has_entry tube.now state.new.tubes.entries ≡ true) }
     ensures seats { state.new.seats ≡ state.old.seats }
-    ensures jobs { state.new.jobs ≡ state.old.jobs }
+    ensures asks { Asks 0 state.old.jobs state.new.jobs }
 {
+    if state.tubes.has(tube) {
+        return Ok(());
+    }
+    state.jobs.know(alloc, tube)?;
     match state.tubes.provide(alloc, tube) {
         Ok(is_new) => {
             state.known.loss.lose_if(tube, is_new);
             Ok(())
         }
-        Err(fault) => Err(fault),
+        Err(fault) => {
+            state.jobs.forget(tube);
+            Err(fault)
+        }
     }
 }
 
@@ -208,7 +202,7 @@ pub fn watch_tube(
         (λ n. AtSeat seat state.old (λ s. n ≡ length (more_watched tube.now s))) }
     ensures watched { IfOk result (λ _. Watches seat (more_watched tube.now) state.old state.new) }
     ensures same { OnErr result (machine_of state.new ≡ machine_of state.old) }
-    ensures jobs { state.new.jobs ≡ state.old.jobs }
+    ensures asks { Asks 0 state.old.jobs state.new.jobs }
 {
     provide_tube(state, alloc, tube)?;
     if usize::from(seat) >= state.seats.len() {
@@ -270,13 +264,13 @@ pub fn tube_names<'a>(state: &'a CoreParts, alloc: Global) -> Result<Names<'a>, 
     state.tubes.names_alive(alloc)
 }
 
-/// Drops the entries of tubes that are gone. It looks only at those that may be.
+/// Drops the entries and the numbers of tubes that are gone. It looks only at those that may be.
 pub fn forget_tubes(state: &mut CoreParts)
     ensures after { machine_of state.new ≡ forgetting (machine_of state.old) }
-    ensures jobs { state.new.jobs ≡ state.old.jobs }
+    ensures jobs { state.new.jobs ≡ record state.old.jobs { tubes = state.new.jobs.tubes } }
 {
     let entries = state.tubes.len();
-    state.tubes.forget_lost(&state.known.loss);
+    state.tubes.forget_lost(&mut state.jobs, &state.known.loss);
     state.known.forget_tubes(entries, &state.tubes);
 }
 
@@ -288,14 +282,29 @@ pub fn raise_moment(state: &mut CoreParts, at: Moment)
     state.moment = state.moment.max(at);
 }
 
+/// No jobs, and the default tube with a number.
+pub fn no_jobs(alloc: Global) -> Result<NumberedJobs, NoMemory>
+    ensures none { IfOk result (λ jobs. jobs.jobs ≡ []) }
+    ensures comparisons { IfOk result (λ jobs. jobs.comparisons ≡ 0) }
+    ensures numbered { IfOk result (λ jobs. HaveNumbers jobs.tubes first_tubes.entries) }
+{
+    let mut jobs = NumberedJobs::new();
+    jobs.know(alloc, &default_tube())?;
+    Ok(jobs)
+}
+
 /// No jobs, and nobody at the seats.
 #[tactic(auto, using(crate::proofs::KnowledgeLemmas::known_at_first))]
 pub fn new_parts(
     config: Config,
+    jobs: NumberedJobs,
     seats: Vec<SeatRecord, Global>,
     waiting: Waiting,
     tubes: Tubes,
 ) -> CoreParts
+    requires none { jobs.jobs ≡ [] }
+    requires uncounted { jobs.comparisons ≡ 0 }
+    requires numbered { HaveNumbers jobs.tubes first_tubes.entries }
     requires free { seats.items ≡ map empty_seat (numbers 0 config.seats) }
     requires nobody { waiting.turns ≡ [] }
     requires room { config.seats ≤ waiting.room }
@@ -305,7 +314,7 @@ pub fn new_parts(
 {
     CoreParts {
         config,
-        jobs: NumberedJobs::new(),
+        jobs,
         seats,
         waiting,
         tubes,

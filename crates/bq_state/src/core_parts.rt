@@ -1,5 +1,6 @@
 //! What a core holds.
 ghost use Rattle.bq_state.specs.Soundness.{Soundness, Soundness-prop};
+ghost use Rattle.bq_state.specs.TubeNumbers.{HaveNumbers, HaveNumbers-prop};
 
 use crate::job_store::{JobKind, JobTest};
 use crate::known::{Known, Tally};
@@ -35,6 +36,8 @@ pub struct CoreParts {
     pub connections: u64,
     pub ghost sound: { Soundness jobs.jobs seats.items tubes waiting known
         next_id draining } by { Soundness-prop jobs.jobs seats.items tubes waiting known next_id draining },
+    // A tube has a number as long as it has an entry.
+    pub ghost numbered: { HaveNumbers jobs.tubes tubes.entries } by { HaveNumbers-prop jobs.tubes tubes.entries },
 }
 
 impl CoreParts {

@@ -14,7 +14,8 @@ ghost use Rattle.bq_state.specs.KeptTubes.{edited_at, kept_changed, record_at};
 ghost use Rattle.bq_state.specs.Leaving.{exists_in};
 ghost use Rattle.bq_state.specs.Offers.{is_waited_at};
 ghost use Rattle.bq_state.specs.PauseEnds.{AreEnds};
-ghost use Rattle.bq_state.specs.Tallies.{has_jobs, tallies_with, tallies_without, tally_at, tally_moved};
+ghost use Rattle.bq_state.specs.Tallies.{has_jobs, tallies_of, tallies_with, tallies_without, tally_at, tally_moved};
+ghost use Rattle.bq_state.specs.TubeNumbers.{HaveNumbers};
 ghost use Rattle.bq_state.specs.Names.{names_of};
 ghost use Rattle.bq_state.specs.TubeEntries.{has_entry, names_alive, tube_changed_at};
 
@@ -23,7 +24,7 @@ use crate::name_lists::Names;
 use crate::watch_list::default_tube;
 use bq_index::Catalog;
 use bq_job::{Job, Moment, NoMemory, TubeName};
-use bq_jobs::Moved;
+use bq_jobs::{Moved, NumberedJobs};
 pub use entry::{Crowd, Pausing, TubeChange, TubeEntry};
 pub(crate) use entry::{Moving, Share};
 use pauses::PauseEnds;
@@ -116,6 +117,13 @@ impl Tubes {
         ensures { result ≡ length self.now.entries }
     {
         self.kept.len()
+    }
+
+    /// Whether a tube has an entry.
+    pub(crate) fn has(&self, name: &TubeName) -> bool
+        ensures { result ≡ has_entry name.now self.now.entries }
+    {
+        self.kept.peek(name).is_some()
     }
 
     /// Sees to it that a tube has an entry, and tells whether it is new. The growth that this needs
@@ -280,15 +288,20 @@ impl Tubes {
         }
     }
 
-    /// Drops the entries of tubes that are gone, which are among those that may be.
-    pub(crate) fn forget_lost(&mut self, loss: &Loss)
+    /// Drops the entries of tubes that are gone, which are among those that may be. Their numbers
+    /// go with them.
+    pub(crate) fn forget_lost(&mut self, jobs: &mut NumberedJobs, loss: &Loss)
+        requires numbered { HaveNumbers jobs.old.tubes self.old.entries }
+        requires tallies { self.old.tallies ≡ tallies_of jobs.old.jobs self.old.entries }
         ensures after { DropsGone loss.now self.old self.new }
         ensures kept { IfCounted self.old (AreCounts self.new) }
+        ensures numbered { HaveNumbers jobs.new.tubes self.new.entries }
+        ensures jobs { jobs.new ≡ record jobs.old { tubes = jobs.new.tubes } }
     {
         match loss {
             Loss::Nothing => {}
-            Loss::Of(name) => walks::forget_named(&mut self.kept, &mut self.ends, name),
-            Loss::Any => walks::forget_all(&mut self.kept, &mut self.ends),
+            Loss::Of(name) => walks::forget_named(&mut self.kept, &mut self.ends, jobs, name),
+            Loss::Any => walks::forget_all(&mut self.kept, &mut self.ends, jobs),
         }
     }
 

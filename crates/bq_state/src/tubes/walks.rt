@@ -1,12 +1,19 @@
 //! What is asked of all entries of tubes, and which of them are dropped.
-ghost use Rattle.std.specs.Prelude.{◌≡◌, ◌<◌, ◌≤◌, ◌+◌, ◌++◌, [], vec_len, IfOk, fold, filter};
+ghost use Rattle.std.specs.Prelude.{◌≡◌, ◌<◌, ◌≤◌, ◌+◌, ◌++◌, [], false, vec_len, IfOk, fold, filter};
 ghost use Rattle.std.specs.Prelude.{find, map};
 ghost use Rattle.std.specs.Vec.{vec_capacity};
 ghost use Rattle.bq_state.specs.KeptTubes.{is_alive_with, name_if_alive, with_alive, with_name_of};
 ghost use Rattle.bq_state.specs.KeptTubes.{is_alive_at, is_gone_by, is_gone_from, is_named_at};
-ghost use Rattle.bq_state.specs.KeptTubes.{record_at, without_gone};
+ghost use Rattle.bq_state.specs.KeptTubes.{record_at, tally_kept, without_gone};
+ghost use Rattle.bq_state.specs.Tallies.{tallies_of};
+ghost use Rattle.bq_state.specs.TubeNumbers.{HaveNumbers};
+ghost use Rattle.bq_job.specs.reading.TubeName.{is_same_name};
+ghost use Rattle.bq_index.specs.Order.{InOrder};
+ghost use Rattle.std.specs.Cmp.Lexicographic.{slice_cmp};
+ghost use Rattle.std.specs.List.{list_any};
+ghost use Rattle.std.specs.Ordering.{nat_cmp};
 ghost use Rattle.bq_state.specs.Names.{names_of};
-ghost use Rattle.std.specs.Map.{lookup};
+ghost use Rattle.std.specs.Map.{lookup, remove_entry};
 ghost use Rattle.std.specs.Option.{option_map};
 ghost use Rattle.bq_state.specs.PauseEnds.{AreEnds};
 
@@ -16,6 +23,7 @@ use crate::name_lists::Names;
 use crate::watch_list::default_tube;
 use bq_index::{Catalog, Test, Visitor};
 use bq_job::{NoMemory, TubeName};
+use bq_jobs::NumberedJobs;
 use std::alloc::Global;
 
 /// How many of those that were seen are of tubes that exist. The count stops at 2^64 - 1.
@@ -112,18 +120,44 @@ fn is_gone(catalog: &Catalog<TubeName, TubeEntry>, name: &TubeName) -> bool
     }
 }
 
-/// Drops the entry of this name, where its tube is gone.
+// Drops the entry and the number of a tube that has no job.
+fn drop_tube(
+    catalog: &mut Catalog<TubeName, TubeEntry>,
+    ends: &mut PauseEnds,
+    jobs: &mut NumberedJobs,
+    name: &TubeName,
+)
+    requires ends { AreEnds (map record_at catalog.old.entries) ends.old }
+    requires numbered { HaveNumbers jobs.old.tubes (map record_at catalog.old.entries) }
+    requires none { list_any (λ j. is_same_name name.now j.tube) jobs.old.jobs ≡ false }
+    ensures kept { catalog.new.entries ≡ remove_entry (is_named_at name.now) catalog.old.entries }
+    ensures ends { AreEnds (map record_at catalog.new.entries) ends.new }
+    ensures ordered { InOrder (slice_cmp nat_cmp) catalog.old.entries }
+    ensures numbered { HaveNumbers jobs.new.tubes (map record_at catalog.new.entries) }
+    ensures jobs { jobs.new ≡ record jobs.old { tubes = jobs.new.tubes } }
+{
+    pauses::drop_entry(catalog, ends, name);
+    jobs.forget(name);
+}
+
+/// Drops the entry and the number of this name, where its tube is gone.
 pub(crate) fn forget_named(
     catalog: &mut Catalog<TubeName, TubeEntry>,
     ends: &mut PauseEnds,
+    jobs: &mut NumberedJobs,
     name: &TubeName,
 )
-    requires { AreEnds (map record_at catalog.old.entries) ends.old }
+    requires ends { AreEnds (map record_at catalog.old.entries) ends.old }
+    requires numbered { HaveNumbers jobs.old.tubes (map record_at catalog.old.entries) }
+    requires tallies { map tally_kept catalog.old.entries
+        ≡ tallies_of jobs.old.jobs (map record_at catalog.old.entries) }
     ensures ends { AreEnds (map record_at catalog.new.entries) ends.new }
     ensures kept { catalog.new.entries ≡ without_gone name.now catalog.old.entries }
+    ensures numbered { HaveNumbers jobs.new.tubes (map record_at catalog.new.entries) }
+    ensures jobs { jobs.new ≡ record jobs.old { tubes = jobs.new.tubes } }
 {
     if is_gone(catalog, name) {
-        pauses::drop_entry(catalog, ends, name);
+        drop_tube(catalog, ends, jobs, name);
     }
 }
 
@@ -141,16 +175,26 @@ fn next_gone(catalog: &Catalog<TubeName, TubeEntry>, from: &Option<TubeName>) ->
     }
 }
 
-/// Drops all entries whose tubes are gone. After each, the search goes on from there.
+/// Drops all entries whose tubes are gone, and their numbers. After each, the search goes on from
+/// there.
 #[tactic(auto, using(crate::proofs::GoneLemmas::name_removed, crate::proofs::GoneLemmas::no_name, crate::proofs::GoneLemmas::none_gone))]
-pub(crate) fn forget_all(catalog: &mut Catalog<TubeName, TubeEntry>, ends: &mut PauseEnds)
-    requires { AreEnds (map record_at catalog.old.entries) ends.old }
+pub(crate) fn forget_all(
+    catalog: &mut Catalog<TubeName, TubeEntry>,
+    ends: &mut PauseEnds,
+    jobs: &mut NumberedJobs,
+)
+    requires ends { AreEnds (map record_at catalog.old.entries) ends.old }
+    requires numbered { HaveNumbers jobs.old.tubes (map record_at catalog.old.entries) }
+    requires tallies { map tally_kept catalog.old.entries
+        ≡ tallies_of jobs.old.jobs (map record_at catalog.old.entries) }
     ensures ends { AreEnds (map record_at catalog.new.entries) ends.new }
     ensures kept { catalog.new.entries ≡ filter is_alive_at catalog.old.entries }
+    ensures numbered { HaveNumbers jobs.new.tubes (map record_at catalog.new.entries) }
+    ensures jobs { jobs.new ≡ record jobs.old { tubes = jobs.new.tubes } }
 {
     let mut last = None;
     while let Some(name) = next_gone(catalog, &last) {
-        pauses::drop_entry(catalog, ends, &name);
+        drop_tube(catalog, ends, jobs, &name);
         last = Some(name);
     }
 }

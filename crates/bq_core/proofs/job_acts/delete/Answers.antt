@@ -7,5 +7,4 @@ use Rattle.bq_core.proofs.job_acts.delete.Goals as goal
 pub returns-clause-asks : goal.returns-clause-asks
 returns-clause-asks c =
     let asked = asked_before 1 4 (omega arith) c.has_job.ensures.kept.asks c.take.ensures.asks in
-    let changed = subst (λ (k : Kept). AsksAsChanged c.args.state.now.jobs k) (sym c.change_tube.ensures.jobs) asked in
-    subst (λ (k : Kept). AsksAsChanged c.args.state.now.jobs k) (sym c.forget_last.ensures.jobs) (record { stays = changed.stays; rise = changed.rise })
+    subst (λ (k : Kept). AsksAsChanged c.args.state.now.jobs k) (sym c.change_tube.ensures.jobs) asked

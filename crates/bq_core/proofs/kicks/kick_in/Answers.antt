@@ -2,13 +2,13 @@ use Rattle.std.proofs.{Common.{◌∙◌, ◌≡◌, ap, arith, count_by, take},
 use Rattle.bq_job.specs.machine.Machine.{Machine}
 use Rattle.bq_jobs.specs.Kept.{Kept}
 use Rattle.bq_state.specs.{CoreParts.machine_of, JobKinds.is_of}
-use Rattle.bq_state.proofs.PartsLemmas.{compared_sound}
+use Rattle.bq_state.proofs.PartsLemmas.{compared_numbered, compared_sound}
 use Rattle.bq_core.specs.Kicking.{all_kicked, jobs_of}
 use Rattle.bq_core.proofs.CostLemmas.{kicked_changed}
 use Rattle.bq_core.proofs.kicks.kick_in.Goals as goal
 
 pub invariant_of-state : goal.invariant_of-state
-invariant_of-state c = record { sound = compared_sound c.args.state.now _ c.kind_to_kick-kind.ensures.same }
+invariant_of-state c = record { sound = compared_sound c.args.state.now _ c.kind_to_kick-kind.ensures.same; numbered = compared_numbered c.args.state.now _ c.kind_to_kick-kind.ensures.same }
 
 pub returns-clause-kicked : goal.returns-clause-kicked
 returns-clause-kicked c = grind (arith, common_steps)

@@ -55,7 +55,7 @@ returns-clause-comparisons c =
     (record { fired = c.fire.new.state; served_state = c.serve.new.state; lawful = c.requires.lawful; fires = fires; serves = c.serve.ensures.served.serves; acts = c.act.ensures.acts; forgotten = c.forget_tubes.ensures.after })
     c.serve-2.ensures.served.serves
     timers c.serve.ensures.served.asks
-    (subst (λ (k : Kept). AsksAsChanged c.serve.new.state.jobs k) (sym c.forget_tubes.ensures.jobs) c.act.ensures.asks)
+    (subst (λ (k : Kept). AsksAsChanged c.serve.new.state.jobs k) (sym c.forget_tubes.ensures.jobs) (record { stays = c.act.ensures.asks.stays; rise = c.act.ensures.asks.rise }))
     c.serve-2.ensures.served.asks
 
 pub returns-clause-lawful : goal.returns-clause-lawful

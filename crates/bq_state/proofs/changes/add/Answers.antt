@@ -16,4 +16,7 @@ invariant_of-state c =
     let known = c.add_job.ensures ∙ (λ i. with_job j (c.is_wanted-is_wanted.ensures i) (c.has_waiting_holder-waits.ensures i) st.known) in
     let entries = entries_of_added j st.jobs.jobs st.seats.items st.tubes.entries c.requires.entry was.entries in
     let so = so_with_job st j fits in
-    record { sound = rw (known, c.add_job-2.ensures, c.add.ensures.jobs) assumption }
+    record { sound = rw (known, c.add_job-2.ensures, c.add.ensures.jobs) assumption; numbered = rw (c.add_job-2.ensures, c.add.ensures.tubes) st.numbered }
+
+pub add-requires-clause-known : goal.add-requires-clause-known
+add-requires-clause-known c = c.args.state.now.numbered c.args.job.tube ∙ c.requires.entry

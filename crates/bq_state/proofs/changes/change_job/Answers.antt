@@ -25,7 +25,7 @@ invariant_of-state-2 c =
     let entries = entries_of_changed (λ k. if k.id == id then f k else k) (one_tube id f (tube_kept what)) st.jobs.jobs st.seats.items st.tubes.entries was.entries in
     let ids = ids_of_map (λ k. if k.id == id then f k else k) 1 st.next_id st.jobs.jobs (one_id id f (id_kept what)) was.ids in
     let known = so_with_moved st id what of.job m c.counts_waiter_of-is_wanted.result c.holder_waits-waits.result of.there of.is fits wanted waits in
-    record { sound = rw (c.move_job.ensures, c.move_job-2.ensures, c.in-Some.ensures.jobs) assumption }
+    record { sound = rw (c.move_job.ensures, c.move_job-2.ensures, c.in-Some.ensures.jobs) assumption; numbered = rw (c.move_job-2.ensures, c.in-Some.ensures.tubes) st.numbered }
 
 pub change-requires-clause-tube : goal.change-requires-clause-tube
 change-requires-clause-tube c = tube_ignored c.args.what.now

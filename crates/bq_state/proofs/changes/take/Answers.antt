@@ -7,7 +7,7 @@ use Rattle.bq_state.proofs.changes.take.Goals as goal
 pub invariant_of-state : goal.invariant_of-state
 invariant_of-state c =
     let same = c.remove.ensures.jobs ∙ without_none c.args.id c.args.state.now.jobs.jobs (sym c.remove.ensures.job ∙ c.in_err-job.was) in
-    record { sound = rw same c.args.state.now.sound }
+    record { sound = rw same c.args.state.now.sound; numbered = rw c.remove.ensures.tubes c.args.state.now.numbered }
 
 pub returns-clause-given : goal.returns-clause-given
 returns-clause-given c =

@@ -49,4 +49,4 @@ invariant_of-state c =
     let numbered = watching_numbered (t.watched ++ name ∷ []) n t mid.seats.items here was.numbered in
     let waiting = in_turn_watching (t.watched ++ name ∷ []) n t mid.waiting mid.seats.items here was.numbered was.waiting in
     let known = so_watching mid name n t here few fresh in
-    record { sound = rw (stir, tubes, c.in-Ok.ensures.watched t here) assumption }
+    record { sound = rw (stir, tubes, c.in-Ok.ensures.watched t here) assumption; numbered = rw tubes mid.numbered }

@@ -1,6 +1,7 @@
--- the entries of tubes that are gone are dropped up to the last one that was found
+-- the entries of tubes that are gone are dropped up to the last one that was found, and their numbers with them
 use Rattle.std.proofs.Common.{◌≡◌, filter, length, map}
-use Rattle.bq_state.specs.{KeptTubes.{is_alive_at, record_at}, PauseEnds.AreEnds}
+use Rattle.bq_jobs.specs.Kept.{Kept}
+use Rattle.bq_state.specs.{KeptTubes.{is_alive_at, record_at, tally_kept}, PauseEnds.AreEnds, Tallies.tallies_of, TubeNumbers.HaveNumbers}
 use Rattle.bq_state.proofs.GoneLemmas.{AllLeftBefore}
 use Rattle.bq_state.proofs.tubes.walks.forget_all.Given as goal
 
@@ -9,6 +10,9 @@ invariant-loop-name l = record {
   left : filter is_alive_at l.catalog.entries ≡ filter is_alive_at l.fn.catalog.entries;
   before : AllLeftBefore l.last l.catalog.entries;
   ends : AreEnds (map record_at l.catalog.entries) l.ends;
+  numbered : HaveNumbers l.jobs.tubes (map record_at l.catalog.entries);
+  tallies : map tally_kept l.catalog.entries ≡ tallies_of l.jobs.jobs (map record_at l.catalog.entries);
+  jobs : l.jobs ≡ record l.fn.jobs { tubes = l.jobs.tubes };
 }
 
 abbrev pub decreases-loop-name : goal.decreases-loop-name

@@ -1,0 +1,125 @@
+//! Tubes that come and go while clients use and watch them: each is emptied and filled again while it is there, and its
+//! name comes back once it is gone.
+use crate::bench::Bench;
+use crate::crowds::long_name;
+use crate::texts::tube;
+use bq_job::{Answer, Body, JobId, Request};
+use std::alloc::Global;
+use std::test::Fail;
+
+/// How many tubes come while a client watches them, and how many names they share.
+const WATCHED: u32 = 10_000;
+
+const NAMES: u32 = 1_300;
+
+/// How many others come before one is watched no longer.
+const STAY: u32 = 4;
+
+/// How many tubes are paused, go with their pause, and come back.
+const PAUSED: u32 = 2_000;
+
+// A step of this turn went as it has to.
+fn ended(is_well: bool, turn: u32) -> Result<(), Fail> {
+    if is_well {
+        Ok(())
+    } else {
+        Err(Fail::from(turn))
+    }
+}
+
+// The client at seat 0 uses the tube of this name.
+fn use_tube(bench: &mut Bench, name: &[u8], turn: u32) -> Result<(), Fail> {
+    bench.ask(0, Request::Use { tube: tube(name)? });
+    let is_used =
+        matches!(bench.answer(), Some((0, Answer::Using(used))) if used.as_slice() == name);
+    ended(is_used, turn)
+}
+
+// The client at seat 1 watches the tube of this turn too, or no longer, and so many then.
+fn watch(bench: &mut Bench, turn: u32, count: u32) -> Result<(), Fail> {
+    let tube = tube(&long_name(turn % NAMES))?;
+    bench.ask(1, Request::Watch { tube });
+    is_watching(bench, turn, count)
+}
+
+fn ignore(bench: &mut Bench, turn: u32, count: u32) -> Result<(), Fail> {
+    let tube = tube(&long_name(turn % NAMES))?;
+    bench.ask(1, Request::Ignore { tube });
+    is_watching(bench, turn, count)
+}
+
+fn is_watching(bench: &mut Bench, turn: u32, count: u32) -> Result<(), Fail> {
+    let is_told =
+        matches!(bench.answer(), Some((1, Answer::Watching(told))) if told == u64::from(count));
+    ended(is_told, turn)
+}
+
+fn put(alloc: Global, bench: &mut Bench, id: JobId, turn: u32) -> Result<(), Fail> {
+    bench.ask(
+        0,
+        Request::Put {
+            pri: turn,
+            delay: 0,
+            ttr: 9,
+            body: Body::new(alloc, b"x")?,
+        },
+    );
+    let is_put = matches!(bench.answer(), Some((0, Answer::Inserted(told))) if told == id);
+    ended(is_put, turn)
+}
+
+// The job of the tube that is used goes to the client that watches it, which deletes it: the tube is empty, and stays.
+fn pass_job(alloc: Global, bench: &mut Bench, id: JobId, turn: u32) -> Result<(), Fail> {
+    put(alloc, bench, id, turn)?;
+    bench.ask(1, Request::Reserve);
+    let is_given = matches!(bench.answer(), Some((1, Answer::Reserved(told, _))) if told == id);
+    ended(is_given, turn)?;
+    bench.ask(1, Request::Delete { id });
+    ended(matches!(bench.answer(), Some((1, Answer::Deleted))), turn)
+}
+
+/// Tubes come, and each passes two jobs while it is used and watched. Once it is watched and used no longer it is gone.
+pub(crate) fn pass_through_tubes(alloc: Global, bench: &mut Bench) -> Result<(), Fail> {
+    let mut id = 1;
+    for turn in 1..=WATCHED {
+        use_tube(bench, &long_name(turn % NAMES), turn)?;
+        watch(bench, turn, turn.min(STAY + 1) + 1)?;
+        pass_job(alloc, bench, id, turn)?;
+        pass_job(alloc, bench, id.saturating_add(1), turn)?;
+        id = id.saturating_add(2);
+        if turn > STAY {
+            ignore(bench, turn - STAY, STAY + 1)?;
+        }
+    }
+    Ok(())
+}
+
+// The client at seat 0 pauses the tube that it uses, for so many seconds.
+fn pause(bench: &mut Bench, name: &[u8], seconds: u32, turn: u32) -> Result<(), Fail> {
+    bench.ask(
+        0,
+        Request::PauseTube {
+            tube: tube(name)?,
+            delay: seconds,
+        },
+    );
+    ended(matches!(bench.answer(), Some((0, Answer::Paused))), turn)?;
+    ended(bench.next_due() == Some(u64::from(seconds) * 1000), turn)
+}
+
+/// Tubes are paused and go, and their pauses with them: each comes back without one.
+pub(crate) fn pause_tubes(alloc: Global, bench: &mut Bench) -> Result<(), Fail> {
+    for turn in 1..=PAUSED {
+        let name = long_name(turn % 3);
+        use_tube(bench, &name, turn)?;
+        pause(bench, &name, turn, turn)?;
+        use_tube(bench, b"default", turn)?;
+        ended(bench.next_due().is_none(), turn)?;
+        use_tube(bench, &name, turn)?;
+        watch(bench, turn % 3, 2)?;
+        pass_job(alloc, bench, JobId::from(turn), turn)?;
+        ignore(bench, turn % 3, 1)?;
+        use_tube(bench, b"default", turn)?;
+    }
+    Ok(())
+}
