@@ -2,7 +2,7 @@
 ghost use Rattle.std.specs.Prelude.{◌≡◌, ◌&&◌, ◌<◌, ◌≤◌, OnErr, [], None, true, false, length, map, nat_lt, if◌then◌else◌, IfSome, IfOk};
 ghost use Rattle.std.specs.List.{list_any};
 ghost use Rattle.bq_job.specs.beside.NameOrder.{is_in_order};
-ghost use Rattle.bq_job.specs.machine.Changes.{is_held_by, is_ready_state, job_with, seat_with, with_job, with_seat};
+ghost use Rattle.bq_job.specs.machine.Changes.{is_held_by, is_ready_state, is_waiting, job_with, seat_with, with_job, with_seat};
 ghost use Rattle.bq_job.specs.machine.Machine.{empty_seat, new_machine, numbers};
 ghost use Rattle.bq_job.specs.reading.TubeName.{is_same_name};
 ghost use Rattle.bq_job.specs.machine.Timers.{at_moment};
@@ -171,6 +171,7 @@ pub fn provide_tube(state: &mut CoreParts, alloc: Global, tube: &TubeName) -> Re
     ensures after { machine_of state.new ≡ machine_of state.old }
     ensures entry { IfOk result (λ _. has_entry tube.now state.new.tubes.entries ≡ true) }
     ensures seats { state.new.seats ≡ state.old.seats }
+    ensures stir { state.new.known.stir ≡ state.old.known.stir }
     ensures asks { Asks 0 state.old.jobs state.new.jobs }
 {
     if state.tubes.has(tube) {
@@ -202,6 +203,8 @@ pub fn watch_tube(
         (λ n. AtSeat seat state.old (λ s. n ≡ length (more_watched tube.now s))) }
     ensures watched { IfOk result (λ _. Watches seat (more_watched tube.now) state.old state.new) }
     ensures same { OnErr result (machine_of state.new ≡ machine_of state.old) }
+    ensures stir { IfOk result (λ _. AtSeat seat state.old
+        (λ s. is_waiting s ≡ false → state.new.known.stir ≡ state.old.known.stir)) }
     ensures asks { Asks 0 state.old.jobs state.new.jobs }
 {
     provide_tube(state, alloc, tube)?;

@@ -1,5 +1,5 @@
-use Rattle.std.proofs.{Common.{◌++◌, ◌∙◌, ◌∷◌, ◌≡◌, ◌≤◌, if◌then◌else◌, Some, [], ap, arith, get_or, length, refl, set, slice_get, sym}, lemmas.Option.{slice_get_read, slice_get_within}}
-use Rattle.bq_job.specs.machine.{greatest, seat_with, watching, Machine.Machine}
+use Rattle.std.proofs.{Common.{◌++◌, ◌∙◌, ◌∷◌, ◌≡◌, ◌≤◌, if◌then◌else◌, Some, [], ap, arith, false, get_or, length, refl, set, slice_get, sym}, lemmas.Option.{slice_get_read, slice_get_within}}
+use Rattle.bq_job.specs.machine.{greatest, is_waiting, seat_with, watching, Machine.Machine}
 use Rattle.bq_state.specs.declared.tubes.entry.{Moving.TheVariants.Comes, Share.Share}
 use Rattle.bq_state.specs.{CoreParts.machine_of, Counting.with_crowds_at, Crowds.recounted, KeptTubes.KeptTubes, Stirs.with_anything, TubeEntries.counted}
 use Rattle.bq_state.proofs.{KnowledgeLemmas.so_watching, PartsLemmas.{changed_there, seat_read, seat_there, watching_more, watching_numbered}, WaitingLemmas.in_turn_watching}
@@ -29,6 +29,23 @@ returns-in-Ok-clause-watched c s found =
     (c.in-Ok.ensures.watched s there
     ∙ ap (λ v. set v.items c.args.seat (watching (s.watched ++ c.args.tube.now ∷ []) s)) p.seats
     ∙ sym (changed_there old.seats.items c.args.seat s (watching (s.watched ++ c.args.tube.now ∷ [])) c.args.state.now.sound.numbered here))
+
+pub returns-then-from-len-clause-stir : goal.returns-then-from-len-clause-stir
+returns-then-from-len-clause-stir c s found rests = c.in_ok-provide_tube.ensures.stir
+
+pub returns-in-Ok-clause-stir : goal.returns-in-Ok-clause-stir
+returns-in-Ok-clause-stir c s found rests =
+    let old = c.args.state.now in
+    let mid = c.provide_tube.new.state in
+    let n = c.args.seat in
+    let t = c.index.result.now in
+    let read : t ≡ get_or mid.seats.items n t = c.index.ensures ∙ ap (λ k. get_or mid.seats.items k t) c.from-2.ensures in
+    let here = slice_get_read mid.seats.items (length mid.seats.items) n t refl (omega arith) read in
+    let there : slice_get mid.seats.items n ≡ Some s =
+    ap (λ v. slice_get v.items n) c.in_ok-provide_tube.ensures.seats ∙ seat_there old.seats.items n s old.sound.numbered found in
+    let same : t ≡ s = (cc) in
+    let none : c.of_watcher-share.result.waiting ≡ false = ap (λ (share : Share). share.waiting) c.of_watcher-share.ensures ∙ ap is_waiting same ∙ rests in
+    c.stir_all_if.ensures ∙ ap (λ b. if b then with_anything mid.known.stir else mid.known.stir) none ∙ c.in_ok-provide_tube.ensures.stir
 
 pub invariant_of-state : goal.invariant_of-state
 invariant_of-state c =
