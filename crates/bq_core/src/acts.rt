@@ -68,7 +68,9 @@ fn refusal_answer(why: Refusal) -> Answer
     }
 }
 
-// Carries a request out that an open seat may ask.
+// Carries a request out that an open seat may ask. A call fills all the room of its large values with zeros before it
+// begins, whichever way it goes. So commands that need a name or a job as a value of their own are never written out here
+// (`inline(never)`).
 fn answer(
     state: &mut CoreParts,
     alloc: Global,

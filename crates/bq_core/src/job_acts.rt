@@ -85,6 +85,7 @@ fn is_full(state: &CoreParts) -> bool
 /// Puts a job. The boxes that it needs are had before any change, and where there are as many jobs
 /// as there may be, none is asked for. The job is one more owner of the body, which its client's
 /// step has still.
+#[inline(never)]
 pub(crate) fn put(
     state: &mut CoreParts,
     alloc: Global,
@@ -173,6 +174,7 @@ pub(crate) fn reserve_job(state: &mut CoreParts, seat: Seat, id: JobId, told: &m
 }
 
 /// Takes out a job that nobody holds, or that the client holds itself.
+#[inline(never)]
 pub(crate) fn delete(state: &mut CoreParts, seat: Seat, id: JobId, told: &mut Answer)
     ensures reply { AnswersTo seat (delete_effect id) state.old told.new state.new }
     ensures asks { AsksAsChanged state.old.jobs state.new.jobs }

@@ -21,6 +21,7 @@ use std::alloc::Global;
 
 /// The client's jobs go into this tube from now on. The growth that a new tube needs comes before
 /// any change.
+#[inline(never)]
 pub(crate) fn use_tube(
     state: &mut CoreParts,
     alloc: Global,
@@ -40,6 +41,7 @@ pub(crate) fn use_tube(
 }
 
 /// Tells which tube the client's jobs go into.
+#[inline(never)]
 pub(crate) fn list_tube_used(state: &CoreParts, seat: Seat, told: &mut Answer) -> Reply
     ensures { RepliesAt seat false
         (λ m s. telling (answers.Using s.used) m) state.now result told.new state.now }
@@ -54,6 +56,7 @@ pub(crate) fn list_tube_used(state: &CoreParts, seat: Seat, told: &mut Answer) -
 }
 
 /// The client watches this tube too. The growth that it needs comes before any change.
+#[inline(never)]
 pub(crate) fn watch(
     state: &mut CoreParts,
     alloc: Global,
@@ -82,6 +85,7 @@ pub(crate) fn watch(
 }
 
 /// The client watches this tube no longer, unless it watches no other.
+#[inline(never)]
 pub(crate) fn ignore(state: &mut CoreParts, seat: Seat, tube: &TubeName, told: &mut Answer) -> Reply
     ensures reply { RepliesAt seat false
         (ignore_effect tube.now) state.old result told.new state.new }
