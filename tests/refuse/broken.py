@@ -89,7 +89,7 @@ for _ in range(2):
     client.close()
     if refused:
         open(os.environ["REFUSE_TOLD"], "wb").write(b"!")
-        sys.exit("bqd: no memory: for the queue and its seats")
+        sys.exit("bqd: no memory\\nbqd: could not allocate memory for the queue and its seats")
 """
 
 

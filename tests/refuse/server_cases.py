@@ -8,7 +8,7 @@ import threading
 from refusal import each_in_turn
 
 NEEDS = (b"the options", b"the control line", b"the buffers of the seats", b"the queue and its seats")
-NO_MEMORY = [b"bqd: no memory: for " + need + b"\n" for need in NEEDS]
+NO_MEMORY = [b"bqd: no memory\nbqd: could not allocate memory for " + need + b"\n" for need in NEEDS]
 NO_THREAD = [b"bqd: a thread was refused\n"]
 NOT_ACCEPTED = b"bqd: a connection could not be accepted\n"
 NO_MORE = b"bqd: no connection can be accepted: Invalid argument (os error 22)\n"

@@ -8,7 +8,7 @@ from judge import judged
 from refusal import each_in_turn
 
 NEEDS = (b"the options", b"the clock", b"the queue and its seats")
-NO_MEMORY = [(1, b"", b"bq: no memory: for " + need + b"\n") for need in NEEDS]
+NO_MEMORY = [(1, b"", b"bq: no memory\nbq: could not allocate memory for " + need + b"\n") for need in NEEDS]
 
 # Each input with what it is answered where nothing is refused, and where its refusable command is.
 PUT = b"put 0 0 1 1\r\na\r\n"

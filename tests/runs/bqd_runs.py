@@ -79,8 +79,8 @@ def run_version(bqd):
 
 
 def cannot_listen(bqd, address, why, *words):
-    """That nobody can listen there, and that the address and the system's words are told."""
-    told = f"bqd: cannot listen: {address}: {why}\n".encode()
+    """That it reports `cannot listen` on a line of its own, and the address and the system's reason on the next."""
+    told = f"bqd: cannot listen\nbqd: {address}: {why}\n".encode()
     same(ended(bqd, *words), Ended(1, b"", told))
 
 
@@ -96,7 +96,9 @@ def run_cannot_listen(bqd):
     for text in [LOOPBACK, "", f"{LOOPBACK}:65536"]:
         found = ended(bqd, "--listen", text)
         same((found.status, found.output), (1, b""))
-        has_all(found.errors.decode(), [f"bqd: cannot listen: {text}: ", "\n"])
+        first, second, last = found.errors.decode().split("\n")
+        same((first, last), ("bqd: cannot listen", ""))
+        has_all(second, [f"bqd: {text}: "])
 
 
 def run_one_client(bqd):

@@ -103,4 +103,5 @@ def has_no_memory(program, name, *words):
             enough, found = middle, tried
         else:
             too_few = middle
-    same(found, Ended(1, b"", f"{name}: no memory: for the options\n".encode()))
+    told = f"{name}: no memory\n{name}: could not allocate memory for the options\n"
+    same(found, Ended(1, b"", told.encode()))

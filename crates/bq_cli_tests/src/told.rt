@@ -1,7 +1,7 @@
 //! What the programs tell on standard error where no run can have them tell it: seats that are taken once more after
 //! a minute, and each fault.
 
-use bq_program::{Fault, Need, Options, Program, tell_fault};
+use bq_program::{Fault, Need, Options, Program, tell_cannot_listen, tell_fault};
 use bq_server::serve;
 use std::alloc::Global;
 use std::fmt::Display;
@@ -183,28 +183,28 @@ const FAULTS: &[(Program, Fault, &str)] = &[
     (
         Program::Bq,
         Fault::NoMemory(Need::Options),
-        "bq: no memory: for the options\n",
+        "bq: no memory\nbq: could not allocate memory for the options\n",
     ),
     (
         Program::Bq,
         Fault::NoMemory(Need::Clock),
-        "bq: no memory: for the clock\n",
+        "bq: no memory\nbq: could not allocate memory for the clock\n",
     ),
     (Program::Bqd, Fault::CannotListen, "bqd: cannot listen\n"),
     (
         Program::Bqd,
         Fault::NoMemory(Need::ControlLine),
-        "bqd: no memory: for the control line\n",
+        "bqd: no memory\nbqd: could not allocate memory for the control line\n",
     ),
     (
         Program::Bqd,
         Fault::NoMemory(Need::Doors),
-        "bqd: no memory: for the buffers of the seats\n",
+        "bqd: no memory\nbqd: could not allocate memory for the buffers of the seats\n",
     ),
     (
         Program::Bqd,
         Fault::NoMemory(Need::Queue),
-        "bqd: no memory: for the queue and its seats\n",
+        "bqd: no memory\nbqd: could not allocate memory for the queue and its seats\n",
     ),
     (
         Program::Bqd,
@@ -231,5 +231,17 @@ fn faults_are_told(rt: HostRuntime) -> Result<(), Fail> {
         assert!(rt; heard.has(&heard.errors, text));
         assert!(rt; heard.has(&heard.output, ""));
     }
+    Ok(())
+}
+
+#[test]
+fn address_is_told(rt: HostRuntime) -> Result<(), Fail> {
+    let heard = Heard::new(rt, rt.alloc());
+    let error = io::Error::from(ErrorKind::AddrInUse);
+    let status = tell_cannot_listen(&heard, Program::Bqd, "127.0.0.1:11300", &error);
+    let told = "bqd: cannot listen\nbqd: 127.0.0.1:11300: address in use\n";
+    assert!(rt; status == 1);
+    assert!(rt; heard.has(&heard.errors, told));
+    assert!(rt; heard.has(&heard.output, ""));
     Ok(())
 }

@@ -1,4 +1,4 @@
--- Which fault of a program a fault of its run is, or the end of its client's line, and what is told of each.
+-- The fault of a program that a fault of its run is, or the end of its client's line, and how each is reported.
 use Rattle.std.specs.Prelude.{ℕ, List, Option, Some, None, codes}
 use Rattle.bq_job.specs.declared.line_end.LineEnd.{LineEnd}
 use Rattle.bq_job.specs.declared.line_end.LineEnd.TheVariants as ends
@@ -26,18 +26,24 @@ abbrev pub IsMemoryRefused : Fault → Type 0
 IsMemoryRefused (faults.NoMemory need) = Unit {0}
 IsMemoryRefused _ = ⊥
 
-abbrev pub need_text : Need → List ℕ
-need_text needs.Options = codes "no memory: for the options"
-need_text needs.Clock = codes "no memory: for the clock"
-need_text needs.ControlLine = codes "no memory: for the control line"
-need_text needs.Doors = codes "no memory: for the buffers of the seats"
-need_text needs.Queue = codes "no memory: for the queue and its seats"
-
+-- the first line of the report of a fault, without the program's name
 abbrev pub fault_text : Fault → List ℕ
 fault_text faults.ReadFailed = codes "read failed"
 fault_text faults.WriteFailed = codes "write failed"
 fault_text faults.CannotListen = codes "cannot listen"
-fault_text (faults.NoMemory need) = need_text need
+fault_text (faults.NoMemory need) = codes "no memory"
 fault_text faults.ThreadRefused = codes "a thread was refused"
 fault_text faults.BadConfiguration = codes "bad configuration"
 fault_text faults.NotAccepted = codes "a connection could not be accepted"
+
+abbrev pub need_text : Need → List ℕ
+need_text needs.Options = codes "could not allocate memory for the options"
+need_text needs.Clock = codes "could not allocate memory for the clock"
+need_text needs.ControlLine = codes "could not allocate memory for the control line"
+need_text needs.Doors = codes "could not allocate memory for the buffers of the seats"
+need_text needs.Queue = codes "could not allocate memory for the queue and its seats"
+
+-- the second line, where the fault alone determines one
+abbrev pub fault_detail : Fault → Option (List ℕ)
+fault_detail (faults.NoMemory need) = Some (need_text need)
+fault_detail _ = None

@@ -1,6 +1,6 @@
 //! Why a program ends otherwise than well, and its status then.
 ghost use Rattle.std.specs.Prelude.{◌≡◌, option_map};
-ghost use Rattle.bq_program.specs.Faults.{fault_of_end, fault_of_run, fault_text, need_text};
+ghost use Rattle.bq_program.specs.Faults.{fault_detail, fault_of_end, fault_of_run, fault_text, need_text};
 
 use crate::chosen::OptionFault;
 use bq_job::LineEnd;
@@ -38,7 +38,8 @@ pub enum Fault {
 }
 
 impl Fault {
-    /// What is told of the fault.
+    /// The first line of the report of this fault, without the program's name. It is the same wherever the fault
+    /// arose, so that scripts can compare it.
     pub fn text(self) -> &'static str
         ensures { result.now ≡ fault_text self }
     {
@@ -46,10 +47,20 @@ impl Fault {
             Fault::ReadFailed => "read failed",
             Fault::WriteFailed => "write failed",
             Fault::CannotListen => "cannot listen",
-            Fault::NoMemory(need) => text_of_need(need),
+            Fault::NoMemory(_) => "no memory",
             Fault::ThreadRefused => "a thread was refused",
             Fault::BadConfiguration => "bad configuration",
             Fault::NotAccepted => "a connection could not be accepted",
+        }
+    }
+
+    /// The second line of the report, if the fault has one: what the memory was for.
+    pub fn detail(self) -> Option<&'static str>
+        ensures { option_map (λ text. text.now) result ≡ fault_detail self }
+    {
+        match self {
+            Fault::NoMemory(need) => Some(text_of_need(need)),
+            _ => None,
         }
     }
 }
@@ -58,11 +69,11 @@ fn text_of_need(need: Need) -> &'static str
     ensures { result.now ≡ need_text need }
 {
     match need {
-        Need::Options => "no memory: for the options",
-        Need::Clock => "no memory: for the clock",
-        Need::ControlLine => "no memory: for the control line",
-        Need::Doors => "no memory: for the buffers of the seats",
-        Need::Queue => "no memory: for the queue and its seats",
+        Need::Options => "could not allocate memory for the options",
+        Need::Clock => "could not allocate memory for the clock",
+        Need::ControlLine => "could not allocate memory for the control line",
+        Need::Doors => "could not allocate memory for the buffers of the seats",
+        Need::Queue => "could not allocate memory for the queue and its seats",
     }
 }
 

@@ -9,17 +9,21 @@ use crate::program::Program;
 use std::io;
 use std::io::{Eprint, Print};
 
-/// Tells a fault on standard error, where that can be written, as one line behind the program's name. The
-/// status is 1.
+/// Reports a fault on standard error, if that can be written: a line after the program's name, and for some faults a
+/// second one with the detail. Returns the status, 1.
 pub fn tell_fault<R: Eprint>(rt: &R, program: Program, fault: Fault) -> u8
     ensures { result ≡ 1 }
 {
-    let _told = eprintln!(rt; "{}: {}", program.name(), fault.text());
+    let (name, text) = (program.name(), fault.text());
+    let _told = match fault.detail() {
+        None => eprintln!(rt; "{name}: {text}"),
+        Some(detail) => eprintln!(rt; "{name}: {text}\n{name}: {detail}"),
+    };
     1
 }
 
-/// Tells that nobody can listen at an address, as `tell_fault` does, and behind it the address and the words of
-/// the system.
+/// Reports that the program can't listen, as `tell_fault` does. The second line has the address and the system's
+/// reason. Returns the status, 1.
 pub fn tell_cannot_listen<R: Eprint>(
     rt: &R,
     program: Program,
@@ -28,8 +32,8 @@ pub fn tell_cannot_listen<R: Eprint>(
 ) -> u8
     ensures { result ≡ 1 }
 {
-    let fault = Fault::CannotListen;
-    let _told = eprintln!(rt; "{}: {}: {address}: {error}", program.name(), fault.text());
+    let (name, text) = (program.name(), Fault::CannotListen.text());
+    let _told = eprintln!(rt; "{name}: {text}\n{name}: {address}: {error}");
     1
 }
 
