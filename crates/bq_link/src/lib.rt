@@ -4,11 +4,13 @@
 //! Each thread has an end of its own. What an end submitted, took or sent is seen by contracts as lists.
 #![tactic(auto)]
 
+pub use anything::Anything;
 pub use ends::{CoreEnd, Intake, Record, SeatEnd};
 pub use laws::{empty_looks_are_of_empty_intakes, pairs_stay, refusals_are_of_full_intakes};
 pub use making::links;
 pub use no_ticks::NoTicks;
 
+mod anything;
 mod ends;
 mod laws;
 mod making;

@@ -1,19 +1,12 @@
 //! Ends to test, and what they do in more than one test.
-ghost use Rattle.std.specs.Prelude.{◌≡◌, ◌+◌, ◌<◌, ◌≤◌, All, IfOk, length, ⊤};
+ghost use Rattle.std.specs.Prelude.{◌≡◌, ◌+◌, ◌<◌, ◌≤◌, All, IfOk, length};
 ghost use Rattle.bq_link.specs.EndStates.{IsPair, IsSameCore, IsSameSeat};
 
 use bq_job::{NoMemory, Seat, Step};
-use bq_link::{CoreEnd, Intake, Record, SeatEnd, links};
+use bq_link::{Anything, CoreEnd, Intake, SeatEnd, links};
 use std::alloc::Global;
 use std::sync::Wait;
 use std::thread;
-
-/// Nothing is asked of the steps.
-pub struct Anything;
-
-impl Record for Anything {
-    ghost was = { λ taken waiting. ⊤ };
-}
 
 /// The intake of all tests.
 pub type Shared = Intake<Anything>;

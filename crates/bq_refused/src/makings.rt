@@ -1,5 +1,4 @@
 //! Calls that ask for memory: each succeeds, or is refused and changes nothing.
-ghost use Rattle.std.specs.Prelude.{⊤};
 
 use crate::outcome::{Outcome, tell};
 use bq_core::{Config, Core, CoreFault, Outs};
@@ -7,7 +6,7 @@ use bq_index::Shelf;
 use bq_job::{Body, Counts, Job, JobState, TubeName, USUAL_BODY};
 use bq_jobs::Jobs;
 use bq_journal::Locked;
-use bq_link::{Record, links};
+use bq_link::{Anything, links};
 use bq_run_start::RunFault;
 use bq_seat::SeatMachine;
 use bq_wire::RequestReader;
@@ -97,13 +96,6 @@ fn lock(alloc: Global) -> Outcome {
         Err(RunFault::NoMemory) => Outcome::Refused,
         Err(_) => Outcome::Wrong,
     }
-}
-
-// Nothing is asked of the steps.
-struct Anything;
-
-impl Record for Anything {
-    ghost was = { λ taken waiting. ⊤ };
 }
 
 fn links_of_two(alloc: Global) -> Outcome {
