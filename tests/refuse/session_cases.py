@@ -7,7 +7,7 @@ from queue_model.machine import PLAIN, Machine
 from judge import judged
 from refusal import each_in_turn
 
-NEEDS = (b"the options", b"the clock", b"the queue and its seats")
+NEEDS = (b"the options", b"the queue and its seats")
 NO_MEMORY = [(1, b"", b"bq: no memory\nbq: could not allocate memory for " + need + b"\n") for need in NEEDS]
 
 # Each input with what it is answered where nothing is refused, and where its refusable command is.

@@ -2,7 +2,7 @@
 
 use bq_job::LineEnd;
 use bq_line::clock::MachineClock;
-use bq_program::Stop;
+use bq_program::{Stop, bq_options};
 use bq_session::{Console, Served, serve_client};
 use std::alloc::Global;
 use std::io;
@@ -65,10 +65,11 @@ impl Write for Reads {
     }
 }
 
-/// The words behind the program's name, what the client sends, in how much room it reads, how its line is over,
-/// and what arrives there.
+/// The words behind the program's name and what they choose, what the client sends, in how much room it reads, how its
+/// line is over, and what arrives there.
 struct Example {
     words: &'static [&'static str],
+    chosen: (bool, u32, Option<u32>),
     sends: &'static str,
     behind: Behind,
     room: usize,
@@ -79,6 +80,7 @@ struct Example {
 static EXAMPLES: &[Example] = &[
     Example {
         words: &[],
+        chosen: (false, 65535, None),
         sends: "put 5 0 10 3\r\nabc\r\nquit\r\n",
         behind: Behind::Fails,
         room: 100,
@@ -87,6 +89,7 @@ static EXAMPLES: &[Example] = &[
     },
     Example {
         words: &["--still"],
+        chosen: (true, 65535, None),
         sends: "reserve\r\n",
         behind: Behind::SendsNoMore,
         room: 100,
@@ -95,6 +98,7 @@ static EXAMPLES: &[Example] = &[
     },
     Example {
         words: &["--still", "--max-job-size", "2"],
+        chosen: (true, 2, None),
         sends: "put 0 0 1 3\r\nabc\r\nput 0 0 1 2\r\nab\r\n",
         behind: Behind::SendsNoMore,
         room: 100,
@@ -103,6 +107,7 @@ static EXAMPLES: &[Example] = &[
     },
     Example {
         words: &["--still", "--max-jobs", "1"],
+        chosen: (true, 65535, Some(1)),
         sends: "put 0 0 9 1\r\nx\r\nput 0 0 9 1\r\ny\r\nreserve\r\nput 0 0 9 1\r\nz\r\n\
             delete 1\r\nput 0 0 9 1\r\nw\r\n",
         behind: Behind::SendsNoMore,
@@ -113,6 +118,7 @@ static EXAMPLES: &[Example] = &[
     },
     Example {
         words: &[],
+        chosen: (false, 65535, None),
         sends: "put 0 0 9 1\r\nx\r\nput",
         behind: Behind::Fails,
         room: 100,
@@ -121,6 +127,7 @@ static EXAMPLES: &[Example] = &[
     },
     Example {
         words: &[],
+        chosen: (false, 65535, None),
         sends: "put 0 0 9 1\r\nx\r\n",
         behind: Behind::SendsNoMore,
         room: 5,
@@ -130,6 +137,7 @@ static EXAMPLES: &[Example] = &[
     // All of the answer is written, and the flush fails.
     Example {
         words: &[],
+        chosen: (false, 65535, None),
         sends: "put 0 0 9 1\r\nx\r\n",
         behind: Behind::SendsNoMore,
         room: 12,
@@ -148,20 +156,23 @@ fn words_of(alloc: Global, words: &[&str]) -> Result<Vec<String>, Fail> {
 }
 
 // What comes of a client that sends this, by these words.
-fn came<R: Wait + Clock>(
-    rt: &R,
+fn came<'r, R: Wait + Clock>(
+    rt: &'r R,
     alloc: Global,
     words: &[String],
     sends: Sends,
     room: usize,
-) -> Result<Served<Console<Sends, Reads>>, Stop> {
+) -> Result<Served<Console<Sends, Reads>, &'r R>, Stop> {
     let reads = Reads {
         held: Vec::new(alloc),
         arrived: Vec::new(alloc),
         room,
     };
     let console = Console::new(sends, reads);
-    serve_client(rt, alloc, words, console, MachineClock::new(rt))
+    let options = bq_options(alloc, words)?;
+    let clock = MachineClock::new(rt);
+    let served = serve_client(rt, alloc, &options, console, clock)?;
+    Ok(served)
 }
 
 // Whether an example comes out as it has to.
@@ -172,8 +183,12 @@ fn is_met<R: Wait + Clock>(rt: &R, alloc: Global, words: &[String], example: &Ex
     };
     match came(rt, alloc, words, sends, example.room) {
         Ok(served) => {
+            let options = served.options;
+            let chosen = (options.still, options.max_job_size, options.max_jobs);
             let reads = served.line.into_stream().into_output();
-            served.end == example.end && reads.arrived.as_slice() == example.arrives.as_bytes()
+            chosen == example.chosen
+                && served.end == example.end
+                && reads.arrived.as_slice() == example.arrives.as_bytes()
         }
         Err(_) => false,
     }

@@ -187,8 +187,8 @@ const FAULTS: &[(Program, Fault, &str)] = &[
     ),
     (
         Program::Bq,
-        Fault::NoMemory(Need::Clock),
-        "bq: no memory\nbq: could not allocate memory for the clock\n",
+        Fault::NoMemory(Need::Queue),
+        "bq: no memory\nbq: could not allocate memory for the queue and its seats\n",
     ),
     (Program::Bqd, Fault::CannotListen, "bqd: cannot listen\n"),
     (

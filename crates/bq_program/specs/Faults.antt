@@ -38,7 +38,6 @@ fault_text faults.NotAccepted = codes "a connection could not be accepted"
 
 abbrev pub need_text : Need → List ℕ
 need_text needs.Options = codes "could not allocate memory for the options"
-need_text needs.Clock = codes "could not allocate memory for the clock"
 need_text needs.ControlLine = codes "could not allocate memory for the control line"
 need_text needs.Doors = codes "could not allocate memory for the buffers of the seats"
 need_text needs.Queue = codes "could not allocate memory for the queue and its seats"

@@ -11,8 +11,6 @@ use bq_run_start::RunFault;
 pub enum Need {
     /// The words of its command line, and what they choose.
     Options,
-    /// The clock that stands at 0.
-    Clock,
     /// The line on which a server is told to drain.
     ControlLine,
     /// The doors of a server's seats, with what connections are read and written through.
@@ -70,7 +68,6 @@ fn text_of_need(need: Need) -> &'static str
 {
     match need {
         Need::Options => "could not allocate memory for the options",
-        Need::Clock => "could not allocate memory for the clock",
         Need::ControlLine => "could not allocate memory for the control line",
         Need::Doors => "could not allocate memory for the buffers of the seats",
         Need::Queue => "could not allocate memory for the queue and its seats",

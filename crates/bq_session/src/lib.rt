@@ -8,4 +8,5 @@ pub use session::{Served, serve_client};
 mod console;
 mod program;
 mod session;
+mod session_clock;
 mod told;

@@ -18,8 +18,8 @@ fn tell_end<R: Eprint>(rt: &R, end: LineEnd) -> u8
     }
 }
 
-/// Tells what came of a client: the status of `bq`.
-pub(crate) fn tell_client<R: Print + Eprint, S>(rt: &R, came: &Result<Served<S>, Stop>) -> u8
+/// Reports what came of a client, and returns the status of `bq`.
+pub(crate) fn tell_client<R: Print + Eprint, S, K>(rt: &R, came: &Result<Served<S, K>, Stop>) -> u8
     ensures { IsStatusOfClient came.now result }
 {
     match came {
