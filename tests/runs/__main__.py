@@ -17,9 +17,9 @@ import answers_runs
 import bq_runs
 import bqd_runs
 import fault_runs
-import helping_runs
 import memory_runs
 import rest_runs
+import waiting_runs
 
 
 def runs_of(module):
@@ -45,7 +45,7 @@ def main():
     parser.add_argument("names", nargs="*", help="the runs whose names have one of these words; all, unless given")
     words = parser.parse_args()
     passed, failed = 0, 0
-    of_bqd = [bqd_runs, answers_runs, fault_runs, helping_runs, memory_runs, rest_runs]
+    of_bqd = [bqd_runs, answers_runs, fault_runs, memory_runs, rest_runs, waiting_runs]
     modules = [(bq_runs, words.bq), *((it, words.bqd) for it in of_bqd)]
     for module, program in modules:
         for run in runs_of(module):

@@ -87,7 +87,7 @@ def run_faults_of_a_listener(bqd):
 
 
 def run_each_thread_refused(bqd):
-    """Whichever thread is refused, a seat's or the one that watches the clock, nobody is served, with status 1."""
+    """Whichever thread is refused, a seat's or the core's, nobody is served, with status 1."""
     with Server(bqd, "--seats", "256", env=faults(thread=200)) as server:
         same(server.end(), Ended(1, b"", b"bqd: a thread was refused\n"))
     seats = 2

@@ -1,4 +1,3 @@
 pub mod SendingLemmas
-pub mod SharedLemmas
 pub mod TurnLemmas
 pub mod WorkedLemmas

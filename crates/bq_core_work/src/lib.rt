@@ -1,5 +1,4 @@
-//! The core's work in the midst of the links: steps that come are taken, and answers are sent, by one thread or by
-//! whichever holds the lock.
+//! The core's thread in the midst of the links: it takes the steps that come, and sends their answers.
 #![tactic(auto)]
 
 pub mod core_work;

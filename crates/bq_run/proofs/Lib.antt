@@ -1,5 +1,4 @@
 pub mod GoneLemmas
 pub mod LinkedLemmas
 pub mod SettleLemmas
-pub mod SharedLemmas
 pub mod ThreadLemmas

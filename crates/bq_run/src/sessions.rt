@@ -20,13 +20,11 @@ use new_posts::new_posts;
 use posts::{Ended, EndedEnds};
 use settle::settle;
 use std::alloc::Global;
-use std::marker::Brand;
 use std::sync::Wait;
 use std::thread::Threads;
 use threads::serve_in_scope;
 
 mod core_post;
-mod locked_core;
 mod new_posts;
 mod posts;
 mod seat_post;
@@ -49,8 +47,8 @@ pub struct Run<D, C, I, K> {
 }
 
 /// Serves the lines of all doors, each at a seat and in a thread of its own, until no more lines come at any
-/// of them. Whichever thread has submitted a step does the core's work, and one more watches its clock. The
-/// calling thread reads the control line, of which each line `drain` begins draining.
+/// of them. One more thread has the core and its clock. The calling thread reads the control line, of which each
+/// line `drain` begins draining.
 ///
 /// The fault is `BadConfiguration` where the configuration is out of its ranges or there isn't a door for
 /// each seat, and else `NoMemory` where a growth of memory was refused, or `ThreadRefused` where a thread was.
@@ -98,33 +96,29 @@ pub fn run_sessions<
         return Err(RunFault::NoMemory);
     };
     let start = Start::new();
-    let ended = match serve_in_scope::<R, L, D, C, I, K, Brand>(rt, alloc, posts, &start, control) {
+    let ended = match serve_in_scope(rt, alloc, posts, &start, control) {
         Ok(ended) => ended,
         Err(fault) => return Err(fault),
     };
     steps_keep_settings();
-    match settled_run(intake, ended) {
-        Ok(run) => Ok(run),
-        Err(fault) => Err(fault),
-    }
+    Ok(settled_run(intake, ended))
 }
 
-// The run that is over, once each of its ends was compared with the core's.
+// The run that is over, once each of its ends was compared with the core's. There is room for the control line's end, so
+// that it can't be refused any more.
 fn settled_run<D: Drop, C: Drop, I: Drop, K: Drop>(
     intake: Intake<NoTicks>,
     ended: Ended<D, C, I, K>,
-) -> Result<Run<D, C, I, K>, RunFault>
+) -> Run<D, C, I, K>
     requires of_intake { ended.core_end.intake ≡ intake.id }
     requires pairs { ArePaired ended.core_end
         (ended.ends.ends.items ++ ended.ends.control_end ∷ []) }
-    ensures fault { IsErrOf result RunFault.BadConfiguration → ⊥ }
-    ensures core { IfOk result (λ run. IsCoreStill ended.core_end run.core_end) }
-    ensures ends { IfOk result
-        (λ run. AreStill (ended.ends.ends.items ++ ended.ends.control_end ∷ []) run.ends.items) }
-    ensures settled { IfOk result (λ run. AreSettled run.core_end run.ends.items) }
-    ensures intake { IfOk result (λ run. run.intake ≡ intake) }
-    ensures rest { IfOk result (λ run. (run.doors ≡ ended.ends.doors) × (run.clock ≡ ended.clock)
-        × (run.control ≡ ended.ends.control) × (run.core ≡ ended.core)) }
+    ensures core { IsCoreStill ended.core_end result.core_end }
+    ensures ends { AreStill (ended.ends.ends.items ++ ended.ends.control_end ∷ []) result.ends.items }
+    ensures settled { AreSettled result.core_end result.ends.items }
+    ensures intake { result.intake ≡ intake }
+    ensures rest { (result.doors ≡ ended.ends.doors) × (result.clock ≡ ended.clock)
+        × (result.control ≡ ended.ends.control) × (result.core ≡ ended.core) }
 {
     let Ended {
         ends,
@@ -138,11 +132,9 @@ fn settled_run<D: Drop, C: Drop, I: Drop, K: Drop>(
         control_end,
         control,
     } = ends;
-    let Ok(()) = ends.push(control_end) else {
-        return Err(RunFault::NoMemory);
-    };
+    ends.push_reserved(control_end);
     settle(&intake, &mut core_end, ends.as_mut_slice());
-    Ok(Run {
+    Run {
         doors,
         clock,
         control,
@@ -150,5 +142,5 @@ fn settled_run<D: Drop, C: Drop, I: Drop, K: Drop>(
         intake,
         core_end,
         ends,
-    })
+    }
 }

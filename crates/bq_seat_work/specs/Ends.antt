@@ -17,6 +17,6 @@ EndWent first submitted taken last =
     IsSameSeat first last × (last.submitted ≡ first.submitted ++ submitted) × (last.taken ≡ first.taken ++ taken)
 
 -- The same at a link to the end. Who drops the last one knows the end by it.
-abbrev pub LinkWent : {R S : Type 0} → EndSeat R S → List Step → List Answer → EndSeat R S → Type 0
+abbrev pub LinkWent : {R : Type 0} → EndSeat R → List Step → List Answer → EndSeat R → Type 0
 LinkWent first submitted taken last =
     (last.end.ghost_name ≡ first.end.ghost_name) × (last.intake ≡ first.intake) × EndWent first.end.now submitted taken last.end.now

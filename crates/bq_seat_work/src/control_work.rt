@@ -5,7 +5,7 @@ ghost use Rattle.bq_driver.specs.ControlRead.{IsReadToEnd};
 ghost use Rattle.bq_link.specs.EndStates.{IsSameSeat};
 ghost use Rattle.bq_seat_work.specs.Ends.{IsNewEnd};
 
-use crate::seat_work::{SharedCore, control_at};
+use crate::seat_work::control_at;
 use bq_driver::control_line::ControlLine;
 use bq_driver::control_reader::ControlReader;
 use bq_link::{Intake, NoTicks, SeatEnd};
@@ -13,10 +13,9 @@ use std::sync::Wait;
 
 /// Reads the control line to its end or its fault. A drain is submitted for each of its lines that says so,
 /// and at last that it is gone. The line comes back with what was read of it.
-pub fn control_work<R: Wait, S: SharedCore, I: ControlReader + Drop>(
+pub fn control_work<R: Wait, I: ControlReader + Drop>(
     rt: &R,
     intake: &Intake<NoTicks>,
-    core: &S,
     end: SeatEnd,
     control: I,
 ) -> (SeatEnd, ControlLine<I>)
@@ -34,6 +33,6 @@ pub fn control_work<R: Wait, S: SharedCore, I: ControlReader + Drop>(
 {
     let mut end = end;
     let mut control = ControlLine::new(control);
-    control_at(rt, intake, core, &mut end, &mut control);
+    control_at(rt, intake, &mut end, &mut control);
     (end, control)
 }

@@ -18,16 +18,15 @@ use bq_driver::control::{ControlLink, submit_control};
 use bq_driver::control_line::ControlInput;
 use bq_driver::link::Link;
 use bq_driver::room::Room;
-use bq_job::{Seat, Step};
+use bq_job::{Request, Step};
 use bq_line::Door;
 use bq_line::line::Line;
 use bq_link::{Intake, NoTicks, Record, SeatEnd};
 use bq_seat::{Action, SeatMachine};
 use std::alloc::Global;
-use std::hint::spin_loop;
-use std::mem;
 use std::sync::Wait;
 use std::time::Duration;
+use std::{mem, thread};
 
 /// How long a seat rests whose line has no bytes yet and didn't wait for any, in milliseconds.
 const LINE_REST: u64 = 10;
@@ -37,11 +36,10 @@ const INTAKE_REST: u64 = 1;
 
 /// Serves the lines of a door one after another, until no more come. Steps are submitted at an end of the
 /// links, and their answers taken there.
-pub fn seat_work<R: Wait, S: SharedCore, L: Line + Drop, D: Door<Line = L> + Drop>(
+pub fn seat_work<R: Wait, L: Line + Drop, D: Door<Line = L> + Drop>(
     rt: &R,
     alloc: Global,
     intake: &Intake<NoTicks>,
-    core: &S,
     end: SeatEnd,
     machine: SeatMachine,
     door: D,
@@ -73,7 +71,6 @@ pub fn seat_work<R: Wait, S: SharedCore, L: Line + Drop, D: Door<Line = L> + Dro
             rt,
             alloc,
             intake,
-            core,
             &mut end,
             &mut attendant,
             &mut door,
@@ -91,8 +88,8 @@ pub fn seat_work<R: Wait, S: SharedCore, L: Line + Drop, D: Door<Line = L> + Dro
     unreachable!()
 }
 
-// For how many milliseconds a seat pauses before it goes on where nothing moved. A look at its mail has rested by itself,
-// or will, which its pace tells; where it doesn't, the intake was full.
+// For how many milliseconds a seat sleeps before it goes on if nothing moved: not at all if its next look at its mail
+// sleeps by itself, as its pace says. Else its line had no bytes yet, or the intake was full.
 fn pause_after(awaits_line: bool, pace: Pace) -> u64 {
     if awaits_line {
         LINE_REST
@@ -111,90 +108,102 @@ fn pause<R: Wait>(rt: &R, intake: &Intake<NoTicks>, end: &mut SeatEnd, most: u64
     }
 }
 
-/// The core as the threads of the ends see it, which share it: whoever has submitted a step does its work.
-pub trait SharedCore {
-    /// Takes the steps that wait, whoever submitted them, and sends their answers. Where another thread does so just now
-    /// it doesn't wait: that one takes these steps too. It is called for an end, whose bell isn't rung: that looks at its
-    /// mail next.
-    ///
-    /// Says whether this thread took them. Where it didn't, the answer comes soon.
-    fn help<R: Wait>(&self, rt: &R, own: Seat) -> bool;
-
-    /// Watches the clock until no end has more to submit: what is due happens, whether anybody submits a step or not.
-    fn watch<R: Wait>(&self, rt: &R);
-}
-
-/// How long an end rests first whose answer hasn't come, in milliseconds. Then the line of a seat whose reserve waits
-/// is read again: a client that has gone is noticed.
+/// How long a seat sleeps first while its answer hasn't come, in milliseconds. Then the line of a seat whose reserve waits
+/// is read again, to notice a client that has gone.
 const FIRST_REST: u64 = 100;
 
-/// How long it rests at most, in milliseconds. Each rest is twice as long as the one before, since a client that has
+/// How long it sleeps at most, in milliseconds. Each sleep is twice as long as the one before, since a client that has
 /// waited for long is seldom gone, and many may wait.
 const LONGEST_REST: u64 = 1_000;
 
-/// How often an end looks for an answer before it rests, where another thread takes its step just now. That takes a few
-/// microseconds, and a rest would take longer to begin and to end.
-const LOOKS: u32 = 100;
+/// How often a seat looks for the answer to a step before it sleeps, if the answer before came while it looked. Between
+/// two looks it lets other threads run. If the core's thread is awake it answers within a few microseconds, and to fall
+/// asleep and be woken takes longer.
+const LOOKS: u32 = 8;
 
-/// How an end looks for its next answer.
+/// How often it looks if it had to sleep for the answer before: the core's thread then sleeps between two commands, and
+/// it takes longer to wake it.
+const FEW_LOOKS: u32 = 2;
+
+/// How a seat looks for its next answer.
 #[derive(Clone, Copy)]
 pub struct Pace {
-    // For how many milliseconds it rests before it looks: not at all once a step was submitted. Where the answer isn't
-    // there then, that is told at once, so that what the line holds back can go out first.
+    // For how many milliseconds it sleeps before it looks: not at all once a step was submitted.
     rest: u64,
     // How often it looks.
     looks: u32,
+    // Whether it sleeps once more if it found nothing. After a reserve, whose answer may take long, it doesn't: the
+    // miss is reported at once, so that what the line holds back can go out first.
+    sleeps: bool,
+    // Whether the last answer came while it looked.
+    is_prompt: bool,
 }
 
 impl Pace {
     /// No step was submitted yet.
     pub fn new() -> Pace {
-        Pace { rest: 0, looks: 1 }
-    }
-
-    // A step was submitted, and this thread took it or another does.
-    fn after_step(is_taken: bool) -> Pace {
         Pace {
             rest: 0,
-            looks: if is_taken { 1 } else { LOOKS },
+            looks: 1,
+            sleeps: false,
+            is_prompt: false,
         }
     }
 
-    // It found no answer.
+    // This step was submitted.
+    fn after(self, step: &Step) -> Pace {
+        Pace {
+            rest: 0,
+            looks: if self.is_prompt { LOOKS } else { FEW_LOOKS },
+            sleeps: !may_wait(step),
+            is_prompt: self.is_prompt,
+        }
+    }
+
+    // It has looked, and found no answer unless that is noted.
     fn after_look(self) -> Pace {
         Pace {
             rest: self.rest.saturating_mul(2).clamp(FIRST_REST, LONGEST_REST),
             looks: 1,
+            sleeps: false,
+            is_prompt: false,
         }
     }
 
-    /// Whether it rests before it looks.
+    /// Whether it sleeps before it looks.
     pub fn rests(self) -> bool {
         self.rest > 0
     }
 }
 
-/// The end of a seat, or of the control line, with the intake into which it submits, and the core that takes its steps.
+// Whether the answer to a step may take long.
+fn may_wait(step: &Step) -> bool {
+    matches!(
+        step,
+        Step::Ask(Request::Reserve) | Step::Ask(Request::ReserveWithTimeout { .. })
+    )
+}
+
+/// The end of a seat, or of the control line, with the intake into which it submits.
 #[derive(Drop)]
-pub struct EndSeat<'a, R, S> {
+pub struct EndSeat<'a, R> {
     rt: &'a R,
     intake: &'a Intake<NoTicks>,
-    core: &'a S,
     end: &'a mut SeatEnd,
     pace: Pace,
 }
 
-impl<'a, R: Wait, S: SharedCore> Link for EndSeat<'a, R, S> {
+impl<'a, R: Wait> Link for EndSeat<'a, R> {
     ghost is_ready = { λ l. l.end.now.intake ≡ l.intake.now.id };
 
     ghost went = { LinkWent };
 
     fn submit(&mut self, step: &mut Step) -> bool {
-        let is_submitted = submit_at(self.rt, self.intake, self.end, step);
-        self.pace = Pace::after_step(self.core.help(self.rt, self.end.number()));
-        is_submitted
+        self.pace = self.pace.after(step);
+        submit_at(self.rt, self.intake, self.end, step)
     }
 
+    // It may sleep for up to a second, and wakes when an answer comes.
     fn mail(&mut self, place: &mut Action) -> bool
         requires ready { self.old.end.now.intake ≡ self.old.intake.now.id }
         ensures ready { self.new.end.now.intake ≡ self.new.intake.now.id }
@@ -202,21 +211,21 @@ impl<'a, R: Wait, S: SharedCore> Link for EndSeat<'a, R, S> {
         // There is none only where none was known to wait.
         ensures none { result ≡ false → self.old.end.now.waiting ≡ [] }
     {
-        let pace = self.pace;
-        self.pace = pace.after_look();
-        mail_at(self.rt, self.intake, self.end, pace, place)
+        mail_at(self.rt, self.intake, self.end, &mut self.pace, place)
     }
 }
 
-impl<'a, R: Wait, S: SharedCore> ControlLink for EndSeat<'a, R, S> {
+impl<'a, R: Wait> ControlLink for EndSeat<'a, R> {
     ghost is_ready = { λ l. l.end.now.intake ≡ l.intake.now.id };
 
     ghost went = { λ first submitted last. LinkWent first submitted [] last };
 
     fn submit(&mut self, mut step: Step) -> Result<(), Step> {
-        let is_submitted = submit_at(self.rt, self.intake, self.end, &mut step);
-        let _taken = self.core.help(self.rt, self.end.number());
-        if is_submitted { Ok(()) } else { Err(step) }
+        if submit_at(self.rt, self.intake, self.end, &mut step) {
+            Ok(())
+        } else {
+            Err(step)
+        }
     }
 }
 
@@ -250,25 +259,50 @@ fn submit_at<R: Wait, J: Record>(
     }
 }
 
-// Takes the oldest answer that came to an end, to be written. The end may rest first, until its bell is rung or so many
-// milliseconds have passed.
+// Takes the oldest answer that came to an end, to be written. The end sleeps as its pace says, until it is woken or the
+// time has passed.
 fn mail_at<R: Wait>(
     rt: &R,
     intake: &Intake<NoTicks>,
     end: &mut SeatEnd,
-    pace: Pace,
+    pace: &mut Pace,
     place: &mut Action,
 ) -> bool
     ensures went { TakesInPlace EndWent end.old place.old result place.new end.new }
     ensures none { result ≡ false → (end.old.waiting ≡ []) × (end.new ≡ end.old) }
 {
-    if pace.rests() {
-        end.wait(rt, intake, Duration::from_millis(pace.rest));
+    let now = *pace;
+    *pace = now.after_look();
+    pause(rt, intake, end, now.rest);
+    if look_often(end, now.looks, place) {
+        pace.is_prompt = !now.rests();
+        return true;
     }
-    look_often(end, pace.looks, place)
+    if now.rests() {
+        return false;
+    }
+    look_again(rt, intake, end, now.sleeps, place)
 }
 
-// Looks so often at what came to an end, and once at least.
+// Looks once more after a sleep, or at once. A wake-up that is left of an answer that was found without a sleep would end
+// the next sleep as it begins: a sleep of no length takes it.
+fn look_again<R: Wait>(
+    rt: &R,
+    intake: &Intake<NoTicks>,
+    end: &mut SeatEnd,
+    sleeps: bool,
+    place: &mut Action,
+) -> bool
+    ensures went { TakesInPlace EndWent end.old place.old result place.new end.new }
+    ensures none { result ≡ false
+        → (end.old.waiting ≡ []) × (end.new ≡ end.old) × (place.new ≡ place.old) }
+{
+    let most = if sleeps { FIRST_REST } else { 0 };
+    end.wait(rt, intake, Duration::from_millis(most));
+    look(end, place)
+}
+
+// Looks so often at what came to an end, and once at least. Between two looks other threads run.
 fn look_often(end: &mut SeatEnd, looks: u32, place: &mut Action) -> bool
     ensures went { TakesInPlace EndWent end.old place.old result place.new end.new }
     ensures none { result ≡ false
@@ -278,7 +312,7 @@ fn look_often(end: &mut SeatEnd, looks: u32, place: &mut Action) -> bool
         if look(end, place) {
             return true;
         }
-        spin_loop();
+        thread::yield_now();
     }
     look(end, place)
 }
@@ -298,11 +332,10 @@ fn look(end: &mut SeatEnd, place: &mut Action) -> bool
 
 /// One action of a seat that attends to a door, by its end of the links. Says whether something moved. The pace goes from
 /// one action to the next.
-pub fn attend_at<R: Wait, S: SharedCore, L: Line + Drop, D: Door<Line = L>>(
+pub fn attend_at<R: Wait, L: Line + Drop, D: Door<Line = L>>(
     rt: &R,
     alloc: Global,
     intake: &Intake<NoTicks>,
-    core: &S,
     end: &mut SeatEnd,
     attendant: &mut Attendant<L>,
     door: &mut D,
@@ -320,7 +353,6 @@ pub fn attend_at<R: Wait, S: SharedCore, L: Line + Drop, D: Door<Line = L>>(
     let mut link = EndSeat {
         rt,
         intake,
-        core,
         end,
         pace: *pace,
     };
@@ -330,10 +362,9 @@ pub fn attend_at<R: Wait, S: SharedCore, L: Line + Drop, D: Door<Line = L>>(
 }
 
 /// Serves the control line by its end of the links.
-pub fn control_at<R: Wait, S: SharedCore, I: ControlInput>(
+pub fn control_at<R: Wait, I: ControlInput>(
     rt: &R,
     intake: &Intake<NoTicks>,
-    core: &S,
     end: &mut SeatEnd,
     control: &mut I,
 )
@@ -350,9 +381,8 @@ pub fn control_at<R: Wait, S: SharedCore, I: ControlInput>(
     let mut link = EndSeat {
         rt,
         intake,
-        core,
         end,
-        pace: Pace { rest: 0, looks: 1 },
+        pace: Pace::new(),
     };
     submit_control(rt, control, &mut link);
 }

@@ -21,8 +21,8 @@ use std::thread::Threads;
 pub type Run<D, C, I> = bq_run::Run<D, C, I, Core>;
 
 /// Serves the lines of all doors, each at a seat and in a thread of its own, until no more lines come at any
-/// of them. Whichever thread has submitted a step does the core's work, and one more watches its clock. The
-/// calling thread reads the control line, of which each line `drain` begins draining.
+/// of them. One more thread has the core and its clock. The calling thread reads the control line, of which each
+/// line `drain` begins draining.
 ///
 /// The fault is `BadConfiguration` where the configuration is out of its ranges or there isn't a door for
 /// each seat, and else `NoMemory` where a growth of memory was refused, or `ThreadRefused` where a thread was.

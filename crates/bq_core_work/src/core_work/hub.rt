@@ -4,19 +4,28 @@ ghost use Rattle.std.specs.Prelude.{◌≡◌, ◌⊎◌, ◌↔◌, ◌<◌, �
 ghost use Rattle.bq_job.specs.beside.NextDue.{is_before, next_due};
 ghost use Rattle.bq_job.specs.promise.History.{moment_heard};
 ghost use Rattle.bq_core_work.specs.Flags.{AreAllSet};
+ghost use Rattle.bq_core_work.specs.Rests.{longest_rest};
 ghost use Rattle.bq_core_work.specs.Told.{after_put, after_refusal, concern_of, told_after};
 
-use crate::core_work::{Answered, CoreRoom, HOUR, Sender, rest_until};
+use crate::core_work::{CoreRoom, Sender};
 use bq_job::{Moment, Refusal, Request, Seat, Step};
 use bq_line::clock::{Clock, Notice, moment_heard};
 use bq_link::{CoreEnd, Intake, NoTicks, Record};
 use bq_steps::{Outs, QueueCore};
 use std::alloc::Global;
 use std::sync::Wait;
+use std::thread;
 use std::time::Duration;
 
-/// How many steps and ticks one who holds the lock makes at most, so that nobody waits for it for long.
-const MOST: u32 = 64;
+/// How often it looks for a next step before it sleeps. A client whose answer it sent just now mostly asks again at once,
+/// and to fall asleep and be woken takes longer than a look.
+const LOOKS: u32 = 1;
+
+/// How long it sleeps at most, in milliseconds.
+const HOUR: u64 = 3_600_000;
+
+/// How long it sleeps while a ring is full, in milliseconds.
+const RING_REST: u64 = 1;
 
 /// The core with its clock, its end of the links, and what isn't sent yet.
 #[derive(Drop)]
@@ -100,8 +109,7 @@ impl<C: Clock + Drop, K: QueueCore + Drop> Hub<C, K> {
         }
     }
 
-    /// One turn: answers are sent, and a step is taken, or the thread rests where there is none. Whether all is
-    /// done.
+    /// One turn: answers are sent, and a step is taken, or the thread waits for one. Whether all is done.
     pub fn turn<R: Wait>(&mut self, rt: &R, intake: &Intake<NoTicks>) -> bool
         requires intake { self.old.sender.end.intake ≡ intake.now.id }
         requires order { IsInOrder K.machine self.old }
@@ -110,9 +118,7 @@ impl<C: Clock + Drop, K: QueueCore + Drop> Hub<C, K> {
         ensures stuck { AreStuck self.new.sender.end self.new.sender.kept.items }
         ensures turned { result ≡ false → TurnWent K.machine self.old self.new }
     {
-        let mut answered = Answered::none();
-        let has_room = self.send_all(intake, &mut answered);
-        answered.ring(intake, None);
+        let has_room = self.send_all(intake);
         if !has_room {
             self.rest(rt, intake);
             return false;
@@ -121,76 +127,13 @@ impl<C: Clock + Drop, K: QueueCore + Drop> Hub<C, K> {
             return true;
         }
         if !self.go_on(rt, intake) {
-            self.rest(rt, intake);
+            self.await_step(rt, intake);
         }
         false
     }
 
-    /// Takes the steps that wait, up to some number, makes the ticks that are due, and sends their answers. It never
-    /// rests, so that it can be done under a lock; and the ends that it answered are noted, so that their bells can be
-    /// rung after it.
-    ///
-    /// Says whether steps may be left that wait.
-    #[tactic(auto, using(crate::proofs::TurnLemmas::on_still, crate::proofs::TurnLemmas::on_both))]
-    pub fn help<R: Wait>(
-        &mut self,
-        rt: &R,
-        intake: &Intake<NoTicks>,
-        answered: &mut Answered,
-    ) -> bool
-        requires intake { self.old.sender.end.intake ≡ intake.now.id }
-        requires order { IsInOrder K.machine self.old }
-        ensures on { WorksOn C.given K.machine K.comparisons self.old self.new }
-    {
-        for _ in 0..MOST {
-            if !self.work_once(rt, intake, answered) {
-                return false;
-            }
-        }
-        self.send_all(intake, answered);
-        true
-    }
-
-    // A turn without a rest. Whether there may be more to do at once.
-    #[tactic(auto, using(crate::proofs::TurnLemmas::on_both))]
-    fn work_once<R: Wait>(
-        &mut self,
-        rt: &R,
-        intake: &Intake<NoTicks>,
-        answered: &mut Answered,
-    ) -> bool
-        requires intake { self.old.sender.end.intake ≡ intake.now.id }
-        requires order { IsInOrder K.machine self.old }
-        ensures on { WorksOn C.given K.machine K.comparisons self.old self.new }
-    {
-        if !self.send_all(intake, answered) || self.gone.all {
-            return false;
-        }
-        self.go_on(rt, intake)
-    }
-
-    /// Whether no end has more to submit, and each was sent all.
-    pub fn is_done(&self) -> bool
-        ensures { result ≡ true → (self.now.gone.all ≡ true) × (self.now.sender.kept.items ≡ []) }
-    {
-        self.gone.all && self.sender.kept.is_empty()
-    }
-
-    /// The moment at which somebody has to look again, whether a step comes or not: when something is due, or at once
-    /// where all is done. Where answers wait for full rings it is the next millisecond, since an end doesn't tell when
-    /// it takes an answer.
-    pub fn next_look(&self) -> Option<Moment> {
-        if self.is_done() {
-            Some(0)
-        } else if self.sender.kept.is_empty() {
-            self.due
-        } else {
-            Some(self.heard.saturating_add(1))
-        }
-    }
-
     // Sends what is pending, as far as rings and places reach. Whether the next step's answers have room.
-    fn send_all(&mut self, intake: &Intake<NoTicks>, answered: &mut Answered) -> bool
+    fn send_all(&mut self, intake: &Intake<NoTicks>) -> bool
         requires order { IsInOrder K.machine self.old }
         ensures on { WorksOn C.given K.machine K.comparisons self.old self.new }
         ensures stuck { AreStuck self.new.sender.end self.new.sender.kept.items }
@@ -200,7 +143,7 @@ impl<C: Clock + Drop, K: QueueCore + Drop> Hub<C, K> {
         ensures rest { self.new
             ≡ record self.old { sender = self.new.sender; outs = self.new.outs } }
     {
-        self.sender.send_all(intake, &mut self.outs, answered)
+        self.sender.send_all(intake, &mut self.outs)
     }
 
     // Whether every end is gone and has been sent all that it was given.
@@ -367,14 +310,41 @@ impl<C: Clock + Drop, K: QueueCore + Drop> Hub<C, K> {
         reading
     }
 
-    // Rests until a step comes or something is due.
+    // Waits until a step comes or something is due: it looks a few times, and sleeps if it found none. Between two
+    // looks other threads run.
+    fn await_step<R: Wait>(&mut self, rt: &R, intake: &Intake<NoTicks>)
+        requires intake { self.old.sender.end.intake ≡ intake.now.id }
+        ensures { self.new ≡ self.old }
+    {
+        for _ in 0..LOOKS {
+            thread::yield_now();
+            if !self.sender.has_none(intake) {
+                return;
+            }
+        }
+        self.rest(rt, intake);
+    }
+
+    // Sleeps until a step comes, or it has to look again.
     fn rest<R: Wait>(&mut self, rt: &R, intake: &Intake<NoTicks>)
         ensures { self.new ≡ self.old }
     {
-        let rest = rest_until(HOUR, self.next_look(), self.heard);
-        self.sender
-            .end
-            .wait(rt, intake, Duration::from_millis(rest));
+        let rest = Duration::from_millis(self.longest_rest());
+        self.sender.end.wait(rt, intake, rest);
+    }
+
+    // For how many milliseconds it may sleep: until something is due. While answers wait for full rings it is one, since
+    // an end doesn't tell when it takes an answer.
+    fn longest_rest(&self) -> u64
+        ensures { result ≡ longest_rest self.now.sender.kept.items self.now.due self.now.heard }
+    {
+        if !self.sender.kept.is_empty() {
+            return RING_REST;
+        }
+        match self.due {
+            None => HOUR,
+            Some(due) => due.saturating_sub(self.heard).min(HOUR),
+        }
     }
 
     /// The end, the core and the clock.

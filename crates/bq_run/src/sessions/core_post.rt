@@ -1,17 +1,18 @@
-//! The core with its end of the links and the clock.
-ghost use Rattle.std.specs.Prelude.{◌≡◌, ◌<◌, ◌+◌, ◌↔◌, [], Some, IfOk, IsErrOf, IsTrue, not};
+//! The core with its end of the links and the clock, which a thread of its own serves.
+ghost use Rattle.std.specs.Prelude.{◌≡◌, ◌<◌, ◌+◌, ◌↔◌, [], IfOk, IfSome, IsErrOf, IsTrue, not};
 ghost use Rattle.bq_job.specs.machine.Machine.{new_machine};
 ghost use Rattle.bq_steps.specs.Limits.{are_in_range};
 ghost use Rattle.bq_link.specs.NewEnds.{IsNewCore};
 ghost use Rattle.bq_core_work.specs.CoreWork.{IsNewRoom};
+ghost use Rattle.bq_run.specs.Threads.{IsCoreOver};
 
-use crate::sessions::locked_core::LockedCore;
-use bq_core_work::core_work::{CoreRoom, Hub, Origin, SharedHub};
+use bq_core_work::core_work::{CoreRoom, core_work};
 use bq_line::clock::Clock;
 use bq_link::{CoreEnd, Intake, NoTicks};
-use bq_run_start::RunFault;
+use bq_run_start::{RunFault, Start};
 use bq_steps::{Config, CoreFault, Outs, QueueCore};
 use std::alloc::Global;
+use std::sync::Wait;
 
 /// A core at which nothing was done, and what its work needs beside it.
 #[derive(Drop)]
@@ -68,9 +69,11 @@ pub struct CorePost<'a, C, K: QueueCore> {
 }
 
 impl<'a, C: Clock + Drop, K: QueueCore + Drop> CorePost<'a, C, K> {
-    /// The core under a lock, with nothing done yet.
-    pub fn locked<O: Origin<C>>(self) -> LockedCore<'a, C, K, O>
-        requires start { O.start ≡ Some (self.clock, (self.new_core.config, self.end)) }
+    /// Serves all ends until no steps come from any, and gives back the end, the core and the clock. Where some
+    /// thread was not started there is nothing.
+    pub fn serve<R: Wait>(self, rt: &R, start: &Start) -> Option<(CoreEnd, K, C)>
+        ensures { IfSome result
+            (λ r. IsCoreOver C.given self.entry.new_core.config self.entry.end self.entry.clock r.0 (K.machine r.1) (K.comparisons r.1) r.2) }
     {
         let CorePost {
             alloc,
@@ -85,7 +88,10 @@ impl<'a, C: Clock + Drop, K: QueueCore + Drop> CorePost<'a, C, K> {
             outs,
             room,
         } = new_core;
-        let hub = Hub::new(alloc, end, core, outs, room, clock);
-        LockedCore::new(SharedHub::new(hub, intake), intake)
+        if start.wait(rt) {
+            Some(core_work(rt, alloc, intake, end, core, outs, room, clock))
+        } else {
+            None
+        }
     }
 }

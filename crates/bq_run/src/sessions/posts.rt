@@ -1,5 +1,5 @@
 //! What the threads of a run begin with, and what they give back.
-ghost use Rattle.std.specs.Prelude.{◌≡◌};
+ghost use Rattle.std.specs.Prelude.{◌≡◌, ◌<◌, vec_capacity, vec_len};
 ghost use Rattle.std.specs.List.{All};
 ghost use Rattle.bq_seat_work.specs.Ends.{IsNewEnd};
 
@@ -36,13 +36,15 @@ pub struct EndPosts<'a, D: Door> {
     ghost limits: { All (λ post. post.max_job_size ≡ max_job_size) seats.items },
 }
 
-/// What the threads of the ends gave back. The ends and the doors stand in the order of their seats.
+/// What the threads of the ends gave back. The ends and the doors stand in the order of their seats, and there is room
+/// for one more end.
 #[derive(Drop)]
 pub struct EndedEnds<D, I> {
     pub ends: Vec<SeatEnd, Global>,
     pub doors: Vec<D, Global>,
     pub control_end: SeatEnd,
     pub control: ControlLine<I>,
+    ghost room: { vec_len ends < vec_capacity ends },
 }
 
 /// What the threads of a run gave back.

@@ -13,7 +13,7 @@ use bq_line::line::Line;
 use bq_link::{Intake, NoTicks, SeatEnd};
 use bq_run_start::Start;
 use bq_seat::SeatMachine;
-use bq_seat_work::seat_work::{SharedCore, seat_work};
+use bq_seat_work::seat_work::seat_work;
 use std::alloc::Global;
 use std::sync::Wait;
 
@@ -63,12 +63,7 @@ impl<'a, L: Line + Drop, D: Door<Line = L> + Drop> SeatPost<'a, D> {
 
     /// Serves the door to its end, and gives it back with the end. Where some thread was not started there is
     /// nothing: the door was not opened.
-    pub fn serve<R: Wait, S: SharedCore>(
-        self,
-        rt: &R,
-        core: &S,
-        start: &Start,
-    ) -> Option<(SeatEnd, D)>
+    pub fn serve<R: Wait>(self, rt: &R, start: &Start) -> Option<(SeatEnd, D)>
         ensures served { let at = door_seen D.is_out D.is_at_end D.lines_over in
             IfSome result (λ r. IsSameSeat self.entry.end r.0 × IsDoorServed self.entry.max_job_size (at r.1) r.0.submitted r.0.taken) }
         ensures same { IfSome result (λ r. D.same self.entry.door r.1) }
@@ -82,7 +77,7 @@ impl<'a, L: Line + Drop, D: Door<Line = L> + Drop> SeatPost<'a, D> {
             max_job_size: _,
         } = self;
         if start.wait(rt) {
-            Some(seat_work(rt, alloc, intake, core, end, machine, door))
+            Some(seat_work(rt, alloc, intake, end, machine, door))
         } else {
             None
         }

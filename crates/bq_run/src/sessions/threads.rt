@@ -1,24 +1,22 @@
 //! The threads of a run: they start together or not at all, and give back what they served.
-ghost use Rattle.std.specs.Prelude.{◌≡◌, [], Some, IfOk, IfSome, IsErrOf, IsTrue, map, reverse, vec_len};
+ghost use Rattle.std.specs.Prelude.{◌≡◌, ◌<◌, ◌≤◌, [], IfOk, IfSome, IsErrOf, IsTrue, map, reverse, vec_capacity, vec_len};
 ghost use Rattle.std.specs.List.{All};
 ghost use Rattle.bq_driver.specs.Tending.{AreSame, IsDoorServed, door_seen};
 ghost use Rattle.bq_link.specs.EndStates.{IsSameSeat};
 ghost use Rattle.bq_run.specs.Threads.{AreOver, AreServed, IsControlOver, IsCoreOver};
 
-use crate::sessions::locked_core::LockedCore;
+use crate::sessions::core_post::CorePost;
 use crate::sessions::posts::{ControlPost, EndPosts, Ended, EndedEnds, Posts};
 use crate::sessions::seat_post::SeatPost;
-use bq_core_work::core_work::Origin;
 use bq_driver::control_line::ControlLine;
 use bq_driver::control_reader::ControlReader;
 use bq_line::Door;
 use bq_line::clock::Clock;
 use bq_line::line::Line;
-use bq_link::SeatEnd;
+use bq_link::{CoreEnd, SeatEnd};
 use bq_run_start::{RunFault, Start};
 use bq_seat_work::control_work::control_work;
-use bq_seat_work::seat_work::SharedCore;
-use bq_steps::QueueCore;
+use bq_steps::{Config, QueueCore};
 use std::alloc::{AllocError, Global};
 use std::snapshot::Snapshot;
 use std::sync::Wait;
@@ -39,14 +37,29 @@ impl<D: Door> Promise<Option<(SeatEnd, D)>> for SeatPromise<D> {
         × IfSome result (λ r. D.same p.door.value r.1) };
 }
 
+// What the core did, where its thread began.
+#[derive(Drop)]
+struct CorePromise<C> {
+    end: Snapshot<CoreEnd>,
+    clock: Snapshot<C>,
+    settings: Config,
+}
+
+impl<C: Clock, K: QueueCore> Promise<Option<(CoreEnd, K, C)>> for CorePromise<C> {
+    ghost kept_by = { λ p result. IfSome result
+        (λ r. IsCoreOver C.given p.settings p.end.value p.clock.value r.0 (K.machine r.1) (K.comparisons r.1) r.2) };
+}
+
 // The threads of the seats, with what each will give back.
 type SeatThreads<D> = Vec<PromisedHandle<Option<(SeatEnd, D)>, SeatPromise<D>>, Global>;
 
+// The core's, with what it will give back.
+type CoreThread<C, K> = PromisedHandle<Option<(CoreEnd, K, C)>, CorePromise<C>>;
+
 type Rooms<D> = (SeatThreads<D>, Vec<SeatEnd, Global>, Vec<D, Global>);
 
-/// Serves all posts, those of the seats each in a thread of its own, and the control line in this one. The core lies
-/// under a lock, and whoever has submitted a step does its work; one more thread watches its clock. The threads begin
-/// once all of them were started.
+/// Serves all posts, those of the seats and the core each in a thread of its own, and the control line in this one. The
+/// threads begin once all of them were started.
 pub fn serve_in_scope<
     R: Threads + Wait + Sync,
     L: Line + Drop + Send,
@@ -54,7 +67,6 @@ pub fn serve_in_scope<
     C: Clock + Drop + Send,
     I: ControlReader + Drop,
     K: QueueCore + Drop + Send,
-    O: Origin<C> + Send,
 >(
     rt: &R,
     alloc: Global,
@@ -62,8 +74,51 @@ pub fn serve_in_scope<
     start: &Start,
     control: I,
 ) -> Result<Ended<D, C, I, K>, RunFault>
-    requires start { O.start
-        ≡ Some (posts.core.clock, (posts.core.new_core.config, posts.core.end)) }
+    ensures fault { IsErrOf result RunFault.BadConfiguration → ⊥ }
+    ensures over { let at = door_seen D.is_out D.is_at_end D.lines_over in
+        let ends = posts.entry.ends in
+        let over = AreOver at D.same I.remaining I.may_fail ends.max_job_size (map (λ p. p.end) ends.seats.items)
+        (map (λ p. p.door) ends.seats.items) ends.control.end control in
+        IfOk result (λ r. over r.ends) }
+    ensures core { let core = posts.entry.core in
+        IfOk result (λ r. IsCoreOver C.given core.new_core.config core.end core.clock r.core_end (K.machine r.core) (K.comparisons r.core)
+        r.clock) }
+{
+    thread::scope(
+        thread::scope_env(),
+        rt,
+        move |scope| -> Result<Ended<D, C, I, K>, RunFault>
+            ensures fault { IsErrOf result RunFault.BadConfiguration → ⊥ }
+            ensures over { let at = door_seen D.is_out D.is_at_end D.lines_over in
+                let ends = posts.entry.ends in
+                let over = AreOver at D.same I.remaining I.may_fail ends.max_job_size (map (λ p. p.end) ends.seats.items)
+                (map (λ p. p.door) ends.seats.items) ends.control.end control in
+                IfOk result (λ r. over r.ends) }
+            ensures core { let core = posts.entry.core in
+                IfOk result (λ r. IsCoreOver C.given core.new_core.config core.end core.clock r.core_end (K.machine r.core)
+                (K.comparisons r.core) r.clock) }
+        { serve_all(scope, rt, alloc, posts, start, control) },
+    )
+}
+
+// The same, in the scope of the threads.
+fn serve_all<
+    's,
+    E,
+    R: Threads + Wait + Sync,
+    L: Line + Drop + Send + 's,
+    D: Door<Line = L> + Drop + Send + 's,
+    C: Clock + Drop + Send + 's,
+    I: ControlReader + Drop,
+    K: QueueCore + Drop + Send + 's,
+>(
+    scope: &'s Scope<'s, E>,
+    rt: &'s R,
+    alloc: Global,
+    posts: Posts<'s, D, C, K>,
+    start: &'s Start,
+    control: I,
+) -> Result<Ended<D, C, I, K>, RunFault>
     ensures fault { IsErrOf result RunFault.BadConfiguration → ⊥ }
     ensures over { let at = door_seen D.is_out D.is_at_end D.lines_over in
         let ends = posts.entry.ends in
@@ -75,12 +130,19 @@ pub fn serve_in_scope<
         r.clock) }
 {
     let Posts { ends, core } = posts;
-    let core: LockedCore<'_, C, K, O> = core.locked();
-    let ends = match serve_ends(rt, alloc, ends, &core, start, control) {
+    let Ok(rooms) = new_rooms(alloc, ends.seats.len()) else {
+        return Err(RunFault::NoMemory);
+    };
+    let Some(thread) = start_core(scope, rt, core, start) else {
+        return Err(RunFault::ThreadRefused);
+    };
+    let ends = match serve_ends(scope, rt, ends, rooms, start, control) {
         Ok(ends) => ends,
         Err(fault) => return Err(fault),
     };
-    let (core_end, core, clock) = core.run_out(rt);
+    let Some((core_end, core, clock)) = thread.join(rt) else {
+        return Err(RunFault::ThreadRefused);
+    };
     Ok(Ended {
         ends,
         core_end,
@@ -89,58 +151,52 @@ pub fn serve_in_scope<
     })
 }
 
-// Serves the posts of all ends, around a core that they share.
-fn serve_ends<
+// A thread for the core, if it could be started.
+fn start_core<
+    's,
+    E,
     R: Threads + Wait + Sync,
-    L: Line + Drop + Send,
-    D: Door<Line = L> + Drop + Send,
-    S: SharedCore + Sync,
-    I: ControlReader + Drop,
+    C: Clock + Drop + Send + 's,
+    K: QueueCore + Drop + Send + 's,
 >(
-    rt: &R,
-    alloc: Global,
-    posts: EndPosts<'_, D>,
-    core: &S,
-    start: &Start,
-    control: I,
-) -> Result<EndedEnds<D, I>, RunFault>
-    ensures fault { IsErrOf result RunFault.BadConfiguration → ⊥ }
-    ensures over { let at = door_seen D.is_out D.is_at_end D.lines_over in
-        let seats = posts.entry.seats.items in
-        IfOk result (AreOver at D.same I.remaining I.may_fail posts.entry.max_job_size (map (λ p. p.end) seats) (map (λ p. p.door) seats)
-        posts.entry.control.end control) }
+    scope: &'s Scope<'s, E>,
+    rt: &'s R,
+    post: CorePost<'s, C, K>,
+    start: &'s Start,
+) -> Option<CoreThread<C, K>>
+    ensures settings { IfSome result (λ t. t.promise.settings ≡ post.entry.new_core.config) }
+    ensures end { IfSome result (λ t. t.promise.end.value ≡ post.entry.end) }
+    ensures clock { IfSome result (λ t. t.promise.clock.value ≡ post.entry.clock) }
 {
-    thread::scope(
-        thread::scope_env(),
-        rt,
-        move |scope| -> Result<EndedEnds<D, I>, RunFault>
-            ensures fault { IsErrOf result RunFault.BadConfiguration → ⊥ }
-            ensures over { let at = door_seen D.is_out D.is_at_end D.lines_over in
-                let seats = posts.entry.seats.items in
-                IfOk result (AreOver at D.same I.remaining I.may_fail posts.entry.max_job_size (map (λ p. p.end) seats)
-                (map (λ p. p.door) seats) posts.entry.control.end control) }
-        { serve_all(scope, rt, alloc, posts, core, start, control) },
-    )
+    let promise = CorePromise {
+        end: Snapshot::of(&post.end),
+        clock: Snapshot::of(&post.clock),
+        settings: post.new_core.config,
+    };
+    scope
+        .spawn_with(promise, move || post.serve(rt, start))
+        .ok()
 }
 
-// The same, in the scope of the threads.
-fn serve_all<
+// Serves the posts of all ends, beside the thread of the core.
+fn serve_ends<
     's,
     E,
     R: Threads + Wait + Sync,
     L: Line + Drop + Send + 's,
     D: Door<Line = L> + Drop + Send + 's,
-    S: SharedCore + Sync,
     I: ControlReader + Drop,
 >(
     scope: &'s Scope<'s, E>,
     rt: &'s R,
-    alloc: Global,
     posts: EndPosts<'s, D>,
-    core: &'s S,
+    rooms: Rooms<D>,
     start: &'s Start,
     control: I,
 ) -> Result<EndedEnds<D, I>, RunFault>
+    requires threads { vec_len rooms.0 ≡ 0 }
+    requires ends { (rooms.1.items ≡ []) × (vec_len posts.seats < vec_capacity rooms.1) }
+    requires doors { (rooms.2.items ≡ []) × (vec_len posts.seats ≤ vec_capacity rooms.2) }
     ensures fault { IsErrOf result RunFault.BadConfiguration → ⊥ }
     ensures over { let at = door_seen D.is_out D.is_at_end D.lines_over in
         let seats = posts.entry.seats.items in
@@ -152,21 +208,15 @@ fn serve_all<
         control: control_post,
         max_job_size,
     } = posts;
-    let Ok((mut threads, ends, doors)) = new_rooms(alloc, seats.len()) else {
-        return Err(RunFault::NoMemory);
-    };
-    let Ok(watcher) = scope.spawn(move || watch(rt, core, start)) else {
-        return Err(RunFault::ThreadRefused);
-    };
-    let all_started = start_seats(scope, rt, seats, core, start, max_job_size, &mut threads);
+    let (mut threads, ends, doors) = rooms;
+    let all_started = start_seats(scope, rt, seats, start, max_job_size, &mut threads);
     start.tell(rt, all_started);
     if !all_started {
         // The scope waits for those that were.
         return Err(RunFault::ThreadRefused);
     }
-    let (control_end, control) = serve_control(rt, control_post, core, control);
+    let (control_end, control) = serve_control(rt, control_post, control);
     let (ends, doors) = join_seats(rt, threads, ends, doors, max_job_size)?;
-    watcher.join(rt);
     Ok(EndedEnds {
         ends,
         doors,
@@ -178,32 +228,27 @@ fn serve_all<
 // Room for the threads of so many seats, and for what they give back, with the control line's end.
 fn new_rooms<D: Door + Drop>(alloc: Global, seats: usize) -> Result<Rooms<D>, AllocError>
     ensures threads { IfOk result (λ r. vec_len r.0 ≡ 0) }
-    ensures ends { IfOk result (λ r. r.1.items ≡ []) }
-    ensures doors { IfOk result (λ r. r.2.items ≡ []) }
+    ensures ends { IfOk result (λ r. (r.1.items ≡ []) × (seats < vec_capacity r.1)) }
+    ensures doors { IfOk result (λ r. (r.2.items ≡ []) × (seats ≤ vec_capacity r.2)) }
 {
+    let Some(all_ends) = seats.checked_add(1) else {
+        return Err(AllocError);
+    };
     let threads = Vec::with_capacity(alloc, seats)?;
-    let ends = Vec::with_capacity(alloc, seats.saturating_add(1))?;
+    let ends = Vec::with_capacity(alloc, all_ends)?;
     let doors = Vec::with_capacity(alloc, seats)?;
     Ok((threads, ends, doors))
 }
 
-// Watches the clock, where all threads were started.
-fn watch<R: Wait, S: SharedCore>(rt: &R, core: &S, start: &Start) {
-    if start.wait(rt) {
-        core.watch(rt);
-    }
-}
-
-fn serve_control<R: Wait, S: SharedCore, I: ControlReader + Drop>(
+fn serve_control<R: Wait, I: ControlReader + Drop>(
     rt: &R,
     post: ControlPost<'_>,
-    core: &S,
     control: I,
 ) -> (SeatEnd, ControlLine<I>)
     ensures { IsControlOver I.remaining I.may_fail post.entry.end control result.0 result.1 }
 {
     let ControlPost { intake, end } = post;
-    control_work(rt, intake, core, end, control)
+    control_work(rt, intake, end, control)
 }
 
 // Whether a thread was started for each seat.
@@ -213,12 +258,10 @@ fn start_seats<
     R: Threads + Wait + Sync,
     L: Line + Drop + Send + 's,
     D: Door<Line = L> + Drop + Send + 's,
-    S: SharedCore + Sync,
 >(
     scope: &'s Scope<'s, E>,
     rt: &'s R,
     mut posts: Vec<SeatPost<'s, D>, Global>,
-    core: &'s S,
     start: &'s Start,
     max_job_size: u32,
     threads: &mut SeatThreads<D>,
@@ -231,9 +274,10 @@ fn start_seats<
         → map (λ t. t.promise.door.value) threads.new.items ≡ reverse (map (λ p. p.door) posts.entry.items) }
     ensures limits { IsTrue result
         → All (λ t. t.promise.max_job_size ≡ max_job_size) threads.new.items }
+    ensures count { IsTrue result → vec_len threads.new ≡ vec_len posts.entry }
 {
     while let Some(post) = posts.pop() {
-        let Some(thread) = start_seat(scope, rt, post, core, start) else {
+        let Some(thread) = start_seat(scope, rt, post, start) else {
             return false;
         };
         let Ok(()) = threads.push(thread) else {
@@ -250,12 +294,10 @@ fn start_seat<
     R: Threads + Wait + Sync,
     L: Line + Drop + Send + 's,
     D: Door<Line = L> + Drop + Send + 's,
-    S: SharedCore + Sync,
 >(
     scope: &'s Scope<'s, E>,
     rt: &'s R,
     post: SeatPost<'s, D>,
-    core: &'s S,
     start: &'s Start,
 ) -> Option<PromisedHandle<Option<(SeatEnd, D)>, SeatPromise<D>>>
     ensures end { IfSome result (λ t. t.promise.end.value ≡ post.entry.end) }
@@ -268,11 +310,11 @@ fn start_seat<
         max_job_size: post.max_job_size,
     };
     scope
-        .spawn_with(promise, move || post.serve(rt, core, start))
+        .spawn_with(promise, move || post.serve(rt, start))
         .ok()
 }
 
-// Waits for the threads of all seats. Their ends and doors come behind one another, for which there is room.
+// Waits for the threads of all seats. Their ends and doors come one after another, for which there is room.
 fn join_seats<R: Threads, D: Door + Drop + Send>(
     rt: &R,
     threads: SeatThreads<D>,
@@ -282,8 +324,11 @@ fn join_seats<R: Threads, D: Door + Drop + Send>(
 ) -> Result<(Vec<SeatEnd, Global>, Vec<D, Global>), RunFault>
     requires no_ends { ends.items ≡ [] }
     requires no_doors { doors.items ≡ [] }
+    requires for_ends { vec_len threads < vec_capacity ends }
+    requires for_doors { vec_len threads ≤ vec_capacity doors }
     requires limits { All (λ t. t.promise.max_job_size ≡ max_job_size) threads.items }
     ensures fault { IsErrOf result RunFault.BadConfiguration → ⊥ }
+    ensures room { IfOk result (λ r. vec_len r.0 < vec_capacity r.0) }
     ensures served { let at = door_seen D.is_out D.is_at_end D.lines_over in
         IfOk result (λ r. AreServed at max_job_size (map (λ t. t.promise.end.value) threads.items) r.0.items r.1.items) }
     ensures same { IfOk result
@@ -293,9 +338,8 @@ fn join_seats<R: Threads, D: Door + Drop + Send>(
         let Some((end, door)) = thread.join(rt) else {
             return Err(RunFault::ThreadRefused);
         };
-        let (Ok(()), Ok(())) = (ends.push(end), doors.push(door)) else {
-            return Err(RunFault::NoMemory);
-        };
+        ends.push_reserved(end);
+        doors.push_reserved(door);
     }
     Ok((ends, doors))
 }

@@ -1,4 +1,4 @@
-use Rattle.std.proofs.Common.{◌≡◌, ◌++◌, ◌∙◌, ◌∷◌, []}
+use Rattle.std.proofs.Common.{◌≡◌, ◌++◌, ◌∙◌, ◌∷◌, [], ap, arith, length}
 use Rattle.bq_driver.specs.Tending.{door_seen}
 use Rattle.bq_run_start.proofs.ListLemmas.{first_passes, rest_passes}
 use Rattle.bq_driver.proofs.BackLemmas.{one_back}
@@ -18,13 +18,16 @@ loop-thread-preserved g c =
     let end = c.in-Some-join.end in
     let door = c.in-Some-join.door in
     let first = c.in-Some.thread.promise.end.value in
+    let rest_many = ap length step.0 in
     record {
       limits = rest_passes c.loop-thread.thread-iterator.rest.items _ c.in-Some.thread (λ t. t.promise.max_job_size ≡ size) step.0 limits;
+      for_ends = let h = c.loop-thread.invariant.for_ends in let a = c.push_reserved.ensures.len in let b = c.push_reserved.ensures.capacity in let n = rest_many in omega arith;
+      for_doors = let h = c.loop-thread.invariant.for_doors in let a = c.push_reserved-in-loop-thread.ensures.len in let b = c.push_reserved-in-loop-thread.ensures.capacity in let n = rest_many in omega arith;
       served = (
         before.0 ++ first ∷ [],
         joined_first (λ t. t.promise.end.value) before.0 c.loop-thread.thread-iterator.rest.items _ c.in-Some.thread step.0 ∙ before.1,
-        rw (c.in-Ok-Ok.ensures.items, c.in-Ok-Ok.ensures'.items)
+        rw (c.push_reserved.ensures.items, c.push_reserved-in-loop-thread.ensures.items)
             (served_more at size before.0 c.loop-thread.ends.items c.loop-thread.doors.items first end door before.2 here.0 here.1),
       );
-      back = one_back g.D.Door.same (λ t. t.promise.door.value) c.args.threads.items c.loop-thread.thread-iterator.rest.items _ c.in-Some.thread c.loop-thread.doors.items _ door step.0 c.in-Ok-Ok.ensures'.items same c.loop-thread.invariant.back;
+      back = one_back g.D.Door.same (λ t. t.promise.door.value) c.args.threads.items c.loop-thread.thread-iterator.rest.items _ c.in-Some.thread c.loop-thread.doors.items _ door step.0 c.push_reserved-in-loop-thread.ensures.items same c.loop-thread.invariant.back;
     }

@@ -1,4 +1,4 @@
-use Rattle.std.proofs.Common.{◌≡◌, ◌++◌, List, map}
+use Rattle.std.proofs.Common.{◌≡◌, ◌+◌, ◌<◌, ◌≤◌, ◌++◌, List, length, map, vec_capacity, vec_len}
 use Rattle.std.specs.List.{All}
 use Rattle.bq_driver.specs.Tending.{door_seen}
 use Rattle.bq_link.specs.EndStates.{SeatState}
@@ -9,6 +9,8 @@ use Rattle.bq_run.proofs.sessions.threads.join_seats.Given as goal
 abbrev pub invariant-loop-thread : goal.invariant-loop-thread
 invariant-loop-thread g l = record {
   limits : All (λ t. t.promise.max_job_size ≡ l.fn.max_job_size) l.thread-iterator.rest.items;
+  for_ends : vec_len l.ends + length l.thread-iterator.rest.items < vec_capacity l.ends;
+  for_doors : vec_len l.doors + length l.thread-iterator.rest.items ≤ vec_capacity l.doors;
   served : (firsts : List SeatState)
       × (firsts ++ map (λ t. t.promise.end.value) l.thread-iterator.rest.items ≡ map (λ t. t.promise.end.value) l.fn.threads.items)
       × AreServed (door_seen g.D.Door.is_out g.D.Door.is_at_end g.D.Door.lines_over) l.fn.max_job_size firsts l.ends.items l.doors.items;

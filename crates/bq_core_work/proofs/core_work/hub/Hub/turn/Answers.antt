@@ -10,7 +10,7 @@ returns-then-not-has_room-clause-on g c =
 
 pub returns-then-not-go_on-clause-on : goal.returns-then-not-go_on-clause-on
 returns-then-not-go_on-clause-on g c =
-    subst (λ (h : Hub _ _). WorksOn g.C.Clock.given g.K.QueueCore.machine g.K.QueueCore.comparisons c.args.self.now h) (sym c.rest-then-not-go_on.ensures)
+    subst (λ (h : Hub _ _). WorksOn g.C.Clock.given g.K.QueueCore.machine g.K.QueueCore.comparisons c.args.self.now h) (sym c.await_step.ensures)
     (on_both _ _ _ c.args.self.now c.send_all-has_room.new.self c.go_on.new.self c.send_all-has_room.ensures.on c.go_on.ensures.on)
 
 pub returns-else-not-go_on-clause-on : goal.returns-else-not-go_on-clause-on

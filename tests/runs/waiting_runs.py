@@ -1,7 +1,4 @@
-"""Runs of bqd in which nobody sends a command when something is due, somebody holds a seat up, or many ask at once.
-
-A seat's thread does the core's work for what its client sent. So these ask what comes about while all of them sleep.
-"""
+"""Runs of bqd in which something is due while all clients are silent, a client holds its seat up, or many ask at once."""
 import threading
 import time
 
@@ -120,7 +117,7 @@ def run_requeue_delay_ends_while_all_sleep(bqd):
 
 
 def run_earlier_moment_while_all_sleep(bqd):
-    """What is due before the next known moment comes in time: whoever waits for that is woken earlier."""
+    """What is due before the next known moment comes in time: the core, which sleeps until that moment, is woken."""
     def begin(waits, puts, _):
         waits.sends(b"reserve-with-timeout 3\r\n")
         time.sleep(0.05)
@@ -176,7 +173,7 @@ def run_others_beside_one_that_does_not_read(bqd):
 
 
 def run_no_step_is_left_over(bqd):
-    """Of clients that ask at the same moment, and then all wait, each is answered, whoever of them found the core at work."""
+    """Of clients that ask at the same moment, and then all wait, each is answered."""
     for number, rounds in ((2, 3000), (4, 2000), (16, 300)):
         with Server(bqd, "--seats", "16") as server:
             clients = [server.client() for _ in range(number)]
@@ -227,6 +224,23 @@ def run_idle_server_is_not_woken(bqd):
             time.sleep(1)
             return server.times_woken() - before or None
         often(tried)
+
+
+def run_idle_server_takes_no_time(bqd):
+    """While 200 clients say nothing, the server takes no processor time."""
+    with Server(bqd, "--seats", "201") as server:
+        for _ in range(200):
+            server.client().asks(ASK, ANSWER)
+        time.sleep(0.2)
+        often(lambda: time_in_a_second(server))
+
+
+def time_in_a_second(server):
+    """How much processor time the server takes in a second, in seconds, or None if that is a twentieth at most."""
+    before = server.time_worked()
+    time.sleep(1)
+    took = server.time_worked() - before
+    return took if took > 0.05 else None
 
 
 def run_those_who_wait_are_seldom_woken(bqd):
