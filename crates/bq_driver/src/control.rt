@@ -11,13 +11,20 @@ use arrayvec::ArrayVec;
 use bq_job::Step;
 use std::marker::Model;
 use std::sync::Wait;
-use std::thread;
+use std::thread::Parker;
+use std::time::Duration;
 
 /// What a line says that begins the drain.
 const DRAIN_WORD: &[u8] = b"drain";
 
 /// How many first bytes of a line are kept: one more than the word has, since a longer line says nothing.
 const BYTES_KEPT: usize = 6;
+
+/// How long it sleeps if the control line has no byte yet and didn't wait for any, in milliseconds.
+const LINE_REST: u64 = 10;
+
+/// How long it sleeps if there is no room for a step, in milliseconds. There is some again soon.
+const STEP_REST: u64 = 1;
 
 /// Where a control line submits its steps.
 pub trait ControlLink {
@@ -100,9 +107,14 @@ fn submit<R: Wait, K: ControlLink>(rt: &R, link: &mut K, step: Step)
             Ok(()) => return,
             Err(back) => step = back,
         }
-        thread::yield_now();
+        rest(rt, STEP_REST);
     }
     unreachable!()
+}
+
+// Sleeps before the same is tried again. No thread wakes it.
+fn rest<R: Wait>(rt: &R, millis: u64) {
+    Parker::new().park_timeout(rt, Duration::from_millis(millis));
 }
 
 fn submit_drain_if<R: Wait, K: ControlLink>(rt: &R, link: &mut K, says_drain: bool)
@@ -137,7 +149,7 @@ fn submit_drains<R: Wait, I: ControlInput, K: ControlLink>(rt: &R, control: &mut
                     line = LineSoFar::new();
                 }
             }
-            Heard::NothingYet => {}
+            Heard::NothingYet => rest(rt, LINE_REST),
             Heard::End => return submit_drain_if(rt, link, line.says_drain()),
             Heard::Fault => return,
         }
