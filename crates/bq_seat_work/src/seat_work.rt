@@ -24,6 +24,7 @@ use bq_line::line::Line;
 use bq_link::{Intake, NoTicks, Record, SeatEnd};
 use bq_seat::{Action, SeatMachine};
 use std::alloc::Global;
+use std::hint::spin_loop;
 use std::sync::Wait;
 use std::time::Duration;
 use std::{mem, thread};
@@ -116,10 +117,9 @@ const FIRST_REST: u64 = 100;
 /// waited for long is seldom gone, and many may wait.
 const LONGEST_REST: u64 = 1_000;
 
-/// How often a seat looks for the answer to a step before it sleeps, if the answer before came while it looked. Between
-/// two looks it lets other threads run. If the core's thread is awake it answers within a few microseconds, and to fall
-/// asleep and be woken takes longer.
-const LOOKS: u32 = 8;
+/// How often a seat looks for the answer to a step before it sleeps, if the answer before came while it looked. If the
+/// core's thread is awake it answers within a few microseconds, and to fall asleep and be woken takes longer.
+const LOOKS: u32 = 40;
 
 /// How often it looks if it had to sleep for the answer before: the core's thread then sleeps between two commands, and
 /// it takes longer to wake it.
@@ -273,7 +273,7 @@ fn mail_at<R: Wait>(
 {
     let now = *pace;
     *pace = now.after_look();
-    pause(rt, intake, end, now.rest);
+    sleep_or_yield(rt, intake, end, now.rest);
     if look_often(end, now.looks, place) {
         pace.is_prompt = !now.rests();
         return true;
@@ -282,6 +282,18 @@ fn mail_at<R: Wait>(
         return false;
     }
     look_again(rt, intake, end, now.sleeps, place)
+}
+
+// Sleeps for so many milliseconds. If it is none a step was submitted just now, and other threads run once: the core's
+// thread may share this processor.
+fn sleep_or_yield<R: Wait>(rt: &R, intake: &Intake<NoTicks>, end: &mut SeatEnd, most: u64)
+    ensures { end.new ≡ end.old }
+{
+    if most > 0 {
+        end.wait(rt, intake, Duration::from_millis(most));
+    } else {
+        thread::yield_now();
+    }
 }
 
 // Looks once more after a sleep, or at once. A wake-up that is left of an answer that was found without a sleep would end
@@ -302,7 +314,7 @@ fn look_again<R: Wait>(
     look(end, place)
 }
 
-// Looks so often at what came to an end, and once at least. Between two looks other threads run.
+// Looks so often at what came to an end, and once at least.
 fn look_often(end: &mut SeatEnd, looks: u32, place: &mut Action) -> bool
     ensures went { TakesInPlace EndWent end.old place.old result place.new end.new }
     ensures none { result ≡ false
@@ -312,7 +324,7 @@ fn look_often(end: &mut SeatEnd, looks: u32, place: &mut Action) -> bool
         if look(end, place) {
             return true;
         }
-        thread::yield_now();
+        spin_loop();
     }
     look(end, place)
 }

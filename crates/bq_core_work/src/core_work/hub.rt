@@ -13,13 +13,14 @@ use bq_line::clock::{Clock, Notice, moment_heard};
 use bq_link::{CoreEnd, Intake, NoTicks, Record};
 use bq_steps::{Outs, QueueCore};
 use std::alloc::Global;
+use std::hint::spin_loop;
 use std::sync::Wait;
 use std::thread;
 use std::time::Duration;
 
 /// How often it looks for a next step before it sleeps. A client whose answer it sent just now mostly asks again at once,
-/// and to fall asleep and be woken takes longer than a look.
-const LOOKS: u32 = 1;
+/// and to fall asleep and be woken takes longer than a few looks.
+const LOOKS: u32 = 20;
 
 /// How long it sleeps at most, in milliseconds.
 const HOUR: u64 = 3_600_000;
@@ -310,17 +311,18 @@ impl<C: Clock + Drop, K: QueueCore + Drop> Hub<C, K> {
         reading
     }
 
-    // Waits until a step comes or something is due: it looks a few times, and sleeps if it found none. Between two
-    // looks other threads run.
+    // Waits until a step comes or something is due. It lets other threads run once, since the thread of the next step may
+    // share its processor. Then it looks a few times, and sleeps if it found none.
     fn await_step<R: Wait>(&mut self, rt: &R, intake: &Intake<NoTicks>)
         requires intake { self.old.sender.end.intake ≡ intake.now.id }
         ensures { self.new ≡ self.old }
     {
+        thread::yield_now();
         for _ in 0..LOOKS {
-            thread::yield_now();
             if !self.sender.has_none(intake) {
                 return;
             }
+            spin_loop();
         }
         self.rest(rt, intake);
     }
