@@ -30,7 +30,7 @@ from servers import Server
 FILES = [canned_runs, server_runs, ctl_runs, move_runs, web_runs]
 
 # Those of the gate: they neither wait for a moment nor measure how long something takes.
-GATE = re.compile(r"_(ctl|move)_(?!.*interrupted)|_move$|_web_(bad|labels|page|paths|limits|names|forged)")
+GATE = re.compile(r"_(ctl|move)_(?!.*interrupted)|_move$|_web_(bad|labels|history|page|paths|limits|names|forged)")
 
 
 def passes(run, words):
@@ -52,6 +52,7 @@ def kinds(bqd, beanstalkd):
     found = {"run_": [[]], "bqd_run_": [[bqd]], "each_run_": [[functools.partial(Server, bqd)]]}
     if beanstalkd:
         found["each_run_"].append([functools.partial(Beanstalkd, os.path.abspath(beanstalkd))])
+        found["both_run_"] = [[it for words in found["each_run_"] for it in words]]
     return found
 
 

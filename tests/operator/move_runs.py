@@ -23,7 +23,17 @@ def address(server):
 
 def each_run_move(start):
     """Jobs of each state arrive with their bodies, priorities, states, times to run and what is left of delays."""
-    with start("-z", "1048576") as source, start("-z", "1048576") as target:
+    moves_all(start, start)
+
+
+def both_run_move(bqd, beanstalkd):
+    """The same from beanstalkd to bqd, and back."""
+    moves_all(beanstalkd, bqd)
+    moves_all(bqd, beanstalkd)
+
+
+def moves_all(start_source, start_target):
+    with start_source("-z", "1048576") as source, start_target("-z", "1048576") as target:
         here, there = Teller(source), Teller(target)
         bodies = [b"", b"hello", BYTES, os.urandom(1 << 20)]
         for number, body in enumerate(bodies):

@@ -7,12 +7,13 @@ import sys
 import tempfile
 import threading
 import time
+import types
 
 from canned import PROGRAMS, Canned, statistics, tube, tubes
 from ctl_runs import BYTES
 from jobs import Teller
 from programs import Ended, ended, has_all, same
-from servers import Server, free_port
+from servers import Server, awaits, free_port
 from web import Web
 
 SCRIPT = b"<script>alert(1)</script><img src=x onerror=alert(2)>"
@@ -64,6 +65,40 @@ def run_web_labels():
     sys.path.insert(0, str(PROGRAMS))
     from queue_web.exposition import labels
     same(labels(tube='a"b\\c\nd', state="x"), '{tube="a\\"b\\\\c\\nd",state="x"}')
+
+
+def run_web_history():
+    """The last ten minutes: the newest point last, a gap while there was no reading, and tubes that have gone forgotten."""
+    sys.path.insert(0, str(PROGRAMS))
+    from queue_web.history import EVERY, MOST_TUBES, POINTS, SPARK_POINTS, History
+
+    def reading(moment, **ready):
+        keys = ["current-jobs-reserved", "current-jobs-delayed", "current-jobs-buried", "current-using", "current-watching",
+                "current-waiting", "pause-time-left", "cmd-delete"]
+        told = {name: {**dict.fromkeys(keys, 0), "current-jobs-ready": count, "total-jobs": 10 * count} for name, count in ready.items()}
+        return types.SimpleNamespace(moment=moment, tubes=told)
+
+    history = History()
+    history.add(reading(0, mail=1), 0)
+    history.add(reading(1, mail=9), EVERY / 2)
+    history.add(reading(2, mail=3), EVERY)
+    history.add(None, 2 * EVERY)
+    history.add(reading(6, mail=4, post=7), 3 * EVERY)
+    same(history.of("mail")["ready"][-5:], [None, 1, 3, None, 4])
+    # The rate is of the time between the two readings, and there is none after a gap.
+    same(history.of("mail")["put_rate"][-5:], [None, None, 10, None, None])
+    same(history.of("post")["ready"][-2:], [None, 7])
+    same({name: (len(it), it[-1]) for name, it in history.sparks().items()}, {"mail": (SPARK_POINTS, 4), "post": (SPARK_POINTS, 7)})
+    same(len(history.of("none")["ready"]), 0)
+    history.add(reading(12, mail=5), 6 * EVERY)
+    same(history.of("mail")["ready"][-5:], [None, 4, 5, 5, 5])
+    history.add(reading(38, mail=6), 19 * EVERY)
+    same(history.of("mail")["ready"][-15:], [5, 5, *[None] * 12, 6])
+    for number in range(20, POINTS + 21):
+        history.add(reading(2 * number, post=1), number * EVERY)
+    same((list(history.rings), history.of("post")["ready"]), (["post"], [1] * POINTS))
+    history.add(reading(9000, **{f"n{number}": 1 for number in range(MOST_TUBES + 9)}), 9000 * EVERY)
+    same(len(history.rings), MOST_TUBES)
 
 
 def run_web_page_makes_no_markup():
@@ -137,7 +172,7 @@ def each_run_web_many_tubes(start):
         metrics = page.metrics()
         same({metrics[f'bqd_jobs{{tube="{it}",state="ready"}}'] for it in names}, {1})
         same(page.json(f"/api/tube?name={names[1999]}")["ready"], 1)
-        assert len(page.json("/api/sparks")["tubes"]) >= 2000
+        awaits(lambda: len(page.json("/api/sparks")["tubes"]) >= 2000)
 
 
 def each_run_web_is_one_connection(start):
@@ -156,6 +191,7 @@ def each_run_web_is_one_connection(start):
             it.join()
         _, text = teller.ask(b"stats")
         has_all(text, [b"\ncurrent-connections: 2\n", b"\ncurrent-tubes: 2\n"])
+        has_all(teller.ask(b"stats-tube mail")[1], [b"\ncurrent-using: 0\n"])
 
 
 def each_run_web_goes_on_without_server(start):

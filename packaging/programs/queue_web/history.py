@@ -14,6 +14,9 @@ KEPT = [*COUNTS, *RATES]
 # Of how many tubes it is kept.
 MOST_TUBES = 4000
 
+# How many points a reading may be late and still stand for them.
+MOST_LATE = 5
+
 # How many points there are in a sparkline: each is the largest of those that it stands for.
 SPARK_POINTS = 60
 
@@ -23,14 +26,24 @@ class History:
 
     def __init__(self):
         self.rings, self.seen = {}, {}
-        self.count, self.next, self.earlier = 0, -math.inf, None
+        self.count, self.next, self.earlier = 0, None, None
 
     def add(self, reading, moment):
-        """Adds a point, if it is time for one. Without a reading, since the server is down, it has no values."""
+        """Adds a point, if it is time for one. Without a reading, since the server is down, it has no values.
+
+        A slow reading stands for the points that it was late for too, and after a long pause those have no values.
+        """
+        self.next = moment if self.next is None else self.next
         if moment < self.next:
             return
-        # After a pause of the process it goes on from now.
-        self.next = max(self.next + EVERY, moment)
+        late = min(int((moment - self.next) / EVERY), POINTS)
+        for _ in range(late):
+            self._point(reading if late <= MOST_LATE else None)
+        self._point(reading)
+        self.next = max(self.next + (late + 1) * EVERY, moment)
+        self.earlier = reading
+
+    def _point(self, reading):
         at = self.count % POINTS
         for rings in self.rings.values():
             for ring in rings.values():
@@ -38,7 +51,6 @@ class History:
         if reading:
             self._points(reading, at)
         self.count += 1
-        self.earlier = reading
         self._forget()
 
     def _points(self, reading, at):
