@@ -1,9 +1,9 @@
 """Runs of the programs for operators in packaging/programs: bqctl, bqd-drain, bqd-top and bqd-web.
 
-    python3 tests/operator --bqd PATH [--beanstalkd PATH] [--gate] [NAME ..]
+    python3 tests/operator --bqd PATH [--beanstalkd PATH] [--chromium PATH] [--gate] [NAME ..]
 
 Each goes beside bqd, or beside a server made here that answers what it is told to. If beanstalkd is given, what works
-with it too is run beside it as well. The gate runs those that take no measure of time. The last line is 'N passed, M failed', and the status is 1 if one failed.
+with it too is run beside it as well, and with Chromium the page is looked at. The gate runs those that take no measure of time. The last line is 'N passed, M failed', and the status is 1 if one failed.
 """
 import argparse
 import functools
@@ -18,6 +18,7 @@ import traceback
 sys.dont_write_bytecode = True
 sys.path.insert(1, str(pathlib.Path(__file__).resolve().parent.parent / "runs"))
 
+import browser_runs
 import canned_runs
 import ctl_runs
 import move_runs
@@ -27,7 +28,7 @@ from beanstalkd import Beanstalkd
 from servers import Server
 
 # The runs, by their files.
-FILES = [canned_runs, server_runs, ctl_runs, move_runs, web_runs]
+FILES = [canned_runs, server_runs, ctl_runs, move_runs, web_runs, browser_runs]
 
 # Those of the gate: they neither wait for a moment nor measure how long something takes.
 GATE = re.compile(r"_(ctl|move)_(?!.*interrupted)|_move$|_web_(bad|labels|history|page|paths|limits|names|forged)")
@@ -44,7 +45,7 @@ def passes(run, words):
         return False
 
 
-def kinds(bqd, beanstalkd):
+def kinds(bqd, beanstalkd, chromium):
     """What the runs of each kind are given, by how their names begin: each run goes once with each of these words.
 
     A run beside each server is given what starts one: a call that takes the server's words.
@@ -53,6 +54,8 @@ def kinds(bqd, beanstalkd):
     if beanstalkd:
         found["each_run_"].append([functools.partial(Beanstalkd, os.path.abspath(beanstalkd))])
         found["both_run_"] = [[it for words in found["each_run_"] for it in words]]
+    if chromium:
+        found["browser_run_"] = [[bqd, chromium]]
     return found
 
 
@@ -60,6 +63,7 @@ def main():
     parser = argparse.ArgumentParser(prog="tests/operator")
     parser.add_argument("--bqd", required=True, help="the built program bqd")
     parser.add_argument("--beanstalkd", help="the program beanstalkd")
+    parser.add_argument("--chromium", help="the program chromium")
     parser.add_argument("--gate", action="store_true", help="those alone that the gate runs")
     parser.add_argument("names", nargs="*", help="the runs whose names have one of these words; all, unless given")
     words = parser.parse_args()
@@ -70,7 +74,7 @@ def main():
         kind = name[: name.find("run_") + len("run_")]
         if words.names and not any(it in name for it in words.names) or words.gate and not GATE.search(name):
             continue
-        for given in kinds(os.path.abspath(words.bqd), words.beanstalkd).get(kind, []):
+        for given in kinds(os.path.abspath(words.bqd), words.beanstalkd, words.chromium).get(kind, []):
             if passes(run, given):
                 passed += 1
             else:

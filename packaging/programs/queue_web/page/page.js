@@ -32,7 +32,7 @@ const token = document.querySelector("meta[name=bqd-token]").content;
 
 const state = {
   order: "name", falls: false, filter: "", last: null, time: null, moved: 0, rows: new Map(), shown: [], sparks: {},
-  tube: null, charts: null, turn: 0, down: null,
+  tube: null, charts: null, turn: 0, asks: false,
 };
 
 function byId(id) { return document.getElementById(id); }
@@ -233,7 +233,7 @@ function showTube(found) {
   setText(byId("clients"), `Clients: ${clients} Since the tube has existed: ${number(found.puts)} puts, ${number(found.deletes)} deleted.`);
   const cards = byId("jobs").children;
   STATES.forEach((it, at) => showJob(cards[at], it, found.first && found.first[it]));
-  byId("unpause").hidden = !found.pause;
+  if (token) byId("unpause").hidden = !found.pause;
 }
 
 function makeTube() {
@@ -294,7 +294,12 @@ function makeActions() {
 
 async function act(what, question, more, wantsSeconds) {
   const tube = state.tube;
-  if (!await confirmed(what, question, wantsSeconds)) return;
+  // One question at a time: an answer is never that of another.
+  if (state.asks) return;
+  state.asks = true;
+  const sure = await confirmed(what, question, wantsSeconds);
+  state.asks = false;
+  if (!sure) return;
   const words = {tube, ...more, ...(wantsSeconds ? {seconds: Number(byId("seconds").value)} : {})};
   const options = {method: "POST", body: JSON.stringify(words), headers: {"Content-Type": "application/json", "X-Bqd-Token": token}};
   const found = await fetched(`api/${what}`, options);
@@ -356,7 +361,12 @@ async function turn() {
       const tube = state.tube;
       const [found, about] = await Promise.all([fetched("api/state"), tube && fetched("api/tube?name=" + encodeURIComponent(tube))]);
       if (own !== state.turn) return;
-      show(found, tube, about);
+      try {
+        show(found, tube, about);
+      } catch (fault) {
+        // A fault of this page: the next turn may go well.
+        console.error(fault);
+      }
     }
     await new Promise(done => setTimeout(done, BETWEEN));
   }
