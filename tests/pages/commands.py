@@ -130,6 +130,12 @@ def serves(room, command):
         process.kill()
 
 
+@rule(r"bqd (--[-a-z]+) [A-Z]+")
+def is_form_of_an_option(room, option):
+    assert option in room.ends("bqd --help"), f"bqd has no {option}"
+    return "it is a form"
+
+
 @rule(r"(?:crates/bq/out/)?bq|(printf '.*' \| bq)")
 def one_session(room, command):
     told = room.ends(command or "bq", b"" if command else b"put 5 0 10 3\r\nabc\r\nreserve\r\nquit\r\n")
