@@ -19,7 +19,6 @@ use bq_jobs::{adds_at_the_end, next_is_free};
 use bq_state::core_parts::CoreParts;
 use bq_state::job_store::{JobChange, JobTest};
 use bq_state::seats::SeatChange;
-use bq_state::tubes::TubeChange;
 use bq_state::{changes, job_store, seats};
 use std::alloc::Global;
 
@@ -118,7 +117,6 @@ pub(crate) fn put(
         return Reply::LeftOut;
     };
     let id = job.id;
-    changes::change_tube(state, &job.tube, TubeChange::CountPut);
     next_is_free();
     adds_at_the_end();
     count_put(state);
@@ -183,11 +181,10 @@ pub(crate) fn delete(state: &mut CoreParts, seat: Seat, id: JobId, told: &mut An
         *told = Answer::NotFound;
         return;
     }
-    let Some(job) = changes::take(state, id) else {
+    let Some(_job) = changes::take(state, id) else {
         *told = Answer::NotFound;
         return;
     };
-    changes::change_tube(state, &job.tube, TubeChange::CountDelete);
     *told = Answer::Deleted;
 }
 

@@ -1,10 +1,12 @@
 -- All that is kept of the tubes, once the entry of one is changed in its place.
-use Rattle.std.proofs.Common.{◌∙◌, ◌≡◌, List, ℕ, ap, map, refl, subst, sym}
+use Rattle.std.proofs.Common.{◌∙◌, ◌∷◌, ◌≡◌, List, [], ℕ, ap, map, refl, subst, sym}
 use Rattle.std.specs.{Cmp.Lexicographic.slice_cmp, Ordering.nat_cmp}
 use Rattle.bq_index.specs.{Catalog.CatalogSeen, Order.InOrder}
 use Rattle.bq_state.specs.declared.{known.Tally.Tally, tubes.{entry.{Crowd.Crowd, TubeChange.TubeChange}, pauses.PauseEnd.PauseEnd}}
 use Rattle.bq_state.specs.{Crowds.crowds_at, KeptTubes.{KeptTube, KeptTubes, Named, crowd_kept, edited_at, kept_changed, record_at, record_of, tally_kept, tubes_kept}, PauseEnds.AreEnds, Tallies.tallies_at}
 use Rattle.bq_state.specs.TubeEntries.{tube_changed, tube_changed_at}
+use Rattle.bq_job.specs.machine.{TubeRecord}
+use Rattle.bq_state.proofs.PartsLemmas.{name_kept_at}
 use Rattle.bq_state.proofs.NamedLemmas.{change_kept, edit_change, edit_crowd, edit_same_crowds, edit_same_records, edit_same_tallies, edit_tally, in_order, kept_alike}
 
 -- Where the records stay, so do the ends of their pauses.
@@ -40,3 +42,21 @@ records_change name what es last k is seen order =
     (ap (map record_at) is ∙ edit_change name (kept_changed what) (tube_changed what) (change_kept what) es (in_order es order) ∙ ap (λ (k : KeptTubes). map (tube_changed_at name what) k.entries) seen)
     (ap (map tally_kept) is ∙ edit_same_tallies name (kept_changed what) (λ t. refl) es ∙ ap (λ (k : KeptTubes). k.tallies) seen)
     (ap (map crowd_kept) is ∙ edit_same_crowds name (kept_changed what) (λ t. refl) es ∙ ap (λ (k : KeptTubes). k.crowds) seen)
+
+-- The counts of a tube are found by its name.
+same_tallies_at : (f : TubeRecord → TubeRecord) → ((t : TubeRecord) → (f t).name ≡ t.name) → (name : List ℕ) (g : Tally → Tally) (ts : List TubeRecord) (tallies : List Tally)
+    → tallies_at name g (map f ts) tallies ≡ tallies_at name g ts tallies
+same_tallies_at f keeps name g [] tallies = refl
+same_tallies_at f keeps name g (t ∷ ts) [] = refl
+same_tallies_at f keeps name g (t ∷ ts) (x ∷ tallies) = rw (keeps t, same_tallies_at f keeps name g ts tallies) refl
+
+-- A job is counted, and what happened to its tube.
+pub job_counted : (what : TubeChange) (name : List ℕ) (f : KeptTube → KeptTube) (g : Tally → Tally) (es last : List Named) (k : KeptTubes) → last ≡ edited_at name f es → tubes_kept es ≡ k → InOrder (slice_cmp nat_cmp) es
+    → ((n : List ℕ) (t : KeptTube) → record_of n (f t) ≡ tube_changed what (record_of n t)) → ((t : KeptTube) → (f t).tally ≡ g t.tally) → ((t : KeptTube) → (f t).crowd ≡ t.crowd)
+    → tubes_kept last ≡ record k { entries = map (tube_changed_at name what) k.entries; tallies = tallies_at name g (map (tube_changed_at name what) k.entries) k.tallies }
+job_counted what name f g es last k is seen order made counts crowds =
+    kept_alike
+    (ap (map record_at) is ∙ edit_change name f (tube_changed what) made es (in_order es order) ∙ ap (λ (k : KeptTubes). map (tube_changed_at name what) k.entries) seen)
+    (ap (map tally_kept) is ∙ edit_tally name f g counts es ∙ ap (λ (k : KeptTubes). tallies_at name g k.entries k.tallies) seen
+    ∙ sym (same_tallies_at (tube_changed_at name what) (name_kept_at name what) name g k.entries k.tallies))
+    (ap (map crowd_kept) is ∙ edit_same_crowds name f crowds es ∙ ap (λ (k : KeptTubes). k.crowds) seen)

@@ -15,10 +15,11 @@ use Rattle.bq_state.specs.declared.known.Stir.TheVariants as stirs
 use Rattle.bq_state.proofs.{ClientLemmas.{clients_moved, clients_watching}, CrowdLemmas.crowds_moved, CrowdPlaces.{crowds_kept, crowds_of_provided, first_crowds}, CrowdWatching.{crowds_ignoring, crowds_watching}}
 use Rattle.bq_state.proofs.{FirstEndLemmas.{first_timeouts, timeouts_of_seat, timeouts_watching}, LeavingLemmas.alive_left}
 use Rattle.bq_state.proofs.LossLemmas.{alive_added, alive_forgotten, alive_ignoring, alive_provided, alive_renamed, alive_taken, alive_watching, end_of_those_left}
-use Rattle.bq_state.proofs.{MovedLemmas.{alive_changed, counted_moved, known_moved, one_tube, tube_kept, warned_moved}, PartsLemmas.{all_filtered, counted_provided, id_kept, name_kept_at, numbered_after, tube_counts, tube_name_kept}}
+use Rattle.bq_state.proofs.{MovedLemmas.{alive_changed, counted_moved, known_moved, one_tube, tube_kept, warned_moved}, PartsLemmas.{all_filtered, counted_provided, entries_of_tube, id_kept, name_kept_at, numbered_after, tube_counts, tube_name_kept}}
 use Rattle.bq_state.proofs.{PartsLemmas.{entries_of_seat, first_entries, first_numbered}, WaitingLemmas.{many_seats, none_in_turn, rising_left, turns_moved, turns_within}}
 use Rattle.bq_state.proofs.{PauseLemmas.{end_after_change, end_provided}, StirLemmas.{known_added, known_any, known_forgotten, known_ignoring, known_nothing, known_of_change, known_of_seat, known_watching}}
 use Rattle.bq_state.proofs.{TallyPlaces.{counted_added, counted_kept, counted_provided as tallies_of_provided, counted_taken}, TubeLemmas.{filters_swap, record_changed}}
+use Rattle.bq_state.proofs.TubeNumberLemmas.{numbers_kept}
 use Rattle.bq_state.proofs.WarningLemmas.{warned_added, warned_by_due, warned_of_seat, warned_watching}
 
 module _ (st : CoreParts) where
@@ -217,6 +218,26 @@ module _ (st : CoreParts) where
   so_settled due is =
       let so = st.sound.known in
       record { counts = so.counts; clients = so.clients; crowds = so.crowds; alive = so.alive; stirs = so.stirs; warnings = rw is (warned_by_due st.known.warns st.jobs.jobs st.seats.items so.warnings); timeouts = so.timeouts; pauses = so.pauses }
+
+-- the parts once a put or a deletion was counted in a tube
+abbrev pub with_count : (st : CoreParts) (name : List ℕ) (what : TubeChange) → has_entry name st.tubes.entries ≡ true → CoreParts
+with_count st name what there =
+    let entries = map (tube_changed_at name what) st.tubes.entries in
+    let was = st.sound in
+    record st {
+      tubes = record st.tubes { entries = entries };
+      known = with_tube_changed name what entries st.known;
+      sound =
+          record {
+            entries = entries_of_tube name what st.jobs.jobs st.seats.items st.tubes.entries was.entries;
+            numbered = was.numbered;
+            next = was.next;
+            ids = was.ids;
+            waiting = was.waiting;
+            known = so_with_tube st name what there;
+          };
+      numbered = numbers_kept (tube_changed_at name what) (name_kept_at name what) st.jobs.tubes st.tubes.entries st.numbered;
+    }
 
 -- At the start there is nothing to know.
 pub so_at_first : (n : ℕ) → IsSo nothing_known [] (map empty_seat (numbers 0 n)) first_tubes

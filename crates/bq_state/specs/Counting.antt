@@ -1,9 +1,10 @@
 -- What is kept of tubes whose counts are those of jobs and of seats.
-use Rattle.std.specs.Prelude.{◌≡◌, List, Option, ℕ, filter}
+use Rattle.std.specs.Prelude.{◌≡◌, List, Option, ℕ, filter, map}
 use Rattle.bq_job.specs.{declared.job.Job.Job, machine.SeatRecord}
 use Rattle.bq_state.specs.declared.{known.{Loss.Loss, Tally.Tally}, tubes.entry.{Crowd.Crowd, Moving.Moving, Share.Share}}
-use Rattle.bq_state.specs.{Crowds.{crowds_at, crowds_at_all, crowds_of, crowds_provided, crowds_recounted_for}, KeptTubes.KeptTubes, Losses.AreAlive, Tallies.{tallies_at, tallies_of, tallies_provided}}
-use Rattle.bq_state.specs.TubeEntries.{AreInOrder, is_tube_of, provided}
+use Rattle.bq_state.specs.{Crowds.{crowds_at, crowds_at_all, crowds_of, crowds_provided, crowds_recounted_for}, KeptTubes.KeptTubes, Losses.AreAlive, Tallies.{tallies_at, tallies_of, tallies_provided, tallies_with, tallies_without}}
+use Rattle.bq_state.specs.TubeEntries.{AreInOrder, is_tube_of, provided, tube_changed_at}
+use Rattle.bq_state.specs.declared.tubes.entry.TubeChange.TheVariants.{CountDelete, CountPut}
 
 -- the counts are those of these jobs and seats
 abbrev pub AreCounts : KeptTubes → List Job → List SeatRecord → Type 0
@@ -40,6 +41,17 @@ with_crowds_at name f k = record k { crowds = crowds_at name f k.entries k.crowd
 -- and with those of the clients of each of these tubes
 abbrev pub with_crowds_at_all : List (List ℕ) → (Crowd → Crowd) → KeptTubes → KeptTubes
 with_crowds_at_all names f k = record k { crowds = crowds_at_all names f k.entries k.crowds }
+
+-- with a job more that was put, and with one less that was deleted
+abbrev pub with_job_put : Job → KeptTubes → KeptTubes
+with_job_put j k =
+    let entries = map (tube_changed_at j.tube CountPut) k.entries in
+    record k { entries = entries; tallies = tallies_with j entries k.tallies }
+
+abbrev pub with_job_deleted : Job → KeptTubes → KeptTubes
+with_job_deleted j k =
+    let entries = map (tube_changed_at j.tube CountDelete) k.entries in
+    record k { entries = entries; tallies = tallies_without j entries k.tallies }
 
 -- once what a seat counts for, if there is this seat, comes or goes
 abbrev pub recounted_for : Moving → Share → Option SeatRecord → KeptTubes → KeptTubes

@@ -2,7 +2,7 @@
 use Rattle.std.specs.Prelude.{◌||◌, if◌then◌else◌, Bool, None, Option, Some, ℕ, false, not}
 use Rattle.bq_job.specs.declared.job.Job.{Job}
 use Rattle.bq_job.specs.declared.job.JobState.TheVariants as states
-use Rattle.bq_job.specs.machine.{buried, in_state, is_buried, is_delayed, is_held_by, is_reserved, job_after_timers, kicked, released, reserved_by}
+use Rattle.bq_job.specs.machine.{buried, in_state, is_buried, is_delayed, is_held_by, is_reserved, job_after_timers, kicked, released, reserved_by, after_delete, Machine.Machine}
 use Rattle.bq_state.specs.declared.job_store.{JobChange.{JobChange, TheVariants.{Bury, FireTimers, GiveBack, HandOut, Kick, Release, Touch}}, JobTest.{JobTest, TheVariants.{Free, FreeFor, HeldBy, Kickable}}}
 
 abbrev pub changed : JobChange → Job → Job
@@ -29,3 +29,8 @@ is_passed_by passes (Some j) = passes j
 abbrev pub ttr_held_by : ℕ → Option Job → Option ℕ
 ttr_held_by seat None = None
 ttr_held_by seat (Some j) = if is_held_by seat j then Some j.ttr else None
+
+-- the machine once the job, if there is one, was deleted
+abbrev pub once_deleted : Option Job → Machine → Machine
+once_deleted None m = m
+once_deleted (Some j) m = after_delete m j

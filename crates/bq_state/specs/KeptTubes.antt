@@ -4,7 +4,7 @@ use Rattle.std.specs.Prelude.{◌&&◌, ◌++◌, ◌∷◌, if◌then◌else◌
 use Rattle.bq_job.specs.declared.job.Job.{Job}
 use Rattle.bq_job.specs.machine.{Pause, TubeRecord, default_tube, fresh_tube, pause_after_timers, raised, tube_after_timers}
 use Rattle.bq_jobs.specs.declared.row.Moved.{Moved}
-use Rattle.bq_state.specs.declared.{known.Tally.Tally, tubes.entry.{Crowd.Crowd, Moving.Moving, Share.Share, TubeChange.TubeChange}}
+use Rattle.bq_state.specs.declared.{known.Tally.Tally, tubes.entry.{Crowd.Crowd, Moving.Moving, Share.Share, TubeChange.{TubeChange, TheVariants.{CountDelete, CountPut}}}}
 use Rattle.bq_state.specs.{Crowds.{has_seats, no_crowd, recounted}, Tallies.{has_jobs, tally_moved, tally_of, tally_with, tally_without}, TubeEntries.{is_tube_by, tube_changed}}
 
 -- the entries, and at the same places the counts of the tubes' jobs and of their clients
@@ -57,12 +57,12 @@ kept_after r t = record { pause = r.pause; puts = r.puts; deletes = r.deletes; p
 abbrev pub kept_changed : TubeChange → KeptTube → KeptTube
 kept_changed what t = kept_after (tube_changed what (record_of [] t)) t
 
--- with a job more, and with one less
+-- with a job more that was put, and with one less that was deleted
 abbrev pub kept_with : Job → KeptTube → KeptTube
-kept_with j t = record t { tally = tally_with j t.tally }
+kept_with j t = record (kept_changed CountPut t) { tally = tally_with j t.tally }
 
 abbrev pub kept_without : Job → KeptTube → KeptTube
-kept_without j t = record t { tally = tally_without j t.tally }
+kept_without j t = record (kept_changed CountDelete t) { tally = tally_without j t.tally }
 
 -- with a job that stands otherwise
 abbrev pub kept_moved : Moved → KeptTube → KeptTube

@@ -8,10 +8,11 @@ ghost use Rattle.bq_job.specs.reading.TubeName.{is_same_name};
 ghost use Rattle.bq_job.specs.machine.Timers.{at_moment};
 ghost use Rattle.bq_job.specs.machine.TubeOrder.{tubes};
 ghost use Rattle.bq_job.specs.machine.Tubes.{forgetting, watches, with_tube};
-ghost use Rattle.bq_jobs.specs.Kept.{ComparesAtMost, with_added, without};
+ghost use Rattle.bq_job.specs.machine.JobCommands.{with_put};
+ghost use Rattle.bq_jobs.specs.Kept.{ComparesAtMost, with_added};
 ghost use Rattle.bq_state.specs.Asking.{Asks};
 ghost use Rattle.bq_state.specs.Crowds.{may_wait};
-ghost use Rattle.bq_state.specs.JobChanges.{changed};
+ghost use Rattle.bq_state.specs.JobChanges.{changed, once_deleted};
 ghost use Rattle.bq_state.specs.KeptTubes.{first_tubes};
 ghost use Rattle.bq_state.specs.Offers.{is_waited_at};
 ghost use Rattle.bq_state.specs.CoreParts.{AtSeat, Watches};
@@ -48,15 +49,15 @@ pub fn make_room(state: &mut CoreParts, alloc: Global) -> Result<(), NoMemory>
     state.jobs.reserve_one(alloc)
 }
 
-/// Puts a job in, where there is room for it. Its id is one that was given, and its tube has an
-/// entry.
+/// Puts a job in, where there is room for it, and counts that in its tube. Its id is one that was given, and its
+/// tube has an entry.
 pub fn add(state: &mut CoreParts, job: Job)
     requires room { 0 < state.old.jobs.room }
     requires given { (1 ≤ job.id) × (job.id < state.old.next_id) }
     requires free { job_with job.id (machine_of state.old).jobs ≡ None }
     requires entry { has_entry job.tube state.old.tubes.entries ≡ true }
     ensures after { machine_of state.new
-        ≡ record (machine_of state.old) { jobs = with_added job (machine_of state.old).jobs } }
+        ≡ record (with_tube job.tube with_put (machine_of state.old)) { jobs = with_added job (machine_of state.old).jobs } }
     ensures asks { ComparesAtMost 4 state.old.jobs state.new.jobs }
 {
     let is_wanted = state.is_wanted(&job);
@@ -66,11 +67,11 @@ pub fn add(state: &mut CoreParts, job: Job)
     state.jobs.add(job);
 }
 
-/// Takes the job of this id out, if there is one. Its room is kept, but for what nobody needs.
+/// Takes the job of this id out, if there is one, and counts in its tube that it was deleted. Its room is kept, but for
+/// what nobody needs.
 pub fn take(state: &mut CoreParts, id: JobId) -> Option<Job>
     ensures job { result ≡ job_with id (machine_of state.old).jobs }
-    ensures after { machine_of state.new
-        ≡ record (machine_of state.old) { jobs = without id (machine_of state.old).jobs } }
+    ensures after { machine_of state.new ≡ once_deleted result (machine_of state.old) }
     ensures id { IfSome result (λ job. job.id ≡ id) }
     ensures gone { job_with id (machine_of state.new).jobs ≡ None }
     ensures given { IfSome result (λ job. (1 ≤ job.id) × (job.id < state.new.next_id)) }

@@ -7,14 +7,14 @@ ghost use Rattle.std.specs.Ordering.{nat_cmp};
 ghost use Rattle.bq_index.specs.Order.{InOrder};
 ghost use Rattle.bq_job.specs.reading.TubeName.{is_same_name};
 ghost use Rattle.bq_job.specs.machine.Timers.{tube_after_timers};
-ghost use Rattle.bq_state.specs.Counting.{AreCounts, DropsGone, IfCounted, tubes_with, with_crowds_at, with_tallies_at};
+ghost use Rattle.bq_state.specs.Counting.{AreCounts, DropsGone, IfCounted, tubes_with, with_crowds_at, with_job_deleted, with_job_put, with_tallies_at};
 ghost use Rattle.bq_state.specs.Crowds.{crowd_at, recounted};
 ghost use Rattle.bq_state.specs.Dues.{first_pause_end, pause_end_after, pause_end_left};
 ghost use Rattle.bq_state.specs.KeptTubes.{edited_at, kept_changed, record_at};
 ghost use Rattle.bq_state.specs.Leaving.{exists_in};
 ghost use Rattle.bq_state.specs.Offers.{is_waited_at};
 ghost use Rattle.bq_state.specs.PauseEnds.{AreEnds};
-ghost use Rattle.bq_state.specs.Tallies.{has_jobs, tallies_of, tallies_with, tallies_without, tally_at, tally_moved};
+ghost use Rattle.bq_state.specs.Tallies.{has_jobs, tallies_of, tally_at, tally_moved};
 ghost use Rattle.bq_state.specs.TubeNumbers.{HaveNumbers};
 ghost use Rattle.bq_state.specs.Names.{names_of};
 ghost use Rattle.bq_state.specs.TubeEntries.{has_entry, names_alive, tube_changed_at};
@@ -189,20 +189,16 @@ impl Tubes {
         }
     }
 
-    /// Counts a job in its tube.
-    #[tactic(auto, using(crate::proofs::EditLemmas::tallies_change))]
+    /// Counts a job that was put, and that it was, in its tube.
     pub(crate) fn add_job(&mut self, job: &Job)
-        ensures { self.new
-            ≡ record self.old { tallies = tallies_with job.now self.old.entries self.old.tallies } }
+        ensures { self.new ≡ with_job_put job.now self.old }
     {
         entry::add_job(&mut self.kept, job);
     }
 
-    /// Counts a job in its tube no longer.
-    #[tactic(auto, using(crate::proofs::EditLemmas::tallies_change))]
+    /// Counts a job that was deleted no longer, and that it was deleted, in its tube.
     pub(crate) fn remove_job(&mut self, job: &Job)
-        ensures { self.new
-            ≡ record self.old { tallies = tallies_without job.now self.old.entries self.old.tallies } }
+        ensures { self.new ≡ with_job_deleted job.now self.old }
     {
         entry::remove_job(&mut self.kept, job);
     }

@@ -8,7 +8,6 @@ ghost use Rattle.bq_state.specs.KeptTubes.{ended, fresh_entry, kept_after, kept_
 ghost use Rattle.bq_state.specs.KeptTubes.{kept_recounted, record_of, edited_at, kept_with};
 ghost use Rattle.bq_state.specs.KeptTubes.{kept_without};
 ghost use Rattle.bq_state.specs.PauseEnds.{end_of};
-ghost use Rattle.bq_state.specs.Tallies.{tally_with, tally_without};
 ghost use Rattle.bq_state.specs.Crowds.{crowd_with, crowd_without, has_seats, is_none, no_crowd};
 ghost use Rattle.bq_state.specs.Crowds.{recounted};
 
@@ -184,17 +183,19 @@ impl TubeEntry {
         }
     }
 
-    /// Counts a job.
+    /// Counts a job that was put.
     pub(crate) fn add_job(&mut self, job: &Job)
-        ensures { self.new ≡ record self.old { tally = tally_with job.now self.old.tally } }
+        ensures { self.new ≡ kept_with job.now self.old }
     {
+        self.change(TubeChange::CountPut);
         self.tally.add(job);
     }
 
-    /// Counts a job no longer.
+    /// Counts a job that was deleted no longer, and that it was deleted.
     pub(crate) fn remove_job(&mut self, job: &Job)
-        ensures { self.new ≡ record self.old { tally = tally_without job.now self.old.tally } }
+        ensures { self.new ≡ kept_without job.now self.old }
     {
+        self.change(TubeChange::CountDelete);
         self.tally.remove(job);
     }
 
@@ -247,19 +248,22 @@ pub(crate) fn end_pause(catalog: &mut Catalog<TubeName, TubeEntry>, name: &TubeN
     }
 }
 
-/// Counts a job in its tube.
+/// Counts a job that was put in its tube. The names ascend here too.
 pub(crate) fn add_job(catalog: &mut Catalog<TubeName, TubeEntry>, job: &Job)
-    ensures { catalog.new.entries ≡ edited_at job.now.tube (kept_with job.now) catalog.old.entries }
+    ensures entries { catalog.new.entries
+        ≡ edited_at job.now.tube (kept_with job.now) catalog.old.entries }
+    ensures ordered { InOrder (slice_cmp nat_cmp) catalog.old.entries }
 {
     if let Some(entry) = catalog.get_mut(&job.tube) {
         entry.add_job(job);
     }
 }
 
-/// Counts a job in its tube no longer.
+/// Counts a job that was deleted in its tube no longer. The names ascend here too.
 pub(crate) fn remove_job(catalog: &mut Catalog<TubeName, TubeEntry>, job: &Job)
-    ensures { catalog.new.entries
+    ensures entries { catalog.new.entries
         ≡ edited_at job.now.tube (kept_without job.now) catalog.old.entries }
+    ensures ordered { InOrder (slice_cmp nat_cmp) catalog.old.entries }
 {
     if let Some(entry) = catalog.get_mut(&job.tube) {
         entry.remove_job(job);

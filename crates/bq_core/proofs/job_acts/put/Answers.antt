@@ -10,51 +10,39 @@ use Rattle.bq_core.proofs.{ActLemmas.{asker_connected, put_done}, AskLemmas.aske
 use Rattle.bq_core.proofs.job_acts.put.Goals as goal
 use Rattle.bq_jobs.proofs.Changes.{low_below}
 
-pub change_tube-requires : goal.change_tube-requires
-change_tube-requires c =
-    let st = c.args.state.now in
-    let s = c.in-Some.client.now in
-    let found : seat_with c.args.seat st.seats.items ≡ Some s = ap (seat_with c.args.seat) (sym c.as_slice.ensures.value) ∙ sym c.in-Some.ensures in
-    let here = found_passes (λ s. s.number == c.args.seat) st.seats.items s found in
-    let has : HasTubes st.tubes.entries s = all_at (HasTubes st.tubes.entries) st.seats.items s c.args.state.now.sound.entries.of_seats here.1 in
-    let made = c.new_job-job.ensures s (sym c.used.ensures) in
-    record {
-      entry = ap (λ tubes. has_entry c.new_job-job.result.tube tubes.entries) c.in-Ok-make_room.ensures.tubes
-          ∙ ap (λ (j : Job). has_entry j.tube st.tubes.entries) made ∙ has.used (asker_connected c.args.seat st.seats.items s found c.requires.asks);
-    }
-
 pub add-requires-clause-given : goal.add-requires-clause-given
 add-requires-clause-given c =
+    let st = c.args.state.now in
     let made = c.new_job-job.ensures c.in-Some.client.now (sym c.used.ensures) in
-    let mid : c.change_tube.new.state.next_id ≡ c.args.state.now.next_id = ap (λ (x : Machine). x.next_id) c.change_tube.ensures.after ∙ ap (λ (x : Machine). x.next_id) c.in-Ok-make_room.ensures.after in
-    let id : c.new_job-job.result.id ≡ c.change_tube.new.state.next_id = ap (λ (j : Job). j.id) made ∙ sym mid in
-    let next : c.count_put.new.state.next_id ≡ c.change_tube.new.state.next_id + 1 = ap (λ (x : Machine). x.next_id) c.count_put.ensures.after in
-    let some = low_below 1 c.change_tube.new.state.next_id c.change_tube.new.state.jobs.jobs c.change_tube.new.state.sound.ids in
+    let id : c.new_job-job.result.id ≡ st.next_id = ap (λ (j : Job). j.id) made in
+    let next : c.count_put.new.state.next_id ≡ st.next_id + 1 =
+    ap (λ (x : Machine). x.next_id) c.count_put.ensures.after ∙ ap (λ (x : Machine). x.next_id + 1) c.in-Ok-make_room.ensures.after in
+    let some = low_below 1 st.next_id st.jobs.jobs st.sound.ids in
     (omega arith, omega arith)
 
 pub add-requires-clause-free : goal.add-requires-clause-free
 add-requires-clause-free c =
+    let st = c.args.state.now in
     let made = c.new_job-job.ensures c.in-Some.client.now (sym c.used.ensures) in
-    let mid : c.change_tube.new.state.next_id ≡ c.args.state.now.next_id = ap (λ (x : Machine). x.next_id) c.change_tube.ensures.after ∙ ap (λ (x : Machine). x.next_id) c.in-Ok-make_room.ensures.after in
-    let id : c.new_job-job.result.id ≡ c.change_tube.new.state.next_id = ap (λ (j : Job). j.id) made ∙ sym mid in
-    let jobs : (machine_of c.count_put.new.state).jobs ≡ (machine_of c.change_tube.new.state).jobs = ap (λ (x : Machine). x.jobs) c.count_put.ensures.after in
+    let id : c.new_job-job.result.id ≡ st.next_id = ap (λ (j : Job). j.id) made in
+    let jobs : (machine_of c.count_put.new.state).jobs ≡ st.jobs.jobs =
+    ap (λ (x : Machine). x.jobs) c.count_put.ensures.after ∙ ap (λ (x : Machine). x.jobs) c.in-Ok-make_room.ensures.after in
     ap (λ n. job_with n (machine_of c.count_put.new.state).jobs) id
-    ∙ ap (job_with c.change_tube.new.state.next_id) jobs
-    ∙ c.next_is_free.ensures 1 c.change_tube.new.state.next_id c.change_tube.new.state.jobs.jobs c.change_tube.new.state.sound.ids
+    ∙ ap (job_with st.next_id) jobs
+    ∙ c.next_is_free.ensures 1 st.next_id st.jobs.jobs st.sound.ids
 
 pub add-requires-clause-entry : goal.add-requires-clause-entry
 add-requires-clause-entry c =
     let st = c.args.state.now in
-    let mid = c.change_tube.new.state in
     let s = c.in-Some.client.now in
     let found : seat_with c.args.seat st.seats.items ≡ Some s = ap (seat_with c.args.seat) (sym c.as_slice.ensures.value) ∙ sym c.in-Some.ensures in
     let connected = asker_connected c.args.seat st.seats.items s found c.requires.asks in
-    let still : seat_with c.args.seat mid.seats.items ≡ Some s = ap (λ (x : Machine). seat_with c.args.seat x.seats) c.change_tube.ensures.after ∙ ap (λ seats. seat_with c.args.seat seats.items) c.in-Ok-make_room.ensures.seats ∙ found in
-    let here = found_passes (λ s. s.number == c.args.seat) mid.seats.items s still in
-    let has : HasTubes mid.tubes.entries s = all_at (HasTubes mid.tubes.entries) mid.seats.items s c.change_tube.new.state.sound.entries.of_seats here.1 in
+    let here = found_passes (λ s. s.number == c.args.seat) st.seats.items s found in
+    let has : HasTubes st.tubes.entries s = all_at (HasTubes st.tubes.entries) st.seats.items s st.sound.entries.of_seats here.1 in
     let made = c.new_job-job.ensures s (sym c.used.ensures) in
     ap (λ (h : Held). has_entry c.new_job-job.result.tube h.tubes.entries) c.count_put.ensures.same
-    ∙ ap (λ (j : Job). has_entry j.tube mid.tubes.entries) made ∙ has.used connected
+    ∙ ap (λ tubes. has_entry c.new_job-job.result.tube tubes.entries) c.in-Ok-make_room.ensures.tubes
+    ∙ ap (λ (j : Job). has_entry j.tube st.tubes.entries) made ∙ has.used connected
 
 pub returns-clause-reply : goal.returns-clause-reply
 returns-clause-reply c s found =
@@ -68,19 +56,18 @@ returns-clause-reply c s found =
     let is : job ≡ new_job m s c.args.new.pri c.args.new.delay c.args.new.ttr c.args.body.now =
     c.new_job-job.ensures s used ∙ ap (λ b. new_job m s c.args.new.pri c.args.new.delay c.args.new.ttr b) body in
     let at : job.tube ≡ tube = ap (λ (j : Job). j.tube) is ∙ used in
-    let after : machine_of c.change_tube.new.state ≡ with_tube tube with_put m =
-    c.change_tube.ensures.after ∙ ap (with_tube job.tube with_put) c.in-Ok-make_room.ensures.after ∙ ap (λ n. with_tube n with_put m) at in
     let id : job.id ≡ m.next_id = ap (λ (j : Job). j.id) is in
-    let W = with_tube tube with_put m in
-    let given : machine_of c.count_put.new.state ≡ after_given W = c.count_put.ensures.after ∙ ap after_given after in
+    let given : machine_of c.count_put.new.state ≡ after_given m = c.count_put.ensures.after ∙ ap after_given c.in-Ok-make_room.ensures.after in
     let last : with_added job m.jobs ≡ m.jobs ++ job ∷ [] = c.adds_at_the_end.ensures 1 m.jobs job (subst (AreIdsWithin 1 m.jobs) (sym id) c.args.state.now.sound.ids) in
-    let done : machine_of c.add.new.state ≡ record (after_given W) { jobs = m.jobs ++ job ∷ [] } =
-    c.add.ensures.after ∙ ap (λ (x : Machine). record x { jobs = with_added job x.jobs }) given ∙ ap (λ js. record (after_given W) { jobs = js }) last in
+    let done : machine_of c.add.new.state ≡ record (after_given (with_tube tube with_put m)) { jobs = m.jobs ++ job ∷ [] } =
+    c.add.ensures.after ∙ ap (λ (x : Machine). record (with_tube job.tube with_put x) { jobs = with_added job x.jobs }) given
+    ∙ ap (λ n. record (with_tube n with_put (after_given m)) { jobs = with_added job m.jobs }) at
+    ∙ ap (λ js. record (after_given (with_tube tube with_put m)) { jobs = js }) last in
     put_done m s c.args.new.pri c.args.new.delay c.args.new.ttr c.args.body.now tube job used c.if-state.false (sym c.if-is_full.ensures) is
-    ∙ ap (λ n. telling (answers.Inserted n) (record (after_given W) { jobs = m.jobs ++ job ∷ [] })) (sym id)
+    ∙ ap (λ n. telling (answers.Inserted n) (record (after_given (with_tube tube with_put m)) { jobs = m.jobs ++ job ∷ [] })) (sym id)
     ∙ ap (telling (answers.Inserted job.id)) (sym done)
 
 pub returns-clause-asks : goal.returns-clause-asks
 returns-clause-asks c =
-    let same : c.count_put.new.state.jobs ≡ c.make_room.new.state.jobs = ap (λ (h : Held). h.jobs) c.count_put.ensures.same ∙ c.change_tube.ensures.jobs in
+    let same : c.count_put.new.state.jobs ≡ c.make_room.new.state.jobs = ap (λ (h : Held). h.jobs) c.count_put.ensures.same in
     asked_before 0 4 (omega arith) (subst (λ (k : Kept). Asks 0 c.args.state.now.jobs k) (sym same) c.in-Ok-make_room.ensures.asks) c.add.ensures.asks

@@ -1,7 +1,16 @@
 use Rattle.std.proofs.Common.{refl}
-use Rattle.bq_state.specs.KeptTubes.{kept_with}
-use Rattle.bq_state.proofs.EditLemmas.{ends_stay}
+use Rattle.bq_state.specs.declared.tubes.entry.TubeChange.TheVariants.{CountPut}
+use Rattle.bq_state.specs.{KeptTubes.kept_with, Tallies.tally_with, TubeEntries.tube_changed}
+use Rattle.bq_state.proofs.{EditLemmas.job_counted, EndMoves.edit_stays, NamedLemmas.{change_kept, in_order}, PartsLemmas.tube_name_kept}
 use Rattle.bq_state.proofs.tubes.Tubes.add_job.Goals as goal
 
+pub returns : goal.returns
+returns c =
+    let j = c.args.job.now in
+    job_counted CountPut j.tube (kept_with j) (tally_with j) c.self.inside.kept.entries _ c.args.self.now c.add_job.ensures.entries c.self.view_is c.add_job.ensures.ordered (change_kept CountPut) (λ t. refl) (λ t. refl)
+
 pub invariant_of-self : goal.invariant_of-self
-invariant_of-self c = ends_stay c.args.job.now.tube (kept_with c.args.job.now) c.self.inside.kept.entries _ c.self.inside.ends c.add_job.ensures (λ n t. refl) c.self.invariant
+invariant_of-self c =
+    let j = c.args.job.now in
+    let es = c.self.inside.kept.entries in
+    edit_stays j.tube (kept_with j) (tube_changed CountPut) (change_kept CountPut) (tube_name_kept CountPut) es _ (in_order es c.add_job.ensures.ordered) c.add_job.ensures.entries (λ t. refl) c.self.inside.ends c.self.invariant
