@@ -1,4 +1,4 @@
-//! Who has a job, where tubes go by their names.
+//! The holders of jobs, with the names of tubes.
 ghost use Rattle.std.specs.Cmp as Cmp;
 ghost use Rattle.bq_jobs.specs.Groups.{group_cmp, group_number, group_total, tube_in};
 ghost use Rattle.bq_jobs.specs.Names.{name_cmp, number_in};
@@ -18,7 +18,7 @@ use std::marker::Model;
 #[derive(Clone, Copy)]
 pub struct NamedGroup(Named);
 
-/// Who that is.
+/// The client at a seat, or a tube in one state.
 #[derive(Clone, Copy)]
 pub enum Named {
     Held(Seat),

@@ -18,7 +18,7 @@ turned a b h = elim (cases_Bool (is_same_name b a)) [
 ]
 
 module _ (name : List ℕ) where
-  -- Where an entry is dropped the others stay,
+  -- If an entry is dropped, the others stay,
   left_of : (other : List ℕ) → is_same_name name other ≡ false → (es : List Named) → has_entry other (map record_at (remove_entry (is_named_at name) es)) ≡ has_entry other (map record_at es)
   left_of other h [] = refl
   left_of other h (x ∷ es) = elim (cases_Bool (is_same_name name x.0)) [
