@@ -7,7 +7,7 @@ ghost use Rattle.bq_driver.specs.Tending.{IsNewDoor};
 use crate::clients::{Client, Outcome, parts_of};
 use bq_job::{LineEnd, NoMemory};
 use bq_line::line::MemLine;
-use bq_line::{Door, DoorFault, MemDoor};
+use bq_line::{Door, DoorFault, MemDoor, Opening};
 use std::alloc::Global;
 use std::collections::VecDeque;
 use std::sync::atomic::{AtomicU64, Ordering};
@@ -37,6 +37,11 @@ impl<'c> Door for CountedDoor<'c> {
     fn open(&mut self) -> Result<Option<MemLine>, DoorFault> {
         self.opened.fetch_add(1, Ordering::SeqCst);
         self.door.open()
+    }
+
+    fn look(&mut self, may_have_come: bool) -> Result<Opening<MemLine>, DoorFault> {
+        self.opened.fetch_add(1, Ordering::SeqCst);
+        self.door.look(may_have_come)
     }
 
     fn shut(&mut self, line: MemLine, end: LineEnd) {

@@ -1,14 +1,14 @@
 -- What calls of a stream come to for a line over it.
 use Rattle.std.proofs.Common.{◌≡◌, ◌<◌, ◌==◌, ◌||◌, ℕ, Bool, true, false, List, [], ◌∷◌, ◌++◌, Option, Some, None, IfSome, Result, Ok, Err, length, take, refl, sym, ap, ◌∙◌, append-nil, arith, subst, if◌then◌else◌}
-use Rattle.std.proofs.KnownBytes.{Appends-kept, Consumes-kept, Consumes-trans, Consumes-whole}
+use Rattle.std.proofs.KnownBytes.{Appends-kept, Appends-trans, Consumes-kept, Consumes-trans, Consumes-whole}
 use Rattle.std.proofs.lemmas.Bool.Decides.{nat_tests}
 use Rattle.std.proofs.lemmas.List.{append_cancel_left}
-use Rattle.std.specs.Io.KnownBytes.{Appends, Consumes, IsAtEnd, Keeps, ReadConsumes}
+use Rattle.std.specs.Io.KnownBytes.{Appends, Consumes, IsAtEnd, Keeps, ReadConsumes, WriteAppends, prepend_known}
 use Rattle.std.specs.declared.io.Error.{Error}
 use Rattle.std.specs.IoError.{error_kind}
 use Rattle.bq_job.specs.declared.line_end.LineFault.TheVariants as faults
 use Rattle.bq_job.specs.promise.LineSteps.{LineSeen}
-use Rattle.bq_line.specs.LineCalls.{after_fill, after_read, is_nothing_yet, with_line_fault}
+use Rattle.bq_line.specs.LineCalls.{after_fill, after_read, after_write, is_nothing_yet, with_line_fault}
 use Rattle.bq_line.specs.Streams.{LiesOver, StreamSeen}
 
 nothing_before : (bytes more : List ℕ) → [] ≡ bytes ++ more → bytes ≡ []
@@ -96,3 +96,45 @@ pub failed_noted : (first old gave new : StreamSeen) (line later : LineSeen) (e 
     → later ≡ after_fill (Err e) line → new ≡ gave → LiesOver first line old → LiesOver first later new
 failed_noted first old gave new line later e kept apart noted stays over =
     noted_so first gave new (after_fill (Err e) line) later noted stays (failed_on first old gave line e kept apart over)
+
+-- A write that took no bytes.
+refused_on : (first old new : StreamSeen) (line : LineSeen) (e : Error)
+    → Keeps old.left new.left → Keeps old.held new.held → LiesOver first line old → LiesOver first (after_write (Err e) [] line) new
+refused_on first old new line e kept apart over = refused (is_nothing_yet (error_kind e))
+  where
+    refused : (yet : Bool) → LiesOver first (if yet then line else with_line_fault faults.Write line) new
+    refused true = nothing_moved first old new line line kept apart refl refl refl over
+    refused false = nothing_moved first old new line (with_line_fault faults.Write line) kept apart refl refl refl over
+
+-- The line noted that a read of its stream failed.
+pub refused_noted : (first old gave new : StreamSeen) (line later : LineSeen) (e : Error) → Keeps old.left gave.left → Keeps old.held gave.held
+    → later ≡ after_write (Err e) [] line → new ≡ gave → LiesOver first line old → LiesOver first later new
+refused_noted first old gave new line later e kept apart noted stays over =
+    noted_so first gave new (after_write (Err e) [] line) later noted stays (refused_on first old gave line e kept apart over)
+
+none_held : (old new : Option (List ℕ)) (buf : List ℕ) (n : ℕ) → n ≡ 0 → Appends old new (take n buf) → Keeps old new
+none_held None new buf n none held = tt
+none_held (Some xs) None buf n none held = absurd held
+none_held (Some xs) (Some ys) buf n none held = held ∙ ap (λ k. xs ++ take k buf) none ∙ append-nil xs
+
+-- What lies before a stream leaves what is said of the stream.
+pub prepend_kept : (came : List ℕ) (old new : Option (List ℕ)) → Keeps old new → Keeps (prepend_known came old) (prepend_known came new)
+prepend_kept came None new kept = tt
+prepend_kept came (Some xs) None kept = absurd kept
+prepend_kept came (Some xs) (Some ys) kept = ap (λ l. came ++ l) kept
+
+-- A write was noted.
+pub wrote_noted : (first old new : StreamSeen) (line later : LineSeen) (result : Result ℕ Error) (buf : List ℕ) → Keeps old.left new.left → WriteAppends old.held new.held result buf
+    → later ≡ after_write result buf line → LiesOver first line old → LiesOver first later new
+wrote_noted first old new line later (Err e) buf kept held noted over = refused_noted first old new new line later e kept held noted refl over
+wrote_noted first old new line later (Ok n) buf kept held noted over = subst (λ l. LiesOver first l new) (sym noted) (took (n == 0) refl)
+  where
+    took : (none : Bool) → (n == 0) ≡ none → LiesOver first (if none then with_line_fault faults.Write line else record line { written = line.written ++ take n buf }) new
+    took true e =
+        let none : n ≡ 0 = grind (arith, nat_tests) in
+        nothing_moved first old new line (with_line_fault faults.Write line) kept (none_held old.held new.held buf n none held) refl refl refl over
+    took false e = record {
+      read = Consumes-kept first.left old.left new.left line.read over.read kept;
+      written = Appends-trans first.held old.held new.held line.written (take n buf) over.written held;
+      ended = over.ended;
+    }

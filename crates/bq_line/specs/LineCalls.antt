@@ -41,10 +41,11 @@ after_fill (Err e) line = after_read (Err e) [] line
 abbrev pub after_take : ℕ → List ℕ → LineSeen → LineSeen
 after_take n came line = if n == 0 then line else after_read (Ok n) came line
 
--- A write that takes no bytes is a fault, and so is any error.
+-- An error that says only that there is no room yet leaves the line as it was. Any other is a fault, and so is a write
+-- that takes no bytes.
 abbrev pub after_write : Result ℕ Error → List ℕ → LineSeen → LineSeen
 after_write (Ok n) buf line = if n == 0 then with_line_fault faults.Write line else record line { written = line.written ++ take n buf }
-after_write (Err e) buf line = with_line_fault faults.Write line
+after_write (Err e) buf line = if is_nothing_yet (error_kind e) then line else with_line_fault faults.Write line
 
 abbrev pub after_flush : Result (Unit {0}) Error → LineSeen → LineSeen
 after_flush (Ok done) line = line

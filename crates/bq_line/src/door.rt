@@ -1,7 +1,7 @@
 //! Doors, at which clients come one after another.
 ghost use Rattle.std.specs.Prelude.{◌≡◌, Bool, List, [], ◌∷◌, ◌++◌, true, false};
 ghost use Rattle.bq_job.specs.promise.History.{LineOver};
-ghost use Rattle.bq_line.specs.Doors.{IsOpened};
+ghost use Rattle.bq_line.specs.Doors.{IsLookedFor, IsOpened};
 
 pub use free_doors::FreeDoors;
 pub use listen::Listen;
@@ -22,6 +22,7 @@ mod refusals;
 use crate::line::Line;
 use bq_job::LineEnd;
 use std::net::TcpListener;
+use std::os::fd::RawFd;
 use thiserror::Error;
 
 /// A door at which connections over TCP come.
@@ -39,6 +40,19 @@ impl DoorFault {
     {
         504
     }
+}
+
+/// The result of a look for the next line, which does not wait.
+#[derive(Drop)]
+pub enum Opening<L> {
+    /// The next line.
+    Line(L),
+    /// None has come yet. The system reports when one has.
+    NotYet,
+    /// None can be accepted for a while, because the system is short of something. It does not report when that ends.
+    Later,
+    /// No more come.
+    NoMore,
 }
 
 /// A door, which opens one line after another, one at a time.
@@ -64,6 +78,20 @@ pub trait Door {
         ensures opened { IsOpened Self.Line.seen (is_out self.new) (is_at_end self.new) result }
         ensures over { lines_over self.new ≡ lines_over self.old }
         ensures same { (first : Self) → same first self.old → same first self.new };
+
+    /// Opens the next line without waiting for it. `may_have_come` is false if none can have come since the last look, so
+    /// that no system call is needed. On error no more lines come.
+    fn look(&mut self, may_have_come: bool) -> Result<Opening<Self::Line>, DoorFault>
+        requires inside { is_out self.old ≡ false }
+        requires more { is_at_end self.old ≡ false }
+        ensures opened { IsLookedFor Self.Line.seen (is_out self.new) (is_at_end self.new) result }
+        ensures over { lines_over self.new ≡ lines_over self.old }
+        ensures same { (first : Self) → same first self.old → same first self.new };
+
+    /// The descriptor by which the system reports when a line may have come, if there is one.
+    fn source(&self) -> Option<RawFd> {
+        None
+    }
 
     /// Takes the line back that is out. It was over in this way.
     fn shut(&mut self, line: Self::Line, end: LineEnd)

@@ -5,7 +5,7 @@
 #![tactic(auto)]
 
 pub use door::{
-    Door, DoorFault, FreeDoors, Listen, ListenDoor, MemDoor, OpenDoors, Refusals, TcpDoor,
+    Door, DoorFault, FreeDoors, Listen, ListenDoor, MemDoor, OpenDoors, Opening, Refusals, TcpDoor,
 };
 
 pub mod clock;

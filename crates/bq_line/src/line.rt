@@ -8,15 +8,18 @@ ghost use Rattle.bq_line.specs.Streams.{StaysOver, StreamSeen};
 
 pub use io_line::{BufferedLine, ByteRecord, IoLine};
 pub use mem_line::{MemLine, Part};
+pub use readiness::Readiness;
 pub use stream::{Connection, Duplex, READ_ROOM, ReadBuffer, Socket};
 
 mod io_line;
 mod mem_line;
+mod readiness;
 mod stream;
 
 use bq_job::LineFault;
 use std::io;
 use std::io::ErrorKind;
+use std::os::fd::RawFd;
 
 /// A line to one client. It tells of itself the bytes that its reads gave and its writes took since it
 /// was new, whether its input has ended, and the first fault that a call of it answered.
@@ -66,8 +69,9 @@ pub trait Line {
         ensures seen { seen self.new ≡ after_take count (unread self.old) (seen self.old) }
         ensures stays { StaysOver lies_over self.old self.new };
 
-    /// Writes first bytes of the buffer, and says how many, as `std::io::Write` does. An error is a write
-    /// fault, and so is it that none were taken.
+    /// Writes first bytes of the buffer, and says how many, as `std::io::Write` does. `WouldBlock`, `TimedOut` and
+    /// `Interrupted` say that there is no room yet, and leave the line as it was. Any other error is a write fault, and so
+    /// is a write that took no bytes.
     fn write(&mut self, buf: &[u8]) -> io::Result<usize>
         requires { 0 < length buf.now }
         ensures bound { WritesAtMost result buf.now }
@@ -102,9 +106,37 @@ pub trait Line {
         ensures seen { seen self.new ≡ seen self.old }
         ensures stays { StaysOver lies_over self.old self.new }
     {}
+
+    /// Returns false if a read would only say that there are no bytes yet, as far as the line knows.
+    fn may_give(&self) -> bool {
+        true
+    }
+
+    /// Returns false if a write would only say that there is no room yet, as far as the line knows.
+    fn may_take(&self) -> bool {
+        true
+    }
+
+    /// Swaps the line's own read buffer with this one, if both are empty. A line that has none does nothing. So one
+    /// buffer can serve many lines, of which each keeps a buffer only while bytes lie in it.
+    fn exchange(&mut self, _buffer: &mut ReadBuffer)
+        ensures seen { seen self.new ≡ seen self.old }
+        ensures stays { StaysOver lies_over self.old self.new }
+    {}
+
+    /// The descriptor by which the system reports when the line is ready, if it has one.
+    fn source(&self) -> Option<RawFd> {
+        None
+    }
+
+    /// Notes what the system reported that the line is ready for. A line that is not watched does nothing.
+    fn note_ready(&mut self, _ready: Readiness)
+        ensures seen { seen self.new ≡ seen self.old }
+        ensures stays { StaysOver lies_over self.old self.new }
+    {}
 }
 
-/// Whether an error of a read says only that there are no bytes yet.
+/// Returns true if an error says only that there are no bytes yet, or no room yet.
 pub fn is_nothing_yet(e: &io::Error) -> bool
     ensures { result ≡ is_nothing_yet (error_kind e.now) }
 {

@@ -17,6 +17,9 @@ const REST: u64 = 100;
 /// Linux's numbers of the errors that say that the listener itself is broken: EBADF, EFAULT, EINVAL and ENOTSOCK.
 const LISTENER_FAULTS: [i32; 4] = [9, 14, 22, 88];
 
+/// How many peers that are gone one accept passes that does not wait.
+const PEERS: u32 = 64;
+
 /// What the error of an accept says.
 enum NotAccepted {
     /// The peer had closed its connection, or a signal came. The next connection can be accepted at once.
@@ -64,6 +67,60 @@ pub(super) fn accept<R: Wait + Clock + Eprint, T: Listen>(
         }
     }
     unreachable!()
+}
+
+/// The result of an accept that does not wait.
+#[derive(Drop)]
+pub(super) enum Accepted<S> {
+    /// A connection, none of whose calls waits.
+    Came(Connection<S>),
+    /// None has come yet.
+    NoneYet,
+    /// None can be accepted for a while.
+    Short,
+}
+
+/// Accepts the next connection of a listener that does not wait. `is_met` says whether an error was met since the last
+/// connection was accepted: it is reported once.
+pub(super) fn accept_now<R: Eprint, T: Listen>(
+    rt: &R,
+    listener: &T,
+    refusals: Option<&Refusals>,
+    is_met: &mut bool,
+) -> io::Result<Accepted<T::Stream>>
+    ensures { OnErr result (T.may_fail listener.now ≡ true) }
+{
+    let mut met = Met::before(refusals, *is_met);
+    for _ in 0..PEERS {
+        match listener.accept() {
+            Ok(mut stream) => {
+                // Neither can be set if the peer has gone.
+                if stream.set_gathers(false).is_ok() && stream.set_waits(false).is_ok() {
+                    met.end();
+                    *is_met = false;
+                    return Ok(Accepted::Came(Connection::watched(stream)));
+                }
+            }
+            Err(e) => {
+                if e.kind() == ErrorKind::WouldBlock {
+                    return Ok(Accepted::NoneYet);
+                }
+                match meaning_of(&e) {
+                    NotAccepted::OfPeer => {}
+                    NotAccepted::Passing => {
+                        met.note(rt, &e);
+                        *is_met = true;
+                        return Ok(Accepted::Short);
+                    }
+                    NotAccepted::OfListener => {
+                        met.note(rt, &e);
+                        return Err(e);
+                    }
+                }
+            }
+        }
+    }
+    Ok(Accepted::Short)
 }
 
 fn meaning_of(e: &io::Error) -> NotAccepted

@@ -5,6 +5,7 @@ ghost use Rattle.bq_line.specs.Accepts.{ends_listener};
 use crate::line::Socket;
 use std::io;
 use std::net::{TcpListener, TcpStream};
+use std::os::fd::{AsRawFd, RawFd};
 
 /// A listener, which accepts one connection after another.
 pub trait Listen {
@@ -18,6 +19,11 @@ pub trait Listen {
     /// and accepts no more (`ends_listener`). Only a listener that may fail returns an error of the second kind.
     fn accept(&self) -> io::Result<Self::Stream>
         ensures { IfErr result (λ e. ends_listener e ≡ true → may_fail self.now ≡ true) };
+
+    /// The descriptor by which the system reports when a connection has come, if there is one.
+    fn source(&self) -> Option<RawFd> {
+        None
+    }
 }
 
 /// Nothing is known of the system's sockets: each may come to its end at once.
@@ -31,5 +37,9 @@ impl Listen for TcpListener {
     fn accept(&self) -> io::Result<TcpStream> {
         let (stream, _peer) = self.accept()?;
         Ok(stream)
+    }
+
+    fn source(&self) -> Option<RawFd> {
+        Some(self.as_raw_fd())
     }
 }

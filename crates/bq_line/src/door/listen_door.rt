@@ -1,16 +1,17 @@
 ghost use Rattle.std.specs.Prelude.{◌≡◌, ◌↔◌, [], IfOk, IsNone, IsSome, OnErr, OnOk, Some, false, true};
-ghost use Rattle.bq_line.specs.Doors.{IsOpened};
+ghost use Rattle.bq_line.specs.Doors.{IsLookedFor, IsNoMore, IsOpened};
 ghost use Rattle.bq_line.specs.InAll.{in_all};
 
-use super::accept::accept;
+use super::accept::{Accepted, accept, accept_now};
 use super::free_doors::FreeDoors;
 use super::line_record::LineRecord;
 use super::open_doors::OpenDoors;
 use super::refusals::Refusals;
-use super::{Door, DoorFault, Listen};
+use super::{Door, DoorFault, Listen, Opening};
 use crate::line::{BufferedLine, Connection, Line, ReadBuffer, Socket};
 use bq_job::LineEnd;
 use std::io::Eprint;
+use std::os::fd::RawFd;
 use std::rt::Clock;
 use std::sync::Wait;
 
@@ -33,6 +34,8 @@ pub struct ListenDoor<'l, R, T> {
     is_out: bool,
     is_at_end: bool,
     met_fault: bool,
+    // Whether an accept that does not wait met a shortage since the last connection.
+    met_shortage: bool,
     // For proofs alone.
     over: LineRecord,
     ghost lent: { is_out ≡ false → IsSome buffer },
@@ -71,6 +74,7 @@ impl<'l, R: Wait + Clock + Eprint, S: Socket + Drop + Send, T: Listen<Stream = S
             is_out: false,
             is_at_end: false,
             met_fault: false,
+            met_shortage: false,
             over: LineRecord::new(),
         }
     }
@@ -235,6 +239,59 @@ impl<'l, R: Wait + Clock + Eprint, S: Socket + Drop + Send, T: Listen<Stream = S
                 Err(DoorFault)
             }
         }
+    }
+
+    // The listener was made not to wait.
+    fn look(
+        &mut self,
+        may_have_come: bool,
+    ) -> Result<Opening<BufferedLine<Connection<S>>>, DoorFault>
+        requires inside { self.old.is_out ≡ false }
+        requires more { self.old.is_at_end ≡ false }
+        ensures opened { IsLookedFor ⟦<BufferedLine<Connection<S>> as Line>⟧.seen
+            self.new.is_out self.new.is_at_end result }
+        ensures over { self.new.over ≡ self.old.over }
+        ensures same { (first : _) → ⟦<ListenDoor<'l, R, T> as Door>⟧.same first self.old →
+            ⟦<ListenDoor<'l, R, T> as Door>⟧.same first self.new }
+        ensures of_listener { OnErr result (T.may_fail self.old.listener.now ≡ true) }
+        ensures fault { OnErr result (self.new.met_fault ≡ true) }
+        ensures no_fault { OnOk result (self.new.met_fault ≡ self.old.met_fault) }
+        // No more come exactly if as many were opened as may come.
+        ensures none { IfOk result (λ opening. IsNoMore opening ↔ (self.old.left ≡ Some 0)) }
+        ensures left { OnErr result (self.old.left ≡ Some 0 → ⊥) }
+    {
+        if self.left == Some(0) {
+            self.is_at_end = true;
+            self.tell_end();
+            return Ok(Opening::NoMore);
+        }
+        if !may_have_come {
+            return Ok(Opening::NotYet);
+        }
+        match accept_now(
+            self.rt,
+            self.listener,
+            self.refusals,
+            &mut self.met_shortage,
+        ) {
+            Ok(Accepted::Came(stream)) => {
+                self.tell_taken();
+                let buffer = self.lend();
+                Ok(Opening::Line(BufferedLine::new(stream, buffer)))
+            }
+            Ok(Accepted::NoneYet) => Ok(Opening::NotYet),
+            Ok(Accepted::Short) => Ok(Opening::Later),
+            Err(_) => {
+                self.is_at_end = true;
+                self.met_fault = true;
+                self.tell_fault();
+                Err(DoorFault)
+            }
+        }
+    }
+
+    fn source(&self) -> Option<RawFd> {
+        self.listener.source()
     }
 
     // What the system still gathers is sent first: closing drops it where the client sent bytes that nobody read. The

@@ -3,10 +3,10 @@ ghost use Rattle.std.specs.Prelude.{◌↔◌, IfErr, IfOk, IsNone, false, true}
 ghost use Rattle.std.specs.List.{All};
 ghost use Rattle.std.specs.Option.{option_to_list};
 ghost use Rattle.std.specs.Vec.{vec_capacity};
-ghost use Rattle.bq_line.specs.Doors.{IsOpened};
+ghost use Rattle.bq_line.specs.Doors.{IsLookedFor, IsOpened};
 ghost use Rattle.bq_line.specs.MemDoors.{IsFresh, line_over};
 
-use super::{Door, DoorFault};
+use super::{Door, DoorFault, Opening};
 use crate::line::{Line, MemLine};
 use bq_job::{LineEnd, NoMemory};
 use std::alloc::Global;
@@ -115,6 +115,27 @@ impl Door for MemDoor {
             None => {
                 self.is_at_end = true;
                 Ok(None)
+            }
+        }
+    }
+
+    // None of its lines has to be waited for.
+    fn look(&mut self, _may_have_come: bool) -> Result<Opening<MemLine>, DoorFault>
+        requires inside { self.old.is_out ≡ false }
+        requires more { self.old.is_at_end ≡ false }
+        ensures opened { IsLookedFor ⟦<MemLine as Line>⟧.seen
+            self.new.is_out self.new.is_at_end result }
+        ensures over { self.new.over ≡ self.old.over }
+        ensures put_in { self.new.put_in ≡ self.old.put_in }
+    {
+        match self.coming.pop_front() {
+            Some(line) => {
+                self.is_out = true;
+                Ok(Opening::Line(line))
+            }
+            None => {
+                self.is_at_end = true;
+                Ok(Opening::NoMore)
             }
         }
     }

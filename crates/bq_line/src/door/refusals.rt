@@ -55,6 +55,11 @@ impl<'r> Met<'r> {
         }
     }
 
+    /// A door of which it is known whether it met a fault since it accepted a connection.
+    pub(super) fn before(refusals: Option<&'r Refusals>, is_met: bool) -> Met<'r> {
+        Met { refusals, is_met }
+    }
+
     /// A connection could not be accepted.
     pub(super) fn note<R: Eprint>(&mut self, rt: &R, e: &io::Error) {
         if self.is_met {

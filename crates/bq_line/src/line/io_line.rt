@@ -5,11 +5,12 @@ ghost use Rattle.bq_line.specs.LineCalls.{after_fill, after_flush, after_read, a
 ghost use Rattle.bq_line.specs.Streams.{StaysOver};
 
 use crate::line::stream::{Duplex, ReadBuffer, read_by};
-use crate::line::{Line, is_nothing_yet, note_fault};
+use crate::line::{Line, Readiness, is_nothing_yet, note_fault};
 use boxcar::tag::{Names, Tag};
 use bq_job::LineFault;
-use std::io;
 use std::marker::Model;
+use std::os::fd::RawFd;
+use std::{io, mem};
 
 /// A line over any stream. Beside the stream it keeps the two marks, and records of the bytes that the
 /// stream's reads gave and its writes took, which take no memory.
@@ -61,6 +62,17 @@ impl<S: Duplex> IoLine<S> {
     {
         if !is_nothing_yet(e) {
             note_fault(&mut self.fault, LineFault::Read);
+        }
+    }
+
+    // Keeps that a write failed, unless there was only no room yet.
+    fn note_unwritten(&mut self, e: &io::Error)
+        ensures seen { ⟦<IoLine<S> as Line>⟧.seen self.new
+            ≡ after_write (Err e.now) [] (⟦<IoLine<S> as Line>⟧.seen self.old) }
+        ensures stream { self.new.stream ≡ self.old.stream }
+    {
+        if !is_nothing_yet(e) {
+            note_fault(&mut self.fault, LineFault::Write);
         }
     }
 
@@ -147,8 +159,9 @@ impl<S: Duplex> Line for IoLine<S> {
     {
         let result = self.stream.write(buf);
         match &result {
-            Ok(0) | Err(_) => note_fault(&mut self.fault, LineFault::Write),
+            Ok(0) => note_fault(&mut self.fault, LineFault::Write),
             Ok(count) => self.written.note(&buf[..*count]),
+            Err(e) => self.note_unwritten(e),
         }
         result
     }
@@ -165,8 +178,9 @@ impl<S: Duplex> Line for IoLine<S> {
     {
         let result = self.stream.write_together(first, second, third);
         match &result {
-            Ok(0) | Err(_) => note_fault(&mut self.fault, LineFault::Write),
+            Ok(0) => note_fault(&mut self.fault, LineFault::Write),
             Ok(count) => self.written.note_together(*count, first, second, third),
+            Err(e) => self.note_unwritten(e),
         }
         result
     }
@@ -192,6 +206,27 @@ impl<S: Duplex> Line for IoLine<S> {
         ensures stays { StaysOver ⟦<IoLine<S> as Line>⟧.lies_over self.old self.new }
     {
         self.stream.expect_more(more);
+    }
+
+    fn may_give(&self) -> bool {
+        self.stream.may_give()
+    }
+
+    fn may_take(&self) -> bool {
+        self.stream.may_take()
+    }
+
+    fn source(&self) -> Option<RawFd> {
+        self.stream.source()
+    }
+
+    fn note_ready(&mut self, ready: Readiness)
+        ensures seen { ⟦<IoLine<S> as Line>⟧.seen self.new ≡ ⟦<IoLine<S> as Line>⟧.seen self.old }
+        ensures stream { Keeps (S.contents self.old.stream) (S.contents self.new.stream) }
+        ensures apart { Keeps (S.remaining self.old.stream) (S.remaining self.new.stream) }
+        ensures stays { StaysOver ⟦<IoLine<S> as Line>⟧.lies_over self.old self.new }
+    {
+        self.stream.note_ready(ready);
     }
 }
 
@@ -300,6 +335,29 @@ impl<S: Duplex> Line for BufferedLine<S> {
 
     fn expect_more(&mut self, more: bool) {
         self.line.expect_more(more);
+    }
+
+    fn may_give(&self) -> bool {
+        !self.came.is_empty() || self.line.may_give()
+    }
+
+    fn may_take(&self) -> bool {
+        self.line.may_take()
+    }
+
+    // What lies in the buffer would be lost with it.
+    fn exchange(&mut self, buffer: &mut ReadBuffer) {
+        if self.came.is_empty() && buffer.is_empty() {
+            mem::swap(&mut self.came, buffer);
+        }
+    }
+
+    fn source(&self) -> Option<RawFd> {
+        self.line.source()
+    }
+
+    fn note_ready(&mut self, ready: Readiness) {
+        self.line.note_ready(ready);
     }
 }
 

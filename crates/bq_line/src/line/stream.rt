@@ -7,12 +7,14 @@ ghost use Rattle.std.specs.Io.KnownBytes.{Consumes, IsAtEnd, Keeps, ReadConsumes
 ghost use Rattle.std.specs.Vec.{vec_capacity};
 
 use super::copy_first;
+use super::readiness::Readiness;
 use bq_job::NoMemory;
 use std::alloc::Global;
 use std::io;
-use std::io::{IoSlice, Read, Write};
+use std::io::{ErrorKind, IoSlice, Read, Write};
 use std::marker::Model;
 use std::net::TcpStream;
+use std::os::fd::{AsRawFd, RawFd};
 
 /// A stream that is read and written, and whose two ways are apart: a read changes nothing of what was written, and
 /// a write nothing of what is left to read. The standard library's `Read` and `Write` each speak of one way alone.
@@ -67,6 +69,31 @@ pub trait Duplex {
         ensures bytes { Keeps (contents self.old) (contents self.new) }
         ensures apart { Keeps (remaining self.old) (remaining self.new) }
     {}
+
+    /// Returns false if a read would only say that there are no bytes yet, as far as the stream knows.
+    fn may_give(&self) -> bool {
+        true
+    }
+
+    /// Returns false if a write would only say that there is no room yet, as far as the stream knows.
+    fn may_take(&self) -> bool {
+        true
+    }
+
+    /// The descriptor by which the system reports when the stream is ready, if it has one.
+    fn source(&self) -> Option<RawFd> {
+        None
+    }
+
+    /// Notes what the system reported that the stream is ready for. A stream that is not watched does nothing.
+    fn note_ready(&mut self, _ready: Readiness)
+        ensures bytes { Keeps (contents self.old) (contents self.new) }
+        ensures apart { Keeps (remaining self.old) (remaining self.new) }
+    {}
+}
+
+fn would_block() -> io::Error {
+    io::Error::from(ErrorKind::WouldBlock)
 }
 
 /// One read of a stream, which may wait for bytes or not.
@@ -139,6 +166,10 @@ impl Duplex for TcpStream {
     fn flush(&mut self) -> io::Result<()> {
         Write::flush(self)
     }
+
+    fn source(&self) -> Option<RawFd> {
+        Some(self.as_raw_fd())
+    }
 }
 
 /// A connection. Its reads and writes wait, however long it takes; `read_now` doesn't. What is written goes out at
@@ -151,18 +182,88 @@ pub struct Connection<S> {
     waits: bool,
     // Whether the system may gather what is written.
     gathers: bool,
+    // What the stream of a watched connection is ready for. None of its calls waits, and those that would be in vain make
+    // no system call.
+    ready: Option<Readiness>,
 }
 
 impl<S: Socket> Connection<S> {
     /// A connection over a stream that waits, as an accepted one does, and that gathers nothing.
     pub fn new(stream: S) -> Connection<S>
-        ensures { result ≡ record { stream = stream; waits = true; gathers = false } }
+        ensures { result
+            ≡ record { stream = stream; waits = true; gathers = false; ready = None } }
     {
         Connection {
             stream,
             waits: true,
             gathers: false,
+            ready: None,
         }
+    }
+
+    /// A connection over a stream that does not wait and gathers nothing. Somebody watches the stream, and notes here what it
+    /// is ready for.
+    pub fn watched(stream: S) -> Connection<S>
+        ensures stream { result.stream ≡ stream }
+        ensures gathers { result.gathers ≡ false }
+    {
+        Connection {
+            stream,
+            waits: false,
+            gathers: false,
+            ready: Some(Readiness::NEW),
+        }
+    }
+
+    // One read of the stream, if that is ready.
+    fn read_ready(&mut self, buf: &mut [u8], ready: Readiness) -> io::Result<usize>
+        ensures bound { ReadsAtMost result buf.new }
+        ensures bytes { ReadConsumes (S.remaining self.old.stream) (S.remaining self.new.stream) result buf.new }
+        ensures apart { Keeps (S.contents self.old.stream) (S.contents self.new.stream) }
+    {
+        if !ready.reads {
+            return Err(would_block());
+        }
+        if ready.is_lost {
+            return Err(io::Error::from(ErrorKind::NotConnected));
+        }
+        let came = self.stream.read(buf);
+        self.ready = Some(ready.after_read(&came, buf.len()));
+        came
+    }
+
+    // One write to the stream, if that is ready.
+    fn write_ready(&mut self, buf: &[u8], ready: Readiness) -> io::Result<usize>
+        ensures bound { WritesAtMost result buf.now }
+        ensures bytes { WriteAppends (S.contents self.old.stream) (S.contents self.new.stream) result buf.now }
+        ensures apart { Keeps (S.remaining self.old.stream) (S.remaining self.new.stream) }
+    {
+        if !ready.writes {
+            return Err(would_block());
+        }
+        let took = self.stream.write(buf);
+        self.ready = Some(ready.after_write(&took));
+        took
+    }
+
+    fn write_together_ready(
+        &mut self,
+        first: &[u8],
+        second: &[u8],
+        third: &[u8],
+        ready: Readiness,
+    ) -> io::Result<usize>
+        ensures bound { WritesAtMost result (first.now ++ second.now ++ third.now) }
+        ensures bytes { WriteAppends (S.contents self.old.stream) (S.contents self.new.stream)
+            result (first.now ++ second.now ++ third.now) }
+        ensures apart { Keeps (S.remaining self.old.stream) (S.remaining self.new.stream) }
+    {
+        if !ready.writes {
+            return Err(would_block());
+        }
+        let took = self.stream.write_together(first, second, third);
+        self.ready = Some(ready.after_write(&took));
+        took
     }
 
     // Calls of the stream wait from now on, or they don't.
@@ -209,8 +310,11 @@ impl<S: Socket> Duplex for Connection<S> {
         ensures bound { ReadsAtMost result buf.new }
         ensures bytes { ReadConsumes (S.remaining self.old.stream) (S.remaining self.new.stream) result buf.new }
         ensures apart { Keeps (S.contents self.old.stream) (S.contents self.new.stream) }
-        ensures waits { OnOk result (self.new.waits ≡ true) }
+        ensures waits { self.old.ready ≡ None → OnOk result (self.new.waits ≡ true) }
     {
+        if let Some(ready) = self.ready {
+            return self.read_ready(buf, ready);
+        }
         self.set_waits(true)?;
         self.stream.read(buf)
     }
@@ -219,8 +323,11 @@ impl<S: Socket> Duplex for Connection<S> {
         ensures bound { ReadsAtMost result buf.new }
         ensures bytes { ReadConsumes (S.remaining self.old.stream) (S.remaining self.new.stream) result buf.new }
         ensures apart { Keeps (S.contents self.old.stream) (S.contents self.new.stream) }
-        ensures waits { OnOk result (self.new.waits ≡ false) }
+        ensures waits { self.old.ready ≡ None → OnOk result (self.new.waits ≡ false) }
     {
+        if let Some(ready) = self.ready {
+            return self.read_ready(buf, ready);
+        }
         self.set_waits(false)?;
         self.stream.read(buf)
     }
@@ -229,8 +336,11 @@ impl<S: Socket> Duplex for Connection<S> {
         ensures bound { WritesAtMost result buf.now }
         ensures bytes { WriteAppends (S.contents self.old.stream) (S.contents self.new.stream) result buf.now }
         ensures apart { Keeps (S.remaining self.old.stream) (S.remaining self.new.stream) }
-        ensures waits { OnOk result (self.new.waits ≡ true) }
+        ensures waits { self.old.ready ≡ None → OnOk result (self.new.waits ≡ true) }
     {
+        if let Some(ready) = self.ready {
+            return self.write_ready(buf, ready);
+        }
         // The last read may not have waited.
         self.set_waits(true)?;
         self.stream.write(buf)
@@ -241,8 +351,11 @@ impl<S: Socket> Duplex for Connection<S> {
         ensures bytes { WriteAppends (S.contents self.old.stream) (S.contents self.new.stream)
             result (first.now ++ second.now ++ third.now) }
         ensures apart { Keeps (S.remaining self.old.stream) (S.remaining self.new.stream) }
-        ensures waits { OnOk result (self.new.waits ≡ true) }
+        ensures waits { self.old.ready ≡ None → OnOk result (self.new.waits ≡ true) }
     {
+        if let Some(ready) = self.ready {
+            return self.write_together_ready(first, second, third, ready);
+        }
         self.set_waits(true)?;
         self.stream.write_together(first, second, third)
     }
@@ -254,6 +367,30 @@ impl<S: Socket> Duplex for Connection<S> {
     fn expect_more(&mut self, more: bool) {
         // A stream that can't be switched stays as it was, and is tried again at the next hint.
         let _switched = self.set_gathers(more);
+    }
+
+    fn may_give(&self) -> bool {
+        match self.ready {
+            Some(ready) => ready.reads,
+            None => true,
+        }
+    }
+
+    fn may_take(&self) -> bool {
+        match self.ready {
+            Some(ready) => ready.writes,
+            None => true,
+        }
+    }
+
+    fn source(&self) -> Option<RawFd> {
+        self.stream.source()
+    }
+
+    fn note_ready(&mut self, ready: Readiness) {
+        if let Some(known) = self.ready {
+            self.ready = Some(known.and(ready));
+        }
     }
 }
 

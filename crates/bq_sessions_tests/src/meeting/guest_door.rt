@@ -6,7 +6,7 @@ ghost use Rattle.bq_line.specs.LineCalls.{new_line};
 use super::guest::Guest;
 use bq_job::LineEnd;
 use bq_line::line::{IoLine, Line};
-use bq_line::{Door, DoorFault};
+use bq_line::{Door, DoorFault, Opening};
 
 /// A door at which one client comes, and no other.
 #[derive(Drop)]
@@ -76,6 +76,19 @@ impl<'m> Door for GuestDoor<'m> {
             None => {
                 self.is_at_end = true;
                 Ok(None)
+            }
+        }
+    }
+
+    fn look(&mut self, _may_have_come: bool) -> Result<Opening<IoLine<Guest<'m>>>, DoorFault> {
+        match self.coming.take() {
+            Some(line) => {
+                self.is_out = true;
+                Ok(Opening::Line(line))
+            }
+            None => {
+                self.is_at_end = true;
+                Ok(Opening::NoMore)
             }
         }
     }
