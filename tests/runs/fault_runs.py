@@ -109,11 +109,26 @@ def run_reads_that_are_tried_again(bqd):
             same(server.end(), Ended(0, b"", b""))
 
 
+def run_writes_that_are_tried_again(bqd):
+    """A write that was interrupted, or that found no room, is made again, also for the rest of an answer. Every byte arrives once."""
+    puts = 8
+    answers = b"".join(b"INSERTED %d\r\n" % put for put in range(1, puts + 1))
+    for code in [errno.EINTR, errno.EAGAIN]:
+        for nth, cut in [(1, 0), (2, 0), (2, 3), (puts, 0), (puts, 11)]:
+            with Server(bqd, "--seats", "1", "--sessions", "1", env=faults(writes=code, nth=nth, cut=cut)) as server:
+                client = server.client()
+                client.stream.settimeout(SECOND)
+                client.sends(b"put 0 0 9 1\r\nx\r\n" * puts)
+                client.hears(answers)
+                client.close()
+                same(server.end(), Ended(0, b"", b""))
+
+
 def run_writes_that_fail(bqd):
-    """Whatever error a write meets, the answer before it is the last that counts, or was cut off there. No later command
+    """Whatever other error a write meets, the answer before it is the last that counts, or was cut off there. No later command
     of the line is carried out, and the seat serves the next client."""
     puts = 8
-    for code in [errno.EPIPE, errno.ECONNRESET, errno.EAGAIN, errno.EINTR, errno.ENOBUFS]:
+    for code in [errno.EPIPE, errno.ECONNRESET, errno.ENOBUFS]:
         for nth, cut in [(1, 0), (2, 0), (2, 3), (puts, 0), (puts, 11)]:
             # Where the answer before was cut, the write that fails is that of its rest.
             carried_out = nth - 1 if cut else nth

@@ -246,9 +246,12 @@ carried_on size old new seen later actions.Read next submitted more taken got h 
 carried_on size old new seen later (actions.Write answer) next submitted more taken got h s =
     nothing_more size new later next submitted more taken got h.0 h.1 (by_turn h.2)
   where
-    by_turn : ((later ≡ with_written (answer_text answer) seen) × IsMove old events.WriteDone next new) ⊎ (BreaksOff (answer_text answer) seen later × IsMove old events.WriteFault next new) → IsOnLine size new later next submitted taken
+    by_turn : ((later ≡ with_written (answer_text answer) seen) × IsMove old events.WriteDone next new) ⊎ (BreaksOff (answer_text answer) seen later × IsMove old events.WriteFault next new) ⊎ ((later ≡ seen) × (next ≡ actions.Write answer) × (new ≡ old)) → IsOnLine size new later next submitted taken
     by_turn (inl m) = wrote_on size old new seen later answer next submitted taken m.0 m.1 s
-    by_turn (inr m) = broke_on size old new seen later answer next submitted taken m.0 m.1 s
+    by_turn (inr (inl m)) = broke_on size old new seen later answer next submitted taken m.0 m.1 s
+    by_turn (inr (inr m)) =
+        subst (λ (a : Action). IsOnLine size new later a submitted taken) (sym m.1)
+        (subst (λ (x : LineSeen). IsOnLine size new x (actions.Write answer) submitted taken) (sym m.0) (subst (λ (n : SeatMachine). IsOnLine size n seen (actions.Write answer) submitted taken) (sym m.2) s))
 carried_on size old new seen later actions.PollMail next submitted more taken got h s =
     subst (λ (xs : List Step). IsOnLine size new later next xs (taken ++ got)) (sym (ap (λ (xs : List Step). submitted ++ xs) h.1 ∙ append-nil submitted))
     (subst (λ (x : LineSeen). IsOnLine size new x next submitted (taken ++ got)) (sym h.0) (by_turn h.2))

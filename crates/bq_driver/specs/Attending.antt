@@ -14,6 +14,7 @@ use Rattle.bq_seat.specs.SeatStands.{StandsFor, awaited}
 use Rattle.bq_seat.specs.Served.{seen_line}
 use Rattle.bq_seat.specs.declared.machine.Action.{Action}
 use Rattle.bq_seat.specs.declared.machine.SeatMachine.{SeatMachine}
+use Rattle.bq_driver.specs.Carried.{with_part}
 use Rattle.bq_driver.specs.declared.attendant.LinePlace.{LinePlace}
 use Rattle.bq_driver.specs.declared.attendant.LinePlace.TheVariants as places
 
@@ -42,7 +43,8 @@ pub record IsOnLine (max_job_size : ℕ) (machine : SeatMachine) (seen : LineSee
 abbrev pub IsAt : {L : Type 0} → (L → LineSeen) → ℕ → SeatMachine → LinePlace L → List Step → List Answer → Type 0
 IsAt seen max_job_size machine places.Between submitted taken =
     (submitted ≡ []) × (taken ≡ []) × (awaited machine ≡ Awaited.ALine) × (machine.reader.max_job_size ≡ max_job_size)
-IsAt seen max_job_size machine (places.On line action) submitted taken = IsOnLine max_job_size machine (seen line) action submitted taken
+IsAt seen max_job_size machine (places.On line action sent) submitted taken =
+    (first : LineSeen) × (seen line ≡ with_part action sent first) × IsOnLine max_job_size machine first action submitted taken
 IsAt seen max_job_size machine places.Leaving submitted taken = (submitted ≡ []) × (taken ≡ [])
 IsAt seen max_job_size machine places.Done submitted taken = (submitted ≡ Gone ∷ []) × (taken ≡ [])
 

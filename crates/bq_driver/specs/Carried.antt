@@ -1,5 +1,5 @@
 -- What carrying out an action comes to: which event it was, and what the line and the link did.
-use Rattle.std.specs.Prelude.{true, ◌≡◌, ◌⊎◌, List, [], ◌∷◌, ◌++◌}
+use Rattle.std.specs.Prelude.{ℕ, true, ◌≡◌, ◌⊎◌, List, [], ◌∷◌, ◌++◌}
 use Rattle.bq_job.specs.declared.answer.Answer.{Answer}
 use Rattle.bq_job.specs.declared.step.Step.{Step}
 use Rattle.bq_job.specs.texts.AnswerText.{answer_text}
@@ -8,7 +8,7 @@ use Rattle.bq_job.specs.declared.line_end.LineFault.TheVariants as faults
 use Rattle.bq_driver.specs.Links.{as_submitted}
 use Rattle.bq_line.specs.LineCalls.{with_line_fault}
 use Rattle.bq_seat.specs.SeatMoves.{IsMove}
-use Rattle.bq_driver.specs.Writing.{BreaksOff, with_written}
+use Rattle.bq_driver.specs.Writing.{BreaksOff, with_begun, with_written}
 use Rattle.bq_seat.specs.declared.machine.Action.{Action}
 use Rattle.bq_seat.specs.declared.machine.Action.TheVariants as actions
 use Rattle.bq_seat.specs.declared.machine.Event.{Event}
@@ -47,10 +47,34 @@ Carried old seen actions.PollMail new later next submitted taken =
 Carried old seen (actions.Write answer) new later next submitted taken =
     (submitted ≡ []) × (taken ≡ [])
     × (((later ≡ with_written (answer_text answer) seen) × IsMove old events.WriteDone next new)
-    ⊎ (BreaksOff (answer_text answer) seen later × IsMove old events.WriteFault next new))
+    ⊎ (BreaksOff (answer_text answer) seen later × IsMove old events.WriteFault next new)
+    ⊎ ((later ≡ seen) × (next ≡ actions.Write answer) × (new ≡ old)))
 Carried old seen (actions.LineOver end) new later next submitted taken =
     IsLeft old seen (actions.LineOver end) new later next submitted taken
 Carried old seen actions.Stray new later next submitted taken = IsLeft old seen actions.Stray new later next submitted taken
+
+-- What a line tells while this action is carried out: if that is an answer to be written, this many bytes of it are written.
+abbrev pub with_part : Action → ℕ → LineSeen → LineSeen
+with_part (actions.Write answer) sent line = with_begun (answer_text answer) sent line
+with_part _ sent line = line
+
+-- Any action but a submission and a look at the mail submits and takes nothing.
+abbrev pub MayCall : Action → List Step → List Answer → Type 0
+MayCall (actions.Submit step) submitted taken = Unit {0}
+MayCall actions.PollMail submitted taken = Unit {0}
+MayCall _ submitted taken = (submitted ≡ []) × (taken ≡ [])
+
+-- The action was carried out, or a further part of it. `first` and `last` are what the line told, and tells, apart from
+-- the part of an answer that is written only in part.
+abbrev pub CarriesOn : SeatMachine → LineSeen → Action → ℕ → SeatMachine → LineSeen → Action → ℕ → List Step → List Answer → Type 0
+CarriesOn old seen action sent new later next now submitted taken =
+    (first : LineSeen) → seen ≡ with_part action sent first
+    → (last : LineSeen) × (later ≡ with_part next now last) × Carried old first action new last next submitted taken
+
+-- The same, with what it may have submitted and taken.
+abbrev pub CarriedPart : SeatMachine → LineSeen → Action → ℕ → SeatMachine → LineSeen → Action → ℕ → List Step → List Answer → Type 0
+CarriedPart old seen action sent new later next now submitted taken =
+    MayCall action submitted taken × CarriesOn old seen action sent new later next now submitted taken
 
 -- Only a submission and a look at the mail go to the link, which else is left alone.
 abbrev pub HasGone : {K : Type 0} → (K → List Step → List Answer → K → Type 0) → K → Action → List Step → List Answer → K → Type 0

@@ -36,7 +36,7 @@ pub record IsNewDoor (door : DoorSeen) : Type 0 where
 -- A line is out exactly while the seat is on it. A door is at its end once its seat goes.
 abbrev pub IsPlaced : {L : Type 0} → LinePlace L → DoorSeen → Type 0
 IsPlaced places.Between door = (door.is_out ≡ false) × (door.is_at_end ≡ false)
-IsPlaced (places.On line action) door = (door.is_out ≡ true) × (door.is_at_end ≡ false)
+IsPlaced (places.On line action sent) door = (door.is_out ≡ true) × (door.is_at_end ≡ false)
 IsPlaced places.Leaving door = (door.is_out ≡ false) × (door.is_at_end ≡ true)
 IsPlaced places.Done door = (door.is_out ≡ false) × (door.is_at_end ≡ true)
 

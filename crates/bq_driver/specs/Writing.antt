@@ -1,8 +1,10 @@
 -- Texts that are written to a line.
-use Rattle.std.specs.Prelude.{ℕ, ◌≡◌, Bool, MatchBool, List, ◌++◌}
+use Rattle.std.specs.Prelude.{ℕ, ◌≡◌, List, ◌++◌, take}
 use Rattle.bq_job.specs.declared.line_end.LineFault.TheVariants as faults
 use Rattle.bq_job.specs.promise.LineSteps.{LineSeen, IsBeginning}
 use Rattle.bq_line.specs.LineCalls.{with_line_fault}
+use Rattle.bq_driver.specs.declared.room.Wrote.{Wrote}
+use Rattle.bq_driver.specs.declared.room.Wrote.TheVariants as wrotes
 
 abbrev pub with_written : List ℕ → LineSeen → LineSeen
 with_written bytes line = record line { written = line.written ++ bytes }
@@ -13,7 +15,16 @@ pub record BreaksOff (text : List ℕ) (old new : LineSeen) : Type 0 where
   pub is_beginning : IsBeginning cut text
   pub seen : new ≡ with_line_fault faults.Write (with_written cut old)
 
--- The text was written whole, or not.
-abbrev pub Writes : List ℕ → LineSeen → LineSeen → Bool → Type 0
-Writes text old new whole =
-    MatchBool whole (new ≡ with_written text old) (BreaksOff text old new)
+-- This many first bytes of the text were written.
+abbrev pub with_begun : List ℕ → ℕ → LineSeen → LineSeen
+with_begun text sent line = with_written (take sent text) line
+
+-- How far the writing of a text got on a line that told `first` of itself before any of it was written.
+abbrev pub WritesOn : List ℕ → LineSeen → Wrote → ℕ → LineSeen → Type 0
+WritesOn text first wrotes.Whole sent later = later ≡ with_written text first
+WritesOn text first wrotes.NotYet sent later = later ≡ with_begun text sent first
+WritesOn text first wrotes.Fault sent later = BreaksOff text first later
+
+-- The writing of a text went on, of which this many bytes were written before.
+abbrev pub Resumes : List ℕ → ℕ → LineSeen → Wrote → ℕ → LineSeen → Type 0
+Resumes text sent old wrote now later = (first : LineSeen) → old ≡ with_begun text sent first → WritesOn text first wrote now later

@@ -12,15 +12,16 @@ ghost use Rattle.bq_job.specs.declared.step.Step.{Step};
 ghost use Rattle.bq_job.specs.promise.LineSteps.{LineSeen};
 ghost use Rattle.bq_line.specs.LineCalls.{after_fill, after_read};
 ghost use Rattle.bq_line.specs.Streams.{StaysOver};
-ghost use Rattle.bq_driver.specs.Carried.{Carried, HasGone};
+ghost use Rattle.bq_driver.specs.Carried.{Carried, CarriedPart, HasGone};
 
 use crate::link::Link;
-use crate::room::{Room, write_answer};
+use crate::room::{Room, Wrote, write_answer};
 use bq_job::{LARGEST_BODY, LineEnd, NoMemory, Step};
-use bq_line::Door;
-use bq_line::line::{Line, is_nothing_yet};
+use bq_line::line::{Line, ReadBuffer, Readiness, is_nothing_yet};
+use bq_line::{Door, Opening};
 use bq_seat::{Action, Event, PIECE_ROOM, SeatMachine, Told};
 use std::alloc::Global;
+use std::os::fd::RawFd;
 use std::{io, mem};
 
 /// Where a seat is with its door.
@@ -28,12 +29,26 @@ use std::{io, mem};
 pub enum LinePlace<L> {
     /// The next line is to be opened.
     Between,
-    /// This line is out, and the action is the next one for it.
-    On(L, Action),
+    /// This line is out, and the action is the next one for it. If that is an answer to be written, this many bytes of it
+    /// are written already.
+    On(L, Action, usize),
     /// No more lines come, and that is to be submitted.
     Leaving,
     /// It was submitted that no more lines come.
     Done,
+}
+
+/// The result of a look for the next line.
+#[derive(Clone, Copy, Debug, PartialEq, Eq)]
+pub enum Looked {
+    /// A line is out.
+    Opened,
+    /// None has come yet. The system reports when one has.
+    NotYet,
+    /// None can be accepted for a while. The system does not report when that ends.
+    Later,
+    /// No more come.
+    NoMore,
 }
 
 /// A seat and where it is with its door.
@@ -68,11 +83,135 @@ impl<L: Line + Drop> Attendant<L> {
     /// Whether nothing but its line can move it: the line is to be read, and no answer is outstanding.
     pub fn awaits_line(&self) -> bool
         ensures reads { IsTrue result
-            → (line : L) × (self.now.place ≡ LinePlace.On line Action.Read) }
-        ensures outstanding { (line : L) → self.now.place ≡ LinePlace.On line Action.Read
+            → (line : L) × (sent : ℕ) × (self.now.place ≡ LinePlace.On line Action.Read sent) }
+        ensures outstanding { (line : L) (sent : ℕ) → self.now.place ≡ LinePlace.On line Action.Read sent
             → ReadsWith (not result) self.now.machine }
     {
-        matches!(self.place, LinePlace::On(_, Action::Read)) && !self.machine.has_outstanding()
+        matches!(self.place, LinePlace::On(_, Action::Read, _)) && !self.machine.has_outstanding()
+    }
+
+    /// Returns true if its line is to be read while an answer is outstanding.
+    pub fn reads_on(&self) -> bool {
+        matches!(self.place, LinePlace::On(_, Action::Read, _)) && self.machine.has_outstanding()
+    }
+
+    /// Returns true if its line is to be read.
+    pub fn reads(&self) -> bool {
+        matches!(self.place, LinePlace::On(_, Action::Read, _))
+    }
+
+    /// Returns true if a step is to be submitted, perhaps one that was handed back.
+    pub fn submits(&self) -> bool {
+        matches!(
+            self.place,
+            LinePlace::On(_, Action::Submit(_), _) | LinePlace::Leaving
+        )
+    }
+
+    /// Returns true if it is to look for an answer in its mail.
+    pub fn polls_mail(&self) -> bool {
+        matches!(self.place, LinePlace::On(_, Action::PollMail, _))
+    }
+
+    /// Returns true if an answer is to be written.
+    pub fn writes(&self) -> bool {
+        matches!(self.place, LinePlace::On(_, Action::Write(_), _))
+    }
+
+    /// Returns true if it is blocked on input that has not come, as far as its line knows: it wants to read and has no
+    /// outstanding answer.
+    pub fn awaits_bytes(&self) -> bool {
+        match &self.place {
+            LinePlace::On(line, Action::Read, _) => {
+                !line.may_give() && !self.machine.has_outstanding()
+            }
+            _ => false,
+        }
+    }
+
+    /// Returns true if it has to read or write again although nothing moved, and no event will say so: the call was
+    /// interrupted.
+    pub fn tries_again(&self) -> bool {
+        match &self.place {
+            LinePlace::On(line, Action::Read, _) => line.may_give(),
+            LinePlace::On(line, Action::Write(_), _) => line.may_take(),
+            _ => false,
+        }
+    }
+
+    /// Returns true if its next line is to be opened.
+    pub fn is_between(&self) -> bool
+        ensures { IsTrue result ↔ (self.now.place ≡ LinePlace.Between) }
+    {
+        matches!(self.place, LinePlace::Between)
+    }
+
+    /// The descriptor by which the system reports when the line that is out is ready, if it has one.
+    pub fn source(&self) -> Option<RawFd> {
+        match &self.place {
+            LinePlace::On(line, _, _) => line.source(),
+            _ => None,
+        }
+    }
+
+    /// Notes what the system reported that the line is ready for.
+    pub fn note_ready(&mut self, ready: Readiness)
+        ensures { (door : DoorSeen) → Tends L.seen self.old door [] [] self.new door }
+    {
+        if let LinePlace::On(line, _, _) = &mut self.place {
+            line.note_ready(ready);
+        }
+    }
+
+    /// Swaps the read buffer of the line that is out with this one, if both are empty.
+    pub fn exchange(&mut self, buffer: &mut ReadBuffer)
+        ensures { (door : DoorSeen) → Tends L.seen self.old door [] [] self.new door }
+    {
+        if let LinePlace::On(line, _, _) = &mut self.place {
+            line.exchange(buffer);
+        }
+    }
+
+    /// Sends on its way what the line was told to hold back for answers that come soon.
+    pub fn hand_on(&mut self)
+        ensures { (door : DoorSeen) → Tends L.seen self.old door [] [] self.new door }
+    {
+        if let LinePlace::On(line, _, _) = &mut self.place {
+            line.expect_more(false);
+        }
+    }
+
+    /// Looks for the next line without waiting for it. `may_have_come` is false if none can have come since the last look.
+    pub fn look<D: Door<Line = L>>(
+        &mut self,
+        alloc: Global,
+        door: &mut D,
+        may_have_come: bool,
+    ) -> Looked
+        requires between { self.old.place ≡ LinePlace.Between }
+        requires inside { D.is_out door.old ≡ false }
+        requires more { D.is_at_end door.old ≡ false }
+        ensures went { let at = door_seen D.is_out D.is_at_end D.lines_over in
+            Tends L.seen self.old (at door.old) [] [] self.new (at door.new) }
+        ensures same { (first : D) → D.same first door.old → D.same first door.new }
+    {
+        match door.look(may_have_come) {
+            Ok(Opening::Line(line)) => {
+                let action = self.machine.on(alloc, Event::Opened);
+                self.place = LinePlace::On(line, action, 0);
+                Looked::Opened
+            }
+            Ok(Opening::NotYet) => Looked::NotYet,
+            Ok(Opening::Later) => Looked::Later,
+            Ok(Opening::NoMore) => {
+                self.place = LinePlace::Leaving;
+                Looked::NoMore
+            }
+            Err(_) => {
+                self.place = LinePlace::Leaving;
+                Looked::NoMore
+            }
+        }
     }
 
     /// One action of the seat, and whether something moved by it. A step that was handed back is submitted
@@ -96,13 +235,13 @@ impl<L: Line + Drop> Attendant<L> {
     {
         // A line that is out stays where it lies until it is over.
         match &mut self.place {
-            LinePlace::On(line, action) => match action {
+            LinePlace::On(line, action, sent) => match action {
                 Action::LineOver(end) => {
                     let end = *end;
                     shut_line(&mut self.place, door, end);
                     true
                 }
-                other => carry_out(alloc, &mut self.machine, other, line, link, room),
+                other => carry_out(alloc, &mut self.machine, other, sent, line, link, room),
             },
             LinePlace::Between => {
                 self.place = open_line(alloc, &mut self.machine, door);
@@ -128,7 +267,7 @@ fn open_line<L: Line + Drop, D: Door<Line = L>>(
     ensures same { (first : D) → D.same first door.old → D.same first door.new }
 {
     match door.open() {
-        Ok(Some(line)) => LinePlace::On(line, machine.on(alloc, Event::Opened)),
+        Ok(Some(line)) => LinePlace::On(line, machine.on(alloc, Event::Opened), 0),
         Ok(None) => LinePlace::Leaving,
         Err(_) => LinePlace::Leaving,
     }
@@ -141,13 +280,13 @@ fn shut_line<L: Line + Drop, D: Door<Line = L>>(
     door: &mut D,
     end: LineEnd,
 )
-    requires over { (line : L) × (place.old ≡ LinePlace.On line (Action.LineOver end)) }
+    requires over { (line : L) × (sent : ℕ) × (place.old ≡ LinePlace.On line (Action.LineOver end) sent) }
     requires placed { IsPlaced place.old (door_seen D.is_out D.is_at_end D.lines_over door.old) }
     ensures went { let at = door_seen D.is_out D.is_at_end D.lines_over in
         (machine : SeatMachine) → Tends L.seen (attendant machine place.old) (at door.old) [] [] (attendant machine place.new) (at door.new) }
     ensures same { (first : D) → D.same first door.old → D.same first door.new }
 {
-    if let LinePlace::On(line, _) = mem::replace(place, LinePlace::Between) {
+    if let LinePlace::On(line, _, _) = mem::replace(place, LinePlace::Between) {
         door.shut(line, end);
     }
 }
@@ -171,9 +310,52 @@ fn leave<L: Line + Drop, K: Link>(place: &mut LinePlace<L>, link: &mut K) -> boo
 /// Carries out one action of a seat's machine, in whose place then lies what the machine does next. Where a line
 /// is over, nothing is done. What lies in the room before and after has no meaning.
 ///
-/// It says whether something moved. Nothing did where a step was handed back, no mail was there, or the line had
-/// no bytes yet: then the same may be tried again, after a rest.
+/// If the action is an answer to be written, this many bytes of it were written before. What the line has no room for
+/// remains to be written.
+///
+/// Returns true if something moved. Nothing did if a step was handed back, no mail was there, or the line had no bytes or
+/// no room yet: then the same action can be tried again later.
 pub fn carry_out<L: Line, K: Link>(
+    alloc: Global,
+    machine: &mut SeatMachine,
+    action: &mut Action,
+    sent: &mut usize,
+    line: &mut L,
+    link: &mut K,
+    room: &mut Room,
+) -> bool
+    requires ready { K.is_ready link.old }
+    ensures ready { K.is_ready link.new }
+    ensures carried { (submitted : List Step) × (taken : List Answer) × HasGone K.went link.old action.old submitted taken link.new
+        × CarriedPart machine.old (L.seen line.old) action.old sent.old machine.new (L.seen line.new) action.new sent.new submitted taken }
+    ensures stays { StaysOver L.lies_over line.old line.new }
+{
+    match action {
+        Action::Write(answer) => {
+            expect_answers(machine, line);
+            match write_answer(line, answer, sent, room) {
+                Wrote::Whole => {
+                    *sent = 0;
+                    machine.on_told(alloc, Told::WriteDone, action);
+                    true
+                }
+                Wrote::NotYet => false,
+                Wrote::Fault => {
+                    *sent = 0;
+                    machine.on_told(alloc, Told::WriteFault, action);
+                    true
+                }
+            }
+        }
+        other => {
+            *sent = 0;
+            act(alloc, machine, other, line, link, room)
+        }
+    }
+}
+
+// The same for an action that writes nothing.
+fn act<L: Line, K: Link>(
     alloc: Global,
     machine: &mut SeatMachine,
     action: &mut Action,
@@ -208,16 +390,7 @@ pub fn carry_out<L: Line, K: Link>(
                 false
             }
         }
-        Action::Write(answer) => {
-            expect_answers(machine, line);
-            if write_answer(line, answer, room) {
-                machine.on_told(alloc, Told::WriteDone, action);
-                true
-            } else {
-                machine.on_told(alloc, Told::WriteFault, action);
-                true
-            }
-        }
+        Action::Write(_) => false,
         Action::LineOver(_) => false,
         Action::Stray => false,
     }

@@ -45,7 +45,7 @@ pub trait ControlLink {
 
 /// The first bytes of the line that is being read: enough to tell whether it says `drain`.
 #[derive(Drop)]
-struct LineSoFar {
+pub struct LineSoFar {
     first: ArrayVec<u8, BYTES_KEPT>,
 }
 
@@ -58,8 +58,8 @@ impl Model for LineSoFar {
 }
 
 impl LineSoFar {
-    // A line of which nothing was read.
-    fn new() -> LineSoFar
+    /// A line of which nothing was read.
+    pub fn new() -> LineSoFar
         ensures { result ≡ [] }
     {
         LineSoFar {
@@ -74,9 +74,9 @@ impl LineSoFar {
         let _full = self.first.try_push(byte);
     }
 
-    // Whether the line is over by this byte; else it is noted.
+    /// Returns true if the line ends by this byte; else the byte is noted.
     #[tactic(auto, using(crate::proofs::ControlLemmas::line_read, crate::proofs::ControlLemmas::byte_read))]
-    fn ends_by(&mut self, byte: u8) -> bool
+    pub fn ends_by(&mut self, byte: u8) -> bool
         ensures { HasRead self.old (byte ∷ []) result self.new }
     {
         if byte == b'\n' {
@@ -86,8 +86,9 @@ impl LineSoFar {
         false
     }
 
+    /// Returns true if the line says `drain`.
     #[tactic(auto, using(crate::proofs::ControlLemmas::same_bytes))]
-    fn says_drain(&self) -> bool
+    pub fn says_drain(&self) -> bool
         ensures { result ≡ are_same self.now drain_word }
     {
         self.first.as_slice() == DRAIN_WORD

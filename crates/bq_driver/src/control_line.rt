@@ -36,6 +36,11 @@ pub trait ControlInput {
         ensures left { HasHeard (remaining self.old) (remaining self.new) result }
         ensures fault { MayHear (may_fail self.old) result }
         ensures same { may_fail self.new ≡ may_fail self.old };
+
+    /// Returns true if the next read waits for nothing, as far as the input knows.
+    fn has_unread(&self) -> bool {
+        true
+    }
 }
 
 /// A control line over any reader. Beside the reader it keeps the two marks, and a record of the bytes that
@@ -85,5 +90,9 @@ impl<I: ControlReader> ControlInput for ControlLine<I> {
             Heard::Fault => self.failed = true,
         }
         heard
+    }
+
+    fn has_unread(&self) -> bool {
+        self.reader.has_unread()
     }
 }

@@ -17,6 +17,11 @@ pub trait ControlReader: BufRead {
         ensures left { HasHeard (Self.remaining self.old) (Self.remaining self.new) result }
         ensures fault { MayHear (may_fail self.old) result }
         ensures same { may_fail self.new ≡ may_fail self.old };
+
+    /// Returns true if the next read waits for nothing, as far as the reader knows.
+    fn has_unread(&self) -> bool {
+        true
+    }
 }
 
 // What lies in memory is read without fail.
@@ -40,6 +45,10 @@ impl<R: Read, A: Allocator> ControlReader for BufReader<R, A> {
     fn next_byte(&mut self) -> Heard {
         next_of(self)
     }
+
+    fn has_unread(&self) -> bool {
+        !self.buffer().is_empty()
+    }
 }
 
 impl<I: ControlReader> ControlReader for &mut I {
@@ -47,6 +56,10 @@ impl<I: ControlReader> ControlReader for &mut I {
 
     fn next_byte(&mut self) -> Heard {
         ControlReader::next_byte(&mut **self)
+    }
+
+    fn has_unread(&self) -> bool {
+        ControlReader::has_unread(&**self)
     }
 }
 

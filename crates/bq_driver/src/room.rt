@@ -1,13 +1,18 @@
 //! The room of a seat, from which answers go out to its line, and into which it reads.
-ghost use Rattle.std.specs.Prelude.{◌≡◌, ◌<◌, ◌≤◌, ◌+◌, ◌++◌, drop, length, take, true};
+ghost use Rattle.std.specs.Prelude.{ℕ, List, ◌≡◌, ◌<◌, ◌≤◌, ◌+◌, ◌++◌, drop, length, take, false, true, if◌then◌else◌};
+ghost use Rattle.std.specs.Io.{WritesAtMost};
+ghost use Rattle.std.specs.IoError.{error_kind};
+ghost use Rattle.bq_job.specs.promise.LineSteps.{LineSeen};
 ghost use Rattle.bq_job.specs.texts.AnswerText.{answer_text};
+ghost use Rattle.bq_line.specs.LineCalls.{after_write, is_nothing_yet};
 ghost use Rattle.bq_line.specs.Streams.{StaysOver};
-ghost use Rattle.bq_driver.specs.Writing.{Writes};
+ghost use Rattle.bq_driver.specs.Writing.{Resumes, WritesOn, with_written};
 
 use bq_job::Answer;
-use bq_line::line::Line;
+use bq_line::line::{Line, is_nothing_yet};
 use bq_seat::PIECE_ROOM;
 use bq_wire::{HeadBuf, answer_body, answer_head, answer_tail, push_bytes};
+use std::io;
 
 /// Room for one piece: an answer that fits into it goes out from there, and a line that has no room of its own is read
 /// into it. It is made once a run, since a new one would be filled with zeros first.
@@ -25,26 +30,53 @@ impl Room {
     }
 }
 
-/// Writes the text of an answer, and hands on what the line holds back. Whether all of it went well.
+/// How far the writing of a text got.
+#[derive(Clone, Copy, Debug, PartialEq, Eq)]
+pub enum Wrote {
+    /// All of it is written.
+    Whole,
+    /// There is no room for the rest yet.
+    NotYet,
+    /// A write failed.
+    Fault,
+}
+
+/// Writes the rest of the text of an answer, of which `sent` bytes were written before, and flushes the line.
 ///
-/// It goes out in one write, where the line takes it whole. What lies in the room before and after has no meaning.
-pub fn write_answer<L: Line>(line: &mut L, answer: &Answer, room: &mut Room) -> bool
-    ensures text { Writes (answer_text answer.now) (L.seen line.old) (L.seen line.new) result }
+/// It goes out in one write if the line takes it whole. The contents of the room have no meaning before and after. If there
+/// is no room yet for all of it, `sent` counts what was written in all.
+pub fn write_answer<L: Line>(
+    line: &mut L,
+    answer: &Answer,
+    sent: &mut usize,
+    room: &mut Room,
+) -> Wrote
+    ensures text { Resumes (answer_text answer.now) sent.old (L.seen line.old) result sent.new (L.seen line.new) }
     ensures stays { StaysOver L.lies_over line.old line.new }
 {
-    if !write_text(line, answer, room) {
-        return false;
+    match write_text(line, answer, sent, room) {
+        Wrote::Whole => flush(line),
+        Wrote::NotYet => Wrote::NotYet,
+        Wrote::Fault => Wrote::Fault,
     }
+}
+
+// Flushes the line after all of a text was written.
+fn flush<L: Line>(line: &mut L) -> Wrote
+    ensures text { (text : List ℕ) (first : LineSeen) (sent : ℕ) → L.seen line.old ≡ with_written text first
+        → WritesOn text first result sent (L.seen line.new) }
+    ensures stays { StaysOver L.lies_over line.old line.new }
+{
     match line.flush() {
-        Ok(()) => true,
-        Err(_) => false,
+        Ok(()) => Wrote::Whole,
+        Err(_) => Wrote::Fault,
     }
 }
 
 // Most texts have few bytes behind the head, or none. These go out from the room of the head, so that no
 // other has to be made.
-fn write_text<L: Line>(line: &mut L, answer: &Answer, room: &mut Room) -> bool
-    ensures text { Writes (answer_text answer.now) (L.seen line.old) (L.seen line.new) result }
+fn write_text<L: Line>(line: &mut L, answer: &Answer, sent: &mut usize, room: &mut Room) -> Wrote
+    ensures text { Resumes (answer_text answer.now) sent.old (L.seen line.old) result sent.new (L.seen line.new) }
     ensures stays { StaysOver L.lies_over line.old line.new }
 {
     let mut head = HeadBuf::new();
@@ -52,9 +84,9 @@ fn write_text<L: Line>(line: &mut L, answer: &Answer, room: &mut Room) -> bool
     let body = answer_body(answer);
     let tail = answer_tail(answer);
     if have_room(&head, body, tail) {
-        write_behind(line, &mut head, body, tail)
+        write_behind(line, &mut head, body, tail, sent)
     } else {
-        write_long(line, room, head.as_slice(), body, tail)
+        write_long(line, room, head.as_slice(), body, tail, sent)
     }
 }
 
@@ -66,105 +98,144 @@ fn have_room(head: &HeadBuf, body: &[u8], tail: &[u8]) -> bool
     body.len() <= left && tail.len() <= left - body.len()
 }
 
-// Puts the other parts behind the head, and writes them together.
-fn write_behind<L: Line>(line: &mut L, head: &mut HeadBuf, body: &[u8], tail: &[u8]) -> bool
+// Appends the other parts to the head, and writes the rest of them together.
+fn write_behind<L: Line>(
+    line: &mut L,
+    head: &mut HeadBuf,
+    body: &[u8],
+    tail: &[u8],
+    sent: &mut usize,
+) -> Wrote
     requires { length head.old.items + length body.now + length tail.now ≤ 256 }
-    ensures text { Writes (head.old.items ++ body.now ++ tail.now)
-        (L.seen line.old) (L.seen line.new) result }
+    ensures text { Resumes (head.old.items ++ body.now ++ tail.now) sent.old (L.seen line.old) result sent.new (L.seen line.new) }
     ensures stays { StaysOver L.lies_over line.old line.new }
 {
     push_bytes(head, body);
     push_bytes(head, tail);
-    write_all(line, head.as_slice())
+    write_rest(line, head.as_slice(), sent)
 }
 
 // Of the others most are joined in the room. What is longer goes out from where it lies, since a copy of a large body
 // costs more than the call that takes its parts apart.
-fn write_long<L: Line>(line: &mut L, room: &mut Room, head: &[u8], body: &[u8], tail: &[u8]) -> bool
-    ensures text { Writes (head.now ++ body.now ++ tail.now)
-        (L.seen line.old) (L.seen line.new) result }
+fn write_long<L: Line>(
+    line: &mut L,
+    room: &mut Room,
+    head: &[u8],
+    body: &[u8],
+    tail: &[u8],
+    sent: &mut usize,
+) -> Wrote
+    requires few { length head.now + length tail.now ≤ 258 }
+    ensures text { Resumes (head.now ++ body.now ++ tail.now) sent.old (L.seen line.old) result sent.new (L.seen line.new) }
     ensures stays { StaysOver L.lies_over line.old line.new }
 {
     if fits(room.piece.len(), head, body, tail) {
-        write_joined(line, &mut room.piece, head, body, tail)
-    } else if head.is_empty() {
-        write_each(line, head, body, tail)
+        write_joined(line, &mut room.piece, head, body, tail, sent)
     } else {
-        write_together(line, head, body, tail)
+        write_parts(line, head, body, tail, sent)
     }
 }
 
-// Writes the parts by one call, and what that left of each by calls of their own.
-fn write_together<L: Line>(line: &mut L, head: &[u8], body: &[u8], tail: &[u8]) -> bool
-    requires { 0 < length head.now }
-    ensures text { Writes (head.now ++ body.now ++ tail.now)
-        (L.seen line.old) (L.seen line.new) result }
-    ensures stays { StaysOver L.lies_over line.old line.new }
-{
-    match line.write_together(head, body, tail) {
-        Ok(count) => {
-            if count == 0 {
-                return false;
-            }
-            let behind_head = count.saturating_sub(head.len());
-            let behind_body = behind_head.saturating_sub(body.len());
-            write_each(
-                line,
-                behind(count, head),
-                behind(behind_head, body),
-                behind(behind_body, tail),
-            )
-        }
-        Err(_) => false,
-    }
-}
-
-// What is left behind so many bytes.
-fn behind(count: usize, bytes: &[u8]) -> &[u8]
-    ensures { result.now ≡ drop count bytes.now }
-{
-    &bytes[count.min(bytes.len())..]
-}
-
-// Writes three parts one after the other.
-fn write_each<L: Line>(line: &mut L, head: &[u8], body: &[u8], tail: &[u8]) -> bool
-    ensures text { Writes (head.now ++ body.now ++ tail.now)
-        (L.seen line.old) (L.seen line.new) result }
-    ensures stays { StaysOver L.lies_over line.old line.new }
-{
-    if !write_both(line, head, body) {
-        return false;
-    }
-    write_all(line, tail)
-}
-
-// Writes two parts one after the other.
-fn write_both<L: Line>(line: &mut L, first: &[u8], second: &[u8]) -> bool
-    ensures text { Writes (first.now ++ second.now) (L.seen line.old) (L.seen line.new) result }
-    ensures stays { StaysOver L.lies_over line.old line.new }
-{
-    if !write_all(line, first) {
-        return false;
-    }
-    write_all(line, second)
-}
-
-// Joins the parts of a text in the room, which holds them, and writes them together.
+// Joins the parts of a text in the room, which holds them, and writes the rest of them together.
 fn write_joined<L: Line>(
     line: &mut L,
     room: &mut [u8],
     head: &[u8],
     body: &[u8],
     tail: &[u8],
-) -> bool
+    sent: &mut usize,
+) -> Wrote
     requires { length head.now + length body.now + length tail.now ≤ length room.old }
-    ensures text { Writes (head.now ++ body.now ++ tail.now)
-        (L.seen line.old) (L.seen line.new) result }
+    ensures text { Resumes (head.now ++ body.now ++ tail.now) sent.old (L.seen line.old) result sent.new (L.seen line.new) }
     ensures stays { StaysOver L.lies_over line.old line.new }
 {
     let behind_head = put(room, 0, head);
     let behind_body = put(room, behind_head, body);
-    write_with(line, room, behind_body, tail)
+    let end = put(room, behind_body, tail);
+    write_rest(line, &room[..end], sent)
+}
+
+// Writes the rest of three parts, each time as much as one call takes.
+fn write_parts<L: Line>(
+    line: &mut L,
+    head: &[u8],
+    body: &[u8],
+    tail: &[u8],
+    sent: &mut usize,
+) -> Wrote
+    requires few { length head.now + length tail.now ≤ 258 }
+    ensures text { Resumes (head.now ++ body.now ++ tail.now) sent.old (L.seen line.old) result sent.new (L.seen line.new) }
+    ensures stays { StaysOver L.lies_over line.old line.new }
+{
+    let mut done = *sent;
+    while !is_whole(head, body, tail, done) {
+        match write_some(line, head, body, tail, done) {
+            Ok(count) => {
+                if count == 0 {
+                    return Wrote::Fault;
+                }
+                done += count;
+            }
+            Err(e) => {
+                *sent = done;
+                return after_error(&e);
+            }
+        }
+    }
+    Wrote::Whole
+}
+
+// Returns true if three parts have no more bytes than these.
+fn is_whole(head: &[u8], body: &[u8], tail: &[u8], done: usize) -> bool
+    ensures whole { result ≡ true → length (head.now ++ body.now ++ tail.now) ≤ done }
+    ensures more { result ≡ false → done < length (head.now ++ body.now ++ tail.now) }
+{
+    done >= head.len()
+        && done - head.len() >= body.len()
+        && done - head.len() - body.len() >= tail.len()
+}
+
+// Writes once of what three parts have after the bytes that are done.
+fn write_some<L: Line>(
+    line: &mut L,
+    head: &[u8],
+    body: &[u8],
+    tail: &[u8],
+    done: usize,
+) -> io::Result<usize>
+    requires { done < length (head.now ++ body.now ++ tail.now) }
+    ensures bound { WritesAtMost result (drop done (head.now ++ body.now ++ tail.now)) }
+    ensures seen { L.seen line.new
+        ≡ after_write result (drop done (head.now ++ body.now ++ tail.now)) (L.seen line.old) }
+    ensures stays { StaysOver L.lies_over line.old line.new }
+{
+    if done < head.len() {
+        line.write_together(behind(done, head), body, tail)
+    } else {
+        write_of_two(line, body, tail, done - head.len())
+    }
+}
+
+// Writes once of what two parts have after the bytes that are done.
+fn write_of_two<L: Line>(line: &mut L, body: &[u8], tail: &[u8], done: usize) -> io::Result<usize>
+    requires { done < length (body.now ++ tail.now) }
+    ensures bound { WritesAtMost result (drop done (body.now ++ tail.now)) }
+    ensures seen { L.seen line.new
+        ≡ after_write result (drop done (body.now ++ tail.now)) (L.seen line.old) }
+    ensures stays { StaysOver L.lies_over line.old line.new }
+{
+    if done < body.len() {
+        line.write_together(behind(done, body), tail, &[])
+    } else {
+        line.write(behind(done - body.len(), tail))
+    }
+}
+
+// The bytes after the first `count`.
+fn behind(count: usize, bytes: &[u8]) -> &[u8]
+    ensures { result.now ≡ drop count bytes.now }
+{
+    &bytes[count.min(bytes.len())..]
 }
 
 // Whether a room of so many bytes holds all three.
@@ -181,39 +252,43 @@ fn put(room: &mut [u8], at: usize, bytes: &[u8]) -> usize
     requires { at + length bytes.now ≤ length room.old }
     ensures end { result ≡ at + length bytes.now }
     ensures held { take result room.new ≡ take at room.old ++ bytes.now }
+    ensures len { length room.new ≡ length room.old }
 {
     let end = at + bytes.len();
     room[at..end].copy_from_slice(bytes);
     end
 }
 
-// Writes what lies in the room up to this place, and these bytes, together.
-fn write_with<L: Line>(line: &mut L, room: &mut [u8], at: usize, bytes: &[u8]) -> bool
-    requires { at + length bytes.now ≤ length room.old }
-    ensures text { Writes (take at room.old ++ bytes.now)
-        (L.seen line.old) (L.seen line.new) result }
+// Writes these bytes from the one after `sent` on, until all are written, there is no room yet, or a write fails.
+fn write_rest<L: Line>(line: &mut L, bytes: &[u8], sent: &mut usize) -> Wrote
+    ensures text { Resumes bytes.now sent.old (L.seen line.old) result sent.new (L.seen line.new) }
     ensures stays { StaysOver L.lies_over line.old line.new }
 {
-    let end = put(room, at, bytes);
-    write_all(line, &room[..end])
-}
-
-// Writes until all bytes are taken or a write fails.
-fn write_all<L: Line>(line: &mut L, bytes: &[u8]) -> bool
-    ensures text { Writes bytes.now (L.seen line.old) (L.seen line.new) result }
-    ensures stays { StaysOver L.lies_over line.old line.new }
-{
-    let mut done = 0;
+    let mut done = *sent;
     while done < bytes.len() {
         match line.write(&bytes[done..]) {
             Ok(count) => {
                 if count == 0 {
-                    return false;
+                    return Wrote::Fault;
                 }
                 done += count;
             }
-            Err(_) => return false,
+            Err(e) => {
+                *sent = done;
+                return after_error(&e);
+            }
         }
     }
-    true
+    Wrote::Whole
+}
+
+fn after_error(e: &io::Error) -> Wrote
+    ensures { result
+        ≡ (if is_nothing_yet (error_kind e.now) then Wrote.NotYet else Wrote.Fault) }
+{
+    if is_nothing_yet(e) {
+        Wrote::NotYet
+    } else {
+        Wrote::Fault
+    }
 }

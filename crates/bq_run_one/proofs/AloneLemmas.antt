@@ -17,34 +17,39 @@ use Rattle.bq_seat.specs.declared.machine.Action.{Action}
 use Rattle.bq_seat.specs.declared.machine.Action.TheVariants as actions
 use Rattle.bq_seat.specs.declared.machine.SeatMachine.{SeatMachine}
 use Rattle.bq_driver.specs.Attending.{IsOnLine}
-use Rattle.bq_driver.specs.Carried.{Carried}
+use Rattle.bq_driver.specs.Carried.{CarriesOn, with_part}
 use Rattle.bq_run_one.specs.DeskState.{DeskState, IsNewDesk, waiting}
 use Rattle.bq_run_one.specs.DeskWent.{SeatWent}
 use Rattle.bq_run_one.proofs.DeskLemmas.{seat_none, seat_on}
+use Rattle.bq_driver.proofs.CarriedLemmas.{none_begun}
 use Rattle.bq_driver.proofs.SeatLemmas.{carried_on, line_served}
 
 -- From a new desk on, the seat alone did what its line was served with.
-pub record IsServingAlone (settings : Settings) (seat : ℕ) (readings : List (Option ℕ)) (desk : DeskState) (machine : SeatMachine) (seen : LineSeen) (action : Action) : Type 0 where
+pub record IsServingAlone (settings : Settings) (seat : ℕ) (readings : List (Option ℕ)) (desk : DeskState) (machine : SeatMachine) (seen : LineSeen) (action : Action) (sent : ℕ) : Type 0 where
   pub first : DeskState
   pub submitted : List Step
   pub taken : List Answer
   pub new : IsNewDesk settings first
   pub went : SeatWent seat first readings submitted taken desk
-  pub on_line : IsOnLine settings.max_job_size machine seen action submitted taken
+  pub before : LineSeen
+  pub part : seen ≡ with_part action sent before
+  pub on_line : IsOnLine settings.max_job_size machine before action submitted taken
 
-pub begins_alone : (settings : Settings) (seat : ℕ) (desk : DeskState) (machine : SeatMachine) (seen : LineSeen) (action : Action) → IsNewDesk settings desk → IsOnLine settings.max_job_size machine seen action [] [] → IsServingAlone settings seat [] desk machine seen action
-begins_alone settings seat desk machine seen action new on = record { first = desk; submitted = []; taken = []; new = new; went = seat_none desk seat; on_line = on }
+pub begins_alone : (settings : Settings) (seat : ℕ) (desk : DeskState) (machine : SeatMachine) (seen : LineSeen) (action : Action) → IsNewDesk settings desk → IsOnLine settings.max_job_size machine seen action [] [] → IsServingAlone settings seat [] desk machine seen action 0
+begins_alone settings seat desk machine seen action new on = record { first = desk; submitted = []; taken = []; new = new; went = seat_none desk seat; before = seen; part = none_begun action seen; on_line = on }
 
-pub goes_on_alone : (settings : Settings) (seat : ℕ) (readings reads : List (Option ℕ)) (desk next : DeskState) (old new : SeatMachine) (seen later : LineSeen) (action then_action : Action) (submitted : List Step) (taken : List Answer)
-    → IsServingAlone settings seat readings desk old seen action → SeatWent seat desk reads submitted taken next → Carried old seen action new later then_action submitted taken
-    → IsServingAlone settings seat (readings ++ reads) next new later then_action
-goes_on_alone settings seat readings reads desk next old new seen later action then_action submitted taken s w c = record {
+pub goes_on_alone : (settings : Settings) (seat : ℕ) (readings reads : List (Option ℕ)) (desk next : DeskState) (old new : SeatMachine) (seen later : LineSeen) (action then_action : Action) (sent now : ℕ) (submitted : List Step) (taken : List Answer)
+    → IsServingAlone settings seat readings desk old seen action sent → SeatWent seat desk reads submitted taken next → CarriesOn old seen action sent new later then_action now submitted taken
+    → IsServingAlone settings seat (readings ++ reads) next new later then_action now
+goes_on_alone settings seat readings reads desk next old new seen later action then_action sent now submitted taken s w carries = let c = carries s.before s.part in record {
   first = s.first;
   submitted = s.submitted ++ submitted;
   taken = s.taken ++ taken;
   new = s.new;
   went = seat_on s.first desk next seat readings reads s.submitted submitted s.taken taken s.went w;
-  on_line = carried_on settings.max_job_size old new seen later action then_action s.submitted submitted s.taken taken c s.on_line;
+  before = c.0;
+  part = c.1;
+  on_line = carried_on settings.max_job_size old new s.before c.0 action then_action s.submitted submitted s.taken taken c.2 s.on_line;
 }
 
 -- no mail lies at a new desk
@@ -94,12 +99,14 @@ alone_there seat (e ∷ history) h =
         let no : e.what ∷ steps_at e.seat history ≡ [] = rw (x, same) at g in cc
 
 -- A line that is over: what its seat and the core did, and the tie.
-pub over_alone : (settings : Settings) (seat : ℕ) (readings : List (Option ℕ)) (desk : DeskState) (machine : SeatMachine) (seen : LineSeen) (end : LineEnd) (s : IsServingAlone settings seat readings desk machine seen (actions.LineOver end))
+pub over_alone : (settings : Settings) (seat : ℕ) (readings : List (Option ℕ)) (desk : DeskState) (machine : SeatMachine) (seen : LineSeen) (end : LineEnd) (sent : ℕ) (s : IsServingAlone settings seat readings desk machine seen (actions.LineOver end) sent)
     → seat < settings.seats → length s.first.mails ≡ settings.seats → IsLineJoined settings seat (record { seen = seen; over = end }) readings s.went.history s.went.went.given desk.core
-over_alone settings seat readings desk machine seen end s within many =
+over_alone settings seat readings desk machine seen end sent s within many =
     let w = s.went in
     let d = w.went in
-    let line = line_served settings.max_job_size machine seen end s.submitted s.taken s.on_line in
+    let on : IsOnLine settings.max_job_size machine seen (actions.LineOver end) s.submitted s.taken =
+    subst (λ (x : LineSeen). IsOnLine settings.max_job_size machine x (actions.LineOver end) s.submitted s.taken) (sym s.part) s.on_line in
+    let line = line_served settings.max_job_size machine seen end s.submitted s.taken on in
     let none = none_waits settings s.first seat s.new in
     record {
       taken = s.taken;

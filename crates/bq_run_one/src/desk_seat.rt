@@ -3,7 +3,7 @@ ghost use Rattle.std.specs.Prelude.{◌≡◌, ◌<◌, ℕ, List, length};
 ghost use Rattle.bq_job.specs.declared.answer.Answer.{Answer};
 ghost use Rattle.bq_job.specs.declared.step.Step.{Step};
 ghost use Rattle.bq_line.specs.Streams.{StaysOver};
-ghost use Rattle.bq_driver.specs.Carried.{Carried};
+ghost use Rattle.bq_driver.specs.Carried.{CarriedPart};
 ghost use Rattle.bq_run_one.specs.DeskOf.{WentAt, state_of};
 ghost use Rattle.bq_run_one.specs.DeskState.{HasMails};
 
@@ -57,6 +57,7 @@ impl<'a, C: Clock + Drop> Link for DeskSeat<'a, C> {
 pub fn act<L: Line, C: Clock + Drop>(
     machine: &mut SeatMachine,
     action: &mut Action,
+    sent: &mut usize,
     line: &mut L,
     desk: &mut Desk<C>,
     seat: Seat,
@@ -66,10 +67,10 @@ pub fn act<L: Line, C: Clock + Drop>(
     requires within { seat < length (state_of desk.old).mails }
     ensures mails { HasMails (state_of desk.new) }
     ensures carried { (submitted : List Step) × (taken : List Answer) × WentAt C.given seat desk.old submitted taken desk.new ×
-        Carried machine.old (L.seen line.old) action.old machine.new (L.seen line.new) action.new submitted taken }
+        CarriedPart machine.old (L.seen line.old) action.old sent.old machine.new (L.seen line.new) action.new sent.new submitted taken }
     ensures stays { StaysOver L.lies_over line.old line.new }
 {
     let alloc = desk.alloc;
     let mut link = DeskSeat { desk, seat };
-    carry_out(alloc, machine, action, line, &mut link, room)
+    carry_out(alloc, machine, action, sent, line, &mut link, room)
 }

@@ -92,6 +92,7 @@ fn serve_line<R: Wait, L: Line + Drop, C: Clock + Drop>(
     let mut room = Room::new();
     let bell = Parker::new();
     let mut action = machine.on(desk.alloc, Event::Opened);
+    let mut sent = 0;
     for _ in rt.forever() {
         if let Action::LineOver(end) = action {
             return One {
@@ -104,6 +105,7 @@ fn serve_line<R: Wait, L: Line + Drop, C: Clock + Drop>(
         let _moved = act(
             &mut machine,
             &mut action,
+            &mut sent,
             &mut line,
             &mut desk,
             ONLY_SEAT,

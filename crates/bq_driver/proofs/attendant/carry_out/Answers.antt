@@ -1,45 +1,17 @@
-use Rattle.std.proofs.Common.{[], ◌∷◌, refl, ap, inl, inr}
-use Rattle.bq_seat.specs.declared.machine.Action.TheVariants as actions
-use Rattle.bq_driver.specs.Links.{as_submitted}
-use Rattle.bq_driver.proofs.CarriedLemmas.{comes_by}
+use Rattle.bq_driver.proofs.CarriedLemmas.{at_once, broke_off, not_yet, wrote_whole}
 use Rattle.bq_driver.proofs.attendant.carry_out.Goals as goal
 
-pub returns-then-submit-clause-carried : goal.returns-then-submit-clause-carried
-returns-then-submit-clause-carried g c =
-    comes_by g.K.Link.went _ _ _ _ _ _ _ _ (actions.Submit c.in-Submit.step) c.in-Submit.is (as_submitted c.in-Submit.step) [] (rw c.if-submit.true at c.submit.ensures.went) (refl, refl, inl (refl, c.on_told.ensures))
+pub returns-in-Whole-clause-carried : goal.returns-in-Whole-clause-carried
+returns-in-Whole-clause-carried g c =
+    wrote_whole g.K.Link.went _ _ _ _ _ _ c.write_answer.new.sent _ c.in-Write.answer c.in-Write.is (rw (c.in-Whole.is, c.expect_answers.ensures.seen) at c.write_answer.ensures.text) c.on_told.ensures
 
-pub returns-else-submit-clause-carried : goal.returns-else-submit-clause-carried
-returns-else-submit-clause-carried g c =
-    let back = rw c.if-submit.false at c.submit.ensures.went in
-    comes_by g.K.Link.went _ _ _ _ _ _ _ _ (actions.Submit c.in-Submit.step) c.in-Submit.is [] [] back.1 (refl, refl, inr (refl, ap actions.Submit back.0, refl))
+pub returns-in-NotYet-clause-carried : goal.returns-in-NotYet-clause-carried
+returns-in-NotYet-clause-carried g c =
+    not_yet g.K.Link.went _ _ _ _ _ c.write_answer.new.sent c.in-Write.answer c.in-Write.is (rw (c.in-NotYet.is, c.expect_answers.ensures.seen) at c.write_answer.ensures.text)
 
-pub returns-in-Read-clause-carried : goal.returns-in-Read-clause-carried
-returns-in-Read-clause-carried g c = comes_by g.K.Link.went _ _ _ _ _ _ _ _ actions.Read c.in-Read.is [] [] refl c.read.ensures.carried
+pub returns-in-Fault-clause-carried : goal.returns-in-Fault-clause-carried
+returns-in-Fault-clause-carried g c =
+    broke_off g.K.Link.went _ _ _ _ _ _ c.write_answer.new.sent _ c.in-Write.answer c.in-Write.is (rw (c.in-Fault.is, c.expect_answers.ensures.seen) at c.write_answer.ensures.text) c.on_told-in-Fault.ensures
 
-pub returns-then-write_answer-clause-carried : goal.returns-then-write_answer-clause-carried
-returns-then-write_answer-clause-carried g c =
-    comes_by g.K.Link.went _ _ _ _ _ _ _ _ (actions.Write c.in-Write.answer) c.in-Write.is [] [] refl (refl, refl, inl (rw (c.if-write_answer.true, c.expect_answers.ensures.seen) at c.write_answer.ensures.text, c.on_told-then-write_answer.ensures))
-
-pub returns-else-write_answer-clause-carried : goal.returns-else-write_answer-clause-carried
-returns-else-write_answer-clause-carried g c =
-    comes_by g.K.Link.went _ _ _ _ _ _ _ _ (actions.Write c.in-Write.answer) c.in-Write.is [] [] refl (refl, refl, inr (rw (c.if-write_answer.false, c.expect_answers.ensures.seen) at c.write_answer.ensures.text, c.on_told-else-write_answer.ensures))
-
-pub returns-then-mail-clause-carried : goal.returns-then-mail-clause-carried
-returns-then-mail-clause-carried g c =
-    let came = rw c.if-mail.true at c.mail.ensures.went in
-    comes_by g.K.Link.went _ _ _ _ _ _ _ _ actions.PollMail c.in-PollMail.is [] (came.0 ∷ []) came.2 (refl, refl, inr (came.0, refl, c.mail_in_place.ensures came.0 came.1))
-
-pub returns-else-mail-clause-carried : goal.returns-else-mail-clause-carried
-returns-else-mail-clause-carried g c =
-    let none = rw c.if-mail.false at c.mail.ensures.went in
-    comes_by g.K.Link.went _ _ _ _ _ _ _ _ actions.PollMail c.in-PollMail.is [] [] none.1 (c.expect_more.ensures.seen, refl, inl (refl, c.on_told-else-mail.ensures))
-
-pub returns-in-LineOver-clause-carried : goal.returns-in-LineOver-clause-carried
-returns-in-LineOver-clause-carried g c =
-    comes_by g.K.Link.went _ _ _ _ _ _ _ _ (actions.LineOver c.in-LineOver.field-0) c.in-LineOver.is [] [] refl
-    (record { machine = refl; line = refl; action_is = c.in-LineOver.is; none_submitted = refl; none_taken = refl })
-
-pub returns-in-Stray-clause-carried : goal.returns-in-Stray-clause-carried
-returns-in-Stray-clause-carried g c =
-    comes_by g.K.Link.went _ _ _ _ _ _ _ _ actions.Stray c.in-Stray.is [] [] refl
-    (record { machine = refl; line = refl; action_is = c.in-Stray.is; none_submitted = refl; none_taken = refl })
+pub returns-in_default-clause-carried : goal.returns-in_default-clause-carried
+returns-in_default-clause-carried g c = at_once g.K.Link.went _ _ _ _ _ _ _ _ _ c.in_default.not-Write c.act.ensures.carried

@@ -1,4 +1,5 @@
 use Rattle.std.proofs.Common.{[], ◌++◌, ◌∙◌, ap, sym, subst, arith}
+use Rattle.bq_seat.specs.declared.machine.Action.{Action}
 use Rattle.bq_seat.specs.declared.machine.Action.TheVariants as actions
 use Rattle.bq_run_one.specs.DeskOf.{state_of}
 use Rattle.bq_run_one.proofs.AloneLemmas.{IsServingAlone, begins_alone, goes_on_alone, new_mails_are, over_alone}
@@ -44,7 +45,7 @@ loop-preserved g c =
       serves = (
         i.0 ++ w.0,
         w.1 c.args.desk.clock i.0 i.1,
-        goes_on_alone c.args.desk.core.machine.settings 0 i.0 w.0 (state_of c.loop.desk) next c.loop.machine c.act-moved.new.machine (g.L.Line.seen c.loop.line) (g.L.Line.seen c.act-moved.new.line) c.loop.action c.act-moved.new.action h.0 h.1 i.2 w.2 h.3,
+        goes_on_alone c.args.desk.core.machine.settings 0 i.0 w.0 (state_of c.loop.desk) next c.loop.machine c.act-moved.new.machine (g.L.Line.seen c.loop.line) (g.L.Line.seen c.act-moved.new.line) c.loop.action c.act-moved.new.action c.loop.sent c.act-moved.new.sent h.0 h.1 i.2 w.2 h.3.1,
       );
       stays = λ first over. c.act-moved.ensures.stays first (c.loop.invariant.stays first over);
       mails = c.act-moved.ensures.mails;
@@ -55,11 +56,11 @@ pub returns-in-LineOver-clause-served : goal.returns-in-LineOver-clause-served
 returns-in-LineOver-clause-served g c =
     let i = c.loop.invariant.serves in
     let settings = c.args.desk.core.machine.settings in
-    let s : IsServingAlone settings 0 i.0 (state_of c.loop.desk) c.loop.machine (g.L.Line.seen c.loop.line) (actions.LineOver c.in-LineOver.end) =
-    subst (IsServingAlone settings 0 i.0 (state_of c.loop.desk) c.loop.machine (g.L.Line.seen c.loop.line)) c.in-LineOver.is i.2 in
+    let s : IsServingAlone settings 0 i.0 (state_of c.loop.desk) c.loop.machine (g.L.Line.seen c.loop.line) (actions.LineOver c.in-LineOver.end) c.loop.sent =
+    subst (λ (a : Action). IsServingAlone settings 0 i.0 (state_of c.loop.desk) c.loop.machine (g.L.Line.seen c.loop.line) a c.loop.sent) c.in-LineOver.is i.2 in
     let seats = c.requires.lone in (
       i.0,
       i.1,
       line_joined settings 0 (record { seen = g.L.Line.seen c.loop.line; over = c.in-LineOver.end }) i.0 s.went.history s.went.went.given c.loop.desk.core.machine
-          (over_alone settings 0 i.0 (state_of c.loop.desk) c.loop.machine (g.L.Line.seen c.loop.line) c.in-LineOver.end s (omega (arith, seats)) (new_mails_are settings s.first s.new)),
+          (over_alone settings 0 i.0 (state_of c.loop.desk) c.loop.machine (g.L.Line.seen c.loop.line) c.in-LineOver.end c.loop.sent s (omega (arith, seats)) (new_mails_are settings s.first s.new)),
     )
