@@ -4,18 +4,18 @@ ghost use Rattle.std.specs.List.{All};
 ghost use Rattle.bq_steps.specs.Limits.{is_body_size};
 ghost use Rattle.bq_seat.specs.Past.{Awaited};
 ghost use Rattle.bq_seat.specs.SeatStands.{awaited};
-ghost use Rattle.bq_driver.specs.declared.attendant.LinePlace.TheVariants as places;
 ghost use Rattle.bq_lock_work.specs.LockedRuns.{IsServedToEnd};
 ghost use Rattle.bq_driver.specs.Tending.{IsNewDoor, door_seen};
 
 use crate::bells::Bells;
 use crate::shared_desk::{SharedDesk, SharedSeat};
-use bq_driver::attendant::Attendant;
+use bq_driver::attendant::{Attendant, LinePlace};
 use bq_driver::room::Room;
 use bq_job::{NoMemory, Seat};
 use bq_line::Door;
 use bq_line::line::Line;
 use bq_run_start::Start;
+use bq_seat::SeatMachine;
 use std::alloc::Global;
 use std::sync::Wait;
 use std::thread;
@@ -26,11 +26,10 @@ pub struct Post<L: Line + Drop, D: Door<Line = L>> {
     alloc: Global,
     seat: Seat,
     pub max_job_size: u32,
-    attendant: Attendant<L>,
+    machine: SeatMachine,
     pub door: D,
-    ghost at_first: { attendant.place ≡ places.Between },
-    ghost limit: { attendant.machine.reader.max_job_size ≡ max_job_size },
-    ghost waits: { awaited attendant.machine ≡ Awaited.ALine },
+    ghost limit: { machine.reader.max_job_size ≡ max_job_size },
+    ghost waits: { awaited machine ≡ Awaited.ALine },
     ghost inside: { D.is_out door ≡ false },
     ghost more: { D.is_at_end door ≡ false },
     ghost none_over: { D.lines_over door ≡ [] },
@@ -50,12 +49,12 @@ impl<L: Line + Drop, D: Door<Line = L> + Drop> Post<L, D> {
         ensures limit { IfOk result (λ post. post.max_job_size ≡ max_job_size) }
         ensures door { IfOk result (λ post. post.door ≡ door) }
     {
-        let attendant = Attendant::new(alloc, max_job_size)?;
+        let machine = SeatMachine::new(alloc, max_job_size)?;
         Ok(Post {
             alloc,
             seat,
             max_job_size,
-            attendant,
+            machine,
             door,
         })
     }
@@ -78,12 +77,16 @@ impl<L: Line + Drop, D: Door<Line = L> + Drop> Post<L, D> {
             alloc,
             seat,
             max_job_size: _,
-            mut attendant,
+            machine,
             mut door,
         } = self;
         if !start.wait(rt) {
             return None;
         }
+        let mut attendant = Attendant {
+            machine,
+            place: LinePlace::Between,
+        };
         let mut link = SharedSeat {
             rt,
             desk,

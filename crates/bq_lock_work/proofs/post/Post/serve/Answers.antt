@@ -1,5 +1,6 @@
-use Rattle.std.proofs.Common.{◌++◌, ℕ, [], subst}
-use Rattle.bq_driver.specs.Tending.{IsTended, door_seen}
+use Rattle.std.proofs.Common.{◌++◌, ℕ, [], refl, subst}
+use Rattle.bq_driver.specs.Tending.{IsTended, attendant, door_seen}
+use Rattle.bq_driver.specs.declared.attendant.LinePlace.TheVariants as places
 use Rattle.bq_lock_work.proofs.PostLemmas.{tended_first}
 use Rattle.bq_lock_work.proofs.post.Post.serve.Goals as goal
 
@@ -7,10 +8,10 @@ pub loop-init : goal.loop-init
 loop-init g c =
     let post = c.args.self in
     let at = door_seen g.D.Door.is_out g.D.Door.is_at_end g.D.Door.lines_over in
-    let first = tended_first g.L.Line.seen g.D.Door.is_out g.D.Door.is_at_end g.D.Door.lines_over post.attendant post.door post.at_first post.waits post.inside post.more post.none_over in
+    let first = tended_first g.L.Line.seen g.D.Door.is_out g.D.Door.is_at_end g.D.Door.lines_over (attendant post.machine places.Between) post.door refl post.waits post.inside post.more post.none_over in
     record {
       iterator = (tt, tt);
-      tended = ([], [], subst (λ (n : ℕ). IsTended g.L.Line.seen n post.attendant (at post.door) [] []) post.limit first);
+      tended = ([], [], subst (λ (n : ℕ). IsTended g.L.Line.seen n (attendant post.machine places.Between) (at post.door) [] []) post.limit first);
       same = g.met.D.Door.same_self post.door;
     }
 
