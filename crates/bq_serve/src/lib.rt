@@ -1,17 +1,27 @@
-//! Serving clients over lines of bytes: all that a caller names.
+//! Serving clients over lines of bytes: everything that a caller names, in one place.
 //!
-//! Here are the run of one line by one thread, that of many doors, each by a thread of its own, and that around
-//! one lock, with the lines, doors and clocks that they serve. Each is made in a crate of its own, so that what
+//! Three runs stand here. [`run_one`] serves one line on one thread, [`run_sessions`] serves many doors with a thread for
+//! each, and [`run_locked`] does so around one lock. Beside them are the lines, doors and clocks that they serve, and the
+//! work of each thread of `run_sessions` as a call of its own. Each part is made in a crate of its own, so that what
 //! stands on one of them doesn't wait for the proofs of the others.
 #![tactic(auto)]
 
-pub use bq_core_work::core_work;
-pub use bq_driver::control_line::Heard;
+pub use bq_core::{Config, Core, CoreFault, Outs};
+pub use bq_core_work::core_work::{CoreRoom, core_work};
+pub use bq_driver::control_line::{ControlInput, ControlLine, Heard};
 pub use bq_driver::control_reader::{ControlReader, next_of};
+pub use bq_job::{Entry, LineEnd, Moment, NoMemory, Seat, Step};
 pub use bq_journal::Locked;
-pub use bq_line::{Door, DoorFault, Listen, ListenDoor, MemDoor, Refusals, TcpDoor, clock, line};
+pub use bq_line::clock::{Clock, MachineClock, Notice, ScriptClock};
+pub use bq_line::line::{Connection, Duplex, IoLine, Line, MemLine, Part, ReadBuffer, Socket};
+pub use bq_line::{
+    Door, DoorFault, FreeDoors, Listen, ListenDoor, MemDoor, OpenDoors, Refusals, TcpDoor,
+};
+pub use bq_link::{Anything, CoreEnd, Intake, NoTicks, Record, SeatEnd, links};
 pub use bq_lock::{LockedRun, run_locked};
 pub use bq_run_one::{One, run_one};
 pub use bq_run_start::RunFault;
-pub use bq_seat_work::{control_work, seat_work};
+pub use bq_seat::SeatMachine;
+pub use bq_seat_work::control_work::control_work;
+pub use bq_seat_work::seat_work::seat_work;
 pub use bq_sessions::{Run, run_sessions};
