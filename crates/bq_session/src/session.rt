@@ -48,11 +48,12 @@ pub fn serve_client<R: Wait, S: Duplex + Drop, K: rt::Clock + Drop>(
         served.line) }
     ensures fault { IfErr result (λ fault. fault ≡ Fault.NoMemory Need.Queue) }
 {
+    let line = IoLine::new(stream);
     let clock = SessionClock {
         machine: clock,
         is_still: options.still,
     };
-    match run_one(rt, alloc, config_of(options), IoLine::new(stream), clock) {
+    match run_one(rt, alloc, config_of(options), line, clock) {
         Ok(one) => Ok(Served {
             line: one.line,
             end: one.end,
