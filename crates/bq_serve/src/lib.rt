@@ -13,9 +13,11 @@ pub use bq_driver::control_reader::{ControlReader, next_of};
 pub use bq_job::{Entry, LineEnd, Moment, NoMemory, Seat, Step};
 pub use bq_journal::Locked;
 pub use bq_line::clock::{Clock, MachineClock, Notice, ScriptClock};
-pub use bq_line::line::{Connection, Duplex, IoLine, Line, MemLine, Part, ReadBuffer, Socket};
+pub use bq_line::line::{
+    Connection, Duplex, IoLine, Line, MemLine, Part, ReadBuffer, Readiness, Socket,
+};
 pub use bq_line::{
-    Door, DoorFault, FreeDoors, Listen, ListenDoor, MemDoor, OpenDoors, Refusals, TcpDoor,
+    Door, DoorFault, FreeDoors, Listen, ListenDoor, MemDoor, OpenDoors, Opening, Refusals, TcpDoor,
 };
 pub use bq_link::{Anything, CoreEnd, Intake, NoTicks, Record, SeatEnd, links};
 pub use bq_lock::{LockedRun, run_locked};
