@@ -16,7 +16,7 @@ TOLD = (pathlib.Path(__file__).resolve().parent / "library_told.txt").read_bytes
 
 # The steps of the client that holds a job, with what it is answered: those that come with ample memory, and those from then
 # on. Behind each of these comes a tick, which is answered nothing.
-HELD = "told::held_job"
+HELD = "told::held_job_without_memory"
 HELD_AMPLE = [
     (b"connect", b""),
     (b"put", b"INSERTED 1\r\n"),

@@ -21,7 +21,7 @@ const TIMES: u32 = 20;
 type Client = (&'static str, &'static str);
 
 const PAIRS: &[(Client, Client)] = &[
-    // One client waits until the other has put a job.
+    // wait_over_tcp: one client waits until the other has put a job.
     (
         ("reserve\r\n", "RESERVED 1 3\r\nabc\r\n"),
         ("put 5 0 10 3\r\nabc\r\n", "INSERTED 1\r\n"),

@@ -13,7 +13,7 @@ fn all_calls(rt: HostRuntime) -> Result<(), Fail> {
 }
 
 #[test]
-fn held_job(rt: HostRuntime) -> Result<(), Fail> {
+fn held_job_without_memory(rt: HostRuntime) -> Result<(), Fail> {
     steps::tell_held_job(&rt, rt.alloc())?;
     Ok(())
 }

@@ -39,7 +39,7 @@ const SECONDS: &[Option<Moment>] = &[
 ];
 
 pub const SCRIPTED: &[Scripted] = &[
-    // A wait of a second ends by the clock, though a further command is there.
+    // timed_wait_by_the_clock: a wait of a second ends by the clock, though a further command is there.
     (
         "reserve-with-timeout 1~list-tube-used~",
         SECONDS,

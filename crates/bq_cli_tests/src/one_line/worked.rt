@@ -10,27 +10,27 @@ pub const CLOCKS: &[&[Option<Moment>]] = &[&[Some(0)], &[None], &[Some(9000), So
 pub type Worked = (&'static str, &'static str, LineEnd);
 
 pub const WORKED: &[Worked] = &[
-    // A job from its put to its delete.
+    // first_cycle: a job from its put to its delete.
     (
         "put 5 0 10 3~abc~reserve~delete 1~quit~",
         "INSERTED 1~RESERVED 1 3~abc~DELETED~",
         LineEnd::Quit,
     ),
-    // Nothing is sent.
+    // empty_input: nothing is sent.
     ("", "", LineEnd::EndOfInput),
-    // Two leases of one second each: the third reserve returns DEADLINE_SOON.
+    // deadline_soon_behind_two_leases: two leases of one second each, and a third reserve.
     (
         "put 0 0 1 0~~put 0 0 1 1~a~reserve~reserve~reserve~",
         "INSERTED 1~INSERTED 2~RESERVED 1 0~~RESERVED 2 1~a~DEADLINE_SOON~",
         LineEnd::EndOfInput,
     ),
-    // A body without CR LF after it is consumed whole. A timeout of 0 seconds ends at once.
+    // bad_body_end_then_wait: a body without CR LF after it is consumed whole, and a timeout of 0 seconds ends at once.
     (
         "put 0 0 1 2~abXYreserve-with-timeout 0~",
         "EXPECTED_CRLF~TIMED_OUT~",
         LineEnd::EndOfInput,
     ),
-    // A body that is one byte too big, and the largest one.
+    // body_too_big: a body that is one byte too big, and the largest one.
     (
         "put 0 0 1 65536~ + times 65536 x + ~list-tube-used~",
         "JOB_TOO_BIG~USING default~",
@@ -41,49 +41,49 @@ pub const WORKED: &[Worked] = &[
         "INSERTED 1~USING default~",
         LineEnd::EndOfInput,
     ),
-    // Lines that are not commands.
+    // bad_lines: lines that are not commands.
     (
         "PUT~put 1~use -a~peek 4294967296~",
         "UNKNOWN_COMMAND~BAD_FORMAT~BAD_FORMAT~NOT_FOUND~",
         LineEnd::EndOfInput,
     ),
-    // The least job of all watched tubes, by priority and then by id.
+    // least_across_tubes: the least job of all watched tubes, by priority and then by id.
     (
         "watch a~put 7 0 9 1~x~use a~put 3 0 9 1~y~use default~put 3 0 9 1~z~reserve~reserve~reserve~",
         "WATCHING 2~INSERTED 1~USING a~INSERTED 2~USING default~INSERTED 3~RESERVED 2 1~y~RESERVED 3 1~z~RESERVED 1 1~x~",
         LineEnd::EndOfInput,
     ),
-    // Buried jobs are kicked before delayed ones.
+    // bury_and_kick_order: buried jobs are kicked before delayed ones.
     (
         "put 0 0 9 1~x~put 0 0 9 1~y~put 0 100 9 1~z~reserve~reserve~bury 2 0~bury 1 0~peek-buried~kick 5~kick 5~",
         "INSERTED 1~INSERTED 2~INSERTED 3~RESERVED 1 1~x~RESERVED 2 1~y~BURIED~BURIED~FOUND 2 1~y~KICKED 2~KICKED 1~",
         LineEnd::EndOfInput,
     ),
-    // The list of watched tubes.
+    // watch_lists: the list of watched tubes.
     (
         "ignore default~ignore b~watch b~watch b~ignore default~list-tubes-watched~list-tubes~",
         "NOT_IGNORED~WATCHING 1~WATCHING 2~WATCHING 2~WATCHING 1~OK 8~---^- b^~OK 18~---^- b^- default^~",
         LineEnd::EndOfInput,
     ),
-    // The statistics of a job, with input that arrives byte by byte.
+    // job_statistics: the statistics of a job, with input that arrives byte by byte.
     (
         "byte by byte put 0 0 1 1~a~stats-job 1~",
         "INSERTED 1~OK 135~---^id: 1^tube: default^state: ready^pri: 0^age: 0^delay: 0^ttr: 1^time-left: 0^reserves: 0^timeouts: 0^releases: 0^buries: 0^kicks: 0^~",
         LineEnd::EndOfInput,
     ),
-    // A paused tube hands out no job to a reserve, but reserve-job still works.
+    // paused_tube: a paused tube hands out no job to a reserve, but reserve-job still works.
     (
         "put 2 0 9 1~x~pause-tube default 60~reserve-with-timeout 0~peek-ready~reserve-job 1~reserve-job 1~pause-tube b 1~",
         "INSERTED 1~PAUSED~TIMED_OUT~FOUND 1 1~x~RESERVED 1 1~x~NOT_FOUND~NOT_FOUND~",
         LineEnd::EndOfInput,
     ),
-    // A released job keeps its id.
+    // release_keeps_the_id: a released job keeps its id.
     (
         "put 4 0 9 1~x~put 4 0 9 1~y~reserve~release 1 5 0~reserve~release 1 0 0~delete 1~",
         "INSERTED 1~INSERTED 2~RESERVED 1 1~x~RELEASED~RESERVED 2 1~y~NOT_FOUND~DELETED~",
         LineEnd::EndOfInput,
     ),
-    // The longest line, and one that is one byte longer.
+    // longest_line: the longest line, and one that is one byte longer.
     (
         "peek  + times 216 0 + 1~",
         "NOT_FOUND~",
@@ -94,21 +94,21 @@ pub const WORKED: &[Worked] = &[
         "BAD_FORMAT~",
         LineEnd::EndOfInput,
     ),
-    // The longest tube name, and one that is one byte longer.
+    // longest_tube_name: the longest tube name, and one that is one byte longer.
     (
         "use  + times 200 a + ~",
         "USING  + times 200 a + ~",
         LineEnd::EndOfInput,
     ),
     ("use  + times 201 a + ~", "BAD_FORMAT~", LineEnd::EndOfInput),
-    // An incomplete command at the end of the input gets no answer.
+    // truncated_and_after_quit: an incomplete command at the end of the input gets no answer.
     ("put 0 0 1 5~ab", "", LineEnd::EndOfInput),
     ("list-tube-used", "", LineEnd::EndOfInput),
     // Commands after a quit are ignored.
     ("quit~stats~", "", LineEnd::Quit),
-    // The input ends while a reserve waits.
+    // end_behind_a_wait: the input ends while a reserve waits.
     ("reserve~", "TIMED_OUT~", LineEnd::EndOfInput),
-    // Extra spaces, and a number that is too large.
+    // odd_spaces_and_numbers: extra spaces, and a number that is too large.
     (
         "~reserve ~ reserve~put 0 0 4294967296 1~",
         "UNKNOWN_COMMAND~BAD_FORMAT~UNKNOWN_COMMAND~BAD_FORMAT~",
