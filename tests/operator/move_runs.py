@@ -202,8 +202,10 @@ def accounts_of(round_number, source, target, signals, here, there):
     for number, body in enumerate(put):
         state = ["ready", "delayed", "buried"][number % 3]
         here.put(body, delay=1000 if state == "delayed" else 0, state=state)
-    # Mostly within the work, and now and then before it has begun.
-    begun = (lambda: True) if round_number % 10 == 9 else (lambda: there.last() >= first_there)
+    # Mostly within the work, and now and then before it, as soon as it is connected here. Before that Python begins.
+    def begun():
+        is_connected = round_number % 10 == 9 and b"\ncurrent-connections: 2\n" in here.ask(b"stats")[1]
+        return is_connected or there.last() >= first_there
     told, status = interrupted(source, target, signals, begun, random.uniform(0, 0.12))
     left, arrived = here.jobs(first_here), there.jobs(first_there)
     found = bodies(left) + bodies(arrived)
@@ -231,11 +233,11 @@ JOBS = 150
 
 
 def each_run_move_interrupted(start):
-    """A move that is interrupted at fifty random points, once, twice at once, and killed: no job is lost."""
+    """A move that is interrupted at fifty random points, once or twice at once, and ended or killed: no job is lost."""
+    rounds = [[signal.SIGINT]] * 30 + [[signal.SIGINT] * 2] * 20 + [[signal.SIGTERM]] * 10 + [[signal.SIGKILL]] * 15
     with start() as source, start() as target:
         cut = 0
-        for number in range(50):
-            signals = [[signal.SIGINT], [signal.SIGTERM], [signal.SIGINT] * 2, [signal.SIGKILL]][number % 4]
+        for number, signals in enumerate(rounds):
             cut += 0 < accounts(number, source, target, signals) < JOBS
         # Many of the points have to be within the work, or little is tried.
-        assert cut >= 10, cut
+        assert cut >= 15, cut
