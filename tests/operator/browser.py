@@ -22,9 +22,18 @@ class Browser:
         command = [chromium, "--headless=new", "--no-sandbox", "--disable-gpu", "--hide-scrollbars", "--remote-debugging-port=0",
                    f"--user-data-dir={self.folder}", "about:blank"]
         self.process = subprocess.Popen(command, stdout=subprocess.DEVNULL, stderr=subprocess.PIPE)
-        self.number, self.events = 0, []
+        self.number, self.events, self.stream = 0, [], None
 
     def __enter__(self):
+        try:
+            self._begins()
+        except BaseException:
+            self.__exit__()
+            raise
+        return self
+
+    def _begins(self):
+        """Finds the page and opens the connection to it."""
         for line in self.process.stderr:
             found = re.search(rb"DevTools listening on ws://([^:]+):([0-9]+)", line)
             if found:
@@ -35,10 +44,10 @@ class Browser:
         self._opens(place, next(it["webSocketDebuggerUrl"] for it in pages if it["type"] == "page"))
         for it in ["Page", "Runtime", "Log", "Network"]:
             self.call(f"{it}.enable")
-        return self
 
     def __exit__(self, *why):
-        self.stream.close()
+        if self.stream:
+            self.stream.close()
         self.process.terminate()
         self.process.communicate(timeout=PATIENCE)
         shutil.rmtree(self.folder, ignore_errors=True)
