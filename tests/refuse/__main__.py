@@ -56,7 +56,7 @@ def main():
     parser.add_argument("--bq", required=True)
     parser.add_argument("--bqd", required=True)
     parser.add_argument("--library", required=True, help="the tests of bq_refused")
-    parser.add_argument("--minutes", type=float, default=2.5, help="begin no further case after so many minutes")
+    parser.add_argument("--minutes", type=float, default=10, help="begin no further case after so many minutes")
     parser.add_argument("--self-check", action="store_true", help="sweep programs that are broken on purpose")
     asked = parser.parse_args()
     begun, passed, failed = time.monotonic(), 0, 0

@@ -4,7 +4,7 @@ import struct
 import time
 
 from programs import Ended, same
-from servers import Server, awaits
+from servers import Server, awaits, value
 
 # How soon the last answer of a batch has to come, in seconds. A system that waits for an acknowledgement of what it
 # sent before holds it back for 0.04.
@@ -48,18 +48,6 @@ def is_soon(tried):
         if sum(it <= SOON for it in took) == SOON_TRIES:
             return
     raise AssertionError(f"it took {took}")
-
-
-def value(client, name):
-    """A number of `stats`."""
-    client.sends(b"stats\r\n")
-    with client.stream.makefile("rb", buffering=0) as lines:
-        head = lines.readline().split()
-        same(head[0], b"OK")
-        text = b""
-        while len(text) < int(head[1]) + 2:
-            text += lines.read(int(head[1]) + 2 - len(text))
-    return next(int(line.split(b": ")[1]) for line in text.splitlines() if line.startswith(name + b": "))
 
 
 def run_thousand_at_once(bqd):
@@ -175,20 +163,27 @@ def run_batch_then_half_a_put(bqd):
 
 
 def run_batch_then_the_end(bqd):
-    """A batch with a half-close behind it, and one with a quit and more that nobody reads, are answered whole, and then
-    the server closes."""
-    with Server(bqd, "--seats", "1", "--sessions", "3") as server:
+    """A batch with a half-close behind it is answered whole, and then the server closes."""
+    with Server(bqd, "--seats", "1", "--sessions", "1") as server:
         client, found = with_job(server, LARGE)
         client.sends(b"peek 1\r\nlist-tube-used\r\n" * 50)
         client.stream.shutdown(socket.SHUT_WR)
         client.hears((found + SMALL) * 50)
         client.hears_end()
         client.close()
-        for behind in [b"", b"list-tube-used\r\n" * 20]:
-            client = server.client()
-            client.asks(b"list-tube-used\r\n" * 50 + b"quit\r\n" + behind, SMALL * 50)
-            client.hears_end()
         same(server.end(), Ended(0, b"", b""))
+
+
+def run_batch_then_a_quit_and_more(bqd):
+    """A batch with a quit behind it is answered whole, and then the server closes, also with more bytes behind the quit
+    than a read takes, which nobody reads."""
+    with Server(bqd, "--seats", "1") as server:
+        for more in [b"", SMALL, b"x" * 1000, b"x" * 70000, b"x" * 200000]:
+            for _ in range(10):
+                client = server.client()
+                client.sends_while_read(b"list-tube-used\r\n" * 50 + b"quit\r\n" + more)
+                same(client.all_that_comes(), SMALL * 50)
+                client.close()
 
 
 def run_reset_while_answers_are_written(bqd):

@@ -3,8 +3,9 @@ import random
 import socket
 import time
 
+from faults import faults
 from programs import Ended, ended, has_all, has_no_memory, limits, refuses_words, same, tells_version
-from servers import TAKEN, Server, awaits, free_port
+from servers import TAKEN, Server, all_wait, free_port
 
 LOOPBACK = "127.0.0.1"
 
@@ -16,6 +17,7 @@ LATE = 0.05
 # How often it is tried, since a busy machine can be late without the server, and how often a job has to come soon,
 # since it may by chance.
 TRIES = 8
+MANY_TRIES = 60
 SOON_TRIES = 3
 
 # What is told where no file descriptor is left for a connection.
@@ -103,7 +105,7 @@ def run_cannot_listen(bqd):
 
 def run_one_client(bqd):
     """It tells where it listens, serves a client there, and ends with status 0 once its seat has ended."""
-    with Server(bqd, "--seats", "1", "--sessions", "1") as server:
+    with Server(bqd, "--seats", "1", "--sessions", "1", port=free_port()) as server:
         same(server.told, f"listening {LOOPBACK}:{server.port}\n".encode())
         client = server.client()
         client.asks(b"put 5 0 10 3\r\nabc\r\n", b"INSERTED 1\r\n")
@@ -252,6 +254,8 @@ def run_most_seats(bqd):
         putter = clients.pop()
         for client in clients:
             client.sends(b"reserve\r\n")
+        # One whose reserve comes late would be given the job of one that has closed.
+        all_wait(putter, len(clients))
         putter.asks(b"put 0 0 9 1\r\nx\r\n" * 255, b"".join(b"INSERTED %d\r\n" % (k + 1) for k in range(255)))
         heard = set()
         for client in clients:
@@ -348,7 +352,7 @@ def run_put_goes_on_at_once(bqd):
     soon = 0
     with Server(bqd, "--seats", "2") as server:
         one, other = server.client(), server.client()
-        for number in range(1, TRIES + 1):
+        for number in range(1, MANY_TRIES + 1):
             one.sends(b"reserve\r\n")
             time.sleep(random.uniform(0.02, 0.25))
             start = time.monotonic()
@@ -506,13 +510,14 @@ def run_answers_before_a_wait(bqd):
         client.asks(b"use a\r\nreserve-with-timeout 1\r\nlist-tube-used\r\nuse", b"USING a\r\n")
         client.hears_nothing(0.1)
         client.asks(b" b\r\n", b"TIMED_OUT\r\nUSING a\r\nUSING b\r\n")
-        took = []
-        for _ in range(SOON_TRIES):
+        for _ in range(TRIES):
             begun = time.monotonic()
             client.asks(b"list-tube-used\r\nreserve-with-timeout 1\r\n", b"USING b\r\n")
-            took.append(time.monotonic() - begun)
+            took = time.monotonic() - begun
             client.hears(b"TIMED_OUT\r\n")
-        same(min(took) < LATE, True)
+            if took < LATE:
+                return
+    raise AssertionError("it was answered late each time")
 
 
 def run_long_answers_at_once(bqd):
@@ -567,3 +572,30 @@ def run_seats_that_end_are_not_free(bqd):
             client.hears_end()
             client.close()
         same(server.end_as_told(), Ended(0, b"", TAKEN))
+
+
+def run_seat_served_once_of_twice_is_free(bqd):
+    """A seat that may serve one more connection is free in between."""
+    with Server(bqd, "--seats", "3", "--sessions", "2") as server:
+        for _ in range(2):
+            client = server.client()
+            client.asks(b"list-tube-used\r\nquit\r\n", b"USING default\r\n")
+            client.hears_end()
+        server.client().asks(b"list-tube-used\r\n", b"USING default\r\n")
+        same(server.is_silent(0.3), True)
+
+
+def run_seats_taken_are_told_again(bqd):
+    """After some seat was free for a minute it is told again that all are taken, though others became free later."""
+    # The clock goes a hundred times as fast.
+    with Server(bqd, "--seats", "3", env=faults(clock=100)) as server:
+        clients = [server.client() for _ in range(3)]
+        for client in clients:
+            client.asks(b"list-tube-used\r\n", b"USING default\r\n")
+        server.tells(TAKEN)
+        for minutes in (0.8, 0.5):
+            clients.pop().close()
+            time.sleep(minutes * 60 / 100)
+        for _ in range(2):
+            server.client().asks(b"list-tube-used\r\n", b"USING default\r\n")
+        server.tells(TAKEN)

@@ -1,27 +1,32 @@
 /* Loaded before libc's own (LD_PRELOAD): chosen calls of the system fail, as they may at any time.
 
-   FAULT_ACCEPTS=CODE  the first FAULT_TIMES calls that accept a connection fail with this error
+   FAULT_ACCEPTS=CODE  the first FAULT_TIMES calls that accept a connection fail with this error, but for FAULT_AFTER calls
+                       before them; where FAULT_EACH is set, one of so many calls
    FAULT_READS=CODE    the first FAULT_TIMES calls that read a connection fail with this error
    FAULT_WRITES=CODE   the FAULT_NTH-th call that writes to a connection fails with this error; where FAULT_CUT is set, the
                        call before it takes so many bytes at most
    FAULT_NODELAY=CODE  the first FAULT_TIMES calls that have a connection send each write at once fail with this error
    FAULT_THREAD=N      the Nth thread is refused
-   FAULT_CLOCK=N       the clock goes N times as fast
+   FAULT_CLOCK=N       the clock goes N times as fast, and sleeps and waits with an end are as much shorter
 
    With none of the variables no call fails. */
 #define _GNU_SOURCE
 #include <dlfcn.h>
 #include <errno.h>
+#include <linux/futex.h>
 #include <netinet/in.h>
 #include <netinet/tcp.h>
 #include <pthread.h>
+#include <stdarg.h>
 #include <stdatomic.h>
 #include <stdlib.h>
+#include <sys/epoll.h>
 #include <sys/socket.h>
+#include <sys/syscall.h>
 #include <time.h>
 
 static atomic_long accepts, reads, writes, switches, threads;
-static long accept_code, read_code, write_code, nth, cut, switch_code, times, refused_thread, speed;
+static long accept_code, read_code, write_code, nth, cut, switch_code, after, each, times, refused_thread, speed;
 
 static long number(const char *name) {
     const char *text = getenv(name);
@@ -35,13 +40,16 @@ __attribute__((constructor)) static void begin(void) {
     nth = number("FAULT_NTH");
     cut = number("FAULT_CUT");
     switch_code = number("FAULT_NODELAY");
+    after = number("FAULT_AFTER");
+    each = number("FAULT_EACH");
     times = number("FAULT_TIMES");
     refused_thread = number("FAULT_THREAD");
-    speed = number("FAULT_CLOCK");
+    speed = number("FAULT_CLOCK") > 1 ? number("FAULT_CLOCK") : 1;
 }
 
-static int fails(atomic_long *calls, long code) {
-    int failed = code && atomic_fetch_add(calls, 1) < times;
+static int fails(atomic_long *calls, long code, long skipped, long one_in) {
+    long call = code ? atomic_fetch_add(calls, 1) - skipped : 0;
+    int failed = code && 0 <= call && call % one_in == 0 && call / one_in < times;
     if (failed)
         errno = (int)code;
     return failed;
@@ -49,12 +57,12 @@ static int fails(atomic_long *calls, long code) {
 
 int accept4(int listener, struct sockaddr *peer, socklen_t *length, int flags) {
     int (*libc_accept4)(int, struct sockaddr *, socklen_t *, int) = dlsym(RTLD_NEXT, "accept4");
-    return fails(&accepts, accept_code) ? -1 : libc_accept4(listener, peer, length, flags);
+    return fails(&accepts, accept_code, after, each ? each : 1) ? -1 : libc_accept4(listener, peer, length, flags);
 }
 
 ssize_t recv(int socket, void *room, size_t length, int flags) {
     ssize_t (*libc_recv)(int, void *, size_t, int) = dlsym(RTLD_NEXT, "recv");
-    return fails(&reads, read_code) ? -1 : libc_recv(socket, room, length, flags);
+    return fails(&reads, read_code, 0, 1) ? -1 : libc_recv(socket, room, length, flags);
 }
 
 ssize_t send(int socket, const void *bytes, size_t length, int flags) {
@@ -71,7 +79,7 @@ ssize_t send(int socket, const void *bytes, size_t length, int flags) {
 int setsockopt(int socket, int level, int option, const void *value, socklen_t length) {
     int (*libc_setsockopt)(int, int, int, const void *, socklen_t) = dlsym(RTLD_NEXT, "setsockopt");
     int sends_at_once = level == IPPROTO_TCP && option == TCP_NODELAY && *(const int *)value;
-    return sends_at_once && fails(&switches, switch_code) ? -1 : libc_setsockopt(socket, level, option, value, length);
+    return sends_at_once && fails(&switches, switch_code, 0, 1) ? -1 : libc_setsockopt(socket, level, option, value, length);
 }
 
 int pthread_create(pthread_t *thread, const pthread_attr_t *how, void *(*work)(void *), void *given) {
@@ -79,6 +87,40 @@ int pthread_create(pthread_t *thread, const pthread_attr_t *how, void *(*work)(v
     if (refused_thread && atomic_fetch_add(&threads, 1) + 1 == refused_thread)
         return EAGAIN;
     return libc_create(thread, how, work, given);
+}
+
+/* A wait without an end is one of some hundred years. */
+static struct timespec shorter(const struct timespec *asked) {
+    long long rest = (asked->tv_sec % speed * 1000000000LL + asked->tv_nsec) / speed;
+    return (struct timespec){asked->tv_sec / speed + rest / 1000000000, rest % 1000000000};
+}
+
+int nanosleep(const struct timespec *asked, struct timespec *left) {
+    int (*libc_nanosleep)(const struct timespec *, struct timespec *) = dlsym(RTLD_NEXT, "nanosleep");
+    struct timespec mine = shorter(asked);
+    return libc_nanosleep(&mine, left);
+}
+
+int epoll_wait(int poll, struct epoll_event *events, int most, int wait) {
+    int (*libc_wait)(int, struct epoll_event *, int, int) = dlsym(RTLD_NEXT, "epoll_wait");
+    return libc_wait(poll, events, most, wait > 0 ? (int)(wait / speed) + 1 : wait);
+}
+
+/* The waits of threads for one another: their end is a time from now, or a moment of the clock. */
+long syscall(long number, ...) {
+    long (*libc_syscall)(long, ...) = dlsym(RTLD_NEXT, "syscall");
+    long given[6];
+    va_list all;
+    va_start(all, number);
+    for (int at = 0; at < 6; at++)
+        given[at] = va_arg(all, long);
+    va_end(all);
+    struct timespec mine;
+    if (number == SYS_futex && given[3] && ((given[1] & 127) == FUTEX_WAIT || (given[1] & 127) == FUTEX_WAIT_BITSET)) {
+        mine = shorter((struct timespec *)given[3]);
+        given[3] = (long)&mine;
+    }
+    return libc_syscall(number, given[0], given[1], given[2], given[3], given[4], given[5]);
 }
 
 int clock_gettime(clockid_t clock, struct timespec *told) {

@@ -12,6 +12,10 @@ from programs import PATIENCE, Ended, same
 # What is told when a connection takes the last free seat.
 TAKEN = b"bqd: all seats are taken: further connections wait\n"
 
+# How many threads a server has beside those of its seats: the first one, those of the run and of the core, and the one
+# that writes what is told.
+OTHERS = 4
+
 
 def free_port():
     """A port of the loopback at which nobody listens."""
@@ -41,22 +45,28 @@ def connected(port):
 class Server:
     """bqd with these words behind the address, 127.0.0.1 and a port that is free unless given.
 
-    What it told of its address is in `told`. Its standard input stays open until it is left.
+    What it told of its address is in `told`, and by that the port is found. (One that was free a moment ago may be
+    another's by now.) Its standard input stays open until it is left.
     """
 
-    def __init__(self, bqd, *words, listen=None, port=None, stdout=subprocess.PIPE, before=None, env=None):
-        self.port = port or free_port()
+    def __init__(
+        self, bqd, *words, listen=None, port=None, stdout=subprocess.PIPE, stderr=subprocess.PIPE, before=None, env=None
+    ):
+        tells = stdout == subprocess.PIPE and not listen
+        self.port = port or (0 if tells else free_port())
         self.process = subprocess.Popen(
             [bqd, *(listen or ["--listen", f"127.0.0.1:{self.port}"]), *words],
             stdin=subprocess.PIPE,
             stdout=stdout,
-            stderr=subprocess.PIPE,
+            stderr=stderr,
             bufsize=0,
             preexec_fn=before,
             env=env,
         )
         self.clients = []
         self.told = self.process.stdout.readline() if self.process.stdout else None
+        if not self.port and self.told:
+            self.port = int(self.told.rpartition(b":")[2])
 
     def __enter__(self):
         return self
@@ -128,6 +138,11 @@ class Server:
         except subprocess.TimeoutExpired:
             return True
 
+    def ended(self):
+        """Waits for the end of the server, while the control line stays open."""
+        status = self.process.wait(PATIENCE)
+        return Ended(status, self.process.stdout.read(), self.process.stderr.read())
+
     def end_as_told(self):
         """Ends the control line, and waits for the end of the server."""
         output, errors = self.process.communicate(b"", PATIENCE)
@@ -147,6 +162,23 @@ class Client:
 
     def sends(self, text):
         self.stream.sendall(text)
+
+    def sends_while_read(self, text):
+        """Sends as much of a text as the server takes before it closes."""
+        try:
+            self.stream.sendall(text)
+        except (BrokenPipeError, ConnectionResetError):
+            pass
+
+    def all_that_comes(self):
+        """All bytes that come until the server closes. Where it left some of ours unread, its system resets the connection."""
+        heard = b""
+        try:
+            while piece := self.stream.recv(1 << 16):
+                heard += piece
+        except ConnectionResetError:
+            pass
+        return heard
 
     def hears(self, text):
         """That these bytes come next."""
@@ -172,3 +204,20 @@ class Client:
 
     def close(self):
         self.stream.close()
+
+
+def value(client, name):
+    """A number of `stats`."""
+    client.sends(b"stats\r\n")
+    with client.stream.makefile("rb", buffering=0) as lines:
+        head = lines.readline().split()
+        same(head[0], b"OK")
+        text = b""
+        while len(text) < int(head[1]) + 2:
+            text += lines.read(int(head[1]) + 2 - len(text))
+    return next(int(line.split(b": ")[1]) for line in text.splitlines() if line.startswith(name + b": "))
+
+
+def all_wait(client, count):
+    """Waits until the reserves of so many clients wait, as one that doesn't is told."""
+    awaits(lambda: value(client, b"current-waiting") == count)

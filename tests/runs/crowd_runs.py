@@ -1,0 +1,200 @@
+"""Runs of bqd with more clients than most: many answers by one command, many that ask at one moment, and a client on each
+seat for each kind of what is due."""
+import concurrent.futures
+import time
+
+from faults import faults
+from waiting_runs import ANSWER, ASK, often
+from programs import same
+from servers import Server, all_wait
+
+# How late an answer may come, in seconds. A seat that isn't woken looks again only after its rest, and where it has
+# waited for some time that is a second.
+LATE = 0.2
+LONG_WAIT = 1.6
+
+
+def run_kick_for_many(bqd):
+    """One kick for 120 clients that have waited for some time answers all of them at once."""
+    many = 120
+    ids = range(1, many + 1)
+
+    def tried():
+        with Server(bqd, "--seats", str(many + 1)) as server:
+            kicks, *waiting = [server.client() for _ in range(many + 1)]
+            kicks.asks(
+                b"".join(b"put 0 0 60 1\r\nx\r\nreserve\r\nbury %d 0\r\n" % it for it in ids),
+                b"".join(b"INSERTED %d\r\nRESERVED %d 1\r\nx\r\nBURIED\r\n" % (it, it) for it in ids),
+            )
+            for client in waiting:
+                client.sends(b"reserve\r\n")
+            all_wait(kicks, many)
+            time.sleep(LONG_WAIT)
+            begun = time.monotonic()
+            kicks.asks(b"kick %d\r\n" % many, b"KICKED %d\r\n" % many)
+            heard = set()
+            for client in waiting:
+                client.hears(b"RESERVED ")
+                heard.add(int(client.stream.makefile("rb", buffering=0).readline().split()[0]))
+            took = time.monotonic() - begun
+            same(heard, set(ids))
+            return None if took <= LATE else took
+
+    often(tried)
+
+
+def run_many_ask_at_one_moment(bqd):
+    """Of 250 clients that ask at the same moment, and then all wait, each is answered."""
+    many, rounds = 250, 20
+    with Server(bqd, "--seats", str(many)) as server:
+        clients = [server.client() for _ in range(many)]
+        for _ in range(rounds):
+            for client in clients:
+                client.sends(ASK)
+            for client in clients:
+                client.hears(ANSWER)
+
+
+def run_delay_after_an_hour(bqd):
+    """After more than an hour of silence a delay of ten seconds is over in time, in each of some servers."""
+    # How often as fast as it does the clock goes, and by it the silence, and how late a job may come, in seconds.
+    speed, silence, late, servers = 2000, 5400, 300, 6
+
+    def took(_):
+        with Server(bqd, "--seats", "2", env=faults(clock=speed)) as server:
+            waits, puts = server.client(), server.client()
+            for client in (waits, puts):
+                client.asks(ASK, ANSWER)
+            time.sleep(silence / speed)
+            begun = time.monotonic()
+            puts.asks(b"put 0 10 60000 1\r\nx\r\n", b"INSERTED 1\r\n")
+            waits.asks(b"reserve\r\n", b"RESERVED 1 1\r\nx\r\n")
+            return (time.monotonic() - begun) * speed
+
+    def tried():
+        with concurrent.futures.ThreadPoolExecutor(servers) as pool:
+            found = list(pool.map(took, range(servers)))
+        return None if max(found) <= 10 + late else found
+
+    often(tried)
+
+
+class Round:
+    """Clients of which each waits in a tube of its own, with as many others."""
+
+    def __init__(self, number, waiting, others):
+        self.waiting, self.others = waiting, others
+        self.tubes = [b"round%d-%d" % (number, it) for it in range(len(waiting))]
+
+    def each_watches(self, clients):
+        for client, tube in zip(clients, self.tubes):
+            client.sends(b"watch %s\r\nignore default\r\n" % tube)
+            next_line(client)
+            next_line(client)
+
+    def each_waits(self):
+        for client in self.waiting:
+            client.sends(b"reserve\r\n")
+
+    def put_into_each(self, put):
+        """The others put a job into each tube."""
+        for client, tube in zip(self.others, self.tubes):
+            client.asks(b"use %s\r\n" % tube, b"USING %s\r\n" % tube)
+            client.sends(put)
+            next_line(client)
+
+    def others_reserve(self):
+        """Each of the others holds the job of a tube."""
+        self.each_watches(self.others)
+        for client in self.others:
+            client.sends(b"reserve\r\n")
+            job(client)
+
+
+def next_line(client):
+    with client.stream.makefile("rb", buffering=0) as lines:
+        return lines.readline()
+
+
+def job(client):
+    """The id of a job that a client is given."""
+    number = int(next_line(client).split()[1])
+    client.hears(b"x\r\n")
+    return number
+
+
+# What is due a second after it was asked for.
+def reserves(it):
+    for client in it.waiting:
+        client.sends(b"reserve-with-timeout 1\r\n")
+
+
+def leases(it):
+    it.put_into_each(b"put 0 0 1 1\r\nx\r\n")
+    it.others_reserve()
+    it.each_waits()
+
+
+def delays(it):
+    it.each_waits()
+    it.put_into_each(b"put 0 1 60 1\r\nx\r\n")
+
+
+def pauses(it):
+    it.put_into_each(b"put 0 0 60 1\r\nx\r\n")
+    for client, tube in zip(it.others, it.tubes):
+        client.asks(b"pause-tube %s 1\r\n" % tube, b"PAUSED\r\n")
+    it.each_waits()
+
+
+def warnings(it):
+    it.put_into_each(b"put 0 0 2 1\r\nx\r\n")
+    for client in it.waiting:
+        client.sends(b"reserve\r\n")
+        job(client)
+    it.each_waits()
+
+
+def requeues(it):
+    it.put_into_each(b"put 0 0 60 1\r\nx\r\n")
+    it.others_reserve()
+    it.each_waits()
+    for client in it.others:
+        client.close()
+
+
+# Each with what is told by it, or None where it is a job.
+DUE = [(reserves, b"TIMED_OUT\r\n"), (leases, None), (delays, None), (pauses, None), (warnings, b"DEADLINE_SOON\r\n"), (requeues, None)]
+
+
+def lateness(bqd, begin, told):
+    """How late the last of the clients hears what is due, in seconds: half of the seats have one that waits, and then the
+    other half."""
+    half, worst = 4, 0
+    with Server(bqd, "--seats", str(2 * half), "--requeue-delay", "1") as server:
+        first, second = ([server.client() for _ in range(half)] for _ in range(2))
+        for number, (waiting, others) in enumerate([(first, second), (second, first)]):
+            # The seats of those that closed are the only free ones.
+            waiting = [server.client() if it.stream.fileno() < 0 else it for it in waiting]
+            now = Round(number, waiting, others)
+            now.each_watches(waiting)
+            begin(now)
+            begun = time.monotonic()
+            for client in waiting:
+                if told:
+                    client.hears(told)
+                else:
+                    client.asks(b"delete %d\r\n" % job(client), b"DELETED\r\n")
+            worst = max(worst, time.monotonic() - begun - 1)
+    return worst
+
+
+def run_due_on_each_seat(bqd):
+    """Whichever seat serves a client that waits, it hears in time what is due: the end of its wait, of another's lease, of
+    a delay and of a pause, a warning, and the job of a lost connection."""
+    def tried():
+        with concurrent.futures.ThreadPoolExecutor(len(DUE)) as pool:
+            found = list(pool.map(lambda it: (it[0].__name__, lateness(bqd, *it)), DUE))
+        return None if all(late <= LATE for _, late in found) else found
+
+    often(tried)
