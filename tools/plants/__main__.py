@@ -1,6 +1,7 @@
 """Tries bugs that no contract refuses: the programs are built with one at a time, and a test has to fail for it.
 
     python3 tools/plants [--only WORD] [--jobs N] [--proofs] [FILE ..]
+    python3 tools/plants --applies
 
 A plant is a file tools/plants/CRATE/NAME.edit: a file of the crate, texts of it, and what they become, as in a
 must-fail edit. Its end stands in tools/plants/ends.txt, one of
@@ -23,6 +24,9 @@ where a check has let one through. Their end is 'clause', unless the table has a
 Run it by hand, and before a release. The last line is 'N as told, M otherwise'; the status is 1 where a plant is
 found to be otherwise than the table tells (it is refused or passes newly, does not apply any more, or was untried),
 and 2 for bad words and where nothing could be judged.
+
+With --applies nothing is built: each plant has to apply and to have one end in the table, and each end a plant. The
+gate does so. The last line is 'N passed, M failed' then.
 """
 import argparse
 import concurrent.futures
@@ -56,15 +60,16 @@ def script(name):
 edits = script("edits")
 
 
-class Plant(edits.Edit):
+class Plant:
     """An edit, with the crate that it changes and the end that is told of it."""
 
     def __init__(self, path, ends):
-        super().__init__(path)
-        is_must_fail = path.parent.name == "must-fail"
-        self.crate = path.parent.parent.name if is_must_fail else path.parent.name
+        self.edit = edits.Edit.read(path)
+        # An edit of a crate's own lies in crates/NAME/must-fail, or in a folder of that.
+        of_crate = path.is_relative_to(ROOT / "crates")
+        self.crate = path.relative_to(ROOT / "crates").parts[0] if of_crate else path.parent.name
         self.name = f"{self.crate}/{path.stem}"
-        self.end = ends.get(self.name, "clause" if is_must_fail else "none")
+        self.end = ends.get(self.name, "clause" if of_crate else "none")
 
     def told_trial(self):
         """The name of the trial that the table tells of, and its part."""
@@ -72,10 +77,14 @@ class Plant(edits.Edit):
         name, _, part = rest.partition(" ")
         return (name, part) if kind in ("test", "untried") else (None, None)
 
+    def changed_in(self, root):
+        """The file of a copy that it changes, and its text with the edit made, or None where it doesn't apply."""
+        path = root / "crates" / self.crate / self.edit.file
+        return path, self.edit.made(path.read_text()) if path.is_file() else None
+
     def made_in(self, root):
         """Makes the edit in a copy. Whether it applies there."""
-        path = root / "crates" / self.crate / self.file
-        changed = self.applied(path.read_text()) if path.is_file() else None
+        path, changed = self.changed_in(root)
         if changed is not None:
             path.write_text(changed)
         return changed is not None
@@ -176,9 +185,16 @@ def is_as_told(plant, said):
 
 def tried_by_proof(plants, jobs):
     """What the check of its crate says of each plant."""
-    for crate in dict.fromkeys(it.crate for it in plants):
-        some = [it for it in plants if it.crate == crate]
-        yield from edits.tried(crate, some, jobs).items()
+    listed, toolchain = edits.uses(), edits.kit()
+    with concurrent.futures.ThreadPoolExecutor(jobs) as pool:
+        some = {crate: [it for it in plants if it.crate == crate] for crate in {it.crate for it in plants}}
+        calls = {
+            pool.submit(edits.tried, crate, [it.edit for it in of_crate], edits.check_of(crate, listed, toolchain)): of_crate
+            for crate, of_crate in some.items()
+        }
+        for call in concurrent.futures.as_completed(calls):
+            said, _ = call.result()
+            yield from ((it, said[it.edit]) for it in calls[call])
 
 
 def counted(plants_said):
@@ -200,7 +216,7 @@ def all_said(plants, asked):
     if asked.proofs:
         rest = []
         for plant, said in tried_by_proof(plants, asked.jobs):
-            if said == "let through":
+            if said == "LET THROUGH":
                 rest.append(plant)
             else:
                 yield plant, said
@@ -216,7 +232,33 @@ def all_said(plants, asked):
 
 def crates_below():
     """Each crate, lowest first, with itself and all that it stands on."""
-    return {name: edits.crates_below(name) for name in edits.uses()}
+    listed = edits.uses()
+    return {name: [name, *edits.below(name, listed)] for name in listed}
+
+
+def what_is_wrong(plants, ends):
+    """What is wrong with the plants and their table, as far as it is seen without a build."""
+    for plant in plants:
+        if plant.changed_in(ROOT)[1] is None:
+            yield f"{plant.name}: does not apply"
+        if plant.end == "none":
+            yield f"{plant.name}: ends.txt has no end for it"
+        name, part = plant.told_trial()
+        if name == "runs" and not is_run(part):
+            yield f"{plant.name}: tests/runs has no run {part}"
+    names = {it.name for it in plants}
+    yield from (f"{name}: no plant has this name" for name in ends if name not in names)
+
+
+def is_run(name):
+    return any(f"def run_{name}(" in it.read_text() for it in (ROOT / "tests/runs").glob("*_runs.py"))
+
+
+def applies(plants, ends):
+    """Tells what is wrong, and how many plants are right. The status of the program."""
+    wrong = list(what_is_wrong(plants, ends))
+    print(*wrong, f"{len(plants) - len({it.partition(':')[0] for it in wrong})} passed, {len(wrong)} failed", sep="\n")
+    return 1 if wrong else 0
 
 
 def parsed():
@@ -225,6 +267,7 @@ def parsed():
     parser.add_argument("--only", metavar="WORD", default="", help="the plants whose names have this word, as bq_line/ or nodelay")
     parser.add_argument("--jobs", type=int, metavar="N", default=len(os.sched_getaffinity(0)), help="plants that are tried side by side")
     parser.add_argument("--proofs", action="store_true", help="asks the check of its crate of each plant first, over work that is kept in out/")
+    parser.add_argument("--applies", action="store_true", help="builds nothing: sees that each plant applies, and has an end")
     asked = parser.parse_args()
     if asked.jobs < 1:
         parser.error("--jobs takes a number from 1 on")
@@ -242,6 +285,8 @@ def main():
     plants = sorted((it for it in plants if asked.only in it.name), key=lambda it: it.told_trial()[0] is None)
     if not plants:
         parser.error(f"no plant has {asked.only!r} in its name")
+    if asked.applies:
+        return applies(plants, ends)
     try:
         right, wrong = counted(all_said(plants, asked))
     except NothingToJudgeBy as it:
