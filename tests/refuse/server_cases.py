@@ -71,8 +71,9 @@ def ended(server):
 def start_refused(bqd, faults, nth):
     """One start with the nth request refused: it serves whom it accepted, or ends with a fault and has told nobody anything.
 
-    The fault is no memory, until it is the thread for which the system's library is refused some: all that the server
-    itself asks for comes before. `faults` are those of the starts so far.
+    The fault is no memory, until it is a thread for which the system's library is refused some: one that writes what is
+    told, or the one that serves. Then that asks for memory, and starts threads once it has all of it. `faults` are those
+    of the starts so far.
     """
     server, address = started(bqd, ["--seats", str(SEATS), "--sessions", "1"], at=nth)
     told = []
@@ -88,8 +89,9 @@ def start_refused(bqd, faults, nth):
     if status == 0 and not complaint and told == SEATS * [[b"USING", b"default"]]:
         return refused, None
     faults.append(complaint)
-    wanted = NO_THREAD if NO_THREAD[0] in faults else NO_MEMORY
-    if refused and status == 1 and complaint in wanted and all(it == [b""] for it in told):
+    kinds = [it in NO_THREAD for it in faults]
+    turns = sum(kind != last for last, kind in zip(kinds, kinds[1:]))
+    if refused and status == 1 and complaint in NO_MEMORY + NO_THREAD and turns <= 3 and all(it == [b""] for it in told):
         return refused, None
     return refused, f"status {status}, {complaint!r}, clients were told {told}"
 

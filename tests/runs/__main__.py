@@ -19,6 +19,7 @@ import bqd_runs
 import crowd_runs
 import fault_runs
 import memory_runs
+import notices_runs
 import rest_runs
 import waiting_runs
 
@@ -46,7 +47,7 @@ def main():
     parser.add_argument("names", nargs="*", help="the runs whose names have one of these words; all, unless given")
     words = parser.parse_args()
     passed, failed = 0, 0
-    of_bqd = [bqd_runs, answers_runs, crowd_runs, fault_runs, memory_runs, rest_runs, waiting_runs]
+    of_bqd = [bqd_runs, answers_runs, crowd_runs, fault_runs, memory_runs, notices_runs, rest_runs, waiting_runs]
     modules = [(bq_runs, words.bq), *((it, words.bqd) for it in of_bqd)]
     for module, program in modules:
         for run in runs_of(module):

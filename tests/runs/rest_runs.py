@@ -3,7 +3,7 @@ import os
 import time
 
 from programs import Ended, same
-from servers import Server, awaits
+from servers import OTHERS, Server, awaits
 from waiting_runs import ANSWER, ASK, PUT, often, time_in_a_second
 
 # How many bytes of memory a seat may take to which no client has come: fewer than what it reads through has, or what
@@ -14,7 +14,7 @@ OF_A_SEAT = 64 << 10
 def at_rest(bqd, seats):
     """How much memory a server takes that has served one client on one of its seats."""
     with Server(bqd, "--seats", str(seats)) as server:
-        awaits(lambda: server.threads() == seats + 2)
+        awaits(lambda: server.threads() == seats + OTHERS)
         server.client().asks(b"list-tube-used\r\n", b"USING default\r\n")
         time.sleep(0.3)
         return server.memory()

@@ -1,5 +1,5 @@
 -- How a server begins: a control line that was made over an input has what the input has.
-use Rattle.std.proofs.Common.{◌≡◌, ◌∙◌, ℕ, ◌==◌, Bool, List, [], Option, None, ap, refl, subst, if◌then◌else◌}
+use Rattle.std.proofs.Common.{◌≡◌, ◌∙◌, ℕ, ◌==◌, Bool, List, [], Option, None, Some, IfSome, ap, refl, subst, if◌then◌else◌}
 use Rattle.std.proofs.KnownBytes.{prepend_known-nil}
 use Rattle.std.specs.Io.Buffered.{reader_buffer, reader_capacity, reader_inner, reader_remaining}
 use Rattle.std.specs.Io.KnownBytes.{prepend_known}
@@ -23,3 +23,7 @@ pub status_by : {R I K : Type 0} {left : I → Option (List ℕ)} {may_fail : I 
     → chosen ≡ same → IsStatusOfServer R left may_fail machine comparisons chosen listener control status → IsStatusOfServer R left may_fail machine comparisons same listener control status
 status_by {R} {I} {K} {left} {may_fail} {machine} {comparisons} {chosen} {same} {listener} {control} {status} e s =
     subst (λ (o : Options). IsStatusOfServer R left may_fail machine comparisons o listener control status) e s
+
+-- what is promised of a value that is there
+pub of_some : (P : ℕ → Type 0) (came : Option ℕ) (status : ℕ) → came ≡ Some status → IfSome came P → P status
+of_some P came status is h = subst (λ (o : Option ℕ). IfSome o P) is h

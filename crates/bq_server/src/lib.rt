@@ -4,6 +4,11 @@
 pub use program::run_bqd;
 pub use server::{serve, serve_doors};
 
+mod ending;
+mod log;
+mod logging;
 mod program;
 mod server;
+mod shared;
 mod telling_clock;
+mod watched;

@@ -2,8 +2,9 @@
 ghost use Rattle.std.specs.Prelude.{◌≤◌, IfOk};
 ghost use Rattle.bq_program.specs.Ranges.{IsForBqd};
 ghost use Rattle.bq_server.specs.Servers.{IsStatusOfProgram};
+ghost use Rattle.bq_server.specs.declared.logging.Logging.{Logging};
 
-use crate::server::listen_and_serve;
+use crate::watched::listen_and_serve;
 use bq_core::Core;
 use bq_driver::control_reader::ControlReader;
 use bq_program::{BqdOptions, OptionFault, Program, Stop, bqd_options, tell_stop, words};
@@ -25,12 +26,15 @@ pub fn run_bqd<
         + Clock
         + Print
         + Eprint
-        + Sync,
-    I: Read + Drop,
+        + Copy
+        + Send
+        + Sync
+        + 'static,
+    I: Read + Drop + Send + 'static,
 >(rt: &R, input: I) -> u8
     // The status is one that some words have: that of their fault, or of the server that they choose, with a control
     // line over this input. No clause tells which words were given, and any status up to 2 is that of some.
-    ensures status { IsStatusOfProgram R ⟦<BufReader<I> as Read>⟧.remaining ⟦<BufReader<I> as ControlReader>⟧.may_fail
+    ensures status { IsStatusOfProgram (Logging R) ⟦<BufReader<I> as Read>⟧.remaining ⟦<BufReader<I> as ControlReader>⟧.may_fail
         ⟦<Core as QueueCore>⟧.machine ⟦<Core as QueueCore>⟧.comparisons (I.remaining input) result }
     ensures at_most { result ≤ 2 }
 {

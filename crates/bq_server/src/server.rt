@@ -2,41 +2,42 @@
 ghost use Rattle.std.specs.Prelude.{◌≡◌, ◌≤◌, ◌↔◌, ◌&&◌, ◌==◌, IfErr, IfOk, IsErrOf, IsTrue, false, not, true, vec_len};
 ghost use Rattle.std.specs.List.{All, list_any};
 ghost use Rattle.bq_driver.specs.Tending.{AreSame, IsNewDoor, door_seen};
-ghost use Rattle.bq_program.specs.Chosen.{of_bqd};
-ghost use Rattle.bq_server.specs.Servers.{IsDoorAt, IsServerRun, IsStatusOfListening, IsStatusOfServer, MayRefuse};
+ghost use Rattle.bq_program.specs.Statuses.{status_of_server};
+ghost use Rattle.bq_server.specs.Servers.{IsDoorAt, IsServerRun, IsStatusOfServer, MayRefuse};
 ghost use Rattle.bq_server.specs.Servers.{came_of_run, settings_of};
 ghost use Rattle.bq_run.specs.Sessions.{IsRunOf};
 ghost use Rattle.bq_steps.specs.Limits.{are_in_range};
 
+use crate::ending::Ending;
 use crate::telling_clock::TellingClock;
 use bq_core::{Config, Core};
 use bq_driver::control_reader::ControlReader;
 use bq_job::NoMemory;
 use bq_line::line::ReadBuffer;
 use bq_line::{Door, FreeDoors, Refusals, TcpDoor, clock};
-use bq_program::{
-    BqdOptions, Fault, Need, Options, Program, tell_cannot_listen, tell_fault, tell_server,
-};
+use bq_program::{Fault, Need, Options, Program, tell_cannot_listen, tell_server};
 use bq_run::{Run, run_sessions};
 use bq_run_start::RunFault;
 use bq_steps::QueueCore;
 use std::alloc::Global;
-use std::io::{BufReader, Eprint, Print, Read};
-use std::net::{Net, TcpListener, TcpStream};
+use std::io::{Eprint, Print};
+use std::net::TcpListener;
 use std::rt::Clock;
 use std::sync::Wait;
 use std::thread::Threads;
 
 // What the doors of a server tell, which they share.
 #[derive(Drop)]
-struct DoorsTell {
+struct DoorsTell<'e> {
     refusals: Refusals,
     free: FreeDoors,
+    ending: &'e Ending,
 }
 
-impl DoorsTell {
-    fn new<R: Clock>(rt: &R, seats: u16) -> DoorsTell {
+impl<'e> DoorsTell<'e> {
+    fn new<R: Clock>(rt: &R, seats: u16, ending: &'e Ending) -> DoorsTell<'e> {
         DoorsTell {
+            ending,
             refusals: Refusals::new("bqd: no connection can be accepted"),
             free: FreeDoors::new(
                 rt,
@@ -63,11 +64,29 @@ pub fn serve<R: Threads + Wait + Clock + Print + Eprint + Sync, I: ControlReader
         ⟦<Core as QueueCore>⟧.comparisons options.now listener control result }
     ensures at_most { result ≤ 1 }
 {
+    let ending = Ending::new(options.seats);
+    serve_to(rt, alloc, options, listener, &ending, control)
+}
+
+/// The same, for a thread that another one watches: it notes the end of its run, and reports how it ended unless that
+/// one has.
+pub(crate) fn serve_to<R: Threads + Wait + Clock + Print + Eprint + Sync, I: ControlReader + Drop>(
+    rt: &R,
+    alloc: Global,
+    options: &Options,
+    listener: TcpListener,
+    ending: &Ending,
+    control: I,
+) -> u8
+    ensures status { IsStatusOfServer R I.remaining I.may_fail ⟦<Core as QueueCore>⟧.machine
+        ⟦<Core as QueueCore>⟧.comparisons options.now listener control result }
+    ensures at_most { result ≤ 1 }
+{
     match listener.local_addr() {
         Ok(address) => {
             // Who closes standard output doesn't want to know.
             let _told = println!(rt; "listening {address}");
-            serve_at(rt, alloc, options, &listener, control)
+            serve_at(rt, alloc, options, &listener, ending, control)
         }
         Err(e) => {
             let address = options.listen.as_deref().unwrap_or("");
@@ -76,47 +95,35 @@ pub fn serve<R: Threads + Wait + Clock + Print + Eprint + Sync, I: ControlReader
     }
 }
 
-/// Binds the address and serves until all is over: the status of the program. The input is the control
-/// line.
-pub(crate) fn listen_and_serve<
-    R: Net<Listener = TcpListener, Stream = TcpStream>
-        + Threads
-        + Wait
-        + Clock
-        + Print
-        + Eprint
-        + Sync,
-    I: Read + Drop,
->(rt: &R, alloc: Global, options: BqdOptions, input: I) -> u8
-    ensures status { IsStatusOfListening R ⟦<BufReader<I> as Read>⟧.remaining ⟦<BufReader<I> as ControlReader>⟧.may_fail
-        ⟦<Core as QueueCore>⟧.machine ⟦<Core as QueueCore>⟧.comparisons (of_bqd options) (I.remaining input) result }
-    ensures at_most { result ≤ 1 }
-{
-    let listener = match TcpListener::bind(rt, options.listen.as_str()) {
-        Ok(listener) => listener,
-        Err(e) => return tell_cannot_listen(rt, Program::Bqd, options.listen.as_str(), &e),
-    };
-    let Ok(control) = BufReader::new(alloc, input) else {
-        return tell_fault(rt, Program::Bqd, Fault::NoMemory(Need::ControlLine));
-    };
-    serve(rt, alloc, &Options::from(options), listener, control)
-}
-
 // Serves at this listener, and tells what came of it.
 fn serve_at<R: Threads + Wait + Clock + Print + Eprint + Sync, I: ControlReader + Drop>(
     rt: &R,
     alloc: Global,
     options: &Options,
     listener: &TcpListener,
+    ending: &Ending,
     control: I,
 ) -> u8
     ensures status { IsStatusOfServer R I.remaining I.may_fail ⟦<Core as QueueCore>⟧.machine
         ⟦<Core as QueueCore>⟧.comparisons options.now listener.now control result }
     ensures at_most { result ≤ 1 }
 {
-    let tell = DoorsTell::new(rt, options.seats);
+    let tell = DoorsTell::new(rt, options.seats, ending);
     let came = run_server(rt, alloc, options, listener, &tell, control);
-    tell_server(rt, came_of(&came))
+    tell_end(rt, ending, came_of(&came))
+}
+
+// Tells what came of a server, unless another thread did already.
+fn tell_end<R: Eprint>(rt: &R, ending: &Ending, came: Result<(), Fault>) -> u8
+    ensures { result ≡ status_of_server came }
+{
+    if ending.is_first_to_report() {
+        return tell_server(rt, came);
+    }
+    match came {
+        Ok(()) => 0,
+        Err(_) => 1,
+    }
 }
 
 // The run of a server, whose doors are new and at this listener, one for each seat.
@@ -125,7 +132,7 @@ fn run_server<'l, R: Threads + Wait + Clock + Print + Eprint + Sync, I: ControlR
     alloc: Global,
     options: &Options,
     listener: &'l TcpListener,
-    tell: &'l DoorsTell,
+    tell: &'l DoorsTell<'l>,
     control: I,
 ) -> Result<Run<TcpDoor<'l, R>, TellingClock<'l, R>, I, Core>, Fault>
     ensures served { IfOk result
@@ -219,7 +226,7 @@ fn new_door<'l, R: Wait + Clock + Eprint>(
     listener: &'l TcpListener,
     sessions: Option<u32>,
     buffer: ReadBuffer,
-    tell: &'l DoorsTell,
+    tell: &'l DoorsTell<'l>,
 ) -> TcpDoor<'l, R>
     ensures new { IsNewDoor (door_seen ⟦<TcpDoor<'l, R> as Door>⟧.is_out ⟦<TcpDoor<'l, R> as Door>⟧.is_at_end
         ⟦<TcpDoor<'l, R> as Door>⟧.lines_over result) }
@@ -228,6 +235,7 @@ fn new_door<'l, R: Wait + Clock + Eprint>(
     TcpDoor::new(rt, listener, sessions, buffer)
         .telling(&tell.refusals)
         .among(&tell.free)
+        .counted(tell.ending.doors())
 }
 
 // A door for each seat, all at one listener.
@@ -236,7 +244,7 @@ fn new_doors<'l, R: Wait + Clock + Eprint>(
     alloc: Global,
     options: &Options,
     listener: &'l TcpListener,
-    tell: &'l DoorsTell,
+    tell: &'l DoorsTell<'l>,
 ) -> Result<Vec<TcpDoor<'l, R>, Global>, NoMemory>
     ensures new { IfOk result (λ all. All (λ door. IsNewDoor (door_seen ⟦<TcpDoor<'l, R> as Door>⟧.is_out
         ⟦<TcpDoor<'l, R> as Door>⟧.is_at_end ⟦<TcpDoor<'l, R> as Door>⟧.lines_over door)) all.items) }

@@ -1,0 +1,114 @@
+//! Lines for standard error. A thread of its own writes them, so that no other thread waits for whoever reads them.
+
+use arrayvec::ArrayString;
+use crossbeam_queue::ArrayQueue;
+use std::alloc::{AllocError, Global};
+use std::fmt::{Display, Write};
+use std::io::Eprint;
+use std::sync::atomic::{AtomicU64, Ordering};
+use std::sync::{Wait, WaitMethods};
+use std::thread::Parker;
+use std::time::Duration;
+
+/// How many lines can wait to be written.
+const ROOM: usize = 64;
+
+/// How many bytes a line has at most.
+const LINE_LENGTH: usize = 256;
+
+/// How often the end of a program waits for lines to be written.
+const LAST_WAITS: u32 = 10;
+
+/// How long one of these waits takes at most, in milliseconds.
+const LAST_WAIT: u64 = 100;
+
+type Line = ArrayString<LINE_LENGTH>;
+
+/// Lines that one thread writes to standard error in their order, while any thread adds more. No thread waits to add a
+/// line: if there is no room the line is dropped, and how many were is reported later.
+#[derive(Drop)]
+pub struct Log {
+    lines: ArrayQueue<Line>,
+    // How many lines were dropped since that was last reported.
+    dropped: AtomicU64,
+    // 1 if no more lines are added.
+    is_closed: AtomicU64,
+    // 1 if the log is closed and all its lines are written.
+    is_written: AtomicU64,
+    // What the thread sleeps on that writes, and the one that closes.
+    writer: Parker,
+    closer: Parker,
+}
+
+impl Log {
+    pub fn new(alloc: Global) -> Result<Log, AllocError> {
+        Ok(Log {
+            lines: ArrayQueue::new(alloc, ROOM)?,
+            dropped: AtomicU64::new(0),
+            is_closed: AtomicU64::new(0),
+            is_written: AtomicU64::new(0),
+            writer: Parker::new(),
+            closer: Parker::new(),
+        })
+    }
+
+    /// Adds a line. It takes no memory.
+    pub fn add<R: Wait, D: Display + Drop>(&self, rt: &R, line: D) {
+        if self.lines.push(rt, line_of(line)).is_err() {
+            self.dropped.fetch_add(1, Ordering::SeqCst);
+        }
+        self.writer.unpark();
+    }
+
+    /// Writes lines as they come, until the log is closed and all of them are written.
+    pub fn write<R: Wait + Eprint>(&self, rt: &R) {
+        for _ in rt.forever() {
+            // This is read first: what was added before the log was closed is written below.
+            let is_closed = self.is_closed.load(Ordering::SeqCst) == 1;
+            self.write_waiting(rt);
+            if is_closed {
+                self.is_written.store(1, Ordering::SeqCst);
+                self.closer.unpark();
+                return;
+            }
+            self.writer.park(rt);
+        }
+    }
+
+    // Writes the lines that wait, and then how many were dropped.
+    fn write_waiting<R: Wait + Eprint>(&self, rt: &R) {
+        for _ in rt.forever() {
+            let Some(line) = self.lines.pop(rt) else {
+                break;
+            };
+            // If standard error is closed, nobody wants to know.
+            let _told = eprintln!(rt; "{}", line.as_str());
+        }
+        let dropped = self.dropped.swap(0, Ordering::SeqCst);
+        if dropped > 0 {
+            let _told = eprintln!(rt;
+                "bqd: {dropped} lines were dropped: standard error was blocked"
+            );
+        }
+    }
+
+    /// Closes the log and waits until its lines are written, up to a second.
+    pub fn close<R: Wait>(&self, rt: &R) {
+        self.is_closed.store(1, Ordering::SeqCst);
+        self.writer.unpark();
+        for _ in 0..LAST_WAITS {
+            if self.is_written.load(Ordering::SeqCst) == 1 {
+                return;
+            }
+            self.closer
+                .park_timeout(rt, Duration::from_millis(LAST_WAIT));
+        }
+    }
+}
+
+// A line without its end. Parts of it for which there is no room are left out.
+fn line_of<D: Display + Drop>(value: D) -> Line {
+    let mut line = Line::new();
+    let _whole = write!(line, "{value}");
+    line
+}

@@ -1,0 +1,74 @@
+//! A host whose standard error is a log.
+
+use crate::shared::Shared;
+use std::alloc::Global;
+use std::fmt::Display;
+use std::io;
+use std::io::{Eprint, Print};
+use std::rt::Clock;
+use std::sync::{Arc, Wait};
+use std::thread::Threads;
+use std::time::Duration;
+
+/// A host whose standard error is a log, which another thread writes: no thread that reports something waits for
+/// whoever reads it. All else is the host's own.
+#[derive(Drop)]
+pub struct Logging<R> {
+    host: R,
+    shared: Arc<Shared, Global>,
+}
+
+impl<R> Logging<R> {
+    pub fn new(host: R, shared: Arc<Shared, Global>) -> Logging<R> {
+        Logging { host, shared }
+    }
+
+    /// What it shares with other threads.
+    pub fn shared(&self) -> &Shared {
+        &self.shared
+    }
+}
+
+impl<R: Threads> Threads for Logging<R> {}
+
+impl<R: Wait> Wait for Logging<R> {}
+
+impl<R: Clock> Clock for Logging<R> {
+    fn monotonic(&self) -> io::Result<Duration> {
+        self.host.monotonic()
+    }
+
+    fn since_1970(&self) -> io::Result<Duration> {
+        self.host.since_1970()
+    }
+
+    fn sleep(&self, duration: Duration) {
+        self.host.sleep(duration);
+    }
+}
+
+impl<R: Print> Print for Logging<R> {
+    fn print<D: Display + Drop>(&self, value: D) -> io::Result<()> {
+        self.host.print(value)
+    }
+
+    fn println<D: Display + Drop>(&self, value: D) -> io::Result<()> {
+        self.host.println(value)
+    }
+
+    fn write_all(&self, bytes: &[u8]) -> io::Result<()> {
+        self.host.write_all(bytes)
+    }
+}
+
+/// What is reported is a line of the log, by either call.
+impl<R: Wait> Eprint for Logging<R> {
+    fn eprint<D: Display + Drop>(&self, value: D) -> io::Result<()> {
+        self.eprintln(value)
+    }
+
+    fn eprintln<D: Display + Drop>(&self, value: D) -> io::Result<()> {
+        self.shared.log.add(&self.host, value);
+        Ok(())
+    }
+}

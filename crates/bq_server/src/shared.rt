@@ -1,0 +1,28 @@
+//! What the threads of a program share.
+
+use crate::ending::Ending;
+use crate::log::Log;
+use bq_job::NoMemory;
+use std::alloc::Global;
+use std::sync::Arc;
+
+/// What the thread that begins a server, the one that serves and the one that writes the log share.
+#[derive(Drop)]
+pub struct Shared {
+    pub log: Log,
+    pub ending: Ending,
+}
+
+impl Shared {
+    /// For a server with so many doors.
+    pub fn new(alloc: Global, doors: u16) -> Result<Arc<Shared, Global>, NoMemory> {
+        let Ok(log) = Log::new(alloc) else {
+            return Err(NoMemory);
+        };
+        let ending = Ending::new(doors);
+        match Arc::new(alloc, Shared { log, ending }) {
+            Ok(shared) => Ok(shared),
+            Err(_) => Err(NoMemory),
+        }
+    }
+}

@@ -1,0 +1,192 @@
+//! A server in a thread that the calling one watches.
+ghost use Rattle.std.specs.Prelude.{◌≡◌, ◌≤◌, IfOk, IfSome};
+ghost use Rattle.bq_program.specs.Chosen.{of_bqd};
+ghost use Rattle.bq_server.specs.Servers.{IsStatusOfListening, IsStatusOfServer};
+ghost use Rattle.bq_server.specs.declared.logging.Logging.{Logging};
+
+use crate::logging::Logging;
+use crate::server::serve_to;
+use crate::shared::Shared;
+use bq_core::Core;
+use bq_driver::control_reader::ControlReader;
+use bq_program::{BqdOptions, Fault, Need, Options, Program, tell_cannot_listen, tell_fault};
+use bq_steps::QueueCore;
+use std::alloc::Global;
+use std::io::{BufReader, Eprint, Print, Read};
+use std::marker::PhantomData;
+use std::net::{Net, TcpListener, TcpStream};
+use std::rt::Clock;
+use std::snapshot::Snapshot;
+use std::sync::{Arc, Wait};
+use std::thread;
+use std::thread::{Promise, PromisedHandle, Threads};
+
+/// Binds the address and serves until all is over: the status of the program. The input is the control line.
+///
+/// One thread serves, and one writes what is reported. The calling thread waits for the end, so that neither a control
+/// line that stays open nor a standard error that takes nothing holds it up.
+pub(crate) fn listen_and_serve<
+    R: Net<Listener = TcpListener, Stream = TcpStream>
+        + Threads
+        + Wait
+        + Clock
+        + Print
+        + Eprint
+        + Copy
+        + Send
+        + Sync
+        + 'static,
+    I: Read + Drop + Send + 'static,
+>(rt: &R, alloc: Global, options: BqdOptions, input: I) -> u8
+    ensures status { IsStatusOfListening (Logging R) ⟦<BufReader<I> as Read>⟧.remaining ⟦<BufReader<I> as ControlReader>⟧.may_fail
+        ⟦<Core as QueueCore>⟧.machine ⟦<Core as QueueCore>⟧.comparisons (of_bqd options) (I.remaining input) result }
+    ensures at_most { result ≤ 1 }
+{
+    let listener = match TcpListener::bind(rt, options.listen.as_str()) {
+        Ok(listener) => listener,
+        Err(e) => return tell_cannot_listen(rt, Program::Bqd, options.listen.as_str(), &e),
+    };
+    let Ok(control) = BufReader::new(alloc, input) else {
+        return tell_fault(rt, Program::Bqd, Fault::NoMemory(Need::ControlLine));
+    };
+    match serve_watched(rt, alloc, Options::from(options), listener, control) {
+        Ok(Some(status)) => status,
+        Ok(None) => 1,
+        Err(fault) => tell_fault(rt, Program::Bqd, fault),
+    }
+}
+
+// Serves in a thread of its own: its status, or None if its last door failed, which is reported then.
+fn serve_watched<
+    R: Threads + Wait + Clock + Print + Eprint + Copy + Send + Sync + 'static,
+    I: ControlReader + Drop + Send + 'static,
+>(
+    rt: &R,
+    alloc: Global,
+    options: Options,
+    listener: TcpListener,
+    control: I,
+) -> Result<Option<u8>, Fault>
+    ensures { IfOk result (λ came. IfSome came (λ status. (IsStatusOfServer (Logging R) I.remaining I.may_fail
+        ⟦<Core as QueueCore>⟧.machine ⟦<Core as QueueCore>⟧.comparisons options listener control status) × (status ≤ 1))) }
+{
+    let Ok(shared) = Shared::new(alloc, options.seats) else {
+        return Err(Fault::NoMemory(Need::Queue));
+    };
+    let (Ok(of_log), Ok(of_server)) = (Arc::try_clone(&shared), Arc::try_clone(&shared)) else {
+        return Err(Fault::NoMemory(Need::Queue));
+    };
+    if !start_log(*rt, of_log) {
+        return Err(Fault::ThreadRefused);
+    }
+    let server = Server {
+        rt: Logging::new(*rt, of_server),
+        alloc,
+        options,
+        listener,
+        control,
+    };
+    let Some(thread) = start_server(rt, server) else {
+        return Err(Fault::ThreadRefused);
+    };
+    shared.ending.wait(rt);
+    let logging = Logging::new(*rt, shared);
+    let came = came_of(rt, &logging, thread);
+    logging.shared().log.close(rt);
+    Ok(came)
+}
+
+// Starts the thread that writes the log, and says whether it could be.
+fn start_log<R: Threads + Wait + Eprint + Copy + Send + 'static>(
+    rt: R,
+    shared: Arc<Shared, Global>,
+) -> bool {
+    thread::spawn(&rt, move || shared.log.write(&rt)).is_ok()
+}
+
+fn start_server<
+    R: Threads + Wait + Clock + Print + Eprint + Copy + Send + Sync + 'static,
+    I: ControlReader + Drop + Send + 'static,
+>(rt: &R, server: Server<R, I>) -> Option<PromisedHandle<u8, ServerPromise<R, I>>>
+    ensures { IfSome result (λ t. (t.promise.options.value ≡ server.options)
+        × (t.promise.listener.value ≡ server.listener) × (t.promise.control.value ≡ server.control)) }
+{
+    let promise = ServerPromise {
+        options: Snapshot::of(&server.options),
+        listener: Snapshot::of(&server.listener),
+        control: Snapshot::of(&server.control),
+        rt: PhantomData,
+    };
+    thread::spawn_with(rt, promise, move || server.serve()).ok()
+}
+
+// What the thread of a server begins with.
+#[derive(Drop)]
+struct Server<R, I> {
+    rt: Logging<R>,
+    alloc: Global,
+    options: Options,
+    listener: TcpListener,
+    control: I,
+}
+
+impl<R: Threads + Wait + Clock + Print + Eprint + Copy + Sync, I: ControlReader + Drop> Server<
+    R,
+    I,
+> {
+    // Serves until all is over: the status.
+    fn serve(self) -> u8
+        ensures status { IsStatusOfServer (Logging R) I.remaining I.may_fail ⟦<Core as QueueCore>⟧.machine
+            ⟦<Core as QueueCore>⟧.comparisons self.options self.listener self.control result }
+        ensures at_most { result ≤ 1 }
+    {
+        let Server {
+            rt,
+            alloc,
+            options,
+            listener,
+            control,
+        } = self;
+        let ending = &rt.shared().ending;
+        let status = serve_to(&rt, alloc, &options, listener, ending, control);
+        ending.note_over();
+        status
+    }
+}
+
+// That the status of a server's thread is that of its server.
+#[derive(Drop)]
+struct ServerPromise<R, I> {
+    options: Snapshot<Options>,
+    listener: Snapshot<TcpListener>,
+    control: Snapshot<I>,
+    rt: PhantomData<R>,
+}
+
+impl<R, I: ControlReader> Promise<u8> for ServerPromise<R, I> {
+    ghost use Rattle.std.specs.Prelude.{◌≤◌};
+    ghost use Rattle.bq_server.specs.Servers.{IsStatusOfServer};
+    ghost use Rattle.bq_server.specs.declared.logging.Logging.{Logging};
+
+    ghost kept_by = { λ p status. (IsStatusOfServer (Logging R) I.remaining I.may_fail ⟦<Core as QueueCore>⟧.machine
+        ⟦<Core as QueueCore>⟧.comparisons p.options.value p.listener.value p.control.value status) × (status ≤ 1) };
+}
+
+// What came of a server that has ended: the status of its thread, or None if its last door failed, which is reported
+// here then. Its thread may still wait for the end of the control line.
+fn came_of<R: Threads + Wait + Eprint, I: ControlReader>(
+    rt: &R,
+    logging: &Logging<R>,
+    thread: PromisedHandle<u8, ServerPromise<R, I>>,
+) -> Option<u8>
+    ensures { IfSome result (λ status. (IsStatusOfServer (Logging R) I.remaining I.may_fail
+        ⟦<Core as QueueCore>⟧.machine ⟦<Core as QueueCore>⟧.comparisons thread.promise.options.value
+        thread.promise.listener.value thread.promise.control.value status) × (status ≤ 1)) }
+{
+    let ending = &logging.shared().ending;
+    if ending.doors().have_failed() && ending.is_first_to_report() {
+        tell_fault(logging, Program::Bqd, Fault::NotAccepted);
+        return None;
+    }
+    Some(thread.join(rt))
+}

@@ -1,0 +1,124 @@
+"""Runs of bqd whose standard error nobody reads."""
+import errno
+import fcntl
+import os
+import select
+import threading
+import time
+
+from fault_runs import AT_THE_END, told_of
+from faults import faults
+from programs import PATIENCE, same
+from servers import TAKEN, Server
+from waiting_runs import often
+
+ASK, ANSWER = b"list-tube-used\r\n", b"USING default\r\n"
+
+# How many lines wait until they are written (docs/OPERATING.md).
+ROOM = 64
+
+
+
+class FullPipe:
+    """A pipe that takes nothing more, until it is read."""
+
+    def __init__(self):
+        self.reading, self.writing = os.pipe()
+        fcntl.fcntl(self.writing, fcntl.F_SETPIPE_SZ, 4096)
+        self.held = b"." * fcntl.fcntl(self.writing, fcntl.F_GETPIPE_SZ)
+        # As much as it holds, so that this doesn't wait.
+        same(os.write(self.writing, self.held), len(self.held))
+        same(select.select([], [self.writing], [], 0)[1], [])
+
+    def __enter__(self):
+        return self
+
+    def __exit__(self, *why):
+        os.close(self.reading)
+        os.close(self.writing)
+
+    def lines(self, count):
+        """The lines behind what was held back, so many of them."""
+        heard = b""
+        while heard[len(self.held) :].count(b"\n") < count:
+            came, _, _ = select.select([self.reading], [], [], PATIENCE)
+            piece = os.read(self.reading, 4096) if came else b""
+            if not piece:
+                break
+            heard += piece
+        return heard[len(self.held) :].splitlines(keepends=True)
+
+
+def works_for(client, seconds, counts):
+    """A client that asks one command after another. How many were answered is added to the counts."""
+    end, count = time.monotonic() + seconds, 0
+    while time.monotonic() < end:
+        client.asks(ASK, ANSWER)
+        count += 1
+    counts.append(count)
+
+
+def run_clients_beside_a_blocked_standard_error(bqd):
+    """While nobody reads standard error, draining begins and 16 clients work on, one of which took the last seat. Once it
+    is read it has the notices."""
+    with FullPipe() as pipe, Server(bqd, "--seats", "16", stderr=pipe.writing) as server:
+        clients = [server.client() for _ in range(16)]
+        for client in clients:
+            client.asks(ASK, ANSWER)
+        server.control(b"drain\n")
+        clients[0].sends(b"put 0 0 9 1\r\nx\r\n")
+        while clients[0].stream.recv(64) != b"DRAINING\r\n":
+            clients[0].sends(b"put 0 0 9 1\r\nx\r\n")
+        counts = []
+        threads = [threading.Thread(target=works_for, args=[client, 1, counts]) for client in clients]
+        for it in threads:
+            it.start()
+        for it in threads:
+            it.join()
+        same(len(counts), len(clients))
+        same(min(counts) > 10, True)
+        same(pipe.lines(2), [TAKEN, b"bqd: draining\n"])
+
+
+def run_ends_beside_a_blocked_standard_error(bqd):
+    """A server ends though nobody reads standard error: when all is over, and when its last seat fails."""
+    with FullPipe() as pipe, Server(bqd, "--seats", "1", "--sessions", "1", stderr=pipe.writing) as server:
+        server.client().asks(ASK + b"quit\r\n", ANSWER)
+        server.process.stdin.close()
+        same(server.process.wait(PATIENCE), 0)
+    failing = faults(accepts=errno.EBADF, times=1)
+    with FullPipe() as pipe, Server(bqd, "--seats", "1", stderr=pipe.writing, env=failing) as server:
+        same(server.process.wait(PATIENCE), 1)
+
+
+def run_last_notices_are_written(bqd):
+    """What was told is written before the server ends, if standard error is read soon, here by a machine that is not too
+    busy for it once at least."""
+    def tried():
+        with FullPipe() as pipe, Server(bqd, "--seats", "1", stderr=pipe.writing, env=faults(accepts=errno.EBADF, times=1)) as server:
+            same(server.goes_on(0.3), True)
+            lines = pipe.lines(2)
+            same(server.process.wait(PATIENCE), 1)
+        return None if lines == [told_of(errno.EBADF), AT_THE_END] else lines
+
+    often(tried)
+
+
+def run_notices_without_room(bqd):
+    """Notices that find no room are counted, and how many they were is told once standard error is read."""
+    code, dropped = errno.EPROTO, 5
+    # One more is in the hand of the thread that writes.
+    written = 1 + ROOM
+    # Every other accept fails, and then the seat rests for a tenth of a second, a hundred times as fast.
+    failing = faults(accepts=code, times=written + dropped, each=2, clock=100)
+    with FullPipe() as pipe, Server(bqd, "--seats", "1", stderr=pipe.writing, env=failing) as server:
+        for _ in range(written + dropped + 1):
+            client = server.client()
+            client.asks(ASK, ANSWER)
+            client.close()
+        server.clients.clear()
+        lines = pipe.lines(written + 1)
+        same(set(lines[:written]) <= {told_of(code), TAKEN}, True)
+        # That the one seat is taken is told too, once or more.
+        words = lines[written].split()
+        same((b" ".join([*words[:1], *words[2:]]), int(words[1]) > dropped), (b"bqd: lines were dropped: standard error was blocked", True))
