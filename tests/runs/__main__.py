@@ -1,11 +1,13 @@
 """Runs of the built programs bq and bqd, from their words to their streams and statuses.
 
-    python3 tests/runs --bq PATH --bqd PATH
+    python3 tests/runs --bq PATH --bqd PATH [--lanes N] [NAME ..]
 
 Every text and number that is wanted here is one of the documents': README.md, docs/OPERATING.md and
 docs/PROTOCOL.md. The last line is 'N passed, M failed', and the status is 1 where one failed.
 """
 import argparse
+import concurrent.futures
+import multiprocessing
 import os
 import sys
 import traceback
@@ -20,8 +22,12 @@ import crowd_runs
 import fault_runs
 import memory_runs
 import notices_runs
+import preloaded
 import rest_runs
 import waiting_runs
+
+# How many runs go side by side unless chosen: most of them wait most of the time.
+LANES = 2
 
 
 def runs_of(module):
@@ -29,36 +35,42 @@ def runs_of(module):
     return [value for name, value in vars(module).items() if name.startswith("run_")]
 
 
-def passes(run, program):
-    """Whether a run goes as it has to. What went wrong is told."""
+def said_of(run, program):
+    """What went wrong with a run, or None where it goes as it has to."""
     try:
         run(program)
-        return True
+        return None
     except Exception:
-        print(f"FAILED {run.__module__}.{run.__name__}: {run.__doc__}")
-        traceback.print_exc(file=sys.stdout)
-        return False
+        return f"FAILED {run.__module__}.{run.__name__}: {run.__doc__}\n{traceback.format_exc()}"
 
 
 def main():
     parser = argparse.ArgumentParser(prog="tests/runs")
     parser.add_argument("--bq", required=True, help="the built program bq")
     parser.add_argument("--bqd", required=True, help="the built program bqd")
+    parser.add_argument("--lanes", type=int, default=LANES, help="how many runs side by side")
     parser.add_argument("names", nargs="*", help="the runs whose names have one of these words; all, unless given")
     words = parser.parse_args()
-    passed, failed = 0, 0
     of_bqd = [bqd_runs, answers_runs, crowd_runs, fault_runs, memory_runs, notices_runs, rest_runs, waiting_runs]
     modules = [(bq_runs, words.bq), *((it, words.bqd) for it in of_bqd)]
-    for module, program in modules:
-        for run in runs_of(module):
-            if words.names and not any(name in run.__name__ for name in words.names):
-                continue
-            if passes(run, os.path.abspath(program)):
-                passed += 1
-            else:
-                failed += 1
+    chosen = [
+        (run, os.path.abspath(program))
+        for module, program in modules
+        for run in runs_of(module)
+        if not words.names or any(name in run.__name__ for name in words.names)
+    ]
+    # The lanes share them, and their folders go with this process.
+    for name in ("faults", "held"):
+        preloaded.library(name)
+    passed, failed = 0, 0
+    with concurrent.futures.ProcessPoolExecutor(words.lanes, multiprocessing.get_context("fork")) as pool:
+        for said in pool.map(said_of, *zip(*chosen)) if chosen else []:
+            passed, failed = passed + (said is None), failed + (said is not None)
+            if said is not None:
+                print(said, end="", flush=True)
     print(f"{passed} passed, {failed} failed")
     return 1 if failed or not passed else 0
 
 
-sys.exit(main())
+if __name__ == "__main__":
+    sys.exit(main())

@@ -27,7 +27,7 @@ def body_of(size):
 def with_job(server, size):
     """A client, and the answer to a peek at job 1, which has so many bytes."""
     client = server.client()
-    client.asks(b"put 0 0 9 %d\r\n" % size + body_of(size) + b"\r\n", b"INSERTED 1\r\n")
+    client.asks(b"put 0 0 600 %d\r\n" % size + body_of(size) + b"\r\n", b"INSERTED 1\r\n")
     return client, b"FOUND 1 %d\r\n" % size + body_of(size) + b"\r\n"
 
 
@@ -68,7 +68,7 @@ def run_batch_byte_by_byte(bqd):
     with Server(bqd, "--seats", "1") as server:
         client, found = with_job(server, 3)
         client.stream.setsockopt(socket.IPPROTO_TCP, socket.TCP_NODELAY, 1)
-        for byte in b"peek 1\r\nput 0 0 9 2\r\nab\r\nlist-tube-used\r\n" * 5 + b"quit\r\n":
+        for byte in b"peek 1\r\nput 0 0 600 2\r\nab\r\nlist-tube-used\r\n" * 5 + b"quit\r\n":
             client.sends(bytes([byte]))
         client.hears(b"".join(found + b"INSERTED %d\r\n" % number + SMALL for number in range(2, 7)))
         client.hears_end()
@@ -86,12 +86,12 @@ def run_batch_with_a_wait(bqd):
         def answered():
             ids = [next(numbers) for _ in range(20)]
             begun = time.monotonic()
-            client.sends(b"put 0 0 9 1\r\nx\r\n" * 20 + b"reserve\r\n" + b"list-tube-used\r\n" * behind)
+            client.sends(b"put 0 0 600 1\r\nx\r\n" * 20 + b"reserve\r\n" + b"list-tube-used\r\n" * behind)
             client.hears(b"".join(b"INSERTED %d\r\n" % it for it in ids))
             took = time.monotonic() - begun
             client.hears_nothing(0.01)
             number = next(numbers)
-            other.sends(b"put 0 0 9 1\r\ny\r\n")
+            other.sends(b"put 0 0 600 1\r\ny\r\n")
             client.hears(b"RESERVED %d 1\r\ny\r\n" % number + b"USING far\r\n" * behind)
             other.hears(b"INSERTED %d\r\n" % number)
             return took
@@ -110,7 +110,7 @@ def run_hand_out_behind_a_batch(bqd):
             client.asks(b"list-tube-used\r\n" * 20 + b"reserve\r\n", SMALL * 20)
             number = next(numbers)
             begun = time.monotonic()
-            other.sends(b"put 0 0 9 1\r\ny\r\n")
+            other.sends(b"put 0 0 600 1\r\ny\r\n")
             client.hears(b"RESERVED %d 1\r\ny\r\n" % number)
             other.hears(b"INSERTED %d\r\n" % number)
             return time.monotonic() - begun
@@ -118,7 +118,7 @@ def run_hand_out_behind_a_batch(bqd):
         def ready():
             number = next(numbers)
             begun = time.monotonic()
-            client.sends(b"list-tube-used\r\n" * 20 + b"put 0 0 9 1\r\ny\r\nreserve\r\n")
+            client.sends(b"list-tube-used\r\n" * 20 + b"put 0 0 600 1\r\ny\r\nreserve\r\n")
             client.hears(SMALL * 20 + b"INSERTED %d\r\nRESERVED %d 1\r\ny\r\n" % (number, number))
             return time.monotonic() - begun
 
@@ -154,7 +154,7 @@ def run_batch_then_half_a_put(bqd):
 
         def answered():
             begun = time.monotonic()
-            client.asks(b"list-tube-used\r\n" * 50 + b"put 0 0 9 5\r\nab", SMALL * 50)
+            client.asks(b"list-tube-used\r\n" * 50 + b"put 0 0 600 5\r\nab", SMALL * 50)
             took = time.monotonic() - begun
             client.asks(b"cde\r\n", b"INSERTED %d\r\n" % next(numbers))
             return took
@@ -193,7 +193,7 @@ def run_reset_while_answers_are_written(bqd):
         client, found = with_job(server, LARGE)
         client.asks(b"reserve\r\n", found.replace(b"FOUND", b"RESERVED", 1))
         other = server.client()
-        client.sends(b"put 9 0 9 1\r\nz\r\npeek 1\r\n" * 400)
+        client.sends(b"put 9 0 600 1\r\nz\r\npeek 1\r\n" * 400)
         # It stands at a write once no more is put, since nobody reads.
         puts = [0]
         awaits(lambda: puts.append(value(other, b"total-jobs")) or len(puts) > 50 and puts[-50] == puts[-1] > 1)

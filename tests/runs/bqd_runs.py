@@ -256,7 +256,7 @@ def run_most_seats(bqd):
             client.sends(b"reserve\r\n")
         # One whose reserve comes late would be given the job of one that has closed.
         all_wait(putter, len(clients))
-        putter.asks(b"put 0 0 9 1\r\nx\r\n" * 255, b"".join(b"INSERTED %d\r\n" % (k + 1) for k in range(255)))
+        putter.asks(b"put 0 0 600 1\r\nx\r\n" * 255, b"".join(b"INSERTED %d\r\n" % (k + 1) for k in range(255)))
         heard = set()
         for client in clients:
             client.hears(b"RESERVED ")
@@ -356,7 +356,7 @@ def run_put_goes_on_at_once(bqd):
             one.sends(b"reserve\r\n")
             time.sleep(random.uniform(0.02, 0.25))
             start = time.monotonic()
-            other.sends(b"put 0 0 9 1\r\nx\r\n")
+            other.sends(b"put 0 0 600 1\r\nx\r\n")
             one.hears(b"RESERVED %d 1\r\nx\r\n" % number)
             took = time.monotonic() - start
             other.hears(b"INSERTED %d\r\n" % number)

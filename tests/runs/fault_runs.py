@@ -159,7 +159,7 @@ def run_writes_that_are_tried_again(bqd):
         for nth, cut in [(1, 0), (2, 0), (2, 3), (puts, 0), (puts, 11)]:
             with Server(bqd, "--seats", "1", "--sessions", "1", env=faults(writes=code, nth=nth, cut=cut)) as server:
                 client = server.client()
-                client.stream.settimeout(SECOND)
+                client.stream.settimeout(LONG)
                 client.sends(b"put 0 0 9 1\r\nx\r\n" * puts)
                 client.hears(answers)
                 client.close()
