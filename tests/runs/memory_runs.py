@@ -42,7 +42,7 @@ def run_tubes_that_have_gone(bqd):
         same(server.memory() - before < TUBES * OF_A_TUBE, True)
 
 
-# How many jobs there are at a peak, how many spare places the server may keep behind it (docs/OPERATING.md), and how
+# How many jobs there are at a peak, how many spare places the server may keep after it (docs/OPERATING.md), and how
 # many bytes a place may take.
 JOBS = 20000
 SPARE = 1100

@@ -9,7 +9,7 @@ import time
 from programs import PATIENCE, Ended, same
 
 
-# What is told when a connection takes the last free seat.
+# What is reported when a connection takes the last free seat.
 TAKEN = b"bqd: all seats are taken: further connections wait\n"
 
 # How many threads a server has beside those of its seats: the first one, those of the run and of the core, and the one

@@ -281,7 +281,7 @@ def main():
     parser, asked = parsed()
     ends = told_ends()
     plants = [Plant(it.resolve(), ends) for it in asked.files or sorted(HERE.glob("*/*.edit"))]
-    # What a test is told to see takes the shortest time.
+    # What a test has to see takes the shortest time.
     plants = sorted((it for it in plants if asked.only in it.name), key=lambda it: it.told_trial()[0] is None)
     if not plants:
         parser.error(f"no plant has {asked.only!r} in its name")

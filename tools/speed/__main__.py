@@ -19,7 +19,7 @@ import time
 HERE = pathlib.Path(__file__).resolve().parent
 MOST_BYTES = 1048576
 
-# The name of a scenario, what load.c is told, and what it is in words.
+# The name of a scenario, the words for load.c, and what it is in words.
 SCENARIOS = [
     ("one", ("pairs", 1), "one connection: put, reserve, delete, each after the last was answered"),
     ("four", ("pairs", 4), "four such connections, each with its own tube"),

@@ -11,6 +11,10 @@ ghost use Rattle.bq_link.specs.Submissions.{MayTake};
 ghost use Rattle.bq_core_work.specs.CoreWork.{IsNewRoom, RanToEnd};
 ghost use Rattle.bq_core_work.specs.Worked.{IsAtWork, IsInOrder};
 
+pub use hub::{Concern, Notices, concern_of};
+
+mod hub;
+
 use bq_job::{Answer, NoMemory, Seat, Step};
 use bq_line::clock::Clock;
 use bq_link::{CoreEnd, Intake, NoTicks, Record};
@@ -20,8 +24,6 @@ use std::alloc::Global;
 use std::collections::VecDeque;
 use std::mem;
 use std::sync::Wait;
-
-mod hub;
 
 /// Room that the core's work needs beside the core and its end: for answers whose rings are full, and for which ends
 /// are gone.

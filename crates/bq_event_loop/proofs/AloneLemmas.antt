@@ -1,0 +1,27 @@
+-- A hub at which nothing was done.
+use Rattle.std.proofs.Common.{◌≡◌, ℕ, zero, suc, List, [], ◌++◌, length, replicate, refl, ap, ◌∙◌}
+use Rattle.std.specs.Prelude.{slice_index_or}
+use Rattle.std.proofs.lemmas.List.{length-replicate}
+use Rattle.bq_job.specs.declared.answer.Answer.{Answer}
+use Rattle.bq_job.specs.declared.settings.Settings.{Settings}
+use Rattle.bq_job.specs.promise.Runs.{answers_to}
+use Rattle.bq_event_loop.specs.HubState.{HubState, IsNewHub, waiting}
+
+-- no mail lies at a new hub
+abbrev the_empty : List Answer
+the_empty = []
+
+no_mail : (n t : ℕ) → slice_index_or (replicate n []) t [] ≡ the_empty
+no_mail zero t = refl
+no_mail (suc n) zero = refl
+no_mail (suc n) (suc t) = no_mail n t
+
+pub new_mails_are : (settings : Settings) (d : HubState) → IsNewHub settings d → length d.mails ≡ settings.seats
+new_mails_are settings d new = ap length new.mails ∙ length-replicate settings.seats the_empty
+
+-- Nothing waits at a new hub.
+pub none_waits : (settings : Settings) (d : HubState) (seat : ℕ) → IsNewHub settings d → waiting seat d ≡ []
+none_waits settings d seat new =
+    ap (λ (ms : List (List Answer)). slice_index_or ms seat [] ++ answers_to seat d.pending) new.mails
+    ∙ ap (λ (xs : List Answer). xs ++ answers_to seat d.pending) (no_mail settings.seats seat)
+    ∙ ap (answers_to seat) new.pending

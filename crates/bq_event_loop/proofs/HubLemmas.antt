@@ -1,0 +1,386 @@
+-- What happens at a hub, step by step.
+use Rattle.std.proofs.Common.{◌≡◌, ◌≢◌, ◌<◌, ℕ, Bool, true, false, true≢false, List, [], ◌∷◌, ◌++◌, Option, map, length, refl, sym, ap, ◌∙◌, arith, subst, inl, inr, append-nil, append_assoc}
+use Rattle.std.specs.Prelude.{◌==◌, if◌then◌else◌}
+use Rattle.std.specs.Option.{option_to_list}
+use Rattle.std.proofs.lemmas.Bool.{cases_Bool, eq-eqb, eqb-true}
+use Rattle.bq_job.specs.declared.answer.Answer.{Answer}
+use Rattle.bq_job.specs.declared.step.Step.{Step}
+use Rattle.bq_job.specs.machine.Dispatch.{GivenAnswer}
+use Rattle.bq_job.specs.promise.History.{ArePickedFrom, IsTimedFrom, is_tick, last_heard, moment_heard, moments_heard, steps_at}
+use Rattle.bq_job.specs.machine.Machine.{Machine}
+use Rattle.bq_job.specs.promise.Runs.{Entry, Run, answers_to}
+use Rattle.bq_job.specs.machine.Steps.{Outcome}
+use Rattle.bq_steps.specs.Cost.{IsLookWithin, IsStepWithin}
+use Rattle.std.specs.Prelude.{slice_index_or}
+use Rattle.bq_job.proofs.OneClientLemmas.{answers_append}
+use Rattle.bq_job.proofs.RunLemmas.{run_append, run_from, run_none}
+use Rattle.bq_event_loop.specs.HubOf.{WentAt, state_of}
+use Rattle.bq_line.specs.GivenReadings.{GaveReadings}
+use Rattle.bq_job.specs.beside.NextDue.{next_due}
+use Rattle.bq_job.specs.declared.settings.Settings.{Settings}
+use Rattle.std.proofs.lemmas.List.{length-replicate}
+use Rattle.bq_event_loop.specs.HubState.{HubState, IsInOrder, IsNewHub, IsSorted, waiting}
+use Rattle.bq_event_loop.specs.HubWent.{HubWent, SeatWent}
+use Rattle.bq_event_loop.specs.declared.hub.Hub.{Hub}
+use Rattle.bq_event_loop.proofs.ComparedLemmas.{compared_looked, compared_on, compared_step, compared_still}
+
+pub steps_append : (t : ℕ) (xs ys : List Entry) → steps_at t (xs ++ ys) ≡ steps_at t xs ++ steps_at t ys
+steps_append t [] ys = refl
+steps_append t (x ∷ xs) ys =
+    elim (cases_Bool (is_tick x.what)) [
+      | inl e ↦ rw e (steps_append t xs ys)
+      | inr e ↦ elim (cases_Bool (x.seat == t)) [
+        | inl f ↦ rw (e, f) (ap (λ (more : List Step). x.what ∷ more) (steps_append t xs ys))
+        | inr f ↦ rw (e, f) (steps_append t xs ys)
+      ]
+    ]
+
+moments_append : (last : ℕ) (xs ys : List (Option ℕ)) → moments_heard last (xs ++ ys) ≡ moments_heard last xs ++ moments_heard (last_heard last xs) ys
+moments_append last [] ys = refl
+moments_append last (x ∷ xs) ys = ap (λ ms. moment_heard last x ∷ ms) (moments_append (moment_heard last x) xs ys)
+
+heard_append : (last : ℕ) (xs ys : List (Option ℕ)) → last_heard last (xs ++ ys) ≡ last_heard (last_heard last xs) ys
+heard_append last [] ys = refl
+heard_append last (x ∷ xs) ys = heard_append (moment_heard last x) xs ys
+
+picked_later : (xs ms ns : List ℕ) → ArePickedFrom xs ns → ArePickedFrom xs (ms ++ ns)
+picked_later xs [] ns h = h
+picked_later [] (m ∷ ms) ns h = tt
+picked_later (x ∷ xs) (m ∷ ms) ns h = inr (picked_later (x ∷ xs) ms ns h)
+
+picked_append : (xs ys ms ns : List ℕ) → ArePickedFrom xs ms → ArePickedFrom ys ns → ArePickedFrom (xs ++ ys) (ms ++ ns)
+picked_append [] ys ms ns h i = picked_later ys ms ns i
+picked_append (x ∷ xs) ys [] ns h i = absurd h
+picked_append (x ∷ xs) ys (m ∷ ms) ns (inl h) i = inl (h.0, picked_append xs ys ms ns h.1 i)
+picked_append (x ∷ xs) ys (m ∷ ms) ns (inr h) i = inr (picked_append (x ∷ xs) ys ms ns h i)
+
+map_append : (xs ys : List Entry) → map (λ (e : Entry). e.moment) (xs ++ ys) ≡ map (λ (e : Entry). e.moment) xs ++ map (λ (e : Entry). e.moment) ys
+map_append [] ys = refl
+map_append (x ∷ xs) ys = ap (λ ms. x.moment ∷ ms) (map_append xs ys)
+
+-- two stretches of a history are timed by the readings of both
+timed_on : (first next last : ℕ) (readings reads : List (Option ℕ)) (history more : List Entry) → IsTimedFrom first readings history next → IsTimedFrom next reads more last → IsTimedFrom first (readings ++ reads) (history ++ more) last
+timed_on first next last readings reads history more a b = record {
+  picked =
+      let later_timed : ArePickedFrom (map (λ (e : Entry). e.moment) more) (moments_heard (last_heard first readings) reads) =
+      subst (λ (n : ℕ). ArePickedFrom (map (λ (e : Entry). e.moment) more) (moments_heard n reads)) a.last_is b.picked in
+      subst (λ (ms : List ℕ). ArePickedFrom ms (moments_heard first (readings ++ reads))) (sym (map_append history more))
+      (subst (λ (ms : List ℕ). ArePickedFrom (map (λ (e : Entry). e.moment) history ++ map (λ (e : Entry). e.moment) more) ms) (sym (moments_append first readings reads))
+      (picked_append (map (λ (e : Entry). e.moment) history) (map (λ (e : Entry). e.moment) more) (moments_heard first readings) (moments_heard (last_heard first readings) reads) a.picked later_timed));
+  last_is = b.last_is ∙ ap (λ (n : ℕ). last_heard n reads) a.last_is ∙ sym (heard_append first readings reads);
+}
+
+-- what waited, was given and taken, twice
+tied_on : (t : ℕ) (first next last : HubState) (given later : List GivenAnswer) (taken more : List Answer)
+    → waiting t first ++ answers_to t given ≡ taken ++ waiting t next → waiting t next ++ answers_to t later ≡ more ++ waiting t last
+    → waiting t first ++ answers_to t (given ++ later) ≡ (taken ++ more) ++ waiting t last
+tied_on t first next last given later taken more h i =
+    ap (λ (xs : List Answer). waiting t first ++ xs) (answers_append t given later)
+    ∙ sym (append_assoc (waiting t first) (answers_to t given) (answers_to t later))
+    ∙ ap (λ (xs : List Answer). xs ++ answers_to t later) h
+    ∙ append_assoc taken (waiting t next) (answers_to t later)
+    ∙ ap (λ (xs : List Answer). taken ++ xs) i
+    ∙ sym (append_assoc taken more (waiting t last))
+
+-- What happened at a hub, one after the other.
+pub hub_on : (first next last : HubState) (readings reads : List (Option ℕ)) (history more : List Entry) (took later : ℕ → List Answer)
+    → HubWent first readings history took next → HubWent next reads more later last
+    → HubWent first (readings ++ reads) (history ++ more) (λ t. took t ++ later t) last
+hub_on first next last readings reads history more took later a b = record {
+  given = a.given ++ b.given;
+  runs = run_append first.core next.core last.core history more a.given b.given a.runs b.runs;
+  timed = timed_on first.heard next.heard last.heard readings reads history more a.timed b.timed;
+  many = b.many ∙ a.many;
+  tied = λ t below. tied_on t first next last a.given b.given (took t) (later t) (a.tied t below) (b.tied t (let m = a.many in omega arith));
+  compared = compared_on first next last history more a.given b.given a.compared b.compared;
+}
+
+-- the steps of an entry at a seat
+entry_steps : (t at seat : ℕ) (what : Step) → steps_at t (record { moment = at; seat = seat; what = what } ∷ []) ≡ (if is_tick what then [] else (if seat == t then what ∷ [] else []))
+entry_steps t at seat what =
+    elim (cases_Bool (is_tick what)) [
+      | inl e ↦ rw e refl
+      | inr e ↦ elim (cases_Bool (seat == t)) [
+        | inl f ↦ rw (e, f) refl
+        | inr f ↦ rw (e, f) refl
+      ]
+    ]
+
+abbrev no_steps : List Step
+no_steps = []
+
+-- nothing is held where nothing is pending
+pub none_held : {X : Type 0} (xs ys : List X) → xs ++ ys ≡ [] → xs ≡ []
+none_held [] ys h = refl
+none_held (x ∷ xs) ys h = absurd cc
+
+-- The core took one step, at the moment of one reading.
+pub one_step : (d n : HubState) (seat : ℕ) (what : Step) (reading : Option ℕ) (outcome : Outcome) (given : List GivenAnswer)
+    → IsStepWithin d.core (moment_heard d.heard reading) seat what outcome given n.core d.compared n.compared → n.known ≡ false → n.heard ≡ moment_heard d.heard reading → n.mails ≡ d.mails → d.pending ≡ [] → n.pending ≡ given
+    → SeatWent seat d (reading ∷ []) (if is_tick what then [] else what ∷ []) [] n
+one_step d n seat what reading outcome given step unknown heard mails empty full =
+    let at = moment_heard d.heard reading in
+    let entry : Entry = record { moment = at; seat = seat; what = what } in
+    record {
+      history = entry ∷ [];
+      took = λ t. [];
+      went = record {
+        given = given;
+        runs = subst (λ (xs : List GivenAnswer). Run d.core (entry ∷ []) xs n.core) (append-nil given) (run_from d.core n.core n.core entry [] outcome given [] step.step (run_none n.core));
+        timed = record { picked = inl (refl, tt); last_is = heard };
+        many = ap length mails;
+        tied = λ t below. tied_at t;
+        compared = compared_step d n at seat what outcome given step unknown;
+      };
+      submitted_is = entry_steps seat at seat what ∙ ap (λ (b : Bool). if is_tick what then [] else (if b then what ∷ [] else [])) (eq-eqb seat seat refl);
+      taken_is = refl;
+      others_still = λ t differs. entry_steps t at seat what ∙ ap (λ (b : Bool). if is_tick what then [] else (if b then what ∷ [] else [])) (not_equal seat t (λ e. differs (sym e))) ∙ neither;
+      others_took = λ t differs. refl;
+    }
+  where
+    tied_at : (t : ℕ) → waiting t d ++ answers_to t given ≡ [] ++ waiting t n
+    tied_at t =
+        ap (λ (xs : List GivenAnswer). (slice_index_or d.mails t [] ++ answers_to t xs) ++ answers_to t given) empty
+        ∙ ap (λ (xs : List Answer). xs ++ answers_to t given) (append-nil (slice_index_or d.mails t []))
+        ∙ ap (λ (ms : List (List Answer)). slice_index_or ms t [] ++ answers_to t given) (sym mails)
+        ∙ ap (λ (xs : List GivenAnswer). slice_index_or n.mails t [] ++ answers_to t xs) (sym full)
+
+    not_equal : (a b : ℕ) → a ≢ b → (a == b) ≡ false
+    not_equal a b h = elim (cases_Bool (a == b)) [ inl e ↦ absurd (h (eqb-true a b e)) | inr e ↦ e ]
+
+    neither : (if is_tick what then no_steps else no_steps) ≡ no_steps
+    neither = elim (cases_Bool (is_tick what)) [ inl e ↦ rw e refl | inr e ↦ rw e refl ]
+
+-- The clock was read, and no step was taken.
+pub seat_heard : (d n : HubState) (seat : ℕ) (reading : Option ℕ) → n.core ≡ d.core → n.known ≡ d.known → n.compared ≡ d.compared → n.heard ≡ moment_heard d.heard reading → n.mails ≡ d.mails → n.pending ≡ d.pending
+    → SeatWent seat d (reading ∷ []) [] [] n
+seat_heard d n seat reading core known compared heard mails pending = record {
+  history = [];
+  took = λ t. [];
+  went = record {
+    given = [];
+    runs = subst (λ (m : Machine). Run d.core [] [] m) (sym core) (run_none d.core);
+    timed = record { picked = tt; last_is = heard };
+    many = ap length mails;
+    tied = λ t below.
+        append-nil (waiting t d)
+        ∙ ap (λ (ms : List (List Answer)). slice_index_or ms t [] ++ answers_to t d.pending) (sym mails)
+        ∙ ap (λ (xs : List GivenAnswer). slice_index_or n.mails t [] ++ answers_to t xs) (sym pending);
+    compared = compared_still d n core known compared;
+  };
+  submitted_is = refl;
+  taken_is = refl;
+  others_still = λ t differs. refl;
+  others_took = λ t differs. refl;
+}
+
+-- Nothing happened at a hub.
+pub hub_none : (d : HubState) → HubWent d [] [] (λ t. []) d
+hub_none d = record { given = []; runs = run_none d.core; timed = record { picked = tt; last_is = refl }; many = refl; tied = λ t below. append-nil (waiting t d); compared = compared_still d d refl refl refl }
+
+-- A seat did nothing, or one thing after the other.
+pub seat_none : (d : HubState) (seat : ℕ) → SeatWent seat d [] [] [] d
+seat_none d seat = record {
+  history = [];
+  took = λ t. [];
+  went = record { given = []; runs = run_none d.core; timed = record { picked = tt; last_is = refl }; many = refl; tied = λ t below. append-nil (waiting t d); compared = compared_still d d refl refl refl };
+  submitted_is = refl;
+  taken_is = refl;
+  others_still = λ t differs. refl;
+  others_took = λ t differs. refl;
+}
+
+pub seat_on : (first next last : HubState) (seat : ℕ) (readings reads : List (Option ℕ)) (submitted more : List Step) (taken later : List Answer)
+    → SeatWent seat first readings submitted taken next → SeatWent seat next reads more later last → SeatWent seat first (readings ++ reads) (submitted ++ more) (taken ++ later) last
+seat_on first next last seat readings reads submitted more taken later a b = record {
+  history = a.history ++ b.history;
+  took = λ t. a.took t ++ b.took t;
+  went = hub_on first next last readings reads a.history b.history a.took b.took a.went b.went;
+  submitted_is = steps_append seat a.history b.history ∙ ap (λ (xs : List Step). xs ++ steps_at seat b.history) a.submitted_is ∙ ap (λ (xs : List Step). submitted ++ xs) b.submitted_is;
+  taken_is = ap (λ (xs : List Answer). xs ++ b.took seat) a.taken_is ∙ ap (λ (xs : List Answer). taken ++ xs) b.taken_is;
+  others_still = λ t differs. steps_append t a.history b.history ∙ ap (λ (xs : List Step). xs ++ steps_at t b.history) (a.others_still t differs) ∙ b.others_still t differs;
+  others_took = λ t differs. ap (λ (xs : List Answer). xs ++ b.took t) (a.others_took t differs) ∙ b.others_took t differs;
+}
+
+-- Answers were only put into the mail: the seat did nothing.
+pub seat_sorted : (d n : HubState) (seat : ℕ) → IsSorted d n → SeatWent seat d [] [] [] n
+seat_sorted d n seat s = record {
+  history = [];
+  took = λ t. [];
+  went = record {
+    given = [];
+    runs = subst (λ (m : Machine). Run d.core [] [] m) (sym s.core) (run_none d.core);
+    timed = record { picked = tt; last_is = s.heard };
+    many = s.many;
+    tied = λ t below. append-nil (waiting t d) ∙ sym (s.waiting_is t below);
+    compared = compared_still d n s.core s.known s.compared;
+  };
+  submitted_is = refl;
+  taken_is = refl;
+  others_still = λ t differs. refl;
+  others_took = λ t differs. refl;
+}
+
+-- The core was asked for the next due moment, which was not known.
+pub seat_looked : (d n : HubState) (seat : ℕ) → d.known ≡ false → n.known ≡ true → n.core ≡ d.core → IsLookWithin d.core d.compared n.compared → n.mails ≡ d.mails → n.pending ≡ d.pending → n.heard ≡ d.heard
+    → SeatWent seat d [] [] [] n
+seat_looked d n seat unknown known core look mails pending heard = record {
+  history = [];
+  took = λ t. [];
+  went = record {
+    given = [];
+    runs = subst (λ (m : Machine). Run d.core [] [] m) (sym core) (run_none d.core);
+    timed = record { picked = tt; last_is = heard };
+    many = ap length mails;
+    tied = λ t below.
+        append-nil (waiting t d)
+        ∙ ap (λ (ms : List (List Answer)). slice_index_or ms t [] ++ answers_to t d.pending) (sym mails)
+        ∙ ap (λ (xs : List GivenAnswer). slice_index_or n.mails t [] ++ answers_to t xs) (sym pending);
+    compared = compared_looked d n unknown known core look;
+  };
+  submitted_is = refl;
+  taken_is = refl;
+  others_still = λ t differs. refl;
+  others_took = λ t differs. refl;
+}
+
+-- A hub stays in order while its core does.
+pub order_on : (d n : HubState) → length n.mails ≡ length d.mails → n.core ≡ d.core → n.most ≡ d.most → n.known ≡ d.known → n.due ≡ d.due → (n.sorted ≡ true → n.pending ≡ []) → IsInOrder d → IsInOrder n
+order_on d n mails core most known due none o = record {
+  many = mails ∙ o.many ∙ ap (λ (m : Machine). m.settings.seats) (sym core);
+  room = subst (λ (k : ℕ). n.core.settings.seats < k) (sym most) (subst (λ (m : Machine). m.settings.seats < d.most) (sym core) o.room);
+  none_pending = none;
+  due_is = λ k. due ∙ o.due_is (sym known ∙ k) ∙ ap next_due (sym core);
+}
+
+pub order_sorted : (d n : HubState) → IsSorted d n → (n.sorted ≡ true → n.pending ≡ []) → IsInOrder d → IsInOrder n
+order_sorted d n s none o = order_on d n s.many s.core s.most s.known s.due none o
+
+-- After a step nothing is known of its answers and of the next due moment.
+pub order_step : (d n : HubState) → length n.mails ≡ length d.mails → n.core.settings ≡ d.core.settings → n.most ≡ d.most → n.sorted ≡ false → n.known ≡ false → IsInOrder d → IsInOrder n
+order_step d n mails settings most unsorted unknown o = record {
+  many = mails ∙ o.many ∙ ap (λ (s : Settings). s.seats) (sym settings);
+  room = subst (λ (k : ℕ). n.core.settings.seats < k) (sym most) (subst (λ (s : Settings). s.seats < d.most) (sym settings) o.room);
+  none_pending = λ k. absurd (true≢false (sym k ∙ unsorted));
+  due_is = λ k. absurd (true≢false (sym k ∙ unknown));
+}
+
+-- The next due moment is known from now on.
+pub order_looked : (d n : HubState) → length n.mails ≡ length d.mails → n.core ≡ d.core → n.most ≡ d.most → n.due ≡ next_due d.core → n.sorted ≡ d.sorted → n.pending ≡ d.pending → IsInOrder d → IsInOrder n
+order_looked d n mails core most due sorted pending o = record {
+  many = mails ∙ o.many ∙ ap (λ (m : Machine). m.settings.seats) (sym core);
+  room = subst (λ (k : ℕ). n.core.settings.seats < k) (sym most) (subst (λ (m : Machine). m.settings.seats < d.most) (sym core) o.room);
+  none_pending = λ k. pending ∙ o.none_pending (sym sorted ∙ k);
+  due_is = λ k. due ∙ ap next_due (sym core);
+}
+
+-- Nothing was done yet.
+pub order_new : (settings : Settings) (d : HubState) → IsNewHub settings d → IsInOrder d
+order_new settings d new = record {
+  many = ap length new.mails ∙ length-replicate settings.seats none_yet ∙ ap (λ (m : Machine). m.settings.seats) (sym new.core);
+  room = subst (λ (m : Machine). m.settings.seats < d.most) (sym new.core) new.room;
+  none_pending = λ k. new.pending;
+  due_is = λ k. absurd (true≢false (sym k ∙ new.unknown));
+}
+  where
+    none_yet : List Answer
+    none_yet = []
+
+-- a clock that was left alone gave no reading
+pub gave_none : {C : Type 0} (given : C → List (Option ℕ) → C → Type 0) (clock : C) → GaveReadings given clock [] clock
+gave_none given clock first before h = subst (λ (rs : List (Option ℕ)). given first rs clock) (sym (append-nil before)) h
+
+pub gave_then : {C : Type 0} (given : C → List (Option ℕ) → C → Type 0) (a b c : C) (readings reads : List (Option ℕ)) → GaveReadings given a readings b → GaveReadings given b reads c → GaveReadings given a (readings ++ reads) c
+gave_then given a b c readings reads h i first before g =
+    subst (λ (rs : List (Option ℕ)). given first rs c) (append_assoc before readings reads) (i first (before ++ readings) (h first before g))
+
+pub went_none : {C K : Type 0} (machine : K → Machine) (compared : K → ℕ) (given : C → List (Option ℕ) → C → Type 0) (seat : ℕ) (hub : Hub C K) → WentAt machine compared given seat hub [] [] hub
+went_none machine compared given seat hub = ([], gave_none given hub.clock, seat_none (state_of machine compared hub) seat)
+
+pub went_then : {C K : Type 0} (machine : K → Machine) (compared : K → ℕ) (given : C → List (Option ℕ) → C → Type 0) (seat other : ℕ) (first next last : Hub C K) (submitted more : List Step) (taken later : List Answer)
+    → other ≡ seat → WentAt machine compared given seat first submitted taken next → WentAt machine compared given other next more later last → WentAt machine compared given seat first (submitted ++ more) (taken ++ later) last
+went_then machine compared given seat other first next last submitted more taken later same a b =
+    let b' = subst (λ (n : ℕ). WentAt machine compared given n next more later last) same b in (
+      a.0 ++ b'.0,
+      gave_then given first.clock next.clock last.clock a.0 b'.0 a.1 b'.1,
+      seat_on (state_of machine compared first) (state_of machine compared next) (state_of machine compared last) seat a.0 b'.0 submitted more taken later a.2 b'.2,
+    )
+
+pub went_sorted : {C K : Type 0} (machine : K → Machine) (compared : K → ℕ) (given : C → List (Option ℕ) → C → Type 0) (seat : ℕ) (first last : Hub C K) → IsSorted (state_of machine compared first) (state_of machine compared last) → last.clock ≡ first.clock → WentAt machine compared given seat first [] [] last
+went_sorted machine compared given seat first last s same =
+    ([], subst (λ c. GaveReadings given first.clock [] c) (sym same) (gave_none given first.clock), seat_sorted (state_of machine compared first) (state_of machine compared last) seat s)
+
+-- The clock was read once, and the core took a step at the moment heard then.
+pub went_step : {C K : Type 0} (machine : K → Machine) (compared : K → ℕ) (given : C → List (Option ℕ) → C → Type 0) (seat : ℕ) (what : Step) (first last : Hub C K) (reading : Option ℕ) (outcome : Outcome)
+    → GaveReadings given first.clock (reading ∷ []) last.clock → last.heard ≡ moment_heard first.heard reading
+    → IsStepWithin (machine first.core) last.heard seat what outcome last.outs.given (machine last.core) (compared first.core) (compared last.core)
+    → last.is_due_known ≡ false → last.mails ≡ first.mails → last.held ≡ first.held → (state_of machine compared first).pending ≡ []
+    → WentAt machine compared given seat first (if is_tick what then [] else what ∷ []) [] last
+went_step machine compared given seat what first last reading outcome gave heard step unknown mails held empty =
+    let timed = subst (λ (n : ℕ). IsStepWithin (machine first.core) n seat what outcome last.outs.given (machine last.core) (compared first.core) (compared last.core)) heard step in
+    let none : option_to_list last.held ≡ [] = ap (λ (xs : Option GivenAnswer). option_to_list xs) held ∙ none_held (option_to_list first.held) first.outs.given empty in (
+      reading ∷ [],
+      gave,
+      one_step (state_of machine compared first) (state_of machine compared last) seat what reading outcome last.outs.given timed unknown heard (ap (λ ms. ms.items) mails) empty (ap (λ (xs : List GivenAnswer). xs ++ last.outs.given) none),
+    )
+
+-- The clock was read once, and no step was taken.
+pub went_heard : {C K : Type 0} (machine : K → Machine) (compared : K → ℕ) (given : C → List (Option ℕ) → C → Type 0) (seat : ℕ) (first last : Hub C K) (reading : Option ℕ)
+    → GaveReadings given first.clock (reading ∷ []) last.clock → last.heard ≡ moment_heard first.heard reading
+    → last ≡ record first { clock = last.clock; heard = last.heard } → WentAt machine compared given seat first [] [] last
+went_heard machine compared given seat first last reading gave moment same =
+    let s = state_of machine compared first in
+    let there : state_of machine compared last ≡ record s { heard = last.heard } = ap (state_of machine compared) same in (
+      reading ∷ [],
+      gave,
+      seat_heard s (state_of machine compared last) seat reading (ap (λ (d : HubState). d.core) there) (ap (λ (d : HubState). d.known) there) (ap (λ (d : HubState). d.compared) there) moment (ap (λ (d : HubState). d.mails) there)
+          (ap (λ (d : HubState). d.pending) there),
+    )
+
+-- The core was asked for the next due moment, which was not known.
+pub went_looked : {C K : Type 0} (machine : K → Machine) (compared : K → ℕ) (given : C → List (Option ℕ) → C → Type 0) (seat : ℕ) (first last : Hub C K)
+    → first.is_due_known ≡ false → last.is_due_known ≡ true → machine last.core ≡ machine first.core → IsLookWithin (machine first.core) (compared first.core) (compared last.core)
+    → last.mails ≡ first.mails → last.held ≡ first.held → last.outs ≡ first.outs → last.heard ≡ first.heard → last.clock ≡ first.clock → WentAt machine compared given seat first [] [] last
+went_looked machine compared given seat first last unknown known core look mails held outs heard clock = (
+  [],
+  subst (λ c. GaveReadings given first.clock [] c) (sym clock) (gave_none given first.clock),
+  seat_looked (state_of machine compared first) (state_of machine compared last) seat unknown known core look (ap (λ ms. ms.items) mails)
+      (ap (λ (xs : Option GivenAnswer). option_to_list xs ++ last.outs.given) held ∙ ap (λ o. option_to_list first.held ++ o.given) outs) heard,
+)
+
+-- All answers at a hub are still there, in whatever place.
+pub went_still : {C K : Type 0} (machine : K → Machine) (compared : K → ℕ) (given : C → List (Option ℕ) → C → Type 0) (seat : ℕ) (first last : Hub C K)
+    → last.core ≡ first.core → last.mails ≡ first.mails → (state_of machine compared last).pending ≡ (state_of machine compared first).pending → last.heard ≡ first.heard → last.outs.most ≡ first.outs.most
+    → last.is_due_known ≡ first.is_due_known → last.due ≡ first.due → last.clock ≡ first.clock → WentAt machine compared given seat first [] [] last
+went_still machine compared given seat first last core mails pending heard most known due clock =
+    went_sorted machine compared given seat first last (record {
+      core = ap machine core;
+      heard = heard;
+      most = most;
+      known = known;
+      due = due;
+      compared = ap compared core;
+      many = ap (λ ms. length ms.items) mails;
+      waiting_is = λ t below.
+          ap (λ ms. slice_index_or ms.items t [] ++ answers_to t (state_of machine compared last).pending) mails
+          ∙ ap (λ (xs : List GivenAnswer). slice_index_or first.mails.items t [] ++ answers_to t xs) pending;
+    }) clock
+
+-- Nothing of a hub changed but its clock and the moment heard last.
+pub order_heard : {C K : Type 0} (machine : K → Machine) (compared : K → ℕ) (first last : Hub C K) → last ≡ record first { clock = last.clock; heard = last.heard } → IsInOrder (state_of machine compared first) → IsInOrder (state_of machine compared last)
+order_heard machine compared first last same o =
+    subst (λ (h : Hub _ _). IsInOrder (state_of machine compared h)) (sym same) (record { many = o.many; room = o.room; none_pending = o.none_pending; due_is = o.due_is })
+
+-- What happened at a hub does not depend on what was reported.
+pub went_told : {C K : Type 0} (machine : K → Machine) (compared : K → ℕ) (given : C → List (Option ℕ) → C → Type 0) (seat : ℕ) (first next last : Hub C K) (submitted : List Step) (taken : List Answer)
+    → last ≡ record next { notices = last.notices } → WentAt machine compared given seat first submitted taken next → WentAt machine compared given seat first submitted taken last
+went_told machine compared given seat first next last submitted taken same w =
+    subst (λ (h : Hub _ _). WentAt machine compared given seat first submitted taken h) (sym same) (w.0, w.1, w.2)
+
+pub order_told : {C K : Type 0} (machine : K → Machine) (compared : K → ℕ) (next last : Hub C K) → last ≡ record next { notices = last.notices } → IsInOrder (state_of machine compared next) → IsInOrder (state_of machine compared last)
+order_told machine compared next last same o =
+    subst (λ (h : Hub _ _). IsInOrder (state_of machine compared h)) (sym same) (record { many = o.many; room = o.room; none_pending = o.none_pending; due_is = o.due_is })
+
+pub order_woken : {C K : Type 0} (machine : K → Machine) (compared : K → ℕ) (next last : Hub C K) → last ≡ record next { woken = last.woken } → IsInOrder (state_of machine compared next) → IsInOrder (state_of machine compared last)
+order_woken machine compared next last same o =
+    subst (λ (h : Hub _ _). IsInOrder (state_of machine compared h)) (sym same) (record { many = o.many; room = o.room; none_pending = o.none_pending; due_is = o.due_is })

@@ -1,0 +1,13 @@
+use Rattle.std.proofs.Common.{◌≡◌, length}
+use Rattle.bq_event_loop.specs.HubOf.{state_of}
+use Rattle.bq_event_loop.specs.HubState.{IsSorted}
+use Rattle.bq_event_loop.proofs.hub.Hub.deliver.Given as goal
+
+abbrev pub invariant-loop-seat : goal.invariant-loop-seat
+invariant-loop-seat g l = record {
+  sorted : IsSorted (state_of g.K.QueueCore.machine g.K.QueueCore.comparisons l.fn.self) (state_of g.K.QueueCore.machine g.K.QueueCore.comparisons l.self);
+  clock : l.self.clock ≡ l.fn.self.clock;
+}
+
+abbrev pub decreases-loop-seat : goal.decreases-loop-seat
+decreases-loop-seat g l = length (state_of g.K.QueueCore.machine g.K.QueueCore.comparisons l.self).pending

@@ -1,0 +1,15 @@
+use Rattle.std.proofs.Common.{List, subst, sym, arith}
+use Rattle.std.specs.List.{All}
+use Rattle.bq_driver.specs.Tending.{IsNewSeat}
+use Rattle.bq_driver.specs.declared.attendant.Attendant.{Attendant}
+use Rattle.bq_run_start.proofs.ListLemmas.{all_more}
+use Rattle.bq_event_loop.proofs.row.new_seats.Goals as goal
+
+pub loop-preserved : goal.loop-preserved
+loop-preserved g c =
+    let size = c.args.max_job_size in
+    record {
+      many = let e = c.in-Ok-push.ensures.len in let h = c.loop.invariant.many in omega arith;
+      new = subst (λ (xs : List (Attendant g.row.L.Denot)). All (IsNewSeat size) xs) (sym c.in-Ok-push.ensures.items) (all_more (IsNewSeat size) c.loop.all.items c.in_ok-seat.seat c.loop.invariant.new c.in_ok-seat.ensures);
+      within = let h = c.loop-test.true in omega arith;
+    }

@@ -1,0 +1,11 @@
+use Rattle.std.proofs.Common.{◌≡◌, ◌≤◌, vec_len}
+use Rattle.std.specs.List.{All}
+use Rattle.bq_driver.specs.Tending.{IsNewSeat}
+use Rattle.bq_event_loop.proofs.row.new_seats.Given as goal
+
+abbrev pub invariant-loop : goal.invariant-loop
+invariant-loop g l = record {
+  many : vec_len l.all ≡ l.counter;
+  new : All (IsNewSeat l.fn.max_job_size) l.all.items;
+  within : l.counter ≤ l.fn.seats;
+}

@@ -1,0 +1,30 @@
+-- A hub as its state, and what happens at it.
+use Rattle.std.specs.Prelude.{ℕ, List, ◌++◌, Option}
+use Rattle.std.specs.Option.{option_to_list}
+use Rattle.bq_job.specs.declared.answer.Answer.{Answer}
+use Rattle.bq_job.specs.declared.step.Step.{Step}
+use Rattle.bq_job.specs.machine.Machine.{Machine}
+use Rattle.bq_line.specs.GivenReadings.{GaveReadings}
+use Rattle.bq_event_loop.specs.HubState.{HubState}
+use Rattle.bq_event_loop.specs.HubWent.{SeatWent}
+use Rattle.bq_event_loop.specs.declared.hub.Hub.{Hub}
+
+-- by the machine that a core stands for and its comparisons
+abbrev pub state_of : {C K : Type 0} → (K → Machine) → (K → ℕ) → Hub C K → HubState
+state_of machine compared h = record {
+  core = machine h.core;
+  mails = h.mails.items;
+  pending = option_to_list h.held ++ h.outs.given;
+  sorted = h.is_sorted;
+  heard = h.heard;
+  most = h.outs.most;
+  known = h.is_due_known;
+  due = h.due;
+  compared = compared h.core;
+}
+
+-- What a seat did at a hub.
+abbrev pub WentAt : {C K : Type 0} → (K → Machine) → (K → ℕ) → (C → List (Option ℕ) → C → Type 0) → ℕ → Hub C K → List Step → List Answer → Hub C K → Type 0
+WentAt machine compared given seat old submitted taken new =
+    (readings : List (Option ℕ)) × GaveReadings given old.clock readings new.clock
+    × SeatWent seat (state_of machine compared old) readings submitted taken (state_of machine compared new)

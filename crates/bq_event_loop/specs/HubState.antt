@@ -1,0 +1,55 @@
+-- A hub apart from its clock.
+use Rattle.std.specs.Prelude.{ℕ, ◌≡◌, ◌<◌, ◌≤◌, Bool, true, false, List, [], ◌∷◌, ◌++◌, Option, length, replicate, slice_index_or}
+use Rattle.bq_job.specs.beside.NextDue.{next_due}
+use Rattle.bq_job.specs.declared.answer.Answer.{Answer}
+use Rattle.bq_job.specs.declared.settings.Settings.{Settings}
+use Rattle.bq_job.specs.machine.Dispatch.{GivenAnswer}
+use Rattle.bq_job.specs.machine.Machine.{Machine, new_machine}
+use Rattle.bq_job.specs.promise.Runs.{answers_to}
+
+pub record HubState : Type 0 where
+  pub core : Machine
+  -- the mail of each seat, and the answers that are not in it yet
+  pub mails : List (List Answer)
+  pub pending : List GivenAnswer
+  pub sorted : Bool
+  -- the moment heard last
+  pub heard : ℕ
+  -- how many answers a step can give at most
+  pub most : ℕ
+  -- the next due moment, if it is known, and the comparisons so far
+  pub known : Bool
+  pub due : Option ℕ
+  pub compared : ℕ
+
+-- the answers that wait for a seat
+abbrev pub waiting : ℕ → HubState → List Answer
+waiting seat d = slice_index_or d.mails seat [] ++ answers_to seat d.pending
+
+-- Nothing was done yet.
+pub record IsNewHub (settings : Settings) (d : HubState) : Type 0 where
+  pub core : d.core ≡ new_machine settings
+  pub mails : d.mails ≡ replicate settings.seats []
+  pub pending : d.pending ≡ []
+  pub heard : d.heard ≡ 0
+  pub room : settings.seats < d.most
+  pub unknown : d.known ≡ false
+  pub none_compared : d.compared ≡ 0
+
+-- Each seat has its mail, there is room for the answers of a step, and what is noted of answers and of the next due moment is true.
+pub record IsInOrder (d : HubState) : Type 0 where
+  pub many : length d.mails ≡ d.core.settings.seats
+  pub room : d.core.settings.seats < d.most
+  pub none_pending : d.sorted ≡ true → d.pending ≡ []
+  pub due_is : d.known ≡ true → d.due ≡ next_due d.core
+
+-- Answers moved from one place of a hub to another, and no seat sees a difference.
+pub record IsSorted (first last : HubState) : Type 0 where
+  pub core : last.core ≡ first.core
+  pub heard : last.heard ≡ first.heard
+  pub most : last.most ≡ first.most
+  pub known : last.known ≡ first.known
+  pub due : last.due ≡ first.due
+  pub compared : last.compared ≡ first.compared
+  pub many : length last.mails ≡ length first.mails
+  pub waiting_is : (seat : ℕ) → seat < length first.mails → waiting seat last ≡ waiting seat first

@@ -1,0 +1,153 @@
+//! The seats of a run, each with its door.
+ghost use Rattle.std.specs.Prelude.{◌≡◌, ◌<◌, ℕ, List, [], true, length, IfOk, IsTrue, vec_len};
+ghost use Rattle.std.specs.List.{All};
+ghost use Rattle.bq_steps.specs.Limits.{is_body_size};
+ghost use Rattle.bq_driver.specs.Tending.{DoorSeen, IsNewSeat, IsPlaced, Tends, door_seen};
+
+use bq_driver::attendant::{Attendant, Looked};
+use bq_job::NoMemory;
+use bq_line::Door;
+use bq_line::line::{Line, ReadBuffer, Readiness};
+use std::alloc::Global;
+
+/// The seats of a run, each with its door. What can be done here without the core submits no step and takes no answer.
+#[derive(Drop)]
+pub struct Row<L: Line + Drop, D: Door<Line = L>> {
+    pub seats: Vec<Attendant<L>, Global>,
+    pub doors: Vec<D, Global>,
+}
+
+impl<L: Line + Drop, D: Door<Line = L>> Row<L, D> {
+    ghost use Rattle.bq_event_loop.specs.Rows.{AreDone, AreTended, RestsSince};
+
+    /// How many seats there are.
+    pub fn len(&self) -> usize
+        ensures { result ≡ length self.now.seats.items }
+    {
+        self.seats.len()
+    }
+
+    /// The seat of this number.
+    pub fn seat(&self, seat: usize) -> Option<&Attendant<L>> {
+        self.seats.get(seat)
+    }
+
+    /// The door of the seat of this number.
+    pub fn door(&self, seat: usize) -> Option<&D> {
+        self.doors.get(seat)
+    }
+
+    /// Returns true if every seat is done.
+    pub fn are_done(&self) -> bool
+        ensures { result ≡ true → AreDone self.now.seats.items }
+    {
+        for seat in 0..self.seats.len() {
+            if !self.seats[seat].is_done() {
+                return false;
+            }
+        }
+        true
+    }
+
+    /// Looks for the next line at a door, without waiting for it. `may_have_come` is false if none can have come since the last look. A
+    /// seat that is on a line is left alone: `Looked::Opened`.
+    pub fn look(&mut self, alloc: Global, seat: usize, may_have_come: bool) -> Looked
+        requires tended { AreTended L.seen (door_seen D.is_out D.is_at_end D.lines_over) self.old }
+        ensures tended { AreTended L.seen (door_seen D.is_out D.is_at_end D.lines_over) self.new }
+        ensures rests { (first : Row L D) → RestsSince L.seen (door_seen D.is_out D.is_at_end D.lines_over) D.same first self.old
+            → RestsSince L.seen (door_seen D.is_out D.is_at_end D.lines_over) D.same first self.new }
+    {
+        if seat >= self.seats.len() {
+            return Looked::Opened;
+        }
+        look_at(
+            alloc,
+            &mut self.seats[seat],
+            &mut self.doors[seat],
+            may_have_come,
+        )
+    }
+
+    /// Notes what the system reported that the line of a seat is ready for.
+    pub fn note_ready(&mut self, seat: usize, ready: Readiness)
+        requires tended { AreTended L.seen (door_seen D.is_out D.is_at_end D.lines_over) self.old }
+        ensures tended { AreTended L.seen (door_seen D.is_out D.is_at_end D.lines_over) self.new }
+        ensures rests { (first : Row L D) → RestsSince L.seen (door_seen D.is_out D.is_at_end D.lines_over) D.same first self.old
+            → RestsSince L.seen (door_seen D.is_out D.is_at_end D.lines_over) D.same first self.new }
+    {
+        if seat < self.seats.len() {
+            self.seats[seat].note_ready(ready);
+        }
+    }
+
+    /// Swaps the read buffer of the line of a seat with this one, if both are empty.
+    pub fn exchange(&mut self, seat: usize, buffer: &mut ReadBuffer)
+        requires tended { AreTended L.seen (door_seen D.is_out D.is_at_end D.lines_over) self.old }
+        ensures tended { AreTended L.seen (door_seen D.is_out D.is_at_end D.lines_over) self.new }
+        ensures rests { (first : Row L D) → RestsSince L.seen (door_seen D.is_out D.is_at_end D.lines_over) D.same first self.old
+            → RestsSince L.seen (door_seen D.is_out D.is_at_end D.lines_over) D.same first self.new }
+    {
+        if seat < self.seats.len() {
+            self.seats[seat].exchange(buffer);
+        }
+    }
+
+    /// Sends on its way what the line of a seat holds back for answers that come soon.
+    pub fn hand_on(&mut self, seat: usize)
+        requires tended { AreTended L.seen (door_seen D.is_out D.is_at_end D.lines_over) self.old }
+        ensures tended { AreTended L.seen (door_seen D.is_out D.is_at_end D.lines_over) self.new }
+        ensures rests { (first : Row L D) → RestsSince L.seen (door_seen D.is_out D.is_at_end D.lines_over) D.same first self.old
+            → RestsSince L.seen (door_seen D.is_out D.is_at_end D.lines_over) D.same first self.new }
+    {
+        if seat < self.seats.len() {
+            self.seats[seat].hand_on();
+        }
+    }
+}
+
+// Looks for the next line at a door, unless its seat is on a line.
+fn look_at<L: Line + Drop, D: Door<Line = L>>(
+    alloc: Global,
+    seat: &mut Attendant<L>,
+    door: &mut D,
+    may_have_come: bool,
+) -> Looked
+    requires placed { IsPlaced seat.old.place (door_seen D.is_out D.is_at_end D.lines_over door.old) }
+    ensures went { let at = door_seen D.is_out D.is_at_end D.lines_over in
+        Tends L.seen seat.old (at door.old) [] [] seat.new (at door.new) }
+    ensures same { (first : D) → D.same first door.old → D.same first door.new }
+{
+    if !seat.is_between() {
+        return Looked::Opened;
+    }
+    seat.look(alloc, door, may_have_come)
+}
+
+/// Seats at which nothing was done. All memory but that for bodies is asked for here.
+pub fn new_seats<L: Line + Drop>(
+    alloc: Global,
+    seats: u16,
+    max_job_size: u32,
+) -> Result<Vec<Attendant<L>, Global>, NoMemory>
+    requires { IsTrue (is_body_size max_job_size) }
+    ensures many { IfOk result (λ all. vec_len all ≡ seats) }
+    ensures new { IfOk result (λ all. All (IsNewSeat max_job_size) all.items) }
+{
+    let Ok(mut all) = Vec::with_capacity(alloc, usize::from(seats)) else {
+        return Err(NoMemory);
+    };
+    for _ in 0..seats {
+        let seat = new_seat(alloc, max_job_size)?;
+        let Ok(()) = all.push(seat) else {
+            return Err(NoMemory);
+        };
+    }
+    Ok(all)
+}
+
+fn new_seat<L: Line + Drop>(alloc: Global, max_job_size: u32) -> Result<Attendant<L>, NoMemory>
+    requires { IsTrue (is_body_size max_job_size) }
+    ensures { IfOk result (λ seat. IsNewSeat max_job_size seat) }
+{
+    Attendant::new(alloc, max_job_size)
+}

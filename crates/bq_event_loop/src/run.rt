@@ -1,0 +1,131 @@
+//! The run of many doors by one thread that owns the core.
+ghost use Rattle.std.specs.Prelude.{◌≡◌, ◌↔◌, ◌&&◌, ◌==◌, true, false, not, length, IfOk, IsErrOf, IsTrue, vec_len};
+ghost use Rattle.std.specs.List.{All};
+ghost use Rattle.bq_steps.specs.Limits.{are_in_range};
+ghost use Rattle.bq_driver.specs.Tending.{AreSame, IsNewDoor, IsNewSeat, door_seen};
+ghost use Rattle.bq_event_loop.specs.EventLoopRuns.{IsEventLoopRun};
+ghost use Rattle.bq_event_loop.specs.HubOf.{state_of};
+ghost use Rattle.bq_event_loop.specs.HubState.{IsInOrder, IsNewHub};
+
+use crate::control_turns::ControlTurns;
+use crate::hub::Hub;
+use crate::row::{Row, new_seats};
+use crate::serve::serve;
+use crate::turns::{Turns, TurnsFault};
+use bq_driver::attendant::Attendant;
+use bq_driver::control_line::ControlLine;
+use bq_driver::control_reader::ControlReader;
+use bq_driver::room::Room;
+use bq_job::steps_keep_settings;
+use bq_line::Door;
+use bq_line::clock::Clock;
+use bq_line::line::Line;
+use bq_run_start::RunFault;
+use bq_steps::{Config, QueueCore};
+use std::alloc::Global;
+use std::sync::Wait;
+
+/// A run over doors that has ended: the doors with their lines, the clock and the control line as they were left, and the core.
+#[derive(Drop)]
+pub struct EventLoopRun<D, C, I, K> {
+    pub doors: Vec<D, Global>,
+    pub clock: C,
+    pub control: ControlLine<I>,
+    pub core: K,
+}
+
+/// Serves the lines of all doors, each door at a seat of its own, until no more lines come at any of them. The calling thread does all of
+/// it. It reads the control line too, of which each line `drain` begins draining. What goes on next is what `turns` says.
+///
+/// The fault is `BadConfiguration` if the configuration is out of its ranges or there isn't a door for each seat, and else `NoMemory` if an
+/// allocation failed, or that of the turns. With any fault no door was opened, and the doors are dropped.
+pub fn run_turns<
+    R: Wait,
+    T: Turns + Drop,
+    L: Line + Drop,
+    D: Door<Line = L> + Drop,
+    C: Clock + Drop,
+    I: ControlReader + Drop,
+    K: QueueCore + Drop,
+>(
+    rt: &R,
+    alloc: Global,
+    config: Config,
+    doors: Vec<D, Global>,
+    clock: C,
+    control: I,
+    turns: Result<T, TurnsFault>,
+) -> Result<EventLoopRun<D, C, I, K>, RunFault>
+    // No line is out or over at any door, and none is at its end.
+    requires new { All
+        (λ door. IsNewDoor (door_seen D.is_out D.is_at_end D.lines_over door)) doors.items }
+    // There is one history of all clients' steps and those of the control line, each at the moment of a reading of the clock. The one-list
+    // machine takes it, the core stands for the machine after it, and each line received exactly the bytes that it is owed along it.
+    ensures served { IfOk result
+        (IsEventLoopRun C.given D.lines_over I.remaining I.may_fail K.machine K.comparisons config clock control) }
+    ensures at_end { IfOk result
+        (λ run. All (λ door. (D.is_out door ≡ false) × (D.is_at_end door ≡ true)) run.doors.items) }
+    // They are the doors that were handed in, in their order.
+    ensures same { IfOk result (λ run. AreSame D.same doors.items run.doors.items) }
+    // The core can go on.
+    ensures settings { IfOk result (λ run. (K.machine run.core).settings ≡ config) }
+    ensures bad_configuration { IsErrOf result RunFault.BadConfiguration
+        ↔ IsTrue (not (are_in_range config && vec_len doors == config.seats)) }
+{
+    if doors.len() != usize::from(config.seats) {
+        return Err(RunFault::BadConfiguration);
+    }
+    let hub: Hub<C, K> = Hub::new(alloc, config, clock)?;
+    let Ok(seats) = new_seats(alloc, config.seats, config.max_job_size) else {
+        return Err(RunFault::NoMemory);
+    };
+    let mut turns = match turns {
+        Ok(turns) => turns,
+        Err(fault) => return Err(fault.as_run_fault()),
+    };
+    Ok(run_at(rt, config, hub, seats, doors, control, &mut turns))
+}
+
+// The run from a hub and seats on at which nothing was done.
+fn run_at<
+    R: Wait,
+    T: Turns,
+    L: Line + Drop,
+    D: Door<Line = L> + Drop,
+    C: Clock + Drop,
+    I: ControlReader + Drop,
+    K: QueueCore + Drop,
+>(
+    rt: &R,
+    config: Config,
+    hub: Hub<C, K>,
+    seats: Vec<Attendant<L>, Global>,
+    doors: Vec<D, Global>,
+    control: I,
+    turns: &mut T,
+) -> EventLoopRun<D, C, I, K>
+    requires made { IsNewHub config (state_of K.machine K.comparisons hub) }
+    requires order { IsInOrder (state_of K.machine K.comparisons hub) }
+    requires many { length seats.items ≡ config.seats }
+    requires doored { length doors.items ≡ config.seats }
+    requires new_seats { All (IsNewSeat config.max_job_size) seats.items }
+    requires new_doors { All
+        (λ door. IsNewDoor (door_seen D.is_out D.is_at_end D.lines_over door)) doors.items }
+    ensures served { IsEventLoopRun C.given D.lines_over I.remaining I.may_fail K.machine K.comparisons config hub.clock control result }
+    ensures at_end { All (λ door. (D.is_out door ≡ false) × (D.is_at_end door ≡ true)) result.doors.items }
+    ensures same { AreSame D.same doors.items result.doors.items }
+    ensures settings { (K.machine result.core).settings ≡ config }
+{
+    let mut hub = hub;
+    let mut row = Row { seats, doors };
+    let mut control = ControlTurns::new(ControlLine::new(control));
+    let mut room = Room::new();
+    serve(rt, turns, &mut row, &mut control, &mut hub, &mut room);
+    steps_keep_settings();
+    EventLoopRun {
+        doors: row.doors,
+        clock: hub.clock,
+        control: control.input,
+        core: hub.core,
+    }
+}

@@ -1,0 +1,262 @@
+//! Many seats, which one thread serves in any order.
+ghost use Rattle.std.specs.Prelude.{◌≡◌, ◌<◌, ◌≤◌, true, [], List, length, slice_index_or};
+ghost use Rattle.bq_job.specs.declared.step.Step.{Step};
+ghost use Rattle.bq_driver.specs.Tending.{door_seen};
+ghost use Rattle.bq_event_loop.specs.ControlTold.{TellsOn};
+ghost use Rattle.bq_event_loop.specs.HubOf.{WentAt, state_of};
+ghost use Rattle.bq_event_loop.specs.HubState.{IsInOrder};
+ghost use Rattle.bq_event_loop.specs.Rows.{AreDone, AreTended};
+ghost use Rattle.bq_event_loop.specs.Serving.{ServesOn};
+ghost use Rattle.bq_event_loop.specs.declared.control_turns.Stage.TheVariants as stages;
+
+use crate::control_turns::ControlTurns;
+use crate::hub::Hub;
+use crate::hub_seat::attend;
+use crate::row::Row;
+use crate::turns::{ControlReads, News, Turn, Turns};
+use bq_driver::control_line::ControlInput;
+use bq_driver::room::Room;
+use bq_job::Seat;
+use bq_line::Door;
+use bq_line::clock::Clock;
+use bq_line::line::Line;
+use bq_steps::QueueCore;
+use std::sync::Wait;
+
+/// Serves all seats and the control line, one turn at a time, until every seat is done and the control line is over.
+pub fn serve<
+    R: Wait,
+    T: Turns,
+    L: Line + Drop,
+    D: Door<Line = L>,
+    C: Clock + Drop,
+    I: ControlInput,
+    K: QueueCore + Drop,
+>(
+    rt: &R,
+    turns: &mut T,
+    row: &mut Row<L, D>,
+    control: &mut ControlTurns<I>,
+    hub: &mut Hub<C, K>,
+    room: &mut Room,
+)
+    requires order { IsInOrder (state_of K.machine K.comparisons hub.old) }
+    requires tended { AreTended L.seen (door_seen D.is_out D.is_at_end D.lines_over) row.old }
+    requires mailed { length hub.old.mails.items ≡ length row.old.seats.items }
+    requires few { length row.old.seats.items ≤ 65535 }
+    ensures done { AreDone row.new.seats.items }
+    ensures over { control.new.stage ≡ stages.Over }
+    ensures served { (told : List Step) × TellsOn I.seen I.remaining I.may_fail control.old told control.new
+        × ServesOn K.machine K.comparisons C.given L.seen (door_seen D.is_out D.is_at_end D.lines_over) D.same
+        hub.old row.old told hub.new row.new }
+{
+    let mut news = News {
+        moved: false,
+        due: None,
+        control: control.stands(),
+    };
+    for _ in rt.forever() {
+        let turn = turns.next(hub.alloc, row, news);
+        if take_turn(rt, turn, row, control, hub, room, &mut news) {
+            return;
+        }
+        wake_all(turns, hub);
+    }
+    unreachable!()
+}
+
+// Does what a turn says. Returns true if the run ends here.
+fn take_turn<
+    R: Wait,
+    L: Line + Drop,
+    D: Door<Line = L>,
+    C: Clock + Drop,
+    I: ControlInput,
+    K: QueueCore + Drop,
+>(
+    rt: &R,
+    turn: Turn,
+    row: &mut Row<L, D>,
+    control: &mut ControlTurns<I>,
+    hub: &mut Hub<C, K>,
+    room: &mut Room,
+    news: &mut News,
+) -> bool
+    requires order { IsInOrder (state_of K.machine K.comparisons hub.old) }
+    requires tended { AreTended L.seen (door_seen D.is_out D.is_at_end D.lines_over) row.old }
+    requires mailed { length hub.old.mails.items ≡ length row.old.seats.items }
+    requires few { length row.old.seats.items ≤ 65535 }
+    ensures order { IsInOrder (state_of K.machine K.comparisons hub.new) }
+    ensures tended { AreTended L.seen (door_seen D.is_out D.is_at_end D.lines_over) row.new }
+    ensures done { result ≡ true → AreDone row.new.seats.items }
+    ensures over { result ≡ true → control.new.stage ≡ stages.Over }
+    ensures served { (told : List Step) × TellsOn I.seen I.remaining I.may_fail control.old told control.new
+        × ServesOn K.machine K.comparisons C.given L.seen (door_seen D.is_out D.is_at_end D.lines_over) D.same
+        hub.old row.old told hub.new row.new }
+{
+    match turn {
+        Turn::Seat(seat) => {
+            news.moved = serve_seat(row, hub, seat, room);
+            false
+        }
+        Turn::Control(reads) => {
+            serve_control(rt, control, hub, reads);
+            news.control = control.stands();
+            false
+        }
+        Turn::Time => {
+            if is_over(row, control) {
+                return true;
+            }
+            news.due = hub.pass_time();
+            false
+        }
+    }
+}
+
+fn is_over<L: Line + Drop, D: Door<Line = L>, I: ControlInput>(
+    row: &Row<L, D>,
+    control: &ControlTurns<I>,
+) -> bool
+    ensures done { result ≡ true → AreDone row.now.seats.items }
+    ensures over { result ≡ true → control.now.stage ≡ stages.Over }
+{
+    control.is_over() && row.are_done()
+}
+
+// The turns hear of each seat that has mail.
+fn wake_all<T: Turns, C: Clock + Drop, K: QueueCore + Drop>(turns: &mut T, hub: &mut Hub<C, K>)
+    ensures { hub.new ≡ record hub.old { woken = hub.new.woken } }
+{
+    for _ in 0..hub.mails.len() {
+        let Some(seat) = hub.next_woken() else {
+            return;
+        };
+        turns.wake(usize::from(seat));
+    }
+}
+
+// One action of a seat, and whether something moved. All answers are then put into the mail, unless the seat looks for its own next.
+fn serve_seat<L: Line + Drop, D: Door<Line = L>, C: Clock + Drop, K: QueueCore + Drop>(
+    row: &mut Row<L, D>,
+    hub: &mut Hub<C, K>,
+    seat: usize,
+    room: &mut Room,
+) -> bool
+    requires order { IsInOrder (state_of K.machine K.comparisons hub.old) }
+    requires tended { AreTended L.seen (door_seen D.is_out D.is_at_end D.lines_over) row.old }
+    requires mailed { length hub.old.mails.items ≡ length row.old.seats.items }
+    requires few { length row.old.seats.items ≤ 65535 }
+    ensures order { IsInOrder (state_of K.machine K.comparisons hub.new) }
+    ensures tended { AreTended L.seen (door_seen D.is_out D.is_at_end D.lines_over) row.new }
+    ensures served { ServesOn K.machine K.comparisons C.given L.seen (door_seen D.is_out D.is_at_end D.lines_over) D.same
+        hub.old row.old [] hub.new row.new }
+{
+    if seat >= row.seats.len() {
+        return false;
+    }
+    let moved = act(row, hub, seat, room);
+    if !row.seats[seat].polls_mail() {
+        let _all = hub.sort(0);
+    }
+    moved
+}
+
+fn act<L: Line + Drop, D: Door<Line = L>, C: Clock + Drop, K: QueueCore + Drop>(
+    row: &mut Row<L, D>,
+    hub: &mut Hub<C, K>,
+    seat: usize,
+    room: &mut Room,
+) -> bool
+    requires order { IsInOrder (state_of K.machine K.comparisons hub.old) }
+    requires tended { AreTended L.seen (door_seen D.is_out D.is_at_end D.lines_over) row.old }
+    requires mailed { length hub.old.mails.items ≡ length row.old.seats.items }
+    requires few { length row.old.seats.items ≤ 65535 }
+    requires below { seat < length row.old.seats.items }
+    ensures order { IsInOrder (state_of K.machine K.comparisons hub.new) }
+    ensures tended { AreTended L.seen (door_seen D.is_out D.is_at_end D.lines_over) row.new }
+    ensures served { ServesOn K.machine K.comparisons C.given L.seen (door_seen D.is_out D.is_at_end D.lines_over) D.same
+        hub.old row.old [] hub.new row.new }
+{
+    attend(
+        &mut row.seats[seat],
+        &mut row.doors[seat],
+        hub,
+        seat as u16,
+        room,
+    )
+}
+
+// Reads the control line as far as was said, and submits its steps. It stops early if a step is handed back.
+fn serve_control<R: Wait, C: Clock + Drop, I: ControlInput, K: QueueCore + Drop>(
+    rt: &R,
+    control: &mut ControlTurns<I>,
+    hub: &mut Hub<C, K>,
+    reads: ControlReads,
+)
+    requires order { IsInOrder (state_of K.machine K.comparisons hub.old) }
+    requires few { length hub.old.mails.items ≤ 65535 }
+    ensures order { IsInOrder (state_of K.machine K.comparisons hub.new) }
+    ensures served { (told : List Step) × TellsOn I.seen I.remaining I.may_fail control.old told control.new
+        × WentAt K.machine K.comparisons C.given (length hub.old.mails.items) hub.old told [] hub.new }
+{
+    let mut may_wait = reads != ControlReads::Buffered;
+    for _ in rt.forever() {
+        if !submit_owed(control, hub) {
+            return;
+        }
+        if stops(control, may_wait) {
+            return;
+        }
+        control.read();
+        may_wait = reads == ControlReads::ToEnd;
+    }
+    unreachable!()
+}
+
+// Returns true if the control line is not read further now.
+fn stops<I: ControlInput>(control: &ControlTurns<I>, may_wait: bool) -> bool {
+    control.is_over() || !(may_wait || control.has_unread())
+}
+
+// Submits the steps that the control line owes: a drain and that it is gone, at most. Returns false if one was handed back.
+fn submit_owed<C: Clock + Drop, I: ControlInput, K: QueueCore + Drop>(
+    control: &mut ControlTurns<I>,
+    hub: &mut Hub<C, K>,
+) -> bool
+    requires order { IsInOrder (state_of K.machine K.comparisons hub.old) }
+    requires few { length hub.old.mails.items ≤ 65535 }
+    ensures order { IsInOrder (state_of K.machine K.comparisons hub.new) }
+    ensures many { length hub.new.mails.items ≡ length hub.old.mails.items }
+    ensures served { (told : List Step) × TellsOn I.seen I.remaining I.may_fail control.old told control.new
+        × WentAt K.machine K.comparisons C.given (length hub.old.mails.items) hub.old told [] hub.new }
+{
+    if !submit_one(control, hub) {
+        return false;
+    }
+    submit_one(control, hub)
+}
+
+// Submits the next step of the control line, if there is one. Returns false if it was handed back.
+fn submit_one<C: Clock + Drop, I: ControlInput, K: QueueCore + Drop>(
+    control: &mut ControlTurns<I>,
+    hub: &mut Hub<C, K>,
+) -> bool
+    requires order { IsInOrder (state_of K.machine K.comparisons hub.old) }
+    requires few { length hub.old.mails.items ≤ 65535 }
+    ensures order { IsInOrder (state_of K.machine K.comparisons hub.new) }
+    ensures many { length hub.new.mails.items ≡ length hub.old.mails.items }
+    ensures served { (told : List Step) × TellsOn I.seen I.remaining I.may_fail control.old told control.new
+        × WentAt K.machine K.comparisons C.given (length hub.old.mails.items) hub.old told [] hub.new }
+{
+    let Some(step) = control.owed() else {
+        return true;
+    };
+    // The number of the control line comes after those of the seats.
+    let seat = hub.mails.len() as Seat;
+    if !hub.submit(seat, &step) {
+        return false;
+    }
+    control.note_submitted();
+    true
+}
