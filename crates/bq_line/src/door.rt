@@ -57,7 +57,7 @@ pub enum Opening<L> {
 
 /// A door, which opens one line after another, one at a time.
 pub trait Door {
-    type Line: Line + Drop + Send;
+    type Line: Line + Drop;
 
     /// Whether a line is out: it was opened, and isn't shut yet.
     ghost is_out: { Self → Bool };

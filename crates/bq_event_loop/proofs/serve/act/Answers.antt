@@ -5,7 +5,7 @@ use Rattle.bq_event_loop.proofs.ServingLemmas.{serves_acted}
 use Rattle.bq_event_loop.proofs.serve.act.Goals as goal
 
 pub attend-requires-clause-placed : goal.attend-requires-clause-placed
-attend-requires-clause-placed g c κs within =
+attend-requires-clause-placed g c =
     let at = door_seen g.D.Door.is_out g.D.Door.is_at_end g.D.Door.lines_over in
     let row = c.args.row.now in
     placed_there g.L.Line.seen at row.seats.items row.doors.items c.args.seat c.index_mut.result.now c.index_mut-2.result.now c.requires.below c.requires.tended c.index_mut.ensures.value c.index_mut-2.ensures.value

@@ -23,14 +23,14 @@ loop-init g c =
     }
 
 pub take_turn-requires-clause-mailed : goal.take_turn-requires-clause-mailed
-take_turn-requires-clause-mailed g c κs within =
+take_turn-requires-clause-mailed g c =
     let at = door_seen g.D.Door.is_out g.D.Door.is_at_end g.D.Door.lines_over in
     let row = c.loop.row in
     let rests = c.next-turn.ensures.rests row (rested_none g.L.Line.seen at g.D.Door.same row.seats.items row.doors.items) in
     c.loop.invariant.mailed ∙ sym rests.many
 
 pub take_turn-requires-clause-few : goal.take_turn-requires-clause-few
-take_turn-requires-clause-few g c κs within =
+take_turn-requires-clause-few g c =
     let at = door_seen g.D.Door.is_out g.D.Door.is_at_end g.D.Door.lines_over in
     let row = c.loop.row in
     let rests = c.next-turn.ensures.rests row (rested_none g.L.Line.seen at g.D.Door.same row.seats.items row.doors.items) in

@@ -3,11 +3,11 @@ use Rattle.bq_driver.specs.Tending.{door_seen}
 use Rattle.bq_event_loop.proofs.RowLemmas.{placed_there, rested_there, tended_there}
 use Rattle.bq_event_loop.proofs.row.Row.look.Goals as goal
 
-pub look_at-requires-clause-placed : goal.look_at-requires-clause-placed
-look_at-requires-clause-placed g c κs within =
+pub look_at-requires : goal.look_at-requires
+look_at-requires g c =
     let at = door_seen g.D.Door.is_out g.D.Door.is_at_end g.D.Door.lines_over in
     let row = c.args.self.now in
-    placed_there g.L.Line.seen at row.seats.items row.doors.items c.args.seat c.index_mut.result.now c.index_mut-2.result.now (let e = c.len.ensures in let b = c.if-seat-len.false in omega arith) c.requires.tended c.index_mut.ensures.value c.index_mut-2.ensures.value
+    record { placed = placed_there g.L.Line.seen at row.seats.items row.doors.items c.args.seat c.index_mut.result.now c.index_mut-2.result.now (let e = c.len.ensures in let b = c.if-seat-len.false in omega arith) c.requires.tended c.index_mut.ensures.value c.index_mut-2.ensures.value }
 
 pub returns-clause-tended : goal.returns-clause-tended
 returns-clause-tended g c =

@@ -36,4 +36,4 @@ loop-preserved g c =
     }
 
 pub go_on-requires-clause-placed : goal.go_on-requires-clause-placed
-go_on-requires-clause-placed g c κs lives = c.loop.invariant.tended.2.placed
+go_on-requires-clause-placed g c = c.loop.invariant.tended.2.placed

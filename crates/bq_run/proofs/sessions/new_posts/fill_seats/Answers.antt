@@ -19,13 +19,13 @@ loop-door-preserved g c =
     }
 
 pub new-requires-clause-of_intake : goal.new-requires-clause-of_intake
-new-requires-clause-of_intake g c κs within =
+new-requires-clause-of_intake g c =
     popped_passes c.loop-door.ends.items _ c.in-Some-pop.end (λ e. e.intake ≡ c.args.intake.now.id) c.in-Some-pop.ensures.items c.loop-door.invariant.of_intake
 
 pub new-requires-clause-new_end : goal.new-requires-clause-new_end
-new-requires-clause-new_end g c κs within = popped_passes c.loop-door.ends.items _ c.in-Some-pop.end (λ e. IsNewEnd e) c.in-Some-pop.ensures.items c.loop-door.invariant.new_ends
+new-requires-clause-new_end g c = popped_passes c.loop-door.ends.items _ c.in-Some-pop.end (λ e. IsNewEnd e) c.in-Some-pop.ensures.items c.loop-door.invariant.new_ends
 
 pub new-requires-clause-new : goal.new-requires-clause-new
-new-requires-clause-new g c κs within =
+new-requires-clause-new g c =
     let at = door_seen g.D.Door.is_out g.D.Door.is_at_end g.D.Door.lines_over in
     popped_passes c.loop-door.doors.items _ c.in-Some.door (λ d. IsNewDoor (at d)) c.in-Some.ensures.items c.loop-door.invariant.new
