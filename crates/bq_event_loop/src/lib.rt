@@ -2,13 +2,17 @@
 //! without waiting. Which seat goes on, and when, is chosen by a `Turns`; whatever that chooses, what is served is right.
 #![tactic(auto)]
 
+pub use event_loop::run_event_loop;
+pub use poller::Poller;
 pub use row::Row;
 pub use run::{EventLoopRun, run_turns};
 pub use turns::{ControlReads, ControlStands, News, Turn, Turns, TurnsFault};
 
 mod control_turns;
+mod event_loop;
 mod hub;
 mod hub_seat;
+mod poller;
 mod row;
 mod run;
 mod serve;

@@ -1,0 +1,61 @@
+//! The run by an event loop over epoll.
+ghost use Rattle.std.specs.Prelude.{◌≡◌, ◌↔◌, ◌&&◌, ◌==◌, true, false, not, IfOk, IsErrOf, IsTrue, vec_len};
+ghost use Rattle.std.specs.List.{All};
+ghost use Rattle.bq_steps.specs.Limits.{are_in_range};
+ghost use Rattle.bq_driver.specs.Tending.{AreSame, IsNewDoor, door_seen};
+ghost use Rattle.bq_event_loop.specs.EventLoopRuns.{IsEventLoopRun};
+
+use crate::poller::Poller;
+use crate::run::{EventLoopRun, run_turns};
+use bq_driver::control_reader::ControlReader;
+use bq_line::Door;
+use bq_line::clock::Clock;
+use bq_line::line::Line;
+use bq_run_start::RunFault;
+use bq_steps::{Config, QueueCore};
+use std::alloc::Global;
+use std::net::Net;
+use std::os::fd::RawFd;
+use std::rt;
+use std::sync::Wait;
+
+/// Serves the lines of all doors, each door at a seat of its own, until no more lines come at any of them. The calling thread does all of
+/// it, as epoll reports that lines are ready. It reads the control line too, of which each line `drain` begins draining: when
+/// `control_source`, its descriptor, is ready, or to its end before any door is looked at if there is none or epoll refuses it.
+///
+/// Doors must not wait when they are looked at. The faults are those of `run_turns`.
+pub fn run_event_loop<
+    R: Net + rt::Clock + Wait,
+    L: Line + Drop,
+    D: Door<Line = L> + Drop,
+    C: Clock + Drop,
+    I: ControlReader + Drop,
+    K: QueueCore + Drop,
+>(
+    rt: &R,
+    alloc: Global,
+    config: Config,
+    doors: Vec<D, Global>,
+    clock: C,
+    control: I,
+    control_source: Option<RawFd>,
+) -> Result<EventLoopRun<D, C, I, K>, RunFault>
+    // No line is out or over at any door, and none is at its end.
+    requires new { All
+        (λ door. IsNewDoor (door_seen D.is_out D.is_at_end D.lines_over door)) doors.items }
+    // There is one history of all clients' steps and those of the control line, each at the moment of a reading of the clock. The one-list
+    // machine takes it, the core stands for the machine after it, and each line received exactly the bytes that it is owed along it.
+    ensures served { IfOk result
+        (IsEventLoopRun C.given D.lines_over I.remaining I.may_fail K.machine K.comparisons config clock control) }
+    ensures at_end { IfOk result
+        (λ run. All (λ door. (D.is_out door ≡ false) × (D.is_at_end door ≡ true)) run.doors.items) }
+    // They are the doors that were handed in, in their order.
+    ensures same { IfOk result (λ run. AreSame D.same doors.items run.doors.items) }
+    // The core can go on.
+    ensures settings { IfOk result (λ run. (K.machine run.core).settings ≡ config) }
+    ensures bad_configuration { IsErrOf result RunFault.BadConfiguration
+        ↔ IsTrue (not (are_in_range config && vec_len doors == config.seats)) }
+{
+    let turns = Poller::new(rt, alloc, config.seats, control_source);
+    run_turns(rt, alloc, config, doors, clock, control, turns)
+}
