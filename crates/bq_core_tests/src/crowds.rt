@@ -79,7 +79,7 @@ fn name_of(turn: u32) -> [u8; 200] {
 }
 
 // Puts of the client at seat 0 go into this tube.
-fn is_using(answer: &Option<(Seat, Answer)>, name: &[u8]) -> bool {
+pub(crate) fn is_using(answer: &Option<(Seat, Answer)>, name: &[u8]) -> bool {
     match answer {
         Some((0, Answer::Using(used))) => used.as_slice() == name,
         _ => false,

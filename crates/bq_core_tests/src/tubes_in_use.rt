@@ -1,7 +1,7 @@
 //! Tubes that come and go while clients use and watch them: each is emptied and filled again while it is there, and its
 //! name comes back once it is gone.
 use crate::bench::Bench;
-use crate::crowds::long_name;
+use crate::crowds::{is_using, long_name};
 use crate::texts::tube;
 use bq_job::{Answer, Body, JobId, Request};
 use std::alloc::Global;
@@ -30,9 +30,7 @@ fn ended(is_well: bool, turn: u32) -> Result<(), Fail> {
 // The client at seat 0 uses the tube of this name.
 fn use_tube(bench: &mut Bench, name: &[u8], turn: u32) -> Result<(), Fail> {
     bench.ask(0, Request::Use { tube: tube(name)? });
-    let is_used =
-        matches!(bench.answer(), Some((0, Answer::Using(used))) if used.as_slice() == name);
-    ended(is_used, turn)
+    ended(is_using(&bench.answer(), name), turn)
 }
 
 // The client at seat 1 watches the tube of this turn too, or no longer, and so many then.
