@@ -17,6 +17,7 @@ of_bq o = record {
   max_jobs = o.max_jobs;
   requeue_delay = 0;
   sessions = None;
+  event_loop = false;
 }
 
 -- A server listens, and its clock goes.
@@ -29,6 +30,7 @@ of_bqd o = record {
   max_jobs = o.max_jobs;
   requeue_delay = o.requeue_delay;
   sessions = o.sessions;
+  event_loop = o.event_loop;
 }
 
 -- They are those of the program, each in its range.

@@ -29,6 +29,8 @@ pub struct BqdOptions {
     pub requeue_delay: u32,
     /// How many connections each seat serves, 1 or more. None: without end.
     pub sessions: Option<u32>,
+    /// Whether one thread serves all seats; else each has a thread of its own.
+    pub event_loop: bool,
 }
 
 /// What is chosen for a program. A program that doesn't take an option has its default, and `bq` one seat.
@@ -49,6 +51,8 @@ pub struct Options {
     pub requeue_delay: u32,
     /// How many connections each seat serves, 1 or more. None: without end.
     pub sessions: Option<u32>,
+    /// Whether one thread serves all seats; else each has a thread of its own.
+    pub event_loop: bool,
 }
 
 impl From<BqOptions> for Options {
@@ -63,6 +67,7 @@ impl From<BqOptions> for Options {
             max_jobs: bq.max_jobs,
             requeue_delay: 0,
             sessions: None,
+            event_loop: false,
         }
     }
 }
@@ -79,6 +84,7 @@ impl From<BqdOptions> for Options {
             max_jobs: bqd.max_jobs,
             requeue_delay: bqd.requeue_delay,
             sessions: bqd.sessions,
+            event_loop: bqd.event_loop,
         }
     }
 }

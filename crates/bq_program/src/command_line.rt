@@ -9,8 +9,8 @@ use bq_job::{LARGEST_BODY, MOST_SEATS, USUAL_BODY};
 use clap::error::ErrorKind;
 use clap::{ArgMatches, Command};
 use commands::{
-    LISTEN, MAX_JOB_SIZE, MAX_JOBS, PORT, REQUEUE_DELAY, SEATS, SESSIONS, STILL, bq_command,
-    bqd_command,
+    EVENT_LOOP, LISTEN, MAX_JOB_SIZE, MAX_JOBS, PORT, REQUEUE_DELAY, SEATS, SESSIONS, STILL,
+    bq_command, bqd_command,
 };
 use std::alloc::{AllocError, Global};
 use std::convert::AsStr;
@@ -167,6 +167,7 @@ fn bqd_chosen(alloc: Global, matches: &ArgMatches<'_>) -> Result<BqdOptions, Opt
         max_jobs: count(matches.get_one::<u32>(MAX_JOBS)),
         requeue_delay: matches.get_one::<u32>(REQUEUE_DELAY).unwrap_or(0),
         sessions: count(matches.get_one::<u32>(SESSIONS)),
+        event_loop: matches.get_flag(EVENT_LOOP),
     })
 }
 

@@ -9,6 +9,8 @@ use std::alloc::{AllocError, Global};
 const VERSION: &str = "0.1.0";
 
 /// The words, and what is chosen is looked up by them.
+pub const EVENT_LOOP: &str = "event-loop";
+
 pub const LISTEN: &str = "listen";
 
 pub const MAX_JOB_SIZE: &str = "max-job-size";
@@ -70,6 +72,7 @@ fn bqd_args<'a>(alloc: Global) -> Result<Vec<Arg<'a>>, AllocError> {
         max_jobs_arg(alloc),
         requeue_delay_arg(alloc),
         sessions_arg(alloc),
+        event_loop_arg(alloc),
         verbose_arg(alloc),
         version_arg(alloc),
     ]?)
@@ -140,6 +143,13 @@ fn sessions_arg<'a>(alloc: Global) -> Arg<'a> {
         "How many connections each seat serves, 1 to 4294967295; without end unless chosen",
         numbers,
     )
+}
+
+fn event_loop_arg<'a>(alloc: Global) -> Arg<'a> {
+    Arg::new(alloc, EVENT_LOOP)
+        .long(EVENT_LOOP)
+        .help("One thread serves all clients; each seat has a thread of its own unless chosen")
+        .action(ArgAction::SetTrue)
 }
 
 fn max_job_size_arg<'a>(alloc: Global) -> Arg<'a> {
