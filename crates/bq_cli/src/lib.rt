@@ -5,5 +5,5 @@
 pub use bq_program::{
     Fault, Need, OptionFault, Options, Program, Stop, options, tell_cannot_listen, tell_fault,
 };
-pub use bq_server::{run_bqd, serve, serve_doors};
+pub use bq_server::{run_bqd, serve, serve_doors, serve_doors_by_loop};
 pub use bq_session::{Console, Served, run_bq, serve_client};

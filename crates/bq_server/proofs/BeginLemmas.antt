@@ -1,5 +1,5 @@
 -- How a server begins: a control line that was made over an input has what the input has.
-use Rattle.std.proofs.Common.{◌≡◌, ◌∙◌, ℕ, ◌==◌, Bool, List, [], Option, None, Some, IfSome, ap, refl, subst, if◌then◌else◌}
+use Rattle.std.proofs.Common.{◌≡◌, ◌∙◌, ℕ, ◌==◌, Bool, List, [], Option, None, Some, IfSome, Err, ap, refl, subst, if◌then◌else◌}
 use Rattle.std.proofs.KnownBytes.{prepend_known-nil}
 use Rattle.std.specs.Io.Buffered.{reader_buffer, reader_capacity, reader_inner, reader_remaining}
 use Rattle.std.specs.Io.KnownBytes.{prepend_known}
@@ -7,6 +7,7 @@ use Rattle.std.specs.declared.io.buffered.BufReader.{BufReader}
 use Rattle.std.specs.declared.net.tcp.TcpListener.{TcpListener}
 use Rattle.bq_job.specs.machine.Machine.{Machine}
 use Rattle.bq_program.specs.declared.chosen.Options.{Options}
+use Rattle.bq_program.specs.declared.fault.Fault.TheVariants.{CannotListen}
 use Rattle.bq_server.specs.Servers.{IsStatusOfServer}
 
 by_parts : (capacity : ℕ) (buffer : List ℕ) (left : Option (List ℕ)) → capacity ≡ 8192 → buffer ≡ []
@@ -27,3 +28,11 @@ status_by {R} {I} {K} {left} {may_fail} {machine} {comparisons} {chosen} {same} 
 -- what is promised of a value that is there
 pub of_some : (P : ℕ → Type 0) (came : Option ℕ) (status : ℕ) → came ≡ Some status → IfSome came P → P status
 of_some P came status is h = subst (λ (o : Option ℕ). IfSome o P) is h
+
+-- The program can't listen, whatever engine was chosen.
+pub cannot_begin : {R I K : Type 0} {left : I → Option (List ℕ)} {may_fail : I → Bool} {machine : K → Machine} {comparisons : K → ℕ} {options : Options} {listener : TcpListener} {control : I} {status : ℕ}
+    → status ≡ 1 → IsStatusOfServer R left may_fail machine comparisons options listener control status
+cannot_begin e = record {
+  by_loop = λ chosen. record { came = Err CannotListen; served = tt; refused = tt; status_is = e };
+  by_threads = λ chosen. record { came = Err CannotListen; served = tt; refused = tt; status_is = e };
+}

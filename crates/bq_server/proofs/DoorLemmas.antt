@@ -6,7 +6,8 @@ use Rattle.bq_driver.specs.Tending.{AreSame}
 use Rattle.bq_line.specs.InAll.{in_all}
 use Rattle.bq_run_start.proofs.ListLemmas.{first_passes, rest_passes}
 use Rattle.bq_job.specs.promise.History.{LineOver}
-use Rattle.bq_server.specs.Servers.{IsDoorAt, TcpDoor}
+use Rattle.bq_program.specs.declared.chosen.Options.{Options}
+use Rattle.bq_server.specs.Servers.{AreServedDoors, IsDoorAt, TcpDoor}
 
 -- as a door over TCP says it
 abbrev pub IsSameDoor : {R : Type 0} → TcpDoor R → TcpDoor R → Type 0
@@ -53,3 +54,15 @@ came_by left sessions is_out over l o h =
 pub all_came : {R : Type 0} (listener : TcpListener) (sessions : Option ℕ) (door : TcpDoor R) → door.is_out ≡ false → door.is_at_end ≡ true
     → IsDoorAt listener sessions door → door.met_fault ≡ false → sessions ≡ Some (length door.over)
 all_came listener sessions door o e h f = came_by door.left sessions door.is_out door.over (door.ended e f) o h.allowed
+
+-- What a server's run says of its doors.
+pub doors_served : {R : Type 0} (options : Options) (listener : TcpListener) (firsts lasts : List (TcpDoor R)) (many : ℕ) → many ≡ options.seats → AreSame IsSameDoor firsts lasts
+    → All (λ door. IsDoorAt listener options.sessions door) firsts → All (λ door. (door.is_out ≡ false) × (door.is_at_end ≡ true)) lasts → AreServedDoors options listener many lasts
+doors_served options listener firsts lasts many seats same at ends =
+    let now = all_at listener options.sessions firsts lasts same at in
+    record {
+      seats = seats;
+      doors = now;
+      at_end = ends;
+      all_came = λ k d below. let e = ends k d below in all_came listener options.sessions _ e.0 e.1 (now k d below);
+    }

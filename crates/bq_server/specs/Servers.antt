@@ -15,6 +15,8 @@ use Rattle.bq_program.specs.Statuses.{IsStatusOfOptionFault, status_of_server}
 use Rattle.bq_program.specs.declared.chosen.Options.{Options}
 use Rattle.bq_program.specs.declared.fault.Fault.{Fault}
 use Rattle.bq_program.specs.declared.fault.Fault.TheVariants as faults
+use Rattle.bq_event_loop.specs.EventLoopRuns.{IsEventLoopRun}
+use Rattle.bq_event_loop.specs.declared.run.EventLoopRun.{EventLoopRun}
 use Rattle.bq_run.specs.Sessions.{IsRunOf}
 use Rattle.bq_run.specs.declared.sessions.Run.{Run}
 use Rattle.bq_steps.specs.Limits.{are_in_range}
@@ -29,30 +31,52 @@ abbrev pub settings_of : Options → Settings
 settings_of options = record
     { seats = options.seats; max_job_size = options.max_job_size; max_jobs = options.max_jobs; requeue_delay = options.requeue_delay }
 
--- A run that was not made, and one at some door of which a connection could not be accepted, end by a fault.
+-- A run at some door of which a connection could not be accepted ends by a fault.
+abbrev pub came_of_doors : {D : Type 0} → (D → Bool) → List D → Result (Unit {0}) Fault
+came_of_doors met_fault doors = if list_any met_fault doors then Err faults.NotAccepted else Ok tt
+
+-- So does a run that was not made.
 abbrev pub came_of_run : {D C I K : Type 0} → (D → Bool) → Result (Run D C I K) Fault → Result (Unit {0}) Fault
-came_of_run met_fault (Ok run) = if list_any met_fault run.doors.items then Err faults.NotAccepted else Ok tt
+came_of_run met_fault (Ok run) = came_of_doors met_fault run.doors.items
 came_of_run met_fault (Err fault) = Err fault
+
+abbrev pub came_of_loop : {D C I K : Type 0} → (D → Bool) → Result (EventLoopRun D C I K) Fault → Result (Unit {0}) Fault
+came_of_loop met_fault (Ok run) = came_of_doors met_fault run.doors.items
+came_of_loop met_fault (Err fault) = Err fault
 
 -- A door of a server: it is at this listener, and so many connections come at it in all.
 pub record IsDoorAt {R : Type 0} (listener : TcpListener) (sessions : Option ℕ) (door : TcpDoor R) : Type 0 where
   pub at : door.listener.now ≡ listener
   pub allowed : in_all door.left door.is_out door.over ≡ in_all sessions false []
 
--- A server's run that is over. There was a door for each seat that the options choose, all at this listener, each for
--- as many connections as they choose, and each is at its end with no line out: one that met no fault of its listener
--- had exactly so many. By a new clock the run is one over these doors and this control line, and the machine that took
--- its history is the one of the options.
+-- The doors of a server's run that is over. There was a door for each seat that the options choose, all at this listener,
+-- each for as many connections as they choose, and each is at its end with no line out: one that met no fault of its
+-- listener had exactly so many.
+pub record AreServedDoors {R : Type 0} (options : Options) (listener : TcpListener) (many : ℕ) (of_run : List (TcpDoor R)) : Type 0 where
+  pub seats : many ≡ options.seats
+  pub doors : All (λ door. IsDoorAt listener options.sessions door) of_run
+  pub at_end : All (λ door. (door.is_out ≡ false) × (door.is_at_end ≡ true)) of_run
+  pub all_came : All (λ door. door.met_fault ≡ false → options.sessions ≡ Some (length door.over)) of_run
+
+-- A server's run that is over, in which each connection had a thread. By a new clock it is one over these doors and this
+-- control line, and the machine that took its history is the one of the options.
 pub record IsServerRun {R I K : Type 0} (left : I → Option (List ℕ)) (may_fail : I → Bool)
     (machine : K → Machine) (comparisons : K → ℕ) (options : Options) (listener : TcpListener) (control : I)
     (run : Run (TcpDoor R) (TellingClock R) I K) : Type 0 where
-  pub seats : vec_len run.doors ≡ options.seats
-  pub doors : All (λ door. IsDoorAt listener options.sessions door) run.doors.items
-  pub at_end : All (λ door. (door.is_out ≡ false) × (door.is_at_end ≡ true)) run.doors.items
-  pub all_came : All (λ door. door.met_fault ≡ false → options.sessions ≡ Some (length door.over)) run.doors.items
+  pub served : AreServedDoors options listener (vec_len run.doors) run.doors.items
   pub clock : TellingClock R
   pub new_clock : clock.clock.given ≡ []
   pub is_run : IsRunOf (λ before readings after. after.clock.given ≡ before.clock.given ++ readings) (λ door. door.over)
+      left may_fail machine comparisons (settings_of options) clock control run
+
+-- The same of a run in which one thread served all connections.
+pub record IsServerLoop {R I K : Type 0} (left : I → Option (List ℕ)) (may_fail : I → Bool)
+    (machine : K → Machine) (comparisons : K → ℕ) (options : Options) (listener : TcpListener) (control : I)
+    (run : EventLoopRun (TcpDoor R) (TellingClock R) I K) : Type 0 where
+  pub served : AreServedDoors options listener (vec_len run.doors) run.doors.items
+  pub clock : TellingClock R
+  pub new_clock : clock.clock.given ≡ []
+  pub is_run : IsEventLoopRun (λ before readings after. after.clock.given ≡ before.clock.given ++ readings) (λ door. door.over)
       left may_fail machine comparisons (settings_of options) clock control run
 
 -- Why there may be no run: what the system refuses, or options out of their ranges.
@@ -63,13 +87,28 @@ MayRefuse options faults.ThreadRefused = Unit {0}
 MayRefuse options faults.BadConfiguration = are_in_range (settings_of options) ≡ false
 MayRefuse options _ = ⊥
 
--- A status is that of what came of a server at this listener: a run, or why there was none.
-pub record IsStatusOfServer (R : Type 0) {I K : Type 0} (left : I → Option (List ℕ)) (may_fail : I → Bool)
+-- A status is that of what came of a server at this listener, in which each connection had a thread: a run, or why there
+-- was none.
+pub record IsStatusOfThreads (R : Type 0) {I K : Type 0} (left : I → Option (List ℕ)) (may_fail : I → Bool)
     (machine : K → Machine) (comparisons : K → ℕ) (options : Options) (listener : TcpListener) (control : I) (status : ℕ) : Type 0 where
   pub came : Result (Run (TcpDoor R) (TellingClock R) I K) Fault
   pub served : IfOk came (λ run. IsServerRun left may_fail machine comparisons options listener control run)
   pub refused : IfErr came (λ fault. MayRefuse options fault)
   pub status_is : status ≡ status_of_server (came_of_run (λ door. door.met_fault) came)
+
+-- The same of a server in which one thread served all connections.
+pub record IsStatusOfLoop (R : Type 0) {I K : Type 0} (left : I → Option (List ℕ)) (may_fail : I → Bool)
+    (machine : K → Machine) (comparisons : K → ℕ) (options : Options) (listener : TcpListener) (control : I) (status : ℕ) : Type 0 where
+  pub came : Result (EventLoopRun (TcpDoor R) (TellingClock R) I K) Fault
+  pub served : IfOk came (λ run. IsServerLoop left may_fail machine comparisons options listener control run)
+  pub refused : IfErr came (λ fault. MayRefuse options fault)
+  pub status_is : status ≡ status_of_server (came_of_loop (λ door. door.met_fault) came)
+
+-- A status is that of what came of a server at this listener, by the engine that the options choose.
+pub record IsStatusOfServer (R : Type 0) {I K : Type 0} (left : I → Option (List ℕ)) (may_fail : I → Bool)
+    (machine : K → Machine) (comparisons : K → ℕ) (options : Options) (listener : TcpListener) (control : I) (status : ℕ) : Type 0 where
+  pub by_loop : options.event_loop ≡ true → IsStatusOfLoop R left may_fail machine comparisons options listener control status
+  pub by_threads : options.event_loop ≡ false → IsStatusOfThreads R left may_fail machine comparisons options listener control status
 
 -- None: it says that the address can't be bound or that memory for the control line was refused, and no clause tells
 -- whether that is so. Else a server began at some listener, with a control line over this input.

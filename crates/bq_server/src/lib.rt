@@ -2,7 +2,7 @@
 #![tactic(auto)]
 
 pub use program::run_bqd;
-pub use server::{serve, serve_doors};
+pub use server::{serve, serve_doors, serve_doors_by_loop};
 
 mod ending;
 mod log;

@@ -5,6 +5,7 @@ use std::alloc::Global;
 use std::fmt::Display;
 use std::io;
 use std::io::{Eprint, Print};
+use std::net::{Net, SocketAddr};
 use std::rt::Clock;
 use std::sync::{Arc, Wait};
 use std::thread::Threads;
@@ -32,6 +33,20 @@ impl<R> Logging<R> {
 impl<R: Threads> Threads for Logging<R> {}
 
 impl<R: Wait> Wait for Logging<R> {}
+
+impl<R: Net> Net for Logging<R> {
+    type Stream = R::Stream;
+
+    type Listener = R::Listener;
+
+    fn bind(&self, addr: SocketAddr) -> io::Result<R::Listener> {
+        self.host.bind(addr)
+    }
+
+    fn connect(&self, addr: SocketAddr) -> io::Result<R::Stream> {
+        self.host.connect(addr)
+    }
+}
 
 impl<R: Clock> Clock for Logging<R> {
     fn monotonic(&self) -> io::Result<Duration> {

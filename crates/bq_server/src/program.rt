@@ -17,6 +17,8 @@ use std::thread::Threads;
 
 /// All that `bqd` does: it serves the clients that connect to the address among the program's words, with the
 /// input as the control line, and tells what came of it. It returns the status of the program.
+///
+/// The input is the standard input of the program: an event loop waits for it by that descriptor.
 pub fn run_bqd<
     R: AllocGlobal
         + Env

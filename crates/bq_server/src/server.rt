@@ -3,8 +3,10 @@ ghost use Rattle.std.specs.Prelude.{◌≡◌, ◌≤◌, ◌↔◌, ◌&&◌, �
 ghost use Rattle.std.specs.List.{All, list_any};
 ghost use Rattle.bq_driver.specs.Tending.{AreSame, IsNewDoor, door_seen};
 ghost use Rattle.bq_program.specs.Statuses.{status_of_server};
-ghost use Rattle.bq_server.specs.Servers.{IsDoorAt, IsServerRun, IsStatusOfServer, MayRefuse};
-ghost use Rattle.bq_server.specs.Servers.{came_of_run, settings_of};
+ghost use Rattle.bq_server.specs.Servers.{IsDoorAt, IsServerLoop, IsServerRun, IsStatusOfLoop};
+ghost use Rattle.bq_server.specs.Servers.{IsStatusOfServer, IsStatusOfThreads, MayRefuse};
+ghost use Rattle.bq_server.specs.Servers.{came_of_doors, came_of_loop, came_of_run, settings_of};
+ghost use Rattle.bq_event_loop.specs.EventLoopRuns.{IsEventLoopRun};
 ghost use Rattle.bq_run.specs.Sessions.{IsRunOf};
 ghost use Rattle.bq_steps.specs.Limits.{are_in_range};
 
@@ -12,6 +14,7 @@ use crate::ending::Ending;
 use crate::telling_clock::TellingClock;
 use bq_core::{Config, Core};
 use bq_driver::control_reader::ControlReader;
+use bq_event_loop::{EventLoopRun, run_event_loop};
 use bq_job::NoMemory;
 use bq_line::line::ReadBuffer;
 use bq_line::{Door, FreeDoors, Refusals, TcpDoor, clock};
@@ -20,8 +23,10 @@ use bq_run::{Run, run_sessions};
 use bq_run_start::RunFault;
 use bq_steps::QueueCore;
 use std::alloc::Global;
+use std::io;
 use std::io::{Eprint, Print};
-use std::net::TcpListener;
+use std::net::{Net, TcpListener};
+use std::os::fd::RawFd;
 use std::rt::Clock;
 use std::sync::Wait;
 use std::thread::Threads;
@@ -51,7 +56,10 @@ impl<'e> DoorsTell<'e> {
 /// Serves the connections that the listener accepts, as the options choose, and tells on standard output
 /// where it listens. The control is the control line. It returns the status of the program: 0 when all
 /// seats and the control line have ended, and 1 after a fault, which is told on standard error.
-pub fn serve<R: Threads + Wait + Clock + Print + Eprint + Sync, I: ControlReader + Drop>(
+///
+/// An event loop reads the control line to its end before it accepts a connection, since nothing says when a read of it
+/// would not wait.
+pub fn serve<R: Net + Threads + Wait + Clock + Print + Eprint + Sync, I: ControlReader + Drop>(
     rt: &R,
     alloc: Global,
     options: &Options,
@@ -65,18 +73,22 @@ pub fn serve<R: Threads + Wait + Clock + Print + Eprint + Sync, I: ControlReader
     ensures at_most { result ≤ 1 }
 {
     let ending = Ending::new(options.seats);
-    serve_to(rt, alloc, options, listener, &ending, control)
+    serve_to(rt, alloc, options, listener, &ending, control, None)
 }
 
-/// The same, for a thread that another one watches: it notes the end of its run, and reports how it ended unless that
-/// one has.
-pub(crate) fn serve_to<R: Threads + Wait + Clock + Print + Eprint + Sync, I: ControlReader + Drop>(
+/// The same, for a thread that another one watches: it reports how the run ended unless that one has. The control line is
+/// that of this descriptor, if it has one.
+pub(crate) fn serve_to<
+    R: Net + Threads + Wait + Clock + Print + Eprint + Sync,
+    I: ControlReader + Drop,
+>(
     rt: &R,
     alloc: Global,
     options: &Options,
     listener: TcpListener,
     ending: &Ending,
     control: I,
+    source: Option<RawFd>,
 ) -> u8
     ensures status { IsStatusOfServer R I.remaining I.may_fail ⟦<Core as QueueCore>⟧.machine
         ⟦<Core as QueueCore>⟧.comparisons options.now listener control result }
@@ -86,17 +98,64 @@ pub(crate) fn serve_to<R: Threads + Wait + Clock + Print + Eprint + Sync, I: Con
         Ok(address) => {
             // Who closes standard output doesn't want to know.
             let _told = println!(rt; "listening {address}");
-            serve_at(rt, alloc, options, &listener, ending, control)
+            serve_at(rt, alloc, options, &listener, ending, control, source)
         }
-        Err(e) => {
-            let address = options.listen.as_deref().unwrap_or("");
-            tell_cannot_listen(rt, Program::Bqd, address, &e)
-        }
+        Err(e) => cannot_listen(rt, options, &e),
     }
 }
 
-// Serves at this listener, and tells what came of it.
-fn serve_at<R: Threads + Wait + Clock + Print + Eprint + Sync, I: ControlReader + Drop>(
+// It is told that nobody can listen at the address of the options.
+fn cannot_listen<R: Eprint>(rt: &R, options: &Options, e: &io::Error) -> u8
+    ensures { result ≡ 1 }
+{
+    let address = options.listen.as_deref().unwrap_or("");
+    tell_cannot_listen(rt, Program::Bqd, address, e)
+}
+
+// Serves at this listener by the engine that the options choose, and tells what came of it.
+fn serve_at<R: Net + Threads + Wait + Clock + Print + Eprint + Sync, I: ControlReader + Drop>(
+    rt: &R,
+    alloc: Global,
+    options: &Options,
+    listener: &TcpListener,
+    ending: &Ending,
+    control: I,
+    source: Option<RawFd>,
+) -> u8
+    ensures status { IsStatusOfServer R I.remaining I.may_fail ⟦<Core as QueueCore>⟧.machine
+        ⟦<Core as QueueCore>⟧.comparisons options.now listener.now control result }
+    ensures at_most { result ≤ 1 }
+{
+    if options.event_loop {
+        serve_by_loop(rt, alloc, options, listener, ending, control, source)
+    } else {
+        serve_by_threads(rt, alloc, options, listener, ending, control)
+    }
+}
+
+// The doors of an event loop must not wait.
+fn serve_by_loop<R: Net + Wait + Clock + Print + Eprint, I: ControlReader + Drop>(
+    rt: &R,
+    alloc: Global,
+    options: &Options,
+    listener: &TcpListener,
+    ending: &Ending,
+    control: I,
+    source: Option<RawFd>,
+) -> u8
+    ensures status { IsStatusOfLoop R I.remaining I.may_fail ⟦<Core as QueueCore>⟧.machine
+        ⟦<Core as QueueCore>⟧.comparisons options.now listener.now control result }
+    ensures at_most { result ≤ 1 }
+{
+    if let Err(e) = listener.set_nonblocking(true) {
+        return cannot_listen(rt, options, &e);
+    }
+    let tell = DoorsTell::new(rt, options.seats, ending);
+    let came = run_loop(rt, alloc, options, listener, &tell, control, source);
+    tell_end(rt, ending, came_of_loop(&came))
+}
+
+fn serve_by_threads<R: Threads + Wait + Clock + Print + Eprint + Sync, I: ControlReader + Drop>(
     rt: &R,
     alloc: Global,
     options: &Options,
@@ -104,7 +163,7 @@ fn serve_at<R: Threads + Wait + Clock + Print + Eprint + Sync, I: ControlReader 
     ending: &Ending,
     control: I,
 ) -> u8
-    ensures status { IsStatusOfServer R I.remaining I.may_fail ⟦<Core as QueueCore>⟧.machine
+    ensures status { IsStatusOfThreads R I.remaining I.may_fail ⟦<Core as QueueCore>⟧.machine
         ⟦<Core as QueueCore>⟧.comparisons options.now listener.now control result }
     ensures at_most { result ≤ 1 }
 {
@@ -150,6 +209,31 @@ fn run_server<'l, R: Threads + Wait + Clock + Print + Eprint + Sync, I: ControlR
     }
 }
 
+// The same by an event loop.
+fn run_loop<'l, R: Net + Wait + Clock + Print + Eprint, I: ControlReader + Drop>(
+    rt: &'l R,
+    alloc: Global,
+    options: &Options,
+    listener: &'l TcpListener,
+    tell: &'l DoorsTell<'l>,
+    control: I,
+    source: Option<RawFd>,
+) -> Result<EventLoopRun<TcpDoor<'l, R>, TellingClock<'l, R>, I, Core>, Fault>
+    ensures served { IfOk result
+        (λ run. IsServerLoop I.remaining I.may_fail ⟦<Core as QueueCore>⟧.machine ⟦<Core as QueueCore>⟧.comparisons options.now
+        listener.now control run) }
+    ensures refused { IfErr result (λ fault. MayRefuse options.now fault) }
+{
+    let Ok(doors) = new_doors(rt, alloc, options, listener, tell) else {
+        return Err(Fault::NoMemory(Need::Doors));
+    };
+    let clock = TellingClock::new(rt);
+    match serve_doors_by_loop(rt, alloc, options, doors, clock, control, source) {
+        Ok(run) => Ok(run),
+        Err(fault) => Err(Fault::from(fault)),
+    }
+}
+
 /// Serves the connections that come at the doors, each door at a seat and in a thread of its own, as the
 /// options choose. The control is the control line. With a fault no door was opened, and the doors are given
 /// up.
@@ -184,6 +268,36 @@ pub fn serve_doors<
     run_sessions(rt, alloc, config_of(options), doors, clock, control)
 }
 
+/// The same by the calling thread alone, in an event loop. The listeners of the doors must not wait. The control line is
+/// that of this descriptor; with None it is read to its end before any door is looked at.
+pub fn serve_doors_by_loop<
+    'l,
+    R: Net + Wait + Clock + Eprint,
+    C: clock::Clock + Drop,
+    I: ControlReader + Drop,
+>(
+    rt: &R,
+    alloc: Global,
+    options: &Options,
+    doors: Vec<TcpDoor<'l, R>, Global>,
+    clock: C,
+    control: I,
+    source: Option<RawFd>,
+) -> Result<EventLoopRun<TcpDoor<'l, R>, C, I, Core>, RunFault>
+    requires new { All (λ door. IsNewDoor (door_seen ⟦<TcpDoor<'l, R> as Door>⟧.is_out
+        ⟦<TcpDoor<'l, R> as Door>⟧.is_at_end ⟦<TcpDoor<'l, R> as Door>⟧.lines_over door)) doors.items }
+    ensures served { IfOk result (IsEventLoopRun C.given ⟦<TcpDoor<'l, R> as Door>⟧.lines_over I.remaining I.may_fail
+        ⟦<Core as QueueCore>⟧.machine ⟦<Core as QueueCore>⟧.comparisons (settings_of options.now) clock control) }
+    ensures at_end { IfOk result (λ run. All (λ door. (⟦<TcpDoor<'l, R> as Door>⟧.is_out door ≡ false)
+        × (⟦<TcpDoor<'l, R> as Door>⟧.is_at_end door ≡ true)) run.doors.items) }
+    ensures same { IfOk result
+        (λ run. AreSame ⟦<TcpDoor<'l, R> as Door>⟧.same doors.entry.items run.doors.items) }
+    ensures bad_configuration { IsErrOf result RunFault.BadConfiguration
+        ↔ IsTrue (not (are_in_range (settings_of options.now) && vec_len doors.entry == options.now.seats)) }
+{
+    run_event_loop(rt, alloc, config_of(options), doors, clock, control, source)
+}
+
 // What the options say to a run.
 fn config_of(options: &Options) -> Config
     ensures { result ≡ settings_of options.now }
@@ -203,14 +317,30 @@ fn came_of<'l, R: Wait + Clock + Eprint, C: Drop, I: Drop>(
     ensures { result ≡ came_of_run (λ door. door.met_fault) came.now }
 {
     match came {
-        Ok(run) => {
-            if met_fault(run.doors.as_slice()) {
-                Err(Fault::NotAccepted)
-            } else {
-                Ok(())
-            }
-        }
+        Ok(run) => came_of_doors(run.doors.as_slice()),
         Err(fault) => Err(*fault),
+    }
+}
+
+// The same of an event loop.
+fn came_of_loop<'l, R: Wait + Clock + Eprint, C: Drop, I: Drop>(
+    came: &Result<EventLoopRun<TcpDoor<'l, R>, C, I, Core>, Fault>,
+) -> Result<(), Fault>
+    ensures { result ≡ came_of_loop (λ door. door.met_fault) came.now }
+{
+    match came {
+        Ok(run) => came_of_doors(run.doors.as_slice()),
+        Err(fault) => Err(*fault),
+    }
+}
+
+fn came_of_doors<R: Wait + Clock + Eprint>(doors: &[TcpDoor<'_, R>]) -> Result<(), Fault>
+    ensures { result ≡ came_of_doors (λ door. door.met_fault) doors.now }
+{
+    if met_fault(doors) {
+        Err(Fault::NotAccepted)
+    } else {
+        Ok(())
     }
 }
 

@@ -15,11 +15,15 @@ use std::alloc::Global;
 use std::io::{BufReader, Eprint, Print, Read};
 use std::marker::PhantomData;
 use std::net::{Net, TcpListener, TcpStream};
+use std::os::fd::RawFd;
 use std::rt::Clock;
 use std::snapshot::Snapshot;
 use std::sync::{Arc, Wait};
 use std::thread;
 use std::thread::{Promise, PromisedHandle, Threads};
+
+/// The descriptor of a program's standard input.
+const STANDARD_INPUT: RawFd = 0;
 
 /// Binds the address and serves until all is over: the status of the program. The input is the control line.
 ///
@@ -58,7 +62,16 @@ pub(crate) fn listen_and_serve<
 
 // Serves in a thread of its own: its status, or None if its last door failed, which is reported then.
 fn serve_watched<
-    R: Threads + Wait + Clock + Print + Eprint + Copy + Send + Sync + 'static,
+    R: Net<Listener = TcpListener, Stream = TcpStream>
+        + Threads
+        + Wait
+        + Clock
+        + Print
+        + Eprint
+        + Copy
+        + Send
+        + Sync
+        + 'static,
     I: ControlReader + Drop + Send + 'static,
 >(
     rt: &R,
@@ -105,7 +118,16 @@ fn start_log<R: Threads + Wait + Eprint + Copy + Send + 'static>(
 }
 
 fn start_server<
-    R: Threads + Wait + Clock + Print + Eprint + Copy + Send + Sync + 'static,
+    R: Net<Listener = TcpListener, Stream = TcpStream>
+        + Threads
+        + Wait
+        + Clock
+        + Print
+        + Eprint
+        + Copy
+        + Send
+        + Sync
+        + 'static,
     I: ControlReader + Drop + Send + 'static,
 >(rt: &R, server: Server<R, I>) -> Option<PromisedHandle<u8, ServerPromise<R, I>>>
     ensures { IfSome result (λ t. (t.promise.options.value ≡ server.options)
@@ -130,10 +152,17 @@ struct Server<R, I> {
     control: I,
 }
 
-impl<R: Threads + Wait + Clock + Print + Eprint + Copy + Sync, I: ControlReader + Drop> Server<
-    R,
-    I,
-> {
+impl<
+    R: Net<Listener = TcpListener, Stream = TcpStream>
+        + Threads
+        + Wait
+        + Clock
+        + Print
+        + Eprint
+        + Copy
+        + Sync,
+    I: ControlReader + Drop,
+> Server<R, I> {
     // Serves until all is over: the status.
     fn serve(self) -> u8
         ensures status { IsStatusOfServer (Logging R) I.remaining I.may_fail ⟦<Core as QueueCore>⟧.machine
@@ -148,7 +177,15 @@ impl<R: Threads + Wait + Clock + Print + Eprint + Copy + Sync, I: ControlReader 
             control,
         } = self;
         let ending = &rt.shared().ending;
-        let status = serve_to(&rt, alloc, &options, listener, ending, control);
+        let status = serve_to(
+            &rt,
+            alloc,
+            &options,
+            listener,
+            ending,
+            control,
+            Some(STANDARD_INPUT),
+        );
         ending.note_over();
         status
     }

@@ -1,0 +1,16 @@
+use Rattle.std.proofs.Common.{◌∙◌, sym}
+use Rattle.bq_server.proofs.DoorLemmas.{as_many, doors_served, IsSameDoor}
+use Rattle.bq_server.proofs.server.run_loop.Goals as goal
+
+pub returns-in-Ok-serve_doors_by_loop-clause-served : goal.returns-in-Ok-serve_doors_by_loop-clause-served
+returns-in-Ok-serve_doors_by_loop-clause-served g c =
+    let given = c.in-Ok.ensures in
+    let over = c.in-Ok-serve_doors_by_loop.ensures in
+    let doors = c.in-Ok-serve_doors_by_loop.run'.doors in
+    let seats = doors.ok.0 ∙ as_many IsSameDoor c.in-Ok.doors.items doors.items over.same ∙ sym c.in-Ok.doors.ok.0 ∙ given.many in
+    record {
+      served = doors_served c.args.options.now c.args.listener.now c.in-Ok.doors.items doors.items _ seats over.same given.at over.at_end;
+      clock = c.new-clock.result;
+      new_clock = c.new-clock.ensures;
+      is_run = over.served;
+    }
