@@ -29,8 +29,8 @@ fn chosen(alloc: Global, line: &str) -> Result<Result<Options, OptionFault>, All
 }
 
 // Words that choose something: the address, the seats, the size of bodies, the limit on jobs, the delay of a lost
-// connection's jobs, the connections of each seat, and whether the clock stands still. `-V` is there for beanstalkd's
-// users, and changes nothing.
+// connection's jobs, the connections of each seat, and whether the clock stands still or one thread serves all. `-V` is
+// there for beanstalkd's users, and changes nothing.
 const CHOSEN: &str = "bq|- 1 65535 - 0 - -\n\
     bq --still|- 1 65535 - 0 - still\n\
     bq --max-job-size 1|- 1 1 - 0 - -\n\
@@ -52,7 +52,9 @@ const CHOSEN: &str = "bq|- 1 65535 - 0 - -\n\
     bqd --listen a --requeue-delay=4294967295|a 16 65535 - 4294967295 - -\n\
     bqd -V -l a|a 16 65535 - 0 - -\n\
     bqd -l a -VVV|a 16 65535 - 0 - -\n\
-    bqd -V -l a -V -z 65535 -V|a 16 65535 - 0 - -";
+    bqd -V -l a -V -z 65535 -V|a 16 65535 - 0 - -\n\
+    bqd --event-loop --listen a|a 16 65535 - 0 - loop\n\
+    bqd --listen a --seats 9 --event-loop|a 9 65535 - 0 - loop";
 
 fn number(word: Option<&str>) -> Option<u32> {
     word?.parse::<u32>().ok()
@@ -82,8 +84,11 @@ fn is_chosen(options: &Options, wanted: &str) -> bool {
     let is_jobs = options.max_jobs == number(columns.next());
     let is_delay = Some(options.requeue_delay) == number(columns.next());
     let is_sessions = options.sessions == number(columns.next());
-    let is_still = options.still == are_same(columns.next(), Some("still"));
-    is_listen && is_seats && is_size && is_jobs && is_delay && is_sessions && is_still
+    let mark = columns.next();
+    let is_still = options.still == are_same(mark, Some("still"));
+    let is_engine = options.event_loop == are_same(mark, Some("loop"));
+    let are_marked = is_still && is_engine;
+    is_listen && is_seats && is_size && is_jobs && is_delay && is_sessions && are_marked
 }
 
 /// Whether the words of each row choose what stands behind them.
@@ -115,9 +120,11 @@ const BAD: &str = "bq --max-job-size 0|\n\
     bq -z 1|\n\
     bq --max-jobs 0|\n\
     bq --requeue-delay 1|\n\
+    bq --event-loop|\n\
     bqd|\n\
     bqd -p 11300|\n\
     bqd --listen a --still|\n\
+    bqd --listen a --event-loop 1|\n\
     bqd --listen a --seats 0|\n\
     bqd --listen a --seats 257|\n\
     bqd --listen a --sessions 0|\n\

@@ -69,6 +69,20 @@ impl<R: Threads> Threads for Heard<R> {}
 
 impl<R: Wait> Wait for Heard<R> {}
 
+impl<R: Net> Net for Heard<R> {
+    type Stream = R::Stream;
+
+    type Listener = R::Listener;
+
+    fn bind(&self, addr: SocketAddr) -> io::Result<R::Listener> {
+        self.host.bind(addr)
+    }
+
+    fn connect(&self, addr: SocketAddr) -> io::Result<R::Stream> {
+        self.host.connect(addr)
+    }
+}
+
 impl<R: Clock> Clock for Heard<R> {
     fn monotonic(&self) -> io::Result<Duration> {
         let ahead = Duration::from_secs(self.ahead.load(Ordering::SeqCst));
@@ -125,6 +139,7 @@ fn options(sessions: u32) -> Options {
         max_jobs: None,
         requeue_delay: 0,
         sessions: Some(sessions),
+        event_loop: false,
     }
 }
 

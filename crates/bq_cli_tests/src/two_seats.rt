@@ -53,6 +53,7 @@ const OPTIONS: Options = Options {
     max_jobs: None,
     requeue_delay: 0,
     sessions: Some(1),
+    event_loop: false,
 };
 
 // Returns the status of a server for these clients, and how many of them received the right answer.
