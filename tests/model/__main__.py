@@ -1,10 +1,10 @@
 #!/usr/bin/env python3
 """Holds the built programs to the rules of the queue, which are written here a second time.
 
-    python3 tests/model --bq PATH --bqd PATH [--seed N] [--minutes M] [--one-in N]
+    python3 tests/model --bq PATH --bqd PATH [--engine NAME] [--seed N] [--minutes M] [--one-in N]
 
 Worked sessions, random sessions of `bq`, many clients of `bqd` one command at a time, many side by side, and
-clients that are cut off. It ends with a line 'N passed, M failed', and status 0 where nothing failed. With
+clients that are cut off; those of `bqd` by each of its engines. It ends with a line 'N passed, M failed', and status 0 where nothing failed. With
 --broken NAME the rules are turned in one place, and the run has to fail; --self-check tries all of these.
 """
 import argparse
@@ -12,13 +12,14 @@ import sys
 
 sys.dont_write_bytecode = True
 
-from queue_model import plan, programs  # noqa: E402
+from queue_model import engines, plan, programs  # noqa: E402
 
 
 def parsed(words):
     parser = argparse.ArgumentParser(prog="tests/model", description="Holds bq and bqd to a second writing of the rules.")
     parser.add_argument("--bq", required=True, metavar="PATH", help="the built program bq")
     parser.add_argument("--bqd", required=True, metavar="PATH", help="the built program bqd")
+    engines.add_choice(parser)
     parser.add_argument("--seed", type=int, default=1, metavar="N", help="what the random input begins with; 1 unless given")
     parser.add_argument("--minutes", type=float, default=0, metavar="M", help="goes on with further rounds for so long; one round unless given")
     parser.add_argument("--one-in", type=int, default=1, metavar="N", help="makes one in N of a round's runs alone")
@@ -31,9 +32,10 @@ def main():
     options = parsed(sys.argv[1:])
     bq, bqd = programs.found_program(options.bq), programs.found_program(options.bqd)
     if options.self_check:
-        passed, failed = plan.self_check(bq, bqd, options.seed)
+        passed, failed = plan.self_check(bq, engines.Engine(bqd), options.seed)
     else:
-        reports = plan.whole_run(bq, bqd, options.seed, options.minutes, plan.RULES[options.broken], options.one_in)
+        bqds = engines.engines_of(bqd, options.engine)
+        reports = plan.whole_run(bq, bqds, options.seed, options.minutes, plan.RULES[options.broken], options.one_in)
         print("\n".join(plan.summed(reports)))
         passed, failed = plan.counts(reports)
     print("%d passed, %d failed" % (passed, failed))

@@ -1,6 +1,6 @@
 """Requests for memory refused in turn, over the programs that were built.
 
-    python3 tests/refuse --bq PATH --bqd PATH --library PATH [--minutes M] [--self-check]
+    python3 tests/refuse --bq PATH --bqd PATH --library PATH [--engine NAME] [--minutes M] [--self-check]
 
 A small library (refuse.c) is loaded before libc's own and answers the Nth request of the program with
 NULL. Each case is run for N = 1, 2, .. until a run ends in which no request was refused, and what the
@@ -19,6 +19,7 @@ HERE = pathlib.Path(__file__).resolve().parent
 sys.path.insert(0, str(HERE.parent / "model"))
 sys.path.insert(0, str(HERE))
 
+from queue_model import engines  # noqa: E402
 from refusal import Host, Program  # noqa: E402
 import broken  # noqa: E402
 import library_cases  # noqa: E402
@@ -56,15 +57,18 @@ def main():
     parser.add_argument("--bq", required=True)
     parser.add_argument("--bqd", required=True)
     parser.add_argument("--library", required=True, help="the tests of bq_refused")
+    engines.add_choice(parser)
     parser.add_argument("--minutes", type=float, default=10, help="begin no further case after so many minutes")
     parser.add_argument("--self-check", action="store_true", help="sweep programs that are broken on purpose")
     asked = parser.parse_args()
     begun, passed, failed = time.monotonic(), 0, 0
     with tempfile.TemporaryDirectory(prefix="refuse-") as folder:
         host = Host(library(folder), folder)
-        bq, bqd = Program(asked.bq, host), Program(asked.bqd, host)
+        bq = Program(asked.bq, host)
+        bqds = [Program(asked.bqd, host, *it.words) for it in engines.engines_of(asked.bqd, asked.engine)]
         library_calls, held = (Program(asked.library, host, it) for it in (library_cases.TEST, library_cases.HELD))
-        cases = [*session_cases.cases(bq), *library_cases.cases(library_calls, held), *server_cases.cases(bqd)]
+        cases = [*session_cases.cases(bq), *library_cases.cases(library_calls, held)]
+        cases += [case for bqd in bqds for case in server_cases.cases(bqd)]
         if asked.self_check:
             cases = broken_cases(bq, library_calls, folder)
         for name, case in cases:

@@ -16,6 +16,7 @@
 #include <dlfcn.h>
 #include <errno.h>
 #include <fcntl.h>
+#include <poll.h>
 #include <signal.h>
 #include <stdatomic.h>
 #include <stddef.h>
@@ -98,6 +99,12 @@ int posix_memalign(void **room, size_t align, size_t size) {
     return *room ? 0 : ENOMEM;
 }
 
+/* A listener that does not wait is asked in vain too, which does not count. */
+static int has_nobody(int listener) {
+    struct pollfd asked = {.fd = listener, .events = POLLIN};
+    return (fcntl(listener, F_GETFL) & O_NONBLOCK) && poll(&asked, 1, 0) == 0;
+}
+
 static int has_ended(void) {
     int ended = last_accepts && atomic_fetch_add(&accepts, 1) + 1 >= last_accepts;
     if (ended)
@@ -109,7 +116,7 @@ int accept4(int listener, struct sockaddr *peer, socklen_t *length, int flags) {
     static int (*libc_accept4)(int, struct sockaddr *, socklen_t *, int);
     if (!libc_accept4)
         libc_accept4 = (int (*)(int, struct sockaddr *, socklen_t *, int))dlsym(RTLD_NEXT, "accept4");
-    return has_ended() ? -1 : libc_accept4(listener, peer, length, flags);
+    return !has_nobody(listener) && has_ended() ? -1 : libc_accept4(listener, peer, length, flags);
 }
 
 int accept(int listener, struct sockaddr *peer, socklen_t *length) { return accept4(listener, peer, length, 0); }

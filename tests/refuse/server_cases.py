@@ -46,7 +46,7 @@ class Client:
 def started(bqd, words, **chosen):
     """A server whose requests are refused by that pattern, and where it listens: None where it doesn't."""
     server = subprocess.Popen(
-        [bqd.path, "--listen", "127.0.0.1:0", *words], env=bqd.host.environment(**chosen),
+        [bqd.path, "--listen", "127.0.0.1:0", *bqd.first, *words], env=bqd.host.environment(**chosen),
         stdin=subprocess.PIPE, stdout=subprocess.PIPE, stderr=subprocess.PIPE,
     )
     said = server.stdout.readline().split()
@@ -104,6 +104,11 @@ def listener_ends(bqd):
         client = Client(address)
         told.append(client.ask(b"list-tube-used")[0])
         client.close()
+    # A listener that does not wait is asked for the next connection once that comes. One that waits has ended by then.
+    try:
+        Client(address).close()
+    except OSError:
+        pass
     status, complaint = ended(server)
     if (status, complaint) == (1, NO_MORE + NOT_ACCEPTED) and told == SEATS * [[b"USING", b"default"]]:
         return 1, None
@@ -205,8 +210,8 @@ def load_refused(bqd, every):
 
 def cases(bqd):
     """The cases by name: each a call that answers how many runs it made, and what is wrong or None."""
-    faults = []
-    yield "bqd: start", lambda: each_in_turn(lambda nth: start_refused(bqd, faults, nth))
-    yield "bqd: a listener that ends", lambda: listener_ends(bqd)
+    faults, name = [], " ".join(["bqd", *bqd.first])
+    yield f"{name}: start", lambda: each_in_turn(lambda nth: start_refused(bqd, faults, nth))
+    yield f"{name}: a listener that ends", lambda: listener_ends(bqd)
     for every in EACH_NTH:
-        yield f"bqd: load, one request in {every} refused", lambda it=every: load_refused(bqd, it)
+        yield f"{name}: load, one request in {every} refused", lambda it=every: load_refused(bqd, it)

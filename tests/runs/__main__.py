@@ -1,6 +1,6 @@
 """Runs of the built programs bq and bqd, from their words to their streams and statuses.
 
-    python3 tests/runs --bq PATH --bqd PATH [--lanes N] [NAME ..]
+    python3 tests/runs --bq PATH --bqd PATH [--engine threads|event-loop] [--lanes N] [NAME ..]
 
 Every text and number that is wanted here is one of the documents': README.md, docs/OPERATING.md and
 docs/PROTOCOL.md. The last line is 'N passed, M failed', and the status is 1 where one failed.
@@ -9,11 +9,13 @@ import argparse
 import concurrent.futures
 import multiprocessing
 import os
+import pathlib
 import sys
 import traceback
 
 # Nothing is left behind beside these files.
 sys.dont_write_bytecode = True
+sys.path.insert(0, str(pathlib.Path(__file__).resolve().parent.parent / "model"))
 
 import answers_runs
 import bq_runs
@@ -25,6 +27,7 @@ import notices_runs
 import preloaded
 import rest_runs
 import waiting_runs
+from queue_model import engines
 
 # How many runs go side by side unless chosen: most of them wait most of the time.
 LANES = 2
@@ -35,28 +38,39 @@ def runs_of(module):
     return [value for name, value in vars(module).items() if name.startswith("run_")]
 
 
+def all_runs(bq, bqd, engine):
+    """All runs, each with its program: those of bqd by each engine for which they are, or by this one alone."""
+    for run in runs_of(bq_runs):
+        yield run, bq
+    of_bqd = [bqd_runs, answers_runs, crowd_runs, fault_runs, memory_runs, notices_runs, rest_runs, waiting_runs]
+    for program in engines.engines_of(bqd, engine):
+        for module in of_bqd:
+            for run in runs_of(module):
+                if program.name in getattr(run, "engines", engines.ENGINES):
+                    yield run, program
+
+
 def said_of(run, program):
     """What went wrong with a run, or None where it goes as it has to."""
     try:
         run(program)
         return None
     except Exception:
-        return f"FAILED {run.__module__}.{run.__name__}: {run.__doc__}\n{traceback.format_exc()}"
+        engine = getattr(program, "name", "bq")
+        return f"FAILED {run.__module__}.{run.__name__} ({engine}): {run.__doc__}\n{traceback.format_exc()}"
 
 
 def main():
     parser = argparse.ArgumentParser(prog="tests/runs")
     parser.add_argument("--bq", required=True, help="the built program bq")
     parser.add_argument("--bqd", required=True, help="the built program bqd")
+    engines.add_choice(parser)
     parser.add_argument("--lanes", type=int, default=LANES, help="how many runs side by side")
     parser.add_argument("names", nargs="*", help="the runs whose names have one of these words; all, unless given")
     words = parser.parse_args()
-    of_bqd = [bqd_runs, answers_runs, crowd_runs, fault_runs, memory_runs, notices_runs, rest_runs, waiting_runs]
-    modules = [(bq_runs, words.bq), *((it, words.bqd) for it in of_bqd)]
     chosen = [
-        (run, os.path.abspath(program))
-        for module, program in modules
-        for run in runs_of(module)
+        (run, program)
+        for run, program in all_runs(os.path.abspath(words.bq), os.path.abspath(words.bqd), words.engine)
         if not words.names or any(name in run.__name__ for name in words.names)
     ]
     # The lanes share them, and their folders go with this process.

@@ -427,8 +427,8 @@ def run_output_unwritten(bqd):
 
 def run_descriptors_refused(bqd):
     """A seat that is refused a file descriptor rests, and serves once there is one."""
-    # Its streams, its listener and one connection.
-    with Server(bqd, "--seats", "2", "--sessions", "1", before=limits(NOFILE=5)) as server:
+    # Its streams, its listener, what it waits by and one connection.
+    with Server(bqd, "--seats", "2", "--sessions", "1", before=limits(NOFILE=5 + bqd.is_loop)) as server:
         first, second = server.client(), server.client()
         first.asks(b"list-tube-used\r\n", b"USING default\r\n")
         second.sends(b"list-tube-used\r\n")
@@ -443,8 +443,8 @@ def run_descriptors_refused(bqd):
 
 def run_shortage_is_told(bqd):
     """That no connection can be accepted is told when it happens, and again only after it went well."""
-    # Its streams, its listener and one connection.
-    with Server(bqd, "--seats", "2", before=limits(NOFILE=(5, 64))) as server:
+    # Its streams, its listener, what it waits by and one connection.
+    with Server(bqd, "--seats", "2", before=limits(NOFILE=(5 + bqd.is_loop, 64))) as server:
         first = server.client()
         first.asks(b"list-tube-used\r\n", b"USING default\r\n")
         second = server.client()
@@ -453,7 +453,7 @@ def run_shortage_is_told(bqd):
         same(server.is_silent(0.5), True)
         server.may_open(64)
         second.asks(b"list-tube-used\r\n", b"USING default\r\n")
-        server.may_open(5)
+        server.may_open(5 + bqd.is_loop)
         second.close()
         third = server.client()
         server.tells(SHORT)

@@ -7,7 +7,8 @@ import time
 
 from faults import faults
 from programs import Ended, same
-from servers import OTHERS, TAKEN, Server, awaits, value
+from queue_model.engines import of_threads
+from servers import OTHERS, TAKEN, Server, awaits, threads_with, value
 
 # How long a seat rests that was refused what it needs for a connection, in seconds.
 REST = 0.1
@@ -80,7 +81,7 @@ def run_faults_of_a_listener(bqd):
     for code in OF_THE_LISTENER:
         with Server(bqd, "--seats", "2", "--sessions", "1", env=faults(accepts=code, times=1)) as server:
             server.tells(told_of(code))
-            awaits(lambda: server.threads() == 1 + OTHERS)
+            awaits(lambda: server.threads() == threads_with(bqd, 1))
             client = server.client()
             client.asks(ASK, ANSWER)
             # A seat that has ended isn't free.
@@ -101,6 +102,7 @@ def run_last_seat_fails(bqd):
                 same(server.ended() if is_open else server.end(), Ended(1, b"", told_of(code) + AT_THE_END))
 
 
+@of_threads
 def run_last_seat_fails_behind_a_client(bqd):
     """So it does once the client of the last seat has gone, and if the other seat has served all that it may."""
     code = errno.EBADF
@@ -126,6 +128,7 @@ def run_last_seat_fails_behind_a_client(bqd):
         same(server.ended(), Ended(1, b"", TAKEN + told_of(code) + AT_THE_END))
 
 
+@of_threads
 def run_each_thread_refused(bqd):
     """Whichever thread is refused, nobody is served, with status 1."""
     with Server(bqd, "--seats", "256", env=faults(thread=200)) as server:
@@ -140,9 +143,15 @@ def run_each_thread_refused(bqd):
         server.client().asks(ASK, ANSWER)
 
 
+def passing_errors(bqd):
+    """The errors of a call that is made again soon. An event loop makes a call that found nothing again once the system reports more,
+    which it does where it meant it."""
+    return [errno.EINTR] if bqd.is_loop else [errno.EINTR, errno.EAGAIN]
+
+
 def run_reads_that_are_tried_again(bqd):
     """A read that was interrupted, or that has nothing yet, is made again soon."""
-    for code in [errno.EINTR, errno.EAGAIN]:
+    for code in passing_errors(bqd):
         with Server(bqd, "--seats", "1", "--sessions", "1", env=faults(reads=code, times=2)) as server:
             client = server.client()
             client.stream.settimeout(LONG)
@@ -155,7 +164,7 @@ def run_writes_that_are_tried_again(bqd):
     """A write that was interrupted, or that found no room, is made again, also for the rest of an answer. Every byte arrives once."""
     puts = 8
     answers = b"".join(b"INSERTED %d\r\n" % put for put in range(1, puts + 1))
-    for code in [errno.EINTR, errno.EAGAIN]:
+    for code in passing_errors(bqd):
         for nth, cut in [(1, 0), (2, 0), (2, 3), (puts, 0), (puts, 11)]:
             with Server(bqd, "--seats", "1", "--sessions", "1", env=faults(writes=code, nth=nth, cut=cut)) as server:
                 client = server.client()

@@ -1,9 +1,10 @@
-"""Runs of bqd whose seats wait for clients."""
+"""Runs of bqd whose seats wait for clients, or whose clients say nothing."""
 import os
 import time
 
 from programs import Ended, same
-from servers import OTHERS, Server, awaits
+from queue_model.engines import of_loop
+from servers import Server, awaits, threads_with
 from waiting_runs import ANSWER, ASK, PUT, often, time_in_a_second
 
 # How many bytes of memory a seat may take to which no client has come: fewer than what it reads through has, or what
@@ -14,7 +15,7 @@ OF_A_SEAT = 64 << 10
 def at_rest(bqd, seats):
     """How much memory a server takes that has served one client on one of its seats."""
     with Server(bqd, "--seats", str(seats)) as server:
-        awaits(lambda: server.threads() == seats + OTHERS)
+        awaits(lambda: server.threads() == threads_with(bqd, seats))
         server.client().asks(b"list-tube-used\r\n", b"USING default\r\n")
         time.sleep(0.3)
         return server.memory()
@@ -37,3 +38,33 @@ def run_control_line_that_does_not_wait(bqd):
         client.asks(PUT, b"DRAINING\r\n")
         client.close()
         same(server.end(), Ended(0, b"", b""))
+
+
+# How many bytes of memory an event loop may take to which no client has come, and how many more for a client that says
+# nothing.
+OF_ALL_SEATS = 8 << 20
+OF_A_CLIENT = 2 << 10
+
+
+@of_loop
+def run_loop_without_clients(bqd):
+    """An event loop takes little memory for the most seats that there are."""
+    with Server(bqd, "--seats", "256") as server:
+        time.sleep(0.3)
+        same(server.memory() <= OF_ALL_SEATS, True)
+
+
+@of_loop
+def run_loop_with_silent_clients(bqd):
+    """A connection that says nothing takes little memory, also one that said something before, and many after one another."""
+    many = 200
+    with Server(bqd, "--seats", str(many + 1)) as server:
+        for _ in range(2 * many):
+            client = server.client()
+            client.asks(b"list-tube-used\r\nquit\r\n", b"USING default\r\n")
+            client.hears_end()
+            client.close()
+        before = server.memory()
+        for _ in range(many):
+            server.client().asks(b"list-tube-used\r\n", b"USING default\r\n")
+        same(server.memory() - before <= many * OF_A_CLIENT, True)

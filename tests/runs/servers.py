@@ -16,6 +16,14 @@ TAKEN = b"bqd: all seats are taken: further connections wait\n"
 # that writes what is told.
 OTHERS = 4
 
+# The same of an event loop, in which the core has no thread of its own.
+OTHERS_BY_LOOP = 3
+
+
+def threads_with(bqd, seats):
+    """How many threads a server has of which so many seats are open."""
+    return OTHERS_BY_LOOP if bqd.is_loop else seats + OTHERS
+
 
 def free_port():
     """A port of the loopback at which nobody listens."""
@@ -43,7 +51,7 @@ def connected(port):
 
 
 class Server:
-    """bqd with these words behind the address, 127.0.0.1 and a port that is free unless given.
+    """bqd with these words behind the address, 127.0.0.1 and a port that is free unless given, and those of its engine.
 
     What it told of its address is in `told`, and by that the port is found. (One that was free a moment ago may be
     another's by now.) Its standard input stays open until it is left.
@@ -55,7 +63,7 @@ class Server:
         tells = stdout == subprocess.PIPE and not listen
         self.port = port or (0 if tells else free_port())
         self.process = subprocess.Popen(
-            [bqd, *(listen or ["--listen", f"127.0.0.1:{self.port}"]), *words],
+            [bqd, *(listen or ["--listen", f"127.0.0.1:{self.port}"]), *bqd.words, *words],
             stdin=subprocess.PIPE,
             stdout=stdout,
             stderr=stderr,

@@ -3,6 +3,7 @@ import threading
 import time
 
 from programs import Ended, same
+from queue_model.engines import of_loop
 from servers import TAKEN, Server
 
 # What is due comes so soon after its moment, in seconds, unless the machine is busy: then it is tried again.
@@ -255,6 +256,23 @@ def run_those_who_wait_are_seldom_woken(bqd):
             time.sleep(2)
             woken = server.times_woken() - before
             return None if woken <= 120 else woken
+        often(tried)
+
+
+@of_loop
+def run_loop_is_not_woken(bqd):
+    """While 200 clients say nothing and 50 wait, an event loop isn't woken at all."""
+    with Server(bqd, "--seats", "250") as server:
+        for _ in range(200):
+            server.client().asks(ASK, ANSWER)
+        for _ in range(50):
+            server.client().sends(b"reserve\r\n")
+        time.sleep(0.5)
+
+        def tried():
+            before = server.times_woken()
+            time.sleep(2)
+            return server.times_woken() - before or None
         often(tried)
 
 

@@ -25,18 +25,17 @@ def pool():
     return concurrent.futures.ProcessPoolExecutor(PROCESSES, mp_context=multiprocessing.get_context("fork"))
 
 
-def round_of(bq, bqd, known, rules, seed, one_in=1):
-    """The calls of a round, or one in so many of each kind. What takes longest comes first."""
+def round_of(bq, bqds, known, rules, seed, one_in=1):
+    """The calls of a round, or one in so many of each kind, those of bqd by each of its engines. What takes longest comes first."""
     def some(many):
         return range(-(-many // one_in))
 
-    hundred, sixty, eight = (100, HUNDRED_ACTIONS), (60, SIXTY_ACTIONS), (8, EIGHT_ACTIONS)
-    calls = [(lockstep.lockstep, bqd, known["bqd"], rules, "%s/hundred/%d" % (seed, at), *hundred) for at in some(HUNDRED)]
-    calls += [(lockstep.lockstep, bqd, known["bqd"], rules, "%s/sixty/%d" % (seed, at), *sixty) for at in some(SIXTY)]
-    calls += [(lockstep.lockstep, bqd, known["bqd"], rules, "%s/eight/%d" % (seed, at), *eight) for at in some(EIGHT)]
-    calls += [(beside.beside, bqd, rules, "%s/beside/%d" % (seed, at), BESIDE_CLIENTS) for at in some(BESIDE)]
+    calls = []
+    for clients, actions, many, kind in [(100, HUNDRED_ACTIONS, HUNDRED, "hundred"), (60, SIXTY_ACTIONS, SIXTY, "sixty"), (8, EIGHT_ACTIONS, EIGHT, "eight")]:
+        calls += [(lockstep.lockstep, bqd, known["bqd"], rules, "%s/%s/%d" % (seed, kind, at), clients, actions) for at in some(many) for bqd in bqds]
+    calls += [(beside.beside, bqd, rules, "%s/beside/%d" % (seed, at), BESIDE_CLIENTS) for at in some(BESIDE) for bqd in bqds]
     calls += [(sessions.tubes_in_turn, bq, rules, TUBES // one_in)]
-    calls += [(soak.soak, bqd, "%s/soak/%d" % (seed, at), SOAK_SECONDS) for at in some(SOAKS)]
+    calls += [(soak.soak, bqd, "%s/soak/%d" % (seed, at), SOAK_SECONDS) for at in some(SOAKS) for bqd in bqds]
     return calls + [(sessions.batch, bq, known["bq"], rules, "%s/sessions/%d" % (seed, at), SESSIONS) for at in some(BATCHES)]
 
 
@@ -70,9 +69,9 @@ def options_known(bq, bqd):
     return {"bq": programs.options_of(bq), "bqd": programs.options_of(bqd)}
 
 
-def whole_run(bq, bqd, seed, minutes, rules, one_in=1):
+def whole_run(bq, bqds, seed, minutes, rules, one_in=1):
     """Rounds, or so small a part of each, until the minutes are over, one at least. It returns all reports, which it tells as they come."""
-    begun, known, reports = time.monotonic(), options_known(bq, bqd), []
+    begun, known, reports = time.monotonic(), options_known(bq, bqds[0]), []
 
     def keep(it):
         reports.append(it)
@@ -85,7 +84,7 @@ def whole_run(bq, bqd, seed, minutes, rules, one_in=1):
         number = 0
         while number == 0 or time.monotonic() - begun < 60 * minutes:
             round_seed = str(seed) if number == 0 else "%s.%d" % (seed, number)
-            made_with_patience(processes, round_of(bq, bqd, known, rules, round_seed, one_in), keep)
+            made_with_patience(processes, round_of(bq, bqds, known, rules, round_seed, one_in), keep)
             number += 1
     return reports
 

@@ -83,7 +83,7 @@ class Server:
     """A running `bqd`, to be used in a with statement."""
 
     def __init__(self, program, seats, settings):
-        words = [program, "--listen", "127.0.0.1:0", "--seats", str(seats)] + words_for(settings)
+        words = [program, "--listen", "127.0.0.1:0", "--seats", str(seats)] + program.words + words_for(settings)
         self.started = subprocess.Popen(words, stdin=subprocess.PIPE, stdout=subprocess.PIPE, stderr=subprocess.PIPE)
 
     def __enter__(self):
