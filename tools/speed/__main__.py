@@ -1,10 +1,10 @@
-"""Measures bqd beside beanstalkd: tools/speed --bqd PATH [--beanstalkd PATH] [--rounds N] [--time MS] [--only a,b]
+"""Measures bqd beside beanstalkd: tools/speed --bqd PATH [--beanstalkd PATH] [--engine NAME] [--rounds N] [--time MS] [--only a,b]
 
-Each round starts both servers anew, one after the other, on loopback, and puts the same load on each (load.c,
-which is built by cc). What is printed is a table of ratios, ours to theirs: the median over the rounds with its
-quartiles. --save FILE keeps every round as a line of a table, and --plot FILE draws the medians from such a
-table (with --from FILE: from a table of an earlier run, and nothing is measured). --pin LIST binds servers and
-load to these processors.
+Each round starts beanstalkd and bqd by each of its engines anew, one after the other, on loopback, and puts the same
+load on each (load.c, which is built by cc). What is printed is a table of ratios for each engine, ours to theirs: the
+median over the rounds with its quartiles. --engine measures one engine alone. --save FILE keeps every round as a line
+of a table, and --plot FILE draws the medians from such a table (with --from FILE: from a table of an earlier run, and
+nothing is measured). --pin LIST binds servers and load to these processors.
 """
 import argparse
 import os
@@ -18,6 +18,9 @@ import time
 
 HERE = pathlib.Path(__file__).resolve().parent
 MOST_BYTES = 1048576
+
+# What serves the connections of bqd, and the words that choose it.
+ENGINES = {"threads": [], "event-loop": ["--event-loop"]}
 
 # The name of a scenario, the words for load.c, and what it is in words.
 SCENARIOS = [
@@ -84,10 +87,10 @@ def measured(load, words_of, told, span, pin):
 
 def measure(chosen, save):
     rows = []
-    servers = {
-        "bqd": lambda port: [chosen.bqd, "--listen", f"127.0.0.1:{port}", "--seats", "256", "-z", str(MOST_BYTES)],
-        "beanstalkd": lambda port: [chosen.beanstalkd, "-l", "127.0.0.1", "-p", str(port), "-z", str(MOST_BYTES)],
-    }
+    servers = {"beanstalkd": lambda port: [chosen.beanstalkd, "-l", "127.0.0.1", "-p", str(port), "-z", str(MOST_BYTES)]}
+    for engine, words in ENGINES.items():
+        if chosen.engine in (None, engine):
+            servers[engine] = lambda port, words=words: [chosen.bqd, "--listen", f"127.0.0.1:{port}", "--seats", "256", "-z", str(MOST_BYTES), *words]
     with tempfile.TemporaryDirectory() as folder:
         load = os.path.join(folder, "load")
         subprocess.run(["cc", "-O2", "-o", load, str(HERE / "load.c")], check=True)
@@ -95,23 +98,30 @@ def measure(chosen, save):
             if chosen.only and name not in chosen.only.split(","):
                 continue
             for number in range(chosen.rounds):
-                for server in sorted(servers, reverse=number % 2 == 0):
+                # Each is the first one in turn.
+                first = number % len(servers)
+                for server in [*servers][first:] + [*servers][:first]:
                     rows.append((name, number, server, *measured(load, servers[server], told, chosen.time, chosen.pin)))
                     save(rows[-1])
     return rows
 
 
-def ratios(rows, name, field):
+def ratios(rows, name, field, engine):
     """Ours to theirs, round by round."""
-    ours = {row[1]: row[field] for row in rows if row[0] == name and row[2] == "bqd"}
+    ours = {row[1]: row[field] for row in rows if row[0] == name and row[2] == engine}
     theirs = {row[1]: row[field] for row in rows if row[0] == name and row[2] == "beanstalkd"}
     return sorted(ours[it] / theirs[it] for it in ours if theirs.get(it))
 
 
-def table(rows):
-    lines = ["| load | operations (quartiles) | processor time an operation | time of a batch, median | 99th percentile | 99.9th |", "|---|---|---|---|---|---|"]
+def measured_engines(rows):
+    """The engines of which there are rows."""
+    return [it for it in ENGINES if any(row[2] == it for row in rows)]
+
+
+def table(rows, engine):
+    lines = [f"| {engine} | operations (quartiles) | processor time an operation | time of a batch, median | 99th percentile | 99.9th |", "|---|---|---|---|---|---|"]
     for name, _, words in SCENARIOS:
-        columns = [ratios(rows, name, field) for field in (3, 4, 5, 6, 7)]
+        columns = [ratios(rows, name, field, engine) for field in (3, 4, 5, 6, 7)]
         if not columns[0]:
             continue
         low, high = columns[0][len(columns[0]) // 4], columns[0][len(columns[0]) * 3 // 4]
@@ -123,14 +133,15 @@ def table(rows):
 
 
 def plot(rows):
-    """Bars from 1, to the right where bqd answers more operations."""
-    shown = [(name, words) for name, _, words in SCENARIOS if ratios(rows, name, 3)]
+    """Bars from 1, to the right where bqd answers more operations. Those of the last engine that was measured."""
+    engine = measured_engines(rows)[-1]
+    shown = [(name, words) for name, _, words in SCENARIOS if ratios(rows, name, 3, engine)]
     height, left, middle, scale = 26, 470, 640, 150
     out = [f'<svg xmlns="http://www.w3.org/2000/svg" width="900" height="{height * len(shown) + 50}" font-family="sans-serif" font-size="12">']
     out.append('<rect width="100%" height="100%" fill="white"/>')
     for place, (name, words) in enumerate(shown):
         # The time of a hand-off is better where it is smaller.
-        values = [1 / it for it in ratios(rows, name, 5)] if name == "hand-off" else ratios(rows, name, 3)
+        values = [1 / it for it in ratios(rows, name, 5, engine)] if name == "hand-off" else ratios(rows, name, 3, engine)
         value = statistics.median(values)
         width = min(max(value - 1, -1), 1.5) * scale
         top = 20 + place * height
@@ -153,6 +164,7 @@ def main():
     words = argparse.ArgumentParser(prog="tools/speed", description=__doc__, formatter_class=argparse.RawDescriptionHelpFormatter)
     words.add_argument("--bqd", default="crates/bqd/out/bqd")
     words.add_argument("--beanstalkd", default="beanstalkd")
+    words.add_argument("--engine", choices=sorted(ENGINES))
     words.add_argument("--rounds", type=int, default=7)
     words.add_argument("--time", type=int, default=700, metavar="MS")
     words.add_argument("--only", metavar="NAMES")
@@ -166,7 +178,7 @@ def main():
     else:
         kept = open(chosen.save, "w") if chosen.save else None
         rows = measure(chosen, lambda row: kept and print(*row, sep="\t", file=kept, flush=True))
-    print(table(rows))
+    print("\n\n".join(table(rows, engine) for engine in measured_engines(rows)))
     if chosen.plot:
         pathlib.Path(chosen.plot).write_text(plot(rows))
 
