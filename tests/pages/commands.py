@@ -130,7 +130,7 @@ def serves(room, command):
         process.kill()
 
 
-@rule(r"bqd (--[-a-z]+) [A-Z]+")
+@rule(r"bqd (--[-a-z]+)(?: [A-Z]+)?")
 def is_form_of_an_option(room, option):
     assert option in room.ends("bqd --help"), f"bqd has no {option}"
     return "it is a form"

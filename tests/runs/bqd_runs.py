@@ -1,6 +1,10 @@
 """Runs of bqd, the server over TCP."""
+import contextlib
+import os
 import random
 import socket
+import subprocess
+import tempfile
 import time
 
 from faults import faults
@@ -423,6 +427,52 @@ def run_output_unwritten(bqd):
             client.asks(b"list-tube-used\r\n", b"USING default\r\n")
             client.close()
             same(server.end(), Ended(0, None, b""))
+
+
+@contextlib.contextmanager
+def inputs():
+    """Standard inputs of each kind, by their names, and whether a drain is in them."""
+    with tempfile.TemporaryFile() as drain, tempfile.TemporaryFile() as empty, contextlib.ExitStack() as stack:
+        drain.write(b"other\ndrain\n")
+        drain.seek(0)
+        gone, pipe, (main, terminal) = os.pipe(), os.pipe(), os.openpty()
+        os.close(gone[1])
+        os.write(pipe[1], b"dra")
+        os.write(main, b"drain\n")
+        for it in (gone[0], *pipe, main, terminal):
+            stack.callback(os.close, it)
+        os.write(pipe[1], b"in\n")
+        yield {
+            "nothing": (subprocess.DEVNULL, False),
+            "a file": (drain, True),
+            "an empty file": (empty, False),
+            "a pipe at its end": (gone[0], False),
+            "a pipe": (pipe[0], True),
+            "a terminal": (terminal, True),
+        }
+
+
+def run_control_line_of_each_kind(bqd):
+    """Whatever standard input is, a drain in it is heard, clients are served, and its end costs no work."""
+    with inputs() as kinds:
+        for stdin, has_drain in kinds.values():
+            with Server(bqd, "--seats", "2", stdin=stdin) as server:
+                if has_drain:
+                    server.tells(b"bqd: draining\n")
+                server.client().asks(b"put 0 0 9 1\r\nx\r\n", b"DRAINING\r\n" if has_drain else b"INSERTED 1\r\n")
+                before = server.time_worked()
+                time.sleep(0.3)
+                same(server.time_worked() - before < 0.1, True)
+
+
+def run_control_line_keeps_its_flags(bqd):
+    """Standard input isn't switched to non-blocking: other processes may share it."""
+    end, other = os.pipe()
+    with Server(bqd, "--seats", "1", stdin=end) as server:
+        server.client().asks(b"list-tube-used\r\n", b"USING default\r\n")
+        same(os.get_blocking(end), True)
+    os.close(end)
+    os.close(other)
 
 
 def run_descriptors_refused(bqd):

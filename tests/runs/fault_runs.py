@@ -7,7 +7,7 @@ import time
 
 from faults import faults
 from programs import Ended, same
-from queue_model.engines import of_threads
+from queue_model.engines import of_loop, of_threads
 from servers import OTHERS, TAKEN, Server, awaits, threads_with, value
 
 # How long a seat rests that was refused what it needs for a connection, in seconds.
@@ -42,6 +42,18 @@ def run_connection_that_would_hold_back(bqd):
         client.asks(ASK, ANSWER)
         client.close()
         same(server.end(), Ended(0, b"", b""))
+
+
+@of_loop
+def run_connection_that_cannot_be_watched(bqd):
+    """A connection that the system doesn't watch is shut unserved, and the next one is taken."""
+    for code in [errno.ENOSPC, errno.ENOMEM]:
+        with Server(bqd, "--seats", "1", "--sessions", "2", env=faults(watches=code, times=1)) as server:
+            server.client().hears_end()
+            client = server.client()
+            client.asks(ASK, ANSWER)
+            client.close()
+            same(server.end(), Ended(0, b"", b""))
 
 
 # What a connection can lack, and what Linux returns of a connection that the network or a firewall broke (accept(2)).

@@ -5,6 +5,7 @@
    FAULT_READS=CODE    the first FAULT_TIMES calls that read a connection fail with this error
    FAULT_WRITES=CODE   the FAULT_NTH-th call that writes to a connection fails with this error; where FAULT_CUT is set, the
                        call before it takes so many bytes at most
+   FAULT_WATCHES=CODE  the first FAULT_TIMES calls that have the system watch a connection fail with this error
    FAULT_NODELAY=CODE  the first FAULT_TIMES calls that have a connection send each write at once fail with this error
    FAULT_THREAD=N      the Nth thread is refused
    FAULT_CLOCK=N       the clock goes N times as fast, and sleeps and waits with an end are as much shorter
@@ -25,8 +26,8 @@
 #include <sys/syscall.h>
 #include <time.h>
 
-static atomic_long accepts, reads, writes, switches, threads;
-static long accept_code, read_code, write_code, nth, cut, switch_code, after, each, times, refused_thread, speed;
+static atomic_long accepts, reads, writes, watches, switches, threads;
+static long accept_code, read_code, write_code, nth, cut, watch_code, switch_code, after, each, times, refused_thread, speed;
 
 static long number(const char *name) {
     const char *text = getenv(name);
@@ -39,6 +40,7 @@ __attribute__((constructor)) static void begin(void) {
     write_code = number("FAULT_WRITES");
     nth = number("FAULT_NTH");
     cut = number("FAULT_CUT");
+    watch_code = number("FAULT_WATCHES");
     switch_code = number("FAULT_NODELAY");
     after = number("FAULT_AFTER");
     each = number("FAULT_EACH");
@@ -74,6 +76,14 @@ ssize_t send(int socket, const void *bytes, size_t length, int flags) {
     }
     int is_cut = write_code && cut && call + 1 == nth && (size_t)cut < length;
     return libc_send(socket, bytes, is_cut ? (size_t)cut : length, flags);
+}
+
+int epoll_ctl(int set, int change, int file, struct epoll_event *event) {
+    int (*libc_epoll_ctl)(int, int, int, struct epoll_event *) = dlsym(RTLD_NEXT, "epoll_ctl");
+    struct sockaddr_storage peer;
+    socklen_t length = sizeof peer;
+    int is_connection = change == EPOLL_CTL_ADD && getpeername(file, (struct sockaddr *)&peer, &length) == 0;
+    return is_connection && fails(&watches, watch_code, 0, 1) ? -1 : libc_epoll_ctl(set, change, file, event);
 }
 
 int setsockopt(int socket, int level, int option, const void *value, socklen_t length) {

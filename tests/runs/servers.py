@@ -51,20 +51,22 @@ def connected(port):
 
 
 class Server:
-    """bqd with these words behind the address, 127.0.0.1 and a port that is free unless given, and those of its engine.
+    """bqd with these words behind the address, 127.0.0.1 and a port that is free unless given, and those of its engine, if
+    it was chosen.
 
     What it told of its address is in `told`, and by that the port is found. (One that was free a moment ago may be
     another's by now.) Its standard input stays open until it is left.
     """
 
     def __init__(
-        self, bqd, *words, listen=None, port=None, stdout=subprocess.PIPE, stderr=subprocess.PIPE, before=None, env=None
+        self, bqd, *words, listen=None, port=None, stdin=subprocess.PIPE, stdout=subprocess.PIPE, stderr=subprocess.PIPE,
+        before=None, env=None
     ):
         tells = stdout == subprocess.PIPE and not listen
         self.port = port or (0 if tells else free_port())
         self.process = subprocess.Popen(
-            [bqd, *(listen or ["--listen", f"127.0.0.1:{self.port}"]), *bqd.words, *words],
-            stdin=subprocess.PIPE,
+            [bqd, *(listen or ["--listen", f"127.0.0.1:{self.port}"]), *getattr(bqd, "words", []), *words],
+            stdin=stdin,
             stdout=stdout,
             stderr=stderr,
             bufsize=0,
