@@ -1,7 +1,7 @@
 //! Serving clients over lines of bytes: everything that a caller names, in one place.
 //!
-//! Three runs stand here. [`run_one`] serves one line on one thread, [`run_sessions`] serves many doors with a thread for
-//! each, and [`run_locked`] does so around one lock. Beside them are the lines, doors and clocks that they serve, and the
+//! Four runs stand here. [`run_one`] serves one line on one thread, [`run_sessions`] serves many doors with a thread for
+//! each, [`run_event_loop`] serves them all on one thread, and [`run_locked`] has a thread for each around one lock. Beside them are the lines, doors and clocks that they serve, and the
 //! work of each thread of `run_sessions` as a call of its own. Each part is made in a crate of its own, so that what
 //! stands on one of them doesn't wait for the proofs of the others.
 #![tactic(auto)]
@@ -10,6 +10,7 @@ pub use bq_core::{Config, Core, CoreFault, Outs};
 pub use bq_core_work::core_work::{CoreRoom, core_work};
 pub use bq_driver::control_line::{ControlInput, ControlLine, Heard};
 pub use bq_driver::control_reader::{ControlReader, next_of};
+pub use bq_event_loop::{EventLoopRun, run_event_loop};
 pub use bq_job::{Entry, LineEnd, Moment, NoMemory, Seat, Step};
 pub use bq_journal::Locked;
 pub use bq_line::clock::{Clock, MachineClock, Notice, ScriptClock};
