@@ -1,4 +1,4 @@
-"""What pages name as code: files, options, and words of the code. Each has to be there."""
+"""What pages name as code: files, options, and words of the code; and what they link to. Each has to be there."""
 import functools
 import re
 
@@ -149,6 +149,27 @@ def paths_in(page):
             yield number, found
 
 
+def links_in(page):
+    """The places of the repository that a page links to, as they are written."""
+    text = re.sub(r"^```\w*\n.*?^```", lambda found: "\n" * found[0].count("\n"), page.read_text(), flags=re.M | re.S)
+    for number, line in enumerate(text.split("\n"), 1):
+        for found in re.findall(r"\]\(([^)\s]+)\)", line):
+            if "://" not in found:
+                yield number, found
+
+
+def anchors(page):
+    """The headings of a page, as links name them."""
+    return {re.sub(r"[^\w -]", "", it).strip().lower().replace(" ", "-") for it in re.findall(r"^#+ (.*)$", page.read_text(), re.M)}
+
+
+def is_linked(page, link):
+    """Whether a link of the page leads to a file and a heading that are there."""
+    path, _, heading = link.partition("#")
+    target = (page.parent / path) if path else page
+    return target.exists() and (not heading or heading in anchors(target))
+
+
 def named(options, is_command):
     """What pages name: where it stands, what it is, and whether it is there."""
     for page in markdown():
@@ -157,6 +178,8 @@ def named(options, is_command):
                 yield place(piece), piece.text, is_known(piece.text, options)
         for number, path in paths_in(page):
             yield f"{page.relative_to(ROOT)}:{number}", path, is_known(path, options)
+        for number, link in links_in(page):
+            yield f"{page.relative_to(ROOT)}:{number}", link, is_linked(page, link)
     for page in manuals():
         for piece in manual_options(page):
             yield place(piece), piece.text, piece.text in options
