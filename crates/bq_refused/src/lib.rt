@@ -1,5 +1,5 @@
 //! Calls that may be refused memory, and steps that may take none: what comes of each is a line on standard
-//! output. tests/refuse runs it with one request for memory after another refused.
+//! output. tests/memory_faults runs it with one request for memory after another refused.
 #![tactic(auto)]
 
 #[cfg(test)]

@@ -1,10 +1,10 @@
 """Tries bugs that no contract refuses: the programs are built with one at a time, and a test has to fail for it.
 
-    python3 tools/plants [--only WORD] [--jobs N] [--proofs] [FILE ..]
-    python3 tools/plants --applies
+    python3 tools/caught_by_tests [--only WORD] [--jobs N] [--proofs] [FILE ..]
+    python3 tools/caught_by_tests --applies
 
-A plant is a file tools/plants/CRATE/NAME.edit: a file of the crate, texts of it, and what they become, as in a
-must-fail edit. Its end stands in tools/plants/ends.txt, one of
+A plant is a file tools/caught_by_tests/CRATE/NAME.edit: a file of the crate, texts of it, and what they become, as in a
+must-fail edit. Its end stands in tools/caught_by_tests/ends.txt, one of
 
     test TRIAL PART     this part of a trial fails for it
     clause              a contract refuses it since
@@ -13,7 +13,7 @@ must-fail edit. Its end stands in tools/plants/ends.txt, one of
     untried TRIAL PART  this is meant to fail for it, and was not seen yet
 
 The programs are built without a proof (unproved.py), in some 45 seconds of a processor each. Then tests/runs, the
-tests of the crate, tests/refuse and a part of tests/model are run until one fails, and before them the part that the
+tests of the crate, tests/memory_faults and a part of tests/model are run until one fails, and before them the part that the
 table tells of; what fails is tried again, since a busy machine fails tests that wait. What fails with no plant isn't
 counted.
 
@@ -57,7 +57,7 @@ def script(name):
     return module
 
 
-edits = script("edits")
+edits = script("refused_by_prover.py")
 
 
 class Plant:
@@ -262,8 +262,8 @@ def applies(plants, ends):
 
 
 def parsed():
-    parser = argparse.ArgumentParser(prog="tools/plants", description=__doc__, formatter_class=argparse.RawDescriptionHelpFormatter)
-    parser.add_argument("files", metavar="FILE", nargs="*", type=pathlib.Path, help="edits to be tried in place of those of tools/plants")
+    parser = argparse.ArgumentParser(prog="tools/caught_by_tests", description=__doc__, formatter_class=argparse.RawDescriptionHelpFormatter)
+    parser.add_argument("files", metavar="FILE", nargs="*", type=pathlib.Path, help="edits to be tried in place of those of tools/caught_by_tests")
     parser.add_argument("--only", metavar="WORD", default="", help="the plants whose names have this word, as bq_line/ or nodelay")
     parser.add_argument("--jobs", type=int, metavar="N", default=len(os.sched_getaffinity(0)), help="plants that are tried side by side")
     parser.add_argument("--proofs", action="store_true", help="asks the check of its crate of each plant first, over work that is kept in out/")
@@ -290,7 +290,7 @@ def main():
     try:
         right, wrong = counted(all_said(plants, asked))
     except NothingToJudgeBy as it:
-        print(f"tools/plants: with no plant {it}", file=sys.stderr)
+        print(f"tools/caught_by_tests: with no plant {it}", file=sys.stderr)
         return 2
     print(f"{right} as told, {wrong} otherwise")
     return 1 if wrong else 0

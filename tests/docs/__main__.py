@@ -1,6 +1,6 @@
 """Holds the pages to what is there: their commands, their options, the files and the code that they name.
 
-    python3 tests/pages --bq PATH --bqd PATH
+    python3 tests/docs --bq PATH --bqd PATH
 
 Each command of README.md, docs/OPERATING.md, docs/MOVING.md and the man pages is run with the given programs, or it
 is known why it isn't; of the other pages it is known. What pages name as code has to be in the tree, and the counts
@@ -68,7 +68,7 @@ def faults_of_commands(room):
 
 
 def main():
-    parser = argparse.ArgumentParser(prog="tests/pages")
+    parser = argparse.ArgumentParser(prog="tests/docs")
     parser.add_argument("--bq", required=True, help="the built program bq")
     parser.add_argument("--bqd", required=True, help="the built program bqd")
     words = parser.parse_args()

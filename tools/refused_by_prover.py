@@ -1,7 +1,7 @@
 #!/usr/bin/env python3
 """Tries planted bugs that the prover has to refuse: the pages of crates/*/must-fail.
 
-    tools/edits [CRATE ..] [--gate] [--lanes N] [--beside LOG]
+    tools/refused_by_prover.py [CRATE ..] [--gate] [--lanes N] [--beside LOG]
 
 --gate: those of must-fail/gate alone, which the gate tries. --beside: LOG is what an `rt ci` prints that runs meanwhile;
 those of a crate are tried once it says that the crate is proved.

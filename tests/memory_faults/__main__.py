@@ -1,6 +1,6 @@
 """Requests for memory refused in turn, over the programs that were built.
 
-    python3 tests/refuse --bq PATH --bqd PATH --library PATH [--engine NAME] [--minutes M] [--self-check]
+    python3 tests/memory_faults --bq PATH --bqd PATH --library PATH [--engine NAME] [--minutes M] [--self-check]
 
 A small library (refuse.c) is loaded before libc's own and answers the Nth request of the program with
 NULL. Each case is run for N = 1, 2, .. until a run ends in which no request was refused, and what the

@@ -30,7 +30,7 @@ RULES = []
 OPERATORS = ["bqctl", "bqd-drain", "bqd-top", "bqd-web"]
 
 # First words of a line that is a command. A program's name alone is none.
-HEADS = """rt tools/build tools/warm tools/edits nc telnet systemctl journalctl apt echo bqd bq bqctl bqd-top bqd-drain bqd-web prlimit ulimit
+HEADS = """rt tools/build tools/warm tools/refused_by_prover.py nc telnet systemctl journalctl apt echo bqd bq bqctl bqd-top bqd-drain bqd-web prlimit ulimit
     python3 sed printf packaging/deb.sh promtool curl ssh (cd crates/bqd/out/bqd crates/bq/out/bq bash""".split()
 
 
@@ -54,7 +54,7 @@ def tried(text, room):
     for step in re.split(r" && (?![^(]*\))", text):
         found = next(((function, match) for shape, function in RULES for match in [shape.fullmatch(step)] if match), None)
         if not found:
-            raise AssertionError(f"no rule of tests/pages knows {step!r}")
+            raise AssertionError(f"no rule of tests/docs knows {step!r}")
         whys.append(found[0](room, *found[1].groups()))
     return [it for it in whys if it]
 
@@ -331,7 +331,7 @@ def toolchain(room):
     return "it is the toolchain's"
 
 
-@rule(r"(?:python3 )?((?:tools|tests)/(?:edits|plants|speed|model|runs|refuse|operator|pages))((?: .*)?)")
+@rule(r"(?:python3 )?((?:tools|tests)/(?:refused_by_prover\.py|caught_by_tests|speed|model|runs|memory_faults|operator|docs))((?: .*)?)")
 def own_tools(room, script, words):
     told = subprocess.run([sys.executable, ROOT / script, "--help"], capture_output=True, text=True, timeout=PATIENCE).stdout
     for option in re.findall(r"(?<=\s)--?[a-z][-\w]*", words):

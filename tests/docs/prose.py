@@ -1,6 +1,6 @@
 """How the pages and comments read: counts of long sentences, of long table cells and of phrases that have a plainer form.
 
-    python3 tests/pages/prose.py [--list]
+    python3 tests/docs/prose.py [--list]
 
 Each count has a budget, and a count above it is a fault. Whoever rewrites a page lowers the budget to what is left;
 nothing raises it. By hand it prints the counts, and with --list each place.
@@ -112,7 +112,7 @@ def found():
 def faults():
     """The counts that are above their budgets."""
     counted = found()
-    return [f"{name}: {len(counted[name])}, and {most} at most (tests/pages/prose.py --list)"
+    return [f"{name}: {len(counted[name])}, and {most} at most (tests/docs/prose.py --list)"
             for name, most in BUDGETS.items() if len(counted[name]) > most]
 
 

@@ -81,7 +81,7 @@ def sources():
     found = {}
     for it in paths():
         path = ROOT / it[1:]
-        if path.is_file() and it.split("/")[1] in FOLDERS and not it.startswith("/tests/pages/"):
+        if path.is_file() and it.split("/")[1] in FOLDERS and not it.startswith("/tests/docs/"):
             if any(path.match(kind) for kind in KINDS) or not path.suffix:
                 found[it] = path.read_text(errors="replace")
     return found
