@@ -3,28 +3,27 @@
 
     tools/refused_by_prover.py [CRATE ..] [--gate] [--lanes N] [--beside LOG]
 
---gate: those of must-fail/gate alone, which the gate tries. --beside: LOG is what an `rt ci` prints that runs meanwhile;
-those of a crate are tried once it says that the crate is proved.
+--gate: only those of must-fail/gate, which the gate tries. --beside: LOG is the output of an `rt ci` that runs meanwhile;
+the bugs of a crate are tried once it says that the crate is proved.
 
-A page has a line 'file: src/NAME.rt', and pairs of lines 'old: TEXT' and 'new: TEXT': a text that stands in that file
-once, and what it becomes.
+A page has a line 'file: src/NAME.rt', and pairs of lines 'old: TEXT' and 'new: TEXT': a text that is in that file once,
+and what replaces it.
 
-`rt ci` tries an edit by a check of its whole crate, so a crate with edits is proved twice. Here a check asks for the
-functions alone that are edited. Those beside them are taken by their contracts: the copy that is checked has a hole for
-the proof of each, since what they do was proved elsewhere. All edits of a crate that lie in different functions are made
-together and read from one check, which tells of each function why it has no proof. One whose function only calls
-another that the same check refused isn't judged by that: it goes into the next round, which begins from what this one
-checked. An edit of no function, or one that no round can judge, is tried by a check of the crate, with no holes.
+`rt ci` tries an edit by a check of its whole crate, so a crate with edits is proved twice. Here a check is asked for the
+edited functions only. The others are taken by their contracts: the copy that is checked has a hole for the proof of
+each, since they are proved elsewhere. All edits of a crate that are in different functions are made together and read
+from one check, which says of each function why it has no proof. If a function only calls another one that the same
+check refused, that does not judge it: its edit goes into the next round, which begins from what this one checked. An
+edit of no function, or one that no round can judge, is tried by a check of the crate with no holes.
 
-A function counts as refused where the check fails at a goal of its own. Where it fails only since a file of proofs
-names what the edit took away, the edit says nothing of the contract, and fails. So does one that can't be made or read.
+A function counts as refused if the check fails at a goal of its own. If it fails only because a file of proofs names
+what the edit removed, the edit says nothing about the contract, and fails. So does one that can't be made or read.
 
-The libraries below have to be built: by `tools/warm`, `rt check` or `rt ci`. The last line is 'N passed, M failed'.
+The libraries below have to be built: by `tools/build --warm`, `rt check` or `rt ci`. The last line is 'N passed, M failed'.
 """
 import argparse
 import concurrent.futures
 import dataclasses
-import os
 import pathlib
 import re
 import shutil
@@ -34,10 +33,16 @@ import tempfile
 import threading
 import time
 
-ROOT = pathlib.Path(__file__).resolve().parent.parent
+# Nothing is left behind beside these files.
+sys.dont_write_bytecode = True
+
+import crates  # noqa: E402
+from crates import ROOT  # noqa: E402
+from machine import PROCESSORS, TOOLCHAIN, free_memory  # noqa: E402
+
 PARTS = ("src", "specs", "proofs")
 
-# What a check may take of memory beside others, in KB.
+# The memory that a check may take, in kB.
 FOR_A_CHECK = 5_000_000
 
 # The first line of an impl or a trait.
@@ -54,50 +59,29 @@ pub {name}_spec : {{M : Type 1}} → statement M
 NAMES_GONE = re.compile(r"(\./)?proofs/.*(has no field|is not in scope|has no `|was not admitted)")
 
 
-def kit():
-    """The folder of the toolchain: that of the page which `rt doc` prints."""
-    said = subprocess.run(["rt", "doc"], capture_output=True, text=True, check=True)
-    return pathlib.Path(said.stdout.strip()).parent
-
-
-def uses():
-    """The crates, each with the libraries that crates.txt lists for it."""
-    lines = (ROOT / "crates.txt").read_text().splitlines()
-    listed = dict(it.split(":", 1) for it in lines if ":" in it and not it.startswith("#"))
-    return {it.split()[0]: listed[it].split() for it in listed}
-
-
-def below(name, listed):
-    """The repository's crates that this one stands on, by itself or through others."""
-    found = [it for it in listed[name] if it in listed]
-    for crate in found:
-        found += [it for it in listed[crate] if it in listed and it not in found]
-    return found
-
-
 def library(name):
-    return ROOT / "crates" / name / "out" / "rlib" / f"{name}.rlib"
+    """Returns the path of a built library."""
+    return crates.folder(name) / "out" / "rlib" / f"{name}.rlib"
 
 
-def check_of(name, listed, toolchain):
-    """The words of a check of the crate in the folder where it is run, over the libraries that are built."""
-    words = [str(toolchain / "bin" / "rattle"), "check", "--crate-name", name, "src/lib.rt"]
-    ours = below(name, listed)
-    of_kit = {it for crate in (name, *ours) for it in listed[crate] if it not in listed} | {"std"}
-    for it in sorted(of_kit):
-        words += ["--extern", f"{it}={toolchain}/rlibs/{it}.rlib"]
-    words += ["-L", f"dependency={toolchain}/rlibs"]
-    for it in listed[name]:
-        if it in listed:
-            words += ["--extern", f"{it}={library(it)}"]
-    for it in ours:
+def check_of(name, uses):
+    """Returns the words of a check of a crate over the built libraries, to be run in a folder with its sources."""
+    words = [str(TOOLCHAIN / "bin" / "rattle"), "check", "--crate-name", name, "src/lib.rt"]
+    needed = crates.below(name, uses)
+    of_toolchain = {it for crate in (name, *needed) for it in uses[crate] if it not in uses} | {"std"}
+    for it in sorted(of_toolchain):
+        words += ["--extern", f"{it}={TOOLCHAIN}/rlibs/{it}.rlib"]
+    words += ["-L", f"dependency={TOOLCHAIN}/rlibs"]
+    for it in crates.ours(name, uses):
+        words += ["--extern", f"{it}={library(it)}"]
+    for it in needed:
         words += ["-L", f"dependency={library(it).parent}"]
-    words += ["--antt-project", f"{toolchain}/rattle/logic/antt-project.json"]
-    return [*words, "--logic-built", f"{toolchain}/logic_built", "--jobs", "1"]
+    words += ["--antt-project", f"{TOOLCHAIN}/rattle/logic/antt-project.json"]
+    return [*words, "--logic-built", f"{TOOLCHAIN}/logic_built", "--jobs", "1"]
 
 
 def function_at(text, place):
-    """The function that a place of a source file stands in, by its path within the file: `Tree::height`."""
+    """Returns the function that a place of a source file is in, by its path within the file: `Tree::height`."""
     functions = [it for it in re.finditer(r"^([ ]*)(?:pub(?:\([^)]*\))? )?fn (\w+)", text, re.M) if it.start() <= place]
     if not functions:
         return None
@@ -109,7 +93,7 @@ def function_at(text, place):
 
 
 def functions_of(folder):
-    """The functions of a crate's sources, by their paths, but those that a trait declares."""
+    """Yields the paths of the functions in a crate's sources, without those that a trait declares."""
     for file in sorted((folder / "src").rglob("*.rt")):
         text = file.read_text()
         module = file.relative_to(folder / "src").with_suffix("").as_posix().replace("/", "::")
@@ -120,12 +104,12 @@ def functions_of(folder):
 
 
 def path_of(module, function):
-    """A function's path in its crate."""
+    """Returns the path of a function in its crate."""
     return function if module == "lib" else f"{module}::{function}"
 
 
 def type_of(head):
-    """How the check calls what a head stands for: a type, a trait, or a trait at a type, the type first."""
+    """Returns the check's name for what a head begins: a type, a trait, or a trait of a type with the type first."""
     while "<" in head:
         plain = re.sub(r"<[^<>]*>", "", head.replace("->", "  "))
         if plain == head:
@@ -141,7 +125,7 @@ def type_of(head):
 
 @dataclasses.dataclass(frozen=True)
 class Edit:
-    """A page: the crate's file that it changes, and the texts that are replaced in their order."""
+    """A page: the file of the crate that it changes, and the texts that it replaces, in their order."""
 
     path: pathlib.Path
     file: str
@@ -160,7 +144,7 @@ class Edit:
         return f"{self.path.relative_to(ROOT / 'crates').parts[0]}/{self.path.stem}"
 
     def made(self, text):
-        """The text with the edit made, or None where a text to be replaced doesn't stand there once."""
+        """Returns the text with the edit made, or None if a text to be replaced is not in it exactly once."""
         for old, new in self.pairs:
             if text.count(old) != 1:
                 return None
@@ -168,29 +152,29 @@ class Edit:
         return text
 
     def function(self, text):
-        """The path of the function that it changes, without the crate: `tree::Tree::height`. None: a definition or a constant."""
+        """Returns the path of the function that it changes, without the crate: `tree::Tree::height`. None: a definition or a constant."""
         found = function_at(text, text.find(self.pairs[0][0])) if self.file.startswith("src/") else None
         module = self.file.removeprefix("src/").removesuffix(".rt").replace("/", "::")
         return found and path_of(module, found)
 
 
 class Crate:
-    """A copy of a crate, in which edits are made and tried."""
+    """A copy of a crate in which edits are made and tried."""
 
-    def __init__(self, name, room, words):
-        self.name, self.folder, self.words = name, pathlib.Path(room) / name, words
+    def __init__(self, name, folder, words):
+        self.name, self.folder, self.words = name, pathlib.Path(folder) / name, words
         for part in PARTS:
             self.restore(part)
-        self.kept = pathlib.Path(room) / "kept"
+        self.kept = pathlib.Path(folder) / "kept"
 
     def restore(self, part):
-        """Makes a folder of the copy as it is in the repository."""
+        """Copies a folder of the crate from the repository again."""
         shutil.rmtree(self.folder / part, ignore_errors=True)
-        if (ROOT / "crates" / self.name / part).is_dir():
-            shutil.copytree(ROOT / "crates" / self.name / part, self.folder / part)
+        if (crates.folder(self.name) / part).is_dir():
+            shutil.copytree(crates.folder(self.name) / part, self.folder / part)
 
     def leave_holes(self, but):
-        """Gives each function a hole for its proof but those, and but those that call themselves."""
+        """Leaves a hole for the proof of each function, except for these and those that call themselves."""
         for function in functions_of(self.folder):
             at = self.folder / "proofs" / function.replace("::", "/")
             if function in but or (at.parent / f"+{at.name}").is_dir():
@@ -202,7 +186,7 @@ class Crate:
             (at / "Proof.antt").write_text(HOLE.format(path=path, name=at.name))
 
     def together(self, edits):
-        """Makes as many of the edits as lie in different functions, and tries them. What is said of each that was made."""
+        """Makes as many of the edits as are in different functions, and tries them. Returns a verdict for each that was made."""
         before, taken = {}, {}
         for edit in edits:
             path = self.folder / edit.file
@@ -214,37 +198,38 @@ class Crate:
                 taken[edit] = where
         if taken:
             self.leave_holes(set(taken.values()))
-        told = self.check(taken.values()) if taken else ""
+        output = self.check(taken.values()) if taken else ""
         for part in PARTS:
             self.restore(part)
-        return {edit: self.verdict(told, where) for edit, where in taken.items()}
+        return {edit: self.verdict(output, where) for edit, where in taken.items()}
 
     def alone(self, edit):
-        """Makes one edit, and tries it by a check of the whole crate."""
+        """Makes one edit and tries it by a check of the whole crate. Returns its verdict."""
         path = self.folder / edit.file
         text = path.read_text()
         changed = edit.made(text)
         if changed is None:
-            return "NOT TRIED: a text of it doesn't stand in its file once"
+            return "NOT TRIED: a text of it is not in its file exactly once"
         path.write_text(changed)
-        told = self.check(())
+        last = self.check(()).rstrip().rpartition("\n")[2]
         path.write_text(text)
-        last = told.rstrip().rpartition("\n")[2]
-        return "refused" if last.startswith("logic=not-proved") else "LET THROUGH" if last.startswith("logic=proved") else f"NOT TRIED: {last[:200]}"
+        if last.startswith("logic=not-proved"):
+            return "refused"
+        return "LET THROUGH" if last.startswith("logic=proved") else f"NOT TRIED: {last[:200]}"
 
     def check(self, functions):
-        """What a check of these functions prints, past holes, or of the whole crate where there are none."""
+        """Returns the output of a check of these functions, which allows holes, or of the whole crate if there are none."""
         words = [*self.words, "--incremental", str(self.kept), *["--allow-holes"] * bool(functions)]
         for it in sorted(set(functions)):
             words += ["--only", it]
         ran = subprocess.run(words, cwd=self.folder, stdin=subprocess.DEVNULL, stdout=subprocess.PIPE, stderr=subprocess.STDOUT, text=True)
         return ran.stdout
 
-    def verdict(self, told, function):
-        """What a check says of a function: 'refused', what is wrong, or None where that can't be told from it."""
+    def verdict(self, output, function):
+        """Returns the verdict of a check on a function: 'refused', what is wrong, or None if the output does not say."""
         path = re.escape(function).replace("::", r"::\+?")
-        lines = re.findall(rf"^fn {self.name}::\+?{path}: (.*)$", told, re.M)
-        if not lines or not re.search(r"^only=\d+ holes=\d+$", told, re.M):
+        lines = re.findall(rf"^fn {self.name}::\+?{path}: (.*)$", output, re.M)
+        if not lines or not re.search(r"^only=\d+ holes=\d+$", output, re.M):
             return None
         failed = [it for it in lines if not it.startswith(("no holes", "depends on a hole"))]
         if not failed:
@@ -252,7 +237,7 @@ class Crate:
         own = [it for it in failed if re.search("did not prove|antt refuses", it) or not re.search("it (calls|passes)|could not tell", it)]
         if not own:
             return None
-        errors = [it for it in told.splitlines() if re.match(r"(\./)?proofs/\S*:\d+:\d+: error", it)]
+        errors = [it for it in output.splitlines() if re.match(r"(\./)?proofs/\S*:\d+:\d+: error", it)]
         of_it = [it for it in errors if f"/{function.replace('::', '/')}/" in it.replace("+", "")]
         if of_it and all(NAMES_GONE.match(it) for it in of_it) and not any("did not prove" in it for it in own):
             return f"REFUSED FOR A NAME ALONE: {of_it[0][:160]}"
@@ -260,14 +245,14 @@ class Crate:
 
 
 def proved(log):
-    """The crates of which `rt ci` says in its log that they are proved, and whether it has ended."""
+    """Returns the crates that an `rt ci` has proved, by its log, and whether it has ended."""
     lines = log.read_text(errors="replace").splitlines()
     found = {it[1] for line in lines if (it := re.match(r"rt: (\w+) (proved$|is kept:)", line))}
     return found, any(re.match(r"\d+ passed, \d+ failed", it) for it in lines)
 
 
 def awaited(name, log):
-    """Waits until the log says that the crate is proved, and so are those below it; whether it is."""
+    """Waits until the log says that a crate and those below it are proved, or `rt ci` has ended. Returns whether it is proved."""
     while True:
         found, has_ended = proved(log)
         if name in found or has_ended:
@@ -276,64 +261,59 @@ def awaited(name, log):
 
 
 def tried(name, edits, words):
-    """Tries the edits of one crate in rounds. What was said of each, and the seconds that it took."""
-    begun, given = time.monotonic(), {}
-    with tempfile.TemporaryDirectory(prefix="edits-") as room:
-        crate, settled = Crate(name, room, words), True
-        while settled:
-            said = crate.together([it for it in edits if it not in given])
-            settled = {edit: it for edit, it in said.items() if it}
-            given.update(settled)
+    """Tries the edits of one crate in rounds. Returns the verdict of each, and how many seconds it took."""
+    begun, verdicts = time.monotonic(), {}
+    with tempfile.TemporaryDirectory(prefix="edits-") as folder:
+        crate, judged = Crate(name, folder, words), True
+        while judged:
+            found = crate.together([it for it in edits if it not in verdicts])
+            judged = {edit: verdict for edit, verdict in found.items() if verdict}
+            verdicts.update(judged)
         for edit in edits:
-            if edit not in given:
-                given[edit] = crate.alone(edit)
-    return given, time.monotonic() - begun
-
-
-def has_room():
-    """Whether there is memory for one more check."""
-    told = re.search(r"MemAvailable:\s+(\d+)", pathlib.Path("/proc/meminfo").read_text())
-    return int(told[1]) > FOR_A_CHECK
+            if edit not in verdicts:
+                verdicts[edit] = crate.alone(edit)
+    return verdicts, time.monotonic() - begun
 
 
 def in_turn(lanes, beside, name, *given):
-    """Tries the edits of a crate where a lane is free, once the crate is proved by who runs beside, if somebody does."""
+    """Tries the edits of a crate when a lane is free and, if there is a log, once its `rt ci` has proved the crate."""
     if beside and not awaited(name, beside):
         return {edit: "NOT TRIED: the crate isn't proved" for edit in given[0]}, 0
     with lanes:
-        while beside and not has_room():
+        while beside and free_memory() <= FOR_A_CHECK:
             time.sleep(1)
         return tried(name, *given)
+
+
+def pages_of(chosen, in_gate):
+    """Returns the edits of each crate that has some, the crate with the most lines first: it takes longest."""
+    found = {}
+    for folder in ROOT.glob("crates/*/must-fail"):
+        paths = sorted(folder.glob("gate/*.md" if in_gate else "**/*.md"))
+        if paths and (not chosen or folder.parent.name in chosen):
+            found[folder.parent.name] = [Edit.read(it) for it in paths]
+    return dict(sorted(found.items(), key=lambda it: -crates.lines(it[0], ".rt")))
 
 
 def main():
     parser = argparse.ArgumentParser(description=__doc__, formatter_class=argparse.RawDescriptionHelpFormatter)
     parser.add_argument("crates", nargs="*")
-    parser.add_argument("--gate", action="store_true", help="those of must-fail/gate alone")
-    parser.add_argument("--lanes", type=int, default=os.cpu_count(), help="how many crates side by side")
-    parser.add_argument("--beside", type=pathlib.Path, metavar="LOG", help="what a running rt ci prints")
-    asked = parser.parse_args()
-    listed, toolchain, refused, failed = uses(), kit(), 0, 0
-    pages = {}
-    for folder in sorted(ROOT.glob("crates/*/must-fail")):
-        if asked.crates and folder.parent.name not in asked.crates:
-            continue
-        found = sorted(folder.glob("gate/*.md" if asked.gate else "**/*.md"))
-        if found:
-            pages[folder.parent.name] = [Edit.read(it) for it in found]
-    # The crate with the most lines first: it takes longest.
-    order = sorted(pages, key=lambda it: -sum(len(file.read_text().splitlines()) for file in (ROOT / "crates" / it).glob("src/**/*.rt")))
-    lanes = threading.Semaphore(asked.lanes)
-    with concurrent.futures.ThreadPoolExecutor(len(order) or 1) as pool:
-        calls = {pool.submit(in_turn, lanes, asked.beside, it, pages[it], check_of(it, listed, toolchain)): it for it in order}
+    parser.add_argument("--gate", action="store_true", help="only those of must-fail/gate")
+    parser.add_argument("--lanes", type=int, default=PROCESSORS, help="how many crates side by side")
+    parser.add_argument("--beside", type=pathlib.Path, metavar="LOG", help="the output of an rt ci that runs meanwhile")
+    words = parser.parse_args()
+    uses, pages, passed, failed = crates.listed(), pages_of(words.crates, words.gate), 0, 0
+    lanes = threading.Semaphore(words.lanes)
+    with concurrent.futures.ThreadPoolExecutor(len(pages) or 1) as pool:
+        calls = {pool.submit(in_turn, lanes, words.beside, name, edits, check_of(name, uses)): name for name, edits in pages.items()}
         for call in concurrent.futures.as_completed(calls):
-            given, seconds = call.result()
-            for edit, said in sorted(given.items(), key=lambda it: it[0].name()):
-                print(f"{edit.name()}: {said}")
-                refused += said == "refused"
-                failed += said != "refused"
-            print(f"{calls[call]}: {len(given)} edits, {seconds:.0f} s", flush=True)
-    print(f"{refused} passed, {failed} failed")
+            verdicts, seconds = call.result()
+            for edit, verdict in sorted(verdicts.items(), key=lambda it: it[0].name()):
+                print(f"{edit.name()}: {verdict}")
+                passed += verdict == "refused"
+                failed += verdict != "refused"
+            print(f"{calls[call]}: {len(verdicts)} edits, {seconds:.0f} s", flush=True)
+    print(f"{passed} passed, {failed} failed")
     return 1 if failed else 0
 
 

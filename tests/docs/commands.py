@@ -30,7 +30,7 @@ RULES = []
 OPERATORS = ["bqctl", "bqd-drain", "bqd-top", "bqd-web"]
 
 # First words of a line that is a command. A program's name alone is none.
-HEADS = """rt tools/build tools/warm tools/refused_by_prover.py nc telnet systemctl journalctl apt echo bqd bq bqctl bqd-top bqd-drain bqd-web prlimit ulimit
+HEADS = """rt tools/build tools/refused_by_prover.py nc telnet systemctl journalctl apt echo bqd bq bqctl bqd-top bqd-drain bqd-web prlimit ulimit
     python3 sed printf packaging/deb.sh promtool curl ssh (cd crates/bqd/out/bqd crates/bq/out/bq bash""".split()
 
 
@@ -286,18 +286,11 @@ def limits(room):
     return "it is a part of a command"
 
 
-@rule(r"tools/build((?: \w+)*)")
-def builds(room, names):
+@rule(r"tools/build( --warm)?((?: \w+)*)")
+def builds(room, warm, names):
     for name in names.split():
-        assert (ROOT / "crates" / name / "src/main.rt").is_file(), f"no program {name}"
+        assert (ROOT / "crates" / name / ("src" if warm else "src/main.rt")).exists(), f"no {name} to build"
     return "it proves for a quarter of an hour; what it builds was given"
-
-
-@rule(r"tools/warm((?: \w+)*)")
-def warms(room, names):
-    for name in names.split():
-        assert (ROOT / "crates" / name / "src").is_dir(), f"no crate {name}"
-    return "it proves for a quarter of an hour"
 
 
 @rule(r"\.ci/run")

@@ -1,38 +1,35 @@
-"""Tries bugs that no contract refuses: the programs are built with one at a time, and a test has to fail for it.
+"""Tries planted bugs that no contract refuses: the programs are built with one at a time, and a test has to fail for it.
 
     python3 tools/caught_by_tests [--only WORD] [--jobs N] [--proofs] [FILE ..]
     python3 tools/caught_by_tests --applies
 
-A plant is a file tools/caught_by_tests/CRATE/NAME.edit: a file of the crate, texts of it, and what they become, as in a
-must-fail edit. Its end stands in tools/caught_by_tests/ends.txt, one of
+A planted bug is a file tools/caught_by_tests/CRATE/NAME.edit: a file of the crate, texts in it, and what replaces them,
+as in a must-fail edit. tools/caught_by_tests/ends.txt says how each one ends:
 
     test TRIAL PART     this part of a trial fails for it
-    clause              a contract refuses it since
+    clause              a contract refuses it by now
     allowed WHY         no user and no contract is harmed
-    beyond WHY          it can't be had
-    untried TRIAL PART  this is meant to fail for it, and was not seen yet
+    beyond WHY          no test can show it
+    untried TRIAL PART  this is meant to fail for it, and was not seen to fail yet
 
 The programs are built without a proof (unproved.py), in some 45 seconds of a processor each. Then tests/runs, the
-tests of the crate, tests/memory_faults and a part of tests/model are run until one fails, and before them the part that the
-table tells of; what fails is tried again, since a busy machine fails tests that wait. What fails with no plant isn't
-counted.
+tests of the crate, tests/memory_faults and a part of tests/model are run until one fails, and before them the part that
+ends.txt names. What fails is tried again, since on a busy machine tests that wait can fail. What fails without a bug
+does not count.
 
-With --proofs the check of its crate is asked first of each plant, over the work that is kept in out/, and only what it
-lets through is tried by tests. With FILEs these edits are tried and no others: those of crates/NAME/must-fail too,
-where a check has let one through. Their end is 'clause', unless the table has another.
+With --proofs the check of its crate is asked about each bug first, over the work that is kept in out/, and only what it
+lets through is tried by tests. With FILEs these edits are tried and no others. They may be those of
+crates/NAME/must-fail, if a check has let one through; such an edit ends in 'clause' unless ends.txt says otherwise.
 
-Run it by hand, and before a release. The last line is 'N as told, M otherwise'; the status is 1 where a plant is
-found to be otherwise than the table tells (it is refused or passes newly, does not apply any more, or was untried),
-and 2 for bad words and where nothing could be judged.
+Run it by hand, and before a release. The last line is 'N as expected, M otherwise'. The status is 1 if a bug ends
+otherwise than ends.txt says: it is newly refused or newly passes, no longer applies, or was untried. It is 2 for bad
+words, and if nothing could be judged.
 
-With --applies nothing is built: each plant has to apply and to have one end in the table, and each end a plant. The
-gate does so. The last line is 'N passed, M failed' then.
+With --applies nothing is built: each bug has to apply and to have one end in ends.txt, and each end a bug. The gate does
+so. The last line is then 'N passed, M failed'.
 """
 import argparse
 import concurrent.futures
-import importlib.machinery
-import importlib.util
-import os
 import pathlib
 import shutil
 import sys
@@ -41,112 +38,105 @@ import threading
 
 # Nothing is left behind beside these files.
 sys.dont_write_bytecode = True
+sys.path.insert(1, str(pathlib.Path(__file__).resolve().parent.parent))
 
+import crates  # noqa: E402
+import refused_by_prover  # noqa: E402
 import unproved  # noqa: E402
+from crates import ROOT  # noqa: E402
+from machine import PROCESSORS  # noqa: E402
 from trials import tests_of, trials  # noqa: E402
 
 HERE = pathlib.Path(__file__).resolve().parent
-ROOT = HERE.parent.parent
-
-
-def script(name):
-    """A script of tools/ as a module."""
-    loader = importlib.machinery.SourceFileLoader(name, str(ROOT / "tools" / name))
-    module = importlib.util.module_from_spec(importlib.util.spec_from_loader(name, loader))
-    loader.exec_module(module)
-    return module
-
-
-edits = script("refused_by_prover.py")
 
 
 class Plant:
-    """An edit, with the crate that it changes and the end that is told of it."""
+    """A planted bug: an edit, with the crate that it changes and the end that ends.txt gives it."""
 
     def __init__(self, path, ends):
-        self.edit = edits.Edit.read(path)
-        # An edit of a crate's own lies in crates/NAME/must-fail, or in a folder of that.
+        self.edit = refused_by_prover.Edit.read(path)
+        # A crate's own edit is in crates/NAME/must-fail, or in a folder of that.
         of_crate = path.is_relative_to(ROOT / "crates")
         self.crate = path.relative_to(ROOT / "crates").parts[0] if of_crate else path.parent.name
         self.name = f"{self.crate}/{path.stem}"
         self.end = ends.get(self.name, "clause" if of_crate else "none")
 
-    def told_trial(self):
-        """The name of the trial that the table tells of, and its part."""
+    def expected_trial(self):
+        """Returns the name of the trial that is expected to fail for it, and its part."""
         kind, _, rest = self.end.partition(" ")
         name, _, part = rest.partition(" ")
         return (name, part) if kind in ("test", "untried") else (None, None)
 
     def changed_in(self, root):
-        """The file of a copy that it changes, and its text with the edit made, or None where it doesn't apply."""
+        """Returns the file that it changes in a copy, and that file's text with the edit made, or None if it does not apply."""
         path = root / "crates" / self.crate / self.edit.file
         return path, self.edit.made(path.read_text()) if path.is_file() else None
 
     def made_in(self, root):
-        """Makes the edit in a copy. Whether it applies there."""
+        """Makes the edit in a copy. Returns true if it applies there."""
         path, changed = self.changed_in(root)
         if changed is not None:
             path.write_text(changed)
         return changed is not None
 
 
-def told_ends():
-    """The end of each plant, as the table tells it."""
+def listed_ends():
+    """Returns the end that ends.txt gives each bug, by the bug's name."""
     lines = (HERE / "ends.txt").read_text().splitlines()
     return dict(it.split(": ", 1) for it in lines if it and not it.startswith("#"))
 
 
 def copied(to):
-    """The sources, without what was built."""
+    """Copies the sources, without what was built, to a folder. Returns the folder."""
     shutil.copytree(ROOT, to, ignore=shutil.ignore_patterns(".git", "out"))
     return to
 
 
 class Programs:
-    """The programs of a copy, each built when it is first asked for."""
+    """The programs of a copy, each built when it is first used."""
 
     def __init__(self, root, folder, fault, unchanged=None, changes=lambda name: True):
         self.root, self.folder, self.fault, self.unchanged, self.changes = root, folder, fault, unchanged, changes
-        self.made, self.lock = {}, threading.Lock()
+        self.built, self.lock = {}, threading.Lock()
 
     def __getitem__(self, name):
         if not self.changes(name):
             return self.unchanged[name]
         with self.lock:
-            if name not in self.made:
+            if name not in self.built:
                 to = self.folder / name
-                said = unproved.built(name, self.root, to)
-                if said is not None:
-                    raise self.fault(f"{name} can't be built: {said.strip()[-300:]}")
-                self.made[name] = to
-        return self.made[name]
+                output = unproved.build(name, self.root, to)
+                if output is not None:
+                    raise self.fault(f"{name} can't be built: {output.strip()[-300:]}")
+                self.built[name] = to
+        return self.built[name]
 
 
 class NotBuilt(Exception):
-    """A program with a plant that the toolchain didn't build."""
+    """A program with a planted bug that the toolchain did not build."""
 
 
 class NothingToJudgeBy(Exception):
-    """A program without one that it didn't build."""
+    """A program without a planted bug that the toolchain did not build."""
 
 
 class Judge:
-    """The programs without a plant, and what is found of a plant beside them."""
+    """The programs without a planted bug, beside which those with one are judged."""
 
-    def __init__(self, folder, below):
-        self.folder, self.below = folder, below
+    def __init__(self, folder, needs):
+        self.folder, self.needs = folder, needs
         self.root = copied(folder / "none")
         self.programs = Programs(self.root, folder, NothingToJudgeBy)
 
-    def said(self, plant):
-        """What is found of a plant: 'test ..', 'passes' or why it can't be tried."""
-        with tempfile.TemporaryDirectory(dir=self.folder) as room:
-            root = copied(pathlib.Path(room) / "copy")
+    def found_end(self, plant):
+        """Returns how a bug ends: 'test ..', 'passes', or why it can't be tried."""
+        with tempfile.TemporaryDirectory(dir=self.folder) as folder:
+            root = copied(pathlib.Path(folder) / "copy")
             if not plant.made_in(root):
                 return "does not apply"
-            programs = Programs(root, pathlib.Path(room), NotBuilt, self.programs, lambda name: plant.crate in self.below[name])
+            programs = Programs(root, pathlib.Path(folder), NotBuilt, self.programs, lambda name: plant.crate in self.needs[name])
             try:
-                for trial, names in tried_in_turn(plant, trials(tests_of(plant.crate, self.below))):
+                for trial, names in in_order(plant, trials(tests_of(plant.crate, self.needs))):
                     if not any(map(programs.changes, trial.needs)):
                         continue
                     failed = self.failed(trial, root, programs, names)
@@ -157,142 +147,139 @@ class Judge:
         return "passes"
 
     def failed(self, trial, root, programs, names):
-        """The parts that fail with a plant, twice, and not without it."""
+        """Returns the parts that fail twice with the bug, and do not fail without it."""
         failed = trial.failed_twice(root, programs, names)
         known = trial.failed_twice(self.root, self.programs, failed) & failed if failed else failed
         for part in sorted(known):
-            print(f"not counted, since it fails with no plant: {trial.name} {part}", flush=True)
+            print(f"not counted, since it fails with no bug: {trial.name} {part}", flush=True)
         return failed - known
 
 
-def tried_in_turn(plant, of_crate):
-    """The trials, each with the parts that are asked for: what the table tells of comes first."""
-    name, part = plant.told_trial()
+def in_order(plant, of_crate):
+    """Returns the trials, each with the parts to run: the part that is expected to fail comes first, then all."""
+    name, part = plant.expected_trial()
     return [*((it, {part}) for it in of_crate if it.name == name), *((it, set()) for it in of_crate)]
 
 
-def is_as_told(plant, said):
-    """Whether what was found is what the table tells: the same part of a trial fails, or none where it is allowed."""
+def is_expected(plant, found):
+    """Returns true if a bug ends as ends.txt says: the same part of a trial fails, or none if it is allowed."""
     kind = plant.end.split(" ")[0]
     if kind == "test":
-        name, part = plant.told_trial()
-        kind, _, parts = said.partition(f"test {name} ")
+        name, part = plant.expected_trial()
+        kind, _, parts = found.partition(f"test {name} ")
         return not kind and part in parts.split(", ")
     if kind == "clause":
-        return said == "refused"
-    return kind in ("allowed", "beyond") and said == "passes"
+        return found == "refused"
+    return kind in ("allowed", "beyond") and found == "passes"
 
 
 def tried_by_proof(plants, jobs):
-    """What the check of its crate says of each plant."""
-    listed, toolchain = edits.uses(), edits.kit()
+    """Yields each bug with the verdict of the check of its crate."""
+    uses = crates.listed()
     with concurrent.futures.ThreadPoolExecutor(jobs) as pool:
-        some = {crate: [it for it in plants if it.crate == crate] for crate in {it.crate for it in plants}}
-        calls = {
-            pool.submit(edits.tried, crate, [it.edit for it in of_crate], edits.check_of(crate, listed, toolchain)): of_crate
-            for crate, of_crate in some.items()
-        }
+        calls = {}
+        for crate in sorted({it.crate for it in plants}):
+            of_crate = [it for it in plants if it.crate == crate]
+            call = pool.submit(refused_by_prover.tried, crate, [it.edit for it in of_crate], refused_by_prover.check_of(crate, uses))
+            calls[call] = of_crate
         for call in concurrent.futures.as_completed(calls):
-            said, _ = call.result()
-            yield from ((it, said[it.edit]) for it in calls[call])
+            verdicts, _ = call.result()
+            yield from ((it, verdicts[it.edit]) for it in calls[call])
 
 
-def counted(plants_said):
-    """Tells each plant, and counts those that are as the table tells and the others."""
+def counted(plants_found):
+    """Prints how each bug ends. Returns how many end as ends.txt says, and how many otherwise."""
     counts = {True: 0, False: 0}
-    for plant, said in plants_said:
-        right = is_as_told(plant, said)
-        news = "" if right else f", but the table tells: {plant.end}"
-        if not right and said in ("passes", "refused"):
+    for plant, found in plants_found:
+        right = is_expected(plant, found)
+        news = "" if right else f", but ends.txt says: {plant.end}"
+        if not right and found in ("passes", "refused"):
             news = f" NEWLY{news}"
-        print(f"{plant.name}: {said}{news}", flush=True)
+        print(f"{plant.name}: {found}{news}", flush=True)
         counts[right] += 1
     return counts[True], counts[False]
 
 
-def all_said(plants, asked):
-    """What is found of each plant, as it comes."""
-    rest = [it for it in plants if asked.files or not it.end.startswith("clause")]
-    if asked.proofs:
+def all_found(plants, words):
+    """Yields each bug with how it ends, as that is found."""
+    rest = [it for it in plants if words.files or not it.end.startswith("clause")]
+    if words.proofs:
         rest = []
-        for plant, said in tried_by_proof(plants, asked.jobs):
-            if said == "LET THROUGH":
+        for plant, verdict in tried_by_proof(plants, words.jobs):
+            if verdict == "LET THROUGH":
                 rest.append(plant)
             else:
-                yield plant, said
+                yield plant, verdict
     if not rest:
         return
-    with tempfile.TemporaryDirectory(prefix="plants-") as room:
-        judge = Judge(pathlib.Path(room), crates_below())
-        with concurrent.futures.ThreadPoolExecutor(asked.jobs) as pool:
-            left = {pool.submit(judge.said, it): it for it in rest}
+    uses = crates.listed()
+    with tempfile.TemporaryDirectory(prefix="caught-") as folder:
+        judge = Judge(pathlib.Path(folder), {name: crates.with_needs([name], uses) for name in uses})
+        with concurrent.futures.ThreadPoolExecutor(words.jobs) as pool:
+            left = {pool.submit(judge.found_end, it): it for it in rest}
             for ended in concurrent.futures.as_completed(left):
                 yield left[ended], ended.result()
 
 
-def crates_below():
-    """Each crate, lowest first, with itself and all that it stands on."""
-    listed = edits.uses()
-    return {name: [name, *edits.below(name, listed)] for name in listed}
-
-
 def what_is_wrong(plants, ends):
-    """What is wrong with the plants and their table, as far as it is seen without a build."""
+    """Yields what is wrong with the bugs and ends.txt, as far as it shows without a build."""
     for plant in plants:
         if plant.changed_in(ROOT)[1] is None:
             yield f"{plant.name}: does not apply"
         if plant.end == "none":
             yield f"{plant.name}: ends.txt has no end for it"
-        name, part = plant.told_trial()
+        name, part = plant.expected_trial()
         if name == "runs" and not is_run(part):
             yield f"{plant.name}: tests/runs has no run {part}"
     names = {it.name for it in plants}
-    yield from (f"{name}: no plant has this name" for name in ends if name not in names)
+    yield from (f"{name}: no planted bug has this name" for name in ends if name not in names)
 
 
 def is_run(name):
+    """Returns true if tests/runs has a run of this name."""
     return any(f"def run_{name}(" in it.read_text() for it in (ROOT / "tests/runs").glob("*_runs.py"))
 
 
 def applies(plants, ends):
-    """Tells what is wrong, and how many plants are right. The status of the program."""
+    """Prints what is wrong, and how many bugs are right. Returns the status of the program."""
     wrong = list(what_is_wrong(plants, ends))
     print(*wrong, f"{len(plants) - len({it.partition(':')[0] for it in wrong})} passed, {len(wrong)} failed", sep="\n")
     return 1 if wrong else 0
 
 
 def parsed():
+    """Returns the parser of the command line, and what it found."""
     parser = argparse.ArgumentParser(prog="tools/caught_by_tests", description=__doc__, formatter_class=argparse.RawDescriptionHelpFormatter)
-    parser.add_argument("files", metavar="FILE", nargs="*", type=pathlib.Path, help="edits to be tried in place of those of tools/caught_by_tests")
-    parser.add_argument("--only", metavar="WORD", default="", help="the plants whose names have this word, as bq_line/ or nodelay")
-    parser.add_argument("--jobs", type=int, metavar="N", default=len(os.sched_getaffinity(0)), help="plants that are tried side by side")
-    parser.add_argument("--proofs", action="store_true", help="asks the check of its crate of each plant first, over work that is kept in out/")
-    parser.add_argument("--applies", action="store_true", help="builds nothing: sees that each plant applies, and has an end")
-    asked = parser.parse_args()
-    if asked.jobs < 1:
+    parser.add_argument("files", metavar="FILE", nargs="*", type=pathlib.Path, help="edits to try in place of those of tools/caught_by_tests")
+    parser.add_argument("--only", metavar="WORD", default="", help="the bugs that have this word in their names, as bq_line/ or nodelay")
+    parser.add_argument("--jobs", type=int, metavar="N", default=PROCESSORS, help="how many bugs are tried side by side")
+    parser.add_argument("--proofs", action="store_true", help="ask the check of its crate about each bug first, over work that is kept in out/")
+    parser.add_argument("--applies", action="store_true", help="build nothing: see that each bug applies and has an end")
+    words = parser.parse_args()
+    if words.jobs < 1:
         parser.error("--jobs takes a number from 1 on")
-    for it in asked.files:
+    for it in words.files:
         if not it.is_file():
             parser.error(f"no file {it}")
-    return parser, asked
+    return parser, words
 
 
 def main():
-    parser, asked = parsed()
-    ends = told_ends()
-    plants = [Plant(it.resolve(), ends) for it in asked.files or sorted(HERE.glob("*/*.edit"))]
-    # What a test has to see takes the shortest time.
-    plants = sorted((it for it in plants if asked.only in it.name), key=lambda it: it.told_trial()[0] is None)
+    parser, words = parsed()
+    ends = listed_ends()
+    plants = [Plant(it.resolve(), ends) for it in words.files or sorted(HERE.glob("*/*.edit"))]
+    # Those that a test is expected to catch first: they take the shortest time.
+    plants = sorted((it for it in plants if words.only in it.name), key=lambda it: it.expected_trial()[0] is None)
     if not plants:
-        parser.error(f"no plant has {asked.only!r} in its name")
-    if asked.applies:
+        parser.error(f"no planted bug has {words.only!r} in its name")
+    if words.applies:
         return applies(plants, ends)
     try:
-        right, wrong = counted(all_said(plants, asked))
+        right, wrong = counted(all_found(plants, words))
     except NothingToJudgeBy as it:
-        print(f"tools/caught_by_tests: with no plant {it}", file=sys.stderr)
+        print(f"tools/caught_by_tests: with no bug {it}", file=sys.stderr)
         return 2
-    print(f"{right} as told, {wrong} otherwise")
+    print(f"{right} as expected, {wrong} otherwise")
     return 1 if wrong else 0
 
 

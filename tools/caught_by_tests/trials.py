@@ -1,33 +1,33 @@
-"""What is tried over programs with a plant, and which parts of it fail."""
+"""The trials of programs with a planted bug, and which parts of them fail."""
 import os
 import re
 import signal
 import subprocess
 import sys
 
-from unproved import KIT
+from machine import TOOLCHAIN
 
-# How the name of a crate of tests ends.
+# The end of the name of a crate of tests.
 TEST = "_tests"
 
-# How long a trial may take, in seconds: a program that hangs is a program that was seen.
+# How long a trial may take, in seconds. A program that hangs counts as caught.
 LIMIT = 600
 
-# What fails where no part does.
+# What fails if no part of a trial does.
 AS_A_WHOLE = "(as a whole)"
 DID_NOT_END = "(did not end)"
 WHOLE = {AS_A_WHOLE, DID_NOT_END}
 
 
 class Trial:
-    """A command over built programs. What it says of a part that fails has a name in this pattern's first group."""
+    """A command over built programs. In the first group of the pattern is the name of a part that failed."""
 
     def __init__(self, name, pattern, needs, words, takes_names=False):
         self.name, self.pattern, self.needs, self.words = name, re.compile(pattern, re.M), needs, words
         self.takes_names = takes_names
 
     def failed(self, root, programs, names=()):
-        """The parts that fail; the trial itself where it names none and doesn't end well."""
+        """Returns the parts that fail, or the trial as a whole if it names none and does not end well."""
         chosen = [it for it in sorted(names) if it not in WHOLE] if self.takes_names else []
         try:
             status, output = ended([*self.words(programs), *chosen], root)
@@ -37,13 +37,13 @@ class Trial:
         return found or ({AS_A_WHOLE} if status else set())
 
     def failed_twice(self, root, programs, names=()):
-        """The parts that fail, and once more where they are tried again."""
+        """Returns the parts that fail, and fail again in a second run."""
         first = self.failed(root, programs, names)
         return first & self.failed(root, programs, first) if first else first
 
 
 def ended(words, root):
-    """The status and the output of a command, which is ended with all that it started where it takes too long."""
+    """Returns the status and the output of a command. One that takes too long is killed with all that it started."""
     streams = {"stdin": subprocess.DEVNULL, "stdout": subprocess.PIPE, "stderr": subprocess.DEVNULL}
     with subprocess.Popen(words, cwd=root, text=True, errors="replace", start_new_session=True, **streams) as process:
         try:
@@ -55,16 +55,16 @@ def ended(words, root):
 
 
 def over(folder, *names):
-    """Words that name the built programs, as --bq PATH."""
+    """Returns a call that gives the words of a test program, with the built programs as --bq PATH."""
     return lambda programs: [sys.executable, folder, *(it for name in names for it in (f"--{name}", str(programs[name])))]
 
 
 def trials(tests):
-    """The trials in their order, the quickest first: `tests` are the crates with tests of the changed one."""
+    """Returns the trials in their order, the quickest first. `tests` are the crates with tests of the changed one."""
     # The longest test takes 15 seconds of a processor without a proof, and a minute and more on a busy machine.
-    runner = [KIT / "bin/rattle-test", "--seconds", "300"]
+    runner = [TOOLCHAIN / "bin/rattle-test", "--seconds", "300"]
     return [
-        Trial("runs", r"^FAILED \w+\.run_(\w+):", ["bq", "bqd"], over("tests/runs", "bq", "bqd"), takes_names=True),
+        Trial("runs", r"^FAILED \w+\.run_(\w+)(?: \(\S+\))?:", ["bq", "bqd"], over("tests/runs", "bq", "bqd"), takes_names=True),
         *(Trial(it, r"^test (\S+) \.\.\. FAILED", [it], lambda built, it=it: [*runner, built[it]]) for it in tests),
         Trial(
             "memory_faults", r"^(.+): \d+ runs, (?!well$)", ["bq", "bqd", "bq_refused"],
@@ -77,7 +77,7 @@ def trials(tests):
     ]
 
 
-def tests_of(crate, below):
-    """The lowest crate of tests that stands on this one, and the highest, whose tests go through whole programs."""
-    found = [name for name in below if name.endswith(TEST) and crate in below[name]]
+def tests_of(crate, needs):
+    """Returns the lowest crate of tests that needs this one, and the highest, whose tests go through whole programs."""
+    found = [name for name in needs if name.endswith(TEST) and crate in needs[name]]
     return list(dict.fromkeys([*found[:1], *found[-1:]]))
