@@ -1,17 +1,16 @@
-"""Holds the pages to what is there: their commands, their options, the files and the code that they name.
+"""Checks the documentation against the tree: its commands, its options, and the files and the code that it names.
 
     python3 tests/docs --bq PATH --bqd PATH
 
-Each command of README.md, docs/OPERATING.md, docs/MOVING.md and the man pages is run with the given programs, or it
-is known why it isn't; of the other pages it is known. What pages name as code has to be in the tree, and the counts
-of docs/HEADLINE.md have to be those of the definitions. Long sentences and phrases that have a plainer form are counted
-(prose.py). The last line is 'N passed, M failed'; status 1 where one failed.
+Each command of README.md, docs/OPERATING.md, docs/MOVING.md and the man pages is run with the given programs, or there
+is a reason not to run it; those of the other pages all have one. What pages name as code has to be in the tree, and the
+counts in docs/HEADLINE.md have to be those of the definitions. Long sentences and phrases that have a plainer form are
+counted (prose.py). The last line is 'N passed, M failed', and the status is 1 if one failed.
 """
 import argparse
 import os
 import pathlib
 import re
-import signal
 import subprocess
 import sys
 
@@ -23,11 +22,12 @@ import commands
 import names
 import prose
 import reach
+import runner
 from pages import ROOT, codes, manual_commands, manuals, markdown, place, shell_lines
 
 
 def shown_commands():
-    """Each command that a page shows, once, and where it first stands."""
+    """Returns each command that a page shows, with the place where it first appears."""
     found = {}
     for page in markdown():
         for piece in [*shell_lines(page), *(it for it in codes(page) if commands.is_command(it.text))]:
@@ -39,22 +39,23 @@ def shown_commands():
 
 
 def options(programs):
-    """The options of the programs, as their help has them, and of the commands that it lists."""
+    """Returns the options in the help of the programs, and in the help of the commands that it lists."""
     found = set()
     for program in programs:
-        told = help_of(program)
-        commands_listed = re.findall(r"^    (\w+)  ", told, re.M) if "COMMAND ..." in told else []
-        for text in [told, *(help_of(program, it) for it in commands_listed)]:
+        own = help_of(program)
+        commands_listed = re.findall(r"^    (\w+)  ", own, re.M) if "COMMAND ..." in own else []
+        for text in [own, *(help_of(program, it) for it in commands_listed)]:
             found.update(re.findall(r"(?<![-\w])--?[A-Za-z][-\w]*", text))
     return found
 
 
 def help_of(*words):
+    """Returns the help of a program or of one of its commands."""
     return subprocess.run([*words, "--help"], capture_output=True, text=True, check=True).stdout
 
 
 def faults_of_commands(room):
-    """Runs the commands, and tells how many there were and what is wrong with each that doesn't go."""
+    """Runs the commands and prints those that are not run. Returns how many there are, and what is wrong with each that fails."""
     reasons, faults, shown = {}, [], shown_commands()
     for text, where in shown.items():
         try:
@@ -63,7 +64,7 @@ def faults_of_commands(room):
         except Exception as fault:
             faults.append(f"{where}: `{text}`: {fault}")
     for why, texts in reasons.items():
-        print(f"not run, since {why}: {', '.join(f'`{it}`' for it in texts)}")
+        print(f"not run, because {why}: {', '.join(f'`{it}`' for it in texts)}")
     return len(shown), faults
 
 
@@ -72,8 +73,7 @@ def main():
     parser.add_argument("--bq", required=True, help="the built program bq")
     parser.add_argument("--bqd", required=True, help="the built program bqd")
     words = parser.parse_args()
-    # Where it is begun in the background interrupts are ignored, and the programs would take that over.
-    signal.signal(signal.SIGINT, signal.default_int_handler)
+    runner.allow_interrupts()
     programs = [os.path.abspath(words.bq), os.path.abspath(words.bqd)]
     room = commands.Room(*programs)
     try:

@@ -2,17 +2,16 @@
 
     python3 tests/operator --bqd PATH [--beanstalkd PATH] [--chromium PATH] [--gate] [NAME ..]
 
-Each goes beside bqd, or beside a server made here that answers what it is told to. If beanstalkd is given, what works
-with it too is run beside it as well, and with Chromium the page is looked at. The gate runs those that take no measure of time. The last line is 'N passed, M failed', and the status is 1 if one failed.
+Each run goes beside bqd, or beside a server made here that gives prepared answers. With beanstalkd, what works with it
+too is run beside it as well. With Chromium the page is looked at. The gate runs those that do not measure time. The last
+line is 'N passed, M failed', and the status is 1 if one failed.
 """
 import argparse
 import functools
 import os
 import pathlib
 import re
-import signal
 import sys
-import traceback
 
 # Nothing is left behind beside these files.
 sys.dont_write_bytecode = True
@@ -22,33 +21,22 @@ import browser_runs
 import canned_runs
 import ctl_runs
 import move_runs
+import runner
 import server_runs
 import web_runs
 from beanstalkd import Beanstalkd
 from servers import Server
 
-# The runs, by their files.
-FILES = [canned_runs, server_runs, ctl_runs, move_runs, web_runs, browser_runs]
+MODULES = [canned_runs, server_runs, ctl_runs, move_runs, web_runs, browser_runs]
 
-# Those of the gate: they neither wait for a moment nor measure how long something takes.
+# The runs of the gate: they neither wait for a moment nor measure how long something takes.
 GATE = re.compile(r"_(ctl|move)_(?!.*interrupted)|_move$|_web_(bad|labels|history|page|paths|limits|names|forged)")
 
 
-def passes(run, words):
-    """Returns whether a run goes as it has to, and prints what went wrong."""
-    try:
-        run(*words)
-        return True
-    except Exception:
-        print(f"FAILED {run.__module__}.{run.__name__}: {run.__doc__}")
-        traceback.print_exc(file=sys.stdout)
-        return False
-
-
 def kinds(bqd, beanstalkd, chromium):
-    """What the runs of each kind are given, by how their names begin: each run goes once with each of these words.
+    """Returns the arguments for the runs of each kind, by how their names begin: each run goes once with each list.
 
-    A run beside each server is given what starts one: a call that takes the server's words.
+    A run beside each server gets a call that starts one, and takes the server's words.
     """
     found = {"run_": [[]], "bqd_run_": [[bqd]], "each_run_": [[functools.partial(Server, bqd)]]}
     if beanstalkd:
@@ -64,23 +52,19 @@ def main():
     parser.add_argument("--bqd", required=True, help="the built program bqd")
     parser.add_argument("--beanstalkd", help="the program beanstalkd")
     parser.add_argument("--chromium", help="the program chromium")
-    parser.add_argument("--gate", action="store_true", help="those alone that the gate runs")
-    parser.add_argument("names", nargs="*", help="the runs whose names have one of these words; all, unless given")
+    parser.add_argument("--gate", action="store_true", help="only those that the gate runs")
+    runner.add_names(parser)
     words = parser.parse_args()
-    # Where it is begun in the background interrupts are ignored, and the programs would take that over.
-    signal.signal(signal.SIGINT, signal.default_int_handler)
-    passed, failed = 0, 0
-    for name, run in [pair for file in FILES for pair in vars(file).items()]:
-        kind = name[: name.find("run_") + len("run_")]
-        if words.names and not any(it in name for it in words.names) or words.gate and not GATE.search(name):
-            continue
-        for given in kinds(os.path.abspath(words.bqd), words.beanstalkd, words.chromium).get(kind, []):
-            if passes(run, given):
-                passed += 1
-            else:
-                failed += 1
-    print(f"{passed} passed, {failed} failed")
-    return 1 if failed or not passed else 0
+    runner.allow_interrupts()
+    given = kinds(os.path.abspath(words.bqd), words.beanstalkd, words.chromium)
+    runs = [(kind, run) for module in MODULES for kind in given for run in runner.functions(module, kind)]
+    return runner.run_all([
+        runner.Test(run, arguments)
+        for kind, run in runs
+        if runner.is_chosen(run, words.names) and (not words.gate or GATE.search(run.__name__))
+        for arguments in given[kind]
+    ])
 
 
-sys.exit(main())
+if __name__ == "__main__":
+    sys.exit(main())

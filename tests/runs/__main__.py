@@ -2,16 +2,13 @@
 
     python3 tests/runs --bq PATH --bqd PATH [--engine threads|event-loop] [--lanes N] [NAME ..]
 
-Every text and number that is wanted here is one of the documents': README.md, docs/OPERATING.md and
-docs/PROTOCOL.md. The last line is 'N passed, M failed', and the status is 1 where one failed.
+Every text and number that is expected here comes from the documents: README.md, docs/OPERATING.md and docs/PROTOCOL.md.
+The last line is 'N passed, M failed', and the status is 1 if a run failed.
 """
 import argparse
-import concurrent.futures
-import multiprocessing
 import os
 import pathlib
 import sys
-import traceback
 
 # Nothing is left behind beside these files.
 sys.dont_write_bytecode = True
@@ -26,38 +23,25 @@ import memory_runs
 import notices_runs
 import preloaded
 import rest_runs
+import runner
 import waiting_runs
 from queue_model import engines
 
 # How many runs go side by side unless chosen: most of them wait most of the time.
 LANES = 2
 
-
-def runs_of(module):
-    """The runs of a module: its functions whose names begin with 'run_'."""
-    return [value for name, value in vars(module).items() if name.startswith("run_")]
+OF_BQD = [bqd_runs, answers_runs, crowd_runs, fault_runs, memory_runs, notices_runs, rest_runs, waiting_runs]
 
 
-def all_runs(bq, bqd, engine):
-    """All runs, each with its program: those of bqd by each engine for which they are, or by this one alone."""
-    for run in runs_of(bq_runs):
-        yield run, bq
-    of_bqd = [bqd_runs, answers_runs, crowd_runs, fault_runs, memory_runs, notices_runs, rest_runs, waiting_runs]
+def all_tests(bq, bqd, engine):
+    """Yields all runs as tests: those of bqd by each engine that they are meant for, or by this one only."""
+    for run in runner.functions(bq_runs, "run_"):
+        yield runner.Test(run, [bq], "bq")
     for program in engines.engines_of(bqd, engine):
-        for module in of_bqd:
-            for run in runs_of(module):
+        for module in OF_BQD:
+            for run in runner.functions(module, "run_"):
                 if program.name in getattr(run, "engines", engines.ENGINES):
-                    yield run, program
-
-
-def said_of(run, program):
-    """What went wrong with a run, or None where it goes as it has to."""
-    try:
-        run(program)
-        return None
-    except Exception:
-        engine = getattr(program, "name", "bq")
-        return f"FAILED {run.__module__}.{run.__name__} ({engine}): {run.__doc__}\n{traceback.format_exc()}"
+                    yield runner.Test(run, [program], program.name)
 
 
 def main():
@@ -66,24 +50,13 @@ def main():
     parser.add_argument("--bqd", required=True, help="the built program bqd")
     engines.add_choice(parser)
     parser.add_argument("--lanes", type=int, default=LANES, help="how many runs side by side")
-    parser.add_argument("names", nargs="*", help="the runs whose names have one of these words; all, unless given")
+    runner.add_names(parser)
     words = parser.parse_args()
-    chosen = [
-        (run, program)
-        for run, program in all_runs(os.path.abspath(words.bq), os.path.abspath(words.bqd), words.engine)
-        if not words.names or any(name in run.__name__ for name in words.names)
-    ]
-    # The lanes share them, and their folders go with this process.
+    tests = all_tests(os.path.abspath(words.bq), os.path.abspath(words.bqd), words.engine)
+    # Built here, since all lanes use them; their folders are removed when this process ends.
     for name in ("faults", "held"):
         preloaded.library(name)
-    passed, failed = 0, 0
-    with concurrent.futures.ProcessPoolExecutor(words.lanes, multiprocessing.get_context("fork")) as pool:
-        for said in pool.map(said_of, *zip(*chosen)) if chosen else []:
-            passed, failed = passed + (said is None), failed + (said is not None)
-            if said is not None:
-                print(said, end="", flush=True)
-    print(f"{passed} passed, {failed} failed")
-    return 1 if failed or not passed else 0
+    return runner.run_all([it for it in tests if runner.is_chosen(it.run, words.names)], words.lanes)
 
 
 if __name__ == "__main__":

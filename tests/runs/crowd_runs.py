@@ -4,9 +4,9 @@ import concurrent.futures
 import time
 
 from faults import faults
-from waiting_runs import ANSWER, ASK, often
 from programs import same
 from servers import Server, all_wait
+from waiting_runs import ANSWER, ASK, all_ask_at_one_moment, often
 
 # How late an answer may come, in seconds. A seat that isn't woken looks again only after its rest, and where it has
 # waited for some time that is a second.
@@ -45,14 +45,7 @@ def run_kick_for_many(bqd):
 
 def run_many_ask_at_one_moment(bqd):
     """Of 250 clients that ask at the same moment, and then all wait, each is answered."""
-    many, rounds = 250, 20
-    with Server(bqd, "--seats", str(many)) as server:
-        clients = [server.client() for _ in range(many)]
-        for _ in range(rounds):
-            for client in clients:
-                client.sends(ASK)
-            for client in clients:
-                client.hears(ANSWER)
+    all_ask_at_one_moment(bqd, 250, 250, 20)
 
 
 def run_delay_after_an_hour(bqd):

@@ -173,16 +173,21 @@ def run_others_beside_one_that_does_not_read(bqd):
             stopped.hears(b"FOUND 1 %d\r\n%s\r\n" % (size, body))
 
 
+def all_ask_at_one_moment(bqd, seats, number, rounds):
+    """Fails unless each of some clients is answered that ask at the same moment, and then all wait."""
+    with Server(bqd, "--seats", str(seats)) as server:
+        clients = [server.client() for _ in range(number)]
+        for _ in range(rounds):
+            for client in clients:
+                client.sends(ASK)
+            for client in clients:
+                client.hears(ANSWER)
+
+
 def run_no_step_is_left_over(bqd):
     """Of clients that ask at the same moment, and then all wait, each is answered."""
     for number, rounds in ((2, 3000), (4, 2000), (16, 300)):
-        with Server(bqd, "--seats", "16") as server:
-            clients = [server.client() for _ in range(number)]
-            for _ in range(rounds):
-                for client in clients:
-                    client.sends(ASK)
-                for client in clients:
-                    client.hears(ANSWER)
+        all_ask_at_one_moment(bqd, 16, number, rounds)
 
 
 def run_ends_while_seats_are_busy(bqd):
@@ -213,67 +218,55 @@ def run_ends_while_seats_are_busy(bqd):
     often(tried)
 
 
-def run_idle_server_is_not_woken(bqd):
-    """While 200 clients say nothing, no thread of the server wakes."""
-    with Server(bqd, "--seats", "201") as server:
-        for _ in range(200):
+def measured_at_rest(bqd, silent, waiting, rest, measure):
+    """Measures a server beside clients that say nothing and others that wait, once they have done so for some seconds.
+
+    `measure` returns None, or what is wrong.
+    """
+    with Server(bqd, "--seats", str(silent + waiting + 1)) as server:
+        for _ in range(silent):
             server.client().asks(ASK, ANSWER)
-        time.sleep(0.2)
-
-        def tried():
-            before = server.times_woken()
-            time.sleep(1)
-            return server.times_woken() - before or None
-        often(tried)
+        for _ in range(waiting):
+            server.client().sends(b"reserve\r\n")
+        time.sleep(rest)
+        often(lambda: measure(server))
 
 
-def run_idle_server_takes_no_time(bqd):
-    """While 200 clients say nothing, the server takes no processor time."""
-    with Server(bqd, "--seats", "201") as server:
-        for _ in range(200):
-            server.client().asks(ASK, ANSWER)
-        time.sleep(0.2)
-        often(lambda: time_in_a_second(server))
+def woken(server, seconds, most):
+    """Returns how often the threads of the server wake in some seconds, or None if that is at most `most` times."""
+    before = server.times_woken()
+    time.sleep(seconds)
+    times = server.times_woken() - before
+    return None if times <= most else times
 
 
 def time_in_a_second(server):
-    """How much processor time the server takes in a second, in seconds, or None if that is a twentieth at most."""
+    """Returns how much processor time the server takes in a second, in seconds, or None if that is at most a twentieth."""
     before = server.time_worked()
     time.sleep(1)
     took = server.time_worked() - before
     return took if took > 0.05 else None
 
 
+def run_idle_server_is_not_woken(bqd):
+    """While 200 clients say nothing, no thread of the server wakes."""
+    measured_at_rest(bqd, 200, 0, 0.2, lambda server: woken(server, 1, 0))
+
+
+def run_idle_server_takes_no_time(bqd):
+    """While 200 clients say nothing, the server takes no processor time."""
+    measured_at_rest(bqd, 200, 0, 0.2, time_in_a_second)
+
+
 def run_those_who_wait_are_seldom_woken(bqd):
     """While 50 clients have waited for some time, the server's threads wake at most 60 times a second in all."""
-    with Server(bqd, "--seats", "50") as server:
-        for _ in range(50):
-            server.client().sends(b"reserve\r\n")
-        time.sleep(2)
-
-        def tried():
-            before = server.times_woken()
-            time.sleep(2)
-            woken = server.times_woken() - before
-            return None if woken <= 120 else woken
-        often(tried)
+    measured_at_rest(bqd, 0, 50, 2, lambda server: woken(server, 2, 120))
 
 
 @of_loop
 def run_loop_is_not_woken(bqd):
     """While 200 clients say nothing and 50 wait, an event loop isn't woken at all."""
-    with Server(bqd, "--seats", "250") as server:
-        for _ in range(200):
-            server.client().asks(ASK, ANSWER)
-        for _ in range(50):
-            server.client().sends(b"reserve\r\n")
-        time.sleep(0.5)
-
-        def tried():
-            before = server.times_woken()
-            time.sleep(2)
-            return server.times_woken() - before or None
-        often(tried)
+    measured_at_rest(bqd, 200, 50, 0.5, lambda server: woken(server, 2, 0))
 
 
 def run_gone_after_a_long_wait(bqd):
