@@ -1,12 +1,12 @@
-"""Requests for memory refused in turn, over the programs that were built.
+"""Refuses each allocation of the built programs in turn, and checks what they do.
 
     python3 tests/memory_faults --bq PATH --bqd PATH --library PATH [--engine NAME] [--minutes M] [--self-check]
 
-A small library (refuse.c) is loaded before libc's own and answers the Nth request of the program with
-NULL. Each case is run for N = 1, 2, .. until a run ends in which no request was refused, and what the
-program did has to be one of the outcomes that the rules leave. Runs are bounded in count and in time, and
-servers listen on loopback alone. With --self-check programs that are broken on purpose (broken.py) are
-swept in place of these, and each has to be found. The last line is 'N passed, M failed'; the status is 1 where one failed.
+A small library (refuse.c) is loaded before libc's own, and answers the Nth request of the program for memory with NULL.
+Each case is run for N = 1, 2, .. until a run ends in which no request was refused. What the program did has to be one of
+the outcomes that the rules allow. Runs are bounded in number and in time, and servers listen on loopback only. With
+--self-check programs that are broken on purpose (broken.py) are swept instead, and each has to be found. The last line is
+'N passed, M failed', and the status is 1 if one failed.
 """
 import argparse
 import pathlib
@@ -28,14 +28,14 @@ import session_cases  # noqa: E402
 
 
 def library(folder):
-    """Builds the library that refuses."""
+    """Builds the library that refuses memory. Returns its path."""
     made = f"{folder}/librefuse.so"
     subprocess.run(["cc", "-O2", "-shared", "-fPIC", "-o", made, HERE / "refuse.c", "-ldl"], check=True)
     return made
 
 
 def broken_cases(bq, library_calls, folder):
-    """A case for each broken program: it is well where the sweep finds it."""
+    """Yields a case for each broken program, which passes if the sweep finds the bug."""
     for name, (turn, always) in broken.SESSIONS.items():
         cases = dict(session_cases.cases(broken.Broken(bq, turn, always)))
         yield name, lambda it=cases["bq: put"]: found(it)
@@ -47,18 +47,18 @@ def broken_cases(bq, library_calls, folder):
 
 
 def found(case):
-    """The case turned round: it is wrong where the sweep finds nothing."""
+    """Runs a case, which has to fail."""
     runs, wrong = case()
     return runs, None if wrong else "the sweep lets it through"
 
 
 def main():
-    parser = argparse.ArgumentParser(description=__doc__, formatter_class=argparse.RawDescriptionHelpFormatter)
+    parser = argparse.ArgumentParser(prog="tests/memory_faults", description=__doc__, formatter_class=argparse.RawDescriptionHelpFormatter)
     parser.add_argument("--bq", required=True)
     parser.add_argument("--bqd", required=True)
     parser.add_argument("--library", required=True, help="the tests of bq_refused")
     engines.add_choice(parser)
-    parser.add_argument("--minutes", type=float, default=10, help="begin no further case after so many minutes")
+    parser.add_argument("--minutes", type=float, default=10, help="begin no further case after this many minutes")
     parser.add_argument("--self-check", action="store_true", help="sweep programs that are broken on purpose")
     asked = parser.parse_args()
     begun, passed, failed = time.monotonic(), 0, 0
@@ -73,7 +73,7 @@ def main():
             cases = broken_cases(bq, library_calls, folder)
         for name, case in cases:
             if time.monotonic() - begun > 60 * asked.minutes:
-                print(f"{name}: not begun, the time is over")
+                print(f"{name}: not begun, time is up")
                 failed += 1
                 continue
             runs, wrong = case()

@@ -14,10 +14,10 @@ from refusal import each_in_turn
 TEST = "told::all_calls"
 TOLD = (pathlib.Path(__file__).resolve().parent / "library_told.txt").read_bytes() + b"\ntest result: ok\n"
 
-# The steps of the client that holds a job, with what it is answered: those that come with ample memory, and those from then
-# on. Behind each of these comes a tick, which is answered nothing.
+# The steps of a client that holds a job, each with its answer. After each of those that need no memory comes a tick,
+# which has no answer.
 HELD = "told::held_job_without_memory"
-HELD_AMPLE = [
+HELD_STEPS = [
     (b"connect", b""),
     (b"put", b"INSERTED 1\r\n"),
     (b"put", b"INSERTED 2\r\n"),
@@ -25,8 +25,6 @@ HELD_AMPLE = [
     (b"reserve", b"RESERVED 1 1\r\nx\r\n"),
     (b"reserve", b"RESERVED 2 1\r\ny\r\n"),
     (b"bury 2 0", b"BURIED\r\n"),
-]
-HELD_WITHOUT = [
     (b"bury 1 0", b"BURIED\r\n"),
     (b"kick 5", b"KICKED 2\r\n"),
     (b"kick 5", b"KICKED 1\r\n"),
@@ -36,6 +34,8 @@ HELD_WITHOUT = [
     (b"release 1 0 0", b"RELEASED\r\n"),
     (b"close", None),
 ]
+# How many of them come with ample memory.
+HELD_AMPLE = 7
 
 # What may come of a call where one request was refused, beside `made`.
 OUTCOMES = {
@@ -125,8 +125,8 @@ def told_of(step, answer):
 
 def held_job(program):
     """The steps of a client that holds a job. From its first bury on a request that is refused changes nothing that is told."""
-    ticks = [it for step in HELD_WITHOUT for it in (step, (b"tick", b""))]
-    told = b"steps: begun\n" + b"".join(told_of(*it) for it in HELD_AMPLE + ticks) + b"\ntest result: ok\n"
+    ticked = [it for step in HELD_STEPS[HELD_AMPLE:] for it in (step, (b"tick", b""))]
+    told = b"steps: begun\n" + b"".join(told_of(*it) for it in HELD_STEPS[:HELD_AMPLE] + ticked) + b"\ntest result: ok\n"
     full = program.run([], b"")
     if full != (0, told, b""):
         return 1, f"status {full[0]} though nothing was refused, and it tells {full[1][-120:]!r}"
