@@ -15,7 +15,7 @@ SENTENCE = 30
 CELL = 40
 
 # How many of each there may be. The aim is 0.
-BUDGETS = {"long sentences in pages": 33, "long cells in pages": 26, "phrases in pages": 126, "phrases in comments": 494}
+BUDGETS = {"long sentences in pages": 33, "long cells in pages": 26, "phrases in pages": 126, "phrases in comments": 492}
 
 # Phrases that a reader has to translate, each with its plainer form.
 PHRASES = {
