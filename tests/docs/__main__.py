@@ -2,10 +2,11 @@
 
     python3 tests/docs --bq PATH --bqd PATH
 
-Each command of README.md, docs/OPERATING.md, docs/MOVING.md and the man pages is run with the given programs, or there
-is a reason not to run it; those of the other pages all have one. What pages name as code has to be in the tree, and the
-counts in docs/HEADLINE.md have to be those of the definitions. Long sentences and phrases that have a plainer form are
-counted (prose.py). The last line is 'N passed, M failed', and the status is 1 if one failed.
+Each command of README.md, docs/OPERATING.md, docs/MOVING.md and the man pages is run with the given programs, or it
+is known why it isn't; of the other pages it is known. What pages name as code or link to has to be in the tree. The
+counts of docs/HEADLINE.md have to be those of the definitions, and the diagram of docs/ARCHITECTURE.md that of
+crates.txt. Long sentences and phrases that have a plainer form are counted (prose.py). The last line is 'N passed, M
+failed'; status 1 if one failed.
 """
 import argparse
 import os
@@ -19,6 +20,7 @@ sys.dont_write_bytecode = True
 sys.path.insert(1, str(pathlib.Path(__file__).resolve().parent.parent / "runs"))
 
 import commands
+import layers
 import names
 import prose
 import reach
@@ -84,6 +86,8 @@ def main():
             faults += [] if known else [f"{where}: `{text}` isn't there"]
         held += 1
         faults += reach.faults()
+        held += 1
+        faults += layers.faults()
         held += len(prose.BUDGETS)
         faults += prose.faults()
     finally:
