@@ -41,9 +41,14 @@ PHRASE = re.compile("|".join(PHRASES), re.M)
 COMMENTS = {".rt": r"^\s*//[/!]? ?(.*)$", ".antt": r"^\s*-- ?(.*)$", ".py": r"^\s*# (.*)$"}
 
 
+def without_code(text):
+    """The text with a word for each piece of code, which may be a fixed text of the programs."""
+    return re.sub(r"`[^`]*`", "code", text)
+
+
 def words(text):
     """The words of a text; what stands as code is one word."""
-    return re.sub(r"`[^`]*`", "code", text).split()
+    return without_code(text).split()
 
 
 def paragraphs(page):
@@ -103,7 +108,7 @@ def found():
         for sentence in [] if is_cell else sentences(piece.text):
             if len(words(sentence)) > SENTENCE:
                 counted["long sentences in pages"].append(piece._replace(text=sentence))
-        counted["phrases in pages"] += [piece._replace(text=it[0]) for it in PHRASE.finditer(piece.text)]
+        counted["phrases in pages"] += [piece._replace(text=it[0]) for it in PHRASE.finditer(without_code(piece.text))]
     for piece in comments():
         counted["phrases in comments"] += [piece._replace(text=it[0]) for it in PHRASE.finditer(piece.text)]
     return counted
