@@ -1,5 +1,5 @@
--- What a command leaves: all that every part of a step keeps, and at most one client more that waits or
--- is answered.
+-- What a command leaves: everything that each part of a step keeps, and at most one more client
+-- that waits or is answered.
 use Rattle.std.proofs.Common.{◌⊎◌, ℕ, zero, suc, ◌≡◌, ◌≤◌, ◌+◌, Bool, true, not, cond, List, [], ◌∷◌, map, arith, refl, ap, ◌∙◌, inl, inr, Option, Some, None}
 use Rattle.std.proofs.lemmas.{Bool.{and_from, cases_Bool, cond_both, eqb-true, or_right}, Grind.common_steps}
 use Rattle.std.specs.{List.{AllByRecursion as All, Contains}, Prelude.{◌==◌, count_by}}
@@ -40,7 +40,7 @@ leaves_jobs m n answer h same = leaves_telling m n answer h (let e : waiting_cou
 pub held_here : (m : Machine) (s : SeatRecord) (j : Job) → Contains m.seats s → s.connected ≡ true → is_held_by s.number j ≡ true → has_holder m.seats j ≡ true
 held_here m s j there c held = grind (arith, common_steps, or_right, list_any_with, and_from)
 
--- a job that is changed for who asks
+-- a job that is changed for the client that asks
 holder_stays : (m : Machine) (s : SeatRecord) (j k : Job) → Contains m.seats s → s.connected ≡ true → (k ≡ j) ⊎ IsFreeOrOwn s k → has_holder m.seats j ≡ true → has_holder m.seats k ≡ true
 holder_stays m s j k there c h held = grind (arith, common_steps, held_here)
 
@@ -51,7 +51,7 @@ kept_of_quiet_seat number f m h same stays waits_as =
     (all_always (λ s. s.number ≡ number → IsMild s (f s)) m.seats
     (λ s e. record { number = same s; stays = λ c. stays s ∙ c; waits = λ w. rw (waits_as s, stays s) w }))
 
--- A change of one seat that makes nobody wait makes no more wait.
+-- A change of one seat that makes no client wait does not add a waiting client.
 no_more_wait : (number : ℕ) (f : SeatRecord → SeatRecord) (m : Machine) → ((s : SeatRecord) → is_waiting (f s) ≡ true → is_waiting s ≡ true) → waiting_count (with_seat number f m) ≤ waiting_count m
 no_more_wait number f m less = grind (arith, common_steps, count_of_map, all_always, cond_both)
 
@@ -63,7 +63,7 @@ leaves_seat number f m answer h same stays waits_as =
 at_most_one : (b : Bool) → cond b 1 0 ≤ 1
 at_most_one b = grind (arith, common_steps, cases_Bool)
 
--- A change of one seat makes at most one client more wait.
+-- A change of one seat adds at most one waiting client.
 one_more_waits : (f : SeatRecord → SeatRecord) (low n number : ℕ) (seats : List SeatRecord) → map (λ s. s.number) seats ≡ numbers low n → count_by is_waiting (map (λ s. cond (s.number == number) (f s) s) seats) ≤ count_by is_waiting seats + 1
 one_more_waits f low n number [] e = omega arith
 one_more_waits f low zero number (s ∷ seats) e = absurd cc

@@ -41,7 +41,7 @@ after_closed m seat =
     (λ e. record { id = refl; tube = refl; body = refl; ready = λ h. absurd (held_not_ready seat j e h); held = λ h. inr (told_if_given_up steps.Close j.id j.state left h (free_by_delay m.settings.requeue_delay m.moment) (itself_told j.id)) })
     (λ e. becomes_itself steps.Close j))
 
--- whatever became of the memory that it wanted
+-- whether or not memory was lacking
 pub after_acted : (memory : Memory) (m : Machine) (seat : ℕ) (what : Step) → Ids m → After what m (acted memory m seat what).machine
 after_acted memory m seat what ids = each_acted m seat (λ what e. After what m e.machine) (record {
   nothing = λ what. after_itself what m;

@@ -1,4 +1,4 @@
--- Where in a step's answers each RESERVED, INSERTED and DELETED stands, and what is so then.
+-- The places of RESERVED, INSERTED and DELETED among a step's answers, and what holds there.
 use Rattle.std.proofs.Common.{ℕ, ◌≡◌, Bool, true, false, not, List, [], ◌∷◌, ◌++◌, arith, refl, sym, ap, ◌∙◌, subst, inl, inr, ◌⊎◌, Option, Some, None, append-nil}
 use Rattle.std.proofs.lemmas.{Bool.{both_ways, cases_Bool, or_from}, Grind.common_steps}
 use Rattle.std.proofs.lemmas.List.{Elements.Contains-append_cases, Folds.list_any-append}
@@ -15,7 +15,7 @@ use Rattle.bq_job.proofs.{DispatchLemmas.{reserved_is_least, turn_of}, EffectKin
 use Rattle.bq_job.proofs.{ListLemmas.{all_always, all_at, all_of_filter}, LookupLemmas.found_job, OwnAnswerLemmas.Tells}
 use Rattle.bq_job.proofs.OwnAnswerLemmas.{drains_acted, tells_acted}
 
--- an element of two lists that are joined: in the first, or in the second
+-- an element of two joined lists: in the first, or in the second
 pub record InFirst {X : Type 0} (xs ys early : List X) (x : X) (more : List X) : Type 0 where
   pub rest : List X
   pub first_is : xs ≡ early ++ x ∷ rest
@@ -38,7 +38,7 @@ all_in_place {X = X} P xs early x more e h = go early (subst (All P) e h)
     go [] h = h.0
     go (y ∷ early) h = go early h.1
 
--- A wait that ends gives none of these answers,
+-- A wait that ends gives none of these answers.
 abbrev AreCommon : List GivenAnswer → Type 0
 AreCommon given = All (λ g. is_common (Some g.1) ≡ true) given
 
@@ -47,7 +47,7 @@ ends_are_common m [] n chain = tt
 ends_are_common m (g ∷ given) n chain =
     grind (arith, common_steps, end_of, ends_are_common chain.0 given n chain.2)
 
--- and dispatch only RESERVED and OUT_OF_MEMORY.
+-- Dispatch gives only RESERVED and OUT_OF_MEMORY.
 abbrev is_of_dispatch : Answer → Bool
 is_of_dispatch (answers.Reserved id body) = true
 is_of_dispatch answers.OutOfMemory = true
@@ -98,7 +98,7 @@ common_not answer h i = both_ways (is_common (Some answer)) h i
 reserves_by_id : (m : Machine) (seat : ℕ) (what : Step) (e : Effect) (id : ℕ) (body : List ℕ) → Tells m seat what e → e.answer ≡ Some (answers.Reserved id body) → what ≡ steps.Ask (requests.ReserveJob id)
 reserves_by_id m seat what e id body h is = grind (arith, common_steps, cases_Bool, common_not)
 
--- the part of a step in which an answer stands
+-- the part of a step that gives an answer
 data Place (handed ended own handed_then ended_then early : List GivenAnswer) (x : GivenAnswer) (more : List GivenAnswer) : Type 0 where
   in_handed : (rest : List GivenAnswer) → handed ≡ early ++ x ∷ rest → Place handed ended own handed_then ended_then early x more
   in_ended : (begin rest : List GivenAnswer) → ended ≡ begin ++ x ∷ rest → Place handed ended own handed_then ended_then early x more
@@ -183,7 +183,7 @@ none_joined xs ys h i = list_any-append (λ (g : GivenAnswer). is_inserted g.1) 
 own_none : (m : Machine) (seat : ℕ) (what : Step) (e : Effect) → Tells m seat what e → m.draining ≡ true → has_inserted (addressed seat e.answer) ≡ false
 own_none m seat what e tells d = grind (arith, common_steps, or_from, both_ways)
 
--- what is so of a step that begins while draining, and of one whose command begins it
+-- what holds of a step that begins while draining, and of one whose command begins draining
 pub record StaysDraining (given : List GivenAnswer) (last : Machine) : Type 0 where
   pub draining : last.draining ≡ true
   pub none : has_inserted given ≡ false

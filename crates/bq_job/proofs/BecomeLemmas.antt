@@ -1,4 +1,4 @@
--- What becomes of a job that a command changes: who held it, and what is told of it.
+-- What a command makes of a job: who held it, and which happening is recorded.
 use Rattle.std.proofs.Common.{ℕ, zero, suc, ◌≡◌, Bool, true, false, ◌||◌, cond, List, [], ◌∷◌, refl, Some, arith}
 use Rattle.std.proofs.lemmas.Bool.{and_parts, or_cases, or_left, or_right, cond_both, eqb-true, eq-eqb, cases_Bool}
 use Rattle.std.proofs.lemmas.Grind.{common_steps}
@@ -11,7 +11,7 @@ use Rattle.bq_job.specs.declared.job.JobState.TheVariants as states
 use Rattle.bq_job.proofs.{ChangeLemmas.{Becomes, becomes_itself}, ListLemmas.{all_from_members, all_of_filter}}
 use Rattle.bq_job.proofs.{ListLemmas.all_weaker, LookupLemmas.job_found}
 
--- a job that is ready or delayed is held by nobody
+-- no client holds a job that is ready or delayed
 pub free_by_delay : (delay moment : ℕ) → is_reserved (delayed_by delay moment) ≡ false
 free_by_delay delay moment = cond_both (delay == 0) states.Ready (states.Delayed (later moment delay)) (λ s. is_reserved s ≡ false) (λ e. refl) (λ e. refl)
 
@@ -21,14 +21,14 @@ held_not_ready seat j h i = grind (arith, common_steps)
 pub put_aside_not_held : (s : JobState) → (is_buried s || is_delayed s) ≡ true → is_reserved s ≡ true → ⊥
 put_aside_not_held s h i = grind (arith, common_steps, cases_Bool)
 
--- A held job that its holder gives up is told of,
+-- If a holder gives up a job, that is recorded.
 pub told_if_given_up : (what : Step) (id : ℕ) (before after : JobState) → is_reserved before ≡ true → is_reserved after ≡ false → list_any (disturbs id) (given_up what id) ≡ true → list_any (disturbs id) (change what id before after) ≡ true
 told_if_given_up what id before after held free told = grind (arith, common_steps, cases_Bool)
 
 pub itself_told : (id : ℕ) → ((id == id) || false) ≡ true
 itself_told id = or_left (id == id) false (eq-eqb id id refl)
 
--- what holds of all holds of all in order, and of the first of them
+-- what holds of all elements holds of them in order, and of the first of them
 all_put_in_order : (P : Job → Type 0) (before : Job → Job → Bool) (j : Job) (jobs : List Job) → P j → All P jobs → All P (put_in_order before j jobs)
 all_put_in_order P before j [] h i = (h, tt)
 all_put_in_order P before j (k ∷ jobs) h i =
@@ -43,7 +43,7 @@ all_of_take P zero jobs h = tt
 all_of_take P (suc n) [] h = tt
 all_of_take P (suc n) (j ∷ jobs) h = (h.0, all_of_take P n jobs h.1)
 
--- the job of the list, which nobody holds
+-- a job of the list that no client holds
 abbrev pub IsAside : List Job → Job → Type 0
 IsAside jobs k = (job_with k.id jobs ≡ Some k) × (is_reserved k.state ≡ true → ⊥)
 
@@ -66,6 +66,6 @@ chosen_not_held jobs [] j found h any held = absurd cc
 chosen_not_held jobs (k ∷ chosen) j found h any held =
     grind (arith, common_steps, or_cases, eqb-true, chosen_not_held jobs chosen j)
 
--- Where the job of one id changes, each job of the list becomes what it may.
+-- If the job of one id changes, each job of the list becomes what it may.
 pub one_becomes : (what : Step) (id : ℕ) (f : Job → Job) (jobs : List Job) (next : ℕ) (j : Job) → AreIdsWithin 1 jobs next → job_with id jobs ≡ Some j → Becomes what j (f j) → (k : Job) → Contains jobs k → Becomes what k (cond (k.id == id) (f k) k)
 one_becomes what id f jobs next j ids found becomes k i = grind (arith, common_steps, cond_both, eqb-true, job_found, becomes_itself)

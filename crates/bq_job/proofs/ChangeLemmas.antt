@@ -1,4 +1,4 @@
--- What a command does to the list of jobs, and the happenings that are told of it.
+-- What a command does to the list of jobs, and the happenings that are recorded.
 use Rattle.std.proofs.Common.{ℕ, suc, ◌≡◌, Bool, true, false, not, cond, List, [], ◌∷◌, ◌++◌, map, arith, refl, sym, ap, ◌∙◌, subst, inl, inr, ◌⊎◌, Option, Some, None, rules}
 use Rattle.std.proofs.lemmas.Bool.{or_left, or_right, or_cases, both_ways, cond_both, eqb-true, eq-eqb, false_from_ne_true, cases_Bool}
 use Rattle.std.proofs.{Common.map-id, lemmas.{Grind.common_steps, List.Folds.list_any-append}}
@@ -11,8 +11,8 @@ use Rattle.bq_job.proofs.JobMoves.{Fate, Move, quiet, putting, is_plain}
 use Rattle.bq_job.proofs.ListLemmas.{all_from_members, all_of_append, all_of_filter, all_of_map, all_weaker, list_any_with}
 use Rattle.bq_job.proofs.LookupLemmas.{found_job, job_found, job_in_map, job_in_more, job_in_rest}
 
--- By the command a job becomes this one: of the same id, tube and body. If it was ready, it is ready as
--- before, and if it was held, it is held, or else what happened to it is told.
+-- The command makes `k` of the job `j`: same id, tube and body. If it was ready it still is, and if
+-- it was held it still is; otherwise what happened to it is recorded.
 pub record Becomes (what : Step) (j k : Job) : Type 0 where
   pub id : k.id ≡ j.id
   pub tube : k.tube ≡ j.tube
@@ -23,8 +23,8 @@ pub record Becomes (what : Step) (j k : Job) : Type 0 where
 pub becomes_itself : (what : Step) (j : Job) → Becomes what j j
 becomes_itself what j = record { id = refl; tube = refl; body = refl; ready = λ h. inl (h, refl); held = λ h. inl h }
 
--- the jobs and the next id before and after a command: jobs changed, one was removed, or one was added for
--- which there was a place
+-- the jobs and the next id before and after a command: jobs changed, one was removed, or one was
+-- added within the limit
 pub data JobsAfter (what : Step) (limit : Option ℕ) (jobs : List Job) (next : ℕ) (later : List Job) (next_then : ℕ) : Type 0 where
   changed : (f : Job → Job) → later ≡ map f jobs → next_then ≡ next → ((j : Job) → (f j).id ≡ j.id) → ((j : Job) → Contains jobs j → Becomes what j (f j)) → JobsAfter what limit jobs next later next_then
   removed_one : (id : ℕ) → removed what id ≡ deleted id ∷ [] → later ≡ filter (λ k. not (k.id == id)) jobs → next_then ≡ next → JobsAfter what limit jobs next later next_then
@@ -57,11 +57,11 @@ none_of_parts : {X Y : Type 0} (g : X → List Y) (xs : List X) → All (λ x. g
 none_of_parts g [] h = refl
 none_of_parts g (x ∷ xs) h = rw (h.0, none_of_parts g xs h.1) refl
 
--- each job of the list is one that there was
+-- each job of the list existed before
 were_there : (jobs : List Job) (next : ℕ) → AreIdsWithin 1 jobs next → All (λ j. is_none (job_with j.id jobs) ≡ false) jobs
 were_there jobs next ids = all_from_members (λ j. is_none (job_with j.id jobs) ≡ false) jobs (λ j i. ap is_none (job_found 1 next jobs j ids i).0)
 
--- Where no job is new, what is told is plain.
+-- If no job is new, only plain happenings are recorded.
 plain_changes : (what : Step) (before after : List Job) → All (λ j. is_none (job_with j.id before) ≡ false) after → All (λ h. is_plain h ≡ true) (changes what before after)
 plain_changes what before after old = search (rules, all_of_append, all_of_parts, plain_change_or_removal, none_kept)
 
@@ -98,7 +98,7 @@ removed_fate : (what : Step) (before after : List Job) (gone id : ℕ) (o : Opti
 removed_fate what before after gone id o told e g =
     grind (arith, common_steps, cond_both, id, found_job, list_any-append, any_in_parts, list_any_with, eqb-true, or_left, eq-eqb)
 
--- A command is a move: quiet, or a put.
+-- A command is a move: a quiet one, or a put.
 pub move_of_jobs : (what : Step) (m n : Machine) → AreIdsWithin 1 m.jobs m.next_id → JobsAfter what m.settings.max_jobs m.jobs m.next_id n.jobs n.next_id → Move m (changes what m.jobs n.jobs) n
 move_of_jobs what m n ids (changed f after next same becomes) =
     let lookup : (id : ℕ) → job_with id n.jobs ≡ option_map f (job_with id m.jobs) = λ id. ap (job_with id) after ∙ job_in_map f id m.jobs same in

@@ -1,4 +1,5 @@
--- The first of those that pass a test: it is one of the list, it passes, and none that passes comes before it.
+-- The first of those that pass a test: it is in the list, it passes, and no other that passes comes
+-- before it.
 use Rattle.std.proofs.Common.{◌||◌, ◌∙◌, ◌∷◌, ◌≡◌, ◌⊎◌, Bool, List, None, Option, Some, [], ℕ, ap, arith, false, inl, inr, refl, subst, sym, true}
 use Rattle.std.proofs.{Common.◌==◌, lemmas.Bool.{and_parts, cases_Bool, Decides.nat_tests}}
 use Rattle.std.proofs.lemmas.{Grind.common_steps, List.Elements.{All-contains, All-from_recursion}}
@@ -7,26 +8,26 @@ use Rattle.std.specs.{Cmp.IsStrictWeakOrder, List.{AllByRecursion, Contains, lis
 use Rattle.bq_job.specs.machine.{better_of, first_of, is_pair_before}
 use Rattle.bq_job.proofs.ListLemmas.{contains_head, contains_tail}
 
--- pairs of numbers, by the first and then by the second
+-- pairs of numbers, ordered by the first and then by the second
 pub pair_order : {X : Type 0} (first second : X → ℕ) → IsStrictWeakOrder (λ x y. is_pair_before (first x) (second x) (first y) (second y))
 pair_order first second = record { one_way = λ x y h. grind (arith, nat_tests); chain = λ x y z h i. grind (arith, nat_tests) }
 
--- Of two pairs of which the second numbers differ, one comes first.
+-- Of two pairs with different second numbers, one comes first.
 pub pair_other : (a i b j : ℕ) → is_pair_before b j a i ≡ false → (j == i) ≡ false → is_pair_before a i b j ≡ true
 pair_other a i b j h other = grind (arith, nat_tests)
 
--- what the choice so far has to be beside the one that is chosen in the end
+-- what the choice so far must satisfy with respect to the final choice
 abbrev IsNotAfter : {X : Type 0} → (X → X → Bool) → Option X → X → Type 0
 IsNotAfter before None z = Unit {0}
 IsNotAfter before (Some b) z = before b z ≡ false
 
--- Nothing in the list that passes comes before the one that is chosen, nor did the best one so far.
+-- Nothing in the list that passes comes before the chosen one, nor did the best one so far.
 fold_is_least : {X : Type 0} (passes : X → Bool) {before : X → X → Bool} (order : IsStrictWeakOrder before) (best : Option X) (xs : List X) (z : X) → fold (better_of passes before) best xs ≡ Some z → IsNotAfter before best z × AllByRecursion (λ y. passes y ≡ true → before y z ≡ false) xs
 fold_is_least passes {before = before} order best [] z h = (subst (λ b. IsNotAfter before b z) (sym h) (grind (arith, order.one_way, cases_Bool)), tt)
 fold_is_least passes {before = before} order best (x ∷ xs) z h =
     grind (arith, common_steps, fold_is_least passes order (better_of passes before best x) xs z h)
 
--- nobody that passes comes before the chosen one
+-- nothing that passes comes before the chosen one
 pub first_of_is_least : {X : Type 0} (passes : X → Bool) {before : X → X → Bool} (order : IsStrictWeakOrder before) (xs : List X) (z y : X) → first_of passes before xs ≡ Some z → Contains xs y → passes y ≡ true → before y z ≡ false
 first_of_is_least passes {before = before} order xs z y h i p =
     All-contains (λ y. passes y ≡ true → before y z ≡ false) xs y
@@ -55,29 +56,30 @@ fold_is_some passes before (Some b) [] = refl
 fold_is_some passes before best (x ∷ xs) =
     grind (arith, common_steps, or_assoc, fold_is_some passes before (better_of passes before best x) xs)
 
--- One is chosen exactly where one passes.
+-- An element is chosen if and only if one passes.
 pub first_of_is_some : {X : Type 0} (passes : X → Bool) (before : X → X → Bool) (xs : List X) → is_some (first_of passes before xs) ≡ list_any passes xs
 first_of_is_some passes before xs = fold_is_some passes before None xs
 
--- where none is chosen, none passes
+-- if none is chosen, none passes
 pub first_of_none : {X : Type 0} (passes : X → Bool) (before : X → X → Bool) (xs : List X) → first_of passes before xs ≡ None → list_any passes xs ≡ false
 first_of_none passes before xs h = sym (first_of_is_some passes before xs) ∙ ap is_some h
 
--- where none passes, none is chosen
+-- if none passes, none is chosen
 pub first_of_none_passes : {X : Type 0} (passes : X → Bool) (before : X → X → Bool) (xs : List X) → list_any passes xs ≡ false → first_of passes before xs ≡ None
 first_of_none_passes passes before xs h = none_chosen (first_of passes before xs) (first_of_is_some passes before xs ∙ h)
   where
     none_chosen : {X : Type 0} (o : Option X) → is_some o ≡ false → o ≡ None
     none_chosen o e = grind (arith, common_steps)
 
--- one that passes is no reason to choose none
+-- if one passes, one is chosen
 pub first_of_some : {X : Type 0} (passes : X → Bool) (before : X → X → Bool) (xs : List X) → list_any passes xs ≡ true → (z : X) × (first_of passes before xs ≡ Some z)
 first_of_some passes before xs h = one_chosen (first_of passes before xs) (first_of_is_some passes before xs ∙ h)
   where
     one_chosen : {X : Type 0} (o : Option X) → is_some o ≡ true → (z : X) × (o ≡ Some z)
     one_chosen o e = grind (arith, common_steps)
 
--- What is in the list and passes is the chosen one, if none that passes comes before it and no other ties with it.
+-- An element of the list that passes is the chosen one if none that passes comes before it and no
+-- other ties with it.
 pub first_of_is : {X : Type 0} (passes : X → Bool) {before : X → X → Bool} (order : IsStrictWeakOrder before) (xs : List X) (x : X) → Contains xs x → passes x ≡ true → ((y : X) → Contains xs y → passes y ≡ true → before y x ≡ false) → ((y : X) → Contains xs y → before x y ≡ false → before y x ≡ false → y ≡ x) → first_of passes before xs ≡ Some x
 first_of_is passes {before = before} order xs x i p least unique =
     let z = first_of_some passes before xs (list_any-from_Any passes xs (i.0, x, i.1, i.2, p)) in
@@ -90,6 +92,6 @@ fold_agrees p q before best [] h = refl
 fold_agrees p q before best (x ∷ xs) h =
     grind (arith, common_steps, fold_agrees p q before (better_of q before best x) xs h.1)
 
--- Two tests that agree on the list choose the same.
+-- Two tests that agree on the list choose the same element.
 pub first_of_agrees : {X : Type 0} (p q : X → Bool) (before : X → X → Bool) (xs : List X) → AllByRecursion (λ x. p x ≡ q x) xs → first_of p before xs ≡ first_of q before xs
 first_of_agrees p q before xs h = fold_agrees p q before None xs h

@@ -1,4 +1,4 @@
--- What a step gives to one client: to the one that takes it, and to every other.
+-- What a step gives to one client: to the client that takes it, and to every other one.
 use Rattle.std.proofs.Common.{ℕ, ◌≡◌, ◌<◌, ◌+◌, Bool, true, false, ◌&&◌, ◌||◌, List, [], ◌∷◌, ◌++◌, map, length, length-append, append_assoc, arith, refl, sym, ap, ◌∙◌, subst, inl, inr, Option, Some, None}
 use Rattle.std.proofs.lemmas.{Bool.{and_parts, both_ways, cases_Bool, cond_both}, Grind.common_steps}
 use Rattle.std.specs.{List.AllByRecursion as All, Prelude.{◌==◌, IsTrue}}
@@ -17,7 +17,7 @@ use Rattle.bq_job.proofs.{ChoiceLemmas.first_of_none, DispatchLemmas.turn_of, Ke
 use Rattle.bq_job.proofs.{LawfulLemmas.{end_of, step_is_lawful}, ReplyLemmas.{replies_acted, replies_effect}}
 use Rattle.bq_job.proofs.ReplyLemmas.{stays_acted, told, told_elsewhere}
 
--- the parts of a step, to one client
+-- the parts of a step, as one client sees them
 record Parts (client : ℕ) (first last : Machine) (seat : ℕ) (what : Step) (given : List GivenAnswer) : Type 0 where
   memory : Memory
   before : Machine
@@ -40,7 +40,7 @@ parts_of client first last at seat what outcome given s = record {
   given_is = grind (arith, common_steps, append_assoc);
 }
 
--- A command tells nobody anything, and the client waits and is connected as before.
+-- A command gives the client no answer, and the client waits and is connected as before.
 gets_quiet : (client : ℕ) (first last : Machine) (seat : ℕ) (what : Step) (given : List GivenAnswer) → Parts client first last seat what given → step_takes_memory what ≡ false → ((m : Machine) → (effect m seat what).answer ≡ None) → ((m : Machine) → waits_in client ((effect m seat what).machine).seats ≡ waits_in client m.seats) → ((m : Machine) → connected_in client ((effect m seat what).machine).seats ≡ connected_in client m.seats) → GetsWhatWaits first last client (answers_to client given)
 gets_quiet client first last seat what given p takes untold waits connects =
     grind (arith, common_steps, answers_append, unclosed_append)
@@ -67,7 +67,7 @@ no_length xs h = grind (arith, common_steps, cases_Bool)
 answers_of_parts : (seat : ℕ) (o : Option Answer) (early late given : List GivenAnswer) → given ≡ early ++ (addressed seat o ++ late) → answers_to seat given ≡ answers_to seat early ++ (told o ++ answers_to seat late)
 answers_of_parts seat o early late given e = grind (arith, common_steps, answers_append)
 
--- Where nobody is connected nobody waits.
+-- If no client is connected at the seat, none waits there.
 unconnected_waits_not : (seat : ℕ) (seats : List SeatRecord) → All (λ s. is_open_wait s ≡ true) seats → connected_in seat seats ≡ false → waits_in seat seats ≡ false
 unconnected_waits_not seat seats waits c =
     list_any_not (λ s. s.number == seat && is_waiting s) seats
@@ -133,7 +133,7 @@ tick_gives_client first last at seat client outcome given s =
 over_by_end : (waits soon past ended : Bool) → ended ≡ true → (waits && (soon || (past || ended))) ≡ false → waits ≡ false
 over_by_end waits soon past ended e h = grind (arith, common_steps, cases_Bool)
 
--- Who sends no more waits no more: no wait would end after the step.
+-- A client that sends no more does not wait: no wait would end after the step.
 gives_end : (first last : Machine) (seat : ℕ) (given : List GivenAnswer) → IsLawful first → IsLawful last → seat < first.settings.seats → Parts seat first last seat steps.End given → connected_in seat first.seats ≡ true → owing seat last ≡ 0
 gives_end first last seat given h i there p c =
     let m = p.before in
@@ -171,7 +171,7 @@ step_gives_client first last at seat steps.Tick outcome given h there s = tick_g
 step_gives_client first last at seat steps.Gone outcome given h there s =
     gets_quiet seat first last seat steps.Gone given (parts_of seat first last at seat steps.Gone outcome given s) refl (λ m. refl) (λ m. refl) (λ m. refl)
 
--- A connected client that asks, whether it waits or not.
+-- A connected client makes a request, whether it waits or not.
 pub asks_at_most : (first last : Machine) (at seat : ℕ) (request : Request) (outcome : Outcome) (given : List GivenAnswer) → IsLawful first → seat < first.settings.seats → is_connected_at seat first ≡ true → IsStep first at seat (steps.Ask request) outcome given last → GetsAtMost first last seat request (answers_to seat given)
 asks_at_most first last at seat request outcome given h there c step =
     let p : Parts seat first last seat (steps.Ask request) given = parts_of seat first last at seat (steps.Ask request) outcome given step in
@@ -193,7 +193,7 @@ others_give first last at seat client what outcome given other step =
     let p : Parts client first last seat what given = parts_of client first last at seat what outcome given step in
     grind (arith, common_steps, stays_acted, answers_append, told_elsewhere, unclosed_append)
 
--- settings stay in turns
+-- turns keep the settings
 chain_settings : (Turns : Machine → GivenAnswer → Machine → Type 0) (first : Machine) (given : List GivenAnswer) (last : Machine) → ((m : Machine) (g : GivenAnswer) (n : Machine) → Turns m g n → n.settings ≡ m.settings) → Chain Turns first given last → last.settings ≡ first.settings
 chain_settings Turns first [] last each chain = ap (λ (n : Machine). n.settings) chain
 chain_settings Turns first (g ∷ given) last each chain = chain_settings Turns chain.0 given last each chain.2 ∙ each first g chain.0 chain.1

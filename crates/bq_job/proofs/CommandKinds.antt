@@ -1,4 +1,4 @@
--- Of which kind each command is: the one list of cases over all requests.
+-- The kind of each command: the only case split over all requests.
 use Rattle.std.proofs.Common.{◌||◌, ◌≡◌, ◌≤◌, ◌⊎◌, Bool, List, None, Some, ℕ, ap, arith, cond, false, inl, inr, not, refl, true}
 use Rattle.std.proofs.lemmas.{Bool.{and_parts, cond_both, eq-eqb}, Grind.common_steps}
 use Rattle.std.specs.{List.list_any, Prelude.{◌==◌, filter, length, take}}
@@ -17,11 +17,11 @@ use Rattle.bq_job.proofs.EffectKinds.{IsFreeOrOwn, Kind, SaysDone, adds, changes
 use Rattle.bq_job.proofs.{ChangeLemmas.{Becomes, becomes_itself}, LookupLemmas.{found_job, job_found}}
 use Rattle.bq_job.proofs.WatchedLemmas.{none_twice_filter, watched_still}
 
--- an answer that says that the command was carried out, and no RESERVED
+-- an answer that says that the command was carried out, other than RESERVED
 says : {request : Request} (answer : Answer) → answers_wanted request ≡ 1 → is_closed_answer answer ≡ false → is_refusal answer ≡ false → is_common (Some answer) ≡ true → SaysDone request answer
 says answer wanted unclosed done common = record { wanted = wanted; unclosed = unclosed; done = done; own = inl common }
 
--- a command on the job of an id: it finds one that passes, or answers NOT_FOUND
+-- a command on the job with an id: it finds one that passes, or is answered NOT_FOUND
 on_one : (request : Request) (id : ℕ) (test : Job → Bool) (act : Job → Effect) (m : Machine) (s : SeatRecord) → answers_wanted request ≡ 1 → ((j : Job) → job_with id m.jobs ≡ Some j → test j ≡ true → Kind m s request (act j)) → Kind m s request (on_job id test act m)
 on_one request id test act m s one each = grind (arith, common_steps, tells, cond_both)
 

@@ -12,14 +12,14 @@ use Rattle.bq_job.specs.beside.Computed.{Served, ample, after_dispatch, after_se
 use Rattle.bq_job.proofs.ChoiceLemmas.{first_of_contains, first_of_none_passes, first_of_passes, first_of_some}
 use Rattle.bq_job.proofs.ListLemmas.{all_always, all_weaker, count_falls, count_none, list_any_not, list_any_with}
 
--- One client fewer waits once this one's wait is over.
+-- One client fewer waits once this client's wait has ended.
 pub waiting_falls : (m : Machine) (s : SeatRecord) → Contains m.seats s → is_waiting s ≡ true → waiting_count (with_seat s.number without_wait m) < waiting_count m
 waiting_falls m s i w = grind (arith, common_steps, count_falls, all_always, list_any_with)
 
 handed_out_turns : (rest : Machine → Served) (m : Machine) (o : Option Job) → ((n : Machine) → Chain DispatchTurn n (rest n).given (rest n).machine) → next_job m ≡ o → Chain DispatchTurn m (handed_out rest m o).given (handed_out rest m o).machine
 handed_out_turns rest m o goes e = grind (arith, common_steps, cases_Bool)
 
--- Every turn of dispatch that is computed is a turn,
+-- Every computed turn of dispatch is a turn.
 pub dispatched_turns : (turns : ℕ) (m : Machine) → Chain DispatchTurn m (dispatched turns m).given (dispatched turns m).machine
 dispatched_turns zero m = refl
 dispatched_turns (suc turns) m = handed_out_turns (λ next. dispatched turns next) m (next_job m) (λ n. dispatched_turns turns n) refl
@@ -34,13 +34,13 @@ dispatched_shared (suc turns) m = handed_out_shared (λ next. dispatched turns n
 none_waits : (m : Machine) → waiting_count m ≤ 0 → next_job m ≡ None
 none_waits m w = search (rules, count_none, first_of_none_passes, list_any_not, all_always, all_weaker, and_left)
 
--- The next job has a next client,
+-- The next job has a next client.
 pub next_has_seat : (m : Machine) (j : Job) → next_job m ≡ Some j → (s : SeatRecord) × (next_seat m j ≡ Some s)
 next_has_seat m j e =
     first_of_some (is_waiting_for m j) is_wait_before m.seats
     (first_of_passes (λ j. list_any (is_waiting_for m j) m.seats) is_job_before m.jobs j e)
 
--- who is at a seat, waits and may have the job.
+-- The next client is at a seat, waits and may have the job.
 pub next_seat_waits : (m : Machine) (j : Job) (s : SeatRecord) → next_seat m j ≡ Some s → Contains m.seats s × (is_waiting s ≡ true) × (may_have m s j ≡ true)
 next_seat_waits m j s f =
     let parts = and_parts (is_waiting s) (may_have m s j) (first_of_passes (is_waiting_for m j) is_wait_before m.seats s f) in
@@ -56,7 +56,7 @@ handed_out_all : (rest : Machine → Served) (turns : ℕ) (m : Machine) (o : Op
 handed_out_all rest turns m None goes w e = e
 handed_out_all rest turns m (Some j) goes w e = handed_to_all rest turns m j (next_seat m j) goes w e refl
 
--- and with as many turns as clients wait, none is next in the end.
+-- After as many turns as there are waiting clients, there is no next job.
 pub dispatched_all : (turns : ℕ) (m : Machine) → waiting_count m ≤ turns → next_job (dispatched turns m).machine ≡ None
 dispatched_all zero m w = none_waits m w
 dispatched_all (suc turns) m w = handed_out_all (λ next. dispatched turns next) turns m (next_job m) (λ n. dispatched_all turns n) w refl
@@ -65,7 +65,7 @@ ended_at_turns : (rest : Machine → Served) (m : Machine) (o : Option SeatRecor
 ended_at_turns rest m None goes e = refl
 ended_at_turns rest m (Some s) goes e = (with_seat s.number without_wait m, (rw e (refl, refl)), goes (with_seat s.number without_wait m))
 
--- Every end of a wait that is computed is one,
+-- Every computed end of a wait is one.
 pub wait_ended_turns : (turns : ℕ) (m : Machine) → Chain WaitEndTurn m (wait_ended turns m).given (wait_ended turns m).machine
 wait_ended_turns zero m = refl
 wait_ended_turns (suc turns) m = ended_at_turns (λ next. wait_ended turns next) m (next_end m) (λ n. wait_ended_turns turns n) refl
@@ -73,7 +73,7 @@ wait_ended_turns (suc turns) m = ended_at_turns (λ next. wait_ended turns next)
 none_ends : (m : Machine) → waiting_count m ≤ 0 → next_end m ≡ None
 none_ends m w = search (rules, first_of_none_passes, list_any_not, all_weaker, and_left, count_none)
 
--- who is next to stop waiting is at a seat and waits
+-- the client whose wait ends next is at a seat and waits
 pub next_end_waits : (m : Machine) (s : SeatRecord) → next_end m ≡ Some s → Contains m.seats s × (is_waiting s ≡ true)
 next_end_waits m s e = (
   first_of_contains (ends_waiting m) is_wait_before m.seats s e,
@@ -86,7 +86,7 @@ ended_at_all rest turns m (Some s) goes w e =
     let h = next_end_waits m s e in
     goes (with_seat s.number without_wait m) (omega (arith, waiting_falls m s h.0 h.1))
 
--- and with as many turns as clients wait, no wait would end in the end.
+-- After as many turns as there are waiting clients, no further wait would end.
 pub wait_ended_all : (turns : ℕ) (m : Machine) → waiting_count m ≤ turns → next_end (wait_ended turns m).machine ≡ None
 wait_ended_all zero m w = none_ends m w
 wait_ended_all (suc turns) m w = ended_at_all (λ next. wait_ended turns next) turns m (next_end m) (λ n. wait_ended_all turns n) w refl

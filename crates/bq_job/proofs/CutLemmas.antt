@@ -27,7 +27,7 @@ closes_unclosed [] h = refl
 closes_unclosed (answers.Closed ∷ xs) h = absurd (omega arith)
 closes_unclosed (x ∷ xs) h = closes_unclosed xs h
 
--- as many `Closed` as lines are given, and no fewer were taken
+-- there is one `Closed` for each line, and all of them were taken
 pub parts_close : (mosts : List ℕ) (given : List Answer) → AreParts mosts given → closes given ≡ length mosts
 parts_close [] given h = ap closes h
 parts_close (most ∷ mosts) given h =
@@ -38,8 +38,8 @@ lines_close size [] own taken h = omega arith
 lines_close size (line ∷ lines) own taken h =
     grind (arith, common_steps, closes_append, lines_close size lines h.1 h.3 h.7)
 
--- A list is cut at its first `Closed` in one way. No case is made for each kind of answer: that would be one for
--- each two of them.
+-- A list is cut at its first `Closed` in only one way. Splitting by kind of answer would need a
+-- case for each pair of kinds.
 pub same_cut : (xs ys later rest : List Answer) → has_closed xs ≡ false → has_closed ys ≡ false → xs ++ answers.Closed ∷ later ≡ ys ++ answers.Closed ∷ rest → (xs ≡ ys) × (later ≡ rest)
 same_cut [] [] later rest h i e = (refl, (heads answers.Closed answers.Closed later rest e).1)
 same_cut [] (y ∷ ys) later rest h i e = absurd (grind (arith, common_steps))

@@ -31,7 +31,7 @@ next_is_least m j s e f =
           (list_any_with (is_waiting_for m k) m.seats s w.0 (and_from (is_waiting s) (may_have m s k) w.1 h));
     }
 
--- What a turn of dispatch gives with RESERVED is the least job that the client may have.
+-- The RESERVED that a turn of dispatch gives is for the least job that the client may have.
 pub reserved_is_least : (m next : Machine) (seat id : ℕ) (body : List ℕ) → DispatchTurn m (seat, answers.Reserved id body) next → GetsLeast m seat id body
 reserved_is_least m next seat id body turn = of_hand_out (turn_of m (seat, answers.Reserved id body) next turn)
   where

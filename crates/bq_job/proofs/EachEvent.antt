@@ -1,4 +1,5 @@
--- What an event can do to the machine, so that what holds of each thing is seen once to hold of its effect.
+-- What an event can do to the machine. A property of each possibility is a property of every
+-- event's effect.
 use Rattle.std.proofs.{Common.{◌≡◌, Some, ℕ, arith, false, true}, lemmas.Bool.{cond_both, eqb-true}}
 use Rattle.std.proofs.lemmas.Grind.{common_steps}
 use Rattle.std.specs.List.{Contains}
@@ -15,8 +16,9 @@ pub record IsSeat (m : Machine) (seat : ℕ) (s : SeatRecord) : Type 0 where
   pub number : s.number ≡ seat
   pub there : Contains m.seats s
 
--- It holds of all that an event at the seat can do: nothing, a client that comes, a request of one that is
--- open and doesn't wait, one that sends no more, one that is gone, and the beginning of draining.
+-- The property holds of all that an event at the seat can do: nothing, a client that connects, a
+-- request at an open seat whose client does not wait, an end of input, a close, and the beginning
+-- of draining.
 pub record HoldsOfEach (m : Machine) (seat : ℕ) (P : Step → Effect → Type 0) : Type 0 where
   pub nothing : (what : Step) → P what (silent m)
   pub connects : (s : SeatRecord) → IsSeat m seat s → P steps.Connect (silent (after_connect m s.number))
@@ -45,7 +47,7 @@ each_event m seat P h steps.Drain = h.drains
 each_event m seat P h steps.Tick = h.nothing steps.Tick
 each_event m seat P h steps.Gone = h.nothing steps.Gone
 
--- and whatever became of the memory that it wanted
+-- every event, whether or not memory was lacking
 pub each_acted : (m : Machine) (seat : ℕ) (P : Step → Effect → Type 0) → HoldsOfEach m seat P → ((what : Step) → P what (telling answers.OutOfMemory m)) → (memory : Memory) (what : Step) → P what (acted memory m seat what)
 each_acted m seat P h refused granted what = each_event m seat P h what
 each_acted m seat P h refused growth_refused what = refused what

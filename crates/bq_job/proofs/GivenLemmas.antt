@@ -1,5 +1,5 @@
--- What the seats and the core did joins: what a run gives a seat, line by line, and that this is what the
--- seat took.
+-- What the seats did fits what the core did: the answers that a run gives a seat, line by line, are
+-- those that the seat took.
 use Rattle.std.proofs.Common.{◌≡◌, ℕ, ◌+◌, ◌≤◌, ◌<◌, Bool, true, false, ◌&&◌, not, List, [], ◌∷◌, ◌++◌, map, length, refl, sym, ap, ◌∙◌, arith, subst, inl, inr, ◌⊎◌, append_assoc, rules}
 use Rattle.std.proofs.lemmas.{Bool.{and_parts, both_ways, cases_Bool}, Grind.common_steps, List.length-append}
 use Rattle.std.specs.Prelude.{◌==◌}
@@ -45,7 +45,7 @@ abbrev pub are_within : List Step → Bool
 are_within [] = true
 are_within (step ∷ taken) = is_within step && are_within taken
 
--- The run goes on from here: nobody is connected at the seat, which waits for nothing.
+-- The run goes on from here: no client is connected at the seat, and none waits.
 pub record GoesOn (t : ℕ) (more : List Step) (later : List Answer) (last : Machine) : Type 0 where
   pub first : Machine
   pub history : List Entry
@@ -57,7 +57,8 @@ pub record GoesOn (t : ℕ) (more : List Step) (later : List Answer) (last : Mac
   pub steps_are : steps_at t history ≡ more
   pub answers_are : answers_to t given ≡ later
 
--- The line at the seat ends: it was given no more than it wanted, then a `Closed`, and the run goes on.
+-- The line at the seat ends: it got at most as many answers as it wanted, then a `Closed`, and the
+-- run goes on.
 pub record LineEnds (t : ℕ) (most : ℕ) (more : List Step) (given : List Answer) (last : Machine) : Type 0 where
   pub part : List Answer
   pub later : List Answer
@@ -66,7 +67,7 @@ pub record LineEnds (t : ℕ) (most : ℕ) (more : List Step) (given : List Answ
   pub few : length part ≤ most
   pub goes : GoesOn t more later last
 
--- answers before the rest of a line
+-- answers in front of the rest of a line
 ends_after : {t less : ℕ} {more : List Step} {given : List Answer} {last : Machine} (most : ℕ) (now all : List Answer)
     → has_closed now ≡ false → length now + less ≤ most → all ≡ now ++ given → LineEnds t less more given last
     → LineEnds t most more all last
@@ -85,7 +86,8 @@ at_most e = omega arith
 at_least : {a : ℕ} (b : ℕ) → a ≤ b → a ≤ b + 0
 at_least b e = omega arith
 
--- The first entry of a history: it is a step of this seat, or gives it at most what it waits for. A run goes on behind it.
+-- The first entry of a history: it is a step of this seat, or gives it at most what it waits for. A
+-- run follows it.
 record OneEntry (t : ℕ) (m last : Machine) (e : Entry) (history : List Entry) (given : List Answer) : Type 0 where
   outcome : Outcome
   now : List GivenAnswer
@@ -163,7 +165,7 @@ line_ends t m last (e ∷ history) given ss more s c w r is =
         ends_after (owing t m + wanted ss) (answers_to t o.now) (answers_to t given) g.unclosed few o.all r'
     own o behind (x ∷ ss) w both step = absurd (both_ways false refl w)
 
--- A client connects, and is given nothing before that or by it.
+-- A client connects, and gets no answer before that or from it.
 pub record Connects (t : ℕ) (more : List Step) (given : List Answer) (last : Machine) : Type 0 where
   pub first : Machine
   pub history : List Entry
@@ -210,7 +212,7 @@ connects t m last (e ∷ history) given more s free none r is =
           subst (λ (xs : List Answer). Connects t more xs last) (sym (nothing_first now rest (answers_to t given) o.all quiet.0)) c
     ]
 
--- the steps say only that no more come
+-- the steps only report that no more come
 abbrev pub is_gone : Step → Bool
 is_gone steps.Gone = true
 is_gone _ = false
@@ -219,7 +221,7 @@ abbrev pub are_gone : List Step → Bool
 are_gone [] = true
 are_gone (step ∷ taken) = is_gone step && are_gone taken
 
--- Nothing comes behind the last line.
+-- No answer comes after the last line.
 pub nothing_behind : (t : ℕ) (m last : Machine) (history : List Entry) (given : List GivenAnswer)
     → Serves t m → owing t m ≡ 0 → Run m history given last → are_gone (steps_at t history) ≡ true → answers_to t given ≡ []
 nothing_behind t m last [] given s none r gone = ap (answers_to t) ((run_of_none m last given r).0)
@@ -241,7 +243,7 @@ nothing_behind t m last (e ∷ history) given s none r gone =
     gone_gives steps.Gone outcome now next step h = step_gives_client m next e.moment t steps.Gone outcome now s.lawful s.within step
     gone_gives what outcome now next step h = absurd (both_ways false refl h)
 
--- So much was given, line by line: each part is no longer than this, and ends by `Closed`.
+-- The answers, line by line: each part is at most this long, and ends with `Closed`.
 abbrev pub AreParts : List ℕ → List Answer → Type 0
 AreParts [] given = given ≡ []
 AreParts (most ∷ mosts) given =
@@ -256,7 +258,7 @@ wanted_append [] ys = omega arith
 wanted_append (steps.Ask r ∷ xs) ys = omega (arith, wanted_append xs ys)
 wanted_append (step ∷ xs) ys = wanted_append xs ys
 
--- what an open line asks: it is within the line, and wants so much
+-- the requests of an open line: they are within the line, and want this many answers
 within_asked : (asked : List Request) (told : List Step) → are_within told ≡ true → are_within (map steps.Ask asked ++ told) ≡ true
 within_asked [] told h = h
 within_asked (r ∷ asked) told h = within_asked asked told h

@@ -1,4 +1,4 @@
--- The headline whole, from a history and the laws of runs.
+-- The headline as a whole, from a history and the laws of runs.
 use Rattle.std.proofs.{Common.{Bool, List, Option, ℕ, arith, rules, subst}, lemmas.Grind.common_steps}
 use Rattle.bq_job.specs.laws.{AreJobsServed, HeadlineHolds, LineHeadlineHolds, happenings, parts_of_run}
 use Rattle.bq_job.specs.promise.{GoesBy, IsHistoryOf, IsHistoryOfLine, LineOver, Transition}

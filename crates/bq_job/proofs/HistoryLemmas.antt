@@ -1,4 +1,4 @@
--- A run that is computed, as part of a history; and the lines of a door, each with its steps.
+-- A computed run as part of a history, and the lines of a door with their steps.
 use Rattle.std.proofs.Common.{◌≡◌, ℕ, suc, Bool, true, false, List, [], ◌∷◌, ◌++◌, map, length, Option, ◌⊎◌, refl, ap, inl, arith, rules, subst}
 use Rattle.std.proofs.lemmas.{Bool.cases_Bool, Grind.common_steps}
 use Rattle.std.specs.List.{list_any}
@@ -12,7 +12,7 @@ use Rattle.bq_job.specs.declared.step.Step.TheVariants as steps
 use Rattle.bq_job.specs.declared.answer.Answer.TheVariants as answers
 use Rattle.bq_job.proofs.{ComputedRunLemmas.computed_goes, ReadsLemmas.reading-Reads}
 
--- all of the moments are some of them
+-- all of the moments are some of the moments
 pub picked_all : (moments : List ℕ) → ArePickedFrom moments moments
 picked_all [] = tt
 picked_all (moment ∷ moments) = inl (refl, picked_all moments)
@@ -21,7 +21,7 @@ entries_stay : (m : Machine) (history : List Entry) → map (λ t. t.entry) (tra
 entries_stay m [] = refl
 entries_stay m (e ∷ history) = ap (λ xs. e ∷ xs) (entries_stay (transition m e).last history)
 
--- what is computed over a history that is timed is a run
+-- what is computed over a timed history is a run
 pub computed_IsRun : (settings : Settings) (readings : List (Option ℕ)) (history : List Entry) → IsTimedBy readings history
     → IsRun settings readings history (given_over settings history) (machine_after (new_machine settings) history)
 computed_IsRun settings readings history timed =
@@ -34,14 +34,14 @@ computed_IsRun settings readings history timed =
       timed = timed;
     }
 
--- What is computed over a history serves these doors, where it gives each line what it is owed.
+-- What is computed over a history serves these doors if it gives each line what it is owed.
 pub served_so : (history : List Entry) (doors : List (List LineOver)) (control : List ℕ)
     → IsTimedBy (readings_of history) history → AreDoorsOwed usual 0 doors history (given_over (seated (length doors)) history)
     → IsControlDone control false (steps_at (length doors) history) → AreSeatsUpTo (length doors) history
     → AreServedOver history doors control
 served_so history doors control timed owed done nobody = search (rules, computed_IsRun)
 
--- A line all of whose text was read as these requests, of which these were asked.
+-- A line whose whole text was read as these requests; of these, `asked` were submitted.
 pub line_so : (line : LineOver) (read asked : List Request) (given : List Answer)
     → reading usual line.seen.read ≡ (read, []) → IsOverBy (heard line.seen) line.over read asked → AreAllAnswered line.over asked given
     → IsWritten line.over asked given line.seen.written
@@ -51,20 +51,20 @@ line_so line read asked given is_read over answered written =
     let s : IsStepsOfLine usual (heard line.seen) line.over (steps.Connect ∷ [] ++ map steps.Ask asked ++ [] ++ steps.Close ∷ []) = grind (arith, common_steps) in
     record { steps = s; answered = answered; written = written }
 
--- one line more, before others
+-- one more line, in front of others
 pub lines_so : (line : LineOver) (lines : List LineOver) (own more : List Step) (given later : List Answer)
     → IsLineOwed usual line own given → has_closed given ≡ false → AreLinesOwed usual lines more later
     → AreLinesOwed usual (line ∷ lines) (own ++ more) (given ++ answers.Closed ∷ later)
 lines_so line lines own more given later owed unclosed rest = (own, more, given, later, owed, unclosed, refl, refl, rest)
 
--- two readings of a text have as many requests
+-- two readings of a text have equally many requests
 pub same_many : (firsts seconds : List Request) → AreSameRequests firsts seconds → length firsts ≡ length seconds
 same_many [] [] h = refl
 same_many [] (second ∷ seconds) h = absurd h
 same_many (first ∷ firsts) [] h = absurd h
 same_many (first ∷ firsts) (second ∷ seconds) h = ap suc (same_many firsts seconds h.1)
 
--- nothing ends by a step
+-- a list that ends with a step is not empty
 pub none_behind : (xs : List Step) → [] ≡ xs ++ steps.Gone ∷ [] → ⊥
 none_behind xs e = grind (arith, common_steps, cases_Bool)
 
@@ -77,7 +77,7 @@ close_before [] ys h = absurd cc
 close_before (steps.Close ∷ xs) ys h = refl
 close_before (x ∷ xs) ys h = close_before xs ys h
 
--- where there is a line, there is a close
+-- if there is a line, there is a close
 lines_are_shut : (size : ℕ) (lines : List LineOver) (own : List Step) (given : List Answer) → AreLinesOwed size lines own given
     → (own ≡ []) ⊎ (list_any is_close own ≡ true)
 lines_are_shut size [] own given h = inl h.0

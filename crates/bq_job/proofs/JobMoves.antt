@@ -11,7 +11,7 @@ is_plain (put j) = false
 is_plain (handed_out id) = false
 is_plain _ = true
 
--- The job of an id goes on as this one, as far as these happenings do not disturb it.
+-- The job with an id goes on as this one, as far as these happenings do not disturb it.
 pub record GoesOnAs (id : ℕ) (j k : Job) (happened : List Happening) : Type 0 where
   pub same : k.id ≡ j.id
   pub tube : k.tube ≡ j.tube
@@ -19,7 +19,7 @@ pub record GoesOnAs (id : ℕ) (j k : Job) (happened : List Happening) : Type 0 
   pub ready : is_ready j ≡ true → list_any (disturbs id) happened ≡ false → (is_ready k ≡ true) × (k.pri ≡ j.pri)
   pub held : is_reserved j.state ≡ true → list_any (disturbs id) happened ≡ false → is_reserved k.state ≡ true
 
--- what becomes of the job of an id
+-- what becomes of the job with an id
 abbrev pub Fate : ℕ → List Happening → Option Job → Option Job → Type 0
 Fate id happened None after = after ≡ None
 Fate id happened (Some j) None = list_any (is_deletion id) happened ≡ true

@@ -1,4 +1,4 @@
--- What the seats and the core did joins.
+-- What the seats did fits what the core did.
 use Rattle.std.proofs.Common.{Option, ◌≡◌, ℕ, suc, ◌+◌, ◌≤◌, ◌<◌, Bool, true, false, ◌&&◌, List, [], ◌∷◌, ◌++◌, map, length, refl, sym, ap, ◌∙◌, arith, subst, inl, inr, append-nil, append_assoc}
 use Rattle.std.proofs.lemmas.{Bool.and_right, Grind.common_steps, List.length-append}
 use Rattle.std.specs.{List.list_any, Prelude.{◌==◌, IsTrue}}
@@ -15,11 +15,11 @@ use Rattle.bq_job.proofs.GivenLemmas.{AreParts, Serves, are_gone, gives_parts, m
 use Rattle.bq_job.proofs.{LawfulLemmas.new_is_lawful, OneClientLemmas.unclosed_append}
 use Rattle.std.proofs.lemmas.Bool.{cases_Bool}
 
--- where all is answered, nothing comes after it
+-- if everything is answered, no answer follows
 nothing_after : (own others : List Answer) (n : ℕ) → length own ≡ n → length (own ++ others) ≤ n → own ≡ own ++ others
 nothing_after own others n h i = grind (arith, common_steps, length-append)
 
--- what came and what was written agree with what was asked
+-- the answers and the bytes written agree with the requests
 pub record IsDone (over : LineEnd) (asked : List Request) (given : List Answer) (written : List ℕ) : Type 0 where
   pub answered : AreAllAnswered over asked given
   pub written_is : IsWritten over asked given written
@@ -35,14 +35,16 @@ is_done : (over : LineEnd) (asked : List Request) (own others : List Answer) (wr
 is_done v1 asked own others written a i w none =
     grind (arith, common_steps, cases_Bool, nothing_after, late_one)
 
--- A line that was given so much, no more than it asked for, is owed just what it took and was written.
+-- A line that was given at most as many answers as it wanted is owed exactly those that it took and
+-- wrote.
 line_owed : (size : ℕ) (line : LineOver) (own : List Step) (got part : List Answer) (l : IsLineServed size line own got) → part ≡ l.own ++ l.others → length part ≤ answered_count l.line_owed.steps.asked → IsLineOwed size line own part
 line_owed size line own got part l is few =
     let done = is_done line.over l.line_owed.steps.asked l.own l.others line.seen.written l.line_owed.answered (let e = ap length is in omega arith) l.line_owed.written l.none_unwritten in
     let done' = subst (λ (xs : List Answer). IsDone line.over l.line_owed.steps.asked xs line.seen.written) (sym is) done in
     record { steps = l.line_owed.steps; answered = done'.answered; written = done'.written_is }
 
--- Lines that took a beginning of what was given them took all of it, and each is owed just that.
+-- Lines that took a first part of what they were given took all of it, and each is owed exactly
+-- that.
 pub lines_owed : (size : ℕ) (lines : List LineOver) (own : List Step) (taken waiting given : List Answer) (h : AreLinesServed size lines own taken)
     → AreParts (most_of_lines size lines own taken h) given → given ≡ taken ++ waiting → AreLinesOwed size lines own given × (waiting ≡ [])
 lines_owed size [] own taken waiting given h parts is = grind (arith, common_steps)
@@ -64,7 +66,7 @@ lines_owed size (line ∷ lines) own taken waiting given h parts is =
     shift : (xs ys zs : List Answer) → (xs ++ (ys ++ answers.Closed ∷ [])) ++ zs ≡ (xs ++ ys) ++ answers.Closed ∷ zs
     shift xs ys zs = ap (λ (us : List Answer). us ++ zs) (sym (append_assoc xs ys (answers.Closed ∷ []))) ∙ append_assoc (xs ++ ys) (answers.Closed ∷ []) zs
 
--- At the start no seat is taken, and nobody waits.
+-- In a new machine no seat is taken, and no client waits.
 none_such : (t : ℕ) (q : SeatRecord → Bool) (xs : List ℕ) → ((n : ℕ) → q (empty_seat n) ≡ false) → list_any (λ (s : SeatRecord). s.number == t && q s) (map empty_seat xs) ≡ false
 none_such t q [] h = refl
 none_such t q (n ∷ xs) h = rw (and_right (n == t) (q (empty_seat n)) (h n)) (none_such t q xs h)
@@ -75,7 +77,7 @@ starts_free t settings = none_such t (λ s. s.connected) (numbers 0 settings.sea
 starts_quiet : (t : ℕ) (settings : Settings) → owing t (new_machine settings) ≡ 0
 starts_quiet t settings = let h = none_such t is_waiting (numbers 0 settings.seats) (λ n. refl) in rw h refl
 
--- What the run gave the seat is what its lines are owed, and nothing waits any more.
+-- What the run gave the seat is what its lines are owed, and no answer is left.
 seat_owed : (settings : Settings) (size : ℕ) (t : ℕ) (lines : List LineOver) (own tail : List Step) (taken waiting : List Answer) (history : List Entry) (all : List GivenAnswer) (last : Machine)
     → t < settings.seats → are_gone tail ≡ true → Run (new_machine settings) history all last → steps_at t history ≡ own ++ tail → answers_to t all ≡ taken ++ waiting → AreLinesServed size lines own taken
     → AreLinesOwed size lines own (answers_to t all)
@@ -121,7 +123,7 @@ line_joined settings seat line readings history given last j = record {
   of_nobody_else = j.of_nobody_else;
 }
 
--- one line more is over
+-- one more line has ended
 pub lines_more : (size : ℕ) (lines : List LineOver) (line : LineOver) (submitted more : List Step) (taken got : List Answer) → AreLinesServed size lines submitted taken → IsLineServed size line more got
     → AreLinesServed size (lines ++ line ∷ []) (submitted ++ more) (taken ++ got)
 lines_more size [] line submitted more taken got h l = grind (arith, common_steps, append-nil)

@@ -1,4 +1,4 @@
--- A job that was put is there until it is deleted, and one client at most holds it.
+-- A job is present from its put until its deletion, and at most one client holds it.
 use Rattle.std.proofs.Common.{◌++◌, ◌<◌, ◌∙◌, ◌∷◌, ◌≡◌, ◌⊎◌, List, Some, [], ap, arith, cond, false, inl, inr, refl, subst, sym}
 use Rattle.std.proofs.lemmas.Bool.{cond_both}
 use Rattle.std.proofs.lemmas.{Bool.or_parts, Grind.common_steps, List.Folds.list_any-append}
@@ -11,7 +11,7 @@ use Rattle.bq_job.proofs.{LawfulLemmas.new_is_lawful, ListLemmas.all_at, LookupL
 use Rattle.bq_job.proofs.{LookupLemmas.{job_at_end, job_found}, OrderLemmas.{put_behind, put_now_or_behind}}
 use Rattle.bq_job.proofs.{SpentLemmas.{handed_lookup, put_lookup}, StepMoves.{ArePartsGone, parts_go, run_gone}}
 
--- The job is there, in its tube and with its body.
+-- The job is present, in its tube and with its body.
 pub record IsThere (j : Job) (m : Machine) : Type 0 where
   pub job : Job
   pub found : job_with j.id m.jobs ≡ Some job
@@ -28,7 +28,7 @@ there_after j m n happened (handing g) none h =
     let seen = handed_lookup j.id m n happened g ∙ ap (option_map (λ i. cond (i.id == g.job.id) (reserved_by m.moment g.seat i) i)) h.found in
     grind (arith, common_steps, cond_both)
 
--- there now, or put by a move that comes
+-- present now, or put by a move to come
 there_or_to_come : (j : Job) (m n : Machine) (happened more : List Happening) → Move m happened n → list_any (is_deletion j.id) happened ≡ false → IsThere j m ⊎ Contains (happened ++ more) (put j) → IsThere j n ⊎ Contains more (put j)
 there_or_to_come j m n happened more move none (inl h) = inl (there_after j m n happened move none h)
 there_or_to_come j m n happened more (quiet q) none (inr i) = inr (put_behind j m n happened more (inl q) i)
@@ -42,7 +42,7 @@ there_at_end j m n (p ∷ parts) moves none h =
     let each = or_parts (list_any (is_deletion j.id) p.happened) (list_any (is_deletion j.id) (happenings parts)) (sym (list_any-append (is_deletion j.id) p.happened (happenings parts)) ∙ none) in
     there_at_end j p.machine n parts moves.1 each.1 (there_or_to_come j m p.machine p.happened (happenings parts) moves.0 each.0 h)
 
--- the parts up to one of them
+-- the parts up to and including this one
 pub record UpTo (m : Machine) (parts : List Part) (p : Part) : Type 0 where
   pub gone : ArePartsGone m parts p.machine
   pub keeps : Keeps p.machine

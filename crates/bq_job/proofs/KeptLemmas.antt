@@ -7,11 +7,11 @@ use Rattle.bq_job.specs.machine.{Machine.Machine, SeatRecord, empty_seat, given_
 use Rattle.bq_job.specs.{beside.{AreIdsWithin, IsLawful}, machine.{last_id, numbers}, Types.{Job, JobState}}
 use Rattle.bq_job.proofs.ListLemmas.{all_always, all_both, all_of_append, all_of_filter, all_of_map, all_pass, all_weaker, keys_of_map, list_any_of_map}
 
--- Whoever holds the job is connected.
+-- The job's holder is connected.
 abbrev pub has_holder : List SeatRecord → Job → Bool
 has_holder seats j = not (is_reserved j.state) || list_any (λ s. s.connected && is_held_by s.number j) seats
 
--- Whoever waits is connected.
+-- A waiting client is connected.
 abbrev pub is_open_wait : SeatRecord → Bool
 is_open_wait s = not (is_waiting s) || s.connected
 
@@ -30,7 +30,7 @@ Keeps m = Kept m.settings.seats m.jobs m.seats m.next_id m.draining
 pub kept_of_lawful : (m : Machine) → IsLawful m → Keeps m
 kept_of_lawful m h = search (rules, all_pass)
 
--- ids through changes of the list
+-- increasing ids through changes of the list
 pub ids_of_map : (f : Job → Job) (low next : ℕ) (jobs : List Job) → ((j : Job) → (f j).id ≡ j.id) → AreIdsWithin low jobs next → AreIdsWithin low (map f jobs) next
 ids_of_map f low next [] same h = h
 ids_of_map f low next (j ∷ jobs) same h = grind (arith, common_steps, ids_of_map f (suc j.id) next jobs same h.1)
@@ -48,12 +48,12 @@ pub ids_of_push : (low next : ℕ) (jobs : List Job) (j : Job) → j.id ≡ next
 ids_of_push low next [] j e h = (omega arith, omega arith)
 ids_of_push low next (k ∷ jobs) j e h = (h.0, ids_of_push (suc k.id) next jobs j e h.1)
 
--- Jobs change, each keeps its id, and whoever holds one is connected.
+-- Jobs change, each keeps its id, and every holder is connected.
 pub kept_of_jobs : {places next : ℕ} {jobs : List Job} {seats : List SeatRecord} {draining : Bool} (f : Job → Job) → Kept places jobs seats next draining → ((j : Job) → (f j).id ≡ j.id) → ((j : Job) → has_holder seats j ≡ true → has_holder seats (f j) ≡ true) → Kept places (map f jobs) seats next draining
 kept_of_jobs {next = next} {jobs = jobs} {seats = seats} f h same held =
     grind (arith, common_steps, ids_of_map, all_of_map, all_weaker)
 
--- the same where the job of one id changes
+-- the same if the job of one id changes
 pub kept_of_job : {places next : ℕ} {jobs : List Job} {seats : List SeatRecord} {draining : Bool} (id : ℕ) (f : Job → Job) → Kept places jobs seats next draining → ((j : Job) → (f j).id ≡ j.id) → ((j : Job) → has_holder seats (f j) ≡ true) → Kept places (map (λ j. cond (j.id == id) (f j) j) jobs) seats next draining
 kept_of_job {seats = seats} id f h same held =
     kept_of_jobs (λ j. cond (j.id == id) (f j) j) h
@@ -94,14 +94,14 @@ kept_of_seats {jobs = jobs} {seats = seats} f h mild = record {
       (all_both (λ s. IsMild s (f s)) (λ s. is_open_wait s ≡ true) seats mild h.waits));
 }
 
--- the same where the seat of one number changes
+-- the same if the seat of one number changes
 pub kept_of_seat : {places next : ℕ} {jobs : List Job} {seats : List SeatRecord} {draining : Bool} (number : ℕ) (f : SeatRecord → SeatRecord) → Kept places jobs seats next draining → All (λ s. s.number ≡ number → IsMild s (f s)) seats → Kept places jobs (map (λ s. cond (s.number == number) (f s) s) seats) next draining
 kept_of_seat {seats = seats} number f h mild =
     kept_of_seats (λ s. cond (s.number == number) (f s) s) h
     (all_weaker (λ s. s.number ≡ number → IsMild s (f s)) (λ s. IsMild s (cond (s.number == number) (f s) s)) seats
     (λ s c. cond_both (s.number == number) (f s) s (IsMild s) (λ e. c (eqb-true s.number number e)) (λ e. mild_itself s)) mild)
 
--- numbers from low on are at least low
+-- the numbers from `low` on are at least `low`
 pub numbers_above : (low n : ℕ) (seats : List SeatRecord) → map (λ s. s.number) seats ≡ numbers low n → All (λ s. low ≤ s.number) seats
 numbers_above low n [] e = tt
 numbers_above low zero (s ∷ seats) e = absurd cc
@@ -123,11 +123,11 @@ only_seat low (suc n) number (t ∷ seats) s e f =
       | inr b ↦ (λ i. absurd (eqb-false t.number number b i), only_seat (suc low) n number seats s rest (rw b at f))
     ]
 
--- a seat and a job when the client at this seat goes
+-- a seat and a job when the client at this seat disconnects
 abbrev emptied : ℕ → SeatRecord → SeatRecord
 emptied seat s = cond (s.number == seat) (empty_seat s.number) s
 
--- Who holds a job that isn't given back stays.
+-- If the job's holder does not disconnect, it stays connected.
 holder_stays : (seat : ℕ) (j : Job) (s : SeatRecord) → is_held_by seat j ≡ false → (s.connected && is_held_by s.number j) ≡ true → ((emptied seat s).connected && is_held_by (emptied seat s).number j) ≡ true
 holder_stays seat j s e h = grind (arith, common_steps, cond_both, and_parts, both_ways, eqb-true)
 
@@ -142,15 +142,15 @@ held_elsewhere seat seats j e h =
           (λ s. holder_stays seat j s e)) f)
     ]
 
--- A client goes: the jobs that it holds are held by nobody, and its seat is empty.
+-- A client disconnects: no client holds its jobs, and its seat is empty.
 pub kept_of_close : {places next : ℕ} {jobs : List Job} {seats : List SeatRecord} {draining : Bool} (state : JobState) (seat : ℕ) → is_reserved state ≡ false → Kept places jobs seats next draining → Kept places (map (given_back state seat) jobs) (map (λ s. cond (s.number == seat) (empty_seat s.number) s) seats) next draining
 kept_of_close {next = next} {jobs = jobs} {seats = seats} state seat free h = grind (arith, common_steps, ids_of_map, cond_both, all_of_map, all_weaker, held_elsewhere, keys_of_map, all_always)
 
--- A job is added that nobody holds.
+-- A job that no client holds is added.
 pub kept_of_push : {places next : ℕ} {jobs : List Job} {seats : List SeatRecord} {draining : Bool} (j : Job) → Kept places jobs seats next draining → draining ≡ false → j.id ≡ next → is_reserved j.state ≡ false → Kept places (jobs ++ j ∷ []) seats (next + 1) (draining || nat_le last_id next)
 kept_of_push {next = next} {jobs = jobs} {seats = seats} {draining = draining} j h opens is free = grind (arith, common_steps, ids_of_push, or_parts, leb-false, all_of_append)
 
--- Jobs are taken out.
+-- Jobs are removed.
 pub kept_of_filter : {places next : ℕ} {jobs : List Job} {seats : List SeatRecord} {draining : Bool} (p : Job → Bool) → Kept places jobs seats next draining → Kept places (filter p jobs) seats next draining
 kept_of_filter {next = next} {jobs = jobs} {seats = seats} p h =
     grind (arith, common_steps, ids_of_filter, all_weaker, all_of_filter)

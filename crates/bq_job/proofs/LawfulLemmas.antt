@@ -1,4 +1,4 @@
--- The machine is lawful at the start and after every step, and a step gives few answers.
+-- A new machine is lawful and stays so after every step, and a step gives few answers.
 use Rattle.std.proofs.Common.{ℕ, zero, suc, ◌≡◌, ◌≤◌, ◌<◌, ◌+◌, true, false, ◌&&◌, not, cond, List, [], ◌∷◌, map, length, arith, refl, sym, ap, ◌∙◌, subst, inl, inr, Option, Some, None, rules}
 use Rattle.std.proofs.lemmas.{Bool.{cases_Bool, cond_both, eq-eqb, le-leb, or_left, or_right}, Grind.common_steps}
 use Rattle.std.proofs.lemmas.List.{length-map, Sums.count_by-le-length}
@@ -18,11 +18,11 @@ use Rattle.bq_job.proofs.{ActLemmas.{Leaves, answer_count, held_here, leaves_eff
 use Rattle.bq_job.proofs.{ChoiceLemmas.{first_of_none, first_of_none_passes}, ComputedLemmas.next_end_waits}
 use Rattle.bq_job.proofs.{ComputedLemmas.{next_seat_waits, waiting_falls}, DispatchLemmas.turn_of}
 
--- what timers make of a job: ready, ready with one timeout more, or the same
+-- what timers make of a job: ready, ready with one more timeout, or unchanged
 pub after_timers_is : (moment : ℕ) (j : Job) (P : Job → Type 0) → P (in_state states.Ready j) → P (record j { state = states.Ready; counts = with_timeout j.counts }) → P j → P (job_after_timers moment j)
 after_timers_is moment j P due expired same = grind (arith, common_steps, cond_both)
 
--- Timers keep it.
+-- Timers keep the invariant.
 pub kept_of_timers : (at : ℕ) (m : Machine) → Keeps m → Keeps (forgetting (after_timers (at_moment at m)))
 kept_of_timers at m h =
     let now = (at_moment at m).moment in
@@ -30,18 +30,18 @@ kept_of_timers at m h =
     (λ j. after_timers_is now j (λ k. k.id ≡ j.id) refl refl refl)
     (λ j i. after_timers_is now j (λ k. has_holder m.seats k ≡ true) refl refl i)
 
--- A wait that is over keeps it.
+-- A wait that ends keeps the invariant.
 kept_without_wait : (number : ℕ) (m : Machine) → Keeps m → Keeps (with_seat number without_wait m)
 kept_without_wait number m h =
     kept_of_seat number without_wait h
     (all_always (λ s. s.number ≡ number → IsMild s (without_wait s)) m.seats (λ s e. record { number = refl; stays = λ c. c; waits = λ w. refl }))
 
--- A turn keeps it, and takes one waiting client away.
+-- A turn keeps the invariant, and one client fewer waits.
 pub record IsTurn (m n : Machine) : Type 0 where
   pub keeps : Keeps n
   pub waiting : waiting_count n < waiting_count m
 
--- Who waits is connected.
+-- A waiting client is connected.
 waits_connected : (m : Machine) (s : SeatRecord) → Keeps m → Contains m.seats s → is_waiting s ≡ true → s.connected ≡ true
 waits_connected m s h i w = rw w at (all_at (λ s. is_open_wait s ≡ true) m.seats s h.waits i)
 
@@ -78,7 +78,7 @@ turn_of_wait_end m given next h turn =
     let w = next_end_waits m e.client e.client_is in
     subst (IsTurn m) (sym e.next_is) (record { keeps = kept_without_wait e.client.number m h; waiting = waiting_falls m e.client w.0 w.1 })
 
--- Turns one after another keep it, and there are at most as many as clients wait.
+-- Turns one after another keep the invariant, and there are at most as many as waiting clients.
 pub record AreTurns (first : Machine) (given : List GivenAnswer) (last : Machine) : Type 0 where
   pub keeps : Keeps last
   pub waiting : length given + waiting_count last ≤ waiting_count first
@@ -88,7 +88,7 @@ turns_of_chain Turns first [] last each h chain = record { keeps = subst Keeps (
 turns_of_chain Turns first (g ∷ given) last each h chain =
     grind (arith, common_steps, turns_of_chain Turns chain.0 given last each (each first g chain.0 h chain.1).keeps chain.2)
 
--- Dispatch keeps it, and gives at most as many answers as clients wait no more.
+-- Dispatch keeps the invariant, and gives at most as many answers as clients stop waiting.
 pub turns_of_dispatches : (first : Machine) (given : List GivenAnswer) (last : Machine) → Keeps first → Dispatches first given last → AreTurns first given last
 turns_of_dispatches first given last h d =
     let t = turns_of_chain DispatchTurn first given d.end turn_of_dispatch h d.turns in
@@ -110,7 +110,7 @@ served first handed ended last h s =
     let e = turns_of_ends s.between ended last d.keeps s.ends_waits in
     record { keeps = e.keeps; waiting = let a = d.waiting in let b = e.waiting in omega arith }
 
--- What is forgotten is of tubes that don't exist, so a tube of a job is paused as before.
+-- Only records of tubes that don't exist are forgotten, so a job's tube stays paused or unpaused.
 record_kept : (m : Machine) (j : Job) (t : TubeRecord) → Contains m.jobs j → is_same_name j.tube t.name ≡ true → is_tube t.name m ≡ true
 record_kept m j t i e =
     let same : j.tube ≡ t.name = (bytes_decides j.tube t.name).0 e in
@@ -125,7 +125,7 @@ wanted_as_before m j i = ap (λ b. list_any (λ s. is_waiting s && (is_ready j &
 next_job_as_before : (m : Machine) → next_job (forgetting m) ≡ next_job m
 next_job_as_before m = search (rules, first_of_agrees, all_from_members, wanted_as_before)
 
--- The end of a wait makes no job one that a waiting client may have.
+-- The end of a wait does not make a job available to a waiting client.
 still_unwanted : (number : ℕ) (m : Machine) (j : Job) → list_any (is_waiting_for m j) m.seats ≡ false → list_any (is_waiting_for (with_seat number without_wait m) j) (with_seat number without_wait m).seats ≡ false
 still_unwanted number m j h =
     list_any_not (is_waiting_for (with_seat number without_wait m) j) (with_seat number without_wait m).seats
@@ -144,14 +144,15 @@ dispatched_through_ends first (g ∷ given) last h chain =
     let e = end_of first g chain.0 chain.1 in
     dispatched_through_ends chain.0 given last (ap next_job e.next_is ∙ still_dispatched e.client.number first h) chain.2
 
--- what is kept of tubes is of tubes that exist, once the others are forgotten
+-- once the others are forgotten, all records are of tubes that exist
 pub only_tubes : (m : Machine) → list_all (λ t. is_tube t.name (forgetting m)) (forgetting m).tubes ≡ true
 only_tubes m =
     list_all_from (λ t. is_tube t.name (forgetting m)) (forgetting m).tubes
     (all_weaker (λ t. Unit {0} × (is_tube t.name m ≡ true)) (λ t. is_tube t.name (forgetting m) ≡ true) (forgetting m).tubes (λ t c. c.1)
     (all_of_filter (λ t. Unit {0}) (λ t. is_tube t.name m) m.tubes (all_always (λ t. Unit {0}) m.tubes (λ t. tt))))
 
--- Where no job and no wait is next, the machine is lawful once tubes that are gone are forgotten.
+-- If no job is next and no wait ends next, forgetting tubes that do not exist makes the machine
+-- lawful.
 pub lawful_when_done : (m : Machine) → Keeps m → Booked m → next_job m ≡ None → next_end m ≡ None → IsLawful (forgetting m)
 lawful_when_done m h b jobs ends = record {
   ids = h.ids;
@@ -178,7 +179,7 @@ lawful_when_served first handed ended last h b s =
     (lawful_when_done e.end (subst Keeps e.forgets k.keeps) (booked_served first handed ended last b s)
     (dispatched_through_ends s.between ended e.end (ap next_job d.forgets ∙ next_job_as_before d.end ∙ d.done) e.turns) e.done)
 
--- what a command leaves, whatever became of the memory that it wanted
+-- what a command leaves, whether or not memory was lacking
 pub leaves_acted : (memory : Memory) (m : Machine) (seat : ℕ) (what : Step) → Keeps m → Leaves m (acted memory m seat what)
 leaves_acted granted m seat what h = leaves_effect m seat what h
 leaves_acted growth_refused m seat what h = record { keeps = h; waiting = omega arith }
@@ -197,12 +198,12 @@ numbered : (low n : ℕ) → map (λ s. s.number) (map empty_seat (numbers low n
 numbered low zero = refl
 numbered low (suc n) = ap (λ ns. low ∷ ns) (numbered (suc low) n)
 
--- The machine is lawful at the start.
+-- A new machine is lawful.
 pub new_is_lawful : (settings : Settings) → IsLawful (new_machine settings)
 new_is_lawful settings =
     search (rules, numbered, list_all_from, all_of_map, all_always, first_of_none_passes, list_any_not)
 
--- as many answers as the act gives
+-- as many answers as the command gives
 pub length_addressed : (seat : ℕ) (o : Option Answer) → length (addressed seat o) ≡ answer_count o
 length_addressed seat o = grind (arith, common_steps, cases_Bool)
 
@@ -214,7 +215,7 @@ length_numbers low (suc n) = ap suc (length_numbers (suc low) n)
 pub seats_many : (m : Machine) → Keeps m → length m.seats ≡ m.settings.seats
 seats_many m h = sym (length-map m.seats (λ s. s.number)) ∙ ap length h.seated ∙ length_numbers 0 m.settings.seats
 
--- A step gives at most one answer more than there are seats.
+-- A step gives at most one more answer than there are seats.
 pub few_answers : (first last : Machine) (at seat : ℕ) (what : Step) (outcome : Outcome) (given : List GivenAnswer) → IsLawful first → IsStep first at seat what outcome given last → length given ≤ first.settings.seats + 1
 few_answers first last at seat what outcome given h s =
     let k = kept_of_lawful first h in

@@ -1,4 +1,4 @@
--- There are never more jobs than there may be.
+-- There are never more jobs than the job limit.
 use Rattle.std.proofs.Common.{◌∙◌, ◌∷◌, ◌≡◌, ◌≤◌, List, Some, [], ℕ, ap, arith, length, refl, subst, sym}
 use Rattle.std.proofs.lemmas.{Bool.cases_Bool, Grind.common_steps, List.length-map}
 use Rattle.std.specs.List.{AllByRecursion as All, Contains}
@@ -11,7 +11,7 @@ use Rattle.bq_job.proofs.{DispatchLemmas.turn_of, KeptLemmas.{Keeps, kept_of_law
 use Rattle.bq_job.proofs.{LawfulLemmas.{kept_of_timers, new_is_lawful, served, step_is_lawful}, ListLemmas.all_at}
 use Rattle.bq_job.proofs.{ListLemmas.{all_of_append, filter_no_longer}, ReplyLemmas.stays_acted}
 
--- what was chosen, and no more jobs than may be by it
+-- the settings, and no more jobs than their limit
 record IsWithin (settings : Settings) (m : Machine) : Type 0 where
   chosen : m.settings ≡ settings
   few : (most : ℕ) → settings.max_jobs ≡ Some most → length m.jobs ≤ most
@@ -41,7 +41,7 @@ by_dispatch m given n d = grind (arith, common_steps, then_adds_none, by_turns, 
 by_ends : (m : Machine) (given : List GivenAnswer) (n : Machine) → EndsWaits m given n → AddsNone m n
 by_ends m given n w = grind (arith, common_steps, then_adds_none, by_turns, adds_none, end_of)
 
--- A command adds a job only where there is a place for it.
+-- A command adds a job only within the limit.
 by_command : (settings : Settings) (what : Step) (m n : Machine) → n.settings ≡ m.settings → After what m n → IsWithin settings m → IsWithin settings n
 by_command settings what m n same v6 w =
     grind (arith, common_steps, cases_Bool, within_then, length-map, filter_no_longer)

@@ -1,15 +1,15 @@
--- The first line of a text, and of a text that goes on.
+-- The first line of a text, and of the text with more bytes after it.
 use Rattle.std.proofs.Common.{◌≡◌, ℕ, Bool, true, false, List, [], ◌∷◌, ◌++◌, Option, Some, ◌⊎◌, inl, inr, ap, arith, option_map, if◌then◌else◌, rules}
 use Rattle.std.proofs.lemmas.{Bool.{cases_Bool, Decides.nat_tests}, Grind.common_steps}
 use Rattle.bq_job.specs.reading.Line.{first_line, onto_line, are_line_end}
 
--- a first line ends at the first two bytes, or behind the first byte
+-- a first line ends at the first two bytes, or later
 pub first_line_cases : (t : Bool) (a : ℕ) (bytes : List ℕ) (later : Option (List ℕ × List ℕ)) (l : List ℕ × List ℕ)
     → (if t then Some ([], bytes) else option_map (onto_line a) later) ≡ Some l
     → ((t ≡ true) × (([], bytes) ≡ l)) ⊎ ((m : List ℕ × List ℕ) × (t ≡ false) × (later ≡ Some m) × (onto_line a m ≡ l))
 first_line_cases t a bytes later l e = grind (arith, common_steps, cases_Bool)
 
--- a text that goes on has the same first line
+-- a text with more bytes after it has the same first line
 pub first_line-append : (text more : List ℕ) (l : List ℕ × List ℕ) → first_line text ≡ Some l → first_line (text ++ more) ≡ Some (l.0, l.1 ++ more)
 first_line-append [] more l e = cc
 first_line-append (a ∷ []) more l e = cc
@@ -19,7 +19,7 @@ first_line-append (a ∷ b ∷ bytes) more l e =
       | inr h ↦ rw (h.1, first_line-append (b ∷ bytes) more h.0 h.2, ← h.3)
     ]
 
--- a text is its first line, CR LF, and what comes after
+-- a text is its first line, CR LF, and the rest
 pub first_line_is : (text : List ℕ) (l : List ℕ × List ℕ) → first_line text ≡ Some l → text ≡ l.0 ++ 13 ∷ 10 ∷ l.1
 first_line_is [] l e = cc
 first_line_is (a ∷ []) l e = cc
@@ -32,7 +32,7 @@ first_line_is (a ∷ b ∷ bytes) l e =
     line_here : (a b : ℕ) (bytes : List ℕ) (l : List ℕ × List ℕ) → are_line_end a b ≡ true → ([], bytes) ≡ l → (a ∷ b ∷ bytes) ≡ l.0 ++ 13 ∷ 10 ∷ l.1
     line_here a b bytes l t e = rw (← e) (grind (arith, nat_tests))
 
--- a byte in front of a line, and of what follows the line
+-- a byte in front of a line and its rest
 first_line-onto : (a b : ℕ) (bytes after other line : List ℕ) → are_line_end a b ≡ false → b ∷ bytes ≡ line ++ 13 ∷ 10 ∷ after
     → first_line (line ++ 13 ∷ 10 ∷ other) ≡ Some (line, other) → first_line (a ∷ (line ++ 13 ∷ 10 ∷ other)) ≡ Some (a ∷ line, other)
 first_line-onto a b bytes after other line f e ih = search (rules, cases_Bool, common_steps)

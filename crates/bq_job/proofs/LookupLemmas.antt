@@ -1,11 +1,12 @@
--- Jobs looked up by id in a list whose ids grow: after a change of each job, a removal and an addition.
+-- Looking up jobs by id in a list of increasing ids: after a change of each job, a removal and an
+-- addition.
 use Rattle.std.proofs.Common.{ℕ, suc, ◌≡◌, ◌≤◌, ◌<◌, false, not, cond, List, [], ◌∷◌, ◌++◌, map, arith, refl, inl, inr, Some, None, rules}
 use Rattle.std.proofs.lemmas.{Bool.{both_ways, cases_Bool, eq-eqb, eqb-true, false_from_ne_true}, Grind.common_steps}
 use Rattle.std.specs.{List.{AllByRecursion as All, Contains}, Prelude.{◌==◌, filter, option_map}}
 use Rattle.bq_job.specs.{beside.AreIdsWithin, declared.job.Job.Job, machine.job_with}
 use Rattle.bq_job.proofs.ListLemmas.{all_at, found_passes, contains_head}
 
--- what is found is in the list, with the id
+-- the job that is found is in the list and has the id
 pub found_job : (id : ℕ) (jobs : List Job) (j : Job) → job_with id jobs ≡ Some j → (j.id ≡ id) × Contains jobs j
 found_job id jobs j e = let f = found_passes (λ k. k.id == id) jobs j e in (eqb-true j.id id f.0, f.1)
 
@@ -40,13 +41,13 @@ job_found low next jobs j h i = all_at (λ k. (job_with k.id jobs ≡ Some k) ×
         let rest = up (suc j.id) next jobs h.1 in
         ((rw (eq-eqb j.id j.id refl) refl, omega arith), behind j jobs jobs next (above (suc j.id) next jobs h.1) (all_found (suc j.id) next jobs h.1))
 
--- of the jobs but those of one id
+-- the jobs except those with one id
 pub job_in_rest : (removed id : ℕ) (jobs : List Job) → job_with id (filter (λ k. not (k.id == removed)) jobs) ≡ cond (id == removed) None (job_with id jobs)
 job_in_rest removed id [] = elim (cases_Bool (id == removed)) [ inl e ↦ rw e refl | inr e ↦ rw e refl ]
 job_in_rest removed id (j ∷ jobs) =
     search (rules, cases_Bool, false_from_ne_true, eqb-true, both_ways, eq-eqb, job_in_rest removed id jobs)
 
--- with one job more at the end
+-- one more job at the end
 pub job_in_more : (id : ℕ) (jobs : List Job) (j : Job) → (j.id == id) ≡ false → job_with id (jobs ++ j ∷ []) ≡ job_with id jobs
 job_in_more id [] j e = rw e refl
 job_in_more id (k ∷ jobs) j e = elim (cases_Bool (k.id == id)) [ inl f ↦ rw f refl | inr f ↦ rw f (job_in_more id jobs j e) ]

@@ -1,4 +1,4 @@
--- Names in byte order, and the tubes that are listed.
+-- Names in byte order, and the listed tubes.
 use Rattle.std.proofs.Common.{◌++◌, ◌||◌, ◌∙◌, ◌∷◌, ◌≡◌, Bool, List, [], ℕ, ap, append-nil, append_assoc, arith, false, map, refl, rules, sym, true}
 use Rattle.std.proofs.lemmas.{Bool.{and_parts, cases_Bool}, Cmp.nat_list_cmp_total, Grind.common_steps}
 use Rattle.std.proofs.{lemmas.Map.Lookups.exact_bytes, Math.Bool.or-false}
@@ -11,7 +11,7 @@ use Rattle.bq_job.proofs.ListLemmas.{all_weaker}
 is_Less : (r : Ordering) → is_lt r ≡ true → r ≡ Less
 is_Less r e = grind (arith, common_steps, cases_Bool)
 
--- a name that is another one, or comes before it, or else comes after it
+-- a name that neither equals another nor comes before it comes after it
 comes_after : (a b : List ℕ) (r : Ordering) → slice_cmp nat_cmp a b ≡ r → is_same_name a b ≡ false → is_name_before a b ≡ false → is_name_before b a ≡ true
 comes_after a b r e same before = search (rules, cases_Bool, exact_bytes, nat_list_cmp_total)
 
@@ -27,7 +27,7 @@ not_before a b h = ap is_lt (nat_list_cmp_total.antisymm b a ∙ ap ordering_rev
 pub not_same : (a b : List ℕ) (same : Bool) → is_same_name b a ≡ same → is_name_before a b ≡ true → same ≡ false
 not_same a b same e h = search (rules, cases_Bool, not_before)
 
--- a name that is put behind one before it
+-- a name inserted after one that comes before it
 in_order_behind : (p n : List ℕ) (names : List (List ℕ)) → is_name_before p n ≡ true → is_in_order (p ∷ names) ≡ true → is_in_order (p ∷ with_name names n) ≡ true
 in_order_behind p n [] b h = rw b refl
 in_order_behind p n (o ∷ names) b h = grind (arith, common_steps, and_parts, after, in_order_behind o n names)
@@ -48,7 +48,7 @@ first_before o n (x ∷ names) more h = let k = and_parts _ _ h in before_trans 
 pub rest_in_order : (o : List ℕ) (names : List (List ℕ)) → is_in_order (o ∷ names) ≡ true → is_in_order names ≡ true
 rest_in_order o names h = grind (arith, common_steps, cases_Bool, and_parts)
 
--- the first of names in order comes before all others, and a name that does may stand first
+-- the first of ordered names comes before all others, and a name that does so may be put first
 pub first_of_order : (o : List ℕ) (names : List (List ℕ)) → is_in_order (o ∷ names) ≡ true → All (λ n. is_name_before o n ≡ true) names
 first_of_order o [] h = tt
 first_of_order o (x ∷ names) h =
@@ -57,7 +57,7 @@ first_of_order o (x ∷ names) h =
 pub in_order_from : (o : List ℕ) (names : List (List ℕ)) → All (λ n. is_name_before o n ≡ true) names → is_in_order names ≡ true → is_in_order (o ∷ names) ≡ true
 in_order_from o names first h = grind (arith, common_steps, cases_Bool)
 
--- a name that comes after all others is put behind them
+-- a name that comes after all others is inserted at the end
 put_last : (n : List ℕ) (names more : List (List ℕ)) → is_in_order (names ++ n ∷ more) ≡ true → with_name names n ≡ names ++ n ∷ []
 put_last n [] more h = refl
 put_last n (o ∷ names) more h =
@@ -68,7 +68,7 @@ stays_fold [] so_far h = sym (append-nil so_far)
 stays_fold (n ∷ names) so_far h =
     grind (arith, common_steps, put_last, append_assoc, stays_fold names (so_far ++ n ∷ []))
 
--- a name is among names to which one was added, if it is that one or was among them
+-- a name is among names to which one was added if it is that name or was among them
 any_with : (p : List ℕ → Bool) (n : List ℕ) (names : List (List ℕ)) → list_any p (with_name names n) ≡ (p n || list_any p names)
 any_with p n [] = refl
 any_with p n (o ∷ names) = search (rules, any_with p n names)

@@ -14,7 +14,7 @@ use Rattle.bq_job.proofs.ListLemmas.{all_at, all_from_members, all_of_flat_map, 
 use Rattle.bq_job.proofs.{ChoiceLemmas.{first_of_none, first_of_none_passes}, QuietLemmas.forgets_nothing}
 use Rattle.bq_job.proofs.{QuietLemmas.serves_nobody, RecordLemmas.booked_of_lawful}
 
--- what is before the least is before all
+-- what is before the earliest is before all
 before_both : (moment due : ℕ) (o : Option ℕ) → nat_lt moment (earlier due o) ≡ true → (moment < due) × (is_before moment o ≡ true)
 before_both moment due o h = grind (arith, common_steps, cases_Bool, leb-true, le-leb)
 

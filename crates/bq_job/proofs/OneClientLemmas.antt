@@ -1,5 +1,5 @@
--- What the parts of a step give to one client: turns of dispatch and ends of waits give it what it waits
--- for, and the command's own effect gives it the answer, or makes it wait.
+-- What the parts of a step give to one client: turns of dispatch and ends of waits give it the
+-- answer that it waits for; the command's own effect gives it an answer or makes it wait.
 use Rattle.std.proofs.Common.{ℕ, zero, suc, ◌≡◌, ◌≤◌, ◌<◌, ◌+◌, Bool, true, false, ◌&&◌, cond, List, [], ◌∷◌, ◌++◌, map, length, arith, refl, sym, ap, ◌∙◌, subst, inl, inr, Some}
 use Rattle.std.proofs.lemmas.Bool.{and_from, and_right, cases_Bool, cond_both, eq-eqb, eqb-false, eqb-true, or_from}
 use Rattle.std.proofs.lemmas.{Grind.common_steps, List.Folds.list_any-append}
@@ -12,7 +12,7 @@ use Rattle.bq_job.proofs.ListLemmas.{all_always, all_of_map, all_weaker, found_p
 use Rattle.bq_job.proofs.{ComputedLemmas.{next_end_waits, next_seat_waits}, DispatchLemmas.turn_of}
 use Rattle.bq_job.proofs.{KeptLemmas.only_seat, LawfulLemmas.end_of}
 
--- whether the client at the seat waits, and whether there is one
+-- whether the client at the seat waits, and whether a client is connected there
 abbrev pub waits_in : ℕ → List SeatRecord → Bool
 waits_in seat seats = list_any (λ s. s.number == seat && is_waiting s) seats
 
@@ -26,7 +26,7 @@ ended_in seat seats = list_any (λ s. s.number == seat && s.ended) seats
 abbrev pub one_for : Bool → ℕ
 one_for b = cond b 1 0
 
--- What waits may be answered, and nothing else happens to the client.
+-- The client may get the answer that it waits for, and nothing else happens to it.
 pub record Passes (seat : ℕ) (first last : List SeatRecord) (given : List GivenAnswer) : Type 0 where
   pub count : length (answers_to seat given) + one_for (waits_in seat last) ≡ one_for (waits_in seat first)
   pub unclosed : has_closed (answers_to seat given) ≡ false
@@ -52,11 +52,11 @@ any_of_map : {X : Type 0} (p q : X → Bool) (f : X → X) (xs : List X) → ((x
 any_of_map p q f [] h = refl
 any_of_map p q f (x ∷ xs) h = rw (h x, any_of_map p q f xs h) refl
 
--- the seats once the wait at this one is over
+-- the seats after the wait at this one has ended
 abbrev unwaited : ℕ → SeatRecord → SeatRecord
 unwaited number s = cond (s.number == number) (without_wait s) s
 
--- the client's own wait is over
+-- the client's own wait has ended
 unwaited_itself : (seat : ℕ) (seats : List SeatRecord) → waits_in seat (map (unwaited seat) seats) ≡ false
 unwaited_itself seat seats =
     list_any_not (λ s. s.number == seat && is_waiting s) (map (unwaited seat) seats)
@@ -66,7 +66,7 @@ unwaited_itself seat seats =
     (λ e. and_right (s.number == seat) false refl)
     (λ e. rw e refl))))
 
--- another's wait is over
+-- another client's wait has ended
 unwaited_another : (seat number : ℕ) (seats : List SeatRecord) → (number == seat) ≡ false → waits_in seat (map (unwaited number) seats) ≡ waits_in seat seats
 unwaited_another seat number seats other = grind (arith, common_steps, any_of_map, cond_both, eqb-true)
 
@@ -76,12 +76,12 @@ unwaited_ended seat number seats = grind (arith, common_steps, any_of_map, cond_
 unwaited_numbers : (number : ℕ) (seats : List SeatRecord) → map (λ s. s.number) (map (unwaited number) seats) ≡ map (λ s. s.number) seats
 unwaited_numbers number seats = grind (arith, common_steps, keys_of_map, all_always, cond_both)
 
--- One who waits is answered, and waits no longer.
+-- A waiting client is answered, and no longer waits.
 passes_turn : (seat : ℕ) (seats : List SeatRecord) (s : SeatRecord) (answer : Answer) → Contains seats s → is_waiting s ≡ true → is_closed_answer answer ≡ false → Passes seat seats (map (unwaited s.number) seats) ((s.number, answer) ∷ [])
 passes_turn seat seats s answer there waits stays =
     grind (arith, common_steps, cases_Bool, eqb-true, list_any_with, and_from, unwaited_itself, any_of_map, cond_both, unwaited_ended, unwaited_numbers, unwaited_another)
 
--- the same where the turn is known by equations
+-- the same if the turn is known by equations
 passes_turn_to : (seat : ℕ) (m next : Machine) (s : SeatRecord) (answer : Answer) (given : GivenAnswer) → Contains m.seats s → is_waiting s ≡ true → is_closed_answer answer ≡ false → given ≡ (s.number, answer) → next.seats ≡ map (unwaited s.number) m.seats → Passes seat m.seats next.seats (given ∷ [])
 passes_turn_to seat m next s answer given there waits stays told is =
     subst (λ seats. Passes seat m.seats seats (given ∷ [])) (sym is)
@@ -137,7 +137,7 @@ found_any : (seat : ℕ) (seats : List SeatRecord) (s : SeatRecord) (p : SeatRec
 found_any seat seats s p is there alone =
     grind (arith, common_steps, cases_Bool, list_any_with, and_from, eq-eqb, list_any_not, all_weaker, and_right, eqb-true)
 
--- Where there are enough seats one is found.
+-- If there are enough seats, one is found.
 finds_seat : (low n seat : ℕ) (seats : List SeatRecord) → map (λ s. s.number) seats ≡ numbers low n → low ≤ seat → seat < low + n → (s : SeatRecord) × (seat_with seat seats ≡ Some s)
 finds_seat low zero seat seats e from below = absurd (omega arith)
 finds_seat low (suc n) seat [] e from below = absurd cc
@@ -168,11 +168,11 @@ finds n seat seats e below =
       ended = found_any seat seats f.0 (λ s. s.ended) is p.1 alone;
     }
 
--- the seats where the one of this number is changed
+-- the seats after the one with this number has changed
 abbrev pub changed : ℕ → (SeatRecord → SeatRecord) → List SeatRecord → List SeatRecord
 changed number f seats = map (λ s. cond (s.number == number) (f s) s) seats
 
--- The changed seat passes no test that the change doesn't,
+-- The changed seat fails a test that every change fails.
 pub changed_none : (number : ℕ) (f : SeatRecord → SeatRecord) (q : SeatRecord → Bool) (seats : List SeatRecord) → ((s : SeatRecord) → q (f s) ≡ false) → list_any (λ s. s.number == number && q s) (changed number f seats) ≡ false
 changed_none number f q seats fails =
     list_any_not (λ s. s.number == number && q s) (changed number f seats)
@@ -182,7 +182,7 @@ changed_none number f q seats fails =
     (λ e. and_right ((f s).number == number) (q (f s)) (fails s))
     (λ e. rw e refl))))
 
--- and passes one that the change does.
+-- The changed seat passes a test that every change passes.
 pub changed_some : (f : SeatRecord → SeatRecord) (q : SeatRecord → Bool) (seats : List SeatRecord) (s : SeatRecord) → Contains seats s → ((s : SeatRecord) → (f s).number ≡ s.number) → ((s : SeatRecord) → q (f s) ≡ true) → list_any (λ t. t.number == s.number && q t) (changed s.number f seats) ≡ true
 changed_some f q seats s there same passes =
     list_any_of_map (λ t. t.number == s.number) (λ t. t.number == s.number && q t) (λ t. cond (t.number == s.number) (f t) t) seats
@@ -190,10 +190,10 @@ changed_some f q seats s there same passes =
     (λ t e. rw e (and_from ((f t).number == s.number) (q (f t)) (rw (same t) e) (passes t))))
     (list_any_with (λ t. t.number == s.number) seats s there (eq-eqb s.number s.number refl))
 
--- A change that leaves the number and the answer to a test leaves the test of every seat.
+-- A change that keeps the number and the result of a test keeps the test's result at every seat.
 pub changed_quiet : (seat number : ℕ) (f : SeatRecord → SeatRecord) (q : SeatRecord → Bool) (seats : List SeatRecord) → ((s : SeatRecord) → (f s).number ≡ s.number) → ((s : SeatRecord) → q (f s) ≡ q s) → list_any (λ s. s.number == seat && q s) (changed number f seats) ≡ list_any (λ s. s.number == seat && q s) seats
 changed_quiet seat number f q seats same as_before = grind (arith, common_steps, any_of_map, cond_both)
 
--- A change of another seat leaves the test of this one.
+-- A change of another seat keeps the test's result at this one.
 pub changed_elsewhere : (client number : ℕ) (f : SeatRecord → SeatRecord) (q : SeatRecord → Bool) (seats : List SeatRecord) → (number == client) ≡ false → ((s : SeatRecord) → (f s).number ≡ s.number) → list_any (λ s. s.number == client && q s) (changed number f seats) ≡ list_any (λ s. s.number == client && q s) seats
 changed_elsewhere client number f q seats other same = grind (arith, common_steps, any_of_map, cond_both, eqb-true)

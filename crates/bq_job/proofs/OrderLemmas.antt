@@ -9,7 +9,7 @@ use Rattle.bq_job.proofs.JobMoves.{IsHandOutMove, IsPutMove, IsQuiet, Move, Move
 use Rattle.bq_job.proofs.{ListLemmas.all_at, LookupLemmas.{found_job, job_at_end}, SpentLemmas.{IsSpent, handed_lookup}}
 use Rattle.bq_job.proofs.SpentLemmas.{none_handed, none_more, put_lookup, spent_after, still_parts}
 
--- What happens in a part that has neither of two things leaves their order.
+-- A part in which neither of two things happens does not change their order.
 comes_behind : (one other : Happening → Bool) (happened more : List Happening) → list_any one happened ≡ false → list_any other happened ≡ false → comes_first one other (happened ++ more) ≡ comes_first one other more
 comes_behind one other [] more h i = refl
 comes_behind one other (x ∷ happened) more h i =
@@ -19,24 +19,24 @@ plain_puts_none : (id : ℕ) (happened : List Happening) → All (λ h. is_plain
 plain_puts_none id [] plain = refl
 plain_puts_none id (h ∷ happened) plain = grind (arith, common_steps, or_from, plain_puts_none id happened plain.1)
 
--- a put that comes later, after a move without one
+-- a put that comes later, after a move without a put
 pub put_behind : (j : Job) (m n : Machine) (happened more : List Happening) → IsQuiet m happened n ⊎ IsHandOutMove m happened n → Contains (happened ++ more) (put j) → Contains more (put j)
 put_behind j m n happened more move h = elim (Contains-append_cases happened more (put j) h) [ inl e ↦ absurd (of_move move e) | inr e ↦ e ]
   where
     of_move : IsQuiet m happened n ⊎ IsHandOutMove m happened n → Contains happened (put j) → ⊥
     of_move h i = grind (arith, common_steps, all_at)
 
--- a put that comes with a put, or later
+-- a put now, or later
 pub put_now_or_behind : (j : Job) (m n : Machine) (happened more : List Happening) (p : IsPutMove m happened n) → Contains (happened ++ more) (put j) → (p.job ≡ j) ⊎ Contains more (put j)
 put_now_or_behind j m n happened more p h = grind (arith, common_steps)
 
--- A job that is put later gets an id that isn't given yet.
+-- A job that is put later gets an id that has not been given out yet.
 pub put_above : (j : Job) (m n : Machine) (parts : List Part) → Moves m parts n → Contains (happenings parts) (put j) → m.next_id ≤ j.id
 put_above j m n [] moves i = absurd (let less = i.1 in omega arith)
 put_above j m n (p ∷ parts) moves i =
     grind (arith, common_steps, quiet, put_behind, handing, putting, put_now_or_behind, put_above j p.machine n parts moves.1)
 
--- Of two jobs that are put, the one that is put first has no greater id.
+-- Of two jobs, the one that is put first has no larger id.
 pub ids_in_order : (id : ℕ) (b : Job) (m n : Machine) (parts : List Part) → Moves m parts n → comes_first (is_put id) (is_put b.id) (happenings parts) ≡ true → Contains (happenings parts) (put b) → id ≤ b.id
 ids_in_order id b m n [] moves first i = absurd cc
 ids_in_order id b m n (p ∷ parts) moves first i = at_move (ids_in_order id b p.machine n parts moves.1) moves.0
@@ -65,7 +65,7 @@ pub record IsReadyAs (j : Job) (m : Machine) : Type 0 where
   pub pri : job.pri ≡ j.pri
   pub tube : job.tube ≡ j.tube
 
--- where an undisturbed job stands before these happenings: it is held or gone, or ready, or yet to be put
+-- where an undisturbed job is before these happenings: held or gone, ready, or not yet put
 pub data Stands (j : Job) (m : Machine) (more : List Happening) : Type 0 where
   spent : IsSpent j.id m → Stands j m more
   waits : IsReadyAs j m → Stands j m more
@@ -74,7 +74,7 @@ pub data Stands (j : Job) (m : Machine) (more : List Happening) : Type 0 where
 ready_mapped : (j : Job) (m n : Machine) (more : List Happening) (r : IsReadyAs j m) (id moment seat : ℕ) → n.next_id ≡ m.next_id → job_with j.id n.jobs ≡ Some (cond (r.job.id == id) (reserved_by moment seat r.job) r.job) → Stands j n more
 ready_mapped j m n more r id moment seat next e = grind (arith, common_steps, cases_Bool)
 
--- where it stands after a move
+-- where it is after a move
 stands_after : (j : Job) (m n k : Machine) (happened : List Happening) (parts : List Part) → Move m happened n → Moves n parts k → j.delay ≡ 0 → list_any (disturbs j.id) happened ≡ false → Stands j m (happened ++ happenings parts) → Stands j n (happenings parts)
 stands_after j m n k happened parts move moves now still (spent s) = spent (spent_after j.id m n happened move still s)
 stands_after j m n k happened parts (quiet q) moves now still (waits r) = grind (arith, common_steps)
@@ -94,7 +94,7 @@ stands_after j m n k happened parts (putting p) moves now still (unborn above i)
       | inr e ↦ unborn (put_above j n k parts moves e) e
     ]
 
--- of two jobs that stand so, the first is handed out first
+-- of two such jobs, the first is handed out first
 pub handed_in_order : (a b : Job) (m n : Machine) (parts : List Part) → Moves m parts n → a.delay ≡ 0 → b.delay ≡ 0 → a.pri ≡ b.pri → a.tube ≡ b.tube → a.id < b.id
     → list_any (disturbs a.id) (happenings parts) ≡ false → list_any (disturbs b.id) (happenings parts) ≡ false
     → Stands a m (happenings parts) → Stands b m (happenings parts)

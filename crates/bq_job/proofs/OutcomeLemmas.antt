@@ -1,4 +1,4 @@
--- Where no share of a body is refused, a step has one result.
+-- If no reference to a body is refused, a step has one result.
 use Rattle.std.proofs.Common.{ℕ, ◌≡◌, Bool, false, ◌||◌, List, [], ◌∷◌, refl, sym, ap, ◌∙◌, subst, Option, Some, None, arith}
 use Rattle.std.proofs.lemmas.{Bool.or_parts, Grind.common_steps}
 use Rattle.std.specs.List.{list_any}
@@ -28,7 +28,7 @@ no_dispatch m g n e turn = let t = turn_of m g n turn in let k = t.job_is in abs
 no_wait_end : (m : Machine) (g : GivenAnswer) (n : Machine) → next_end m ≡ None → WaitEndTurn m g n → ⊥
 no_wait_end m g n e turn = let t = end_of m g n turn in let k = t.client_is in absurd (let both : None ≡ Some t.client = sym e ∙ k in cc)
 
--- Two chains of turns that go on until there is no next one are the same.
+-- Two chains of turns that go on until no turn is possible are equal.
 module _ (Turns : Machine → GivenAnswer → Machine → Type 0) (fine : GivenAnswer → Bool) (Done : Machine → Type 0)
     (one : (m : Machine) (g h : GivenAnswer) (n o : Machine) → fine g ≡ false → fine h ≡ false → Turns m g n → Turns m h o → IsSame g h n o)
     (none : (m : Machine) (g : GivenAnswer) (n : Machine) → Done m → Turns m g n → ⊥) where

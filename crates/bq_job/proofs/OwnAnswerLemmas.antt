@@ -1,4 +1,5 @@
--- The answers of a step: which part gives RESERVED, INSERTED and DELETED, and that draining never ends.
+-- The answers of a step: which part gives RESERVED, INSERTED and DELETED, and that draining never
+-- ends.
 use Rattle.std.proofs.Common.{◌==◌, ◌≡◌, ◌⊎◌, List, Some, ℕ, ap, arith, false, filter, inl, inr, nat_le, not}
 use Rattle.std.proofs.{Common.{refl, subst, true}, lemmas.{Bool.or_right, Grind.common_steps}}
 use Rattle.bq_job.specs.Types.{Answer, Job, Request, Step}
@@ -9,7 +10,7 @@ use Rattle.bq_job.specs.declared.step.Step.TheVariants as steps
 use Rattle.bq_job.proofs.EffectKinds.{SaysDone, is_common, Kind, adds, changes_jobs, changes_seat, changes_tube, deletes, passes, tells, waits}
 use Rattle.bq_job.proofs.{CommandKinds.kind_of, EachEvent.each_acted}
 
--- what a command at the seat answers, and what is then so
+-- what a command at the seat answers, and what then holds
 pub data Tells (m : Machine) (seat : ℕ) (what : Step) (e : Effect) : Type 0 where
   commonly : is_common e.answer ≡ true → Tells m seat what e
   reserving : (id : ℕ) (body : List ℕ) → what ≡ steps.Ask (requests.ReserveJob id) → e.answer ≡ Some (answers.Reserved id body) → Tells m seat what e

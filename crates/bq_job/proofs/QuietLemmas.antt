@@ -6,7 +6,7 @@ use Rattle.bq_job.specs.machine.{Chain, GivenAnswer, Machine.Machine, Serves, Tu
 use Rattle.bq_job.specs.machine.{next_end, next_job}
 use Rattle.bq_job.proofs.ListLemmas.{all_pass, filter_all}
 
--- Where nothing is kept of tubes that are gone, nothing is forgotten.
+-- If no record is of a tube that does not exist, nothing is forgotten.
 pub forgets_nothing : (m : Machine) → list_all (λ t. is_tube t.name m) m.tubes ≡ true → forgetting m ≡ m
 forgets_nothing m h = ap (λ (ts : List TubeRecord). record m { tubes = ts }) (filter_all (λ t. is_tube t.name m) m.tubes (all_pass (λ t. is_tube t.name m) m.tubes h))
 
@@ -14,12 +14,12 @@ none_in_chain : (Turns : Machine → GivenAnswer → Machine → Type 0) (first 
 none_in_chain Turns first [] last none chain = (refl, chain)
 none_in_chain Turns first (g ∷ given) last none chain = absurd (none g chain.0 chain.1)
 
--- nothing was given, and the machine is the same
+-- no answers, and the same machine
 pub record IsQuiet (first : Machine) (handed ended : List GivenAnswer) (last : Machine) : Type 0 where
   pub none_handed : handed ≡ []
   pub none_ended : ended ≡ []
   pub same : last ≡ first
 
--- Where no job and no wait is next, nobody is served.
+-- If no job is next and no wait ends next, no client is served.
 pub serves_nobody : (first : Machine) (handed ended : List GivenAnswer) (last : Machine) → next_job first ≡ None → next_end first ≡ None → forgetting first ≡ first → Serves first handed ended last → IsQuiet first handed ended last
 serves_nobody first handed ended last jobs ends kept s = grind (arith, common_steps, none_in_chain)

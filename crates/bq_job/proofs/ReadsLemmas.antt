@@ -62,7 +62,7 @@ reading_within-Reads (suc n) size text short = go (reading_within-Reads n size) 
 pub reading-Reads : (size : ℕ) (text : List ℕ) → Reads size text (reading size text).0 (reading size text).1
 reading-Reads size text = reading_within-Reads (length text) size text (omega arith)
 
--- the same, by a name that an attribute can cite
+-- the same, under a name that an attribute can cite
 pub ruleset computed_readings = (reading-Reads)
 
 quits_later : (r s : Request) (rs : List Request) → IsTrue (quits_last (r ∷ s ∷ rs)) → IsTrue (quits_last (s ∷ rs))

@@ -1,5 +1,5 @@
--- What is kept beside jobs through a step: counts stay within their end, what is kept of tubes stays in
--- order, and each seat watches at least one tube and none twice.
+-- What is kept besides jobs through a step: counters stay within their limit, tube records stay
+-- ordered, and each seat watches at least one tube and none twice.
 use Rattle.std.proofs.Common.{ℕ, ◌≡◌, ◌≤◌, Bool, true, cond, List, [], ◌∷◌, map, refl, sym, subst, arith, rules}
 use Rattle.std.proofs.{lemmas.{Bool.{cases_Bool, cond_both, leb-true}, Grind.common_steps}, Math.Nat.min-le_right}
 use Rattle.std.specs.{Cmp.Lexicographic.bytes_decides, List.AllByRecursion as All, Prelude.{filter, nat_le}}
@@ -12,7 +12,7 @@ use Rattle.bq_job.proofs.ListLemmas.{all_at, all_always, all_before_map, all_of_
 use Rattle.bq_job.proofs.{CommandKinds.kind_of, EachEvent.each_acted, EffectKinds.Kind}
 use Rattle.bq_job.proofs.NameOrderLemmas.{after, first_of_order, in_order_from, rest_in_order}
 
--- all that is kept beside the jobs
+-- everything that is kept besides the jobs
 pub record Books (timeouts puts connections burials tickets : ℕ) (tubes : List TubeRecord) (seats : List SeatRecord) : Type 0 where
   pub timeouts_fit : timeouts ≤ greatest
   pub puts_fit : puts ≤ greatest
@@ -30,7 +30,7 @@ booked_of_lawful m h =
     let all = all_pass (λ n. nat_le n greatest) (m.timeouts ∷ m.puts ∷ m.connections ∷ m.burials ∷ m.tickets ∷ []) h.counts in
     search (rules, leb-true, all_pass)
 
--- the record's name comes before all of these
+-- the record's name comes before all of these names
 abbrev IsFirst : List ℕ → List TubeRecord → Type 0
 IsFirst name tubes = All (λ u. is_name_before name u.name ≡ true) tubes
 
@@ -52,7 +52,7 @@ ordered_filter p [] h = refl
 ordered_filter p (t ∷ tubes) h =
     grind (arith, common_steps, rest_records, cases_Bool, with_first, all_weaker, all_of_filter, first_record, ordered_filter p tubes (rest_records t tubes h))
 
--- a record is put in its place
+-- a record is inserted in order
 first_with : (name : List ℕ) (t : TubeRecord) (tubes : List TubeRecord) → is_name_before name t.name ≡ true → IsFirst name tubes → IsFirst name (with_record t tubes)
 first_with name t [] b h = (b, tt)
 first_with name t (u ∷ tubes) b h = grind (arith, common_steps, cond_both, first_with name t tubes b h.1)
@@ -86,7 +86,7 @@ booked_chain : (Turns : Machine → GivenAnswer → Machine → Type 0) (first :
 booked_chain Turns first [] last each h chain = subst Booked (sym chain) h
 booked_chain Turns first (g ∷ given) last each h chain = booked_chain Turns chain.0 given last each (each first g chain.0 h chain.1) chain.2
 
--- before what is gone is forgotten once more
+-- before forgetting once more
 pub booked_served : (first : Machine) (handed ended : List GivenAnswer) (last : Machine) → Booked first → (s : Serves first handed ended last) → Booked s.ends_waits.end
 booked_served first handed ended last h s =
     let d = s.dispatches in

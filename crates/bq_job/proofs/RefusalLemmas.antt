@@ -1,4 +1,4 @@
--- A command that is refused changes nothing.
+-- A refused command changes nothing.
 use Rattle.std.proofs.Common.{◌∙◌, ◌≡◌, IsTrue, List, Some, ℕ, ap, append-nil, arith, false, refl, subst}
 use Rattle.std.proofs.{Common.true, lemmas.{Bool.{both_ways, cases_Bool}, Grind.common_steps}}
 use Rattle.bq_job.specs.machine.{Effect, GivenAnswer, IsStep, Machine.Machine, Memory, Outcome, SeatRecord, Serves, acted, after_timers}
@@ -9,7 +9,7 @@ use Rattle.bq_job.proofs.{CommandKinds.kind_of, EachEvent.each_acted, EffectKind
 use Rattle.bq_job.proofs.{LawfulLemmas.{kept_of_timers, lawful_when_served}, QuietLemmas.forgets_nothing}
 use Rattle.bq_job.proofs.{QuietLemmas.serves_nobody, RecordLemmas.{booked_of_lawful, booked_timers}}
 
--- an effect whose answer is a refusal only where nothing was changed
+-- an effect whose answer is a refusal only if it changed nothing
 abbrev Honest : Machine → Effect → Type 0
 Honest m e = (answer : Answer) → e.answer ≡ Some answer → is_refusal answer ≡ true → e.machine ≡ m
 
@@ -34,7 +34,7 @@ honest_acted memory m seat what = each_acted m seat (λ what e. Honest m e) (rec
   drains = unanswered m _;
 }) (λ what. unchanged m answers.OutOfMemory) memory what
 
--- Nobody is served after it, since everybody was before.
+-- No client is served after it, because all were served before it.
 pub refused_is_tick : (first last : Machine) (at seat : ℕ) (what : Step) (outcome : Outcome) (given : List GivenAnswer) (answer : Answer) → IsLawful first → (step : IsStep first at seat what outcome given last) → (acted step.memory step.before seat what).answer ≡ Some answer → IsTrue (is_refusal answer) → ChangesNothing (parts_of step) seat what answer given last
 refused_is_tick first last at seat what outcome given answer h s e r =
     let before = lawful_when_served (forgetting (after_timers (at_moment at first))) s.handed s.ended s.before

@@ -1,4 +1,4 @@
--- Replays: how one begins and goes on, and that a journal has one at most.
+-- Replays: how one begins and goes on, and that a journal has at most one.
 use Rattle.std.proofs.Common.{◌++◌, ◌∙◌, ◌∷◌, ◌≡◌, List, [], ap, append-nil, arith, flat_map, map, refl, subst, sym}
 use Rattle.std.proofs.lemmas.{Grind.{common_steps, flat_map-append}, List.map-append}
 use Rattle.bq_job.specs.{beside.{entry_of, outcome_of, Replay.Replay}, declared.journal.Entry.Entry as JournalEntry}
@@ -9,7 +9,7 @@ use Rattle.bq_job.proofs.{ListLemmas.heads, OutcomeLemmas.one_result, RunLemmas.
 pub replay_none : (settings : Settings) → Replay settings [] [] (new_machine settings)
 replay_none settings = record { taken = []; goes = refl; history_is = refl; outcomes_are = refl; given_is = refl }
 
--- the steps of a run, and one step more
+-- the steps of a run, and one more step
 goes_more : (first next last : Machine) (taken : List Transition) (t : Transition) → GoesBy first taken next → t.first ≡ next → IsTransition t → last ≡ t.last → GoesBy first (taken ++ t ∷ []) last
 goes_more first next last [] t goes starts is ends = (starts ∙ goes, is, ends)
 goes_more first next last (u ∷ taken) t goes starts is ends = (goes.0, goes.1, goes_more u.last next last taken t goes.2 starts is ends)
@@ -36,7 +36,7 @@ replay_more settings journal entry given more next last r step =
           ∙ ap (λ (xs : List GivenAnswer). given ++ xs) (append-nil more);
     }
 
--- Two runs from one machine over one journal give the same answers and end alike.
+-- Two runs from one machine over one journal give the same answers and end in the same machine.
 one_run : (first last other : Machine) (journal : List JournalEntry) (taken others : List Transition)
     → GoesBy first taken last → map (λ t. t.entry) taken ≡ map entry_of journal → map (λ t. t.outcome) taken ≡ map outcome_of journal
     → GoesBy first others other → map (λ t. t.entry) others ≡ map entry_of journal → map (λ t. t.outcome) others ≡ map outcome_of journal

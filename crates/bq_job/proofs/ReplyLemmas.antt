@@ -1,5 +1,5 @@
--- What the command's own effect gives to one client: the one who asks is answered or waits, and another's
--- seat stays as it was.
+-- What the command's own effect gives to one client: the client that asks is answered or waits, and
+-- other seats stay as they were.
 use Rattle.std.proofs.Common.{ℕ, ◌≡◌, ◌+◌, Bool, true, false, not, cond, List, [], ◌∷◌, map, length, arith, refl, sym, ap, ◌∙◌, subst, Option, Some, None}
 use Rattle.std.proofs.lemmas.{Bool.{and_from, and_parts, cases_Bool}, Grind.common_steps}
 use Rattle.std.specs.{List.Contains, Prelude.{◌==◌, IsTrue, is_some}}
@@ -14,12 +14,12 @@ use Rattle.bq_job.proofs.EffectKinds.{Kind, adds, changes_jobs, changes_seat, ch
 use Rattle.bq_job.proofs.OneClientLemmas.{Found, changed, changed_elsewhere, changed_quiet, changed_some, connected_in, one_for, waits_in}
 use Rattle.bq_job.proofs.{CommandKinds.kind_of, EachEvent.{IsSeat, each_acted}}
 
--- what the command itself tells the client
+-- the answers that the command itself gives the client
 abbrev pub told : Option Answer → List Answer
 told None = []
 told (Some answer) = answer ∷ []
 
--- The client asks without waiting: it is told so much, or waits for it.
+-- The client makes a request while it does not wait: it gets this many answers, or waits for them.
 pub record Replies (seat wanted : ℕ) (may_wait : Bool) (seats : List SeatRecord) (e : Effect) : Type 0 where
   pub count : length (told e.answer) + one_for (waits_in seat (e.machine).seats) ≡ wanted
   pub at_once : may_wait ≡ false → waits_in seat (e.machine).seats ≡ false
@@ -39,7 +39,7 @@ replies_seat seat number f m answer w stays same connects waits_as =
     replies_telling seat m (with_seat number f m) answer stays
     (changed_quiet seat number f is_waiting m.seats same waits_as ∙ w) (changed_quiet seat number f (λ s. s.connected) m.seats same connects)
 
--- One answer is what a request wants that is answered.
+-- A request that is answered wants one answer.
 answered : {seat : ℕ} {b : Bool} {seats : List SeatRecord} {e : Effect} (request : Request) → answers_wanted request ≡ 1 → Replies seat 1 b seats e → Replies seat (answers_wanted request) b seats e
 answered request one h = rw one h
 
@@ -66,7 +66,7 @@ replies_kind request m s (changes_seat answer f says changes) there w =
     answered request says.wanted (replies_seat s.number s.number f m answer w says.unclosed changes.number changes.connected (λ t. ap is_some (changes.wait t)))
 replies_kind request m s (changes_tube tube seconds one) there w = grind (arith, common_steps, answered, replies_jobs)
 
--- an open client that doesn't wait asks
+-- a connected client that doesn't wait makes a request
 pub replies_effect : (m : Machine) (seat : ℕ) (request : Request) (f : Found seat m.seats) → connected_in seat m.seats ≡ true → waits_in seat m.seats ≡ false → Replies seat (answers_wanted request) (is_waiting_request request) m.seats (effect m seat (steps.Ask request))
 replies_effect m seat request f c w =
     let s = f.client in
@@ -77,11 +77,11 @@ replies_effect m seat request f c w =
     (subst (λ n. Replies n (answers_wanted request) (is_waiting_request request) m.seats (asked request m s)) f.number
     (replies_kind request m s (kind_of request m s) f.there (subst (λ n. waits_in n m.seats ≡ false) (sym f.number) w))))
 
--- the same whatever became of the memory that it wanted
+-- the same whether or not memory was lacking
 pub replies_acted : (memory : Memory) (m : Machine) (seat : ℕ) (request : Request) → waits_in seat m.seats ≡ false → IsTrue (is_possible memory m seat (steps.Ask request)) → Replies seat (answers_wanted request) (is_waiting_request request) m.seats (effect m seat (steps.Ask request)) → Replies seat (answers_wanted request) (is_waiting_request request) m.seats (acted memory m seat (steps.Ask request))
 replies_acted memory m seat request w p h = grind (arith, common_steps, and_parts, replies_jobs)
 
--- What a command at a seat leaves to the client of another.
+-- What a command at a seat leaves unchanged for the client of another seat.
 pub record Stays (client number : ℕ) (m : Machine) (e : Effect) : Type 0 where
   pub settings : (e.machine).settings ≡ m.settings
   pub waits : (number == client) ≡ false → waits_in client (e.machine).seats ≡ waits_in client m.seats

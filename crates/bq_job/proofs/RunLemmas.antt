@@ -1,4 +1,5 @@
--- Runs, one step at a time: what a run of no step, of a first step and of a last step is, and how two join.
+-- Runs, one step at a time: a run of no steps, of a first step and of a last step, and two joined
+-- runs.
 use Rattle.std.proofs.Common.{◌++◌, ◌∙◌, ◌∷◌, ◌≡◌, List, [], ap, append_assoc, arith, flat_map, map, refl, subst, sym}
 use Rattle.std.proofs.lemmas.Grind.{common_steps}
 use Rattle.bq_job.specs.machine.{GivenAnswer, IsStep, Machine.Machine, Outcome}

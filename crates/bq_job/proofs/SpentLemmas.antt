@@ -1,4 +1,4 @@
--- A job that is held or gone is handed out no more while nothing disturbs it.
+-- A job that is held or gone is not handed out again as long as nothing disturbs it.
 use Rattle.std.proofs.Common.{ℕ, ◌≡◌, ◌≤◌, ◌<◌, ◌+◌, true, false, cond, List, [], ◌∷◌, ◌++◌, arith, refl, sym, ap, ◌∙◌, subst, inl, inr, Option, Some, None}
 use Rattle.std.proofs.lemmas.Bool.{cases_Bool, or_parts, or_from, both_ways, cond_both, eqb-true, eq-eqb, false_from_ne_true}
 use Rattle.std.proofs.lemmas.{Grind.common_steps, List.{Folds.list_any-append, Sums.sum_by-append}}
@@ -8,12 +8,12 @@ use Rattle.bq_job.specs.{machine.{is_reserved, job_with, reserved_by, Machine.Ma
 use Rattle.bq_job.proofs.JobMoves.{IsHandOutMove, IsPutMove, Move, Moves, handing, is_plain, putting, quiet}
 use Rattle.bq_job.proofs.{ListLemmas.count_cons, LookupLemmas.{job_in_map, job_in_more}}
 
--- held, or not there
+-- held, or not present
 abbrev pub IsNotFree : Option Job → Type 0
 IsNotFree None = Unit {0}
 IsNotFree (Some j) = is_reserved j.state ≡ true
 
--- The id was given, and its job is held or gone.
+-- The id was given out, and its job is held or gone.
 abbrev pub IsSpent : ℕ → Machine → Type 0
 IsSpent id m = (id < m.next_id) × IsNotFree (job_with id m.jobs)
 
@@ -24,11 +24,11 @@ pub none_handed : (id : ℕ) (happened : List Happening) → All (λ h. is_plain
 none_handed id [] plain = refl
 none_handed id (h ∷ happened) plain = or_from (is_hand_out id h) (list_any (is_hand_out id) happened) (plain_hands_none id h plain.0) (none_handed id happened plain.1)
 
--- the jobs after a hand-out, looked up
+-- lookup after a hand-out
 pub handed_lookup : (id : ℕ) (m n : Machine) (happened : List Happening) (h : IsHandOutMove m happened n) → job_with id n.jobs ≡ option_map (λ j. cond (j.id == h.job.id) (reserved_by m.moment h.seat j) j) (job_with id m.jobs)
 handed_lookup id m n happened h = grind (arith, common_steps, job_in_map, cond_both)
 
--- the jobs after a put, looked up by another id
+-- lookup of another id after a put
 pub put_lookup : (id : ℕ) (m n : Machine) (happened : List Happening) (h : IsPutMove m happened n) → id < m.next_id → job_with id n.jobs ≡ job_with id m.jobs
 put_lookup id m n happened h less = grind (arith, common_steps, job_in_more, false_from_ne_true, eqb-true)
 
@@ -54,7 +54,7 @@ spent_by_hand_out m n happened h = (
       (λ e. absurd (both_ways (h.job.id == h.job.id) e (eq-eqb h.job.id h.job.id refl)))),
 )
 
--- A move's happenings, and those of the rest, disturb nothing.
+-- Neither the happenings of a move nor those of the rest disturb the job.
 pub still_parts : (id : ℕ) (happened more : List Happening) → list_any (disturbs id) (happened ++ more) ≡ false → (list_any (disturbs id) happened ≡ false) × (list_any (disturbs id) more ≡ false)
 still_parts id happened more h = or_parts (list_any (disturbs id) happened) (list_any (disturbs id) more) (sym (list_any-append (disturbs id) happened more) ∙ h)
 

@@ -15,7 +15,7 @@ use Rattle.bq_job.proofs.{ChangeLemmas.move_of_jobs, KeptLemmas.{Keeps, ids_of_m
 use Rattle.bq_job.proofs.{DispatchLemmas.{next_is_least, turn_of}, ListLemmas.{all_always, all_of_map, list_any_with}}
 use Rattle.bq_job.proofs.JobMoves.{Fate, Move, Moves, handing, is_plain, moves_append, quiet}
 
--- The machine goes by moves, and this happens to jobs.
+-- The machine goes on by moves, in which this happens to jobs.
 pub record Goes (m : Machine) (happened : List Happening) (n : Machine) : Type 0 where
   pub parts : List Part
   pub moves : Moves m parts n
@@ -102,7 +102,7 @@ same_jobs : (m : Machine) (given : List GivenAnswer) (n : Machine) → Chain Wai
 same_jobs m [] n chain = (ap (λ (l : Machine). l.jobs) chain, ap (λ (l : Machine). l.next_id) chain)
 same_jobs m (g ∷ given) n chain = grind (arith, common_steps, end_of, same_jobs chain.0 given n chain.2)
 
--- A part goes by moves, and keeps what every part keeps.
+-- A part is a sequence of moves, and keeps what every part keeps.
 pub record PartGoes (m : Machine) (p : Part) : Type 0 where
   pub goes : Goes m p.happened p.machine
   pub keeps : Keeps p.machine

@@ -8,11 +8,11 @@ use Rattle.bq_job.specs.reading.Reading.{IsUnitAfter}
 use Rattle.bq_job.proofs.LineLemmas.{first_line-append, first_line_is, first_line_again}
 use Rattle.std.proofs.lemmas.Bool.{cases_Bool}
 
--- the request of a unit is the computed one, or its memory was refused
+-- the request of a unit is the computed one, or its allocation failed
 abbrev pub IsComputed : Request → Request → Type 0
 IsComputed r q = (r ≡ q) ⊎ IsRefusedMemory r q
 
--- what is in a Some is one
+-- two equal `Some` have equal contents
 pub some_pair : {A B : Type 0} (x y : A × B) → Some x ≡ Some y → (x.0 ≡ y.0) × (x.1 ≡ y.1)
 some_pair x y e = let h : x ≡ y = cc in (ap (λ z. z.0) h, ap (λ z. z.1) h)
 
@@ -29,7 +29,7 @@ pub unit_after-unit : (size : ℕ) (read : LineRead) (after rest : List ℕ) (r 
 unit_after-unit size (Whole request) after rest r e = let same = some_pair (request, after) (r, rest) e in ([], same.1, (refl, sym same.0))
 unit_after-unit size (PutWaits put) after rest r e = grind (arith, common_steps, some_pair, nat_tests)
 
--- a text that begins with a unit has it as its first
+-- a text that begins with a unit has it as its first unit
 pub first_unit-append : (size : ℕ) (first more : List ℕ) (r : Request) → IsUnit size first r
     → (q : Request) × (first_unit size (first ++ more) ≡ Some (q, more)) × IsComputed r q
 first_unit-append size first more r h = go (first_line first) refl h

@@ -1,4 +1,4 @@
--- One more request behind others.
+-- One more request after others.
 use Rattle.std.proofs.Common.{◌++◌, ◌∷◌, ◌≡◌, IsTrue, List, [], ℕ, append-nil, append_assoc, false, not, refl, sym}
 use Rattle.std.proofs.lemmas.Bool.{and_parts}
 use Rattle.bq_job.specs.reading.Reading.{AreUnits, IsUnit, is_quit, quits_last, ends_by_quit}
@@ -6,7 +6,7 @@ use Rattle.bq_job.specs.declared.request.Request.{Request}
 use Rattle.std.proofs.lemmas.Grind.{common_steps}
 use Rattle.std.proofs.Common.{arith}
 
--- a unit behind units
+-- a unit after units
 pub AreUnits-append : (size : ℕ) (requests : List Request) (units unit : List ℕ) (r : Request) → AreUnits size units requests → IsUnit size unit r
     → AreUnits size (units ++ unit) (requests ++ r ∷ [])
 AreUnits-append size [] units unit r are is = (unit, [], rw are (sym (append-nil unit)), is, refl)
@@ -18,7 +18,7 @@ ends_by_quit-append [] r = refl
 ends_by_quit-append (q ∷ []) r = refl
 ends_by_quit-append (q ∷ next ∷ requests) r = ends_by_quit-append (next ∷ requests) r
 
--- where none is quit, one more may be
+-- if none of the requests is quit, one more may follow
 pub quits_last-append : (requests : List Request) (r : Request) → IsTrue (quits_last requests) → ends_by_quit requests ≡ false → IsTrue (quits_last (requests ++ r ∷ []))
 quits_last-append [] r last no_quit = refl
 quits_last-append (q ∷ []) r last no_quit = rw no_quit refl

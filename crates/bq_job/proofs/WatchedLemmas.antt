@@ -1,4 +1,4 @@
--- The tubes that a seat watches: at least one and none twice, through a watch and an ignore.
+-- The tubes that a seat watches, at least one and none twice, after a watch and an ignore.
 use Rattle.std.proofs.lemmas.Bool.{cases_Bool, and_parts, and_from, both_ways, cond_both, false_from_ne_true, or_from, or_parts}
 use Rattle.std.proofs.Common.{◌++◌, ◌∷◌, ◌≡◌, Bool, List, [], ℕ, arith, false, refl, sym, true}
 use Rattle.std.proofs.lemmas.{Bool.not-true, Grind.common_steps, List.Folds.list_any-append}

@@ -1,4 +1,4 @@
--- The types of the code that definitions speak of.
+-- The types of the code that the definitions refer to.
 pub use Rattle.bq_job.specs.declared.answer.Answer.{Answer}
 pub use Rattle.bq_job.specs.declared.job.Job.{Job}
 pub use Rattle.bq_job.specs.declared.job.JobState.{JobState}

@@ -1,4 +1,5 @@
--- What the headline does not reach: definitions of other contracts, and those that only proofs use.
+-- Definitions that the headline does not need: those of other contracts, and those that only proofs
+-- use.
 pub mod BodySoFar
 pub mod ClientGets
 pub mod Codes

@@ -1,4 +1,4 @@
--- What becomes of jobs and clients along any run of the machine.
+-- What happens to jobs and clients along any run of the machine.
 pub mod Happenings
 pub mod LawsOfRuns
 pub mod LeastJob

@@ -1,4 +1,4 @@
--- What a run promises: one history of everybody's steps, and what each line is owed along it.
+-- What a run promises: one history of all clients' steps, and what each line is owed along it.
 pub mod ControlDid
 pub mod CoreDid
 pub mod Headline

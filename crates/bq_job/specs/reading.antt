@@ -1,4 +1,4 @@
--- What requests the bytes of a line have.
+-- The requests that the bytes of a line contain.
 pub mod CommandWords
 pub mod Line
 pub mod LineRead

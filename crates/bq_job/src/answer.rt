@@ -16,49 +16,51 @@ pub enum Answer {
     Ok(Text),
     /// `USING`: puts go into this tube.
     Using(TubeName),
-    /// `WATCHING`: so many tubes are watched.
+    /// `WATCHING`: the number of tubes that the client watches.
     Watching(u64),
-    /// `KICKED` with a number: so many jobs became ready.
+    /// `KICKED` with a number: how many jobs became ready.
     KickedCount(u64),
     /// `KICKED`: the job became ready.
     Kicked,
-    /// `DELETED`
+    /// `DELETED`: the job was removed.
     Deleted,
-    /// `RELEASED`
+    /// `RELEASED`: the client no longer holds the job; it is ready or delayed.
     Released,
-    /// `BURIED`
+    /// `BURIED`: the client no longer holds the job; it waits for a kick.
     Buried,
-    /// `TOUCHED`
+    /// `TOUCHED`: the job's time to run starts anew.
     Touched,
-    /// `PAUSED`
+    /// `PAUSED`: the tube's pause was set.
     Paused,
-    /// `NOT_FOUND`: there is no such job or tube, or another client holds the job.
+    /// `NOT_FOUND`: no such job or tube, or the job is not in a state that the command accepts, for
+    /// instance because another client holds it.
     NotFound,
     /// `NOT_IGNORED`: the only watched tube can't be ignored.
     NotIgnored,
-    /// `DRAINING`: no put is accepted any more.
+    /// `DRAINING`: the server accepts no more puts.
     Draining,
-    /// `OUT_OF_MEMORY`: memory was refused, or a put found as many jobs as there may be. Nothing was changed.
+    /// `OUT_OF_MEMORY`: an allocation failed, or a put found the job limit reached. The command
+    /// changed nothing.
     OutOfMemory,
-    /// `TIMED_OUT`: the wait has ended without a job.
+    /// `TIMED_OUT`: the wait ended without a job.
     TimedOut,
-    /// `DEADLINE_SOON`: the time to run of a job that the client holds ends within a second.
+    /// `DEADLINE_SOON`: a job that the client holds has less than a second of its time to run left.
     DeadlineSoon,
-    /// `UNKNOWN_COMMAND`
+    /// `UNKNOWN_COMMAND`: the first word of the line names no command.
     UnknownCommand,
-    /// `BAD_FORMAT`
+    /// `BAD_FORMAT`: the line is too long, or its words do not fit its command.
     BadFormat,
-    /// `JOB_TOO_BIG`
+    /// `JOB_TOO_BIG`: the body of a put is larger than the server accepts.
     JobTooBig,
-    /// `EXPECTED_CRLF`
+    /// `EXPECTED_CRLF`: the body of a put is not followed by CR LF.
     ExpectedCrlf,
-    /// The connection is closed. It has no bytes.
+    /// The connection is closed. Nothing is written for it.
     Closed,
 }
 
 impl Answer {
-    /// The number of a refusal: 101 to 104 where the reader refused, 201 to 206 where the core did.
-    /// Other answers have none.
+    /// Returns the number of a refusal: 101 to 104 if the reader rejected the request, 201 to 206
+    /// if the core did. Returns `None` for all other answers.
     pub fn code(&self) -> Option<u16>
         ensures { result ≡ answer_code self.now }
     {

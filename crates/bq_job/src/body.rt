@@ -5,7 +5,7 @@ use std::alloc::Global;
 use std::marker::Model;
 use std::sync::Arc;
 
-/// The bytes of a job, which several answers can share.
+/// The bytes of a job. Several answers can share them.
 #[derive(Debug, Drop)]
 pub struct Body {
     bytes: Arc<Vec<u8, Global>, Global>,
@@ -21,7 +21,7 @@ impl Model for Body {
 }
 
 impl Body {
-    /// A body of these bytes.
+    /// Copies `bytes` into a new body. Returns `NoMemory` if an allocation fails.
     pub fn new(alloc: Global, bytes: &[u8]) -> Result<Body, NoMemory>
         ensures { IfOk result (λ body. body ≡ bytes.now) }
     {
@@ -31,7 +31,8 @@ impl Body {
         Body::from_vec(alloc, copy)
     }
 
-    /// A body of the bytes of a vector, which aren't copied.
+    /// Makes a body of a vector without copying its bytes. Returns `NoMemory` if the allocation of
+    /// the shared reference fails.
     pub fn from_vec(alloc: Global, bytes: Vec<u8, Global>) -> Result<Body, NoMemory>
         ensures { IfOk result (λ body. body ≡ bytes.items) }
     {
@@ -41,8 +42,8 @@ impl Body {
         }
     }
 
-    /// One more owner of the same bytes. It takes no memory, and is refused only where the `Arc` gives
-    /// no further owner.
+    /// Returns another reference to the same bytes. It allocates nothing, and fails only if `Arc`
+    /// refuses another reference.
     pub fn share(&self) -> Result<Body, NoMemory>
         ensures { IfOk result (λ body. body ≡ self.now) }
     {
@@ -52,6 +53,7 @@ impl Body {
         }
     }
 
+    /// Returns the bytes.
     pub fn as_slice(&self) -> &[u8]
         ensures { result.now ≡ self.now }
     {
@@ -59,11 +61,11 @@ impl Body {
     }
 }
 
-/// A body that is being filled. All its memory is given when it is made.
+/// A body that is being filled. `new` allocates everything that it needs.
 #[derive(Debug, Drop)]
 pub struct BodyBuilder {
     bytes: Vec<u8, Global>,
-    // Holds nothing yet, and takes the bytes at the end.
+    // Empty until `finish` moves the bytes into it.
     owner: Arc<Vec<u8, Global>, Global>,
 }
 
@@ -78,7 +80,8 @@ impl Model for BodyBuilder {
 }
 
 impl BodyBuilder {
-    /// An empty body with room for so many bytes. It asks for memory, for this size, at once.
+    /// Returns an empty body with room for `size` bytes. Returns `NoMemory` if an allocation of
+    /// that size fails.
     pub fn new(alloc: Global, size: usize) -> Result<BodyBuilder, NoMemory>
         ensures empty { IfOk result (λ b. b.bytes ≡ []) }
         ensures room { IfOk result (λ b. size ≤ b.room) }
@@ -92,7 +95,7 @@ impl BodyBuilder {
         }
     }
 
-    /// Puts these bytes at the end. It takes no memory.
+    /// Appends these bytes. It allocates nothing; the caller ensures that they fit.
     pub fn push_slice(&mut self, bytes: &[u8])
         requires { length bytes.now ≤ self.old.room }
         ensures bytes { self.new.bytes ≡ self.old.bytes ++ bytes.now }
@@ -101,8 +104,8 @@ impl BodyBuilder {
         let _fits = self.bytes.extend_from_slice(bytes);
     }
 
-    /// The body of the bytes so far. It takes no memory, and is refused only where the `Arc` doesn't give
-    /// its one owner access.
+    /// Returns the body of the bytes so far. It allocates nothing, and fails only if `Arc` does not
+    /// give access to its only owner.
     pub fn finish(self) -> Result<Body, NoMemory>
         ensures { IfOk result (λ body. body ≡ self.bytes) }
     {

@@ -1,5 +1,6 @@
-//! Worked examples of whole histories: what was read and written at each door, and whether one history of
-//! everybody's steps explains it. Each is a clause on the definitions, and none runs our code.
+//! Worked examples of whole histories: what was read and written at each door, and whether one
+//! history of all clients' steps explains it. Each is a clause on the definitions; none runs our
+//! code.
 ghost use Rattle.bq_job.specs.Types.{Answer, Step};
 ghost use Rattle.bq_job.specs.declared.answer.Answer.TheVariants.{Closed, Deleted, Inserted, Kicked};
 ghost use Rattle.bq_job.specs.declared.request.Request.TheVariants.{Put, Quit, Reserve};
@@ -11,9 +12,10 @@ ghost use Rattle.bq_job.specs.examples.HistoryExamples.{shut_line, unread_line, 
 ghost use Rattle.bq_job.specs.machine.{Machine.Machine};
 ghost use Rattle.std.specs.Prelude.{ℕ, Bool, false, ◌≡◌, List, [], ◌∷◌, Option, Some, codes};
 
-/// Histories of doors that were served: where a put answers the reserve of the other door's client; where what
-/// the first client of a door held goes to the second, whose line is over by a quit; and where a write breaks off
-/// within INSERTED, and then a read fails behind a reserve that waits, since the job is delayed.
+/// Histories of doors that were served. In the first, a put answers the reserve of the other door's
+/// client. In the second, the job that a door's first client held goes to its second client, whose
+/// line ends with a quit. In the third, a write breaks off within INSERTED, and then a read fails
+/// while a reserve waits for the delayed job.
 fn doors_are_served()
     ensures a_put_answers_a_reserve { AreServedOver
         (connect 0 ∷ connect 1 ∷ ask 0 Reserve ∷ ask 1 (Put 5 0 10 (codes "abc")) ∷ drain_at 2
@@ -40,17 +42,17 @@ fn doors_are_served()
         [] }
 {}
 
-/// A reading that falls counts as the last one, so a step at the smaller moment is refused; and no reading of the
-/// clock makes two steps.
+/// A reading that is smaller than the last one counts as the last one, so a step at the smaller
+/// moment is rejected. One reading of the clock does not time two steps.
 fn moments_never_fall()
     ensures kept { IsTimedBy (Some 5 ∷ Some 3 ∷ []) (at 5 (connect 0) ∷ at 5 (close 0) ∷ []) }
     ensures fallen { IsTimedBy (Some 5 ∷ Some 3 ∷ []) (at 5 (connect 0) ∷ at 3 (close 0) ∷ []) → ⊥ }
     ensures used_twice { IsTimedBy (Some 5 ∷ []) (at 5 (connect 0) ∷ at 5 (close 0) ∷ []) → ⊥ }
 {}
 
-/// What no line is owed. Steps without a command that the client sent are none of its line, whatever was answered
-/// and written. A line of which no end was read is not over by the end of its input. Whoever is owed INSERTED is
-/// not written what another is owed. A door at which a line was opened and never shut is not done.
+/// Records that no line can leave: the steps lack a command that the client sent; the end of a line
+/// was not read; a client that is owed INSERTED received another client's answer; a line was opened
+/// at a door and never closed.
 fn no_line_is_owed_so()
     ensures command_missing { (written : List ℕ) (given : List Answer)
         → IsLineOwed usual (ended_line (codes "delete 1\r\nreserve\r\n") written) (Connect ∷ Ask Reserve ∷ Close ∷ []) given → ⊥ }
@@ -62,8 +64,8 @@ fn no_line_is_owed_so()
         → IsDoorOwed usual lines (Connect ∷ Ask Reserve ∷ Gone ∷ []) given → ⊥ }
 {}
 
-/// A door that was never opened has not been done by two drains alone, which the control line must have
-/// said, and there are no answers at it.
+/// A door that was never opened. Its history is not two drains alone, since without control input
+/// there are no two drains, and the history has no answers.
 #[tactic(auto, using(crate::proofs::HistoryLemmas::none_behind))]
 fn door_never_opened()
     ensures steps { (control : List ℕ) (failed : Bool) (readings : List (Option ℕ)) (last : Machine)

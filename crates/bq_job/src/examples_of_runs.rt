@@ -1,5 +1,5 @@
-//! Worked examples of whole runs, by which the laws of runs say something: each is a clause that holds by
-//! evaluating the definitions, and none runs our code.
+//! Worked examples of whole runs, so that the laws of runs are not empty. Each is a clause that
+//! holds by evaluating the definitions; none runs our code.
 ghost use Rattle.bq_job.specs.declared.answer.Answer.TheVariants.{Deleted, Draining, Inserted, NotFound, Reserved};
 ghost use Rattle.bq_job.specs.declared.request.Request.TheVariants.{Bury, Delete, Kick, PauseTube, Put, Release, Reserve, ReserveJob};
 ghost use Rattle.bq_job.specs.beside.{machine_after, transitions};
@@ -10,7 +10,8 @@ ghost use Rattle.bq_job.specs.laws.{Holds, IsHandedOutBefore, IsPutBefore, has_i
 ghost use Rattle.std.specs.Prelude.{List, [], ◌∷◌, ◌≡◌, codes, false, map, true};
 ghost use Rattle.std.specs.List.{list_any};
 
-/// Two undisturbed jobs go out in the order of their puts, whichever client has waited longer.
+/// Two undisturbed jobs are handed out in the order of their puts, whichever client has waited
+/// longer.
 fn two_jobs_in_order()
     ensures { HandsOutUndisturbed (1 ∷ 2 ∷ [])
         (ask 0 (PauseTube (codes "default") 5)
@@ -22,7 +23,7 @@ fn two_jobs_in_order()
         ∷ []) }
 {}
 
-/// The one that was put first is put, and handed out, before the other, and not behind it.
+/// The job that was put first is put, and handed out, before the other one and not after it.
 fn order_of_two_jobs()
     ensures put_first { let happened = happening_in
         (ask 0 (Put 7 0 9 (codes "x")) ∷ ask 0 (Put 7 0 9 (codes "y")) ∷ ask 2 Reserve ∷ ask 1 Reserve ∷ [])
@@ -32,7 +33,7 @@ fn order_of_two_jobs()
         in (IsPutBefore 2 1 happened → ⊥) × (IsHandedOutBefore 2 1 happened → ⊥) }
 {}
 
-/// A job whose time to run was over is handed out again, and is no undisturbed one.
+/// A job whose time to run has expired is handed out again, and so is not undisturbed.
 fn expired_job_goes_out_twice()
     ensures { HandsOutDisturbed (1 ∷ 1 ∷ [])
         (ask 0 (Put 0 0 1 (codes "x"))
@@ -42,7 +43,7 @@ fn expired_job_goes_out_twice()
         ∷ []) }
 {}
 
-/// A job that was released is handed out again, and is no undisturbed one.
+/// A job that was released is handed out again, and so is not undisturbed.
 fn released_job_goes_out_twice()
     ensures { HandsOutDisturbed (1 ∷ 1 ∷ [])
         (ask 0 (Put 0 0 9 (codes "x"))
@@ -52,7 +53,7 @@ fn released_job_goes_out_twice()
         ∷ []) }
 {}
 
-/// A job that was buried and kicked is handed out again, and is no undisturbed one.
+/// A job that was buried and kicked is handed out again, and so is not undisturbed.
 fn buried_job_goes_out_twice()
     ensures { HandsOutDisturbed (1 ∷ 1 ∷ [])
         (ask 0 (Put 0 0 9 (codes "x"))
@@ -63,8 +64,8 @@ fn buried_job_goes_out_twice()
         ∷ []) }
 {}
 
-/// A job goes to a client in the very step that closes its connection, and in the same step to another
-/// one: it is no undisturbed one.
+/// A job goes to a client in the very step that closes its connection, and in the same step to
+/// another client, so it is not undisturbed.
 fn job_goes_out_in_the_close_of_its_client()
     ensures { HandsOutDisturbed (1 ∷ 1 ∷ [])
         (ask 0 (PauseTube (codes "default") 5)
@@ -75,7 +76,7 @@ fn job_goes_out_in_the_close_of_its_client()
         ∷ []) }
 {}
 
-/// A job that was reserved by reserve-job was not handed out, and is no undisturbed one.
+/// A job that was reserved by reserve-job was not handed out, and is not undisturbed.
 fn job_reserved_by_id()
     ensures { HandsOutDisturbed []
         (ask 0 (Put 0 0 9 (codes "x"))
@@ -83,7 +84,7 @@ fn job_reserved_by_id()
         ∷ []) }
 {}
 
-/// A job that was put with a delay is no undisturbed one.
+/// A job that was put with a delay is not undisturbed.
 fn job_put_with_a_delay()
     ensures { HandsOutDisturbed (1 ∷ [])
         (ask 0 (Put 0 5 9 (codes "x"))
@@ -92,8 +93,8 @@ fn job_put_with_a_delay()
         ∷ []) }
 {}
 
-/// The most urgent job goes first, in whichever tube it is that the client watches, and of two that are
-/// as urgent the one with the lower id.
+/// The most urgent job goes first, whichever of the watched tubes it is in; of two equally urgent
+/// jobs, the one with the lower id goes first.
 fn least_job_first()
     ensures { Plays
         (ask 0 (Put 7 0 9 (codes "x")) gives ((0, Inserted 1) ∷ [])
@@ -104,7 +105,7 @@ fn least_job_first()
         ∷ []) }
 {}
 
-/// A put before the draining begins is accepted, and none after it.
+/// A put before draining begins is accepted; a put after it is not.
 fn put_before_and_after_the_drain()
     ensures { Plays
         (ask 0 (Put 0 0 9 (codes "x")) gives ((0, Inserted 1) ∷ [])
@@ -113,7 +114,8 @@ fn put_before_and_after_the_drain()
         ∷ []) }
 {}
 
-/// Of the steps of three connections, a put, the drain and a put the one before the drain gives INSERTED.
+/// In the steps of three connections, a put, the drain and another put, only the put before the
+/// drain is answered INSERTED.
 fn inserted_before_the_drain()
     ensures { map (λ t. has_inserted t.given) (taken
         (ask 0 (Put 0 0 9 (codes "x")) ∷ drain ∷ ask 0 (Put 0 0 9 (codes "y")) ∷ []))
@@ -127,14 +129,14 @@ fn holder_of_a_job()
         (connect 0 ∷ ask 0 (Put 0 0 9 (codes "x")) ∷ ask 0 Reserve ∷ [])) 0 1 }
 {}
 
-/// A put that gets the last id is accepted, and none after it.
+/// The put that gets the last id is accepted; no later put is.
 fn put_of_the_last_id()
     ensures { map (λ t. t.given) (transitions (record (server 1 65535) { next_id = last_id })
         (connect 0 ∷ ask 0 (Put 0 0 9 (codes "x")) ∷ ask 0 (Put 0 0 9 (codes "y")) ∷ []))
         ≡ [] ∷ ((0, Inserted last_id) ∷ []) ∷ ((0, Draining) ∷ []) ∷ [] }
 {}
 
-/// A delete of a job that another client holds deletes nothing, and its holder's does.
+/// A delete of a job that another client holds deletes nothing; a delete by its holder does.
 fn deletion_is_told()
     ensures none { list_any (is_deletion 1) (happening_in
         (ask 0 (Put 0 0 9 (codes "x")) ∷ ask 1 Reserve ∷ ask 0 (Delete 1) ∷ [])) ≡ false }
@@ -142,7 +144,7 @@ fn deletion_is_told()
         (ask 0 (Put 0 0 9 (codes "x")) ∷ ask 1 Reserve ∷ ask 1 (Delete 1) ∷ [])) ≡ true }
 {}
 
-/// A held job is deleted by its holder alone.
+/// Only its holder can delete a held job.
 fn delete_of_a_held_job()
     ensures { Plays
         (ask 0 (Put 0 0 9 (codes "x")) gives ((0, Inserted 1) ∷ [])

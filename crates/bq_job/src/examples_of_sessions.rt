@@ -1,5 +1,5 @@
-//! Worked sessions of a lone client: the bytes that it sends, and the bytes that are written to it. Each
-//! is a clause that holds by evaluating the definitions of the reading, the machine and the texts, and
+//! Worked sessions of a lone client: the bytes that it sends, and the bytes that it receives. Each
+//! is a clause that holds by evaluating the definitions of the reading, the machine and the texts;
 //! none runs our code.
 
 #![tactic(auto, unfolding(crate::specs::examples::Digits::digits))]
@@ -13,36 +13,36 @@ fn first_cycle()
         ≡ codes "INSERTED 1\r\nRESERVED 1 3\r\nabc\r\nDELETED\r\n" }
 {}
 
-/// Nothing is answered to nothing.
+/// An empty input gets an empty answer.
 fn empty_input()
     ensures { replies [] ≡ [] }
 {}
 
-/// A job that is gone isn't deleted again.
+/// A job that was deleted can't be deleted again.
 fn delete_twice()
     ensures { replies (codes "put 0 0 1 1\r\na\r\ndelete 2\r\ndelete 1\r\ndelete 1\r\n")
         ≡ codes "INSERTED 1\r\nNOT_FOUND\r\nDELETED\r\nNOT_FOUND\r\n" }
 {}
 
-/// Who holds jobs whose time to run ends within a second is told so, where no other job is ready.
+/// A client whose leases end within a second gets DEADLINE_SOON if no other job is ready.
 fn deadline_soon_behind_two_leases()
     ensures { replies (codes "put 0 0 1 0\r\n\r\nput 0 0 1 1\r\na\r\nreserve\r\nreserve\r\nreserve\r\n")
         ≡ codes "INSERTED 1\r\nINSERTED 2\r\nRESERVED 1 0\r\n\r\nRESERVED 2 1\r\na\r\nDEADLINE_SOON\r\n" }
 {}
 
-/// A body that isn't followed by CR LF is refused, and what comes after it is read as ever.
+/// A body that isn't followed by CR LF is rejected, and the bytes after it are read as usual.
 fn bad_body_end_then_wait()
     ensures { replies (codes "put 0 0 1 2\r\nabXYreserve-with-timeout 0\r\n")
         ≡ codes "EXPECTED_CRLF\r\nTIMED_OUT\r\n" }
 {}
 
-/// The two bytes after a body are taken with it, whatever they are.
+/// The two bytes after a body are consumed with it, whatever they are.
 fn bad_end_swallowed()
     ensures { replies (codes "put 0 0 1 2\r\nabXYreserve\r\n")
         ≡ codes "EXPECTED_CRLF\r\nTIMED_OUT\r\n" }
 {}
 
-/// A body that is too big is taken and refused; one of just the size is accepted.
+/// A body that is too big is consumed and rejected; a body of exactly the limit is accepted.
 fn body_too_big()
     ensures above { replies_within 5 (codes "put 0 0 1 6\r\nxxxxxx\r\nlist-tube-used\r\n")
         ≡ codes "JOB_TOO_BIG\r\nUSING default\r\n" }
@@ -50,27 +50,29 @@ fn body_too_big()
         ≡ codes "INSERTED 1\r\nUSING default\r\n" }
 {}
 
-/// After a put that is too big the next one is the first that is accepted.
+/// After a put that is too big, the next put is the first to be accepted.
 fn small_limit()
     ensures { replies_within 2 (codes "put 0 0 1 3\r\nabc\r\nput 0 0 1 2\r\nab\r\n")
         ≡ codes "JOB_TOO_BIG\r\nINSERTED 1\r\n" }
 {}
 
-/// Where there may be one job, a put is refused until that job is deleted, in whatever state it is; and
-/// the refused puts took no id.
+/// With a limit of one job, every put is rejected until that job is deleted, whatever state it is
+/// in. A rejected put does not consume an id.
 fn limit_of_one()
     ensures { replies_with (at_most 1 (plain 1 65535))
         (codes "put 0 0 9 1\r\nx\r\nput 0 0 9 1\r\ny\r\nreserve\r\nput 0 0 9 1\r\nz\r\ndelete 1\r\nput 0 0 9 1\r\nw\r\n")
         ≡ codes "INSERTED 1\r\nOUT_OF_MEMORY\r\nRESERVED 1 1\r\nx\r\nOUT_OF_MEMORY\r\nDELETED\r\nINSERTED 2\r\n" }
 {}
 
-/// Upper case names no command; a put with too few words and a tube that begins with - are refused.
+/// Commands in upper case are unknown; a put with too few words and a tube name that begins with
+/// `-` are rejected.
 fn bad_lines()
     ensures { replies (codes "PUT\r\nput 1\r\nuse -a\r\npeek 4294967296\r\n")
         ≡ codes "UNKNOWN_COMMAND\r\nBAD_FORMAT\r\nBAD_FORMAT\r\nNOT_FOUND\r\n" }
 {}
 
-/// The least job goes first by priority, in whichever watched tube it is, then by id.
+/// The job with the lowest priority value goes first, whichever watched tube it is in; ties go to
+/// the lower id.
 fn least_across_tubes()
     ensures { replies
         (codes "watch a\r\nput 7 0 9 1\r\nx\r\nuse a\r\nput 3 0 9 1\r\ny\r\nuse default\r\nput 3 0 9 1\r\nz\r\n"
@@ -79,7 +81,8 @@ fn least_across_tubes()
         ++ codes "RESERVED 2 1\r\ny\r\nRESERVED 3 1\r\nz\r\nRESERVED 1 1\r\nx\r\n" }
 {}
 
-/// Buried jobs are shown and kicked in the order of their burials, and before delayed ones.
+/// Buried jobs are shown and kicked in the order in which they were buried, and before delayed
+/// jobs.
 fn bury_and_kick_order()
     ensures { replies
         (codes "put 0 0 9 1\r\nx\r\nput 0 0 9 1\r\ny\r\nput 0 100 9 1\r\nz\r\nreserve\r\nreserve\r\n"
@@ -97,8 +100,8 @@ fn kick_in_turns()
         ++ codes "BURIED\r\nBURIED\r\nKICKED 2\r\nKICKED 1\r\nKICKED 0\r\n" }
 {}
 
-/// The only watched tube can't be ignored, and to watch one twice changes nothing. A tube that nobody
-/// watches any more is there as long as it is the default one.
+/// The only watched tube can't be ignored, and watching a tube twice changes nothing. The default
+/// tube exists even when no client watches it.
 fn watch_lists()
     ensures { replies
         (codes "ignore default\r\nignore b\r\nwatch b\r\nwatch b\r\nignore default\r\n"
@@ -114,7 +117,8 @@ fn job_statistics()
         ++ codes "time-left: 0\nreserves: 0\ntimeouts: 0\nreleases: 0\nburies: 0\nkicks: 0\n\r\n" }
 {}
 
-/// No job of a paused tube is handed out to a reserve; peek-ready shows it, and reserve-job takes it.
+/// A reserve gets no job of a paused tube; peek-ready still shows the job, and reserve-job takes
+/// it.
 fn paused_tube()
     ensures { replies
         (codes "put 2 0 9 1\r\nx\r\npause-tube default 60\r\nreserve-with-timeout 0\r\npeek-ready\r\n"
@@ -130,7 +134,7 @@ fn release_keeps_the_id()
         ≡ codes "INSERTED 1\r\nINSERTED 2\r\nRESERVED 1 1\r\nx\r\nRELEASED\r\nRESERVED 2 1\r\ny\r\nNOT_FOUND\r\nDELETED\r\n" }
 {}
 
-/// A line of 224 bytes with its CR LF is read, and a longer one is refused.
+/// A line of 224 bytes including CR LF is read; a longer one is rejected.
 fn longest_line()
     ensures fits { replies (codes "peek " ++ replicate 216 48 ++ codes "1\r\n")
         ≡ codes "NOT_FOUND\r\n" }
@@ -138,7 +142,7 @@ fn longest_line()
         ≡ codes "BAD_FORMAT\r\n" }
 {}
 
-/// A tube's name has 200 bytes at most.
+/// A tube's name has at most 200 bytes.
 fn longest_tube_name()
     ensures fits { replies (codes "use " ++ replicate 200 97 ++ codes "\r\n")
         ≡ codes "USING " ++ replicate 200 97 ++ codes "\r\n" }
@@ -146,32 +150,32 @@ fn longest_tube_name()
         ≡ codes "BAD_FORMAT\r\n" }
 {}
 
-/// What breaks off is no request, and after a quit nothing more is read.
+/// An unfinished line or body is not a request, and nothing is read after a quit.
 fn truncated_and_after_quit()
     ensures body { replies (codes "put 0 0 1 5\r\nab") ≡ [] }
     ensures line { replies (codes "list-tube-used") ≡ [] }
     ensures after_quit { replies (codes "quit\r\nstats\r\n") ≡ [] }
 {}
 
-/// A client that waits and sends no more waits no longer.
+/// If a client sends no more, its wait ends.
 fn end_behind_a_wait()
     ensures { replies (codes "reserve\r\n") ≡ codes "TIMED_OUT\r\n" }
 {}
 
-/// A line that is empty or begins with a space names no command; a space at its end and a number that is
-/// too great are refused.
+/// A line that is empty or begins with a space names no command; a trailing space and a number that
+/// is too large are rejected.
 fn odd_spaces_and_numbers()
     ensures { replies (codes "\r\nreserve \r\n reserve\r\nput 0 0 4294967296 1\r\n")
         ≡ codes "UNKNOWN_COMMAND\r\nBAD_FORMAT\r\nUNKNOWN_COMMAND\r\nBAD_FORMAT\r\n" }
 {}
 
-/// Of two delayed jobs the one that is due first is shown, though it was put last.
+/// Of two delayed jobs the one that is due first is shown, even though it was put last.
 fn peek_delayed_first_due()
     ensures { replies (codes "put 0 9 9 1\r\nx\r\nput 0 5 9 1\r\ny\r\npeek-delayed\r\n")
         ≡ codes "INSERTED 1\r\nINSERTED 2\r\nFOUND 2 1\r\ny\r\n" }
 {}
 
-/// Ready jobs below priority 1024 are urgent; puts and deletions are counted.
+/// Ready jobs with a priority below 1024 count as urgent; puts and deletions are counted.
 fn tube_statistics()
     ensures { replies
         (codes "put 1023 0 9 1\r\nx\r\nput 1024 0 9 1\r\ny\r\nreserve\r\ndelete 1\r\nstats-tube default\r\n")
@@ -182,7 +186,7 @@ fn tube_statistics()
         ++ codes "pause-time-left: 0\n\r\n" }
 {}
 
-/// A tube that was gone and comes back counts from 0.
+/// A tube that disappeared and was made again counts from 0.
 fn tube_counts_from_zero()
     ensures { replies
         (codes "use t\r\nput 0 0 9 0\r\n\r\nuse default\r\ndelete 1\r\nstats-tube t\r\nuse t\r\nput 0 0 9 0\r\n\r\n"
@@ -194,7 +198,7 @@ fn tube_counts_from_zero()
         ++ codes "pause-time-left: 0\n\r\n" }
 {}
 
-/// The first command's texts, whole.
+/// The complete texts that a first command gets.
 fn first_texts()
     ensures list { replies (codes "list-tubes\r\n") ≡ codes "OK 14\r\n---\n- default\n\r\n" }
     ensures tube { replies (codes "stats-tube default\r\n")

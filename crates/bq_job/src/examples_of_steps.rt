@@ -1,4 +1,4 @@
-//! Worked examples of the machine. Each is a clause that holds by evaluating the definitions, and none
+//! Worked examples of the machine. Each is a clause that holds by evaluating the definitions; none
 //! runs our code.
 ghost use Rattle.bq_job.specs.declared.answer.Answer.TheVariants.{Buried, Closed, DeadlineSoon, Deleted, Draining, Found};
 ghost use Rattle.bq_job.specs.declared.answer.Answer.TheVariants.{Inserted, KickedCount, NotFound, Ok, OutOfMemory, Paused};
@@ -9,7 +9,7 @@ ghost use Rattle.bq_job.specs.examples.Examples.{Plays, PlaysWith, ask, at, at_m
 ghost use Rattle.bq_job.specs.examples.Examples.{due_after, due_with, end, plain, requeued_after, tick, ◌gives◌};
 ghost use Rattle.std.specs.Prelude.{List, [], ◌∷◌, ◌++◌, ◌≡◌, None, Some, codes};
 
-/// Of two waiting clients each gets the job of a tube that it watches, whoever has waited longer.
+/// Each of two waiting clients gets a job of a tube that it watches, whichever has waited longer.
 fn waiters_of_two_tubes()
     ensures { Plays
         (ask 1 (Watch (codes "a")) gives ((1, Watching 2) ∷ [])
@@ -26,7 +26,7 @@ fn waiters_of_two_tubes()
         ∷ []) }
 {}
 
-/// A waiting client is told DEADLINE_SOON one second before its own lease ends, and no sooner.
+/// A waiting client gets DEADLINE_SOON one second before its own lease ends, and not earlier.
 fn deadline_soon_at_one_second()
     ensures { Plays
         (ask 0 (Put 0 0 2 (codes "x")) gives ((0, Inserted 1) ∷ [])
@@ -54,7 +54,7 @@ fn lease_expires_to_its_waiter()
         ∷ []) }
 {}
 
-/// Where a pause, a delay and a wait end at one moment, the job goes to the waiting client.
+/// If a pause, a delay and a wait end at the same moment, the waiting client gets the job.
 fn pause_and_delay_end_together()
     ensures { Plays
         (ask 0 (Put 0 5 9 (codes "x")) gives ((0, Inserted 1) ∷ [])
@@ -65,7 +65,8 @@ fn pause_and_delay_end_together()
         ∷ []) }
 {}
 
-/// Another client's job can be seen and not deleted. When its client goes, the job goes to who waits.
+/// Another client's job can be seen but not deleted. When its holder disconnects, the waiting
+/// client gets it.
 fn close_hands_on()
     ensures { Plays
         (ask 0 (Put 0 0 9 (codes "x")) gives ((0, Inserted 1) ∷ [])
@@ -77,8 +78,8 @@ fn close_hands_on()
         ∷ []) }
 {}
 
-/// With a delay for the jobs of a lost connection, such a job comes back when the delay is over, with its
-/// own delay and counts. An expired lease is ready at once.
+/// With a requeue delay, a job whose holder disconnects becomes ready again after that delay, and
+/// keeps its own delay and counts. A job whose lease has expired is ready at once.
 #[tactic(auto, unfolding(crate::specs::examples::Digits::digits))]
 fn requeue_after_close()
     ensures lost { PlaysWith (requeued_after 5 (plain 3 65535))
@@ -108,7 +109,7 @@ fn requeue_after_close()
         ∷ []) }
 {}
 
-/// A kick brings a job of a lost connection back before its delay is over.
+/// A kick makes such a job ready before its requeue delay ends.
 fn kick_before_requeue()
     ensures { PlaysWith (requeued_after 5 (plain 3 65535))
         (ask 0 (Put 0 0 9 (codes "x")) gives ((0, Inserted 1) ∷ [])
@@ -119,7 +120,7 @@ fn kick_before_requeue()
         ∷ []) }
 {}
 
-/// The delay of a lost connection's job ends no later than moments do.
+/// A requeue delay ends at the largest moment at the latest.
 fn requeue_at_the_end_of_moments()
     ensures { due_with (requeued_after 4294967295 (plain 3 65535))
         (ask 0 (Put 0 0 9 (codes "x"))
@@ -128,7 +129,8 @@ fn requeue_at_the_end_of_moments()
         ∷ []) ≡ Some 18446744073709551615 }
 {}
 
-/// A job that comes back into a paused tube waits for the end of the pause, and draining holds none back.
+/// A job that becomes ready again in a paused tube is handed out when the pause ends, even while
+/// draining.
 fn requeue_while_paused_and_draining()
     ensures { PlaysWith (requeued_after 5 (plain 3 65535))
         (ask 0 (Put 0 0 9 (codes "x")) gives ((0, Inserted 1) ∷ [])
@@ -143,7 +145,7 @@ fn requeue_while_paused_and_draining()
         ∷ []) }
 {}
 
-/// Once draining, no put is accepted, and jobs are handed out as before.
+/// While draining, no put is accepted, and jobs are handed out as before.
 fn draining()
     ensures { Plays
         (ask 0 (Put 0 0 9 (codes "x")) gives ((0, Inserted 1) ∷ [])
@@ -153,7 +155,7 @@ fn draining()
         ∷ []) }
 {}
 
-/// A machine that drains says so, though there are as many jobs as there may be.
+/// A put is answered DRAINING by a draining machine even if the job limit is reached.
 fn draining_before_the_limit()
     ensures { PlaysWith (at_most 1 (plain 3 65535))
         (ask 0 (Put 0 0 9 (codes "x")) gives ((0, Inserted 1) ∷ [])
@@ -162,8 +164,8 @@ fn draining_before_the_limit()
         ∷ []) }
 {}
 
-/// Jobs of every state count: a delayed, a buried and a reserved one leave no place for a fourth. A delete
-/// makes room for one, and no put that was refused has taken an id.
+/// Jobs in every state count: with a limit of three, a delayed, a buried and a reserved job leave
+/// no room for a fourth. A delete makes room for one, and rejected puts consume no ids.
 fn jobs_of_every_state_count()
     ensures { PlaysWith (at_most 3 (plain 3 65535))
         (ask 0 (Put 0 9 9 (codes "x")) gives ((0, Inserted 1) ∷ [])
@@ -181,7 +183,7 @@ fn jobs_of_every_state_count()
         ∷ []) }
 {}
 
-/// The greatest limit refuses no put while there are fewer jobs.
+/// The largest limit rejects no put while there are fewer jobs.
 fn greatest_limit()
     ensures { PlaysWith (at_most 4294967295 (plain 3 65535))
         (ask 0 (Put 0 0 9 (codes "x")) gives ((0, Inserted 1) ∷ [])
@@ -189,7 +191,7 @@ fn greatest_limit()
         ∷ []) }
 {}
 
-/// A touch begins the time to run anew. Once it is over, the client holds the job no more.
+/// A touch restarts the time to run. Once that time is over, the client no longer holds the job.
 fn touch_moves_the_lease()
     ensures { Plays
         (ask 0 (Put 0 0 2 (codes "x")) gives ((0, Inserted 1) ∷ [])
@@ -200,7 +202,7 @@ fn touch_moves_the_lease()
         ∷ []) }
 {}
 
-/// A job that was released with a delay is handed out when the delay is over.
+/// A job that was released with a delay is handed out when the delay ends.
 fn release_with_delay()
     ensures { Plays
         (ask 0 (Put 0 0 9 (codes "x")) gives ((0, Inserted 1) ∷ [])
@@ -220,12 +222,12 @@ fn timed_waits_by_ticket()
         ∷ []) }
 {}
 
-/// A client that sends no more waits no longer.
+/// If a client sends no more, its wait ends.
 fn end_of_a_waiter()
     ensures { Plays (ask 0 Reserve gives [] ∷ end 0 gives ((0, TimedOut) ∷ []) ∷ []) }
 {}
 
-/// A pause of 0 seconds ends a pause, and the job goes to who waits.
+/// A pause of 0 seconds ends a pause, and the waiting client gets the job.
 fn pause_lifted()
     ensures { Plays
         (ask 0 (Put 0 0 9 (codes "x")) gives ((0, Inserted 1) ∷ [])
@@ -235,8 +237,8 @@ fn pause_lifted()
         ∷ []) }
 {}
 
-/// What is due next: the end of a lease, and a second before where its client waits; the end of a delay,
-/// of a pause and of a wait.
+/// The next due moment: the end of a lease, or one second before it if its holder waits; the end of
+/// a delay, of a pause and of a wait.
 fn due_moments()
     ensures nothing { due_after [] ≡ None }
     ensures ready { due_after (ask 0 (Put 0 0 2 (codes "x")) ∷ ask 1 Reserve ∷ close 1 ∷ [])

@@ -1,11 +1,11 @@
 ghost use Rattle.std.specs.Prelude.{◌≡◌};
 
-/// A growth of memory was refused.
+/// An allocation failed.
 #[derive(Clone, Copy, Debug, PartialEq, Eq)]
 pub struct NoMemory;
 
 impl NoMemory {
-    /// The number of this fault, 301.
+    /// Returns the number of this fault, 301.
     pub fn code(self) -> u16
         ensures { result ≡ 301 }
     {

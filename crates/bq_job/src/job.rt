@@ -1,15 +1,15 @@
 use super::{Body, JobId, Moment, Pri, Seat, TubeName};
 
-/// A job, from its accepted put to its deletion.
+/// A job, from the put that made it until its deletion.
 #[derive(Debug, Drop)]
 pub struct Job {
     pub id: JobId,
-    /// The tube that it was put into, for life.
+    /// The tube that it was put into. It never changes.
     pub tube: TubeName,
     pub pri: Pri,
     /// The delay of its put or of its last release, in seconds.
     pub delay: u32,
-    /// How long a client may hold it, in seconds, at least 1.
+    /// How long a client may hold it, in seconds; at least 1.
     pub ttr: u32,
     pub body: Body,
     /// When its put was accepted.
@@ -18,18 +18,18 @@ pub struct Job {
     pub state: JobState,
 }
 
-/// How often things happened to a job. A count stops at 2^64 - 1.
+/// How often each thing happened to a job. A count stops at 2^64 - 1.
 #[derive(Clone, Copy, Debug, Default, PartialEq, Eq)]
 pub struct Counts {
     pub reserves: u64,
-    /// How often its time to run was over while a client held it.
+    /// How often its time to run expired while a client held it.
     pub timeouts: u64,
     pub releases: u64,
     pub buries: u64,
     pub kicks: u64,
 }
 
-/// Where a job stands. A job is in one state at a time.
+/// The state of a job. A job is in one state at a time.
 #[derive(Clone, Copy, Debug, PartialEq, Eq)]
 pub enum JobState {
     Ready,
@@ -37,6 +37,6 @@ pub enum JobState {
     Delayed(Moment),
     /// Held by the client at this seat, until this deadline.
     Reserved(Seat, Moment),
-    /// Put aside, with a number by which buried jobs are ordered.
+    /// Set aside until it is kicked. Buried jobs are ordered by this number.
     Buried(u64),
 }

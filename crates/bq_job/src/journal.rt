@@ -1,12 +1,12 @@
 use super::{Moment, Seat, Step};
 
-/// An entry of a journal: a step that was taken.
+/// An entry of a journal: a step that the core took.
 #[derive(Debug, Drop)]
 pub struct Entry {
-    /// The moment as it was handed in.
+    /// The moment that the caller passed in, in milliseconds.
     pub moment: Moment,
     pub seat: Seat,
     pub step: Step,
-    /// Whether the step's command was left out, because a growth of memory was refused.
+    /// True if the step's command was skipped because an allocation failed.
     pub left_out: bool,
 }

@@ -1,4 +1,4 @@
-//! Laws of clients: what a step gives to each of them, and what a whole run does.
+//! Laws about clients: which answers a step gives each client, and what a whole run did.
 ghost use Rattle.std.specs.Prelude.{ℕ, Bool, List, Option, [], ◌∷◌, ◌++◌, ◌≡◌, ◌≢◌, ◌<◌, true};
 ghost use Rattle.bq_job.specs.Types.{Answer, Request, Step};
 ghost use Rattle.bq_job.specs.declared.step.Step.TheVariants.{Ask};
@@ -7,14 +7,15 @@ ghost use Rattle.bq_job.specs.promise.{Entry, IsHistoryOf, IsHistoryOfLine, Line
 ghost use Rattle.bq_job.specs.beside.{AreLinesServed, GetsAtMost, GetsWhatWaits, IsJoined, IsLawful, IsLineJoined, IsLineServed};
 ghost use Rattle.bq_job.specs.laws.{HeadlineHolds, LineHeadlineHolds};
 
-/// A step of another seat gives a client at most the answer that it waits for, and nothing else.
+/// A step at another seat gives a client at most the answer that it waits for, and nothing else.
 pub fn others_give_what_waits()
     ensures { (first last : Machine) (at seat client : ℕ) (what : Step) (outcome : Outcome) (given : List GivenAnswer)
         → seat ≢ client → IsStep first at seat what outcome given last
         → GetsWhatWaits first last client (answers_to client given) }
 {}
 
-/// A connected client that asks, even while it waits, is given no more than it waits for and one answer.
+/// A request of a connected client, even of one that still waits, gives it at most the answer that
+/// it waits for and one more.
 pub fn asks_give_at_most()
     ensures { (first last : Machine) (at seat : ℕ) (request : Request) (outcome : Outcome) (given : List GivenAnswer)
         → IsLawful first → seat < first.settings.seats → is_connected_at seat first ≡ true
@@ -28,8 +29,9 @@ pub fn steps_keep_settings()
         → IsStep first at seat what outcome given last → last.settings ≡ first.settings }
 {}
 
-/// What the seats, the core and the control line did, each by itself, joins to one history, along which each
-/// line was written exactly what it is owed.
+/// If the records of the seats, the core and the control line each hold by themselves and fit
+/// together, they form one history in which every client received exactly the bytes that it was
+/// owed.
 pub fn parts_join()
     ensures { (settings : Settings) (doors : List (List LineOver)) (control : List ℕ) (failed : Bool)
         (readings : List (Option ℕ)) (history : List Entry) (given : List GivenAnswer) (last : Machine)
@@ -45,7 +47,7 @@ pub fn line_joins()
         → IsHistoryOfLine settings seat line readings }
 {}
 
-/// Behind the lines that were served so far one line more was served.
+/// If one more line is served after the lines so far, all of them together are served.
 #[tactic(auto, using(crate::proofs::JoinLemmas::lines_more))]
 pub fn one_line_more()
     ensures { (max_job_size : ℕ) (lines : List LineOver) (line : LineOver) (submitted more : List Step) (taken got : List Answer)
@@ -53,11 +55,12 @@ pub fn one_line_more()
         → AreLinesServed max_job_size (lines ++ line ∷ []) (submitted ++ more) (taken ++ got) }
 {}
 
-/// The headline, whole, of a run over doors and of a lone line. Where a run left a history of everybody's steps,
-/// the machine with one plain list of jobs takes that history by one run, and each line was written exactly the
-/// bytes that its answers come to. In that run each job that is handed out is the least that the client may have,
-/// an undisturbed one is handed out at most once and in its order, none is lost before a delete, one client at
-/// most holds a job, and once draining no put is accepted.
+/// The headline as a whole, for a run over doors and for a lone line. If a run left a history of
+/// all clients' steps, the machine with one plain list of jobs takes that history in one run, and
+/// every client received exactly the bytes of its answers. In that run each job that is handed out
+/// is the least one that the client may have; an undisturbed job is handed out at most once and in
+/// order; no job is lost before its deletion; at most one client holds a job; and while draining no
+/// put is accepted.
 #[tactic(auto, using(crate::proofs::HeadlineLemmas::headline_holds, crate::proofs::HeadlineLemmas::line_headline_holds))]
 pub fn the_headline()
     ensures run { (settings : Settings) (doors : List (List LineOver)) (control : List ℕ) (failed : Bool)

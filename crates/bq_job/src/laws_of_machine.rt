@@ -1,4 +1,4 @@
-//! Laws of the machine: what holds of every step, whoever takes it.
+//! Laws of the machine: what holds of every step, whichever client takes it.
 ghost use Rattle.bq_job.specs.Types.{Answer, Step};
 ghost use Rattle.bq_job.specs.declared.step.Step.TheVariants.{Tick};
 ghost use Rattle.bq_job.specs.declared.answer.Answer.TheVariants.{Reserved};
@@ -15,20 +15,20 @@ pub fn computed_is_step()
         → IsStep m at seat what ample (stepped m at seat what).given (stepped m at seat what).machine }
 {}
 
-/// Where a turn of dispatch gives RESERVED, the job is the least of those that the client may have, by
-/// priority and then by id.
+/// If a turn of dispatch answers RESERVED, the job is the least of those that the client may have,
+/// by priority and then by id.
 pub fn dispatched_is_least()
     ensures { (m next : Machine) (seat id : ℕ) (body : List ℕ)
         → DispatchTurn m (seat, Reserved id body) next → GetsLeast m seat id body }
 {}
 
-/// The machine is lawful at the start.
+/// A new machine is lawful.
 pub fn new_machine_is_lawful()
     ensures { (settings : Settings) → IsLawful (new_machine settings) }
 {}
 
-/// A lawful machine is lawful after every step: so each job is held by one connected client at most, and
-/// nobody waits while a job is ready that it may have.
+/// Every step of a lawful machine leaves it lawful. So at most one connected client holds a job,
+/// and no client waits while a job that it may have is ready.
 pub fn steps_keep_lawful()
     ensures { (first last : Machine) (at seat : ℕ) (what : Step) (outcome : Outcome) (given : List GivenAnswer)
         → IsLawful first → IsStep first at seat what outcome given last → IsLawful last }
@@ -41,16 +41,16 @@ pub fn steps_give_few_answers()
         → length given ≤ first.settings.seats + 1 }
 {}
 
-/// What a step gives the client that takes it: the answers so far and the one that it waits for are as
-/// many as its requests but `quit`, and the answer to a close is the last one.
+/// What a step gives the client that takes it: answers so far plus the one that it waits for equal
+/// the number of its requests other than `quit`, and the answer to a close is the last one.
 pub fn steps_give_clients_their_answers()
     ensures { (first last : Machine) (at seat : ℕ) (what : Step) (outcome : Outcome) (given : List GivenAnswer)
         → IsLawful first → seat < first.settings.seats → IsStep first at seat what outcome given last
         → GivesClient seat first what given last }
 {}
 
-/// Before the next due moment of a lawful machine, and where there is none at any moment, a tick gives no
-/// answer and changes nothing but the moment.
+/// Before the next due moment of a lawful machine, or at any moment if nothing is due, a tick gives
+/// no answer and changes nothing but the moment.
 pub fn nothing_happens_before_it_is_due()
     ensures { (first last : Machine) (at seat : ℕ) (outcome : Outcome) (given : List GivenAnswer)
         → IsLawful first → IsTrue (is_before (at_moment at first).moment (next_due first))
@@ -58,8 +58,8 @@ pub fn nothing_happens_before_it_is_due()
         → (given ≡ []) × (last ≡ at_moment at first) }
 {}
 
-/// A command whose answer says that it was not carried out leaves the machine as it was, whatever memory
-/// was refused; and nobody is served after it.
+/// A command whose answer says that it was not carried out leaves the machine as it was, whichever
+/// allocation failed, and no client is served after it.
 pub fn refused_commands_change_nothing()
     ensures { (first last : Machine) (at seat : ℕ) (what : Step) (outcome : Outcome) (given : List GivenAnswer) (answer : Answer)
         → IsLawful first → (step : IsStep first at seat what outcome given last)
@@ -67,8 +67,8 @@ pub fn refused_commands_change_nothing()
         → ChangesNothing (parts_of step) seat what answer given last }
 {}
 
-/// A step in which no share of a body was refused has one result, be its command left out for want of
-/// memory or not: the same answers and the same machine.
+/// A step in which no reference to a body was refused has one result: its answers and the machine
+/// after it are determined, even if the command was skipped for lack of memory.
 pub fn steps_have_one_result()
     ensures { (first last other : Machine) (at seat : ℕ) (what : Step) (outcome : Outcome) (given others : List GivenAnswer)
         → outcome.unshared ≡ false
@@ -76,7 +76,7 @@ pub fn steps_have_one_result()
         → (given ≡ others) × (last ≡ other) }
 {}
 
-/// Where no memory is refused, a step is the one that is computed.
+/// If no allocation fails, a step is the one that is computed.
 pub fn ample_steps_are_computed()
     ensures { (first last : Machine) (at seat : ℕ) (what : Step) (given : List GivenAnswer)
         → IsStep first at seat what ample given last

@@ -1,16 +1,17 @@
-//! Laws of replays: a journal has one replay at most, and how it goes on with the next entry.
+//! Laws about replays: a journal has at most one replay, and each further entry extends it by that
+//! entry's step.
 ghost use Rattle.bq_job.specs.declared.journal.Entry.{Entry};
 ghost use Rattle.bq_job.specs.machine.{GivenAnswer, IsStep, Machine.Machine, Settings, new_machine};
 ghost use Rattle.bq_job.specs.beside.{Replay.Replay, outcome_of};
 ghost use Rattle.std.specs.Prelude.{◌≡◌, List, [], ◌∷◌, ◌++◌};
 
-/// The replay of an empty journal gives no answer, and leads to the machine as it is at the start.
+/// The replay of an empty journal gives no answers and leads to a new machine.
 #[tactic(auto, using(crate::proofs::ReplayLemmas::replay_none))]
 pub fn replays_begin()
     ensures { (settings : Settings) → Replay settings [] [] (new_machine settings) }
 {}
 
-/// With an entry more, a replay goes on by that entry's step.
+/// One more entry extends a replay by that entry's step.
 #[tactic(auto, using(crate::proofs::ReplayLemmas::replay_more))]
 pub fn replays_go_on()
     ensures { (settings : Settings) (journal : List Entry) (entry : Entry) (given more : List GivenAnswer) (next last : Machine)
@@ -19,7 +20,7 @@ pub fn replays_go_on()
         → Replay settings (journal ++ entry ∷ []) (given ++ more) last }
 {}
 
-/// A journal has one replay at most: the same answers and the same machine.
+/// A journal has at most one replay: the same answers and the same machine.
 pub fn journals_have_one_replay()
     ensures { (settings : Settings) (journal : List Entry) (given others : List GivenAnswer) (last other : Machine)
         → Replay settings journal given last → Replay settings journal others other

@@ -1,5 +1,5 @@
-//! Laws of runs: what holds of every run of the machine, whatever its clients ask, and however its steps
-//! come out for want of memory.
+//! Laws about runs: what holds of every run of the machine, whatever its clients ask and whichever
+//! allocations fail.
 ghost use Rattle.bq_job.specs.declared.answer.Answer.TheVariants.{Deleted, Inserted};
 ghost use Rattle.bq_job.specs.declared.job.Job.{Job};
 ghost use Rattle.bq_job.specs.declared.step.Step.TheVariants.{Drain};
@@ -11,15 +11,15 @@ ghost use Rattle.bq_job.specs.promise.{Entry, GoesBy, Transition};
 ghost use Rattle.std.specs.Prelude.{ℕ, ◌≡◌, ◌≤◌, false, List, [], ◌∷◌, ◌++◌, Contains, Some, count_by, flat_map, length};
 ghost use Rattle.std.specs.List.{list_any};
 
-/// Each RESERVED of a run is the command's own answer to a reserve-job, or dispatch gave the client the
-/// least job, by priority and then by id, that it might have at that moment.
+/// Each RESERVED of a run is either the answer to a reserve-job, or dispatch gave the client the
+/// least job, by priority and then by id, that it could have at that moment.
 #[tactic(auto, using(crate::proofs::AnswerPlaces::run_gives_least))]
 pub fn reserved_jobs_are_least()
     ensures { (first last : Machine) (taken : List Transition) (t : Transition)
         → GoesBy first taken last → Contains taken t → GivesLeast t }
 {}
 
-/// A job that was put without a delay and that nothing disturbs is handed out at most once.
+/// An undisturbed job that was put without a delay is handed out at most once.
 pub fn undisturbed_jobs_are_handed_out_once()
     ensures { (settings : Settings) (taken : List Transition) (last : Machine) (j : Job)
         → GoesBy (new_machine settings) taken last
@@ -27,8 +27,8 @@ pub fn undisturbed_jobs_are_handed_out_once()
         → count_by (is_hand_out j.id) (happenings (parts_of_run taken)) ≤ 1 }
 {}
 
-/// Of two undisturbed jobs that were put at one priority into one tube, the one that was put first is
-/// handed out first, if both are.
+/// Of two undisturbed jobs that were put into one tube with one priority, the one that was put
+/// first is handed out first, if both are handed out.
 pub fn undisturbed_jobs_are_handed_out_in_order()
     ensures { (settings : Settings) (taken : List Transition) (last : Machine) (a b : Job)
         → GoesBy (new_machine settings) taken last
@@ -38,7 +38,8 @@ pub fn undisturbed_jobs_are_handed_out_in_order()
         → IsHandedOutBefore a.id b.id (happenings (parts_of_run taken)) }
 {}
 
-/// From the step that begins to drain on no answer is INSERTED, and none is after the last id was given.
+/// From the step that begins to drain, no answer is INSERTED. Neither is any answer after the last
+/// id was given.
 #[tactic(auto, using(crate::proofs::AnswerPlaces::none_after_drain, crate::proofs::AnswerPlaces::none_after_last_id))]
 pub fn no_put_is_accepted_once_draining()
     ensures drained { (first last : Machine) (early more : List Transition) (t : Transition)
@@ -50,8 +51,8 @@ pub fn no_put_is_accepted_once_draining()
         → has_inserted more ≡ false }
 {}
 
-/// A job that was accepted is there, once and in its tube and with its body, after each part of a step
-/// until it is deleted.
+/// From its put until its deletion, a job is present exactly once, in its tube and with its body,
+/// after each part of a step.
 #[tactic(auto, using(crate::proofs::KeptJobLemmas::accepted_is_kept))]
 pub fn accepted_jobs_stay_until_deleted()
     ensures { (settings : Settings) (taken : List Transition) (last : Machine) (early late : List Part) (p : Part) (j : Job)
@@ -60,13 +61,14 @@ pub fn accepted_jobs_stay_until_deleted()
         → list_any (is_deletion j.id) (happenings (early ++ p ∷ [])) ≡ false → IsKept j p.machine }
 {}
 
-/// After each part of a step one client at most holds a job, and it is connected.
+/// After each part of a step at most one client holds a job, and that client is connected.
 pub fn jobs_are_held_by_one_client()
     ensures { (settings : Settings) (taken : List Transition) (last : Machine) (p : Part)
         → GoesBy (new_machine settings) taken last → Contains (parts_of_run taken) p → IsHeldByOne p.machine }
 {}
 
-/// Where a limit on jobs was chosen, there are no more jobs after any part of a step, in whatever states.
+/// With a job limit, there are never more jobs than the limit after any part of a step, whatever
+/// their states.
 #[tactic(auto, using(crate::proofs::LimitLemmas::few_always))]
 pub fn jobs_stay_within_their_limit()
     ensures { (settings : Settings) (taken : List Transition) (last : Machine) (p : Part) (most : ℕ)
@@ -74,14 +76,15 @@ pub fn jobs_stay_within_their_limit()
         → settings.max_jobs ≡ Some most → length p.machine.jobs ≤ most }
 {}
 
-/// DELETED goes to who asked for it, and only where the job was there and nobody else held it.
+/// DELETED goes to the client that asked for it, and only if the job existed and no other client
+/// held it.
 #[tactic(auto, using(crate::proofs::AnswerPlaces::run_deletes))]
 pub fn deleted_answers_its_asker()
     ensures { (first last : Machine) (taken : List Transition) (t : Transition) (seat : ℕ)
         → GoesBy first taken last → Contains taken t → Contains t.given (seat, Deleted) → IsDeletion t seat }
 {}
 
-/// Over every history there is a run with enough memory, and it can be computed.
+/// Every history has a run with enough memory, and it can be computed.
 #[tactic(auto, using(crate::proofs::ComputedRunLemmas::computed_goes))]
 pub fn computed_is_run()
     ensures { (first : Machine) (history : List Entry)

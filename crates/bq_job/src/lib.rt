@@ -1,8 +1,8 @@
-//! What a work queue speaks of: jobs, tubes, requests, steps and answers.
+//! The vocabulary of the work queue: jobs, tubes, requests, steps and answers.
 //!
-//! The definitions that every promise of this repository is stated in are the files of `specs/`: the
-//! one-list machine, the reading of a text into requests, the texts of answers, and what a line of a
-//! client is owed.
+//! All promises of this repository are stated in the definitions under `specs/`: the machine with
+//! one list of jobs, the reading of a text into requests, the texts of answers, and what a client's
+//! line is owed.
 #![tactic(auto)]
 
 pub use answer::Answer;
@@ -57,14 +57,14 @@ mod step;
 mod text;
 mod tube_name;
 
-/// A moment, in milliseconds. The core's clock starts at 0.
+/// A moment in milliseconds. The core's clock starts at 0.
 pub type Moment = u64;
 
 /// The number of a job. Jobs are numbered from 1 in the order in which their puts were accepted.
 pub type JobId = u64;
 
-/// How urgent a job is: 0 is the most urgent, 4,294,967,295 the least.
+/// The priority of a job: 0 is the most urgent, 4,294,967,295 the least.
 pub type Pri = u32;
 
-/// The place of one connection at a time, numbered from 0.
+/// The number of a seat, from 0. A seat serves one connection at a time.
 pub type Seat = u16;

@@ -1,8 +1,8 @@
-/// How many bytes a job's body can have at most.
+/// The largest job body that a server can be set to accept, in bytes.
 pub const LARGEST_BODY: u32 = 1_048_576;
 
-/// How many bytes a job's body may have, where nothing else is chosen.
+/// The largest job body that a server accepts by default, in bytes.
 pub const USUAL_BODY: u32 = 65_535;
 
-/// How many clients can be connected at a time at most.
+/// The largest number of clients that can be connected at the same time.
 pub const MOST_SEATS: u16 = 256;

@@ -1,7 +1,7 @@
-/// How a client's line was over.
+/// How a client's line ended.
 #[derive(Clone, Copy, Debug, PartialEq, Eq)]
 pub enum LineEnd {
-    /// The client asked `quit`.
+    /// The client sent `quit`.
     Quit,
     /// The client sent no more, and everything that it had sent was answered.
     EndOfInput,
@@ -11,7 +11,7 @@ pub enum LineEnd {
     WriteFault,
 }
 
-/// The first fault that a line had.
+/// The first fault of a line.
 #[derive(Clone, Copy, Debug, PartialEq, Eq)]
 pub enum LineFault {
     Read,

@@ -3,7 +3,8 @@ ghost use Rattle.bq_job.specs.beside.StepBody.{request_has_body};
 
 use super::{Body, JobId, NoMemory, Pri, Refusal, TubeName};
 
-/// A request of a client, as the reader hands it out. Delays, times to run and timeouts are seconds.
+/// A request of a client, as the reader returns it. Delays, times to run and timeouts are in
+/// seconds.
 #[derive(Debug, Drop)]
 pub enum Request {
     /// `put`: a new job in the used tube.
@@ -13,36 +14,37 @@ pub enum Request {
         ttr: u32,
         body: Body,
     },
-    /// `reserve`: wait for a job, without an end.
+    /// `reserve`: wait for a job without a time limit.
     Reserve,
-    /// `reserve-with-timeout`: wait for a job, so many seconds at most.
+    /// `reserve-with-timeout`: wait for a job for at most `seconds`.
     ReserveWithTimeout {
         seconds: u32,
     },
-    /// `reserve-job`: reserve this job, unless it is reserved already.
+    /// `reserve-job`: reserve this job, unless it is already reserved.
     ReserveJob {
         id: JobId,
     },
-    /// `delete`: take a job out.
+    /// `delete`: remove a job.
     Delete {
         id: JobId,
     },
-    /// `release`: give a reserved job back, with this priority, after this delay.
+    /// `release`: give up a reserved job; it is ready again, with this priority, after this delay.
     Release {
         id: JobId,
         pri: Pri,
         delay: u32,
     },
-    /// `bury`: put a reserved job aside, with this priority, until it is kicked.
+    /// `bury`: set a reserved job aside, with this priority, until it is kicked.
     Bury {
         id: JobId,
         pri: Pri,
     },
-    /// `touch`: begin a reserved job's time to run anew.
+    /// `touch`: restart a reserved job's time to run.
     Touch {
         id: JobId,
     },
-    /// `kick`: make so many buried jobs of the used tube ready at most, or where it has none, delayed ones.
+    /// `kick`: make at most `bound` buried jobs of the used tube ready or, if none is buried,
+    /// delayed ones.
     Kick {
         bound: u32,
     },
@@ -54,13 +56,13 @@ pub enum Request {
     Use {
         tube: TubeName,
     },
-    /// `list-tube-used`: the tube that puts go into.
+    /// `list-tube-used`: name the used tube.
     ListTubeUsed,
-    /// `watch`: reserve out of this tube too.
+    /// `watch`: also reserve from this tube.
     Watch {
         tube: TubeName,
     },
-    /// `ignore`: reserve out of this tube no longer.
+    /// `ignore`: no longer reserve from this tube.
     Ignore {
         tube: TubeName,
     },
@@ -74,7 +76,7 @@ pub enum Request {
     PeekDelayed,
     /// `peek-buried`: show the buried job of the used tube that was buried first.
     PeekBuried,
-    /// `pause-tube`: hand no job of this tube out for so many seconds.
+    /// `pause-tube`: hand out no job of this tube for `delay` seconds.
     PauseTube {
         tube: TubeName,
         delay: u32,
@@ -91,17 +93,17 @@ pub enum Request {
     Stats,
     /// `list-tubes`: the names of all tubes.
     ListTubes,
-    /// `list-tubes-watched`: the names of the tubes that are watched.
+    /// `list-tubes-watched`: the names of the tubes that the client watches.
     ListTubesWatched,
     /// `quit`: close the connection.
     Quit,
-    /// Bytes that are no request, or a put that can't be taken.
+    /// Bytes that are no request, or a put that can't be accepted.
     Refused(Refusal),
 }
 
 impl Request {
-    /// The same request once more. It takes no memory, and is refused only where a put's body is given no
-    /// further owner.
+    /// Returns a copy of the request that shares a put's body. It allocates nothing, and fails only
+    /// if `Arc` refuses another reference to that body.
     pub fn share(&self) -> Result<Request, NoMemory>
         ensures same { IfOk result (λ request. request ≡ self.now) }
         ensures refused { IsErr result → IsTrue (request_has_body self.now) }

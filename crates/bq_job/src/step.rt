@@ -3,28 +3,28 @@ ghost use Rattle.bq_job.specs.beside.StepBody.{has_body};
 
 use super::{NoMemory, Request};
 
-/// What happens at a seat, one event of the core.
+/// An event at a seat, the input of the core.
 #[derive(Debug, Drop)]
 pub enum Step {
-    /// A client has connected.
+    /// A client connected.
     Connect,
-    /// The client asks.
+    /// The client sent a request.
     Ask(Request),
     /// The client sends no more.
     End,
-    /// The connection is closed.
+    /// The connection was closed.
     Close,
-    /// From now on no put is accepted.
+    /// From now on the core accepts no put.
     Drain,
-    /// Time has passed.
+    /// Time passed.
     Tick,
-    /// No connection comes to the seat any more.
+    /// The seat will get no further connection.
     Gone,
 }
 
 impl Step {
-    /// The same step once more. It takes no memory, and is refused only where a put's body is given no
-    /// further owner.
+    /// Returns a copy of the step that shares a put's body. It allocates nothing, and fails only if
+    /// `Arc` refuses another reference to that body.
     pub fn share(&self) -> Result<Step, NoMemory>
         ensures same { IfOk result (λ step. step ≡ self.now) }
         ensures refused { IsErr result → IsTrue (has_body self.now) }

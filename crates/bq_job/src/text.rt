@@ -3,7 +3,7 @@ ghost use Rattle.std.specs.Prelude.{◌≡◌};
 use std::alloc::Global;
 use std::marker::Model;
 
-/// The YAML text of an answer, statistics or a list.
+/// The YAML text of an answer: statistics or a list.
 #[derive(Debug, Drop)]
 pub struct Text {
     bytes: Vec<u8, Global>,
@@ -18,13 +18,14 @@ impl Model for Text {
 }
 
 impl Text {
-    /// The text of these bytes. Takes no memory.
+    /// Makes a text of these bytes. It allocates nothing.
     pub fn from_vec(bytes: Vec<u8, Global>) -> Text
         ensures { result ≡ bytes.items }
     {
         Text { bytes }
     }
 
+    /// Returns the bytes.
     pub fn as_slice(&self) -> &[u8]
         ensures { result.now ≡ self.now }
     {

@@ -6,12 +6,12 @@ use std::alloc::AllocError;
 use std::cmp::Ordering;
 use std::marker::Model;
 
-/// How many bytes a tube's name has at most.
+/// The largest length of a tube name, in bytes.
 pub const LONGEST_NAME: usize = 200;
 
-/// The name of a tube: 1 to 200 bytes out of ASCII letters, digits and `- + / ; . $ _ ( )`, of which
-/// the first is no `-`. It lies in a fixed array, so making and cloning one take no memory. The length lies
-/// before the bytes, so that a short name is read from one place.
+/// The name of a tube: 1 to 200 bytes of ASCII letters, digits and `- + / ; . $ _ ( )`; the first
+/// byte is not `-`. The name is in a fixed array, so making and cloning one allocate nothing. The
+/// length comes before the bytes, so that a short name is read from one place in memory.
 #[derive(Clone, Copy, Debug)]
 pub struct TubeName {
     len: u8,
@@ -29,12 +29,12 @@ impl Model for TubeName {
 
     ghost view = { λ n. take n.len n.bytes };
 
-    // What lies behind the name is 0, so that the bytes give the array back.
+    // The bytes after the name are 0, so that the name determines the array.
     ghost invariant = { λ n. (n.len ≤ 200) × IsTrue (is_tube_name (take n.len n.bytes)) × (n.bytes ≡ filled_up (take n.len n.bytes)) };
 
     ghost inverse = { λ bytes. record { bytes = filled_up bytes; len = length bytes } };
 
-    // The name gives the array and its length back.
+    // The name determines the array and the length.
     ghost inverse_ok = { λ n h.
         let name : List ℕ = take n.len n.bytes in
         let whole : filled_up name ≡ n.bytes = sym h.2 in
@@ -52,7 +52,7 @@ impl Model for TubeName {
 }
 
 impl TubeName {
-    /// The name of these bytes, if they are one.
+    /// Returns the name of these bytes, or `None` if they are not a valid name.
     pub fn new(bytes: &[u8]) -> Option<TubeName>
         ensures lawful { IsSome result ↔ IsTrue (is_tube_name bytes.now) }
         ensures bytes { IfSome result (λ name. name ≡ bytes.now) }
@@ -66,6 +66,7 @@ impl TubeName {
         })
     }
 
+    /// Returns the bytes of the name.
     pub fn as_slice(&self) -> &[u8]
         ensures bytes { result.now ≡ self.now }
         ensures lawful { IsTrue (is_tube_name result.now) }
@@ -74,7 +75,7 @@ impl TubeName {
     }
 }
 
-// Whether a byte may stand in a tube's name.
+// Returns true if the byte may occur in a tube name.
 fn is_name_byte(b: u8) -> bool
     ensures { result ≡ name_byte b }
 {
@@ -85,7 +86,7 @@ fn is_name_byte(b: u8) -> bool
         )
 }
 
-// Whether a name may begin so.
+// Returns true if a name may begin with these bytes: they are not empty and do not begin with `-`.
 fn begins_well(bytes: &[u8]) -> bool
     ensures { result ≡ begins_name bytes.now }
 {
@@ -101,14 +102,14 @@ fn are_name_bytes(bytes: &[u8]) -> bool
     bytes.iter().all(|b| is_name_byte(*b))
 }
 
-// Whether the bytes are a tube's name.
+// Returns true if the bytes are a valid tube name.
 fn is_name(bytes: &[u8]) -> bool
     ensures { result ≡ is_tube_name bytes.now }
 {
     begins_well(bytes) && bytes.len() <= LONGEST_NAME && are_name_bytes(bytes)
 }
 
-// The bytes at the front of an array of zeros.
+// Returns an array with these bytes at its front and zeros after them.
 #[tactic(auto, using(crate::proofs::FilledLemmas::filled_front))]
 fn filled(bytes: &[u8]) -> [u8; LONGEST_NAME]
     requires { length bytes.now ≤ 200 }
@@ -140,7 +141,7 @@ impl Eq for TubeName {
     ghost laws = { nat_list_eq_equiv };
 }
 
-/// Names are in the order of their bytes.
+/// Names are ordered by their bytes.
 impl PartialOrd for TubeName {
     ghost use Rattle.std.proofs.Common.{refl, sym};
     ghost use Rattle.std.specs.Cmp as Cmp;

@@ -1,4 +1,4 @@
--- What a core can be made with.
+-- The settings that a core accepts.
 use Rattle.std.specs.Prelude.{ℕ, Bool, true, ◌&&◌, nat_le, Option, Some, None}
 use Rattle.bq_job.specs.declared.limits.TheConstants.{LARGEST_BODY, MOST_SEATS}
 use Rattle.bq_job.specs.declared.settings.Settings.{Settings}
@@ -9,11 +9,11 @@ is_seat_count seats = nat_le 1 seats && nat_le seats MOST_SEATS
 abbrev pub is_body_size : ℕ → Bool
 is_body_size bytes = nat_le 1 bytes && nat_le bytes LARGEST_BODY
 
--- no limit on jobs, or one that lets a job in
+-- no job limit, or one of at least 1
 abbrev pub is_job_limit : Option ℕ → Bool
 is_job_limit None = true
 is_job_limit (Some most) = nat_le 1 most
 
--- Each choice is in its range.
+-- Each setting is in its range.
 abbrev pub are_in_range : Settings → Bool
 are_in_range s = is_seat_count s.seats && is_body_size s.max_job_size && is_job_limit s.max_jobs

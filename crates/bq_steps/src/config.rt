@@ -1,7 +1,7 @@
 ghost use Rattle.std.specs.Prelude.{◌≡◌};
 ghost use Rattle.bq_steps.specs.Codes.{fault_code};
 
-/// What is chosen when a core is made.
+/// The settings of a core.
 pub use bq_job::Settings as Config;
 
 /// Why no core was made.
@@ -9,16 +9,16 @@ pub use bq_job::Settings as Config;
 pub enum CoreFault {
     /// The number of seats is 0 or above 256.
     BadSeats,
-    /// The size of bodies is 0 or above 1,048,576.
+    /// The limit on bodies is 0 or above 1,048,576 bytes.
     BadMaxJobSize,
-    /// The limit on jobs is 0.
+    /// The job limit is 0.
     BadMaxJobs,
-    /// A growth of memory was refused.
+    /// An allocation failed.
     NoMemory,
 }
 
 impl CoreFault {
-    /// The number of this fault: 302, 303, 304 and 301.
+    /// Returns the number of this fault: 302, 303, 304 or 301, in the order above.
     pub fn code(self) -> u16
         ensures { result ≡ fault_code self }
     {

@@ -1,7 +1,8 @@
-//! What a core of the work queue and all that drive one have in common: what it is made with, the answers of a step,
-//! and which calls it has.
+//! What the core of the work queue shares with the crates that drive it: its settings, the answers
+//! of a step, and its trait.
 //!
-//! Who drives a core names this crate alone, and doesn't wait for the core's own proofs.
+//! A crate that drives a core depends on this crate only, so it can be checked before the core is
+//! proved.
 #![tactic(auto)]
 
 pub use config::{Config, CoreFault};

@@ -6,7 +6,7 @@ use std::alloc::Global;
 use std::collections::VecDeque;
 use std::marker::Model;
 
-/// The answers of a step, each with the seat that it goes to, in their order.
+/// The answers of a step in order, each with the seat that it goes to.
 #[derive(Debug, Drop)]
 pub struct Outs {
     answers: VecDeque<(Seat, Answer), Global>,
@@ -28,7 +28,8 @@ impl Model for Outs {
 }
 
 impl Outs {
-    /// Room for the answers of a step of a core with at most so many seats.
+    /// Allocates room for the answers of one step of a core with at most `seats` seats. Returns
+    /// `NoMemory` if the allocation fails.
     pub fn new(alloc: Global, seats: u16) -> Result<Outs, NoMemory>
         ensures { IfOk result
             (λ outs. outs
@@ -46,7 +47,7 @@ impl Outs {
         }
     }
 
-    /// Takes out the oldest answer.
+    /// Removes and returns the oldest answer.
     pub fn take_first(&mut self) -> Option<(Seat, Answer)>
         ensures oldest { self.old.given ≡ option_to_list result ++ self.new.given }
         ensures empty { IsNone result ↔ (self.old.given ≡ []) }
@@ -55,21 +56,21 @@ impl Outs {
         self.answers.pop_front()
     }
 
-    /// Whether the last step left its command out, because a growth of memory was refused.
+    /// Returns true if the last step skipped its command because an allocation failed.
     pub fn left_out(&self) -> bool
         ensures { result ≡ self.now.left_out }
     {
         self.left_out
     }
 
-    /// Whether the last step was refused one more owner of a job's body.
+    /// Returns true if a reference to a job's body was refused in the last step.
     pub fn unshared(&self) -> bool
         ensures { result ≡ self.now.unshared }
     {
         self.unshared
     }
 
-    /// A new step begins: what is left of the last one is dropped.
+    /// Begins a new step and drops the remaining answers of the last one.
     pub fn begin(&mut self)
         ensures { self.new
             ≡ record { given = []; most = self.old.most; left_out = false; unshared = false } }
@@ -79,7 +80,7 @@ impl Outs {
         self.unshared = false;
     }
 
-    /// Puts in an answer behind the others.
+    /// Appends an answer. The caller ensures that there is room.
     pub fn push(&mut self, seat: Seat, answer: Answer)
         requires { length self.old.given < self.old.most }
         ensures { self.new ≡ record self.old { given = self.old.given ++ (seat, answer) ∷ [] } }
@@ -87,14 +88,14 @@ impl Outs {
         self.answers.push_back_reserved((seat, answer));
     }
 
-    /// Notes that the step left its command out, because a growth of memory was refused.
+    /// Records that the step skipped its command because an allocation failed.
     pub fn set_left_out(&mut self)
         ensures { self.new ≡ record self.old { left_out = true } }
     {
         self.left_out = true;
     }
 
-    /// Notes that the step was refused one more owner of a job's body.
+    /// Records that a reference to a job's body was refused in the step.
     pub fn set_unshared(&mut self)
         ensures { self.new ≡ record self.old { unshared = true } }
     {

@@ -1,4 +1,4 @@
-//! Cores, which take one step after another.
+//! The trait of a core, which takes one step after another.
 ghost use Rattle.std.specs.Prelude.{ℕ, ◌≡◌, ◌<◌, ◌↔◌, ◌&&◌, not, IsTrue, IfOk, IsErrOf};
 ghost use Rattle.bq_job.specs.beside.Lawful.{IsLawful};
 ghost use Rattle.bq_job.specs.beside.NextDue.{next_due};
@@ -12,15 +12,16 @@ use crate::outs::Outs;
 use bq_job::{Moment, Seat, Step};
 use std::alloc::Global;
 
-/// A core: it stands for the one-list machine, and takes its steps.
+/// A core: it represents the one-list machine and takes its steps.
 pub trait QueueCore: Sized {
-    /// The machine that the core stands for.
+    /// The machine that the core represents.
     ghost machine: { Self → Machine };
 
-    /// The comparisons of keys among its jobs so far.
+    /// How many keys of its jobs it has compared so far.
     ghost comparisons: { Self → ℕ };
 
-    /// A core with no jobs and all seats free.
+    /// Makes a core with no jobs and with all seats free. Returns the first setting that is out of
+    /// range, or `NoMemory` if an allocation fails.
     fn new(alloc: Global, config: Config) -> Result<Self, CoreFault>
         ensures made { IfOk result (λ core. machine core ≡ new_machine config) }
         ensures none_compared { IfOk result (λ core. comparisons core ≡ 0) }
@@ -31,9 +32,9 @@ pub trait QueueCore: Sized {
         ensures bad_max_jobs { IsErrOf result CoreFault.BadMaxJobs ↔
             (IsTrue (is_seat_count config.seats && is_body_size config.max_job_size) × IsTrue (not (is_job_limit config.max_jobs))) };
 
-    /// Takes a step: what happens at a seat, at a moment in milliseconds. `outs` then holds the answers in
-    /// their order. Any moment, seat and step is accepted. The step is left where it lies: it may hold a tube's name,
-    /// and isn't moved on the way.
+    /// Takes a step: what happens at a seat, at a moment in milliseconds. Afterwards `outs` holds
+    /// the answers in order. Any moment, seat and step is accepted. The step is passed by reference
+    /// because it may contain a tube's name, which would have to be copied.
     fn step_in_place(&mut self, alloc: Global, at: Moment, seat: Seat, what: &Step, outs: &mut Outs)
         requires room { (machine self.old).settings.seats < outs.old.most }
         ensures step { IsStep (machine self.old) at seat what.now
@@ -46,8 +47,9 @@ pub trait QueueCore: Sized {
         ensures most { outs.new.most ≡ outs.old.most }
         ensures settings { (machine self.new).settings ≡ (machine self.old).settings };
 
-    /// The least moment at which something happens by itself: a delay, a time to run or a pause ends, a
-    /// client gives up, or is told that a time to run ends soon. A tick below it changes the moment alone.
+    /// Returns the earliest moment, in milliseconds, at which something happens by itself: a delay,
+    /// a time to run or a pause ends, a wait times out, or a waiting client gets DEADLINE_SOON. A
+    /// tick before that moment changes nothing but the moment. The machine stays the same.
     fn next_due(&mut self) -> Option<Moment>
         ensures due { result ≡ next_due (machine self.old) }
         ensures same { machine self.new ≡ machine self.old }

@@ -5,32 +5,33 @@ use Rattle.bq_job.specs.{promise.{answers_to, answers_wanted, is_waiting_request
 use Rattle.bq_job.specs.declared.answer.Answer.TheVariants as answers
 use Rattle.bq_job.specs.declared.step.Step.TheVariants as steps
 
--- how many answers the client waits for: one, or none
+-- how many answers the client waits for: one or none
 abbrev pub owing : ℕ → Machine → ℕ
 owing seat m = if is_waiting_at seat m then 1 else 0
 
--- An answer that the client waited for may have come, and nothing else.
+-- The client got the answer that it waited for, or no answer, and nothing else happened to it.
 pub record GetsWhatWaits (first last : Machine) (seat : ℕ) (given : List Answer) : Type 0 where
   pub count : length given + owing seat last ≡ owing seat first
   pub unclosed : has_closed given ≡ false
   pub connected : is_connected_at seat last ≡ is_connected_at seat first
 
--- The client, who waits for nothing, asks: the answer comes, or is waited for if the request is one that
--- may wait.
+-- The client makes a request while it waits for nothing. It gets the answer, or waits for it if the
+-- request is one that may wait.
 pub record GetsAnswer (first last : Machine) (seat : ℕ) (request : Request) (given : List Answer) : Type 0 where
   pub count : length given + owing seat last ≡ answers_wanted request
   pub at_once : is_waiting_request request ≡ false → owing seat last ≡ 0
   pub unclosed : has_closed given ≡ false
   pub connected : is_connected_at seat last ≡ true
 
--- The client asks, whether it waits or not: it is given, with what it then waits for, no more than it waited
--- for and one answer more.
+-- The client makes a request, whether it waits or not. The answers that it gets and the one that it
+-- then waits for are at most one more than it waited for before.
 pub record GetsAtMost (first last : Machine) (seat : ℕ) (request : Request) (given : List Answer) : Type 0 where
   pub count : length given + owing seat last ≤ owing seat first + answers_wanted request
   pub unclosed : has_closed given ≡ false
   pub connected : is_connected_at seat last ≡ true
 
--- The client is gone. What it waited for may just have come; the last answer says that it is gone.
+-- The client has disconnected. It may first get the answer that it waited for; its last answer is
+-- `Closed`.
 pub record GetsClosed (first last : Machine) (seat : ℕ) (given : List Answer) : Type 0 where
   pub early : List Answer
   pub given_is : given ≡ early ++ answers.Closed ∷ []
@@ -39,8 +40,8 @@ pub record GetsClosed (first last : Machine) (seat : ℕ) (given : List Answer) 
   pub none : owing seat last ≡ 0
   pub gone : is_connected_at seat last ≡ false
 
--- The client at the seat, of these that there are, takes the step: what it is given, and what it waits
--- for then. Who sends no more waits no more.
+-- What the step gives to the client at its seat, and what that client waits for afterwards. A
+-- client that sends no more does not wait.
 abbrev pub GivesClient : ℕ → Machine → Step → List GivenAnswer → Machine → Type 0
 GivesClient seat first steps.Connect given last =
     is_connected_at seat first ≡ false → (answers_to seat given ≡ []) × (owing seat last ≡ 0) × (is_connected_at seat last ≡ true)

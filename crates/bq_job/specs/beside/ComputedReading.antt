@@ -1,4 +1,4 @@
--- The reading of a text with ample memory, computed.
+-- The reading of a text, computed, in which no allocation fails.
 use Rattle.std.specs.Prelude.{ℕ, zero, suc, ◌+◌, true, false, nat_lt, nat_le, List, [], ◌∷◌, length}
 use Rattle.std.specs.Prelude.{take, drop, Option, Some, None, if◌then◌else◌}
 use Rattle.bq_job.specs.declared.{refusal.Refusal.TheVariants.JobTooBig, request.Request.{Request, TheVariants.Refused}}
@@ -10,7 +10,7 @@ put_request max_job_size put bytes =
     let read = put_with_body put bytes in
     if nat_lt max_job_size put.bytes then Refused JobTooBig else read
 
--- the request of a line and of what comes after it, and what is left then
+-- the request of a line and of the bytes after it, and what then remains
 abbrev pub unit_after : ℕ → LineRead → List ℕ → Option (Request × List ℕ)
 unit_after max_job_size (Whole request) after = Some (request, after)
 unit_after max_job_size (PutWaits put) after =
@@ -21,14 +21,14 @@ abbrev pub unit_of_line : ℕ → Option (List ℕ × List ℕ) → Option (Requ
 unit_of_line max_job_size None = None
 unit_of_line max_job_size (Some (line, after)) = unit_after max_job_size (read_line line) after
 
--- the first request of a text, and what is left after its bytes
+-- the first request of a text, and what remains after it
 abbrev pub first_unit : ℕ → List ℕ → Option (Request × List ℕ)
 first_unit max_job_size text = unit_of_line max_job_size (first_line text)
 
 abbrev pub onto_reading : Request → List Request × List ℕ → List Request × List ℕ
 onto_reading request (requests, rest) = (request ∷ requests, rest)
 
--- at most so many requests
+-- at most `n` requests
 abbrev pub reading_within : ℕ → ℕ → List ℕ → List Request × List ℕ
 reading_within zero max_job_size text = ([], text)
 reading_within (suc n) max_job_size text =
@@ -38,6 +38,6 @@ reading_within (suc n) max_job_size text =
           elim (is_quit request) [ true ↦ (request ∷ [], after) | false ↦ onto_reading request (reading_within n max_job_size after) ]
     ]
 
--- A request has two bytes at least, so there are fewer of them than bytes.
+-- A request has at least two bytes, so there are fewer requests than bytes.
 abbrev pub reading : ℕ → List ℕ → List Request × List ℕ
 reading max_job_size text = reading_within (length text) max_job_size text

@@ -1,5 +1,5 @@
--- A run as a function: the steps that the machine takes over a history where no memory is refused. It
--- computes, so that worked examples are checked by evaluation; that it is a run is a law.
+-- A run as a function: the steps that the machine takes over a history if no allocation fails. It
+-- computes, so that worked examples are checked by evaluation. That it is a run is a law.
 use Rattle.std.specs.Prelude.{List, [], ◌∷◌, ◌++◌}
 use Rattle.bq_job.specs.{beside.Computed.{after_act, after_dispatch, after_wait_ends, ample}, machine.after_timers}
 use Rattle.bq_job.specs.{machine.{at_moment, forgetting, granted, Machine.Machine}, promise.{Entry, Transition}}

@@ -1,10 +1,10 @@
--- The moment at which something would happen by itself.
+-- The moment at which something happens by itself.
 use Rattle.std.specs.Prelude.{ℕ, Bool, true, ◌-◌, nat_lt, min, if◌then◌else◌, List, [], ◌∷◌, ◌++◌, flat_map, Option, Some, None}
 use Rattle.bq_job.specs.{declared.job.JobState.JobState, machine.{Pause, Wait, is_waiting_at, Machine.Machine}}
 use Rattle.bq_job.specs.declared.job.JobState.TheVariants as states
 
--- A delayed job becomes ready. The time to run of a reserved one ends, and a second before, the wait of
--- the client that holds it.
+-- A delayed job becomes ready at its due moment. A reserved job's time to run ends at its deadline,
+-- and one second before it a wait of its holder ends.
 abbrev pub dues_of_state : Machine → JobState → List ℕ
 dues_of_state m states.Ready = []
 dues_of_state m (states.Delayed due) = due ∷ []
@@ -21,7 +21,7 @@ abbrev pub dues_of_until : Option ℕ → List ℕ
 dues_of_until None = []
 dues_of_until (Some until) = until ∷ []
 
--- a waiting client gives up
+-- a waiting client times out
 abbrev pub dues_of_wait : Option Wait → List ℕ
 dues_of_wait None = []
 dues_of_wait (Some wait) = dues_of_until wait.until
@@ -41,11 +41,11 @@ abbrev pub earliest : List ℕ → Option ℕ
 earliest [] = None
 earliest (due ∷ others) = Some (earlier due (earliest others))
 
--- The least of them. Before it, nothing happens by itself.
+-- the earliest of them; before it nothing happens by itself
 abbrev pub next_due : Machine → Option ℕ
 next_due m = earliest (dues m)
 
--- the moment is before the next due one, if there is any
+-- the moment is before the next due one, or nothing is due
 abbrev pub is_before : ℕ → Option ℕ → Bool
 is_before moment None = true
 is_before moment (Some due) = nat_lt moment due

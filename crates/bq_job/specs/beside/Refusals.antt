@@ -14,7 +14,8 @@ is_refusal answers.NotIgnored = true
 is_refusal answers.Draining = true
 is_refusal _ = false
 
--- The command changed nothing: the step with these parts is what a tick is, but for its last answer.
+-- The command changed nothing: the step with these parts is that of a tick, except for its last
+-- answer.
 pub record ChangesNothing (parts : Parts) (seat : ℕ) (what : Step) (answer : Answer)
     (given : List GivenAnswer) (last : Machine) : Type 0 where
   pub machine : (acted parts.memory parts.before seat what).machine ≡ parts.before

@@ -1,4 +1,4 @@
--- Which steps hand in a body.
+-- Which steps carry a body.
 use Rattle.std.specs.Prelude.{Bool, true, false}
 use Rattle.bq_job.specs.Types.{Request, Step}
 use Rattle.bq_job.specs.declared.request.Request.TheVariants as requests

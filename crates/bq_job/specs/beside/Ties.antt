@@ -1,12 +1,12 @@
--- What ties the parts of a run: what each of them did, to one history of all.
+-- What ties what each part of a run did to one history of all clients' steps.
 use Rattle.std.specs.Prelude.{ℕ, suc, Bool, ◌≡◌, ◌<◌, ◌==◌, IsTrue, List, [], ◌∷◌, ◌++◌, length, Option}
 use Rattle.std.specs.List.{list_all}
 use Rattle.bq_job.specs.promise.{AreSeatsUpTo, Entry, IsControlDone, IsRun, LineOver, answers_to, steps_at, without_ticks}
 use Rattle.bq_job.specs.{beside.SeatDid.{AreLinesServed, IsSeatDone}, machine.{GivenAnswer, Settings, Machine.Machine}}
 use Rattle.bq_job.specs.Types.{Answer, Step}
 
--- At each seat the history has what the seat submitted, and what the run gives it is what it took
--- and what waits for it.
+-- At each seat, the history contains the steps that the seat submitted. The answers that the run
+-- gives the seat are those that it took and those that are still waiting for it.
 abbrev pub AreTied : ℕ → ℕ → List (List LineOver) → (ℕ → List Step) → (ℕ → List Answer) → (ℕ → List Answer)
     → List Entry → List GivenAnswer → Type 0
 AreTied max_job_size seat [] submitted taken waiting history given = Unit {0}
@@ -15,7 +15,7 @@ AreTied max_job_size seat (lines ∷ doors) submitted taken waiting history give
     × IsSeatDone max_job_size lines (submitted seat) (taken seat)
     × AreTied max_job_size (suc seat) doors submitted taken waiting history given
 
--- what each part did, and the tie
+-- what each part did, and how it fits together
 pub record IsJoined (settings : Settings) (doors : List (List LineOver)) (control : List ℕ) (failed : Bool)
     (readings : List (Option ℕ)) (history : List Entry) (given : List GivenAnswer) (last : Machine) : Type 0 where
   pub submitted : ℕ → List Step
@@ -28,7 +28,7 @@ pub record IsJoined (settings : Settings) (doors : List (List LineOver)) (contro
   pub control_done : IsControlDone control failed (submitted settings.seats)
   pub of_nobody_else : AreSeatsUpTo settings.seats history
 
--- what a lone seat and the core did, and the tie
+-- what a lone seat and the core did, and how it fits together
 pub record IsLineJoined (settings : Settings) (seat : ℕ) (line : LineOver) (readings : List (Option ℕ))
     (history : List Entry) (given : List GivenAnswer) (last : Machine) : Type 0 where
   pub taken : List Answer

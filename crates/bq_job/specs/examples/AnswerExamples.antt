@@ -1,4 +1,4 @@
--- An answer of each kind, and its text written down by hand.
+-- One answer of each kind, and its text written by hand.
 use Rattle.std.specs.Prelude.{ℕ, List, [], ◌∷◌, codes}
 use Rattle.bq_job.specs.declared.answer.Answer.{Answer}
 use Rattle.bq_job.specs.declared.answer.Answer.TheVariants as answers

@@ -1,2 +1,3 @@
--- The digits of a number. Worked examples open them by name, to compute the texts in which numbers stand.
+-- The digits of a number. Worked examples unfold them by name, to compute texts that contain
+-- numbers.
 pub use Rattle.std.specs.Fmt.{digits}

@@ -41,28 +41,29 @@ infix 70 ◌gives◌
 abbrev pub ◌gives◌ : Entry → List GivenAnswer → Entry × List GivenAnswer
 e gives answers = (e, answers)
 
--- so many seats, bodies of at most so many bytes, and nothing else chosen
+-- settings with this many seats and this limit on bodies, and defaults for the rest
 abbrev pub plain : ℕ → ℕ → Settings
 plain seats max_job_size = record { seats = seats; max_job_size = max_job_size; max_jobs = None; requeue_delay = 0 }
 
--- the same with at most so many jobs
+-- the same settings with this job limit
 abbrev pub at_most : ℕ → Settings → Settings
 at_most most settings = record settings { max_jobs = Some most }
 
--- the same with so many seconds of delay for the jobs of a lost connection
+-- the same settings with this requeue delay in seconds
 abbrev pub requeued_after : ℕ → Settings → Settings
 requeued_after seconds settings = record settings { requeue_delay = seconds }
 
--- a machine with so many seats and nobody there
+-- a machine with this many seats and no client
 abbrev pub server : ℕ → ℕ → Machine
 server seats max_job_size = new_machine (plain seats max_job_size)
 
--- Once a client has come to each of three seats at the moment 0, the steps give the answers beside them,
+-- Once a client has connected to each of three seats at the moment 0, the steps give the answers
+-- next to them.
 abbrev pub PlaysWith : Settings → List (Entry × List GivenAnswer) → Type 0
 PlaysWith settings play =
     ran (new_machine settings) (connect 0 ∷ connect 1 ∷ connect 2 ∷ map (λ p. p.0) play) ≡ [] ∷ [] ∷ [] ∷ map (λ p. p.1) play
 
--- where nothing else is chosen.
+-- the same with the default settings
 abbrev pub Plays : List (Entry × List GivenAnswer) → Type 0
 Plays play = PlaysWith (plain 3 65535) play
 
@@ -71,24 +72,25 @@ abbrev pub played : Machine → List Entry → Machine
 played m [] = m
 played m (e ∷ history) = played (stepped m e.moment e.seat e.what).machine history
 
--- when something is due, once a client has come to each of three seats at the moment 0 and these steps were taken
+-- the next due moment, once a client has connected to each of three seats at the moment 0 and these
+-- steps were taken
 abbrev pub due_with : Settings → List Entry → Option ℕ
 due_with settings history = next_due (played (new_machine settings) (connect 0 ∷ connect 1 ∷ connect 2 ∷ history))
 
 abbrev pub due_after : List Entry → Option ℕ
 due_after history = due_with (plain 3 65535) history
 
--- The steps of a lone client's line: it connects, asks, tells that it sends no more where it may still
+-- The steps of a lone client's line: it connects, makes its requests, sends no more if it may still
 -- wait for its last answer, and is closed.
 abbrev pub lone_line : List Request → List Entry
 lone_line requests =
     connect 0 ∷ map (ask 0) requests ++ (if ends_by_wait requests then end 0 ∷ [] else []) ++ close 0 ∷ []
 
--- the answers to a lone client, by a clock that stands at 0
+-- the answers to a lone client, with a clock that stays at 0
 abbrev pub session : Settings → List Request → List Answer
 session settings requests = flat_map (map (λ g. g.1)) (ran (new_machine settings) (lone_line requests))
 
--- the bytes that are written to a lone client which sends these bytes and no more
+-- the bytes that a lone client receives if it sends these bytes and no more
 abbrev pub replies_with : Settings → List ℕ → List ℕ
 replies_with settings sent = answers_text (session settings (reading settings.max_job_size sent).0)
 

@@ -3,7 +3,8 @@ use Rattle.std.specs.{List.AllByRecursion, Prelude.{◌∷◌, ◌≡◌, List, 
 use Rattle.bq_job.specs.{beside.transitions, declared.job.Job.Job, examples.Examples.{connect, server}, laws.Happening}
 use Rattle.bq_job.specs.{laws.{IsUndisturbed, handed_out, happenings, parts_of_run, put}, promise.{Entry, Transition}}
 
--- the steps of a server with three seats, once a client has come to each of them at the moment 0
+-- the steps of a server with three seats, once a client has connected to each of them at the moment
+-- 0
 abbrev pub taken : List Entry → List Transition
 taken history = transitions (server 3 65535) (connect 0 ∷ connect 1 ∷ connect 2 ∷ history)
 
@@ -15,7 +16,7 @@ abbrev pub job_put : Happening → List Job
 job_put (put j) = j ∷ []
 job_put _ = []
 
--- the jobs that were put, in their order
+-- the jobs that were put, in order
 abbrev pub jobs_put : List Happening → List Job
 jobs_put happened = flat_map job_put happened
 
@@ -23,17 +24,17 @@ abbrev pub id_handed_out : Happening → List ℕ
 id_handed_out (handed_out id) = id ∷ []
 id_handed_out _ = []
 
--- the ids of the jobs that were handed out, in their order
+-- the ids of the jobs that were handed out, in order
 abbrev pub ids_handed_out : List Happening → List ℕ
 ids_handed_out happened = flat_map id_handed_out happened
 
--- The jobs of these ids are handed out, in this order, and each job that is put is an undisturbed one,
+-- The jobs with these ids are handed out, in this order, and every job that is put is undisturbed.
 abbrev pub HandsOutUndisturbed : List ℕ → List Entry → Type 0
 HandsOutUndisturbed ids history =
     let happened = happening_in history in
     (ids_handed_out happened ≡ ids) × AllByRecursion (λ j. IsUndisturbed j happened) (jobs_put happened)
 
--- or none is.
+-- The jobs with these ids are handed out, in this order, and no job that is put is undisturbed.
 abbrev pub HandsOutDisturbed : List ℕ → List Entry → Type 0
 HandsOutDisturbed ids history =
     let happened = happening_in history in

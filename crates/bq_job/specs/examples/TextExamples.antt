@@ -1,4 +1,4 @@
--- Machines and jobs whose texts were written down by hand.
+-- Machines and jobs whose texts were written by hand.
 use Rattle.std.specs.Prelude.{true, [], ◌∷◌, codes, None}
 use Rattle.bq_job.specs.{declared.job.Job.Job, examples.Examples.plain, machine.{Settings, default_tube, empty_seat}}
 use Rattle.bq_job.specs.machine.{new_machine, no_counts, Machine.Machine}
@@ -33,7 +33,7 @@ job_reserved_again = record plain_job {
   state = states.Reserved 0 4000;
 }
 
--- after puts with the priorities 1023 and 1024, of which the first was reserved and deleted
+-- after puts with the priorities 1023 and 1024; the first job was reserved and deleted
 abbrev pub after_one_deletion : Machine
 after_one_deletion = record first_client {
   jobs = record plain_job { id = 2; pri = 1024 } ∷ [];
@@ -42,7 +42,7 @@ after_one_deletion = record first_client {
   puts = 2;
 }
 
--- the client uses a tube that was gone, and has put its first job since
+-- the client uses a tube that had disappeared, and has put its first job since
 abbrev pub after_coming_back : Machine
 after_coming_back = record first_client {
   jobs = record plain_job { id = 2; tube = codes "t" } ∷ [];

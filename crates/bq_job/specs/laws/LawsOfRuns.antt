@@ -8,14 +8,14 @@ use Rattle.bq_job.specs.declared.answer.Answer.TheVariants as answers
 use Rattle.bq_job.specs.declared.request.Request.TheVariants as requests
 use Rattle.bq_job.specs.declared.step.Step.TheVariants as steps
 
--- The client gets the job as the command's own answer to its reserve-job.
+-- The client gets the job as the answer to its own reserve-job.
 pub record IsReservedById (t : Transition) (early : List GivenAnswer) (seat id : ℕ) : Type 0 where
   pub asks : t.entry.what ≡ steps.Ask (requests.ReserveJob id)
   pub by : t.entry.seat ≡ seat
   pub place : early ≡ t.parts.handed ++ t.parts.ended
 
--- Dispatch, which begins at the machine after these answers and gives the answers handed, gives the job to
--- the client: it is the least one that the client may have at that moment.
+-- Dispatch, which starts at `first` after the answers `before` and gives the answers `handed`,
+-- gives the job to the client. It is the least job that the client may have at that moment.
 pub record IsDispatchedLeast (first : Machine) (before handed early : List GivenAnswer) (seat id : ℕ) (body : List ℕ) : Type 0 where
   pub given : List GivenAnswer
   pub more : List GivenAnswer
@@ -30,8 +30,8 @@ abbrev pub answers_before : Transition → List GivenAnswer
 answers_before t =
     t.parts.handed ++ t.parts.ended ++ addressed t.entry.seat (acted t.parts.memory t.parts.before t.entry.seat t.entry.what).answer
 
--- Each RESERVED among the answers of the step, wherever it stands among them, is the command's own answer
--- to a reserve-job, or the first or the second dispatch gave the client the least job that it might have.
+-- Each RESERVED among the answers of the step is the answer to a reserve-job, or the first or the
+-- second dispatch gave the client the least job that it could have.
 abbrev pub GivesLeast : Transition → Type 0
 GivesLeast t = (early more : List GivenAnswer) (seat id : ℕ) (body : List ℕ) → t.given ≡ early ++ (seat, answers.Reserved id body) ∷ more
     → IsReservedById t early seat id
@@ -45,7 +45,7 @@ is_inserted _ = false
 abbrev pub has_inserted : List GivenAnswer → Bool
 has_inserted given = list_any (λ g. is_inserted g.1) given
 
--- There is one job of this id, and it has the tube and the body of this one.
+-- There is exactly one job with this id, and it has the tube and the body of `j`.
 pub record IsKept (j : Job) (m : Machine) : Type 0 where
   pub job : Job
   pub there : Contains m.jobs job
@@ -54,15 +54,16 @@ pub record IsKept (j : Job) (m : Machine) : Type 0 where
   pub body_is : job.body ≡ j.body
   pub alone : (k : Job) → Contains m.jobs k → k.id ≡ j.id → k ≡ job
 
--- The client at the seat holds the job of this id.
+-- The client at the seat holds the job with this id.
 abbrev pub Holds : Machine → ℕ → ℕ → Type 0
 Holds m seat id = (j : Job) × Contains m.jobs j × (j.id ≡ id) × IsTrue (is_held_by seat j)
 
--- Each job is held by one client at most, who is connected.
+-- At most one client holds a job, and that client is connected.
 abbrev pub IsHeldByOne : Machine → Type 0
 IsHeldByOne m = (seat other id : ℕ) → Holds m seat id → Holds m other id → (seat ≡ other) × IsTrue (is_connected_at seat m)
 
--- DELETED is given to who asked for it alone. The job was there, the client's own or nobody's, and is gone.
+-- DELETED goes only to the client that asked for it. The job existed, was held by no client or by
+-- this one, and is gone.
 pub record IsDeletion (t : Transition) (seat : ℕ) : Type 0 where
   pub id : ℕ
   pub job : Job

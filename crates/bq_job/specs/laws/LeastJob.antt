@@ -3,7 +3,7 @@ use Rattle.std.specs.{Bool.IsFalse, Prelude.{◌≡◌, Contains, IsTrue, List, 
 use Rattle.bq_job.specs.declared.job.Job.{Job}
 use Rattle.bq_job.specs.machine.{Machine.Machine, SeatRecord, is_job_before, is_waiting, may_have}
 
--- The client may have this job, and no job that it may have comes before this one.
+-- The client may have this job, and no job that it may have comes before it.
 pub record IsLeastFor (m : Machine) (s : SeatRecord) (j : Job) : Type 0 where
   pub kept : Contains m.jobs j
   pub allowed : IsTrue (may_have m s j)

@@ -1,5 +1,5 @@
--- The headline whole: of a run that left a history, the one run of the machine along it, the bytes of each
--- line, and what became of jobs.
+-- The headline as a whole, for a run that left a history: the one run of the machine along it, the
+-- bytes of each line, and what happened to jobs.
 use Rattle.std.specs.{List.{list_all, list_any}, Prelude.{◌++◌, ◌==◌, ◌∷◌, ◌≡◌, ◌≤◌, Bool, Contains, IsTrue, List}}
 use Rattle.std.specs.Prelude.{Option, [], ℕ, count_by, false, flat_map, length, map}
 use Rattle.bq_job.specs.promise.{AreDoorsOwed, AreLinesOwed, AreSeatsUpTo, Entry, GoesBy, IsControlDone, IsTimedBy, LineOver, Transition}
@@ -10,51 +10,52 @@ use Rattle.bq_job.specs.laws.{Happenings.{parts_of_run, put}, LawsOfRuns.{GivesL
 use Rattle.bq_job.specs.{laws.LawsOfRuns.has_inserted, machine.{GivenAnswer, Settings, last_id, new_machine}}
 use Rattle.bq_job.specs.{machine.Machine.Machine, promise.{answers_to, steps_at, without_ticks}}
 
--- What becomes of jobs as these steps are taken, and these things happen to jobs.
+-- What happens to jobs while these steps are taken.
 pub record AreJobsServed (taken : List Transition) (happened : List Happening) : Type 0 where
-  -- Each RESERVED gives the least job that the client may have then, or the one that its reserve-job names.
+  -- Each RESERVED gives the least job that the client may have at that moment, or the one that its
+  -- reserve-job names.
   pub least : (t : Transition) → Contains taken t → GivesLeast t
-  -- An undisturbed job is handed out at most once,
+  -- An undisturbed job is handed out at most once.
   pub once : (j : Job) → IsUndisturbed j happened → count_by (is_hand_out j.id) happened ≤ 1
-  -- and two of them, of one priority and tube, in the order of their puts.
+  -- Two undisturbed jobs of one priority and tube are handed out in the order of their puts.
   pub in_order : (a b : Job) → IsUndisturbed a happened → IsUndisturbed b happened → a.pri ≡ b.pri → a.tube ≡ b.tube
       → IsPutBefore a.id b.id happened → IsHandedOut a.id happened → IsHandedOut b.id happened → IsHandedOutBefore a.id b.id happened
-  -- A job that was accepted is there, once, after each part of a step until it is deleted.
+  -- From its put until its deletion, a job is present exactly once after each part of a step.
   pub kept : (early late : List Part) (p : Part) (j : Job) → parts_of_run taken ≡ early ++ p ∷ late
       → Contains (happenings (early ++ p ∷ [])) (put j)
       → list_any (is_deletion j.id) (happenings (early ++ p ∷ [])) ≡ false → IsKept j p.machine
-  -- One client at most holds a job, and it is connected.
+  -- At most one client holds a job, and it is connected.
   pub held : (p : Part) → Contains (parts_of_run taken) p → IsHeldByOne p.machine
-  -- DELETED goes to who asked, for a job that nobody else held.
+  -- DELETED goes to the client that asked, for a job that no other client held.
   pub deleted : (t : Transition) (seat : ℕ) → Contains taken t → Contains t.given (seat, Deleted) → IsDeletion t seat
-  -- From the step that begins to drain on no put is accepted, and none is after the last id was given.
+  -- From the step that begins to drain, no put is accepted; nor is one after the last id was given.
   pub drained : (early more : List Transition) (t : Transition) → taken ≡ early ++ t ∷ more → t.entry.what ≡ Drain
       → has_inserted (flat_map (λ (u : Transition). u.given) (t ∷ more)) ≡ false
   pub last_id_given : (early more : List GivenAnswer) (seat : ℕ)
       → flat_map (λ (u : Transition). u.given) taken ≡ early ++ (seat, Inserted last_id) ∷ more → has_inserted more ≡ false
 
--- One list of everybody's steps, and of it all that is promised.
+-- One list of all clients' steps, and everything that is promised of it.
 pub record HeadlineHolds (settings : Settings) (doors : List (List LineOver)) (control : List ℕ) (failed : Bool)
     (readings : List (Option ℕ)) (last : Machine) : Type 0 where
   pub history : List Entry
   pub given : List GivenAnswer
   pub taken : List Transition
-  -- The machine goes along it by one run, from the start to this machine, and gives these answers.
+  -- The machine takes it in one run, from a new machine to `last`, and gives these answers.
   pub goes : GoesBy (new_machine settings) taken last
   pub history_is : map (λ t. t.entry) taken ≡ history
   pub given_is : flat_map (λ t. t.given) taken ≡ given
-  -- Each step is at the moment of a reading of its own.
+  -- Each step has the moment of a clock reading of its own.
   pub timed : IsTimedBy readings history
-  -- There is a door at each seat. In the history are the steps of its lines, and each of them was written
-  -- exactly the bytes that the answers to it come to.
+  -- There is a door at each seat. The history contains the steps of its lines, and each client
+  -- received exactly the bytes of the answers to it.
   pub many : length doors ≡ settings.seats
   pub of_doors : AreDoorsOwed settings.max_job_size 0 doors history given
-  -- The control line has the seat behind them, and nobody else has a step.
+  -- The control line has the seat after those of the doors, and no other seat has a step.
   pub of_control : IsControlDone control failed (steps_at settings.seats history)
   pub of_nobody_else : AreSeatsUpTo settings.seats history
   pub jobs : AreJobsServed taken (happenings (parts_of_run taken))
 
--- The same of a lone line at a seat.
+-- The same for a lone line at a seat.
 pub record LineHeadlineHolds (settings : Settings) (seat : ℕ) (line : LineOver) (readings : List (Option ℕ)) : Type 0 where
   pub history : List Entry
   pub given : List GivenAnswer

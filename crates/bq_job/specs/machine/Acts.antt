@@ -1,9 +1,9 @@
--- What a command may do: change the machine, and answer.
+-- What a command may do: change the machine and give an answer.
 use Rattle.std.specs.Prelude.{ℕ, Bool, if◌then◌else◌, Option, Some, None}
 use Rattle.bq_job.specs.{machine.{Changes.job_with, Machine.Machine}, Types.{Answer, Job}}
 use Rattle.bq_job.specs.declared.answer.Answer.TheVariants as answers
 
--- the machine after a command, and the answer to it, if there is one
+-- the machine after a command, and its answer if there is one
 pub record Effect : Type 0 where
   pub machine : Machine
   pub answer : Option Answer
@@ -18,7 +18,7 @@ abbrev pub on_found : (Job → Bool) → (Job → Effect) → Machine → Option
 on_found passes act m None = telling answers.NotFound m
 on_found passes act m (Some j) = if passes j then act j else telling answers.NotFound m
 
--- what a command does with the job of this id, if there is one and it passes; else NOT_FOUND
+-- what a command does with the job of this id if it exists and passes the test; otherwise NOT_FOUND
 abbrev pub on_job : ℕ → (Job → Bool) → (Job → Effect) → Machine → Effect
 on_job id passes act m = on_found passes act m (job_with id m.jobs)
 

@@ -1,4 +1,4 @@
--- The command's own effect: what each request and each other event does by itself.
+-- The command's own effect: what each request and each other event does.
 use Rattle.std.specs.Prelude.{ℕ, true, ◌&&◌, not, if◌then◌else◌, Option, Some, None, map}
 use Rattle.bq_job.specs.machine.JobCommands.{bury_effect, delayed_by, delete_effect, kick_effect, kick_job_effect, put_effect}
 use Rattle.bq_job.specs.machine.{Acts.{Effect, silent, telling}, Changes.{given_back, is_waiting, seat_with, with_seat}}
@@ -14,7 +14,7 @@ use Rattle.bq_job.specs.declared.refusal.Refusal.TheVariants as refusals
 use Rattle.bq_job.specs.declared.request.Request.TheVariants as requests
 use Rattle.bq_job.specs.declared.step.Step.TheVariants as steps
 
--- the answer to a request that the reader refused
+-- the answer to a request that the reader rejected
 abbrev pub refusal_answer : Refusal → Answer
 refusal_answer refusals.UnknownCommand = answers.UnknownCommand
 refusal_answer refusals.BadFormat = answers.BadFormat
@@ -22,7 +22,7 @@ refusal_answer refusals.JobTooBig = answers.JobTooBig
 refusal_answer refusals.ExpectedCrlf = answers.ExpectedCrlf
 refusal_answer refusals.OutOfMemory = answers.OutOfMemory
 
--- what a request of an open seat that doesn't wait does
+-- what a request does at an open seat whose client does not wait
 abbrev pub asked : Request → Machine → SeatRecord → Effect
 asked (requests.Put pri delay ttr body) m s = put_effect pri delay ttr body m s
 asked requests.Reserve m s = reserve_effect None m s
@@ -51,7 +51,7 @@ asked requests.ListTubesWatched m s = list_watched_effect m s
 asked requests.Quit m s = silent m
 asked (requests.Refused why) m s = telling (refusal_answer why) m
 
--- a client comes to the seat
+-- a client connects to the seat
 abbrev pub after_connect : Machine → ℕ → Machine
 after_connect m seat =
     record (with_seat seat (λ s. record (empty_seat s.number) { connected = true }) m) { connections = raised m.connections }
@@ -59,28 +59,29 @@ after_connect m seat =
 abbrev pub with_end : SeatRecord → SeatRecord
 with_end s = record s { ended = true }
 
--- where a job stands whose client is gone: ready, or delayed where a delay was chosen
+-- the state of a job whose holder has disconnected: ready, or delayed if a requeue delay was chosen
 abbrev pub state_once_left : Machine → JobState
 state_once_left m = delayed_by m.settings.requeue_delay m.moment
 
--- The client is gone: the jobs that it holds become ready or delayed, and are otherwise as they were.
+-- The client has disconnected: the jobs that it holds become ready or delayed, and otherwise stay
+-- as they were.
 abbrev pub after_close : Machine → ℕ → Machine
 after_close m seat =
     record (with_seat seat (λ s. empty_seat s.number) m) { jobs = map (given_back (state_once_left m) seat) m.jobs }
 
--- A closed seat is opened; at an open one nothing happens.
+-- A closed seat is opened; at an open seat nothing happens.
 abbrev pub connect_effect : Machine → SeatRecord → Effect
 connect_effect m s = if s.connected then silent m else silent (after_connect m s.number)
 
--- A request is carried out at an open seat that doesn't wait, and at no other.
+-- A request is carried out only at an open seat whose client does not wait.
 abbrev pub ask_effect : Request → Machine → SeatRecord → Effect
 ask_effect request m s = if s.connected && not (is_waiting s) then asked request m s else silent m
 
--- An open seat is marked.
+-- An open seat is marked as ended.
 abbrev pub end_effect : Machine → SeatRecord → Effect
 end_effect m s = if s.connected then silent (with_seat s.number with_end m) else silent m
 
--- An open seat is closed, and that is told.
+-- An open seat is closed, and answered `Closed`.
 abbrev pub close_effect : Machine → SeatRecord → Effect
 close_effect m s = if s.connected then telling answers.Closed (after_close m s.number) else silent m
 
@@ -88,7 +89,8 @@ abbrev pub at_found : (Machine → SeatRecord → Effect) → Machine → Option
 at_found act m None = silent m
 at_found act m (Some s) = act m s
 
--- Draining begins at whatever seat. Any other event at a seat that there isn't does nothing.
+-- Draining begins whichever seat the step is at. At a seat that does not exist, any other event
+-- does nothing.
 abbrev pub effect : Machine → ℕ → Step → Effect
 effect m seat steps.Connect = at_found connect_effect m (seat_with seat m.seats)
 effect m seat (steps.Ask request) = at_found (ask_effect request) m (seat_with seat m.seats)

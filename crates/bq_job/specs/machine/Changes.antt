@@ -1,4 +1,4 @@
--- Words for reading and changing parts of the machine.
+-- Operations for reading and changing parts of the machine.
 use Rattle.std.specs.Prelude.{ℕ, Bool, true, false, ◌&&◌, ◌||◌, ◌==◌, nat_lt, if◌then◌else◌, List}
 use Rattle.std.specs.Prelude.{Option, Some, None, is_some, map, fold, find}
 use Rattle.bq_job.specs.{machine.Machine.{Machine, SeatRecord}, Types.{Job, JobState}}
@@ -9,11 +9,11 @@ abbrev pub better_of : {A : Type 0} → (A → Bool) → (A → A → Bool) → 
 better_of passes before None x = if passes x then Some x else None
 better_of passes before (Some best) x = if passes x && before x best then Some x else Some best
 
--- the first, by this order, of those that pass the test
+-- the first, in this order, of those that pass the test
 abbrev pub first_of : {A : Type 0} → (A → Bool) → (A → A → Bool) → List A → Option A
 first_of passes before xs = fold (better_of passes before) None xs
 
--- by the first number, and where they are equal by the second
+-- by the first number, and if they are equal by the second
 abbrev pub is_pair_before : ℕ → ℕ → ℕ → ℕ → Bool
 is_pair_before a i b j = nat_lt a b || (a == b && nat_lt i j)
 
@@ -55,6 +55,6 @@ is_held_by seat j = is_holder seat j.state
 abbrev pub in_state : JobState → Job → Job
 in_state state j = record j { state = state }
 
--- the job, once the client at the seat is gone: in this state, if that client held it
+-- the job after the client at the seat has disconnected: in this state if that client held it
 abbrev pub given_back : JobState → ℕ → Job → Job
 given_back state seat j = if is_held_by seat j then in_state state j else j

@@ -1,5 +1,5 @@
--- Dispatch: while some waiting client may have a ready job, the least of all such jobs goes to the
--- client that has waited longest of those that may have it.
+-- Dispatch: while a waiting client may have a ready job, the least of all such jobs goes to the
+-- client that has waited longest among those that may have it.
 use Rattle.std.specs.{List.list_any, Prelude.{◌&&◌, ◌≡◌, ◌⊎◌, Bool, MatchOption, None, Option, Some, ℕ, not}}
 use Rattle.bq_job.specs.machine.Changes.{first_of, is_pair_before, is_waiting, is_ready, with_job, with_seat, without_wait}
 use Rattle.bq_job.specs.machine.{Limits.{later, raised}, Machine.{Machine, SeatRecord, Wait}, Tubes.is_paused}
@@ -11,7 +11,7 @@ use Rattle.bq_job.specs.declared.job.JobState.TheVariants as states
 abbrev pub GivenAnswer : Type 0
 GivenAnswer = ℕ × Answer
 
--- A seat may be given a ready job of an unpaused tube that it watches.
+-- A client may have a ready job in an unpaused tube that it watches.
 abbrev pub may_have : Machine → SeatRecord → Job → Bool
 may_have m s j = is_ready j && watches j.tube s && not (is_paused j.tube m)
 
@@ -42,15 +42,15 @@ next_seat m j = first_of (is_waiting_for m j) is_wait_before m.seats
 abbrev pub with_reserve : Counts → Counts
 with_reserve counts = record counts { reserves = raised counts.reserves }
 
--- the job, once the client at the seat holds it
+-- the job once the client at the seat holds it
 abbrev pub reserved_by : ℕ → ℕ → Job → Job
 reserved_by moment seat j = record j { state = states.Reserved seat (later moment j.ttr); counts = with_reserve j.counts }
 
 abbrev pub after_hand_out : Machine → Job → SeatRecord → Machine
 after_hand_out m j s = with_seat s.number without_wait (with_job j.id (reserved_by m.moment s.number) m)
 
--- The client gets the job. Where the share of its body was refused, the client is told so and waits no
--- longer, and the job stays as it was.
+-- The client gets the job. If a reference to its body was refused, the client is answered
+-- OUT_OF_MEMORY and no longer waits, and the job stays as it was.
 abbrev pub IsHandOut : Machine → Job → SeatRecord → GivenAnswer → Machine → Type 0
 IsHandOut m j s given next =
     ((given ≡ (s.number, answers.Reserved j.id j.body)) × (next ≡ after_hand_out m j s))

@@ -9,14 +9,15 @@ use Rattle.bq_job.specs.machine.{JobStates.{is_delayed, is_due_before, is_reserv
 use Rattle.bq_job.specs.machine.{Machine.{Machine, SeatRecord, TubeRecord}, Tubes.with_tube}
 use Rattle.bq_job.specs.{reading.TubeName.is_same_name, Types.{Counts, Job, JobState}}
 
--- The last id that is given: with it the machine begins to drain, so that the next id always fits.
+-- The last id that is given out. The put that gets it makes the machine drain, so the next id
+-- always fits.
 abbrev pub last_id : ℕ
 last_id = 2 ^ 64 - 2
 
 abbrev pub no_counts : Counts
 no_counts = record { reserves = 0; timeouts = 0; releases = 0; buries = 0; kicks = 0 }
 
--- ready without a delay, else delayed so many seconds from this moment on
+-- ready if there is no delay, otherwise delayed from this moment by `delay` seconds
 abbrev pub delayed_by : ℕ → ℕ → JobState
 delayed_by delay moment = if delay == 0 then states.Ready else states.Delayed (later moment delay)
 
@@ -45,12 +46,12 @@ after_put m j = record (with_tube j.tube with_put m) {
   draining = m.draining || nat_le last_id m.next_id;
 }
 
--- whether there are as many jobs as there may be, in whatever states
+-- whether the job limit is reached; jobs count in every state
 abbrev pub is_full : Option ℕ → List Job → Bool
 is_full None jobs = false
 is_full (Some most) jobs = nat_le most (length jobs)
 
--- a new job in the used tube, unless the machine is draining or has as many jobs as there may be
+-- a new job in the used tube, unless the machine is draining or the job limit is reached
 abbrev pub put_effect : ℕ → ℕ → ℕ → List ℕ → Machine → SeatRecord → Effect
 put_effect pri delay ttr body m s =
     if m.draining then telling answers.Draining m
@@ -60,18 +61,18 @@ put_effect pri delay ttr body m s =
 abbrev pub waiting_from : ℕ → Option ℕ → SeatRecord → SeatRecord
 waiting_from ticket until s = record s { wait = Some (record { ticket = ticket; until = until }) }
 
--- The client waits, with the next ticket. Dispatch and the ends of waits answer it.
+-- The client waits, with the next ticket. Dispatch or the end of its wait answers it.
 abbrev pub reserve_effect : Option ℕ → Machine → SeatRecord → Effect
 reserve_effect until m s =
     silent (record (with_seat s.number (waiting_from (raised m.tickets) until) m) { tickets = raised m.tickets })
 
--- a job that nobody holds, in whatever tube, paused or not, watched or not
+-- a job that no client holds, in any tube, paused or not, watched or not
 abbrev pub reserve_job_effect : ℕ → Machine → SeatRecord → Effect
 reserve_job_effect id m s =
     on_job id (λ j. not (is_reserved j.state))
     (λ j. telling (answers.Reserved j.id j.body) (with_job id (reserved_by m.moment s.number) m)) m
 
--- a job that nobody holds, or that the client holds itself
+-- a job that no client holds, or that this client holds
 abbrev pub is_free_for : SeatRecord → Job → Bool
 is_free_for s j = not (is_reserved j.state) || is_held_by s.number j
 
@@ -108,7 +109,7 @@ bury_effect id pri m s =
     on_job id (is_held_by s.number)
     (λ j. telling answers.Buried (record (with_job id (buried (raised m.burials) pri) m) { burials = raised m.burials })) m
 
--- the time to run of a job that the client holds begins anew
+-- the time to run of a job that the client holds starts anew
 abbrev pub touch_effect : ℕ → Machine → SeatRecord → Effect
 touch_effect id m s =
     on_job id (is_held_by s.number)
@@ -138,8 +139,8 @@ abbrev pub kicked_first : List ℕ → List Job → List Job → List Job
 kicked_first tube jobs [] = in_order is_due_before (filter (is_delayed_in tube) jobs)
 kicked_first tube jobs (j ∷ js) = in_order is_buried_before (j ∷ js)
 
--- The jobs of a tube that a kick would make ready, the first of them first: the buried ones, or where
--- there are none, the delayed ones.
+-- The jobs of a tube that a kick would make ready, in order: the buried ones or, if there are none,
+-- the delayed ones.
 abbrev pub kickable : List ℕ → List Job → List Job
 kickable tube jobs = kicked_first tube jobs (filter (is_buried_in tube) jobs)
 

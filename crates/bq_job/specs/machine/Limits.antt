@@ -1,11 +1,11 @@
--- Numbers of 64 bits, which stop at their end.
+-- Numbers of 64 bits, which stop at their largest value.
 use Rattle.std.specs.Prelude.{ℕ, ◌+◌, ◌-◌, ◌*◌, ◌^◌, min}
 
--- the greatest moment, ticket or count
+-- the largest moment, ticket or count
 abbrev pub greatest : ℕ
 greatest = 2 ^ 64 - 1
 
--- a count that has grown by n
+-- a count that has grown by `n`
 abbrev pub grown : ℕ → ℕ → ℕ
 grown n count = min (count + n) greatest
 
@@ -13,6 +13,6 @@ grown n count = min (count + n) greatest
 abbrev pub raised : ℕ → ℕ
 raised count = grown 1 count
 
--- the moment so many seconds later; a moment is in milliseconds
+-- the moment `seconds` later; a moment is in milliseconds
 abbrev pub later : ℕ → ℕ → ℕ
 later moment seconds = min (moment + seconds * 1000) greatest

@@ -1,4 +1,4 @@
--- Of one client: whether it is connected and waits, and whether it was told that it is gone.
+-- One client: whether it is connected and waits, and whether it was answered `Closed`.
 use Rattle.std.specs.{List.list_any, Prelude.{◌&&◌, ◌==◌, Bool, List, ℕ, false, true}}
 use Rattle.bq_job.specs.{declared.answer.Answer.Answer, machine.{Changes.is_waiting, Machine.Machine}}
 use Rattle.bq_job.specs.declared.answer.Answer.TheVariants as answers

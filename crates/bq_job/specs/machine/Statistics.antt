@@ -1,5 +1,5 @@
--- Statistics of a job, of a tube and of the server. They are counts over the lists of the machine made
--- now, beside the counters that the machine keeps.
+-- Statistics of a job, of a tube and of the server. They are counted anew over the lists of the
+-- machine, next to the counters that the machine keeps.
 use Rattle.std.specs.Prelude.{ℕ, Bool, true, false, ◌&&◌, ◌-◌, ◌/◌, nat_lt, Option, Some, None, List}
 use Rattle.std.specs.Prelude.{[], ◌∷◌, ◌++◌, length, count_by, filter, codes}
 use Rattle.bq_job.specs.machine.{Changes.{is_ready, is_waiting}, JobStates.{is_buried, is_delayed, is_reserved}}
@@ -8,7 +8,7 @@ use Rattle.bq_job.specs.declared.job.JobState.TheVariants as states
 pub use Rattle.bq_job.specs.machine.TubeOrder.{name_list, tubes}
 use Rattle.bq_job.specs.{machine.Tubes.{tube_record, watches}, texts.Yaml.{KeyValue, key_number, statistics_text}}
 
--- whole seconds from one moment to a later one, rounded down; 0 where it isn't later
+-- whole seconds from one moment to a later one, rounded down; 0 if it is not later
 abbrev pub seconds_between : ℕ → ℕ → ℕ
 seconds_between earlier later = (later - earlier) / 1000
 
@@ -18,7 +18,7 @@ state_word (states.Delayed due) = codes "delayed"
 state_word (states.Reserved seat deadline) = codes "reserved"
 state_word (states.Buried burial) = codes "buried"
 
--- the seconds to the end of a delay or of a time to run, else 0
+-- the seconds until a delay or a time to run ends, otherwise 0
 abbrev pub time_left : ℕ → JobState → ℕ
 time_left moment states.Ready = 0
 time_left moment (states.Delayed due) = seconds_between moment due
@@ -71,12 +71,12 @@ watching_count name m = count_by (λ s. s.connected && watches name s) m.seats
 abbrev pub waiting_clients_of : List ℕ → Machine → ℕ
 waiting_clients_of name m = count_by (λ s. is_waiting s && watches name s) m.seats
 
--- the seconds that were asked for
+-- the seconds that were requested
 abbrev pub pause_seconds : Option Pause → ℕ
 pause_seconds None = 0
 pause_seconds (Some pause) = pause.seconds
 
--- the seconds to the end of the pause
+-- the seconds until the pause ends
 abbrev pub pause_time_left : ℕ → Option Pause → ℕ
 pause_time_left moment None = 0
 pause_time_left moment (Some pause) = seconds_between moment pause.until

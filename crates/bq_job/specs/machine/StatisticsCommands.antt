@@ -1,4 +1,4 @@
--- The commands that answer a YAML text.
+-- The commands that answer with a YAML text.
 use Rattle.std.specs.Prelude.{ℕ, if◌then◌else◌, Option, Some, None, List}
 use Rattle.bq_job.specs.declared.answer.Answer.TheVariants as answers
 use Rattle.bq_job.specs.{declared.job.Job.Job, machine.{Acts.{Effect, telling}, Changes.job_with, Machine.Machine}}

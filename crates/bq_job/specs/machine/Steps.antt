@@ -1,4 +1,4 @@
--- A step of the machine: six parts, and what want of memory may change.
+-- A step of the machine: its six parts, and what a lack of memory may change.
 use Rattle.std.specs.Prelude.{ℕ, Bool, true, false, ◌≡◌, ◌&&◌, ◌||◌, Option, Some, None, List, [], ◌∷◌, ◌++◌, IsTrue}
 use Rattle.std.specs.List.{list_any}
 use Rattle.bq_job.specs.machine.{Acts.{Effect, telling}, Asked.effect, Dispatch.{DispatchTurn, GivenAnswer, next_job}}
@@ -8,12 +8,12 @@ use Rattle.bq_job.specs.declared.answer.Answer.TheVariants as answers
 use Rattle.bq_job.specs.declared.request.Request.TheVariants as requests
 use Rattle.bq_job.specs.declared.step.Step.TheVariants as steps
 
--- what became of the memory that a command wanted: it was given, a growth was refused, or one more
--- owner of a body was refused
+-- whether a command got the memory that it needed: yes; an allocation failed; or a reference to a
+-- body was refused
 pub data Memory : Type 0 where
   granted growth_refused share_refused : Memory
 
--- the commands that take memory
+-- the commands that allocate
 abbrev pub takes_memory : Request → Bool
 takes_memory (requests.Put pri delay ttr body) = true
 takes_memory (requests.Use tube) = true
@@ -29,7 +29,8 @@ abbrev pub step_takes_memory : Step → Bool
 step_takes_memory (steps.Ask request) = takes_memory request
 step_takes_memory _ = false
 
--- No answer, DRAINING, NOT_FOUND and the OUT_OF_MEMORY of a put that finds no place for its job want no growth.
+-- A command without an answer, and one answered DRAINING, NOT_FOUND or, for a put at the job limit,
+-- OUT_OF_MEMORY, needs no allocation.
 abbrev pub may_be_left_out : Option Answer → Bool
 may_be_left_out None = false
 may_be_left_out (Some answers.Draining) = false
@@ -42,13 +43,15 @@ shares_body (Some (answers.Reserved id body)) = true
 shares_body (Some (answers.Found id body)) = true
 shares_body _ = false
 
--- Only the commands that take memory can be refused a growth, and only answers with a body a share.
+-- An allocation can fail only in a command that allocates, and a reference can be refused only for
+-- an answer with a body.
 abbrev pub is_possible : Memory → Machine → ℕ → Step → Bool
 is_possible granted m seat what = true
 is_possible growth_refused m seat what = step_takes_memory what && may_be_left_out (effect m seat what).answer
 is_possible share_refused m seat what = shares_body (effect m seat what).answer
 
--- The command's own effect. Where memory was refused, nothing is changed and the answer says so.
+-- The command's own effect. If memory was lacking, it changes nothing and is answered
+-- OUT_OF_MEMORY.
 abbrev pub acted : Memory → Machine → ℕ → Step → Effect
 acted granted m seat what = effect m seat what
 acted growth_refused m seat what = telling answers.OutOfMemory m
@@ -62,18 +65,18 @@ abbrev pub is_out_of_memory : Answer → Bool
 is_out_of_memory answers.OutOfMemory = true
 is_out_of_memory _ = false
 
--- whether dispatch was refused a share for one of these
+-- whether dispatch was refused a reference to a body for one of these
 abbrev pub has_refused_share : List GivenAnswer → Bool
 has_refused_share given = list_any (λ g. is_out_of_memory g.1) given
 
--- Dispatch goes on until no waiting client may have a job.
+-- Dispatch continues until no waiting client may have a job.
 pub record Dispatches (first : Machine) (given : List GivenAnswer) (last : Machine) : Type 0 where
   pub end : Machine
   pub turns : Chain DispatchTurn first given end
   pub done : next_job end ≡ None
   pub forgets : last ≡ forgetting end
 
--- Waits end until none would end now.
+-- Waits end until no further wait would end now.
 pub record EndsWaits (first : Machine) (given : List GivenAnswer) (last : Machine) : Type 0 where
   pub end : Machine
   pub turns : Chain WaitEndTurn first given end
@@ -94,14 +97,14 @@ abbrev pub is_share_refused : Memory → Bool
 is_share_refused share_refused = true
 is_share_refused _ = false
 
--- how a step came out: whether its command was left out because a growth was refused, and whether a
--- share was refused in it
+-- the outcome of a step: whether its command was skipped because an allocation failed, and whether
+-- a reference to a body was refused
 pub record Outcome : Type 0 where
   pub left_out : Bool
   pub unshared : Bool
 
--- Timers fire, jobs are dispatched, waits end; then comes the command's own effect, and once more jobs
--- are dispatched and waits end. The answers are in that order.
+-- Timers fire, jobs are dispatched, waits end; then comes the command's own effect, and jobs are
+-- dispatched and waits end once more. The answers are in that order.
 pub record IsStep (first : Machine) (at seat : ℕ) (what : Step) (outcome : Outcome)
     (answers : List GivenAnswer) (last : Machine) : Type 0 where
   pub memory : Memory

@@ -1,4 +1,4 @@
--- The commands that choose tubes, pause them, and show jobs.
+-- The commands that select tubes, pause them, and show jobs.
 use Rattle.std.specs.Prelude.{ℕ, Bool, ◌&&◌, ◌==◌, not, if◌then◌else◌, Option, Some, None, List, [], ◌∷◌, ◌++◌, filter, length}
 use Rattle.bq_job.specs.declared.answer.Answer.TheVariants as answers
 use Rattle.bq_job.specs.{declared.job.Job.Job, machine.{Acts.{Effect, showing, telling}, Changes.{first_of, is_ready}}}
@@ -16,7 +16,7 @@ use_effect tube m s = telling (answers.Using tube) (with_seat s.number (using tu
 abbrev pub watching : List (List ℕ) → SeatRecord → SeatRecord
 watching tubes s = record s { watched = tubes }
 
--- the watched tubes with this one
+-- the watched tubes and this one
 abbrev pub watched_with : List ℕ → SeatRecord → List (List ℕ)
 watched_with tube s = if watches tube s then s.watched else s.watched ++ tube ∷ []
 
@@ -29,7 +29,7 @@ watching_or_refused [] m s = telling answers.NotIgnored m
 watching_or_refused (tube ∷ tubes) m s =
     telling (answers.Watching (length (tube ∷ tubes))) (with_seat s.number (watching (tube ∷ tubes)) m)
 
--- The tube is watched no longer, unless no other is.
+-- The tube is no longer watched, unless it is the only one.
 abbrev pub ignore_effect : List ℕ → Machine → SeatRecord → Effect
 ignore_effect tube m s = watching_or_refused (filter (λ name. not (is_same_name tube name)) s.watched) m s
 
@@ -49,7 +49,7 @@ peek_delayed_effect m s = showing m (first_of (is_delayed_in s.used) is_due_befo
 abbrev pub peek_buried_effect : Machine → SeatRecord → Effect
 peek_buried_effect m s = showing m (first_of (is_buried_in s.used) is_buried_before m.jobs)
 
--- no pause for 0 seconds
+-- 0 seconds mean no pause
 abbrev pub pause_of : ℕ → ℕ → Option Pause
 pause_of seconds moment =
     if seconds == 0 then None else Some (record { seconds = seconds; until = later moment seconds })

@@ -23,7 +23,7 @@ abbrev pub is_until_over : ℕ → Option Wait → Bool
 is_until_over moment None = false
 is_until_over moment (Some wait) = is_past moment wait.until
 
--- The client's timeout has come, or the client sends no more.
+-- The client's wait has timed out, or the client sends no more.
 abbrev pub is_timed_out_at : ℕ → SeatRecord → Bool
 is_timed_out_at moment s = is_until_over moment s.wait || s.ended
 

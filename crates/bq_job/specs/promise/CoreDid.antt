@@ -1,5 +1,5 @@
--- What the core did: from the start it took steps, each at the moment of a reading of the clock, and gave
--- answers. No seat is in it.
+-- What the core did: starting from a new machine it took steps, each at the moment of a clock
+-- reading, and gave answers. It does not refer to seats.
 use Rattle.std.specs.Prelude.{ℕ, List, Option}
 use Rattle.bq_job.specs.{machine.{GivenAnswer, Settings, new_machine, Machine.Machine}, promise.History.IsTimedBy}
 use Rattle.bq_job.specs.promise.Runs.{Entry, Run}

@@ -3,8 +3,8 @@ use Rattle.std.specs.Prelude.{ℕ, false, ◌≡◌, List, [], ◌∷◌, ◌++�
 use Rattle.bq_job.specs.{declared.answer.Answer.TheVariants.Closed, machine.has_closed, promise.History.LineOver}
 use Rattle.bq_job.specs.{promise.LineSteps.{AreAllAnswered, IsStepsOfLine, IsWritten, heard}, Types.{Answer, Step}}
 
--- One line that is over. These are its steps, each request was answered, and it was written exactly what it
--- is owed of these answers.
+-- One line that has ended. These are its steps, each request was answered, and the client received
+-- exactly what it is owed of these answers.
 pub record IsLineOwed (max_job_size : ℕ) (line : LineOver) (taken : List Step) (answers : List Answer) : Type 0 where
   pub steps : IsStepsOfLine max_job_size (heard line.seen) line.over taken
   pub answered : AreAllAnswered line.over steps.asked answers

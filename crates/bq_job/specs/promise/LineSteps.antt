@@ -1,4 +1,4 @@
--- What a client's line does: its steps, and the bytes that are written to it.
+-- What a client's line does: its steps, and the bytes that the client receives.
 use Rattle.std.specs.Prelude.{ℕ, Bool, true, false, ◌≡◌, ◌≢◌, ◌⊎◌, ◌+◌, not, IsTrue, List, []}
 use Rattle.std.specs.Prelude.{◌∷◌, ◌++◌, map, length, flat_map, Option, Some}
 use Rattle.bq_job.specs.{reading.Reading.{Reads, ends_by_quit}, texts.AnswerText.answer_text, Types.{Answer, LineEnd}}
@@ -8,15 +8,15 @@ use Rattle.bq_job.specs.declared.line_end.LineFault.TheVariants as faults
 use Rattle.bq_job.specs.declared.request.Request.TheVariants as requests
 use Rattle.bq_job.specs.declared.step.Step.TheVariants as steps
 
--- a line as it tells itself: the bytes read and written, whether a read answered that no more comes, and
--- the first fault that a read or a write answered
+-- what the line itself reports: the bytes read and written, whether a read reported the end of the
+-- input, and the first fault that a read or a write reported
 pub record LineSeen : Type 0 where
   pub read : List ℕ
   pub written : List ℕ
   pub ended : Bool
   pub fault : Option LineFault
 
--- what was heard of a line: all that it tells but the bytes written
+-- the input of a line: all of that except the bytes written
 pub record LineHeard : Type 0 where
   pub read : List ℕ
   pub ended : Bool
@@ -36,10 +36,10 @@ ends_by_wait [] = false
 ends_by_wait (request ∷ []) = is_waiting_request request
 ends_by_wait (request ∷ next ∷ requests) = ends_by_wait (next ∷ requests)
 
--- Of the requests that were read, these were asked. A line that is over by a quit has it as its last
--- request. One that is over by the end of its input has none, and says that it ended. One that is over by
--- a read fault says so, and everything read before was asked. One that is over by a write fault says so,
--- and what was asked is a beginning of what was read.
+-- Which of the requests that were read were submitted. A line that ended with a quit has it as its
+-- last request. A line that ended with the end of its input has no quit, and reports the end. A
+-- line that ended with a read fault reports it, and everything read before was submitted. A line
+-- that ended with a write fault reports it, and a first part of what was read was submitted.
 abbrev pub IsOverBy : LineHeard → LineEnd → List Request → List Request → Type 0
 IsOverBy line ends.Quit read asked = (asked ≡ read) × IsTrue (ends_by_quit read)
 IsOverBy line ends.EndOfInput read asked = (asked ≡ read) × IsTrue (not (ends_by_quit read)) × IsTrue line.ended
@@ -47,11 +47,12 @@ IsOverBy line ends.ReadFault read asked = (asked ≡ read) × IsTrue (not (ends_
 IsOverBy line ends.WriteFault read asked =
     (more : List Request) × (read ≡ asked ++ more) × (asked ≢ []) × IsTrue (not (ends_by_quit asked)) × (line.fault ≡ Some faults.Write)
 
--- An end may be told just before the close, where the last request may wait and the line says that it ended.
+-- An end may be submitted just before the close, if the last request may wait and the line reports
+-- the end of its input.
 abbrev pub MayTellEnd : LineHeard → List Request → List Step → Type 0
 MayTellEnd line asked end_steps = (end_steps ≡ []) ⊎ ((end_steps ≡ steps.End ∷ []) × IsTrue (ends_by_wait asked) × IsTrue line.ended)
 
--- The steps of a line that is over: it connects, asks its requests in their order, and is closed.
+-- The steps of a line that has ended: it connects, submits its requests in order, and is closed.
 pub record IsStepsOfLine (max_job_size : ℕ) (line : LineHeard) (over : LineEnd) (taken : List Step) : Type 0 where
   pub requests : List Request
   pub rest : List ℕ
@@ -66,11 +67,11 @@ pub record IsStepsOfLine (max_job_size : ℕ) (line : LineHeard) (over : LineEnd
 abbrev pub answers_text : List Answer → List ℕ
 answers_text answers = flat_map answer_text answers
 
--- the bytes are a first part of the text, perhaps all of it or nothing
+-- the bytes are a first part of the text, possibly all or none of it
 abbrev pub IsBeginning : List ℕ → List ℕ → Type 0
 IsBeginning bytes text = (rest : List ℕ) × (text ≡ bytes ++ rest)
 
--- all of these answers but the last, and a beginning of that one
+-- all of these answers except the last, and a first part of that one
 pub record IsCutOff (answers : List Answer) (written : List ℕ) : Type 0 where
   pub first : List Answer
   pub last : Answer
@@ -90,11 +91,12 @@ wanted [] = 0
 wanted (steps.Ask request ∷ taken) = answers_wanted request + wanted taken
 wanted (step ∷ taken) = wanted taken
 
--- how many requests there are but for a quit
+-- how many requests there are, not counting a quit
 abbrev pub answered_count : List Request → ℕ
 answered_count asked = wanted (map steps.Ask asked)
 
--- Every request but a quit has its answer, and the last one, which may wait, came too late to be written.
+-- Every request except a quit has its answer; the last one, whose request may wait, came too late
+-- to be written.
 pub record IsLastUnwritten (asked : List Request) (answers : List Answer) (written : List ℕ) : Type 0 where
   pub first : List Answer
   pub last : Answer
@@ -103,16 +105,17 @@ pub record IsLastUnwritten (asked : List Request) (answers : List Answer) (writt
   pub answers_are : answers ≡ first ++ last ∷ []
   pub written_is : written ≡ answers_text first
 
--- What is written to a line that is over, of the answers that it is owed: all of them, to the byte. After
--- a write fault all but the last, and a beginning of that one. After a read fault the answer to a last
--- request that may wait can be missing.
+-- What is written to a line that has ended, of the answers that it is owed: all of them, to the
+-- byte. After a write fault, all except the last, and a first part of that one. After a read fault,
+-- the answer to a last request that may wait can be missing.
 abbrev pub IsWritten : LineEnd → List Request → List Answer → List ℕ → Type 0
 IsWritten ends.Quit asked answers written = written ≡ answers_text answers
 IsWritten ends.EndOfInput asked answers written = written ≡ answers_text answers
 IsWritten ends.ReadFault asked answers written = (written ≡ answers_text answers) ⊎ IsLastUnwritten asked answers written
 IsWritten ends.WriteFault asked answers written = IsCutOff answers written
 
--- Each request but a quit was answered. After a read fault that of a last request that may wait may not be.
+-- Each request except a quit was answered. After a read fault, a last request that may wait can be
+-- unanswered.
 abbrev pub AreAllAnswered : LineEnd → List Request → List Answer → Type 0
 AreAllAnswered ends.Quit asked answers = length answers ≡ answered_count asked
 AreAllAnswered ends.EndOfInput asked answers = length answers ≡ answered_count asked

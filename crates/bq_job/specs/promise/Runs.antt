@@ -10,15 +10,15 @@ pub record Entry : Type 0 where
 
 -- the parts of a step: the answers that each part gave, and the machines between the parts
 pub record Parts : Type 0 where
-  -- first jobs are dispatched and waits end,
+  -- First jobs are dispatched and waits end.
   pub handed : List GivenAnswer
   pub between : Machine
   pub ended : List GivenAnswer
   pub before : Machine
-  -- then comes the command's own effect,
+  -- Then comes the command's own effect.
   pub memory : Memory
   pub after : Machine
-  -- then jobs are dispatched and waits end once more.
+  -- Then jobs are dispatched and waits end once more.
   pub handed_then : List GivenAnswer
   pub between_then : Machine
   pub ended_then : List GivenAnswer
@@ -37,7 +37,8 @@ parts_of step = record {
   ended_then = step.ended_then;
 }
 
--- a step that was taken: the machines before, between and after its parts, how it came out, and its answers
+-- a step that was taken: the machines before, between and after its parts, its outcome, and its
+-- answers
 pub record Transition : Type 0 where
   pub entry : Entry
   pub first : Machine
@@ -46,18 +47,19 @@ pub record Transition : Type 0 where
   pub outcome : Outcome
   pub given : List GivenAnswer
 
--- The machine may take this step so.
+-- The machine can take this step.
 pub record IsTransition (t : Transition) : Type 0 where
   pub step : IsStep t.first t.entry.moment t.entry.seat t.entry.what t.outcome t.given t.last
   pub parts_are : t.parts ≡ parts_of step
 
--- The machine goes from the first to the last by these steps, each from where the one before it ended.
+-- These steps lead the machine from `first` to `last`, each from where the previous one ended.
 abbrev pub GoesBy : Machine → List Transition → Machine → Type 0
 GoesBy first [] last = last ≡ first
 GoesBy first (t ∷ taken) last = (t.first ≡ first) × IsTransition t × GoesBy t.last taken last
 
--- The machine takes the steps of the history, one after another. They come out so, and give these answers
--- in this order. What is to be said of each step of the run is said of the list of steps taken.
+-- The machine takes the steps of the history, one after another, with these outcomes, and gives
+-- these answers in this order. Laws about each step of the run are stated on the list of steps
+-- taken.
 pub record RunBy (first : Machine) (history : List Entry) (outcomes : List Outcome)
     (given : List GivenAnswer) (last : Machine) : Type 0 where
   pub taken : List Transition
@@ -66,7 +68,7 @@ pub record RunBy (first : Machine) (history : List Entry) (outcomes : List Outco
   pub outcomes_are : map (λ t. t.outcome) taken ≡ outcomes
   pub given_is : flat_map (λ t. t.given) taken ≡ given
 
--- The machine takes the steps of the history, however they come out.
+-- The machine takes the steps of the history, whatever their outcomes.
 abbrev pub Run : Machine → List Entry → List GivenAnswer → Machine → Type 0
 Run first history given last = (outcomes : List Outcome) × RunBy first history outcomes given last
 

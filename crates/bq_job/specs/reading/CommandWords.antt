@@ -63,6 +63,6 @@ all_commands =
     ∷ Use ∷ ListTubeUsed ∷ Watch ∷ Ignore ∷ Peek ∷ PeekReady ∷ PeekDelayed ∷ PeekBuried ∷ PauseTube
     ∷ StatsJob ∷ StatsTube ∷ Stats ∷ ListTubes ∷ ListTubesWatched ∷ Quit ∷ []
 
--- the command that a word names. Upper and lower case are different.
+-- the command that a word names; upper and lower case differ
 abbrev pub command_named : List ℕ → Option Command
 command_named word = find (λ c. is_same_name word (word_of c)) all_commands

@@ -11,7 +11,7 @@ are_line_end a b = a == 13 && b == 10
 abbrev pub onto_line : ℕ → List ℕ × List ℕ → List ℕ × List ℕ
 onto_line a (line, after) = (a ∷ line, after)
 
--- What stands before the first CR LF of a text, and what comes after it. A CR or LF alone is an
+-- The bytes before the first CR LF of a text, and the bytes after it. A CR or LF alone is an
 -- ordinary byte.
 abbrev pub first_line : List ℕ → Option (List ℕ × List ℕ)
 first_line [] = None

@@ -1,23 +1,23 @@
--- What a line asks for.
+-- What a line requests.
 use Rattle.std.specs.Prelude.{ℕ, nat_lt, List, [], ◌∷◌, Option, Some, None, length, option_map, unwrap_or, if◌then◌else◌}
 use Rattle.bq_job.specs.declared.{refusal.Refusal.TheVariants.{BadFormat, UnknownCommand}, request.Request.Request}
 use Rattle.bq_job.specs.reading.{CommandWords.{Command, command_named}, Words.{job_id, number, tube_name, words}}
 use Rattle.bq_job.specs.declared.request.Request.TheVariants as requests
 
--- the numbers of a put's line: priority, delay and time to run as they are written, and how many
--- bytes its body has
+-- the numbers on the line of a put, as written: priority, delay, time to run, and the number of
+-- bytes in the body
 pub record PutLine : Type 0 where
   pub pri : ℕ
   pub delay : ℕ
   pub ttr : ℕ
   pub bytes : ℕ
 
--- a line is a whole request, or a put whose body is to come
+-- a line is a complete request, or a put whose body follows
 pub data LineRead : Type 0 where
   Whole : Request → LineRead
   PutWaits : PutLine → LineRead
 
--- What the words after a command's own must be. None is BAD_FORMAT.
+-- What the words after a command must be. None means BAD_FORMAT.
 
 abbrev pub no_words : Request → List (List ℕ) → Option LineRead
 no_words request [] = Some (Whole request)
@@ -86,7 +86,7 @@ bad_format = Whole (requests.Refused BadFormat)
 abbrev pub unknown_command : LineRead
 unknown_command = Whole (requests.Refused UnknownCommand)
 
--- a first word that names no command, the empty one too, is UNKNOWN_COMMAND whatever follows it
+-- if the first word names no command, or is empty, the line is UNKNOWN_COMMAND, whatever follows
 abbrev pub read_command : Option Command → List (List ℕ) → LineRead
 read_command None more = unknown_command
 read_command (Some command) more = unwrap_or (read_words command more) bad_format
@@ -95,11 +95,11 @@ abbrev pub read_line_words : List (List ℕ) → LineRead
 read_line_words [] = unknown_command
 read_line_words (first ∷ more) = read_command (command_named first) more
 
--- how many bytes a line has at most, without its CR LF
+-- the largest length of a line, in bytes, without its CR LF
 abbrev pub longest_line : ℕ
 longest_line = 222
 
--- What a line asks for. A line that is too long is BAD_FORMAT, whatever it holds.
+-- What a line requests. A line that is too long is BAD_FORMAT, whatever it contains.
 abbrev pub read_line : List ℕ → LineRead
 read_line line =
     let read = read_line_words (words line) in

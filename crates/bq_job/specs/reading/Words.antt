@@ -1,9 +1,9 @@
--- The words of a line, and the numbers and names that they can be.
+-- The words of a line, and the numbers and names that they can denote.
 use Rattle.std.specs.{List.{list_all, slice_split}, Prelude.{◌&&◌, ◌*◌, ◌+◌, ◌-◌, ◌==◌, ◌^◌, if◌then◌else◌, Bool, List}}
 use Rattle.std.specs.Prelude.{None, Option, Some, ℕ, fold, length, nat_le, nat_lt}
 use Rattle.bq_job.specs.reading.TubeName.{is_tube_name}
 
--- a line parted at each space: words may be empty
+-- a line split at each space; words may be empty
 abbrev pub words : List ℕ → List (List ℕ)
 words line = slice_split (λ b. b == 32) line
 
@@ -20,7 +20,7 @@ with_digit n b = n * 10 + (b - 48)
 abbrev pub value_of_digits : List ℕ → ℕ
 value_of_digits word = fold with_digit 0 word
 
--- the number that a word is, if it is one below the limit
+-- the number that a word denotes, if it is below the limit
 abbrev pub number_below : ℕ → List ℕ → Option ℕ
 number_below limit word =
     if are_digits word && nat_lt (value_of_digits word) limit then Some (value_of_digits word) else None

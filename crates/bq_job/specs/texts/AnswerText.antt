@@ -3,8 +3,8 @@ use Rattle.std.specs.Prelude.{ℕ, List, [], ◌++◌, length, codes, decimal}
 use Rattle.bq_job.specs.{declared.answer.Answer.Answer, reading.Line.line_end}
 use Rattle.bq_job.specs.declared.answer.Answer.TheVariants as answers
 
--- The first line, with its end. It tells how many bytes the body has, where there is one.
--- A closed connection has no bytes at all.
+-- The first line with its CR LF. If there is a body, the line contains its length. A closed
+-- connection gets no bytes.
 abbrev pub answer_head : Answer → List ℕ
 answer_head (answers.Inserted id) = codes "INSERTED " ++ decimal id ++ line_end
 answer_head (answers.Reserved id body) = codes "RESERVED " ++ decimal id ++ codes " " ++ decimal (length body) ++ line_end
@@ -38,7 +38,7 @@ answer_body (answers.Found id body) = body
 answer_body (answers.Ok text) = text
 answer_body _ = []
 
--- A body, also an empty one, is followed by the end of a line.
+-- A body, even an empty one, is followed by CR LF.
 abbrev pub answer_tail : Answer → List ℕ
 answer_tail (answers.Reserved id body) = line_end
 answer_tail (answers.Found id body) = line_end

@@ -1,10 +1,10 @@
-//! Worked readings. The check evaluates each; nothing is run.
+//! Worked readings. The checker evaluates each of them; none is run.
 ghost use Rattle.std.specs.Prelude.{◌≡◌, ◌++◌, codes, List, ℕ, [], ◌∷◌, replicate};
 ghost use Rattle.bq_job.specs.beside.{reading};
 ghost use Rattle.bq_job.specs.declared.refusal.Refusal.TheVariants as refusals;
 ghost use Rattle.bq_job.specs.declared.request.Request.TheVariants as requests;
 
-// A body with a bad end is a request of its own, and what follows it is read as ever.
+// A body with a bad end is a request of its own, and the bytes after it are read as usual.
 fn bad_body_end_then_wait()
     ensures { reading 65535 (codes "put 0 0 1 2\r\nabXYreserve-with-timeout 0\r\n")
         ≡ (requests.Refused refusals.ExpectedCrlf ∷ requests.ReserveWithTimeout 0 ∷ [], []) }
@@ -16,7 +16,7 @@ fn bad_end_swallowed()
         ≡ (requests.Refused refusals.ExpectedCrlf ∷ requests.Reserve ∷ [], []) }
 {}
 
-// The body of a put that is too big is no commands.
+// The body of a put that is too big is not read as commands.
 fn body_too_big()
     ensures above { reading 2 (codes "put 0 0 1 3\r\nxxx\r\nlist-tube-used\r\n")
         ≡ (requests.Refused refusals.JobTooBig ∷ requests.ListTubeUsed ∷ [], []) }
@@ -24,13 +24,13 @@ fn body_too_big()
         ≡ (requests.Put 0 0 1 (codes "xx") ∷ requests.ListTubeUsed ∷ [], []) }
 {}
 
-// Two puts, of which the first is too big.
+// Two puts; the first is too big.
 fn small_limit()
     ensures { reading 2 (codes "put 0 0 1 3\r\nabc\r\nput 0 0 1 2\r\nab\r\n")
         ≡ (requests.Refused refusals.JobTooBig ∷ requests.Put 0 0 1 (codes "ab") ∷ [], []) }
 {}
 
-// A word in upper case, a number too few, a name that begins with -, and a great job id.
+// A word in upper case, a missing number, a name that begins with `-`, and a large job id.
 fn bad_lines()
     ensures { reading 65535 (codes "PUT\r\nput 1\r\nuse -a\r\npeek 4294967296\r\n")
         ≡ (
@@ -56,7 +56,7 @@ fn longest_tube_name()
         ≡ (requests.Refused refusals.BadFormat ∷ [], []) }
 {}
 
-// What breaks off is no request, and neither is what follows a quit.
+// An unfinished line or body is not a request, and neither is anything after a quit.
 fn truncated_and_after_quit()
     ensures body { reading 65535 (codes "put 0 0 1 5\r\nab") ≡ ([], codes "put 0 0 1 5\r\nab") }
     ensures line { reading 65535 (codes "list-tube-used") ≡ ([], codes "list-tube-used") }
@@ -64,7 +64,7 @@ fn truncated_and_after_quit()
         ≡ (requests.Quit ∷ [], codes "stats\r\n") }
 {}
 
-// An empty line, a space at an end, a space at a beginning, and a number that is too great.
+// An empty line, a trailing space, a leading space, and a number that is too large.
 fn odd_spaces_and_numbers()
     ensures { reading 65535 (codes "\r\nreserve \r\n reserve\r\nput 0 0 4294967296 1\r\n")
         ≡ (
@@ -74,7 +74,7 @@ fn odd_spaces_and_numbers()
         ) }
 {}
 
-// The commands that count or list, and words that are nearly theirs.
+// The commands that count or list, and words that nearly match them.
 fn statistics_and_lists()
     ensures named { reading 65535 (codes "stats\r\nstats-job 7\r\nstats-tube a\r\nlist-tubes\r\nlist-tubes-watched\r\n")
         ≡ (
@@ -102,7 +102,7 @@ fn hostile_lines()
         ≡ (requests.Peek 18446744073709551615 ∷ requests.Refused refusals.BadFormat ∷ [], []) }
 {}
 
-// Numbers of bytes at their limits, and a put's line at its own.
+// Byte counts at their limits, and the line of a put at its limit.
 fn hostile_puts()
     ensures broken_off { reading 65535 (codes "put 0 0 1 4294967295\r\nabc")
         ≡ ([], codes "put 0 0 1 4294967295\r\nabc") }

@@ -1,5 +1,5 @@
-//! Texts that were written down by hand, computed out of the definitions: each contract holds by
-//! computing both of its sides, and the bodies are empty.
+//! Texts written by hand, compared with those that the definitions compute. Each contract holds by
+//! computing both sides, and the bodies are empty.
 #![tactic(auto, unfolding(crate::specs::examples::Digits::digits))]
 
 ghost use Rattle.std.specs.Prelude.{◌≡◌, codes, length, [], ◌∷◌, ◌++◌, map};
@@ -8,18 +8,18 @@ ghost use Rattle.bq_job.specs.texts.AnswerText.{answer_text};
 ghost use Rattle.bq_job.specs.machine.{default_tube, job_statistics, name_list, server_statistics, tube_statistics, tubes};
 ghost use Rattle.bq_job.specs.examples.TextExamples.{first_client, plain_job, job_reserved_again, after_one_deletion, after_coming_back};
 
-// An answer of each kind.
+// One answer of each kind.
 fn every_answer()
     ensures { map answer_text sample_answers ≡ sample_texts }
 {}
 
-// `list-tubes` of the first client.
+// `list-tubes` as the first client sees it.
 fn list_of_tubes_at_first()
     ensures text { name_list (tubes first_client) ≡ codes "---\n- default\n" }
     ensures len { length (name_list (tubes first_client)) ≡ 14 }
 {}
 
-// `stats-tube default` of the first client.
+// `stats-tube default` as the first client sees it.
 fn tube_statistics_at_first()
     ensures text { tube_statistics default_tube first_client ≡
         codes "---\nname: default\ncurrent-jobs-urgent: 0\ncurrent-jobs-ready: 0\ncurrent-jobs-reserved: 0\n"
@@ -29,7 +29,7 @@ fn tube_statistics_at_first()
     ensures len { length (tube_statistics default_tube first_client) ≡ 265 }
 {}
 
-// `stats` of the first client.
+// `stats` as the first client sees it.
 fn server_statistics_at_first()
     ensures text { server_statistics first_client ≡
         codes "---\ncurrent-jobs-urgent: 0\ncurrent-jobs-ready: 0\ncurrent-jobs-reserved: 0\n"
@@ -39,7 +39,7 @@ fn server_statistics_at_first()
     ensures len { length (server_statistics first_client) ≡ 267 }
 {}
 
-// `stats-job` of a job that was only put.
+// `stats-job` of a job that has only been put.
 fn job_statistics_example()
     ensures text { job_statistics first_client plain_job ≡
         codes "---\nid: 1\ntube: default\nstate: ready\npri: 0\nage: 0\ndelay: 0\nttr: 1\ntime-left: 0\n"
@@ -47,14 +47,14 @@ fn job_statistics_example()
     ensures len { length (job_statistics first_client plain_job) ≡ 135 }
 {}
 
-// `stats-job` 500 milliseconds after the job was reserved a second time: seconds are rounded down.
+// `stats-job` 500 milliseconds after the second reserve of a job: seconds are rounded down.
 fn job_statistics_of_a_reserved_job()
     ensures { job_statistics (record first_client { moment = 2500 }) job_reserved_again ≡
         codes "---\nid: 1\ntube: default\nstate: reserved\npri: 0\nage: 2\ndelay: 0\nttr: 2\ntime-left: 1\n"
         ++ codes "reserves: 2\ntimeouts: 1\nreleases: 0\nburies: 0\nkicks: 0\n" }
 {}
 
-// A priority of 1024 isn't urgent, and a deleted job stays counted among the puts.
+// A priority of 1024 isn't urgent, and a deleted job still counts among the puts.
 fn tube_statistics_example()
     ensures text { tube_statistics default_tube after_one_deletion ≡
         codes "---\nname: default\ncurrent-jobs-urgent: 0\ncurrent-jobs-ready: 1\ncurrent-jobs-reserved: 0\n"
@@ -64,7 +64,7 @@ fn tube_statistics_example()
     ensures len { length (tube_statistics default_tube after_one_deletion) ≡ 265 }
 {}
 
-// A tube that was gone and came back counts from 0.
+// A tube that disappeared and was made again counts from 0.
 fn tube_counts_from_zero()
     ensures text { tube_statistics (codes "t") after_coming_back ≡
         codes "---\nname: t\ncurrent-jobs-urgent: 1\ncurrent-jobs-ready: 1\ncurrent-jobs-reserved: 0\n"
@@ -74,7 +74,7 @@ fn tube_counts_from_zero()
     ensures len { length (tube_statistics (codes "t") after_coming_back) ≡ 259 }
 {}
 
-// Names stand in byte order, whatever the order in which they were watched, and each stands once.
+// Names are in byte order, whatever the order in which they were watched, and each appears once.
 fn list_in_byte_order()
     ensures { name_list (codes "default" ∷ codes "b" ∷ codes "B2" ∷ codes "b" ∷ codes "bb" ∷ []) ≡
         codes "---\n- B2\n- b\n- bb\n- default\n" }
