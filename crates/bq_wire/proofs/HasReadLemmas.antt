@@ -1,4 +1,4 @@
--- What is read by calls in a row.
+-- What consecutive calls read.
 use Rattle.std.proofs.Common.{◌≡◌, ◌<◌, ◌≤◌, ℕ, ◌+◌, Bool, true, false, MatchBool, List, [], ◌∷◌, ◌++◌, ◌⊎◌, inl, inr, Option, Some, None, refl, ◌∙◌, ap, arith, length, append_assoc, append-nil, take, drop, get_or, add-one, take-append-drop, ◌-◌, IsTrue, option_to_list}
 use Rattle.std.proofs.lemmas.Grind.{common_steps}
 use Rattle.std.proofs.lemmas.List.{drop_all}
@@ -16,7 +16,7 @@ use Rattle.bq_wire.specs.declared.reader.ReaderState.{ReaderState}
 use Rattle.bq_wire.proofs.PutBodyLemmas.{take_two}
 use Rattle.bq_wire.proofs.ReaderLemmas.{Stands-no_unit}
 
--- a call without a request
+-- a call that returns no request
 HasRead-waits : (old new : ReaderState) (piece taken : List ℕ) (count : ℕ) (requests : List Request) → new.max_job_size ≡ old.max_job_size
     → (read : HasRead old taken requests) → ends_by_quit requests ≡ false → Waits new read.rest piece count → HasRead new (taken ++ take count piece) requests
 HasRead-waits old new piece taken count requests same read no_quit waits =
@@ -30,7 +30,7 @@ HasRead-waits old new piece taken count requests same read no_quit waits =
       goes_on = inr (no_quit, waits.stands);
     }
 
--- a call with one
+-- a call that returns a request
 HasRead-hands_out : (old new : ReaderState) (piece taken : List ℕ) (count : ℕ) (requests : List Request) (r : Request) → new.max_job_size ≡ old.max_job_size
     → (read : HasRead old taken requests) → ends_by_quit requests ≡ false → HandsRequest new read.rest piece count r → HasRead new (taken ++ take count piece) (requests ++ r ∷ [])
 HasRead-hands_out old new piece taken count requests r same read no_quit out = record {
@@ -83,7 +83,7 @@ HasRead-Reads s taken requests read = record {
 pub was_read : (s : ReaderState) (taken : List ℕ) (requests : List Request) → HasRead s taken requests → (rest : List ℕ) × Reads s.max_job_size taken requests rest
 was_read s taken requests read = (read.rest, HasRead-Reads s taken requests read)
 
--- behind a quit anything may follow
+-- any bytes may follow a quit
 pub Reads-more : (s : ReaderState) (taken more : List ℕ) (requests : List Request) (read : HasRead s taken requests) → IsTrue (ends_by_quit requests)
     → Reads s.max_job_size (taken ++ more) requests (read.rest ++ more)
 Reads-more s taken more requests read quit = record {
@@ -94,7 +94,7 @@ Reads-more s taken more requests read quit = record {
   ended = inl quit;
 }
 
--- a request out of what is left of a piece
+-- a request from the rest of a piece
 pub read_further : (old new : ReaderState) (taken piece : List ℕ) (from count : ℕ) (requests : List Request) (r : Request)
     → HasRead old (taken ++ take from piece) requests → ReadsOn old new (take (length piece - from) (drop from piece)) count (Some r)
     → HasRead new (taken ++ take (from + count) piece) (requests ++ r ∷ [])
@@ -102,7 +102,7 @@ read_further old new taken piece from count requests r read reads =
     rw (take_two piece from count, ← append_assoc taken (take from piece) (take count (take (length piece - from) (drop from piece))))
     (reads (taken ++ take from piece) requests read)
 
--- nothing out of what is left of a piece
+-- no request from the rest of a piece
 pub read_to_end : (old new : ReaderState) (taken piece : List ℕ) (from count : ℕ) (requests : List Request) (request : Option Request) → request ≡ None → from ≤ length piece
     → HasRead old (taken ++ take from piece) requests → ReadsOn old new (take (length piece - from) (drop from piece)) count request
     → ((text : List ℕ) → Stands old text → Waits new text (take (length piece - from) (drop from piece)) count) → (old.place ≡ Over → new ≡ old)
@@ -153,7 +153,7 @@ read_piece old new text piece before after was reads over = go was.all
     go (inl e) = rw (whole e) (reads was.taken was.read)
     go (inr e) = let h = over e in rw (h.0, h.1) (same e)
 
--- the text that was offered is read
+-- the text that was offered has been read
 pub HasReadText-Reads : (s : ReaderState) (text : List ℕ) (requests : List Request) → HasReadText s text requests → (rest : List ℕ) × Reads s.max_job_size text requests rest
 HasReadText-Reads s text requests read = go read.all read.read.goes_on
   where
@@ -169,14 +169,14 @@ HasReadText-Reads s text requests read = go read.all read.read.goes_on
     go (inr e) (inl quit) = (read.read.rest ++ read.more, rw read.text_is (Reads-more s read.taken read.more requests read.read quit.0))
     go (inr e) (inr on) = absurd (nowhere s.place read.read.rest e on.1)
 
--- behind a quit no request comes
+-- no request comes after a quit
 pub over_gives_none : (was now : ReaderState) (request : Option Request) (r : Request) → was.place ≡ Over → now ≡ was → request ≡ Some r → (now.place ≡ Over → request ≡ None) → ⊥
 over_gives_none was now request r e same some over =
     let still : now.place ≡ Over = ap (λ s. s.place) same ∙ e in
     let none : request ≡ None = over still in
     cc
 
--- the same, by the most bytes of a job
+-- the same, with the limit on bodies
 pub read_of : (m : ℕ) (s : ReaderState) (text : List ℕ) (requests : List Request) → s.max_job_size ≡ m → HasReadText s text requests
     → (rest : List ℕ) × Reads m text requests rest
 read_of m s text requests e read = rw (← e) (HasReadText-Reads s text requests read)

@@ -13,7 +13,7 @@ pub option_map-same : (f g : ℕ → ℕ) → ((n : ℕ) → f n ≡ g n) → (o
 option_map-same f g same None = refl
 option_map-same f g same (Some n) = ap Some (same n)
 
--- where no LF is, no line ends
+-- without an LF, no line ends
 pub line_end_none : (c : Bool) (bytes : List ℕ) → ((k : ℕ) → k < length bytes → (get_or bytes k 0 == 10) ≡ true → ⊥) → line_end_after c bytes ≡ None
 line_end_none c [] none = refl
 line_end_none c (b ∷ bytes) none =
@@ -28,7 +28,7 @@ one_more true k o = refl
 one_more false k None = refl
 one_more false k (Some n) = ap Some (omega arith)
 
--- the first LF ends a line if it stands behind a CR; else what comes after it is looked at
+-- the first LF ends a line if it follows a CR; otherwise the search continues after it
 pub line_end_at : (c : Bool) (bytes : List ℕ) (k : ℕ) → k < length bytes → (get_or bytes k 0 == 10) ≡ true → ((j : ℕ) → j < k → (get_or bytes j 0 == 10) ≡ true → ⊥)
     → line_end_after c bytes ≡ (if last_is_cr c (take k bytes) then Some (suc k) else option_map (λ n. suc k + n) (line_end_after false (drop (suc k) bytes)))
 line_end_at c [] k low here before = absurd (omega arith)
@@ -40,7 +40,7 @@ line_end_at c (b ∷ bytes) (suc k) low here before =
     let later = line_end_at (b == 13) bytes k (omega arith) here (λ j less. before (suc j) (omega arith)) in
     rw (not_here, and-false c, later) (one_more (last_is_cr (b == 13) (take k bytes)) k (line_end_after false (drop (suc k) bytes)))
 
--- the first line feed, as it is searched for
+-- the first line feed, as the code searches for it
 pub first_feed : (c : Bool) (bytes : List ℕ) (r : Option ℕ) → IsFirstByte (is_byte 10) bytes r
     → MatchOption r (line_end_after c bytes ≡ None) (λ k. (k < length bytes)
     × (line_end_after c bytes ≡ (if last_is_cr c (take k bytes) then Some (k + 1) else later_by (k + 1) (line_end_after false (drop (k + 1) bytes)))))
@@ -54,7 +54,7 @@ last_is_cr_last c (b ∷ d ∷ bytes) some =
     let last : length (b ∷ d ∷ bytes) - 1 ≡ suc (length (d ∷ bytes) - 1) = omega arith in
     rw last (last_is_cr_last (b == 13) (d ∷ bytes) (omega arith))
 
--- a line ends at the first byte, or behind it
+-- a line ends at the first byte, or later
 pub end_cases : (t : Bool) (o : Option ℕ) (e : ℕ) → (if t then Some 1 else option_map suc o) ≡ Some e
     → ((t ≡ true) × (e ≡ 1)) ⊎ ((n : ℕ) × (t ≡ false) × (o ≡ Some n) × (e ≡ suc n))
 end_cases true o e h = inl (refl, cc)
@@ -74,7 +74,7 @@ line_end_within c (b ∷ bytes) e h =
       | inr a ↦ let more = line_end_within (b == 13) bytes a.0 a.2 in (omega (arith, a.3), omega (arith, a.3, more.1))
     ]
 
--- a line that ends with the first byte stands behind a CR
+-- a line that ends with the first byte follows a CR
 pub line_end_one : (c : Bool) (bytes : List ℕ) → line_end_after c bytes ≡ Some 1 → c ≡ true
 line_end_one c [] h = cc
 line_end_one true (b ∷ bytes) h = refl
@@ -84,7 +84,7 @@ line_end_one false (b ∷ bytes) h =
       | inr a ↦ absurd (omega (arith, a.3, (line_end_within (b == 13) bytes a.0 a.2).0))
     ]
 
--- the bytes up to a line's end have the same one
+-- the bytes up to a line's end have the same line end
 pub line_end-take : (c : Bool) (bytes : List ℕ) (e : ℕ) → line_end_after c bytes ≡ Some e → line_end_after c (take e bytes) ≡ Some e
 line_end-take c [] e h = cc
 line_end-take c (b ∷ bytes) e h =
@@ -101,7 +101,7 @@ later_by-suc : (n : ℕ) (o : Option ℕ) → option_map suc (later_by n o) ≡ 
 later_by-suc n None = refl
 later_by-suc n (Some m) = ap Some (omega arith)
 
--- where no line ends in a first part, it ends in the second or nowhere
+-- if no line ends in a first part, it ends in the second or nowhere
 pub line_end-append : (c : Bool) (text more : List ℕ) → line_end_after c text ≡ None
     → line_end_after c (text ++ more) ≡ later_by (length text) (line_end_after (last_is_cr c text) more)
 line_end-append c [] more h = later_by-zero (line_end_after c more)
@@ -113,7 +113,7 @@ pub last_is_cr-append : (c : Bool) (text more : List ℕ) → last_is_cr c (text
 last_is_cr-append c [] more = refl
 last_is_cr-append c (b ∷ text) more = last_is_cr-append (b == 13) text more
 
--- what the first line is where it ends
+-- the first line, given where it ends
 first_line_behind : (a : ℕ) (bytes : List ℕ) (e : ℕ) → line_end_after (a == 13) bytes ≡ Some e
     → first_line (a ∷ bytes) ≡ Some (take (e - 1) (a ∷ bytes), drop e bytes)
 first_line_behind a [] e h = cc
@@ -144,7 +144,7 @@ pub first_line_none : (text : List ℕ) → line_end_after false text ≡ None �
 first_line_none [] h = refl
 first_line_none (a ∷ bytes) h = first_line_none_behind a bytes (no_end_cases false (line_end_after (a == 13) bytes) h).1
 
--- a text with no first line has no line's end
+-- a text without a first line has no line end
 pub no_line_end : (text : List ℕ) → first_line text ≡ None → line_end_after false text ≡ None
 no_line_end text none = go (line_end_after false text) refl
   where
@@ -152,11 +152,11 @@ no_line_end text none = go (line_end_after false text) refl
     go None e = e
     go (Some n) e = let some = first_line_end text n e in cc
 
--- no line ends in the text, nor in what comes
+-- no line ends in the text, nor in the bytes after it
 pub goes_on : (text piece : List ℕ) → first_line text ≡ None → line_end_after (last_is_cr false text) piece ≡ None → first_line (text ++ piece) ≡ None
 goes_on text piece none more = first_line_none (text ++ piece) (rw (line_end-append false text piece (no_line_end text none), more))
 
--- the line that ends in what comes
+-- the line that ends in the bytes after the text
 pub ends_there : (text piece : List ℕ) (e : ℕ) → first_line text ≡ None → line_end_after (last_is_cr false text) piece ≡ Some e
     → first_line (text ++ take e piece) ≡ Some (take (length (text ++ take (e - 1) piece) - 1) (text ++ take (e - 1) piece), [])
 ends_there text piece e none here =

@@ -1,4 +1,4 @@
--- What a line with a known first word comes to.
+-- What a line with a known first word requests.
 use Rattle.std.proofs.Common.{◌≡◌, ℕ, List, Option, Some, None, refl, option_map, unwrap_or}
 use Rattle.bq_job.specs.declared.request.Request.{Request}
 use Rattle.bq_job.specs.reading.CommandWords.{Command}
@@ -10,7 +10,7 @@ use Rattle.bq_wire.specs.declared.line_read.LineRead.{LineRead}
 pub same_some : {A : Type 0} (a b : A) → Some a ≡ Some b → a ≡ b
 same_some a b e = cc
 
--- what was read, where the words are the command's own
+-- what was read, if the words fit the command
 read_own : (place : Option Request) (read : LineRead) (words : Option spec.LineRead) → option_map (λ (r : LineRead). asked_by r place) (Some read) ≡ option_map Some words
     → asked_by read place ≡ Some (unwrap_or words spec.bad_format)
 read_own place read None e = absurd cc
@@ -21,7 +21,7 @@ pub read_so : (place : Option Request) (read : LineRead) (command : Option Comma
 read_so place read None more e = same_some (asked_by read place) (Some spec.unknown_command) e
 read_so place read (Some command) more e = read_own place read (spec.read_words command more) e
 
--- no words of the command's own
+-- the words do not fit the command
 none_own : (place : Option Request) (words : Option spec.LineRead) → option_map (λ (r : LineRead). asked_by r place) None ≡ option_map Some words
     → unwrap_or words spec.bad_format ≡ spec.bad_format
 none_own place None e = refl

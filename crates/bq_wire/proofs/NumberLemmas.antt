@@ -1,11 +1,11 @@
--- The number that a word is.
+-- The number that a word denotes.
 use Rattle.std.proofs.Common.{◌≡◌, ◌<◌, ◌≤◌, ℕ, ◌^◌, suc, true, List, [], ◌∷◌, Some, None, sym, arith, length, drop, drop-cons, get_or, fold}
 use Rattle.std.proofs.lemmas.Bool.Decides.{nat_tests}
 use Rattle.std.proofs.lemmas.Grind.{common_steps}
 use Rattle.std.specs.List.{list_all}
 use Rattle.bq_job.specs.reading.Words.{is_digit, with_digit, value_of_digits, job_id, number}
 
--- more digits make no smaller number
+-- further digits do not make the number smaller
 pub with_digits_le : (bytes : List ℕ) (n : ℕ) → n ≤ fold with_digit n bytes
 with_digits_le [] n = omega arith
 with_digits_le (b ∷ bytes) n = omega (arith, with_digits_le bytes (with_digit n b))
@@ -16,11 +16,11 @@ job_id_great word e = grind (arith, nat_tests)
 pub job_id_is : (word : List ℕ) → 0 < length word → list_all is_digit word ≡ true → value_of_digits word < 2 ^ 64 → job_id word ≡ Some (value_of_digits word)
 job_id_is word some digits small = grind (arith, nat_tests)
 
--- a number is a job's id that is small enough
+-- a job id that is small enough is a number
 pub number_is : (word : List ℕ) (n : ℕ) → job_id word ≡ Some n → n < 2 ^ 32 → number word ≡ Some n
 number_is word n e low = grind (arith, nat_tests)
 
--- a word whose digits so far make too much
+-- a word whose digits so far make too large a number
 pub too_great : (word : List ℕ) (i n : ℕ) → i < length word → fold with_digit n (drop i word) ≡ value_of_digits word
     → (with_digit n (get_or word i 0) < 2 ^ 64 → ⊥) → None ≡ job_id word
 too_great word i n low value great =
@@ -28,7 +28,7 @@ too_great word i n low value great =
     let rest : fold with_digit (with_digit n (get_or word i 0)) (drop (suc i) word) ≡ value_of_digits word = rw next at value in
     sym (job_id_great word (omega (arith, with_digits_le (drop (suc i) word) (with_digit n (get_or word i 0)), rest)))
 
--- a word whose digits are all read
+-- a word whose digits have all been read
 pub all_digits : (word : List ℕ) (i n : ℕ) → length word ≤ i → 0 < length word → list_all is_digit (drop i word) ≡ list_all is_digit word
     → fold with_digit n (drop i word) ≡ value_of_digits word → n < 2 ^ 64 → Some n ≡ job_id word
 all_digits word i n end some digits value small =

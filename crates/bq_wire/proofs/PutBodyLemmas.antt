@@ -4,7 +4,7 @@ use Rattle.std.proofs.lemmas.Grind.{common_steps}
 use Rattle.bq_wire.specs.PutBodies.{TakesBytes}
 use Rattle.bq_wire.specs.declared.put_body.PutBody.{PutBody}
 
--- two parts, the second out of what the first left
+-- two parts, the second from what the first left
 pub take_two : (bytes : List ℕ) (a b : ℕ) → take (a + b) bytes ≡ take a bytes ++ take b (take (length bytes - a) (drop a bytes))
 take_two bytes a b = let all : take (length bytes - a) (drop a bytes) ≡ drop a bytes = grind (arith, common_steps) in rw all (take-add a b bytes)
 

@@ -1,4 +1,4 @@
--- What a reader stands for when bytes come.
+-- What a reader represents as bytes arrive.
 use Rattle.std.proofs.Common.{◌≡◌, ◌<◌, ◌≤◌, ℕ, ◌+◌, ◌-◌, zero, suc, Bool, true, false, List, [], ◌∷◌, ◌++◌, ◌⊎◌, inl, inr, Option, Some, None, refl, sym, ◌∙◌, ap, arith, length, length-append, append_assoc, append-nil, take, drop, take-add, take-append-drop, MatchBool, nat_lt, nat_le, if◌then◌else◌}
 use Rattle.std.proofs.lemmas.Bool.Decides.{nat_tests}
 use Rattle.std.proofs.lemmas.List.{length-take-le}
@@ -24,25 +24,25 @@ use Rattle.bq_wire.specs.declared.reader.ReaderPlace.TheVariants.{InLine, InLong
 use Rattle.bq_wire.specs.declared.reader.ReaderState.{ReaderState}
 use Rattle.bq_wire.proofs.LineEndLemmas.{goes_on, ends_there, line_end_within, line_end_one, last_is_cr-append}
 
--- a text with no line begins with no unit
+-- a text without a line does not begin with a unit
 pub no_line_no_unit : (m : ℕ) (text : List ℕ) → first_line text ≡ None → BeginsNoUnit m text
 no_line_no_unit m text none = no_first_unit m text (rw none refl)
 
--- neither does a put whose body isn't whole
+-- a put whose body isn't complete does not either
 pub begun_no_unit : (m : ℕ) (body : PutBody) (text : List ℕ) → IsPutBegun body text → BeginsNoUnit m text
 begun_no_unit m body text begun = no_first_unit m text (rw (begun.first_line_is, begun.read_is) none)
   where
     none : unit_after m (line_read.PutWaits (put_line_of body.put)) begun.after ≡ None
     none = let short : nat_le (body.put.bytes + 2) (length begun.after) ≡ false = grind (arith, nat_tests, begun.less) in rw short
 
--- no beginning of a text that a reader stands for is a unit
+-- no first part of a text that a reader represents is a unit
 pub Stands-no_unit : (s : ReaderState) (place : ReaderPlace) (text : List ℕ) → StandsAt s place text → BeginsNoUnit s.max_job_size text
 Stands-no_unit s InLine text stands = no_line_no_unit s.max_job_size text stands.1
 Stands-no_unit s (InLongLine after_cr) text stands = no_line_no_unit s.max_job_size text stands.1
 Stands-no_unit s (InBody body) text stands = begun_no_unit s.max_job_size body text stands.1
 Stands-no_unit s Over text stands = absurd stands
 
--- Waits, by what the reader stands for
+-- Waits, from what the reader represents
 pub waits_by : (s : ReaderState) (text piece : List ℕ) (taken : ℕ) → taken ≡ length piece → Stands s (text ++ piece) → Waits s text piece taken
 waits_by s text piece taken all stands = record { all = all; none = Stands-no_unit s s.place (text ++ piece) stands; stands = stands }
 
@@ -59,7 +59,7 @@ put_no_quit m put bytes r h = go (nat_lt m put.bytes) h
     go false (inl e) = ap is_quit e
     go false (inr e) = ap is_quit e ∙ body (is_same_name (drop put.bytes bytes) line_end)
 
--- more of a put's body came
+-- more of a put's body arrived
 pub begun_more : (old new : PutBody) (text bytes : List ℕ) → IsPutBegun old text → new.put ≡ old.put → TakesBytes old new bytes → new.taken < new.put.bytes + 2
     → IsPutBegun new (text ++ bytes)
 begun_more old new text bytes begun put takes less =
@@ -73,7 +73,7 @@ begun_more old new text bytes begun put takes less =
       less = rw (← so_far.taken_is) less;
     }
 
--- all of a put came
+-- all of a put arrived
 pub begun_whole : (m : ℕ) (old new : PutBody) (text bytes : List ℕ) (r : Request) → IsPutBegun old text → new.put ≡ old.put → TakesBytes old new bytes
     → new.taken ≡ new.put.bytes + 2 → ((after : List ℕ) → IsBodySoFar new after → IsPutRequest m (put_line_of new.put) after r)
     → IsUnit m (text ++ bytes) r × (is_quit r ≡ false)
@@ -85,7 +85,7 @@ begun_whole m old new text bytes r begun put takes whole request =
     let long : length (begun.after ++ bytes) ≡ new.put.bytes + 2 = sym so_far.taken_is ∙ whole in
     (rw (line, read) (long, is), put_no_quit m (put_line_of new.put) (begun.after ++ bytes) r is)
 
--- a line that is a whole request is a unit
+-- a line that is a complete request is a unit
 pub line_unit : (m : ℕ) (text bytes : List ℕ) (r : Request) → EndsLineAsking (line_read.Whole r) bytes text → IsUnit m (text ++ bytes) r
 line_unit m text bytes r line = rw (line.first_line_is, line.read_is) (refl, refl)
 
@@ -101,7 +101,7 @@ line_begins body text bytes asked line is so_far = record {
   less = omega arith;
 }
 
--- what was fed behind the first bytes of a piece
+-- what was fed after the first bytes of a piece
 pub feeds_behind : (new : ReaderState) (text piece rest : List ℕ) (end taken : ℕ) (r : Option Request) → end ≤ length piece → rest ≡ drop end piece
     → FeedsText new (text ++ take end piece) rest taken r → FeedsText new text piece (end + taken) r
 feeds_behind new text piece rest end taken r within is fed = go r fed
@@ -120,7 +120,7 @@ feeds_behind new text piece rest end taken r within is fed = go r fed
     }
     go (Some request) fed = record { unit = rw parts at fed.unit; next = fed.next }
 
--- a line that is too long stays so
+-- a line that is too long stays too long
 pub long_more : (text piece : List ℕ) → longest_line < length_beside_cr text → longest_line < length_beside_cr (text ++ piece)
 long_more text [] long = rw append-nil long
 long_more text (b ∷ piece) long = go (last_is_cr false text) (last_is_cr false (text ++ b ∷ piece)) long
@@ -131,7 +131,7 @@ long_more text (b ∷ piece) long = go (last_is_cr false text) (last_is_cr false
     go false true long = omega (arith, length-append text (b ∷ piece))
     go false false long = omega (arith, length-append text (b ∷ piece))
 
--- a line that is too long is BAD_FORMAT where it ends
+-- a line that is too long is BAD_FORMAT when it ends
 pub long_line_read : (text piece : List ℕ) (e : ℕ) → first_line text ≡ None → longest_line < length_beside_cr text → line_end_after (last_is_cr false text) piece ≡ Some e
     → EndsLineAsking line_read.bad_format (take e piece) text
 long_line_read text piece e none long here =
@@ -163,12 +163,12 @@ long_line_read text piece e none long here =
 abbrev pub in_line : ℕ → List ℕ → ReaderState
 in_line m kept = record { max_job_size = m; kept = kept; place = InLine }
 
--- a request that is no quit is handed out at its end, where nothing is kept
+-- a request other than quit is returned at its end, if nothing is kept
 pub hands_out : (m : ℕ) (kept text piece : List ℕ) (taken : ℕ) (r : Request) → kept ≡ [] → IsUnit m (text ++ take taken piece) r
     → is_quit r ≡ false → HandsRequest (in_line m kept) text piece taken r
 hands_out m kept text piece taken r nothing unit no_quit = record { unit = unit; next = rw no_quit (sym nothing, refl) }
 
--- a line of which there is no room for more is too long
+-- a line that does not fit is too long
 pub keep_long : (kept piece : List ℕ) (room : ℕ) (last : Bool) → room + length kept ≡ 223 → last_is_cr false (kept ++ piece) ≡ last
     → room ≤ length piece → (length piece ≡ room → last ≡ false) → longest_line < length_beside_cr (kept ++ piece)
 keep_long kept piece room true most is long exact = rw is (omega (arith, length-append kept piece, go))
@@ -177,7 +177,7 @@ keep_long kept piece room true most is long exact = rw is (omega (arith, length-
     go e = let no = exact e in cc
 keep_long kept piece room false most is long exact = rw is (omega (arith, length-append kept piece))
 
--- what stands for a line that goes on
+-- what represents a line that goes on
 pub kept_stands : (m : ℕ) (old new : List ℕ) (place : ReaderPlace) (text piece : List ℕ) → text ≡ old → first_line text ≡ None
     → line_end_after (last_is_cr false old) piece ≡ None → Keeps old new place piece
     → StandsAt (record { max_job_size = m; kept = new; place = place }) place (text ++ piece)
@@ -187,7 +187,7 @@ kept_stands m old new (InLongLine after_cr) text piece is none more keeps =
 kept_stands m old new (InBody body) text piece is none more keeps = absurd keeps
 kept_stands m old new Over text piece is none more keeps = absurd keeps
 
--- the kept bytes and those up to the line's end are the line
+-- the kept bytes and those up to the line's end form the line
 pub kept_line : (old text piece : List ℕ) (e : ℕ) (asked : line_read.LineRead) → text ≡ old → first_line text ≡ None
     → line_end_after (last_is_cr false old) piece ≡ Some e → asked ≡ line_read.read_line (but_last (old ++ take (e - 1) piece))
     → EndsLineAsking asked (take e piece) text
@@ -197,14 +197,14 @@ kept_line old text piece e asked is none here read = record {
   read_is = rw is (sym read);
 }
 
--- what stands for a line that is too long and goes on
+-- what represents a line that is too long and goes on
 pub long_stands : (m : ℕ) (kept text piece : List ℕ) (last after_cr : Bool) → kept ≡ [] → first_line text ≡ None → last_is_cr false text ≡ after_cr
     → longest_line < length_beside_cr text → line_end_after after_cr piece ≡ None → last ≡ last_is_cr after_cr piece
     → StandsAt (record { max_job_size = m; kept = kept; place = InLongLine last }) (InLongLine last) (text ++ piece)
 long_stands m kept text piece last after_cr nothing none cr long more last_is =
     (nothing, goes_on text piece none (rw cr more), rw (last_is_cr-append false text piece, cr) (sym last_is), long_more text piece long)
 
--- a line that ends has a byte before its LF
+-- a line that ends has at least one byte before its LF
 pub some_byte : (old piece : List ℕ) (e : ℕ) → line_end_after (last_is_cr false old) piece ≡ Some e → 0 < length old + length (take (e - 1) piece)
 some_byte old piece zero here = absurd (omega (arith, (line_end_within (last_is_cr false old) piece 0 here).0))
 some_byte [] piece (suc zero) here = let cr : false ≡ true = line_end_one false piece here in cc

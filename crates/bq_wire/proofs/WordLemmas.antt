@@ -5,7 +5,7 @@ use Rattle.std.proofs.lemmas.Grind.{common_steps}
 use Rattle.bq_job.specs.reading.Words.{words}
 use Rattle.memchr.specs.Find.{IsFirstByte, is_byte}
 
--- where no space is, the line is one word
+-- without a space, the line is one word
 one_word : (line : List ℕ) → ((k : ℕ) → k < length line → (get_or line k 0 == 32) ≡ true → ⊥) → words line ≡ line ∷ []
 one_word [] none = refl
 one_word (b ∷ line) none =
@@ -23,7 +23,7 @@ word_before (b ∷ line) (suc k) low here before =
     let later : words line ≡ take k line ∷ words (drop (suc k) line) = word_before line k (omega arith) here (λ j less. before (suc j) (omega arith)) in
     rw (not_here, later)
 
--- as the code parts them
+-- as the code splits them
 pub words_first : (line : List ℕ) (r : Option ℕ) → IsFirstByte (is_byte 32) line r
     → MatchOption r (words line ≡ line ∷ []) (λ k. words line ≡ take k line ∷ words (take (length line - (k + 1)) (drop (k + 1) line)))
 words_first line None none = one_word line (λ k low. none k (omega arith) low)

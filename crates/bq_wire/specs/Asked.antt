@@ -1,4 +1,4 @@
--- What a line that was read asks for.
+-- What a line that was read requests.
 use Rattle.std.specs.Prelude.{ℕ, ◌≡◌, List, [], ◌∷◌, Option, Some, None, option_map}
 use Rattle.bq_job.specs.reading.LineRead as spec
 use Rattle.bq_job.specs.reading.Words.{number}
@@ -7,7 +7,7 @@ use Rattle.bq_wire.specs.declared.line_read.LineRead.{LineRead}
 use Rattle.bq_wire.specs.declared.line_read.LineRead.TheVariants.{Whole, PutWaits}
 use Rattle.bq_wire.specs.declared.line_read.PutLine.{PutLine}
 
--- what is read of the only word; none where there is no word, or another one
+-- the value of the only word; None if there is no word or more than one
 abbrev pub only : {A : Type 0} → (List ℕ → Option A) → List (List ℕ) → Option A
 only read [] = None
 only read (word ∷ []) = read word
@@ -16,12 +16,12 @@ only read (word ∷ next ∷ more) = None
 abbrev pub put_line_of : PutLine → spec.PutLine
 put_line_of put = record { pri = put.pri; delay = put.delay; ttr = put.ttr; bytes = put.bytes }
 
--- What a line asks for. A whole request is the one that lies in the place.
+-- What a line requests. A complete request is the one in `place`.
 abbrev pub asked_by : LineRead → Option Request → Option spec.LineRead
 asked_by Whole place = option_map spec.Whole place
 asked_by (PutWaits put) place = Some (spec.PutWaits (put_line_of put))
 
--- the first word is taken, and is this number; or there is none, or it is no number
+-- the first word is removed and is this number; or there is no word, or it is not a number
 abbrev pub IsNextNumber : List (List ℕ) → List (List ℕ) → Option ℕ → Type 0
 IsNextNumber [] new found = found ≡ None
 IsNextNumber (word ∷ more) new found = (new ≡ more) × (found ≡ number word)

@@ -1,4 +1,4 @@
--- The texts that a reader stands for.
+-- The texts that a reader represents: the bytes of a request that is not complete.
 use Rattle.std.specs.Prelude.{ℕ, ◌≡◌, ◌<◌, ◌+◌, ◌-◌, false, MatchBool, List, [], ◌++◌, length, take, Option, Some, None, if◌then◌else◌}
 use Rattle.bq_job.specs.reading.Line.{first_line}
 use Rattle.bq_job.specs.reading.LineRead as line_read
@@ -13,11 +13,11 @@ use Rattle.bq_wire.specs.declared.reader.ReaderPlace.{ReaderPlace}
 use Rattle.bq_wire.specs.declared.reader.ReaderPlace.TheVariants.{InLine, InLongLine, InBody, Over}
 use Rattle.bq_wire.specs.declared.reader.ReaderState.{ReaderState}
 
--- how many bytes a begun line has beside a last CR, which may be the one of its CR LF
+-- the length of an unfinished line without a CR at its end, which may be that of its CR LF
 abbrev pub length_beside_cr : List ℕ → ℕ
 length_beside_cr text = length text - (if last_is_cr false text then 1 else 0)
 
--- the text is the line of this put with its CR LF, and as much of what follows it as has come
+-- the text is the line of this put with its CR LF, and as much of its body as has arrived
 pub record IsPutBegun (body : PutBody) (text : List ℕ) : Type 0 where
   pub line : List ℕ
   pub after : List ℕ
@@ -26,8 +26,9 @@ pub record IsPutBegun (body : PutBody) (text : List ℕ) : Type 0 where
   pub so_far : IsBodySoFar body after
   pub less : length after < body.put.bytes + 2
 
--- The text that is kept, which has no CR LF; or any text without CR LF that is too long for a line; or
--- the line of a put and less than the bytes that it wants; or after a quit none.
+-- In a line, the kept text, which has no CR LF. In a line that is too long, any text without CR LF
+-- that is too long for a line. In a body, the line of the put and fewer bytes than it wants. After
+-- a quit, none.
 abbrev pub StandsAt : ReaderState → ReaderPlace → List ℕ → Type 0
 StandsAt state InLine text = (text ≡ state.kept) × (first_line text ≡ None)
 StandsAt state (InLongLine after_cr) text =
@@ -38,11 +39,11 @@ StandsAt state Over text = ⊥
 abbrev pub Stands : ReaderState → List ℕ → Type 0
 Stands state text = StandsAt state state.place text
 
--- a quit was read, and no restart came since
+-- a quit was read, and the reader was not restarted since
 abbrev pub IsOver : ReaderState → Type 0
 IsOver state = state.place ≡ Over
 
--- a body that is begun isn't whole, and has room for the rest
+-- a body in progress is not complete, and has room for the rest
 abbrev pub IsSoundPlace : ReaderPlace → Type 0
 IsSoundPlace InLine = Unit {0}
 IsSoundPlace (InLongLine after_cr) = Unit {0}
@@ -52,14 +53,15 @@ IsSoundPlace Over = Unit {0}
 abbrev pub IsSoundReader : ReaderState → Type 0
 IsSoundReader state = IsSoundPlace state.place
 
--- no request is whole: the piece was taken, and the reader stands for the text that goes on with it
+-- no request is complete: the whole piece was taken, and the reader represents the text followed by
+-- it
 pub record Waits (new : ReaderState) (text piece : List ℕ) (taken : ℕ) : Type 0 where
   pub all : taken ≡ length piece
   pub none : BeginsNoUnit new.max_job_size (text ++ piece)
   pub stands : Stands new (text ++ piece)
 
--- the text and the bytes taken are one request: the reader stands for the empty text, or after a quit
--- for none
+-- the text and the bytes taken are one request; the reader then represents the empty text, or none
+-- after a quit
 pub record HandsRequest (new : ReaderState) (text piece : List ℕ) (taken : ℕ) (request : Request) : Type 0 where
   pub unit : IsUnit new.max_job_size (text ++ take taken piece) request
   pub next : MatchBool (is_quit request) (IsOver new) (Stands new [])
@@ -68,11 +70,11 @@ abbrev pub FeedsText : ReaderState → List ℕ → List ℕ → ℕ → Option 
 FeedsText new text piece taken None = Waits new text piece taken
 FeedsText new text piece taken (Some request) = HandsRequest new text piece taken request
 
--- a piece was fed to a reader that stood for such texts
+-- a piece was fed to a reader that represented one of these texts
 abbrev pub Feeds : (List ℕ → Type 0) → ReaderState → List ℕ → ℕ → Option Request → Type 0
 Feeds stood new piece taken request = (text : List ℕ) → stood text → FeedsText new text piece taken request
 
--- the text and these bytes are one line with its CR LF, which asks for this
+-- the text and these bytes are one line with its CR LF, which requests this
 pub record EndsLineAsking (asked : line_read.LineRead) (bytes text : List ℕ) : Type 0 where
   pub line : List ℕ
   pub first_line_is : first_line (text ++ bytes) ≡ Some (line, [])

@@ -1,4 +1,4 @@
--- The words of a line that are left.
+-- The remaining words of a line.
 use Rattle.std.specs.Prelude.{ℕ, List, [], Option, Some, None}
 use Rattle.std.specs.Borrow.{Bor}
 use Rattle.bq_job.specs.reading.Words.{words}

@@ -1,6 +1,7 @@
-//! The commands of a client, a row each: its word, what the words behind it must be, and the request that they make.
-//! The rows are grouped by how long their words are, so that a line's first word is compared with few. Behind them
-//! are the few shapes that the words of a command can have, and how each is read.
+//! The commands of a client, one branch each: the command's word, the words that must follow it,
+//! and the request that they make. The branches are grouped by the length of the command's word, so
+//! that a line's first word is compared with only a few. After them come the functions that read
+//! the words of a command.
 ghost use Rattle.std.specs.Prelude.{◌≡◌, ◌==◌, ◌&&◌, [], ◌∷◌, nat_le, option_map, IfSome, IfNone, Option, Some, ℕ, List};
 ghost use Rattle.bq_job.specs.reading.CommandWords as spec_words;
 ghost use Rattle.bq_job.specs.reading.CommandWords.{command_named};
@@ -14,7 +15,8 @@ ghost use Rattle.bq_wire.specs.Named.{AsksFor, named_where};
 use crate::line_read::{LineRead, PutLine, Words, job_id, number};
 use bq_job::{JobId, Refusal, Request, TubeName};
 
-/// What a line asks for whose first word is this: None where the words behind it are none of the command's.
+/// Returns what a line with this first word requests, or None if the words after it do not fit the
+/// command. A complete request is put into `place`.
 pub fn read_command(word: &[u8], words: &mut Words, place: &mut Option<Request>) -> Option<LineRead>
     ensures { AsksFor (command_named word.now) words.old result place.new }
 {
@@ -28,7 +30,7 @@ pub fn read_command(word: &[u8], words: &mut Words, place: &mut Option<Request>)
     }
 }
 
-// Where the first word has at most 4 letters.
+// For a first word of at most 4 letters.
 fn up_to_4(word: &[u8], words: &mut Words, place: &mut Option<Request>) -> Option<LineRead>
     ensures { AsksFor (named_where (λ n. nat_le n 4) word.now) words.old result place.new }
 {
@@ -52,7 +54,7 @@ fn up_to_4(word: &[u8], words: &mut Words, place: &mut Option<Request>) -> Optio
     }
 }
 
-// Where the first word has 5 or 6 letters.
+// For a first word of 5 or 6 letters.
 fn up_to_6(word: &[u8], words: &mut Words, place: &mut Option<Request>) -> Option<LineRead>
     ensures { AsksFor
         (named_where (λ n. nat_le 5 n && nat_le n 6) word.now) words.old result place.new }
@@ -76,7 +78,7 @@ fn up_to_6(word: &[u8], words: &mut Words, place: &mut Option<Request>) -> Optio
     }
 }
 
-// Where the first word has 7 to 9 letters.
+// For a first word of 7 to 9 letters.
 fn up_to_9(word: &[u8], words: &mut Words, place: &mut Option<Request>) -> Option<LineRead>
     ensures { AsksFor
         (named_where (λ n. nat_le 7 n && nat_le n 9) word.now) words.old result place.new }
@@ -96,7 +98,7 @@ fn up_to_9(word: &[u8], words: &mut Words, place: &mut Option<Request>) -> Optio
     }
 }
 
-// Where the first word has 10 letters.
+// For a first word of 10 letters.
 fn of_10(word: &[u8], words: &mut Words, place: &mut Option<Request>) -> Option<LineRead>
     ensures { AsksFor (named_where (λ n. n == 10) word.now) words.old result place.new }
 {
@@ -114,7 +116,7 @@ fn of_10(word: &[u8], words: &mut Words, place: &mut Option<Request>) -> Option<
     }
 }
 
-// Where the first word has 11 or 12 letters.
+// For a first word of 11 or 12 letters.
 fn up_to_12(word: &[u8], words: &mut Words, place: &mut Option<Request>) -> Option<LineRead>
     ensures { AsksFor
         (named_where (λ n. nat_le 11 n && nat_le n 12) word.now) words.old result place.new }
@@ -131,7 +133,7 @@ fn up_to_12(word: &[u8], words: &mut Words, place: &mut Option<Request>) -> Opti
     }
 }
 
-// Where the first word has 13 letters or more.
+// For a first word of 13 letters or more.
 fn from_13(word: &[u8], words: &mut Words, place: &mut Option<Request>) -> Option<LineRead>
     ensures { AsksFor (named_where (λ n. nat_le 13 n) word.now) words.old result place.new }
 {
@@ -147,28 +149,28 @@ fn from_13(word: &[u8], words: &mut Words, place: &mut Option<Request>) -> Optio
     }
 }
 
-// Whether a line's first word is a command's.
+// Returns true if the line's first word is this command's.
 fn is(word: &[u8], command: &[u8]) -> bool
     ensures { result ≡ is_same_name word.now command.now }
 {
     word == command
 }
 
-// What a line asks for whose first word is no command's.
+// What a line requests if its first word names no command.
 fn unknown(place: &mut Option<Request>) -> Option<LineRead>
     ensures { option_map (λ read. asked_by read place.new) result ≡ Some (Some spec.unknown_command) }
 {
     Some(refused(place, Refusal::UnknownCommand))
 }
 
-// The number that the next word is, if it is one below 2^32.
+// Removes the next word and returns it as a number below 2^32, if it is one.
 fn next_number(words: &mut Words) -> Option<u32>
     ensures { IsNextNumber words.old words.new result }
 {
     number(words.next()?)
 }
 
-// The word that is left, if there is one alone.
+// Returns the remaining word if there is exactly one.
 fn only_word<'a>(words: &mut Words<'a>) -> Option<&'a [u8]>
     ensures some { IfSome result (λ word. words.old ≡ word.now ∷ []) }
     ensures none { IfNone result (only Some words.old ≡ None) }
@@ -180,28 +182,29 @@ fn only_word<'a>(words: &mut Words<'a>) -> Option<&'a [u8]>
     }
 }
 
-// The id of a job, where it is the only word that is left.
+// The job id, if it is the only remaining word.
 fn id_word(words: &mut Words) -> Option<JobId>
     ensures { result ≡ only spec_numbers.job_id words.old }
 {
     job_id(only_word(words)?)
 }
 
-// The number below 2^32, where it is the only word that is left.
+// The number below 2^32, if it is the only remaining word.
 fn number_word(words: &mut Words) -> Option<u32>
     ensures { result ≡ only spec_numbers.number words.old }
 {
     number(only_word(words)?)
 }
 
-// The name of a tube, where it is the only word that is left.
+// The tube name, if it is the only remaining word.
 fn tube_word(words: &mut Words) -> Option<TubeName>
     ensures { result ≡ only spec_numbers.tube_name words.old }
 {
     TubeName::new(only_word(words)?)
 }
 
-// Made where it lies, and so inlined: a request of a few bytes has as much room as the longest name.
+// Inlined, so that the request is made in `place`: even a short request takes as much room as the
+// longest tube name.
 #[inline(always)]
 fn whole(place: &mut Option<Request>, request: Request) -> Option<LineRead>
     ensures { option_map (λ read. asked_by read place.new) result
@@ -211,7 +214,7 @@ fn whole(place: &mut Option<Request>, request: Request) -> Option<LineRead>
     Some(LineRead::Whole)
 }
 
-// Whether no words are left.
+// Returns `Some` if no words remain.
 fn no_more(words: &mut Words) -> Option<()>
     ensures some { IfSome result (λ _. words.old ≡ []) }
     ensures none { IfNone result ((request : Request) → spec.no_words request words.old ≡ None) }
@@ -222,7 +225,7 @@ fn no_more(words: &mut Words) -> Option<()>
     }
 }
 
-// What no further words ask for.
+// What a command without further words requests.
 #[inline(always)]
 fn no_words(words: &mut Words, place: &mut Option<Request>, request: Request) -> Option<LineRead>
     ensures { option_map (λ read. asked_by read place.new) result
@@ -232,7 +235,7 @@ fn no_words(words: &mut Words, place: &mut Option<Request>, request: Request) ->
     whole(place, request)
 }
 
-// What the words of a put ask for.
+// What the words of a put request.
 fn put_words(words: &mut Words) -> Option<LineRead>
     ensures { (place : Option Request) → option_map (λ read. asked_by read place) result
         ≡ option_map Some (spec.put_words words.old) }
@@ -252,7 +255,7 @@ fn put_words(words: &mut Words) -> Option<LineRead>
     }
 }
 
-// What the words of a release ask for.
+// What the words of a release request.
 fn release_words(words: &mut Words, place: &mut Option<Request>) -> Option<LineRead>
     ensures { option_map (λ read. asked_by read place.new) result
         ≡ option_map Some (spec.release_words words.old) }
@@ -263,7 +266,7 @@ fn release_words(words: &mut Words, place: &mut Option<Request>) -> Option<LineR
     no_words(words, place, Request::Release { id, pri, delay })
 }
 
-// What the words of a bury ask for.
+// What the words of a bury request.
 fn bury_words(words: &mut Words, place: &mut Option<Request>) -> Option<LineRead>
     ensures { option_map (λ read. asked_by read place.new) result
         ≡ option_map Some (spec.read_words spec_words.Command.Bury words.old) }
@@ -273,7 +276,7 @@ fn bury_words(words: &mut Words, place: &mut Option<Request>) -> Option<LineRead
     no_words(words, place, Request::Bury { id, pri })
 }
 
-// What the words of a pause ask for.
+// What the words of a pause request.
 fn pause_words(words: &mut Words, place: &mut Option<Request>) -> Option<LineRead>
     ensures { option_map (λ read. asked_by read place.new) result
         ≡ option_map Some (spec.read_words spec_words.Command.PauseTube words.old) }
@@ -283,7 +286,7 @@ fn pause_words(words: &mut Words, place: &mut Option<Request>) -> Option<LineRea
     no_words(words, place, Request::PauseTube { tube, delay })
 }
 
-/// A request that is refused, whatever words there are.
+/// Makes the line a rejected request, whatever its words are.
 pub fn refused(place: &mut Option<Request>, why: Refusal) -> LineRead
     ensures { asked_by result place.new ≡ Some (spec.Whole (Request.Refused why)) }
 {

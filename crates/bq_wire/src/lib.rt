@@ -1,4 +1,4 @@
-//! The texts of the protocol: requests out of bytes, and answers into bytes.
+//! The texts of the protocol: parses bytes into requests, and formats answers as bytes.
 #![tactic(auto)]
 
 pub use reader::{RequestReader, requests_of, what_was_read_is_a_reading};

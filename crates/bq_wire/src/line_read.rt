@@ -1,4 +1,4 @@
-//! Lines: where they end, their words, and what they ask for.
+//! Lines: where they end, their words, and what they request.
 ghost use Rattle.std.specs.Prelude.{◌≡◌, ◌<◌, ◌≤◌, ◌+◌, ◌^◌, [], ◌∷◌, IfSome, Some, None, MatchOption, length, drop, if◌then◌else◌, false};
 ghost use Rattle.std.specs.Option.{SomeIff};
 ghost use Rattle.bq_job.specs.reading.CommandWords.{command_named};
@@ -14,31 +14,31 @@ use bq_job::{JobId, Pri, Refusal, Request};
 use memchr::memchr;
 use std::marker::Model;
 
-/// How many bytes a line has at most, without its CR LF.
+/// The largest length of a line, in bytes, without its CR LF.
 pub const LONGEST_LINE: usize = 222;
 
-/// The numbers of a put's line, as they are written.
+/// The numbers on the line of a put, as written.
 #[derive(Clone, Copy)]
 pub struct PutLine {
     pub pri: Pri,
-    /// Seconds.
+    /// The delay in seconds.
     pub delay: u32,
-    /// Seconds. 0 is still 0 here.
+    /// The time to run in seconds. A 0 is kept here; the core makes it 1.
     pub ttr: u32,
-    /// How many bytes the body has.
+    /// The number of bytes in the body.
     pub bytes: u32,
 }
 
-/// What a line asks for.
+/// What a line requests.
 #[derive(Clone, Copy)]
 pub enum LineRead {
-    /// A whole request, which lies in the place that was given for it.
+    /// A complete request, which is in the place that the caller passed.
     Whole,
-    /// A put, whose body comes after the line.
+    /// A put whose body follows the line.
     PutWaits(PutLine),
 }
 
-/// What a line asks for, which is given without its CR LF. Where that is a whole request, it is put into the place.
+/// Returns what a line requests, given without its CR LF. A complete request is put into `place`.
 pub fn read_line(line: &[u8], place: &mut Option<Request>) -> LineRead
     ensures { asked_by result place.new ≡ Some (spec.read_line line.now) }
 {
@@ -52,7 +52,7 @@ pub fn read_line(line: &[u8], place: &mut Option<Request>) -> LineRead
     }
 }
 
-// What the first word and those behind it ask for.
+// What the first word and the words after it request.
 fn read_named(first: &[u8], words: &mut Words, place: &mut Option<Request>) -> LineRead
     ensures { asked_by result place.new
         ≡ Some (spec.read_command (command_named first.now) words.old) }
@@ -63,14 +63,14 @@ fn read_named(first: &[u8], words: &mut Words, place: &mut Option<Request>) -> L
     }
 }
 
-// A line feed that was found.
+// The position of a line feed, and whether it follows a CR.
 #[derive(Clone, Copy)]
 struct LineFeed {
     at: usize,
     behind_cr: bool,
 }
 
-// The first line feed, and whether it stands behind a CR.
+// Returns the first line feed. `after_cr` says whether the first byte follows a CR.
 fn first_line_feed(after_cr: bool, bytes: &[u8]) -> Option<LineFeed>
     ensures found { MatchOption result (ends.line_end_after after_cr bytes.now ≡ None) (λ feed. ends.line_end_after after_cr bytes.now
         ≡ (if feed.behind_cr then Some (feed.at + 1) else ends.later_by (feed.at + 1)
@@ -86,7 +86,7 @@ fn first_line_feed(after_cr: bool, bytes: &[u8]) -> Option<LineFeed>
     }
 }
 
-/// Whether the last byte is a CR: without a byte, as is told.
+/// Returns true if the last byte is a CR; `after_cr` if there is no byte.
 #[tactic(auto, using(crate::proofs::LineEndLemmas::last_is_cr_last, std::proofs::lemmas::Grind::common_steps))]
 pub fn ends_in_cr(after_cr: bool, bytes: &[u8]) -> bool
     ensures { result ≡ ends.last_is_cr after_cr bytes.now }
@@ -97,8 +97,8 @@ pub fn ends_in_cr(after_cr: bool, bytes: &[u8]) -> bool
     }
 }
 
-/// How many bytes there are up to and with the first LF that stands behind a CR. The first byte stands
-/// behind a CR or not, as is told.
+/// Returns the number of bytes up to and including the first LF that follows a CR. `after_cr` says
+/// whether the first byte follows a CR.
 pub fn line_end_after(after_cr: bool, bytes: &[u8]) -> Option<usize>
     ensures value { result ≡ ends.line_end_after after_cr bytes.now }
     ensures some { IfSome result (λ end. 0 < end) }
@@ -116,10 +116,10 @@ pub fn line_end_after(after_cr: bool, bytes: &[u8]) -> Option<usize>
     None
 }
 
-/// The words of a line that are left: it is parted at each space, and a word may be empty.
+/// The remaining words of a line. The line is split at each space, so a word may be empty.
 #[derive(Drop)]
 pub struct Words<'a> {
-    // What stands behind the last space, if that hasn't been handed out.
+    // The bytes after the last space, unless they were returned already.
     rest: Option<&'a [u8]>,
 }
 
@@ -134,14 +134,14 @@ impl<'a> Model for Words<'a> {
 }
 
 impl<'a> Words<'a> {
-    /// The words of a line.
+    /// Returns the words of `line`.
     pub fn new(line: &'a [u8]) -> Words<'a>
         ensures { result ≡ words line.now }
     {
         Words { rest: Some(line) }
     }
 
-    /// Takes the first word that is left.
+    /// Removes and returns the first of the remaining words.
     pub fn next(&mut self) -> Option<&'a [u8]>
         ensures { MatchOption result ((self.old ≡ []) × (self.new ≡ []))
             (λ word. self.old ≡ word.now ∷ self.new) }
@@ -152,7 +152,7 @@ impl<'a> Words<'a> {
     }
 }
 
-// The first word of a line, and what comes after the space behind it.
+// The first word of a line, and the rest after the space that follows it.
 #[tactic(auto, using(crate::proofs::WordLemmas::words_first))]
 fn first_word(line: &[u8]) -> (&[u8], Option<&[u8]>)
     ensures { words line.now ≡ result.0.now ∷ words_left result.1 }
@@ -163,7 +163,7 @@ fn first_word(line: &[u8]) -> (&[u8], Option<&[u8]>)
     }
 }
 
-// The number with one more digit, if it fits.
+// Returns the number with one more digit, if it fits in 64 bits.
 fn with_digit(value: u64, digit: u8) -> Option<u64>
     requires { 48 ≤ digit }
     ensures { SomeIff result (numbers.with_digit value digit < 2 ^ 64) (numbers.with_digit value digit) }
@@ -174,7 +174,7 @@ fn with_digit(value: u64, digit: u8) -> Option<u64>
     shifted.checked_add(u64::from(digit - b'0'))
 }
 
-// The number that a word is, digits alone, if it fits.
+// Returns the number that a word of digits denotes, if it fits in 64 bits.
 #[tactic(auto, using(crate::proofs::NumberLemmas::too_great, crate::proofs::NumberLemmas::all_digits))]
 fn decimal(word: &[u8]) -> Option<u64>
     ensures { result ≡ numbers.job_id word.now }
@@ -195,14 +195,14 @@ fn decimal(word: &[u8]) -> Option<u64>
     Some(value)
 }
 
-/// The id of a job that a word is, if it is one.
+/// Returns the job id that a word denotes, or None if it is not a number below 2^64.
 pub fn job_id(word: &[u8]) -> Option<JobId>
     ensures { result ≡ numbers.job_id word.now }
 {
     decimal(word)
 }
 
-/// The number below 2^32 that a word is, if it is one.
+/// Returns the number that a word denotes, or None if it is not a number below 2^32.
 pub fn number(word: &[u8]) -> Option<u32>
     ensures { result ≡ numbers.number word.now }
 {

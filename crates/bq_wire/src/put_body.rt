@@ -8,20 +8,21 @@ use crate::line_read::PutLine;
 use bq_job::{BodyBuilder, Refusal, Request};
 use std::alloc::Global;
 
-/// The body of a put, as far as it has come, with the two bytes after it.
+/// The body of a put and the two bytes after it, as far as they have arrived.
 #[derive(Drop)]
 pub struct PutBody {
     pub put: PutLine,
-    /// How many bytes were taken, of the body and of the two behind it.
+    /// How many bytes of the body and of the two after it were taken.
     pub taken: usize,
-    /// The body's bytes; none where it is too big, or its memory was refused.
+    /// The body's bytes; `None` if the body is too big or its allocation failed.
     pub store: Option<BodyBuilder>,
-    /// Whether what was taken behind the body begins CR LF.
+    /// True as long as the bytes taken after the body are a beginning of CR LF.
     pub good_end: bool,
 }
 
 impl PutBody {
-    /// A body of which nothing has come. Its memory is asked for here, and nowhere else.
+    /// Returns a body of which nothing has arrived. It tries to allocate the whole body here and
+    /// nowhere else; if that fails, it consumes the bytes without keeping them.
     pub fn new(alloc: Global, put: PutLine) -> PutBody
         ensures put { result.put ≡ put }
         ensures nothing { IsBodySoFar result [] }
@@ -36,7 +37,8 @@ impl PutBody {
         }
     }
 
-    /// A body that is too big, of which nothing has come. It is taken without memory.
+    /// Returns a body that is too big, of which nothing has arrived. Its bytes are consumed without
+    /// being kept.
     pub fn too_big(put: PutLine) -> PutBody
         ensures put { result.put ≡ put }
         ensures nothing { IsBodySoFar result [] }
@@ -52,7 +54,7 @@ impl PutBody {
         }
     }
 
-    // Takes what belongs to the body, and says how many bytes that was.
+    // Takes the bytes that belong to the body, and returns how many.
     fn take_body(&mut self, bytes: &[u8]) -> usize
         requires { HasBodyRoom self.old }
         ensures room { HasBodyRoom self.new }
@@ -69,7 +71,8 @@ impl PutBody {
         count
     }
 
-    // Takes the first byte, where it is one of the two behind the body, and says how many bytes that was.
+    // Takes the first byte if it is one of the two after the body, and returns how many bytes it
+    // took.
     fn take_end_byte(&mut self, bytes: &[u8]) -> usize
         requires { HasBodyRoom self.old }
         ensures room { HasBodyRoom self.new }
@@ -93,7 +96,7 @@ impl PutBody {
         1
     }
 
-    /// Takes what belongs to the put, and says how many bytes that was.
+    /// Takes the bytes that belong to the put, and returns how many.
     pub fn take(&mut self, bytes: &[u8]) -> usize
         requires { HasBodyRoom self.old }
         ensures room { HasBodyRoom self.new }
@@ -109,18 +112,19 @@ impl PutBody {
         body + cr + lf
     }
 
-    /// Whether all of it has come.
+    /// Returns true if the body and the two bytes after it have arrived.
     pub fn is_whole(&self) -> bool
         ensures { result ≡ nat_le (self.now.put.bytes + 2) self.now.taken }
     {
         self.put.bytes as usize + 2 <= self.taken
     }
 
-    /// The request of a put, all of which has come. It takes no memory.
+    /// Returns the request of a put that has arrived completely. It allocates nothing.
     #[inline(always)]
     pub fn into_request(self, max_job_size: u32) -> Request
         requires { self.taken ≡ self.put.bytes + 2 }
-        // Where its memory was refused, that is the answer, whatever the bytes are.
+        // If the allocation for the body failed, the answer is OUT_OF_MEMORY, whatever the bytes
+        // are.
         ensures refused { self.store ≡ None → self.put.bytes ≤ max_job_size
             → result ≡ Request.Refused Refusal.OutOfMemory }
         ensures request { (after : List ℕ) → IsBodySoFar self after
@@ -148,7 +152,7 @@ impl PutBody {
     }
 }
 
-// Puts bytes into a store, where there is one.
+// Appends bytes to a store, if there is one.
 fn store_bytes(store: &mut Option<BodyBuilder>, bytes: &[u8])
     requires { ForSome store.old (λ s. length bytes.now ≤ s.room) }
     ensures { Stores store.old store.new bytes.now }

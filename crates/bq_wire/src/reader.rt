@@ -1,4 +1,4 @@
-//! A reader of requests: what it holds, and how it reads on.
+//! The reader of requests: its state, and how it continues with more bytes.
 ghost use Rattle.std.specs.Prelude.{◌≡◌, ◌≤◌, ◌<◌, ◌+◌, ◌++◌, ℕ, List, [], length, take, IfOk, OnOk, IfSome, Some, None, if◌then◌else◌};
 ghost use Rattle.std.specs.List.{flat_map};
 ghost use Rattle.bq_job.specs.reading.LineRead as line_read;
@@ -17,7 +17,7 @@ use std::alloc::Global;
 use std::marker::Model;
 use std::mem;
 
-/// What a reader holds.
+/// The state of a reader.
 #[derive(Drop)]
 pub struct ReaderState {
     pub max_job_size: u32,
@@ -28,20 +28,20 @@ pub struct ReaderState {
 /// What a reader is in the middle of.
 #[derive(Drop)]
 pub enum ReaderPlace {
-    /// A line, whose bytes are kept.
+    /// A line whose bytes are kept.
     InLine,
-    /// A line that is too long, of which nothing is kept but whether its last byte is a CR.
+    /// A line that is too long. Only whether its last byte is a CR is kept.
     InLongLine(bool),
-    /// The body of a put, or what stands behind it.
+    /// The body of a put, or the two bytes after it.
     InBody(PutBody),
     /// A quit was read.
     Over,
 }
 
-/// How many bytes are kept of a line at most: the longest line, and a CR.
+/// The largest number of bytes kept of a line: the longest line and a CR.
 pub const MOST_KEPT: usize = LONGEST_LINE + 1;
 
-/// The bytes of a line that isn't whole. Its memory is given when it is made.
+/// The bytes of an unfinished line. `new` allocates all the memory that it needs.
 #[derive(Drop)]
 pub struct KeptLine {
     bytes: Vec<u8, Global>,
@@ -60,6 +60,7 @@ impl Model for KeptLine {
 }
 
 impl KeptLine {
+    /// Returns an empty line. Returns `NoMemory` if the allocation fails.
     pub fn new(alloc: Global) -> Result<KeptLine, NoMemory>
         ensures { IfOk result (λ kept. kept ≡ []) }
     {
@@ -69,20 +70,21 @@ impl KeptLine {
         }
     }
 
-    /// How many bytes more can be kept.
+    /// Returns how many more bytes can be kept.
     pub fn room(&self) -> usize
         ensures { result + length self.now ≡ MOST_KEPT }
     {
         MOST_KEPT - self.bytes.len()
     }
 
+    /// Returns the bytes.
     pub fn as_slice(&self) -> &[u8]
         ensures { result.now ≡ self.now }
     {
         self.bytes.as_slice()
     }
 
-    /// Puts these bytes at the end. Takes no memory.
+    /// Appends these bytes. It allocates nothing; the caller ensures that they fit.
     pub fn push_slice(&mut self, bytes: &[u8])
         requires { length self.old + length bytes.now ≤ MOST_KEPT }
         ensures { self.new ≡ self.old ++ bytes.now }
@@ -90,6 +92,7 @@ impl KeptLine {
         let _fits = self.bytes.extend_from_slice(bytes);
     }
 
+    /// Removes all bytes.
     pub fn clear(&mut self)
         ensures { self.new ≡ [] }
     {
@@ -97,7 +100,7 @@ impl KeptLine {
     }
 }
 
-/// Reads requests out of bytes that come in pieces.
+/// Reads requests from bytes that arrive in pieces.
 #[derive(Drop)]
 pub struct RequestReader {
     state: ReaderState,
@@ -116,8 +119,8 @@ impl Model for RequestReader {
 }
 
 impl RequestReader {
-    /// A reader that stands for the empty text. A job may have as many bytes as is told. The memory for
-    /// lines is asked for here.
+    /// Returns a reader that has read nothing. Bodies of jobs may have at most `max_job_size`
+    /// bytes. Returns `NoMemory` if the allocation for lines fails.
     pub fn new(alloc: Global, max_job_size: u32) -> Result<RequestReader, NoMemory>
         requires { (1 ≤ max_job_size) × (max_job_size ≤ LARGEST_BODY) }
         ensures stands { IfOk result (λ reader. Stands reader []) }
@@ -134,7 +137,7 @@ impl RequestReader {
         })
     }
 
-    /// Forgets what was read, also a quit. Takes no memory.
+    /// Forgets everything that was read, including a quit. It allocates nothing.
     pub fn restart(&mut self)
         ensures stands { Stands self.new [] }
         ensures reads { HasRead self.new [] [] }
@@ -144,22 +147,25 @@ impl RequestReader {
         self.state.place = ReaderPlace::InLine;
     }
 
-    /// Takes bytes up to and with the last byte of the first whole request, else all, and says how many
-    /// it took. After a quit it takes none until `restart`. It takes no memory but for the body of a put,
-    /// which it asks for when its line is whole; where that is refused, the put is a refused request.
+    /// Takes bytes up to and including the last byte of the first complete request, or all of them.
+    /// Returns how many bytes it took, and the request. After a quit it takes none until `restart`.
+    /// It allocates only the body of a put, when the put's line is complete; if that fails, the put
+    /// becomes a rejected request.
     pub fn feed(&mut self, alloc: Global, piece: &[u8]) -> (usize, Option<Request>)
         ensures within { result.0 ≤ length piece.now }
         ensures progress { IfSome result.1 (λ _. 0 < result.0) }
-        // Whatever text it stood for, no beginning of that text and the piece is a request, all of the
-        // piece was taken, and that is what it stands for now.
+        // If there is no request: for every text that the reader represented, no first part of that
+        // text and the piece is a request, the whole piece was taken, and the reader now represents
+        // that text and the piece.
         ensures waits { result.1 ≡ None → (text : List ℕ)
             → Stands self.old text → Waits self.new text piece.now result.0 }
-        // Whatever text it stood for, that text and the bytes taken are this one request, and it stands
-        // for the empty text now, or after a quit for none.
+        // If there is a request: for every text that the reader represented, that text and the
+        // bytes taken are this one request, and the reader now represents the empty text, or none
+        // after a quit.
         ensures hands_out { IfSome result.1
             (λ request. (text : List ℕ) → Stands self.old text → HandsRequest self.new text piece.now result.0 request) }
-        // So of all bytes taken since the reader was new or restarted it hands out the requests, however
-        // they were cut.
+        // So from all bytes taken since it was made or restarted, the reader returns the requests,
+        // whatever pieces the bytes came in.
         ensures reads { ReadsOn self.old self.new piece.now result.0 result.1 }
         ensures over { IsOver self.old
             → (result.0 ≡ 0) × (result.1 ≡ None) × (self.new ≡ self.old) }
@@ -170,7 +176,8 @@ impl RequestReader {
         (taken, request)
     }
 
-    /// The same as `feed`, with the request put into a place, whatever lay there: it is not moved on the way.
+    /// Does the same as `feed`, but puts the request into `request`, whatever was there, so that it
+    /// is not copied.
     #[tactic(auto, using(crate::proofs::HasReadLemmas::reads_on))]
     pub fn feed_in_place(
         &mut self,
@@ -245,7 +252,7 @@ fn feed_line(
     }
 }
 
-// Keeps bytes of a line that isn't whole, or of one that is too long none.
+// Keeps the bytes of an unfinished line, or none if the line is too long.
 fn keep(kept: &mut KeptLine, piece: &[u8]) -> ReaderPlace
     ensures { Keeps kept.old kept.new result piece.now }
 {
@@ -260,8 +267,8 @@ fn keep(kept: &mut KeptLine, piece: &[u8]) -> ReaderPlace
     }
 }
 
-// What a line asks for that ends now: of its last bytes all but the LF are given. A whole request is put into
-// the place.
+// Returns what the line that ends now requests. `last` is the line's last bytes without the LF. A
+// complete request is put into `place`.
 fn whole_line(kept: &mut KeptLine, last: &[u8], place: &mut Option<Request>) -> LineRead
     requires { 0 < length kept.old + length last.now }
     ensures cleared { kept.new ≡ [] }
@@ -283,7 +290,7 @@ fn whole_line(kept: &mut KeptLine, last: &[u8], place: &mut Option<Request>) -> 
     read
 }
 
-// Goes on behind a whole line, which ends in the piece.
+// Continues after a complete line, which ends in the piece.
 fn after_line(
     alloc: Global,
     state: &mut ReaderState,
@@ -314,7 +321,7 @@ fn after_line(
     }
 }
 
-// The body of a put whose line is whole. No memory is asked for where it is too big.
+// Returns the body of a put whose line is complete. Nothing is allocated if it is too big.
 fn begun_body(alloc: Global, put: PutLine, max_job_size: u32) -> PutBody
     ensures put { result.put ≡ put }
     ensures nothing { IsBodySoFar result [] }
@@ -329,7 +336,7 @@ fn begun_body(alloc: Global, put: PutLine, max_job_size: u32) -> PutBody
     }
 }
 
-// Where a reader is behind a request of one line.
+// The reader's place after a request of one line.
 fn place_behind(request: &Option<Request>) -> ReaderPlace
     ensures sound { IsSoundPlace result }
     ensures behind { IfSome request.now
@@ -404,7 +411,8 @@ fn bad_format() -> Request
     Request::Refused(Refusal::BadFormat)
 }
 
-/// The requests of a text that comes in these pieces: those of the whole text, however it was cut.
+/// Returns the requests of a text that arrives in these pieces: those of the whole text, however it
+/// was cut.
 pub fn requests_of(
     alloc: Global,
     max_job_size: u32,
@@ -422,7 +430,7 @@ pub fn requests_of(
     Ok(requests)
 }
 
-// Feeds a whole piece, up to a quit, and puts the requests at the end.
+// Feeds a whole piece, or up to a quit, and appends its requests.
 fn feed_all(
     alloc: Global,
     reader: &mut RequestReader,
@@ -449,7 +457,7 @@ fn feed_all(
     }
 }
 
-/// What a reader has read since it was new or restarted is a reading of the bytes that it took.
+/// What a reader has read since it was made or restarted is a reading of the bytes that it took.
 #[tactic(auto, using(crate::proofs::HasReadLemmas::was_read))]
 pub fn what_was_read_is_a_reading()
     ensures { (reader : ReaderState) (taken : List ℕ) (requests : List Request) → HasRead reader taken requests

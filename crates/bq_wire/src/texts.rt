@@ -6,13 +6,13 @@ use arrayvec::ArrayVec;
 use bq_job::Answer;
 use itoa::Buffer;
 
-/// How many bytes the head of an answer has at most.
+/// The largest length of the head of an answer, in bytes.
 const HEAD_ROOM: usize = 256;
 
-/// Room for the head of an answer, in a fixed array. Contracts see what it holds as its items.
+/// A buffer for the head of an answer, in a fixed array. Contracts see its contents as items.
 pub type HeadBuf = ArrayVec<u8, HEAD_ROOM>;
 
-/// Puts bytes behind those that the buffer holds. There has to be room for them.
+/// Appends bytes to the buffer. The caller ensures that there is room.
 pub fn push_bytes<const ROOM: usize>(buf: &mut ArrayVec<u8, ROOM>, more: &[u8])
     requires { length buf.old.items + length more.now ≤ ROOM }
     ensures { buf.new.items ≡ buf.old.items ++ more.now }
@@ -22,7 +22,7 @@ pub fn push_bytes<const ROOM: usize>(buf: &mut ArrayVec<u8, ROOM>, more: &[u8])
     };
 }
 
-// The digits of a number, behind what the head holds.
+// Appends the decimal digits of a number to the head.
 fn push_number(head: &mut HeadBuf, n: u64)
     requires { length head.old.items + 20 ≤ 256 }
     ensures text { head.new.items ≡ head.old.items ++ decimal n }
@@ -32,7 +32,7 @@ fn push_number(head: &mut HeadBuf, n: u64)
     push_bytes(head, digits.format(n).as_bytes());
 }
 
-// A word, a number and the end of the line.
+// A word, a number and CR LF.
 fn number_head(head: &mut HeadBuf, word: &[u8], n: u64)
     requires { length word.now ≤ 16 }
     ensures { head.new.items ≡ word.now ++ decimal n ++ line_end }
@@ -43,7 +43,7 @@ fn number_head(head: &mut HeadBuf, word: &[u8], n: u64)
     push_bytes(head, b"\r\n");
 }
 
-// A word, the id of a job, how many bytes its body has, and the end of the line.
+// A word, the id of a job, the number of bytes in its body, and CR LF.
 fn job_head(head: &mut HeadBuf, word: &[u8], id: u64, size: usize)
     requires { length word.now ≤ 16 }
     ensures { head.new.items ≡ word.now ++ decimal id ++ codes " " ++ decimal size ++ line_end }
@@ -56,7 +56,7 @@ fn job_head(head: &mut HeadBuf, word: &[u8], id: u64, size: usize)
     push_bytes(head, b"\r\n");
 }
 
-// A word and the end of the line, which the word brings with it.
+// A word with its CR LF.
 fn word_head(head: &mut HeadBuf, line: &[u8])
     requires { length line.now ≤ 256 }
     ensures { head.new.items ≡ line.now }
@@ -75,7 +75,7 @@ fn using_head(head: &mut HeadBuf, tube: &[u8])
     push_bytes(head, b"\r\n");
 }
 
-/// Makes `head` hold the head of the answer alone. Takes no memory.
+/// Replaces the contents of `head` by the head of the answer. It allocates nothing.
 pub fn answer_head(answer: &Answer, head: &mut HeadBuf)
     ensures { head.new.items ≡ spec.answer_head answer.now }
 {
@@ -107,7 +107,7 @@ pub fn answer_head(answer: &Answer, head: &mut HeadBuf)
     }
 }
 
-/// The bytes between head and tail: a job's body, a YAML text, or nothing.
+/// Returns the bytes between head and tail: a job's body, a YAML text, or nothing.
 pub fn answer_body(answer: &Answer) -> &[u8]
     ensures { result.now ≡ spec.answer_body answer.now }
 {
@@ -118,7 +118,7 @@ pub fn answer_body(answer: &Answer) -> &[u8]
     }
 }
 
-/// The end of the line behind a body, also behind an empty one. Other answers have none.
+/// Returns the CR LF after a body, even an empty one. Answers without a body have no tail.
 pub fn answer_tail(answer: &Answer) -> &[u8]
     ensures { result.now ≡ spec.answer_tail answer.now }
 {

@@ -3,7 +3,7 @@ use Rattle.std.specs.List.{list_all}
 use Rattle.bq_job.specs.reading.Words as spec
 use Rattle.bq_wire.proofs.line_read.decimal.Given as goal
 
--- the digits that are left make of the value so far that of the whole word
+-- the remaining digits turn the value so far into that of the whole word
 abbrev pub invariant-loop-byte : goal.invariant-loop-byte
 invariant-loop-byte l = record {
   digits : list_all spec.is_digit (drop l.byte-index l.word) ≡ list_all spec.is_digit l.word;
