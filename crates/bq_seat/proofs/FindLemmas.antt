@@ -1,4 +1,4 @@
--- A move by the machine's fields is a move: what the pasts that it stands for find.
+-- A move in terms of the machine's fields is a move: what holds in the pasts that it represents.
 use Rattle.std.proofs.Common.{◌≡◌, ◌≤◌, ◌+◌, Bool, true, false, ◌||◌, List, [], ◌∷◌, ◌++◌, Some, None, is_some, map, length, inl, inr, refl, sym, ap, ◌∙◌, arith, subst, append_assoc, ℕ, if◌then◌else◌}
 use Rattle.std.proofs.Math.Bool.{or-false}
 use Rattle.bq_job.specs.declared.answer.Answer.{Answer}
@@ -23,7 +23,7 @@ use Rattle.bq_seat.specs.declared.machine.Stage.TheVariants as stages
 use Rattle.bq_seat.proofs.InTurnLemmas.{few_missing, in_turn, wanted_joined}
 use Rattle.bq_seat.proofs.LooksLemmas.{wanted_open}
 
--- a look at the mail finds one answer outstanding at most
+-- when the mail is polled, at most one answer is outstanding
 few_at_look : (stage : Stage) (reader : ReaderState) (kept : List ℕ) (told : Bool) (p : Past) → awaited_at stage ≡ Awaited.AMail → StandsInStage stage reader kept told p → wanted p.steps ≤ length p.mail + 1
 few_at_look (stages.Polling waits) reader kept told p e h = let w = wanted_open reader kept told 1 p h.0 in omega arith
 few_at_look (stages.Leaving end) reader kept told p e h =
@@ -45,7 +45,7 @@ few_at_look stages.Writing reader kept told p e h = cc
 few_at_look stages.AskingQuit reader kept told p e h = cc
 few_at_look (stages.Closing end) reader kept told p e h = cc
 
--- a read finds a line that goes on
+-- when the line is read, its input has not ended
 goes_on_at_read : (stage : Stage) (reader : ReaderState) (kept : List ℕ) (told : Bool) (p : Past) → awaited_at stage ≡ Awaited.AReading → StandsInStage stage reader kept told p → (p.closing ≡ false) × (p.ended ≡ false) × (p.fault ≡ None)
 goes_on_at_read stages.Reading reader kept told p e h = (h.0.stepped.closing_is, h.0.stepped.ended_is ∙ h.2, h.0.handed.fault_is)
 goes_on_at_read stages.ReadingOn reader kept told p e h = (h.0.0.stepped.closing_is, h.0.0.stepped.ended_is ∙ h.2, h.0.0.handed.fault_is)
@@ -59,7 +59,7 @@ goes_on_at_read stages.AskingQuit reader kept told p e h = cc
 goes_on_at_read (stages.Closing end) reader kept told p e h = cc
 goes_on_at_read (stages.Leaving end) reader kept told p e h = cc
 
--- a write finds no fault
+-- when an answer is written, nothing failed
 unbroken_at : (stage : Stage) (reader : ReaderState) (kept : List ℕ) (told : Bool) (p : Past) → awaited_at stage ≡ Awaited.AWriting → StandsInStage stage reader kept told p → (p.closing ≡ false) × (p.fault ≡ None)
 unbroken_at stages.Writing reader kept told p e h = (h.0.stepped.closing_is, h.0.handed.fault_is)
 unbroken_at stages.Between reader kept told p e h = cc
@@ -73,7 +73,7 @@ unbroken_at stages.AskingQuit reader kept told p e h = cc
 unbroken_at (stages.Closing end) reader kept told p e h = cc
 unbroken_at (stages.Leaving end) reader kept told p e h = cc
 
--- the past with the event finds the action
+-- the past with the event justifies the action
 found : (size : ℕ) (action : Action) (new : SeatMachine) (q : Past) → awaited_by action ≡ Some (awaited new) → AgreesWith new (with_action action q)
     → IfLineOver action (λ end. (written : List ℕ) → IsServed size written end q) → Finds size action q
 found size (actions.Submit step) new q awaits stands over =
@@ -178,6 +178,6 @@ is_move old event action new m = record {
   looks = λ e p h. m.looks e p h.0;
 }
 
--- the same of an event that is known by an equation
+-- the same for an event that is known by an equation
 pub is_move_by : (old : SeatMachine) (event same : Event) (action : Action) (new : SeatMachine) → event ≡ same → IsStagedMove old same action new → IsMove old event action new
 is_move_by old event same action new e m = subst (λ (v : Event). IsMove old v action new) (sym e) (is_move old same action new m)

@@ -1,4 +1,4 @@
--- A machine that goes on while nothing is outstanding.
+-- A machine that continues while no answer is outstanding.
 use Rattle.std.proofs.Common.{◌≡◌, ◌==◌, ◌∷◌, ℕ, true, false, List, [], Option, Some, refl, sym, subst, ◌∙◌, arith, drop, length, IfSome}
 use Rattle.std.proofs.lemmas.Bool.{eqb-true}
 use Rattle.bq_job.specs.declared.line_end.LineEnd.TheVariants as ends
@@ -18,7 +18,7 @@ use Rattle.bq_seat.specs.declared.machine.SeatMachine.{SeatMachine}
 use Rattle.bq_seat.specs.declared.machine.Stage.TheVariants as stages
 use Rattle.bq_seat.proofs.OpenLemmas.{ends_line, asks, quits, open_at, waiting_at}
 
--- it was told that the client sends no more, so the line is closed, whatever is kept
+-- the end of the input was submitted, so the line is closed, whatever is kept
 pub goes_told : (m : SeatMachine) (kept : List ℕ) → m.end_told ≡ true
     → GoesOn (holding kept m) (actions.Submit steps.Close) (in_stage (stages.Closing ends.EndOfInput) m)
 goes_told m kept told = record {
@@ -41,7 +41,7 @@ goes_reading m untold empty = record {
     none [] e = refl
     none (b ∷ bytes) e = absurd (let f : length (b ∷ bytes) ≡ 0 = eqb-true _ _ e in omega (arith, f))
 
--- the machine after it has fed what it kept and asked a request
+-- the machine after it has fed the kept bytes and submitted a request
 abbrev pub after_asking : SeatMachine → ReaderState → ℕ → Request → SeatMachine
 after_asking m next taken request = record m { reader = next; kept = drop taken m.kept; stage = asking_stage request }
 
@@ -61,7 +61,7 @@ asking m next n q not_quit untold same fed p line =
     let empty : Stands next [] = rw not_quit at out.next in
     (waiting_at next (drop n m.kept) false m.end_told (is_waiting_request q) _ (sym untold) (asks m.reader next m.kept n q p o same out.unit empty not_quit), untold)
 
--- the reader has handed out a request, and it is asked
+-- the reader has returned a request, and it is submitted
 pub goes_asking : (m : SeatMachine) (next : ReaderState) (n : ℕ) (q : Request) → m.end_told ≡ false → next.max_job_size ≡ m.reader.max_job_size
     → ((text : List ℕ) → Stands m.reader text → HandsRequest next text m.kept n q)
     → GoesOn m (actions.Submit (steps.Ask q)) (after_asking m next n q)
@@ -78,7 +78,7 @@ goes_asking m next n q untold same fed = record {
   past = asking m next n q refl untold same fed;
 }
 
--- the same, as the reader and the kept bytes tell it
+-- the same, in terms of the results of the reader and the kept bytes
 pub goes_handed : (m : SeatMachine) (next : ReaderState) (n : ℕ) (q : Request) (piece kept : List ℕ) (found : Option Request)
     → m.end_told ≡ false → next.max_job_size ≡ m.reader.max_job_size → piece ≡ m.kept → kept ≡ drop n m.kept → found ≡ Some q
     → IfSome found (λ request. (text : List ℕ) → Stands m.reader text → HandsRequest next text piece n request)
@@ -90,7 +90,7 @@ goes_handed m next n q piece kept found untold same piece_is kept_is found_is fe
     let handed : (text : List ℕ) → Stands m.reader text → HandsRequest next text piece n q = subst P found_is fed in
     subst R (sym kept_is) (goes_asking m next n q untold same (subst Q piece_is handed))
 
--- the same action and machine, in other words
+-- the same action and machine, under equal names
 pub by_result : (m new same : SeatMachine) (action other : Action) → action ≡ other → new ≡ same → GoesOn m other same → GoesOn m action new
 by_result m new same action other e f g =
     let P : Action → Type 0 = λ a. GoesOn m a same in

@@ -32,7 +32,7 @@ last_same (a ∷ xs) (b ∷ ys) x y e =
     let tails = more.0 in
     (cc, more.1)
 
--- the requests that were asked, the last one apart
+-- the submitted requests, without the last one
 pub record EndsBy (asked : List Request) : Type 0 where
   pub before : List Request
   pub last : Request
@@ -103,7 +103,7 @@ few_missing ends.WriteFault asked mail h = omega arith
 few_missing ends.ReadFault asked mail (inl h) = omega arith
 few_missing ends.ReadFault asked mail (inr h) = let one = h.1 in omega arith
 
--- what a machine stands for while a step is submitted says that it comes in its turn
+-- what a machine represents while a step is submitted implies that the step comes in its turn
 pub in_turn : (stage : Stage) (reader : ReaderState) (kept : List ℕ) (told : Bool) (p : Past) (taken : List Step) (step : Step) → awaited_at stage ≡ Awaited.ASubmission → p.steps ≡ taken ++ step ∷ [] → StandsInStage stage reader kept told p → IsInTurn step taken p.mail
 in_turn stages.Between reader kept told p taken step e are h = cc
 in_turn stages.Connecting reader kept told p taken step e are h = connects taken p.mail step (sym are ∙ h.2)

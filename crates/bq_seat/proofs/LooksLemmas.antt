@@ -1,4 +1,4 @@
--- What the steps and the mail of a line say of the machine's next look.
+-- What the steps and the mail of a line imply for the machine's next action.
 use Rattle.std.proofs.Common.{◌≡◌, ℕ, suc, ◌+◌, ◌<◌, Bool, true, false, ◌&&◌, ◌==◌, not, List, [], ◌∷◌, ◌++◌, Some, map, length, refl, sym, ap, ◌∙◌, arith, subst, append-nil}
 use Rattle.std.proofs.lemmas.Bool.Decides.{nat_tests}
 use Rattle.bq_job.specs.declared.request.Request.{Request}
@@ -23,11 +23,11 @@ last_step-append [] step = refl
 last_step-append (a ∷ []) step = refl
 last_step-append (a ∷ b ∷ taken) step = last_step-append (b ∷ taken) step
 
--- behind the connect
+-- after the connect
 pub behind_connect : (p : Past) (action : Action) → p.steps ≡ steps.Connect ∷ [] → GoesFurther action → LooksBehindStep (last_step p.steps) action
 behind_connect p action is g = rw is g
 
--- behind a quit
+-- after a quit
 pub behind_quit : (p : Past) → HasAskedQuit p → LooksBehindStep (last_step p.steps) (actions.Submit steps.Close)
 behind_quit p q =
     let is = ap last_step q.steps_are ∙ last_step-append (steps.Connect ∷ map steps.Ask q.asked) (steps.Ask requests.Quit) in
@@ -50,19 +50,19 @@ behind_asked (r ∷ asked) taken is some none =
     let last = ap last_step whole ∙ last_step-append (steps.Connect ∷ map steps.Ask ends.before) (steps.Ask ends.last) in
     subst (λ s. LooksBehindStep s actions.PollMail) (sym last) (no_quit_behind ends.last (last_no_quit ends.before ends.last (ap has_quit (sym ends.is) ∙ none)))
 
--- behind a request that is answered
+-- after a request that wants an answer
 pub behind_request : (r : ReaderState) (kept : List ℕ) (told : Bool) (p : Past) → IsOpen r kept told 1 p → told ≡ false → LooksBehindStep (last_step p.steps) actions.PollMail
 behind_request r kept told p o untold =
     behind_asked o.asked p.steps (o.stepped.steps_are ∙ ap (λ t. (steps.Connect ∷ map steps.Ask o.asked) ++ end_if t) untold ∙ append-nil (steps.Connect ∷ map steps.Ask o.asked))
     (let all = o.handed.answered in omega arith) o.stepped.no_quit
 
--- behind the end that was told
+-- after the end was submitted
 pub behind_end : (r : ReaderState) (kept : List ℕ) (told : Bool) (p : Past) → IsOpen r kept told 1 p → told ≡ true → LooksBehindStep (last_step p.steps) actions.PollMail
 behind_end r kept told p o was_told =
     let is = ap last_step (o.stepped.steps_are ∙ ap (λ t. (steps.Connect ∷ map steps.Ask o.asked) ++ end_if t) was_told) ∙ last_step-append (steps.Connect ∷ map steps.Ask o.asked) steps.End in
     subst (λ s. LooksBehindStep s actions.PollMail) (sym is) refl
 
--- behind the close
+-- after the close
 pub behind_close : (size : ℕ) (end : LineEnd) (p : Past) → IsClosing size end p → LooksBehindStep (last_step p.steps) actions.PollMail
 behind_close size end p c =
     let line = (c.served []).line in
@@ -81,7 +81,7 @@ wanted_open r kept told out p o =
     let out_is = o.handed.answered in
     omega (arith, no_ends told)
 
--- nothing is outstanding
+-- no answer is outstanding
 pub answered_all : (r : ReaderState) (kept : List ℕ) (told : Bool) (p : Past) → IsOpen r kept told 0 p → is_unanswered p ≡ false
 answered_all r kept told p o = let w = wanted_open r kept told 0 p o in at (is_unanswered p) refl w
   where
@@ -102,7 +102,7 @@ asked_in-ends [] true = refl
 asked_in-ends [] false = refl
 asked_in-ends (r ∷ asked) told = ap (λ rs. r ∷ rs) (asked_in-ends asked told)
 
--- whether the line is read on, while an answer is outstanding
+-- whether the line is read while an answer is outstanding
 pub read_on_is : (r : ReaderState) (kept : List ℕ) (told waits : Bool) (p : Past) → IsWaiting r kept told waits p → is_read_on kept p ≡ (waits && not told && (length kept == 0))
 read_on_is r [] told waits p w =
     let o = w.0 in

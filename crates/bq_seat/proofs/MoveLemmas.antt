@@ -24,7 +24,7 @@ use Rattle.bq_job.proofs.ReadsLemmas.{reading-Reads}
 use Rattle.bq_seat.proofs.LooksLemmas.{answered_all, behind_close, behind_connect, behind_end, behind_quit, behind_request, one_unanswered, read_on_is}
 use Rattle.bq_seat.proofs.OpenLemmas.{answered, ends_line, handed_in, handed_in_waiting, opened, read_fails, served_now, still_closing, tells_end, write_fails}
 
--- the same move, in other words for its action and for the machine after it
+-- the same move, under equal names for its action and the machine after it
 pub by_result : (old new same : SeatMachine) (event : Event) (action other : Action) → action ≡ other → new ≡ same → IsStagedMove old event other same → IsStagedMove old event action new
 by_result old new same event action other e f m =
     let P : Action → Type 0 = λ a. IsStagedMove old event a same in
@@ -35,11 +35,11 @@ by_result old new same event action other e f m =
 pub from_stage : (old new : SeatMachine) (event : Event) (action : Action) (s : Stage) → old.stage ≡ s → IsStagedMove (in_stage s old) event action new → IsStagedMove old event action new
 from_stage old new event action s e m = let P : Stage → Type 0 = λ t. IsStagedMove (in_stage t old) event action new in subst P (sym e) m
 
--- the same, where the machine stays as it was
+-- the same if the machine stays as it was
 pub stays_in : (old : SeatMachine) (event : Event) (action : Action) (s : Stage) → old.stage ≡ s → IsStagedMove (in_stage s old) event action (in_stage s old) → IsStagedMove old event action old
 stays_in old event action s e m = let P : Stage → Type 0 = λ t. IsStagedMove (in_stage t old) event action (in_stage t old) in subst P (sym e) m
 
--- the end of input, while the line is read and nothing is outstanding
+-- the end of input while the line is read and no answer is outstanding
 pub end_in_reading : (m : SeatMachine) → IsStagedMove (in_stage stages.Reading m) events.EndOfInput (actions.Submit steps.Close) (in_stage (stages.Closing ends.EndOfInput) m)
 end_in_reading m = record {
   stray = refl;
@@ -52,7 +52,7 @@ end_in_reading m = record {
   looks = λ e p h. ap (λ b. actions.Submit (if b then steps.End else steps.Close)) (sym (answered_all m.reader m.kept m.end_told p h.0));
 }
 
--- the end of input, while a reserve waits
+-- the end of input while a reserve waits
 pub end_in_reading_on : (m : SeatMachine)
     → IsStagedMove (in_stage stages.ReadingOn m) events.EndOfInput (actions.Submit steps.End) (record m { stage = stages.TellingEnd; end_told = true })
 end_in_reading_on m = record {
@@ -104,14 +104,14 @@ nothing_in_reading_on m = record {
   looks = λ e p h. ap (λ b. if b then actions.PollMail else actions.Read) (sym (one_unanswered m.reader m.kept m.end_told p h.0.0));
 }
 
--- what no mail leads to, while an answer is outstanding
+-- the action without mail, while an answer is outstanding
 looks_in_polling : (m : SeatMachine) (waits : Bool) (p : Past) → StandsInStage (stages.Polling waits) m.reader m.kept m.end_told p
     → (if not p.closing && is_read_on m.kept p then actions.Read else actions.PollMail) ≡ (if reads_on waits m then actions.Read else actions.PollMail)
 looks_in_polling m waits p h =
     ap (λ b. if not b && is_read_on m.kept p then actions.Read else actions.PollMail) h.0.stepped.closing_is
     ∙ ap (λ b. if b then actions.Read else actions.PollMail) (read_on_is m.reader m.kept m.end_told waits p h)
 
--- no answer has come, and the line is read on
+-- no answer has come, and the line is read
 reads_on_in_polling : (m : SeatMachine) (waits : Bool) → waits ≡ true → m.end_told ≡ false → m.kept ≡ [] → reads_on waits m ≡ true
     → IsStagedMove (in_stage (stages.Polling waits) m) events.NothingYet actions.Read (in_stage stages.ReadingOn m)
 reads_on_in_polling m waits w untold none on = record {
@@ -177,7 +177,7 @@ fault_in_reading_on m = record {
   looks = λ e p h. refl;
 }
 
--- a write fails; what is not asked any more has a reading too
+-- a write fails; the unsubmitted rest of the text has a reading too
 pub fault_in_writing : (m : SeatMachine)
     → IsStagedMove (in_stage stages.Writing m) events.WriteFault (actions.Submit steps.Close) (in_stage (stages.Closing ends.WriteFault) m)
 fault_in_writing m = record {
@@ -208,7 +208,7 @@ opens m next kept stands same none =
       looks = λ e p h. refl;
     }
 
--- an action by which the machine goes on is no stray one, and ends no line
+-- an action with which the machine continues is not stray, and does not end the line
 going_past : (event : Event) (action : Action) (p : Past) → GoesFurther action → past_after event action p ≡ with_action action (with_event event p)
 going_past event (actions.Submit step) p e = refl
 going_past event actions.Read p e = refl
@@ -233,7 +233,7 @@ going_not_over (actions.Write answer) P e = tt
 going_not_over (actions.LineOver end) P e = absurd e
 going_not_over actions.Stray P e = tt
 
--- Nothing is outstanding once the event has happened, and the machine goes on behind it.
+-- No answer is outstanding after the event, and the machine continues after it.
 pub goes_on_behind : (old mid new : SeatMachine) (event : Event) (action : Action) (stage : Stage) → old.stage ≡ stage → answers event (awaited_at stage) ≡ true
     → (OpensLine event action new) → mid.reader.max_job_size ≡ old.reader.max_job_size
     → ((p : Past) → StandsInStage stage old.reader old.kept old.end_told p → IsOpen mid.reader mid.kept mid.end_told 0 (with_event event p))
@@ -253,7 +253,7 @@ goes_on_behind old mid new event action stage is awaits opened same opens_at loo
       looks = λ e p h. subst (λ t. LooksOn (awaited_at t) old.kept event p action) (sym is) (looks p (at p h));
     }
 
--- bytes come while the line is read and nothing is outstanding
+-- bytes come while the line is read and no answer is outstanding
 pub bytes_in_reading : (m mid new : SeatMachine) (bytes : Bor (List ℕ)) (action : Action) → m.stage ≡ stages.Reading → mid ≡ record m { kept = bytes.now } → GoesOn mid action new
     → IsStagedMove m (events.Bytes bytes) action new
 bytes_in_reading m mid new bytes action s kept g =
@@ -272,7 +272,7 @@ submitted_connect m new action s g =
 pub wrote : (m new : SeatMachine) (action : Action) → m.stage ≡ stages.Writing → GoesOn m action new → IsStagedMove m events.WriteDone action new
 wrote m new action s g = goes_on_behind m m new events.WriteDone action stages.Writing s refl tt refl (λ p h. h.0) (λ p h. g.further) g
 
--- there was nothing to read, and nothing is outstanding
+-- there was nothing to read, and no answer is outstanding
 pub nothing_in_reading : (m : SeatMachine) → IsStagedMove (in_stage stages.Reading m) events.NothingYet actions.Read (in_stage stages.Reading m)
 nothing_in_reading m = record {
   stray = refl;
@@ -285,7 +285,7 @@ nothing_in_reading m = record {
   looks = λ e p h. ap (λ b. if b then actions.PollMail else actions.Read) (sym (answered_all m.reader m.kept m.end_told p h.0));
 }
 
--- there is no mail behind the close yet
+-- no mail has come since the close
 pub nothing_in_leaving : (m : SeatMachine) (end : LineEnd) → IsStagedMove (in_stage (stages.Leaving end) m) events.NothingYet actions.PollMail (in_stage (stages.Leaving end) m)
 nothing_in_leaving m end = record {
   stray = refl;
@@ -353,7 +353,7 @@ bytes_in_reading_on m kept bytes e =
       looks = λ f p h. subst (λ b. MatchBool b (actions.PollMail ≡ actions.PollMail) ⊥) (sym (one_unanswered m.reader m.kept m.end_told p h.0.0)) refl;
     })
 
--- an answer comes after the close: its own ends the line
+-- an answer comes after the close: the close's own answer ends the line
 ends_by_closed : (m : SeatMachine) (end : LineEnd) (answer : Answer) → is_closed_answer answer ≡ true
     → IsStagedMove (in_stage (stages.Leaving end) m) (events.Mail answer) (actions.LineOver end) (in_stage stages.Between m)
 ends_by_closed m end answer own = record {

@@ -55,7 +55,7 @@ opened r h = (
   refl,
 )
 
--- bytes are handed in where none are kept
+-- bytes come while none are kept
 pub handed_in : (r : ReaderState) (kept : List ℕ) (told : Bool) (out : ℕ) (p : Past) (more : List ℕ) → IsOpen r kept told out p → kept ≡ [] → told ≡ false
     → IsOpen r more told out (record p { bytes = p.bytes ++ more })
 handed_in r kept told out p more o none untold = record {
@@ -84,11 +84,11 @@ pub handed_in_waiting : (r : ReaderState) (kept : List ℕ) (told waits : Bool) 
 unfolding handed_in
 handed_in_waiting r kept told waits p more w none untold = (handed_in r kept told 1 p more w.0 none untold, w.1)
 
--- the reader reads as it did
+-- the reader reads as before
 same_units : (r next : ReaderState) (units : List ℕ) (asked : List Request) → next.max_job_size ≡ r.max_job_size → AreUnits r.max_job_size units asked → AreUnits next.max_job_size units asked
 same_units r next units asked same u = let P : ℕ → Type 0 = λ x. AreUnits x units asked in subst P (sym same) u
 
--- the reader has taken all bytes that were kept, and they hold no whole request
+-- the reader has taken all kept bytes, and they contain no complete request
 pub read_on : (r next : ReaderState) (kept : List ℕ) (p : Past) (o : IsOpen r kept false 0 p) → next.max_job_size ≡ r.max_job_size
     → Stands next (o.read.begun ++ kept) → BeginsNoUnit next.max_job_size (o.read.begun ++ kept) → IsOpen next [] false 0 p
 read_on r next kept p o same h none = record {
@@ -115,14 +115,14 @@ read_on r next kept p o same h none = record {
 split_bytes : (units begun kept : List ℕ) (n : ℕ) → units ++ (begun ++ kept) ≡ (units ++ (begun ++ take n kept)) ++ drop n kept
 split_bytes units begun kept n = rw (append_assoc units (begun ++ take n kept) (drop n kept), append_assoc begun (take n kept) (drop n kept), take-append-drop n kept) refl
 
--- the steps of an open line, if this request is asked
+-- the steps of an open line if this request is submitted
 asked_steps : (r : ReaderState) (kept : List ℕ) (p : Past) (o : IsOpen r kept false 0 p) (q : Request)
     → p.steps ++ steps.Ask q ∷ [] ≡ steps.Connect ∷ map steps.Ask (o.asked ++ q ∷ [])
 asked_steps r kept p o q =
     ap (λ x. x ++ steps.Ask q ∷ []) (o.stepped.steps_are ∙ append-nil (steps.Connect ∷ map steps.Ask o.asked))
     ∙ ap (λ x. steps.Connect ∷ x) (sym (map-asked o.asked q))
 
--- a request is asked
+-- a request is submitted
 pub asks : (r next : ReaderState) (kept : List ℕ) (n : ℕ) (q : Request) (p : Past) (o : IsOpen r kept false 0 p)
     → next.max_job_size ≡ r.max_job_size → IsUnit next.max_job_size (o.read.begun ++ take n kept) q → Stands next [] → is_quit q ≡ false
     → IsWaiting next (drop n kept) false (is_waiting_request q) (with_action (actions.Submit (steps.Ask q)) p)
@@ -155,7 +155,7 @@ asks r next kept n q p o same unit h not_quit = (
   ends_by_wait-asked o.asked q,
 )
 
--- a quit is asked
+-- a quit is submitted
 pub quits : (r next : ReaderState) (kept : List ℕ) (n : ℕ) (p : Past) (o : IsOpen r kept false 0 p)
     → next.max_job_size ≡ r.max_job_size → IsUnit next.max_job_size (o.read.begun ++ take n kept) requests.Quit
     → StandsInStage stages.AskingQuit next (drop n kept) false (with_action (actions.Submit (steps.Ask requests.Quit)) p)
@@ -198,14 +198,14 @@ closed_steps : (r : ReaderState) (kept : List ℕ) (told : Bool) (out : ℕ) (p 
     → p.steps ++ steps.Close ∷ [] ≡ (steps.Connect ∷ map steps.Ask o.asked) ++ end_if told ++ steps.Close ∷ []
 closed_steps r kept told out p o = ap (λ x. x ++ steps.Close ∷ []) o.stepped.steps_are
 
--- every request was asked where no bytes are kept
+-- if no bytes are kept, every request was submitted
 all_read : (r : ReaderState) (kept : List ℕ) (told : Bool) (out : ℕ) (p : Past) (o : IsOpen r kept told out p) → kept ≡ []
     → Reads r.max_job_size p.bytes o.asked o.read.begun
 all_read r kept told out p o none =
     Reads-begun r.max_job_size p.bytes o.read.units o.read.begun o.asked (o.read.bytes_are ∙ ap (λ k. o.read.units ++ (o.read.begun ++ k)) none ∙ ap (λ b. o.read.units ++ b) (append-nil o.read.begun))
     o.read.are_units o.stepped.no_quit o.read.no_unit
 
--- the end is told only behind a reserve, and if the line says that it ended
+-- the end is submitted only after a reserve, and only if the line's input has ended
 told_well : (bytes written : List ℕ) (ended : Bool) (fault : Option LineFault) (asked : List Request) (told : Bool)
     → (told ≡ true → (ends_by_wait asked ≡ true) × (ended ≡ true)) → MayTellEnd (record { read = bytes; ended = ended; fault = fault }) asked (end_if told)
 told_well bytes written ended fault asked true h = inr (refl, (h refl).0, (h refl).1)
@@ -231,7 +231,7 @@ served_at_end r kept told ended p o none e written = record {
   fault = o.handed.fault_is;
 }
 
--- The line is closed: nothing came behind the close yet.
+-- The line is closed, and no mail has come since.
 closed : (size : ℕ) (end : LineEnd) (p : Past) → p.late_mail ≡ [] → ((written : List ℕ) → IsServedToClose size written end (with_action (actions.Submit steps.Close) p))
     → IsClosing size end (with_action (actions.Submit steps.Close) p)
 closed size end p none served = record { served = served; closing_is = or-true p.closing; unclosed = ap has_closed none }
@@ -245,7 +245,7 @@ first_fault : (p : Past) (fault : LineFault) → p.fault ≡ None
     → with_fault fault p ≡ record p { fault = Some fault; written_at_fault = length p.written }
 first_fault p fault e = ap (λ f. if is_some f then p else record p { fault = Some fault; written_at_fault = length p.written }) e
 
--- the answers of a line of which a read failed
+-- the answers of a line on which a read failed
 fault_answers : (r : ReaderState) (kept : List ℕ) (told : Bool) (p : Past) (out : ℕ) (o : IsOpen r kept told out p)
     → ((out ≡ 0) ⊎ ((out ≡ 1) × (ends_by_wait o.asked ≡ true))) → AreAllAnswered ends.ReadFault o.asked p.mail
 fault_answers r kept told p out o (inl e) = inl (omega (arith, e, o.handed.answered, answered_count-asked o.asked o.stepped.no_quit))
@@ -326,7 +326,7 @@ early_mail p a e = ap (λ c. if c then record p { late_mail = p.late_mail ++ a �
 late_mail : (p : Past) (a : Answer) → p.closing ≡ true → with_mail a p ≡ record p { late_mail = p.late_mail ++ a ∷ [] }
 late_mail p a e = ap (λ c. if c then record p { late_mail = p.late_mail ++ a ∷ [] } else record p { mail = p.mail ++ a ∷ [] }) e
 
--- the outstanding answer comes, and is handed out
+-- the outstanding answer comes, and is given for writing
 pub answered : (r : ReaderState) (kept : List ℕ) (told waits : Bool) (p : Past) (a : Answer) → IsWaiting r kept told waits p
     → StandsInStage stages.Writing r kept told (with_action (actions.Write a) (with_mail a p))
 answered r kept told waits p a w =
@@ -347,7 +347,7 @@ answered r kept told waits p a w =
       omega (arith, length-append p.written (a ∷ [])),
     )
 
--- mail after the close is no part of what was served
+-- mail after the close is not part of what was served
 still_broken : (end : LineEnd) (p : Past) (mail : List Answer) → IsLastBroken end p → IsLastBroken end (record p { late_mail = mail })
 still_broken ends.Quit p mail h = tt
 still_broken ends.EndOfInput p mail h = tt
@@ -361,7 +361,7 @@ has_closed-append : (late : List Answer) (a : Answer) → has_closed late ≡ fa
 has_closed-append [] a none e = rw e refl
 has_closed-append (b ∷ late) a none e = let both = neither (is_closed_answer b) (has_closed late) none in rw both.0 (has_closed-append late a both.1 e)
 
--- other mail behind the close
+-- other mail after the close
 pub still_closing : (size : ℕ) (end : LineEnd) (p : Past) (a : Answer) → is_closed_answer a ≡ false → IsClosing size end p → IsClosing size end (with_mail a p)
 still_closing size end p a other c =
     let P : Past → Type 0 = λ q. IsClosing size end q in
@@ -384,7 +384,7 @@ served_now size end p a own c written =
       late = record { others = p.late_mail; late_is = ap (λ x. p.late_mail ++ x ∷ []) (closed_itself a own); none_closed = c.unclosed };
     })
 
--- while a reserve waits, it is told that the client sends no more
+-- while a reserve waits, the end of the input is submitted
 pub tells_end : (r : ReaderState) (kept : List ℕ) (told : Bool) (p : Past) → IsWaiting r kept told true p → kept ≡ [] → told ≡ false
     → IsWaiting r kept true true (with_action (actions.Submit steps.End) (record p { ended = true }))
 tells_end r kept told p w none untold = let o = w.0 in let front : List Step = steps.Connect ∷ map steps.Ask o.asked in (
@@ -403,7 +403,7 @@ tells_end r kept told p w none untold = let o = w.0 in let front : List Step = s
   w.1,
 )
 
--- the same machine's line, in other words for what is kept and told
+-- the same machine's line, under equal names for the kept bytes and the submitted end
 pub open_at : (r : ReaderState) (kept other : List ℕ) (told same : Bool) (out : ℕ) (p : Past) → kept ≡ other → told ≡ same
     → IsOpen r kept told out p → IsOpen r other same out p
 open_at r kept other told same out p e f o =

@@ -1,4 +1,4 @@
--- What holds of each past that a machine stands for.
+-- What holds of each past that a machine represents.
 use Rattle.bq_seat.specs.Past.{IsOrderly, Past}
 use Rattle.bq_seat.specs.SeatStands.{StandsFor}
 use Rattle.bq_seat.specs.declared.machine.SeatMachine.{SeatMachine}

@@ -10,7 +10,7 @@ use Rattle.bq_seat.specs.declared.machine.SeatMachine.{SeatMachine}
 use Rattle.bq_seat.specs.declared.machine.Stage.{Stage}
 use Rattle.bq_seat.specs.declared.machine.Stage.TheVariants as stages
 
--- an open line without the step that the client sends no more
+-- an open line whose end of input was not submitted
 many_steps : (reader : ReaderState) (kept : List ℕ) (told : Bool) (outstanding : ℕ) (p : Past) → told ≡ false → IsOpen reader kept told outstanding p → length p.steps ≡ length p.mail + (outstanding + 1)
 many_steps reader kept told outstanding p none o =
     let steps_are : p.steps ≡ steps.Connect ∷ map steps.Ask o.asked = o.stepped.steps_are ∙ ap (λ (t : Bool). (steps.Connect ∷ map steps.Ask o.asked) ++ end_if t) none ∙ append-nil (steps.Connect ∷ map steps.Ask o.asked) in

@@ -1,10 +1,10 @@
--- Readings that go on behind requests that were asked.
+-- Readings that continue after submitted requests.
 use Rattle.std.proofs.Common.{◌≡◌, ℕ, Bool, true, false, ◌||◌, List, [], ◌∷◌, ◌++◌, ◌⊎◌, inl, inr, refl, sym, ap, ◌∙◌, append_assoc, append-nil, IsTrue}
 use Rattle.bq_job.specs.reading.Reading.{Reads, AreUnits, IsUnit, BeginsNoUnit, is_quit, quits_last, ends_by_quit}
 use Rattle.bq_job.specs.declared.request.Request.{Request}
 use Rattle.bq_seat.specs.SeatStands.{has_quit}
 
--- nothing begins with a whole request
+-- the empty text does not begin with a complete request
 pub BeginsNoUnit-[] : (size : ℕ) → BeginsNoUnit size []
 BeginsNoUnit-[] size [] more request e u = u
 BeginsNoUnit-[] size (b ∷ first) more request e u = cc
@@ -44,7 +44,7 @@ pub ended-append : (asked next : List Request) (R : Type 0) → (IsTrue (ends_by
 ended-append asked next R (inl e) = inl (ends_by_quit-append asked next e)
 ended-append asked next R (inr h) = inr h
 
--- requests that were asked, of which none is quit, and then a reading of what comes after them
+-- submitted requests, none of them quit, and then a reading of what comes after them
 pub Reads-after : (size : ℕ) (text units after rest : List ℕ) (asked next : List Request)
     → text ≡ units ++ after → AreUnits size units asked → has_quit asked ≡ false → Reads size after next rest → Reads size text (asked ++ next) rest
 Reads-after size text units after rest asked next is u q more = record {
@@ -55,7 +55,7 @@ Reads-after size text units after rest asked next is u q more = record {
   ended = ended-append asked next _ more.ended;
 }
 
--- a reading whose rest is a begun request
+-- a reading whose rest is an unfinished request
 pub Reads-begun : (size : ℕ) (text units begun : List ℕ) (asked : List Request)
     → text ≡ units ++ begun → AreUnits size units asked → has_quit asked ≡ false → BeginsNoUnit size begun → Reads size text asked begun
 Reads-begun size text units begun asked is u q none = record {
@@ -70,7 +70,7 @@ Reads-begun size text units begun asked is u q none = record {
     go [] q = refl
     go (r ∷ asked) q = let both = neither (is_quit r) (has_quit asked) q in quits_last-onto r asked both.0 (go asked both.1)
 
--- a reading that ends by a quit, whatever comes after it
+-- a reading that ends with a quit, whatever comes after it
 pub Reads-quit : (size : ℕ) (unit after : List ℕ) (r : Request) → IsUnit size unit r → is_quit r ≡ true → Reads size (unit ++ after) (r ∷ []) after
 Reads-quit size unit after r u q = record {
   units = unit;

@@ -1,4 +1,4 @@
--- The steps of a line, as requests are asked one after another.
+-- The steps of a line, as requests are submitted one after another.
 use Rattle.std.proofs.Common.{◌≡◌, ◌≢◌, ◌+◌, ◌<◌, false, List, [], ◌∷◌, ◌++◌, refl, ap, ◌∙◌, map, length, arith, not, IsTrue}
 use Rattle.bq_job.specs.reading.Reading.{is_quit, ends_by_quit}
 use Rattle.bq_job.specs.promise.LineSteps.{answered_count, is_waiting_request, ends_by_wait}

@@ -1,4 +1,4 @@
--- What an action finds: the line's past with the event that it answers.
+-- What holds when an action is given: the line's past, including the event that the action answers.
 use Rattle.std.specs.Prelude.{ℕ, ◌≡◌, ◌≤◌, ◌+◌, false, List, length, None}
 use Rattle.bq_job.specs.promise.LineSteps.{wanted}
 use Rattle.bq_seat.specs.InTurn.{IsInTurn}
@@ -7,9 +7,10 @@ use Rattle.bq_seat.specs.Served.{IsServed}
 use Rattle.bq_seat.specs.declared.machine.Action.{Action}
 use Rattle.bq_seat.specs.declared.machine.Action.TheVariants as actions
 
--- A step that is submitted comes in its turn. A read finds no close, no end of the input and no fault. A
--- look at the mail finds one answer outstanding at most. A write finds no close and no fault. A line that is
--- over was served, whatever bytes were written to it.
+-- A step is submitted in its turn. When a read is given, the line is not closed, its input has not
+-- ended and nothing failed. When the mail is polled, at most one answer is outstanding. When a
+-- write is given, the line is not closed and nothing failed. When a line has ended, it was served,
+-- whatever bytes were written to it.
 abbrev pub Finds : ℕ → Action → Past → Type 0
 Finds max_job_size (actions.Submit step) p = IsInTurn step p.steps p.mail
 Finds max_job_size actions.Read p = (p.closing ≡ false) × (p.ended ≡ false) × (p.fault ≡ None)

@@ -7,14 +7,14 @@ use Rattle.bq_job.specs.declared.step.Step.TheVariants as steps
 use Rattle.bq_job.specs.promise.LineSteps.{wanted}
 use Rattle.bq_seat.specs.SeatStands.{end_if, has_quit}
 
--- a client that has connected and asked these requests, none of them quit
+-- a client that has connected and made these requests, none of them quit
 pub record HasAsked (asked : List Request) (taken : List Step) : Type 0 where
   pub steps_are : taken ≡ steps.Connect ∷ map steps.Ask asked
   pub no_quit : has_quit asked ≡ false
 
--- When a step is submitted, after the steps that were taken, and so much mail. A connect comes first. A
--- request is asked once those before it are answered. An end is told, and a close comes, behind the
--- connect and the requests; an end is told once. Then one answer at most is outstanding.
+-- When a step is submitted, given the steps and the answers so far. A connect comes first. A
+-- request is submitted once all earlier ones are answered. An end comes after the connect and the
+-- requests, at most once, and a close after these; then at most one answer is outstanding.
 abbrev pub IsInTurn : Step → List Step → List Answer → Type 0
 IsInTurn steps.Connect taken mail = taken ≡ []
 IsInTurn (steps.Ask request) taken mail = (asked : List Request) × HasAsked asked taken × (length mail ≡ length asked)

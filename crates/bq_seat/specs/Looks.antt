@@ -1,4 +1,4 @@
--- What a seat machine does next, by what happened and by the line's past alone.
+-- What a seat machine does next, determined by the event and the line's past alone.
 use Rattle.std.specs.Prelude.{ℕ, ◌≡◌, Bool, false, not, ◌&&◌, MatchBool, nat_lt, if◌then◌else◌, List, [], ◌∷◌, length, Option, Some, None}
 use Rattle.bq_job.specs.declared.answer.Answer.{Answer}
 use Rattle.bq_job.specs.declared.request.Request.{Request}
@@ -13,7 +13,7 @@ use Rattle.bq_seat.specs.declared.machine.Action.TheVariants as actions
 use Rattle.bq_seat.specs.declared.machine.Event.{Event}
 use Rattle.bq_seat.specs.declared.machine.Event.TheVariants as events
 
--- the requests that were asked
+-- the requests that were submitted
 abbrev pub asked_in : List Step → List Request
 asked_in [] = []
 asked_in (steps.Ask request ∷ taken) = request ∷ asked_in taken
@@ -28,12 +28,13 @@ last_step (step ∷ next ∷ taken) = last_step (next ∷ taken)
 abbrev pub is_unanswered : Past → Bool
 is_unanswered p = nat_lt (length p.mail) (wanted p.steps)
 
--- The answer to a request that may wait is outstanding, the input goes on, and no bytes are kept.
+-- The answer to a request that may wait is outstanding, the input has not ended, and no bytes are
+-- kept.
 abbrev pub is_read_on : List ℕ → Past → Bool
 is_read_on [] p = ends_by_wait (asked_in p.steps) && not p.ended
 is_read_on (_ ∷ _) p = false
 
--- Nothing is outstanding: a further request is asked, or the line is read, or it is closed.
+-- No answer is outstanding: the next request is submitted, or the line is read or closed.
 abbrev pub GoesFurther : Action → Type 0
 GoesFurther (actions.Submit (steps.Ask request)) = Unit {0}
 GoesFurther (actions.Submit steps.Close) = Unit {0}
@@ -44,24 +45,26 @@ abbrev pub IsLineOver : Action → Type 0
 IsLineOver (actions.LineOver end) = Unit {0}
 IsLineOver _ = ⊥
 
--- Behind a quit the line is closed. Behind any other step but the connect its answer is looked for.
+-- After a quit the line is closed. After any other step except the connect, the machine polls for
+-- the step's answer.
 abbrev pub LooksBehindStep : Option Step → Action → Type 0
 LooksBehindStep (Some steps.Connect) action = GoesFurther action
 LooksBehindStep (Some (steps.Ask requests.Quit)) action = action ≡ actions.Submit steps.Close
 LooksBehindStep _ action = action ≡ actions.PollMail
 
--- There was nothing to read: the mail is looked at where an answer is outstanding. There was no mail: it is
--- looked at again, but the line is read first while a reserve waits.
+-- If there was nothing to read, the mail is polled if an answer is outstanding. If there was no
+-- mail, it is polled again, except that the line is read first while a reserve waits.
 abbrev pub LooksForMore : Awaited → List ℕ → Past → Action → Type 0
 LooksForMore Awaited.AReading kept p action = action ≡ (if is_unanswered p then actions.PollMail else actions.Read)
 LooksForMore Awaited.AMail kept p action = action ≡ (if not p.closing && is_read_on kept p then actions.Read else actions.PollMail)
 LooksForMore _ kept p action = ⊥
 
--- After the close the mail is looked at until the close's own answer ends the line; other mail is thrown away.
+-- After the close, the mail is polled until the answer to the close ends the line; other mail is
+-- dropped.
 abbrev pub LooksAfterClose : Answer → Action → Type 0
 LooksAfterClose answer action = MatchBool (is_closed_answer answer) (IsLineOver action) (action ≡ actions.PollMail)
 
--- The event, which was awaited, happened to a line of this past, while these bytes were kept.
+-- The awaited event happened to a line with this past, while these bytes were kept.
 abbrev pub LooksOn : Awaited → List ℕ → Event → Past → Action → Type 0
 LooksOn what kept events.Opened p action = action ≡ actions.Submit steps.Connect
 LooksOn what kept events.Submitted p action = LooksBehindStep (last_step p.steps) action

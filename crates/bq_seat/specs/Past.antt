@@ -1,4 +1,4 @@
--- What happened at a connection since its line was opened.
+-- What has happened at a connection since its line was opened.
 use Rattle.std.specs.Prelude.{ℕ, ◌≡◌, Bool, true, false, ◌||◌, if◌then◌else◌, List, [], ◌∷◌, ◌++◌, length, Option, Some, None, is_some}
 use Rattle.std.specs.List.{list_any}
 use Rattle.bq_job.specs.declared.answer.Answer.{Answer}
@@ -12,19 +12,19 @@ use Rattle.bq_seat.specs.declared.machine.Action.{Action}
 use Rattle.bq_seat.specs.declared.machine.Action.TheVariants as actions
 
 pub record Past : Type 0 where
-  -- the bytes that were handed in
+  -- the bytes that were read
   pub bytes : List ℕ
   -- the steps that were submitted, and whether the close is among them
   pub steps : List Step
   pub closing : Bool
-  -- the answers that came before the close was submitted, and those that came since
+  -- the answers that came before the close was submitted, and those that came after it
   pub mail : List Answer
   pub late_mail : List Answer
-  -- the answers that were handed out for writing
+  -- the answers that were given for writing
   pub written : List Answer
   -- whether the client sends no more
   pub ended : Bool
-  -- the first fault, and how many answers had been handed out when it came
+  -- the first fault, and how many answers had been given for writing when it came
   pub fault : Option LineFault
   pub written_at_fault : ℕ
 
@@ -49,7 +49,7 @@ with_mail answer p =
 abbrev pub with_fault : LineFault → Past → Past
 with_fault fault p = if is_some p.fault then p else record p { fault = Some fault; written_at_fault = length p.written }
 
--- The event happened. An opened line begins a past of its own.
+-- The event happened. A newly opened line starts a past of its own.
 abbrev pub with_event : Event → Past → Past
 with_event events.Opened p = no_past
 with_event (events.Bytes bytes) p = record p { bytes = p.bytes ++ bytes.now }
@@ -76,7 +76,7 @@ abbrev pub is_stray : Action → Bool
 is_stray actions.Stray = true
 is_stray _ = false
 
--- The event happened and was answered so. A stray event adds nothing.
+-- The event happened, and the machine answered with this action. A stray event changes nothing.
 abbrev pub past_after : Event → Action → Past → Past
 past_after event action p = if is_stray action then p else with_action action (with_event event p)
 
@@ -84,25 +84,25 @@ past_after event action p = if is_stray action then p else with_action action (w
 abbrev pub first_past : Past
 first_past = past_after events.Opened (actions.Submit steps.Connect) no_past
 
--- The close is among the steps exactly where the past says so, and before it no mail was late.
+-- The close is among the steps if and only if the past says so, and no mail was late before it.
 pub record IsOrderly (p : Past) : Type 0 where
   pub closing : p.closing ≡ has_close p.steps
   pub late : p.closing ≡ false → p.late_mail ≡ []
 
--- what a machine awaits, once it has given an action
+-- what a machine awaits after it has given an action
 pub data Awaited : Type 0 where
-  -- a line that is opened
+  -- that a line is opened
   ALine : Awaited
   -- that a step was submitted
   ASubmission : Awaited
-  -- what a read of the line gave
+  -- the result of a read of the line
   AReading : Awaited
-  -- what a look at the mail gave
+  -- the result of polling the mail
   AMail : Awaited
-  -- what a write to the line gave
+  -- the result of a write to the line
   AWriting : Awaited
 
--- what answers the action; a stray one isn't answered
+-- what answers the action; a stray action awaits nothing
 abbrev pub awaited_by : Action → Option Awaited
 awaited_by (actions.Submit step) = Some Awaited.ASubmission
 awaited_by actions.Read = Some Awaited.AReading

@@ -14,7 +14,7 @@ use Rattle.bq_seat.specs.declared.machine.Told.{Told}
 use Rattle.bq_seat.specs.declared.machine.Told.TheVariants as tellings
 use Rattle.bq_seat.specs.declared.machine.TheConstants.{PIECE_ROOM}
 
--- No more bytes are handed in at once than there is room for.
+-- A piece of bytes fits into the room for it.
 abbrev pub FitsPiece : Event → Type 0
 FitsPiece (events.Bytes bytes) = length bytes.now ≤ PIECE_ROOM
 FitsPiece _ = Unit {0}
@@ -29,22 +29,22 @@ event_told tellings.ReadFault = events.ReadFault
 event_told tellings.WriteDone = events.WriteDone
 event_told tellings.WriteFault = events.WriteFault
 
--- An opened line that was awaited begins by its connect, and has a past of its own.
+-- An awaited line that is opened begins with its connect, and has a past of its own.
 abbrev pub OpensPast : Event → Action → SeatMachine → Type 0
 OpensPast events.Opened action new = is_stray action ≡ false → (action ≡ actions.Submit steps.Connect) × StandsFor new first_past
 OpensPast _ action new = Unit {0}
 
 pub record IsMove (old : SeatMachine) (event : Event) (action : Action) (new : SeatMachine) : Type 0 where
-  -- an event is stray exactly where it doesn't answer the last action
+  -- an event is stray if and only if it does not answer the last action
   pub stray : is_stray action ≡ not (answers event (awaited old))
   pub unchanged : is_stray action ≡ true → new ≡ old
   -- what is awaited next is what answers the action
   pub awaits : is_stray action ≡ false → awaited_by action ≡ Some (awaited new)
   pub limit : new.reader.max_job_size ≡ old.reader.max_job_size
   pub opened : OpensPast event action new
-  -- every past that the machine stands for goes on by this event and this action
+  -- every past that the machine represents continues with this event and this action
   pub past : (p : Past) → StandsFor old p → StandsFor new (past_after event action p)
-  -- with the event, it finds the action
+  -- the past and the event justify the action
   pub finds : is_stray action ≡ false → (p : Past) → StandsFor old p → Finds old.reader.max_job_size action (with_event event p)
-  -- what the machine looks at next
+  -- what the machine does next
   pub looks : is_stray action ≡ false → (p : Past) → StandsFor old p → LooksOn (awaited old) (kept_bytes old) event p action

@@ -1,4 +1,4 @@
--- What the parts of a seat machine's moves do, by its fields.
+-- What the parts of a seat machine's moves do, in terms of its fields.
 use Rattle.std.specs.Prelude.{ℕ, ◌≡◌, ◌==◌, ◌&&◌, Bool, true, false, not, if◌then◌else◌, List, length, Some}
 use Rattle.bq_job.specs.declared.line_end.LineEnd.{LineEnd}
 use Rattle.bq_job.specs.declared.request.Request.{Request}
@@ -17,7 +17,7 @@ use Rattle.bq_seat.specs.declared.machine.SeatMachine.{SeatMachine}
 use Rattle.bq_seat.specs.declared.machine.Stage.{Stage}
 use Rattle.bq_seat.specs.declared.machine.Stage.TheVariants as stages
 
--- Nothing is outstanding, and the machine goes on with this action.
+-- No answer is outstanding, and the machine continues with this action.
 pub record GoesOn (old : SeatMachine) (action : Action) (new : SeatMachine) : Type 0 where
   pub further : GoesFurther action
   pub awaits : awaited_by action ≡ Some (awaited new)
@@ -31,15 +31,15 @@ in_stage stage m = record m { stage = stage }
 abbrev pub holding : List ℕ → SeatMachine → SeatMachine
 holding bytes m = record m { kept = bytes }
 
--- what is awaited once this request was asked
+-- what is awaited after this request was submitted
 abbrev pub asking_stage : Request → Stage
 asking_stage request = if is_quit request then stages.AskingQuit else stages.Asking (is_waiting_request request)
 
--- While a reserve waits, the line is read where no bytes are kept and the input goes on.
+-- While a reserve waits, the line is read if no bytes are kept and the input has not ended.
 abbrev pub reads_on : Bool → SeatMachine → Bool
 reads_on waits m = waits && not m.end_told && (length m.kept == 0)
 
--- An opened line that was awaited begins by its connect.
+-- An awaited line that is opened begins with its connect.
 abbrev pub OpensLine : Event → Action → SeatMachine → Type 0
 OpensLine events.Opened action new = is_stray action ≡ false → (action ≡ actions.Submit steps.Connect) × AgreesWith new first_past
 OpensLine _ action new = Unit {0}
@@ -48,12 +48,13 @@ abbrev pub IfLineOver : Action → (LineEnd → Type 0) → Type 0
 IfLineOver (actions.LineOver end) P = P end
 IfLineOver _ P = Unit {0}
 
--- By this event and this action every past that the machine agrees with was served, whatever was written.
+-- With this event and this action, every past that the machine agrees with was served, whatever was
+-- written.
 abbrev pub ServesAll : SeatMachine → Event → Action → LineEnd → Type 0
 ServesAll old event action end =
     (p : Past) → AgreesWith old p → (written : List ℕ) → IsServed old.reader.max_job_size written end (past_after event action p)
 
--- A move by the machine's fields: the pasts that they agree with go on.
+-- A move in terms of the machine's fields: the pasts that agree with them continue.
 pub record IsStagedMove (old : SeatMachine) (event : Event) (action : Action) (new : SeatMachine) : Type 0 where
   pub stray : is_stray action ≡ not (answers event (awaited old))
   pub unchanged : is_stray action ≡ true → new ≡ old

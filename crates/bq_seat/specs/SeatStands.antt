@@ -1,4 +1,4 @@
--- What a seat machine stands for: the pasts that its fields agree with.
+-- What a seat machine represents: the pasts that its fields agree with.
 use Rattle.std.specs.Prelude.{ℕ, ◌≡◌, ◌+◌, ◌<◌, Bool, true, false, if◌then◌else◌, List, [], ◌∷◌, ◌++◌, length, map, Option, None}
 use Rattle.std.specs.List.{list_any}
 use Rattle.bq_job.specs.declared.answer.Answer.{Answer}
@@ -27,8 +27,8 @@ has_quit asked = list_any is_quit asked
 abbrev pub end_if : Bool → List Step
 end_if told = if told then steps.End ∷ [] else []
 
--- The bytes that were handed in are the units of the requests that were asked, then the text that the
--- reader has begun, then those that are kept.
+-- The bytes that were read are the units of the submitted requests, then the unfinished request in
+-- the reader, then the kept bytes.
 pub record HasReadTo (reader : ReaderState) (kept : List ℕ) (asked : List Request) (bytes : List ℕ) : Type 0 where
   pub units : List ℕ
   pub begun : List ℕ
@@ -37,8 +37,8 @@ pub record HasReadTo (reader : ReaderState) (kept : List ℕ) (asked : List Requ
   pub are_units : AreUnits reader.max_job_size units asked
   pub bytes_are : bytes ≡ units ++ (begun ++ kept)
 
--- The steps are a connect and the requests, none of them quit. An end is told only where the last request
--- may wait and no bytes are kept.
+-- The steps are a connect and the requests, none of them quit. An end is among them only if the
+-- last request may wait and no bytes are kept.
 pub record HasStepped (kept : List ℕ) (told : Bool) (asked : List Request) (taken : List Step) (closing ended : Bool) : Type 0 where
   pub no_quit : has_quit asked ≡ false
   pub steps_are : taken ≡ (steps.Connect ∷ map steps.Ask asked) ++ end_if told
@@ -46,7 +46,7 @@ pub record HasStepped (kept : List ℕ) (told : Bool) (asked : List Request) (ta
   pub closing_is : closing ≡ false
   pub ended_is : ended ≡ told
 
--- So many answers are outstanding; the others were handed out, and nothing failed.
+-- This many answers are outstanding; the others were given for writing, and nothing failed.
 pub record HasHandedOut (outstanding : ℕ) (asked : List Request) (mail late written : List Answer) (fault : Option LineFault) : Type 0 where
   pub written_is : written ≡ mail
   pub answered : length mail + outstanding ≡ length asked
@@ -60,19 +60,19 @@ pub record IsOpen (reader : ReaderState) (kept : List ℕ) (told : Bool) (outsta
   pub stepped : HasStepped kept told asked p.steps p.closing p.ended
   pub handed : HasHandedOut outstanding asked p.mail p.late_mail p.written p.fault
 
--- the same with one answer outstanding, and whether the last request was one that may wait
+-- the same with one answer outstanding; `waits` says whether the last request may wait
 abbrev pub IsWaiting : ReaderState → List ℕ → Bool → Bool → Past → Type 0
 IsWaiting reader kept told waits p =
     (line : IsOpen reader kept told 1 p) × (ends_by_wait line.asked ≡ waits)
 
--- The last step was a quit, and everything asked before it was answered.
+-- The last step was a quit, and all earlier requests were answered.
 pub record HasAskedQuit (p : Past) : Type 0 where
   pub asked : List Request
   pub steps_are : p.steps ≡ (steps.Connect ∷ map steps.Ask asked) ++ steps.Ask requests.Quit ∷ []
   pub answered : length p.mail ≡ length asked
   pub no_quit : has_quit asked ≡ false
 
--- the close was submitted, and its own answer hasn't come
+-- the close was submitted, and its answer has not come
 pub record IsClosing (max_job_size : ℕ) (end : LineEnd) (p : Past) : Type 0 where
   pub served : (written : List ℕ) → IsServedToClose max_job_size written end p
   pub closing_is : p.closing ≡ true
@@ -87,7 +87,7 @@ StandsInStage (stages.Polling waits) reader kept told p = IsWaiting reader kept 
 StandsInStage stages.ReadingOn reader kept told p = IsWaiting reader kept told true p × (kept ≡ []) × (told ≡ false)
 StandsInStage stages.TellingEnd reader kept told p = IsWaiting reader kept told true p × (told ≡ true)
 StandsInStage stages.Writing reader kept told p = IsOpen reader kept told 0 p × (0 < length p.written)
--- a quit was asked, and a close is right
+-- a quit was submitted, and the line may be closed
 StandsInStage stages.AskingQuit reader kept told p =
     (p.closing ≡ false) × IsClosing reader.max_job_size ends.Quit (with_action (actions.Submit steps.Close) p) × HasAskedQuit p
 StandsInStage (stages.Closing end) reader kept told p = IsClosing reader.max_job_size end p
@@ -97,12 +97,12 @@ StandsInStage (stages.Leaving end) reader kept told p = IsClosing reader.max_job
 abbrev pub AgreesWith : SeatMachine → Past → Type 0
 AgreesWith m p = StandsInStage m.stage m.reader m.kept m.end_told p
 
--- The machine stands for this past. Nobody above the seat looks into it: what follows from it is what the
+-- The machine represents this past. Crates above the seat do not unfold this; they use what the
 -- machine's moves say.
 unfoldable pub StandsFor : SeatMachine → Past → Type 0
 StandsFor m p = AgreesWith m p × IsOrderly p
 
--- whether bytes are kept that came behind the requests that were asked
+-- bytes that came after the submitted requests
 abbrev pub kept_bytes : SeatMachine → List ℕ
 kept_bytes m = m.kept
 

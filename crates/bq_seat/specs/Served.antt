@@ -10,25 +10,26 @@ use Rattle.bq_job.specs.promise.LineSteps.{LineSeen, IsStepsOfLine, AreAllAnswer
 use Rattle.bq_job.specs.machine.OneClient.{has_closed}
 use Rattle.bq_seat.specs.Past.{Past}
 
--- the line, as far as the machine has seen it, if these bytes were written to it
+-- the line, as the machine has seen it, if these bytes were written to it
 abbrev pub seen_line : List ℕ → Past → LineSeen
 seen_line bytes p = record { read = p.bytes; written = bytes; ended = p.ended; fault = p.fault }
 
--- A write fault came on the last answer that was handed out.
+-- A write fault came on the last answer that was given for writing.
 abbrev pub IsLastBroken : LineEnd → Past → Type 0
 IsLastBroken ends.WriteFault p = p.written_at_fault ≡ length p.written
 IsLastBroken _ p = Unit {0}
 
--- the fault that a line has that is over so
+-- the fault of a line that ended this way
 abbrev pub IsFaultOf : LineEnd → Option LineFault → Type 0
 IsFaultOf ends.Quit fault = fault ≡ None
 IsFaultOf ends.EndOfInput fault = fault ≡ None
 IsFaultOf ends.ReadFault fault = fault ≡ Some faults.Read
 IsFaultOf ends.WriteFault fault = fault ≡ Some faults.Write
 
--- A line was served from its opening to its close, which was submitted: its steps are those of the line.
--- The answers that were handed out for writing are those that came before the close, in their order: one
--- for each request but quit, of which after a read fault that to a last request that may wait can be missing.
+-- A line was served from its opening until its close was submitted: its steps are those of the
+-- line. The answers given for writing are those that came before the close, in order: one for each
+-- request except quit. After a read fault, the answer to a last request that may wait can be
+-- missing.
 pub record IsServedToClose (max_job_size : ℕ) (written : List ℕ) (end : LineEnd) (p : Past) : Type 0 where
   pub line : IsStepsOfLine max_job_size (heard (seen_line written p)) end p.steps
   pub handed_out : p.written ≡ p.mail
@@ -36,13 +37,13 @@ pub record IsServedToClose (max_job_size : ℕ) (written : List ℕ) (end : Line
   pub broken : IsLastBroken end p
   pub fault : IsFaultOf end p.fault
 
--- What came behind the close ends by the close's own answer, the first of its kind.
+-- The answers after the close end with the close's own, which is the first of its kind.
 pub record EndsByClosed (late : List Answer) : Type 0 where
   pub others : List Answer
   pub late_is : late ≡ others ++ Closed ∷ []
   pub none_closed : has_closed others ≡ false
 
--- A line that is over was served to its close, and the close was answered.
+-- A line that has ended was served until its close, and the close was answered.
 pub record IsServed (max_job_size : ℕ) (written : List ℕ) (end : LineEnd) (p : Past) : Type 0 where
   pub to_close : IsServedToClose max_job_size written end p
   pub late : EndsByClosed p.late_mail

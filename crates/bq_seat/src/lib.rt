@@ -1,6 +1,6 @@
-//! What a connection does next: a machine that is told what happened to a client's line, and answers
-//! what to do. It reads requests out of the line's bytes, submits the line's steps, and hands out the
-//! answers that come for it.
+//! What a connection does next: a state machine that receives events of a client's line and answers
+//! with actions. It reads requests from the line's bytes, submits the line's steps, and returns
+//! their answers for writing. It does no input or output itself.
 #![tactic(auto)]
 
 pub use bq_job::LineEnd;

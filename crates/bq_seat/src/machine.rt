@@ -1,4 +1,4 @@
-//! The machine of a connection, and the bytes that it keeps.
+//! The state machine of a connection, and the bytes that it keeps.
 ghost use Rattle.std.specs.Prelude.{◌≡◌, ◌==◌, ◌≤◌, [], ◌++◌, length, drop, not, IfOk, if◌then◌else◌};
 ghost use Rattle.bq_seat.specs.SeatParts.{asking_stage};
 
@@ -7,14 +7,14 @@ use bq_wire::RequestReader;
 use std::alloc::Global;
 use std::marker::Model;
 
-/// What happened to a connection since the machine's last action.
+/// What happened at a connection in answer to the machine's last action.
 #[derive(Debug, Drop)]
 pub enum Event<'a> {
     /// A line was opened.
     Opened,
     /// The step was submitted.
     Submitted,
-    /// These bytes were read, 4,096 at most.
+    /// These bytes were read, at most 4,096.
     Bytes(&'a [u8]),
     /// There was nothing to read, or no mail.
     NothingYet,
@@ -24,19 +24,19 @@ pub enum Event<'a> {
     ReadFault,
     /// This answer came.
     Mail(Answer),
-    /// The answer was written whole.
+    /// The whole answer was written.
     WriteDone,
     /// A write to the line failed.
     WriteFault,
 }
 
-/// An event that brings no answer, each as the one of its name. An `Event` has room for an answer, which a call fills before
-/// it makes one, and that takes longer than most events do.
+/// An event that carries no answer, named like its counterpart in `Event`. An `Event` reserves room
+/// for an answer, and initializing that room takes longer than handling most events.
 #[derive(Debug, Drop)]
 pub enum Told<'a> {
     /// The step was submitted.
     Submitted,
-    /// These bytes were read, 4,096 at most.
+    /// These bytes were read, at most 4,096.
     Bytes(&'a [u8]),
     /// There was nothing to read, or no mail.
     NothingYet,
@@ -44,7 +44,7 @@ pub enum Told<'a> {
     EndOfInput,
     /// A read of the line failed.
     ReadFault,
-    /// The answer was written whole.
+    /// The whole answer was written.
     WriteDone,
     /// A write to the line failed.
     WriteFault,
@@ -57,32 +57,32 @@ pub enum Action {
     Submit(Step),
     /// Read from the line.
     Read,
-    /// Look whether an answer has come.
+    /// Check whether an answer has come.
     PollMail,
     /// Write the text of this answer to the line.
     Write(Answer),
-    /// The line is over. The next one may be opened.
+    /// The line has ended. The next one may be opened.
     LineOver(LineEnd),
-    /// The event doesn't answer the last action, and nothing was changed.
+    /// The event does not answer the last action. Nothing was changed.
     Stray,
 }
 
-/// What the machine did last, and so which events answer it.
+/// What the machine did last, and thus which events answer it.
 #[derive(Clone, Copy, PartialEq, Eq)]
 enum Stage {
-    /// No line is open, and an opened one is awaited.
+    /// No line is open; the machine waits for one.
     Between,
     /// The client's connect is being submitted.
     Connecting,
-    /// The line is being read, and nothing is outstanding.
+    /// The line is being read, and no answer is outstanding.
     Reading,
-    /// A request is being submitted. `waits` says that it is a reserve, whose answer may take long.
+    /// A request is being submitted. If `waits`, it is a reserve, whose answer may take long.
     Asking { waits: bool },
-    /// The answer to a request is awaited.
+    /// The machine polls for the answer to a request. If `waits`, it is a reserve.
     Polling { waits: bool },
     /// The line is being read while a reserve waits.
     ReadingOn,
-    /// It is being submitted that the client sends no more.
+    /// The end of the client's input is being submitted.
     TellingEnd,
     /// An answer is being written.
     Writing,
@@ -90,18 +90,18 @@ enum Stage {
     AskingQuit,
     /// The close is being submitted.
     Closing(LineEnd),
-    /// The close's own answer is awaited, and other mail is thrown away.
+    /// The machine polls for the answer to the close, and drops other mail.
     Leaving(LineEnd),
 }
 
-/// The decisions for one connection at a time. One machine serves line after line.
+/// The state machine of a seat, which serves one connection at a time, line after line.
 #[derive(Drop)]
 pub struct SeatMachine {
     reader: RequestReader,
-    /// Bytes that came behind the requests that were asked.
+    /// Bytes that came after the submitted requests.
     kept: Kept,
     stage: Stage,
-    /// Whether it was submitted that the client sends no more.
+    /// True if the end of the client's input was submitted.
     end_told: bool,
 }
 
@@ -114,8 +114,9 @@ impl SeatMachine {
     ghost use Rattle.bq_seat.specs.SeatParts.{GoesOn, IsStagedMove, asking_stage, holding, in_stage, reads_on};
     ghost use Rattle.bq_seat.specs.SeatStands.{awaited, kept_bytes};
 
-    /// A machine that awaits its first line. Bodies of more than `max_job_size` bytes, of 1 to 1,048,576,
-    /// are refused. All memory but that for bodies is asked for here.
+    /// Returns a machine that waits for its first line. It rejects bodies of more than
+    /// `max_job_size` bytes, which must be 1 to 1,048,576. Everything except bodies is allocated
+    /// here; returns `NoMemory` if that fails.
     pub fn new(alloc: Global, max_job_size: u32) -> Result<SeatMachine, NoMemory>
         requires { (1 ≤ max_job_size) × (max_job_size ≤ LARGEST_BODY) }
         ensures awaits { IfOk result (λ machine. awaited machine ≡ Awaited.ALine) }
@@ -131,15 +132,16 @@ impl SeatMachine {
         })
     }
 
-    /// What to do, now that this has happened. Takes no memory but for the body of a put.
+    /// Returns the next action after this event. It allocates only the body of a put.
     ///
-    /// An event that doesn't answer the last action changes nothing, and the action is `Stray`. At most
-    /// 4,096 bytes are handed in at once.
+    /// An event that does not answer the last action changes nothing, and the result is `Stray`. A
+    /// piece of bytes is at most 4,096 long.
     pub fn on(&mut self, alloc: Global, event: Event<'_>) -> Action
         requires { FitsPiece event }
-        // It is stray exactly where it doesn't answer the last action, and then nothing changes. Each past
-        // of the line that the machine stands for goes on by this event and this action, finds the action
-        // and says what is looked at next; where the line is over it was served.
+        // The event is stray if and only if it does not answer the last action, and then nothing
+        // changes. Otherwise every past that the machine represents continues with this event and
+        // this action, justifies the action, and determines what the machine does next; a line that
+        // has ended was served.
         ensures { IsMove self.old event.entry result self.new }
     {
         let mut next = Action::Stray;
@@ -147,8 +149,9 @@ impl SeatMachine {
         next
     }
 
-    /// The same as `on`, with the action put in the place of another, which may be the last one: an action and
-    /// what it carries is not moved on the way. What lay there has no meaning.
+    /// Does the same as `on`, but writes the action to `next`, so that the action and what it
+    /// carries are not copied. The previous content of `next`, which may be the last action, is
+    /// ignored.
     pub fn on_in_place(&mut self, alloc: Global, event: Event<'_>, next: &mut Action)
         requires { FitsPiece event }
         ensures { IsMove self.old event.entry next.new self.new }
@@ -169,7 +172,7 @@ impl SeatMachine {
         }
     }
 
-    /// The same as `on_in_place` by an event that brings no answer.
+    /// Does the same as `on_in_place` for an event that carries no answer.
     pub fn on_told(&mut self, alloc: Global, told: Told<'_>, next: &mut Action)
         requires { FitsPiece (event_told told) }
         ensures { IsMove self.old (event_told told.entry) next.new self.new }
@@ -185,8 +188,8 @@ impl SeatMachine {
         }
     }
 
-    /// The same as `on_in_place` by mail whose answer lies in the place already, to be written: where that is done
-    /// next, it stays where it lies.
+    /// Does the same as `on_in_place` for mail. The answer must already be in `next` as a `Write`;
+    /// if it is to be written, it stays there.
     pub fn mail_in_place(&mut self, next: &mut Action)
         ensures { (answer : Answer) → next.old ≡ Action.Write answer
             → IsMove self.old (Event.Mail answer) next.new self.new }
@@ -194,8 +197,8 @@ impl SeatMachine {
         self.mail(next)
     }
 
-    /// Whether a request waits for its answer while the line is read. Where it does, a read that waits would
-    /// keep the answer from the client.
+    /// Returns true if a request waits for its answer while the line is read. A blocking read would
+    /// then keep the answer from the client.
     #[tactic(auto, using(crate::proofs::OutstandingLemmas::reads_alone, crate::proofs::OutstandingLemmas::reads_with_one))]
     pub fn has_outstanding(&self) -> bool
         ensures { ReadsWith result self.now }
@@ -206,7 +209,7 @@ impl SeatMachine {
         }
     }
 
-    /// Whether bytes lie here that came behind the requests that were asked.
+    /// Returns true if the machine keeps bytes that came after the submitted requests.
     pub fn has_unread(&self) -> bool
         ensures { result ≡ not (length (kept_bytes self.now) == 0) }
     {
@@ -320,8 +323,8 @@ impl SeatMachine {
         }
     }
 
-    // Nothing is outstanding: the next request of the bytes that are kept is asked. Where they have
-    // none, more is read, or the line is closed if the client sends no more.
+    // No answer is outstanding: submits the next request in the kept bytes. If they contain none,
+    // it reads more, or closes the line if the client sends no more.
     fn go_on(&mut self, alloc: Global, next: &mut Action)
         ensures { GoesOn self.old next.new self.new }
     {
@@ -342,8 +345,8 @@ impl SeatMachine {
         }
     }
 
-    // The same where nothing is kept and these bytes came: the request is read where they lie, and only
-    // what came behind it is kept.
+    // Does the same if no bytes are kept and these bytes came. It parses the request directly from
+    // `bytes`, and keeps only the bytes after it.
     fn take_in(&mut self, alloc: Global, bytes: &[u8], next: &mut Action)
         requires { length bytes.now ≤ PIECE_ROOM }
         ensures { GoesOn (holding bytes.now self.old) next.new self.new }
@@ -384,7 +387,7 @@ impl SeatMachine {
         *next = Action::PollMail;
     }
 
-    // No answer has come yet: while a reserve waits, the line is read if no bytes are kept.
+    // No answer has come yet. While a reserve waits, the line is read if no bytes are kept.
     fn no_mail_yet(&mut self, waits: bool, next: &mut Action)
         ensures action { next.new
             ≡ (if reads_on waits self.old then Action.Read else Action.PollMail) }
@@ -415,7 +418,7 @@ impl SeatMachine {
         *next = Action::PollMail;
     }
 
-    // The close's own answer ends the line. Other mail is thrown away.
+    // The answer to the close ends the line. Other mail is dropped.
     fn mail_after_close(&mut self, end: LineEnd, next: &mut Action)
         ensures action { (answer : Answer) → next.old ≡ Action.Write answer
             → next.new ≡ (if is_closed_answer answer then Action.LineOver end else Action.PollMail) }
@@ -442,10 +445,11 @@ fn stage_of(request: &Request) -> Stage
     }
 }
 
-/// How many bytes can be handed in at once.
+/// The largest piece of bytes that can be passed in at once.
 pub const PIECE_ROOM: usize = 4096;
 
-/// Bytes that were handed in and that nobody has read yet. Contracts see it as these bytes.
+/// Bytes that were passed in and have not been parsed. In contracts, its value is the list of these
+/// bytes.
 #[derive(Drop)]
 pub struct Kept {
     room: Vec<u8, Global>,
@@ -465,7 +469,7 @@ impl Model for Kept {
 }
 
 impl Kept {
-    /// Makes the room for any piece.
+    /// Allocates room for the largest piece. Returns `NoMemory` if that fails.
     pub fn new(alloc: Global) -> Result<Kept, NoMemory>
         ensures { IfOk result (λ kept. kept ≡ []) }
     {
@@ -479,6 +483,7 @@ impl Kept {
         }
     }
 
+    /// Removes all bytes.
     pub fn clear(&mut self)
         ensures { self.new ≡ [] }
     {
@@ -486,19 +491,21 @@ impl Kept {
         self.to = 0;
     }
 
+    /// Returns true if no bytes are kept.
     pub fn is_empty(&self) -> bool
         ensures { result ≡ (length self.now == 0) }
     {
         self.from == self.to
     }
 
+    /// Returns the kept bytes.
     pub fn as_slice(&self) -> &[u8]
         ensures { result.now ≡ self.now }
     {
         &self.room[self.from..self.to]
     }
 
-    /// Keeps this piece in place of what was kept.
+    /// Replaces the kept bytes with this piece.
     pub fn replace(&mut self, piece: &[u8])
         requires { length piece.now ≤ PIECE_ROOM }
         ensures { self.new ≡ piece.now }
@@ -508,7 +515,7 @@ impl Kept {
         self.to = piece.len();
     }
 
-    /// Keeps what lies behind the first `n` bytes of this piece, in place of what was kept.
+    /// Replaces the kept bytes with this piece without its first `n` bytes.
     pub fn replace_by_rest(&mut self, piece: &[u8], n: usize)
         requires fits { length piece.now ≤ PIECE_ROOM }
         requires within { n ≤ length piece.now }
@@ -517,7 +524,7 @@ impl Kept {
         self.replace(&piece[n..]);
     }
 
-    /// Keeps the first `n` bytes no longer.
+    /// Removes the first `n` bytes.
     pub fn drop_front(&mut self, n: usize)
         requires { n ≤ length self.old }
         ensures { self.new ≡ drop n self.old }
@@ -526,7 +533,7 @@ impl Kept {
     }
 }
 
-// Writes the bytes over the first ones of the room.
+// Overwrites the first bytes of `room` with `bytes`.
 fn write_front(room: &mut [u8], bytes: &[u8])
     requires { length bytes.now ≤ length room.old }
     ensures { room.new ≡ bytes.now ++ drop (length bytes.now) room.old }
