@@ -1,4 +1,4 @@
--- Each step on the intake keeps its rule.
+-- Each operation on the intake keeps its rule.
 use Rattle.std.proofs.Common.{◌≡◌, ℕ, ◌<◌, true, List, [], ◌∷◌, ◌++◌, Option, Some, None, refl, sym, ap, ◌∙◌, subst, append_assoc, lt_of_not-le}
 use mathlib.Core.Option.{some, some-ne-none}
 use lib.ListN.{get_elem?}
@@ -22,7 +22,7 @@ begins was start = record {
   takes = each_more (IsCorePass 0 (λ _. None) [] []) [] (core_view [] [] 0) (λ j u e. absurd (some-ne-none u (sym e))) (λ _. (refl, refl, (λ _ _. refl), tt, tt));
 }
 
--- the core's pass, as a step is submitted under a number that is given
+-- the core's pass, when a step is submitted under a number that has been given
 core_grows : (core : ℕ) (owner : ℕ → Option ℕ) (history taken : List (ℕ × Step)) (t : ℕ × Step) (from j : ℕ) (u : View) → owner t.0 ≡ Some from → IsCorePass core owner history taken j u → IsCorePass core owner (history ++ t ∷ []) taken j u
 core_grows core owner history taken t from j u is old may = let o = old may in (
   o.0,
@@ -54,7 +54,7 @@ submits was n pass v step may stays items views room h at =
       refl,
     )
 
--- the same, where the pass's number is known by another name
+-- the same, if the pass's number is known under another name
 pub submits_as : (was : Past) (n pass : ℕ) (v : View) (number : ℕ) (step : Step) → v.submits ≡ true → v.number ≡ number → MaySubmit was n number step → Pushes (Delivers was) n pass v (number, step) (λ w. w ≡ record v { submitted = v.submitted ++ step ∷ [] })
 submits_as was n pass v number step may is = subst (λ k. MaySubmit was n k step → Pushes (Delivers was) n pass v (k, step) (λ w. w ≡ record v { submitted = v.submitted ++ step ∷ [] })) is (submits was n pass v step may)
 
@@ -78,19 +78,19 @@ takes was pass v may stays x items views h at =
       (refl, below_at v.made h.taken items x (subst (AreBelow v.made) h.whole mine.3)),
     )
 
--- where the intake is full
+-- if the intake is full
 pub waits : (was : Past) (pass : ℕ) (v : View) → v.submits ≡ true → Learns (Delivers was) pass v (WaitsOf was v)
 waits was pass v may items views h at = (h.taken, h.real, ap (steps_of v.number) (sym h.whole) ∙ (h.seats pass v at may).1)
 
--- what was taken and what waits, as the core's pass sees it
+-- the taken steps and those that wait, as the core's pass sees them
 seen : (was : Past) (pass : ℕ) (v : View) (items : List (ℕ × Step)) (views : List View) → v.takes ≡ true → (h : Delivers was items views) → get_elem? views pass ≡ some v → h.history ≡ v.taken ++ items
 seen was pass v items views may h at = h.whole ∙ ap (λ l. l ++ items) (sym (h.takes pass v at may).1)
 
--- that it is so of both
+-- the record holds for both
 real : (was : Past) (pass : ℕ) (v : View) (items : List (ℕ × Step)) (views : List View) → v.takes ≡ true → (h : Delivers was items views) → get_elem? views pass ≡ some v → was v.taken items
 real was pass v items views may h at = subst (λ l. was l items) (sym (h.takes pass v at may).1) h.real
 
--- where the intake is empty
+-- if the intake is empty
 pub covered : (was : Past) (pass : ℕ) (v : View) → v.takes ≡ true → Learns (Delivers was) pass v (λ items. was v.taken items × Covers (v.taken ++ items) v.told)
 covered was pass v may items views h at = (real was pass v items views may h at, subst (λ l. Covers l v.told) (seen was pass v items views may h at) (h.takes pass v at may).4)
 

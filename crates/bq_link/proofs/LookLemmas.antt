@@ -1,4 +1,5 @@
--- A refusal can't be told where no look met a full intake, nor that nothing waits where none met an empty one.
+-- No refusal is possible if no call met a full intake, and no empty result if none met an empty
+-- one.
 use Rattle.std.proofs.Common.{◌≡◌, ℕ, ◌+◌, ◌<◌, ⊎_elim, inl, inr, List, [], ◌∷◌, ◌++◌, length, sym, ap, ◌∙◌, append_assoc, arith}
 use Rattle.std.proofs.lemmas.List.{length-append}
 use Rattle.bq_job.specs.declared.step.Step.{Step}
@@ -7,7 +8,7 @@ use Rattle.bq_link.specs.Looks.{TellsNoRefusal, TellsNoneEmpty}
 use Rattle.bq_link.specs.Submissions.{steps_of}
 use Rattle.bq_link.proofs.SubmissionLemmas.{of_own}
 
--- one step more of the end's
+-- one more step of the end
 longer : (number : ℕ) (step : Step) (taken waiting : List (ℕ × Step)) → length (steps_of number (taken ++ (waiting ++ (number, step) ∷ []))) ≡ length (steps_of number (taken ++ waiting)) + 1
 longer number step taken waiting = ap (λ l. length (steps_of number l)) (sym (append_assoc taken waiting ((number, step) ∷ [])))
     ∙ ap length (of_own number step (taken ++ waiting)) ∙ length-append (steps_of number (taken ++ waiting)) (step ∷ [])

@@ -1,4 +1,4 @@
--- The ends, as they are made one after the other.
+-- The ends, made one after the other.
 use Rattle.std.proofs.Common.{◌≡◌, ℕ, zero, suc, ◌+◌, ◌<◌, ◌≤◌, List, [], ◌∷◌, ◌++◌, Some, None, length, refl, slice_get, sym, ap, ◌∙◌, subst, arith}
 use Rattle.std.proofs.lemmas.List.{get_or_append_left, get_or_push, length-append, replicate_more}
 use mathlib.Core.Logic.{dite}

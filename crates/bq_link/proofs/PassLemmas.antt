@@ -1,4 +1,4 @@
--- Passes are made, joined and parted under the rule of the intake.
+-- Passes are made, joined and split under the rule of the intake.
 use Rattle.std.proofs.Common.{◌≡◌, ◌≢◌, ℕ, ◌+◌, ⊎_elim, true, false, List, [], ◌∷◌, Option, None, length, set, sym, ◌∙◌, arith}
 use Rattle.std.proofs.lemmas.List.{append-nil}
 use mathlib.Core.Option.{some}
@@ -11,7 +11,7 @@ use Rattle.bq_link.specs.Submissions.{Past}
 use Rattle.bq_link.proofs.SubmissionLemmas.{below_more, of_none}
 use Rattle.bq_link.proofs.ViewLemmas.{Each, apart, differ, each_more, each_set, given, given_else, given_here, no}
 
--- a pass that may do nothing
+-- a pass that permits nothing
 pub blanks : (was : Past) (pass : ℕ) (v : View) → Forks (Delivers was) pass v v blank_view
 blanks was pass v items views h at = record {
   core = h.core;
@@ -51,7 +51,7 @@ makes was pass v may items views h at =
           (λ e. no e);
     }
 
--- the core's pass takes an end's in
+-- the core's pass absorbs that of an end
 pub joins : (was : Past) (pass : ℕ) (v : View) (other : ℕ) (w : View) → v.takes ≡ true → w.submits ≡ true
     → Merges (Delivers was) pass v other w (record v { submits = true; number = w.number; submitted = w.submitted; told = (w.number, w.submitted) ∷ v.told }) blank_view
 joins was pass v other w may and items views h at two at' =
@@ -79,7 +79,7 @@ joins was pass v other w may and items views h at two at' =
       takes = each_set Then vs other blank_view (λ e. no e) (λ j u _ e. then' j u e);
     }
 
--- and gives it back
+-- and splits it off again
 pub parts : (was : Past) (pass : ℕ) (v : View) → v.takes ≡ true → v.submits ≡ true → Forks (Delivers was) pass v (record v { submits = false }) (seat_view v.number v.submitted)
 parts was pass v may and items views h at =
     let left : View = record v { submits = false } in

@@ -1,4 +1,4 @@
--- The rings of the core's end, as one of them is used.
+-- The rings of the core's end, when one is used.
 use Rattle.std.specs.Prelude.{◌↔◌, IsTrue}
 use Rattle.std.proofs.Common.{◌≡◌, ℕ, Bool, true, false, not, refl, zero, suc, ◌+◌, ◌<◌, ◌≤◌, Global, None, Some, is_some, slice_get, true≢false, List, [], ◌∷◌, ◌++◌, map, length, get_or, set, sym, ap, ◌∙◌, subst, arith}
 use Rattle.std.proofs.lemmas.List.{get_or-map, get_or-set_same, length-map, length-set, map-set, set-get_or}
@@ -49,7 +49,7 @@ within_of c old k number is at within =
     let count : length old.rings ≡ length c.rings.items = ap (λ (s : CoreState). length s.rings) (sym is) ∙ length_rings c in
     subst (λ (n : ℕ × ℕ). n.0 < n.1) (λ i. (sym at i, count i)) within
 
--- an element that was found is there
+-- an element that was found is in the list
 pub found_within : {X : Type 0} (xs : List X) (n : ℕ) (x : X) → slice_get xs n ≡ Some x → n < length xs
 found_within [] n x e = absurd (some_not_none x e)
   where
@@ -58,11 +58,11 @@ found_within [] n x e = absurd (some_not_none x e)
 found_within (y ∷ ys) zero x e = omega arith
 found_within (y ∷ ys) (suc n) x e = let rest = found_within ys n x e in omega arith
 
--- a ring that was looked at twice
+-- a ring that was checked twice
 pub looked_twice : (a b c : Ring) → SameProducer a b → SameProducer b c → SameProducer a c
 looked_twice a b c first second = ((second.0.0 ∙ first.0.0, second.0.1 ∙ first.0.1, second.0.2 ∙ first.0.2, second.0.3 ∙ first.0.3), second.1 ∙ first.1)
 
--- whether a ring is full, as its end tells
+-- whether a ring is full, as its end reports
 pub some_room : (free room : ℕ) (full : Bool) → (IsTrue full ↔ (free ≡ 0)) → room ≡ free → not full ≡ true → 0 < room
 some_room zero room full tells same e = let t : full ≡ true = tells.1 refl in absurd (let no : false ≡ true = rw t at e in cc)
 some_room (suc n) room full tells same e = rw same (omega arith)
@@ -71,7 +71,7 @@ pub no_room : (free : ℕ) (full : Bool) → (IsTrue full ↔ (free ≡ 0)) → 
 no_room free true tells e = tells.0 refl
 no_room free false tells e = absurd cc
 
--- what isn't free in a ring is an answer that waits
+-- a place of a ring that isn't free holds a waiting answer
 pub free_or_waiting : (first free sent places received waiting : ℕ) → first + sent ≡ places + received → received + waiting ≡ sent → first ≤ free → places ≤ free + waiting
 free_or_waiting first free sent places received waiting all parts less = omega arith
 

@@ -28,7 +28,7 @@ of_other number from step all other = of_joined number all ((from, step) ∷ [])
 pub of_parts : (number : ℕ) (taken items : List (ℕ × Step)) (submitted : List Step) → steps_of number (taken ++ items) ≡ submitted → submitted ≡ steps_of number taken ++ steps_of number items
 of_parts number taken items submitted is = sym is ∙ of_joined number taken items
 
--- an end with a number that isn't given has none
+-- an end with a number that has not been given has no steps
 pub of_none : (number : ℕ) (all : List (ℕ × Step)) → AreBelow number all → steps_of number all ≡ []
 of_none number [] below = refl
 of_none number (t ∷ ts) below = of_joined number (t ∷ []) ts ∙ ap (λ l. l ++ steps_of number ts) (of_one number t false (ne_eqb t.0 number (λ e. omega (arith, e, below.0)))) ∙ of_none number ts below.1

@@ -18,7 +18,8 @@ seat_view number submitted = record {
   made = 0;
 }
 
--- what the core's thread knows: what it took, what it was told of, and how many ends were made
+-- what the core's thread knows: the steps that it took, the submissions that it knows of, and the
+-- number of ends
 abbrev pub core_view : List (ℕ × Step) → List (ℕ × List Step) → ℕ → View
 core_view taken told made = record {
   submits = false;
@@ -30,21 +31,23 @@ core_view taken told made = record {
   made = made;
 }
 
--- nothing is known, and nothing may be done
+-- nothing is known, and nothing is permitted
 abbrev pub blank_view : View
 blank_view = record (seat_view 0 []) { submits = false }
 
--- one pass alone submits under a number, and it knows all steps with it
+-- only one pass submits under a number, and it knows all steps with that number
 abbrev pub IsSeatPass : (ℕ → Option ℕ) → List (ℕ × Step) → ℕ → View → Type 0
 IsSeatPass owner history pass v = v.submits ≡ true → (owner v.number ≡ Some pass) × (steps_of v.number history ≡ v.submitted)
 
--- one pass alone takes, and it knows all that was taken; nobody has submitted under a number that isn't given
+-- only one pass takes, and it knows all steps that were taken; no pass submits under a number that
+-- has not been given
 abbrev pub IsCorePass : ℕ → (ℕ → Option ℕ) → List (ℕ × Step) → List (ℕ × Step) → ℕ → View → Type 0
 IsCorePass core owner history taken pass v = v.takes ≡ true
     → (pass ≡ core) × (v.taken ≡ taken) × ((number : ℕ) → v.made ≤ number → owner number ≡ None)
     × AreBelow v.made history × Covers history v.told
 
--- what was submitted is what was taken and then what waits, each pass knows its part of it, and this is so of what was taken and what waits
+-- the submitted steps are those that were taken and then those that wait, each pass knows its part,
+-- and the record holds
 pub record Delivers (was : Past) (items : List (ℕ × Step)) (views : List View) : Type 0 where
   pub core : ℕ
   pub owner : ℕ → Option ℕ
@@ -55,6 +58,6 @@ pub record Delivers (was : Past) (items : List (ℕ × Step)) (views : List View
   pub seats : (pass : ℕ) (v : View) → get_elem? views pass ≡ some v → IsSeatPass owner history pass v
   pub takes : (pass : ℕ) (v : View) → get_elem? views pass ≡ some v → IsCorePass core owner history taken pass v
 
--- some steps were taken, and with those that wait the end's are all that it submitted
+-- some steps were taken, and with those that wait, the end's steps are all that it submitted
 abbrev pub WaitsOf : Past → View → List (ℕ × Step) → Type 0
 WaitsOf was v items = (taken : List (ℕ × Step)) × was taken items × (steps_of v.number (taken ++ items) ≡ v.submitted)

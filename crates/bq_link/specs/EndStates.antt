@@ -1,4 +1,4 @@
--- What contracts see of the ends.
+-- The values of the ends in contracts.
 use Rattle.std.specs.Prelude.{ℕ, ◌≡◌, ◌++◌, List, [], length, slice_get, slice_index_or, Some}
 use denote.RawPtr.{Ptr}
 use Rattle.atomic_table.specs.Seated.{TableId}
@@ -6,7 +6,7 @@ use Rattle.bq_job.specs.declared.answer.Answer.{Answer}
 use Rattle.bq_job.specs.declared.step.Step.{Step}
 use Rattle.bq_link.specs.Submissions.{Past, steps_of}
 
--- which ring it is
+-- the identity of a ring
 pub record RingId : Type 0 where
   pub words : Ptr
   pub slots : Ptr
@@ -18,8 +18,8 @@ pub record IntakeState : Type 0 where
   pub places : ℕ
   pub bells : ℕ
 
--- A seat's end: its number, the intake and the ring that it belongs to, all that it submitted, the answers
--- that it took, and those that it knows to wait.
+-- A seat's end: its number, its intake and ring, all steps that it submitted, the answers that it
+-- took, and those that it knows to be waiting.
 pub record SeatState : Type 0 where
   pub number : ℕ
   pub intake : TableId
@@ -28,8 +28,8 @@ pub record SeatState : Type 0 where
   pub taken : List Answer
   pub waiting : List Answer
 
--- The core's end: the intake and the rings that it belongs to, the steps that it took, those that it was
--- told of, the answers that it sent to each end, and how many more it knows each ring to have room for.
+-- The core's end: its intake and rings, the steps that it took, the submissions that it knows of,
+-- the answers that it sent to each end, and how many more each ring is known to have room for.
 pub record CoreState : Type 0 where
   pub intake : TableId
   pub rings : List RingId
@@ -38,7 +38,7 @@ pub record CoreState : Type 0 where
   pub sent : List (List Answer)
   pub room : List ℕ
 
--- what was sent to the end with this number
+-- the answers sent to the end with this number
 abbrev pub sent_to : CoreState → ℕ → List Answer
 sent_to core number = slice_index_or core.sent number []
 
@@ -53,16 +53,17 @@ IsSameSeat first last = (last.number ≡ first.number) × (last.intake ≡ first
 abbrev pub IsSameCore : CoreState → CoreState → Type 0
 IsSameCore first last = (last.intake ≡ first.intake) × (last.rings ≡ first.rings)
 
--- the core's end and a seat's come from one `links`
+-- the core's end and a seat's end from one call of `links`
 abbrev pub IsPair : CoreState → SeatState → Type 0
 IsPair core seat = (core.intake ≡ seat.intake) × (slice_get core.rings seat.number ≡ Some seat.ring)
 
--- at one moment of the intake so many steps waited, and all that the end submitted was taken or was one of them
+-- at some moment this many steps waited in the intake, and every step that the end submitted was
+-- taken or among them
 abbrev pub WasFull : Past → ℕ → SeatState → Type 0
 WasFull was places seat = (taken waiting : List (ℕ × Step)) × was taken waiting
     × (length waiting ≡ places) × (steps_of seat.number (taken ++ waiting) ≡ seat.submitted)
 
--- a ring has room for so many answers
+-- how many answers a ring has room for
 abbrev pub ring_places : ℕ
 ring_places = 4
 

@@ -37,7 +37,7 @@ core_state c = record {
   room = map (λ r. known_free r) c.rings.items;
 }
 
--- its pass takes, and there is a ring for each end that was made, with so many places
+-- its pass takes, and there is a ring for each end, with this many places
 pub record IsCoreSound (c : CoreFields) : Type 0 where
   pub takes : (view c.pass).takes ≡ true
   pub made : (view c.pass).made ≡ length c.rings.items

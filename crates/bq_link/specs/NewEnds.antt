@@ -1,8 +1,8 @@
--- Ends before anything was done.
+-- New ends.
 use Rattle.std.specs.Prelude.{ℕ, ◌≡◌, ◌<◌, ◌++◌, List, [], ◌∷◌, length, replicate, slice_index_or}
 use Rattle.bq_link.specs.EndStates.{CoreState, IsPair, RingId, SeatState, ring_places}
 
--- a core's end for so many seats' ends, before anything was done
+-- a new core's end for this many seats' ends
 pub record IsNewCore (ends : ℕ) (core : CoreState) : Type 0 where
   pub rings : length core.rings ≡ ends
   pub taken : core.taken ≡ []
@@ -10,7 +10,7 @@ pub record IsNewCore (ends : ℕ) (core : CoreState) : Type 0 where
   pub sent : core.sent ≡ replicate ends []
   pub room : core.room ≡ replicate ends ring_places
 
--- a seat's end beside it, before anything was done
+-- a new seat's end next to it
 pub record IsNewSeat (core : CoreState) (place : ℕ) (seat : SeatState) : Type 0 where
   pub number : seat.number ≡ place
   pub pair : IsPair core seat

@@ -7,7 +7,7 @@ use Rattle.bq_job.specs.declared.step.Step.{Step}
 abbrev pub steps_of : ℕ → List (ℕ × Step) → List Step
 steps_of number all = map (λ t. t.1) (filter (λ t. t.0 == number) all)
 
--- they begin with the steps that each of these ends is known to have submitted
+-- the lists begin with the steps that each of these ends is known to have submitted
 abbrev pub Covers : List (ℕ × Step) → List (ℕ × List Step) → Type 0
 Covers all known = AllByRecursion (λ k. (more : List Step) × (steps_of k.0 all ≡ k.1 ++ more)) known
 
@@ -15,15 +15,15 @@ Covers all known = AllByRecursion (λ k. (more : List Step) × (steps_of k.0 all
 abbrev pub AreBelow : ℕ → List (ℕ × Step) → Type 0
 AreBelow ends all = AllByRecursion (λ t. t.0 < ends) all
 
--- what is so of an intake at each moment: of the steps that were taken by then, and of those that waited
+-- a property of an intake at each moment: of the steps taken so far, and of those that wait
 abbrev pub Past : Type 1
 Past = List (ℕ × Step) → List (ℕ × Step) → Type 0
 
--- it stays so where this step joins at the back of an intake that isn't full
+-- it still holds after this step is appended to an intake that isn't full
 abbrev pub MaySubmit : Past → ℕ → ℕ → Step → Type 0
 MaySubmit was places number step = (taken waiting : List (ℕ × Step))
     → length waiting < places → was taken waiting → was taken (waiting ++ (number, step) ∷ [])
 
--- it stays so where the oldest step leaves
+-- it still holds after the oldest step is removed
 abbrev pub MayTake : Past → Type 0
 MayTake was = (taken waiting : List (ℕ × Step)) (t : ℕ × Step) → was taken (t ∷ waiting) → was (taken ++ t ∷ []) waiting

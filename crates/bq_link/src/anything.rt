@@ -1,9 +1,9 @@
-//! The record that asks nothing of an intake.
+//! A record that places no condition on an intake.
 
 use crate::ends::Record;
 
-/// Says nothing of what an intake holds, so links with it take any step. Use it when a caller wants the links alone:
-/// `links::<Anything>(alloc, seats)`.
+/// Places no condition on what an intake holds, so links with this record accept any step. Use it
+/// if you need only the links: `links::<Anything>(alloc, seats)`.
 pub struct Anything;
 
 impl Record for Anything {

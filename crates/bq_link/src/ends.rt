@@ -1,5 +1,6 @@
-//! The ends of the links: the core's, and one for each seat and the control line. Behind them is the intake that they
-//! share, with its rule: what a thread knows of it, and what each call tells.
+//! The ends of the links: the core's end, and one end for each seat and for the control line. The
+//! intake that they share follows, with its rule: what a thread knows of the intake, and what each
+//! call proves about it.
 ghost use Rattle.std.specs.Prelude.{ℕ, ◌≡◌, ◌+◌, ◌<◌, ◌≤◌, ◌∷◌, ◌++◌, [], false, true, List, length};
 ghost use Rattle.std.specs.Prelude.{IfErr, IfNone, IfOk, IfSome, IsOk, OnErr, OnOk};
 ghost use Rattle.bq_job.specs.declared.step.Step.{Step as AStep};
@@ -22,7 +23,7 @@ use std::sync::Wait;
 use std::thread::Parker;
 use std::time::Duration;
 
-/// The core's end: it takes the steps that were submitted and sends answers to the seats' ends.
+/// The core's end. It takes the submitted steps and sends answers to the ends of the seats.
 #[derive(Drop)]
 pub struct CoreEnd {
     pub(crate) pass: Pass<(Seat, Step), View>,
@@ -41,11 +42,11 @@ impl Model for CoreEnd {
     ghost invariant = { IsCoreSound };
 }
 
-// So many answers may wait for an end.
+// How many answers can wait for an end.
 const RING_PLACES: usize = 4;
 
 impl CoreEnd {
-    // Makes the next seat's end, and the ring between the two.
+    // Makes the next seat's end, and the ring between it and the core's end.
     #[tactic(auto, using(crate::proofs::PassLemmas::makes))]
     pub(crate) fn next_end<J: Record>(
         &mut self,
@@ -64,11 +65,12 @@ impl CoreEnd {
         Ok(SeatEnd { number, pass, mail })
     }
 
-    /// Takes the oldest step that waits, with the number of its end.
+    /// Takes the oldest waiting step, with the number of the end that submitted it. Returns `None`
+    /// if there is none.
     ///
-    /// Where there is none the contract tells a moment at which the intake was empty, after the last step that
-    /// was taken: all that the core was told of is taken. The queue can't tell whether that moment is one of
-    /// this call.
+    /// For `None` the contract states that at some moment after the last step was taken, the intake
+    /// was empty; so everything that the core knows to be submitted was taken. It does not say
+    /// whether that moment is during this call.
     pub fn take<J: Record, R: Wait>(&mut self, rt: &R, intake: &Intake<J>) -> Option<(Seat, Step)>
         requires intake { self.old.intake ≡ intake.now.id }
         requires may { MayTake J.was }
@@ -82,9 +84,10 @@ impl CoreEnd {
         intake.queue.pop_as::<Takes<J>, R>(rt, &mut self.pass)
     }
 
-    /// Whether no step waits. A look that finds none moves nothing, where `take` would hand back room for a step.
+    /// Returns true if no step waits. If there is none, this call changes nothing, whereas `take`
+    /// returns room for a step.
     ///
-    /// Where none waits the contract tells the same moment as that of `take`.
+    /// For true the contract states the same as that of `take` for `None`.
     #[tactic(auto, using(crate::proofs::DeliveryLemmas::covered))]
     pub fn is_empty<J: Record>(&mut self, intake: &Intake<J>) -> bool
         requires intake { self.old.intake ≡ intake.now.id }
@@ -95,7 +98,8 @@ impl CoreEnd {
         intake.queue.is_empty_as::<Takes<J>>(&mut self.pass)
     }
 
-    /// Sends an answer to the end with this number, or hands it back where its ring is full (refusal 402).
+    /// Sends an answer to the end with this number. If its ring is full, returns the answer
+    /// (refusal 402).
     pub fn send(&mut self, seat: Seat, answer: Answer) -> Result<(), Answer>
         requires { seat < length self.old.rings }
         ensures sent { OnOk result
@@ -112,8 +116,8 @@ impl CoreEnd {
         }
     }
 
-    /// Whether the ring of the end with this number has room for one more answer. Who asks first, sends without a
-    /// way back.
+    /// Returns true if the ring of the end with this number has room for one more answer. A caller
+    /// that checks this first can use `send_reserved`, which has no error case.
     pub fn has_room(&mut self, seat: Seat) -> bool
         requires { seat < length self.old.rings }
         ensures room { result ≡ true → 0 < room_for self.new seat }
@@ -136,8 +140,8 @@ impl CoreEnd {
         self.rings[usize::from(seat)].push_reserved(answer);
     }
 
-    /// With both ends in one hand: how many answers were sent to the end and not taken. The next so many
-    /// calls of `mail` give them, and the ring has room for all but so many.
+    /// For a thread that owns both ends: returns how many answers were sent to the end and not
+    /// taken. That many calls of `mail` return them, and the ring has room for all others.
     pub fn left(&mut self, seat: &mut SeatEnd) -> usize
         requires { IsPair self.old seat.old }
         ensures counted { result ≡ length seat.new.waiting }
@@ -152,8 +156,8 @@ impl CoreEnd {
         seat.mail.slots_beside(ring)
     }
 
-    /// With both ends in one hand: the core's end is told what the seat's end submitted. What it took of
-    /// that, and then what waits, is all of it.
+    /// For a thread that owns both ends: records in the core's end what the seat's end submitted.
+    /// All of it was taken or still waits.
     pub fn compare<J: Record>(&mut self, intake: &Intake<J>, seat: &mut SeatEnd)
         requires core { self.old.intake ≡ intake.now.id }
         requires seat { seat.old.intake ≡ intake.now.id }
@@ -171,8 +175,8 @@ impl CoreEnd {
         seat.pass = queue.another::<InHand>(&mut self.pass);
     }
 
-    /// Waits until a step is submitted, or some time has passed. It may return at once, and says nothing
-    /// of why it returned.
+    /// Waits until a step is submitted, for at most `most`. It may return earlier, and does not
+    /// report why it returned.
     pub fn wait<J: Record, R: Wait>(&mut self, rt: &R, intake: &Intake<J>, most: Duration)
         ensures { self.new ≡ self.old }
     {
@@ -180,7 +184,7 @@ impl CoreEnd {
     }
 }
 
-/// A seat's end: it submits steps and takes the answers that come back.
+/// A seat's end. It submits steps and takes the answers to them.
 #[derive(Drop)]
 pub struct SeatEnd {
     pub(crate) number: Seat,
@@ -201,18 +205,18 @@ impl Model for SeatEnd {
 }
 
 impl SeatEnd {
-    /// The number of the end.
+    /// Returns the number of the end.
     pub fn number(&self) -> Seat
         ensures { result ≡ self.now.number }
     {
         self.number
     }
 
-    /// Submits a step and wakes the core. Where the intake is full the step is handed back, and nothing was
-    /// submitted (refusal 401).
+    /// Submits a step and wakes up the core's thread. If the intake is full, returns the step, and
+    /// nothing was submitted (refusal 401).
     ///
-    /// Of a step that is handed back the contract tells a moment at which the intake was full, after the last
-    /// step that this end submitted. The queue can't tell whether that moment is one of this call.
+    /// For a returned step the contract states that at some moment after this end last submitted a
+    /// step, the intake was full. It does not say whether that moment is during this call.
     pub fn submit<J: Record, R: Wait>(
         &mut self,
         rt: &R,
@@ -237,7 +241,8 @@ impl SeatEnd {
         }
     }
 
-    /// Takes the oldest answer that was sent to this end. Each answer that is known to wait is taken.
+    /// Takes the oldest answer that was sent to this end. Returns `None` if there is none; an
+    /// answer that is known to wait is always returned.
     pub fn mail(&mut self) -> Option<Answer>
         ensures taken { IfSome result (λ answer.
             self.new ≡ record self.old { taken = self.old.taken ++ answer ∷ []; waiting = self.new.waiting }) }
@@ -248,8 +253,8 @@ impl SeatEnd {
         self.mail.pop().ok()
     }
 
-    /// Whether an answer waits. Who asks first, takes without a way back: an answer that is handed out beside the news that
-    /// there is none is moved more often.
+    /// Returns true if an answer waits. A caller that checks this first can use `take_mail`, which
+    /// has no `None` case: an answer returned as an `Option` is copied more often.
     pub fn has_mail(&mut self) -> bool
         ensures some { result ≡ true → 0 < length self.new.waiting }
         ensures none { result ≡ false → (self.old.waiting ≡ []) × (self.new ≡ self.old) }
@@ -259,7 +264,7 @@ impl SeatEnd {
         !self.mail.is_empty()
     }
 
-    /// Takes the oldest answer, where one is known to wait.
+    /// Takes the oldest answer, which is known to wait.
     pub fn take_mail(&mut self) -> Answer
         requires { 0 < length self.old.waiting }
         ensures taken { self.new
@@ -269,8 +274,8 @@ impl SeatEnd {
         self.mail.pop_known()
     }
 
-    /// Waits until an answer is sent to this end, or some time has passed. It may return at once, and says
-    /// nothing of why it returned.
+    /// Waits until an answer is sent to this end, for at most `most`. It may return earlier, and
+    /// does not report why it returned.
     pub fn wait<J: Record, R: Wait>(&mut self, rt: &R, intake: &Intake<J>, most: Duration)
         ensures { self.new ≡ self.old }
     {
@@ -280,7 +285,8 @@ impl SeatEnd {
     }
 }
 
-/// What all ends share: the steps that were submitted and not taken, and a bell for each end.
+/// The state that all ends share: the submitted steps that were not taken, and a bell for each end.
+/// A bell is a wake-up for one thread.
 #[derive(Drop)]
 pub struct Intake<J: Record> {
     pub(crate) queue: RuledArrayQueue<(Seat, Step), View, Delivery<J>>,
@@ -304,8 +310,8 @@ impl<J: Record> Model for Intake<J> {
 }
 
 impl<J: Record> Intake<J> {
-    /// Rings the bell of an end, so that it looks at its mail. An end that doesn't wait now will not wait
-    /// the next time. A number of no end does nothing.
+    /// Wakes up the thread of an end, so that it polls its mail. If the thread is not waiting, its
+    /// next wait returns at once. A number without an end has no effect.
     pub fn wake(&self, seat: Seat) {
         if let Some(bell) = self.seats.get(usize::from(seat)) {
             bell.unpark();
@@ -313,27 +319,29 @@ impl<J: Record> Intake<J> {
     }
 }
 
-/// What is so of an intake at each moment, of the steps that were taken by then and of those that waited. Whoever
-/// makes the links picks it, and every submission and every step that is taken keeps it. The calls of the ends are
-/// proved whatever it is: so what they tell by it of a moment they have from the intake, and can't make up.
+/// A property of an intake, of the steps taken so far and those that wait. It holds at every
+/// moment. The caller of `links` chooses it, and every submission and every taken step must keep
+/// it. The calls of the ends are proved for any record, so whatever they state by means of it about
+/// a moment comes from the intake.
 pub trait Record {
     ghost was: { List (ℕ × AStep) → List (ℕ × AStep) → Type 0 };
 }
 
-// What a thread knows of the intake, and what it may do. No value of it is made.
+// What a thread knows of the intake, and what it may do. It exists in proofs only.
 pub struct View {
     pub submits: bool,
     pub takes: bool,
-    // Under this number it submits, and so far it submitted these steps.
+    // The number under which it submits, and the steps that it has submitted.
     pub number: Seat,
     pub submitted: LinkedList<Step>,
-    // The steps that it took, those that each end is known to have submitted, and how many ends there are.
+    // The steps that it took, those that each end is known to have submitted, and the number of
+    // ends.
     pub taken: LinkedList<(Seat, Step)>,
     pub told: LinkedList<(Seat, LinkedList<Step>)>,
     pub made: u64,
 }
 
-/// What was submitted is what was taken and then what waits.
+/// The submitted steps are those that were taken and then those that wait.
 pub struct Delivery<J> {
     record: PhantomData<J>,
 }
@@ -347,7 +355,7 @@ impl<J: Record> Protocol<(Seat, Step), View> for Delivery<J> {
     ghost first = { core_view [] [] 0 };
 }
 
-/// A step joins at the back; where it can't, the intake is full.
+/// A step is appended; if that fails, the intake is full.
 pub struct Submits<J> {
     record: PhantomData<J>,
 }
@@ -360,7 +368,8 @@ impl<J: Record> Lesson<(Seat, Step), View> for Submits<J> {
     ghost fact = { λ v items. WaitsOf J.was v items };
 }
 
-/// The oldest step leaves; where there is none, all that the core was told of is taken.
+/// The oldest step is removed; if there is none, everything that the core knows to be submitted was
+/// taken.
 pub struct Takes<J> {
     record: PhantomData<J>,
 }
@@ -373,7 +382,7 @@ impl<J: Record> Lesson<(Seat, Step), View> for Takes<J> {
     ghost fact = { λ v items. J.was v.taken items × Covers (v.taken ++ items) v.told };
 }
 
-/// The core's pass makes the next end's.
+/// The core's pass makes that of the next end.
 pub struct NextEnd;
 
 impl Split<View> for NextEnd {
@@ -382,7 +391,7 @@ impl Split<View> for NextEnd {
     ghost right = { λ v. seat_view v.made [] };
 }
 
-/// A pass that may do nothing.
+/// A pass that permits nothing.
 pub struct Blank;
 
 impl Split<View> for Blank {
@@ -391,7 +400,7 @@ impl Split<View> for Blank {
     ghost right = { λ v. blank_view };
 }
 
-/// The core's pass and an end's in one hand, and apart again.
+/// Joins the core's pass and that of an end, and splits them again.
 pub struct InHand;
 
 impl Join<View> for InHand {
@@ -411,7 +420,8 @@ impl Split<View> for InHand {
     ghost right = { λ v. seat_view v.number v.submitted };
 }
 
-/// What the core took of the end's steps, and then what waits, is what the end submitted.
+/// The steps of the end that the core took, and then those that wait, are those that the end
+/// submitted.
 pub struct Compares<J> {
     record: PhantomData<J>,
 }

@@ -1,7 +1,8 @@
-//! The links between the seats of a server and its core, with no lock.
+//! The lock-free links between the seats of a server and its core.
 //!
-//! Steps go into one intake, a queue that all seats share, and answers come back by a ring for each seat.
-//! Each thread has an end of its own. What an end submitted, took or sent is seen by contracts as lists.
+//! Steps go into one intake, a queue that all seats share. Answers come back through one ring per
+//! seat. Each thread owns an end. In contracts, the steps and answers that an end submitted, took
+//! or sent are lists.
 #![tactic(auto)]
 
 pub use anything::Anything;

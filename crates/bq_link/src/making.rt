@@ -7,8 +7,8 @@ use crossbeam_queue::RuledArrayQueue;
 use std::alloc::{AllocError, Global};
 use std::thread::Parker;
 
-/// Makes an intake for so many seats, and an end for each of them, one for the control line behind them,
-/// and one for the core. All memory that the links ever take is taken here.
+/// Makes an intake for `seats` seats, an end for each of them, then one for the control line, and
+/// one for the core. All memory of the links is allocated here; returns `NoMemory` if that fails.
 pub fn links<J: Record>(
     alloc: Global,
     seats: u16,
@@ -63,7 +63,7 @@ fn seat_ends<J: Record>(
     Ok(seats)
 }
 
-// The intake, and the core's end before any seat's is made.
+// The intake, and the core's end before any seat's end is made.
 #[tactic(auto, using(crate::proofs::DeliveryLemmas::begins))]
 fn no_ends<J: Record>(alloc: Global, ends: usize) -> Result<(Intake<J>, CoreEnd), AllocError>
     requires ends { (1 ≤ ends) × (ends ≤ 257) }

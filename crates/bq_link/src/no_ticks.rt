@@ -1,8 +1,8 @@
-//! What is so of the intake of a run at each moment.
+//! The record of a run's intake.
 
 use crate::ends::Record;
 
-/// No step that was submitted is a tick: time passes by the core alone.
+/// No submitted step is a tick; only the core lets time pass.
 pub struct NoTicks;
 
 impl Record for NoTicks {

@@ -1,4 +1,4 @@
--- the ends that were made so far are new, and there is room for the others
+-- the ends made so far are new, and there is room for the others
 use Rattle.std.proofs.Common.{◌≡◌, ◌≤◌, vec_capacity, vec_len}
 use Rattle.bq_link.specs.NewEnds.{AreNewSeats, IsNewCore}
 use Rattle.bq_link.proofs.making.seat_ends.Given as goal
