@@ -1,4 +1,4 @@
--- Bytes that lie in a buffer, and those that are left behind it.
+-- Bytes in a buffer, and those left in the stream after them.
 use Rattle.std.proofs.Common.{◌≡◌, ◌<◌, ℕ, List, [], ◌∷◌, ◌++◌, Option, Some, None, min, length, take, drop, refl, sym, ap, ◌∙◌, arith, append_assoc}
 use Rattle.std.proofs.KnownBytes.{Keeps-refl}
 use Rattle.std.proofs.lemmas.List.{take-append-drop}
@@ -23,7 +23,7 @@ nothing_left : (held : List ℕ) (n m : ℕ) → n ≡ min (length held) m → n
 nothing_left [] n m count zero some = refl
 nothing_left (b ∷ bs) n m count zero some = absurd (omega (arith, count, zero, some))
 
--- the first bytes of the buffer were given, and none only where it is empty
+-- the first bytes of the buffer were given, and none only if it is empty
 pub given_first : (old new : Option (List ℕ)) (held left buf : List ℕ) (n m : ℕ) → Keeps old (prepend_known held new) → n ≡ min (length held) m → length buf ≡ m → take n buf ≡ take n held → left ≡ drop n held
     → (held ≡ [] → IsAtEnd new) → Consumes old (prepend_known left new) (take n buf) × (n ≡ 0 → 0 < length buf → IsAtEnd (prepend_known left new))
 given_first old new held left buf n m h count same given left_is end =

@@ -1,4 +1,4 @@
--- A line as numbers gives the line back, whatever numbers stand behind it.
+-- Decoding a line's numbers yields the line, whatever numbers follow.
 use Rattle.std.proofs.Common.{◌≡◌, refl, ap, ◌∙◌, ℕ, List, [], ◌∷◌, ◌++◌}
 use Rattle.std.specs.Prelude.{Bool, true, false, Option, Some, None}
 use Rattle.bq_job.specs.declared.line_end.LineEnd.{LineEnd}

@@ -1,4 +1,4 @@
--- Parts of a line in memory that are over.
+-- Parts of a line in memory that are done.
 use Rattle.std.proofs.Common.{◌≡◌, ◌<◌, ◌≤◌, ℕ, ◌+◌, ◌-◌, zero, suc, Bool, true, false, ◌||◌, ◌==◌, IfSome, min, List, [], ◌∷◌, ◌++◌, refl, sym, ap, arith, append_assoc, length, take, drop, take-add, get_or, slice_get, nat_le}
 use Rattle.std.proofs.lemmas.Bool.Decides.{nat_tests}
 use Rattle.std.proofs.lemmas.Option.{slice_get_read}
@@ -8,7 +8,7 @@ use Rattle.bq_line.specs.LineParts.{part_bytes, bytes_up_to, is_over, open_place
 use Rattle.bq_line.specs.declared.line.mem_line.Part.{Part}
 use Rattle.bq_line.specs.declared.line.mem_line.Part.TheVariants as parts
 
--- all bytes of a part that is over were read
+-- all bytes of a part that is done were read
 whole_part : (part : Part) (offset written : ℕ) → is_over offset written part ≡ true → take offset (part_bytes part) ≡ part_bytes part
 whole_part (parts.Bytes bytes) offset written over =
     let le : length bytes.items ≤ offset = grind (arith, nat_tests) in take_all offset bytes.items le
@@ -19,7 +19,7 @@ pub at_first : (more : List Part) → bytes_up_to more zero zero ≡ []
 at_first [] = refl
 at_first (part ∷ more) = grind (arith, common_steps)
 
--- A part that is over is passed.
+-- A part that is done is skipped.
 pub passed : (all : List Part) (place offset written : ℕ) (part : Part) → place < length all → part ≡ get_or all place part
     → is_over offset written part ≡ true → bytes_up_to all (suc place) zero ≡ bytes_up_to all place offset
 passed [] place offset written part lt is over = absurd (omega arith)
@@ -39,7 +39,7 @@ read_more (first ∷ more) zero offset n part lt is =
 read_more (first ∷ more) (suc place) offset n part lt is =
     rw (read_more more place offset n part (omega arith) is) (grind (arith, append_assoc))
 
--- These bytes are given, out of the part at the place that was passed to.
+-- These bytes come from the part at the place that was skipped to.
 pub read_given : (all : List Part) (place offset next from n : ℕ) (part : Part) (bytes given : List ℕ)
     → bytes_up_to all next from ≡ bytes_up_to all place offset → next < length all → part ≡ get_or all next part → part_bytes part ≡ bytes
     → given ≡ take n (take (length bytes - from) (drop from bytes))
@@ -48,7 +48,7 @@ read_given all place offset next from n part bytes given same lt is bytes_are gi
     let whole : take (length bytes - from) (drop from bytes) ≡ drop from bytes = grind (arith, common_steps) in
     rw (read_more all next from n part lt is, bytes_are, same, given_is, whole) refl
 
--- a part without bytes is passed
+-- a part without bytes is skipped
 pub passed_fault : (all : List Part) (place offset : ℕ) (part : Part) → place < length all → part ≡ get_or all place part → part ≡ parts.Fault
     → bytes_up_to all (suc place) zero ≡ bytes_up_to all place offset
 passed_fault [] place offset part lt is fault = absurd (omega arith)
@@ -57,12 +57,12 @@ passed_fault (first ∷ more) zero offset part lt is fault =
 passed_fault (first ∷ more) (suc place) offset part lt is fault =
     ap (λ bytes. part_bytes first ++ bytes) (passed_fault more place offset part (omega arith) is fault)
 
--- A line isn't ended by a read that gives bytes.
+-- A read that returns bytes does not end the line's input.
 pub still_open : (ended : Bool) (n : ℕ) → 0 < n → ended ≡ (ended || n == 0)
 still_open true n some = refl
 still_open false n some = grind (arith, nat_tests)
 
--- some bytes of a part that isn't over are given
+-- some bytes of a part that isn't done are given
 pub some_given : (all : List Part) (place from written n room : ℕ) (part : Part) (bytes : List ℕ)
     → IfSome (slice_get all place) (λ p. is_over from written p ≡ false) → place < length all → part ≡ get_or all place part
     → (is_over from written part ≡ nat_le (length bytes) from) → 0 < room
@@ -74,7 +74,7 @@ some_given all place from written n room part bytes is_open lt is part_is some n
     let whole : length (take (length bytes - from) (drop from bytes)) ≡ length bytes - from = grind (arith, common_steps) in
     omega arith
 
--- no part is passed behind the last one
+-- no part is skipped after the last one
 pub open_past : (all : List Part) (place offset written : ℕ) → length all ≤ place → open_place all place offset written ≡ place
 open_past all place offset written past = let none : drop place all ≡ [] = grind (arith, common_steps) in rw none (omega arith)
 
@@ -83,12 +83,12 @@ drop_at [] place part lt is = absurd (omega arith)
 drop_at (first ∷ more) zero part lt is = ap (λ p. p ∷ more) (sym is)
 drop_at (first ∷ more) (suc place) part lt is = drop_at more place part (omega arith) is
 
--- a part that isn't over comes next
+-- a part that isn't done comes next
 pub open_here : (all : List Part) (place offset written : ℕ) (part : Part) → place < length all → part ≡ get_or all place part
     → is_over offset written part ≡ false → open_place all place offset written ≡ place
 open_here all place offset written part lt is not_over = rw (drop_at all place part lt is, not_over) (omega arith)
 
--- one that is over is passed
+-- a part that is done is skipped
 pub open_next : (all : List Part) (place offset written : ℕ) (part : Part) → place < length all → part ≡ get_or all place part
     → is_over offset written part ≡ true → open_place all (suc place) 0 written ≡ open_place all place offset written
 open_next all place offset written part lt is over = rw (drop_at all place part lt is, over) (omega arith)

@@ -1,4 +1,4 @@
--- What calls of a stream come to for a line over it.
+-- What calls of a stream mean for a line over it.
 use Rattle.std.proofs.Common.{◌≡◌, ◌<◌, ◌==◌, ◌||◌, ℕ, Bool, true, false, List, [], ◌∷◌, ◌++◌, Option, Some, None, IfSome, Result, Ok, Err, length, take, refl, sym, ap, ◌∙◌, append-nil, arith, subst, if◌then◌else◌}
 use Rattle.std.proofs.KnownBytes.{Appends-kept, Appends-trans, Consumes-kept, Consumes-trans, Consumes-whole}
 use Rattle.std.proofs.lemmas.Bool.Decides.{nat_tests}
@@ -15,7 +15,7 @@ nothing_before : (bytes more : List ℕ) → [] ≡ bytes ++ more → bytes ≡ 
 nothing_before [] more none = refl
 nothing_before (b ∷ bs) more none = absurd cc
 
--- A stream of which all was read gives no more.
+-- A stream that was read completely returns no more.
 still_all : (first old new : Option (List ℕ)) (read bytes : List ℕ) → Consumes first old read → Consumes old new bytes
     → IfSome first (λ all. all ≡ read) → IfSome first (λ all. all ≡ read ++ bytes)
 still_all None old new read bytes over more all = tt
@@ -29,7 +29,7 @@ by_either : (ended none : Bool) (A : Type 0) → (ended ≡ true → A) → (non
 by_either true none A first second either = first refl
 by_either false none A first second either = second either
 
--- A line that read so on is over the stream that gave it.
+-- A line that read these bytes is over the stream that returned them.
 read_bytes : (first old new : StreamSeen) (line : LineSeen) (n : ℕ) (buf : List ℕ) → 0 < length buf
     → Consumes old.left new.left (take n buf) × (n ≡ 0 → 0 < length buf → IsAtEnd new.left) → Keeps old.held new.held
     → LiesOver first line old → LiesOver first (record line { read = line.read ++ take n buf; ended = line.ended || n == 0 }) new
@@ -68,7 +68,7 @@ read_on : (first old new : StreamSeen) (line : LineSeen) (result : Result ℕ Er
 read_on first old new line (Ok n) buf room gave apart over = read_bytes first old new line n buf room gave apart over
 read_on first old new line (Err e) buf room gave apart over = failed_on first old new line e gave apart over
 
--- A line that read these bytes, of which some lay before its stream, is over the stream that is left.
+-- A line that read these bytes, some of them from its buffer, is over the stream with what is left.
 pub read_more : (first old new : StreamSeen) (line : LineSeen) (bytes all : List ℕ) → all ≡ line.read ++ bytes
     → Consumes old.left new.left bytes → Keeps old.held new.held → LiesOver first line old → LiesOver first (record line { read = all }) new
 read_more first old new line bytes all all_is gave apart over =
@@ -78,12 +78,12 @@ read_more first old new line bytes all all_is gave apart over =
       ended = λ is. still_all first.left old.left new.left line.read bytes over.read gave (over.ended is);
     })
 
--- what is so of a line and its stream, by equations
+-- what holds of a line and its stream, under equal names
 noted_so : (first gave new : StreamSeen) (noted later : LineSeen) → later ≡ noted → new ≡ gave → LiesOver first noted gave → LiesOver first later new
 noted_so first gave new noted later is stays over =
     subst (LiesOver first later) (sym stays) (subst (λ seen. LiesOver first seen gave) (sym is) over)
 
--- The line noted what a read of its stream came to.
+-- The line recorded the result of a read of its stream.
 pub read_noted : (first old gave new : StreamSeen) (line later : LineSeen) (result : Result ℕ Error) (buf : List ℕ) (room : ℕ)
     → length buf ≡ room → 0 < room → ReadConsumes old.left gave.left result buf → Keeps old.held gave.held
     → later ≡ after_read result buf line → new ≡ gave → LiesOver first line old → LiesOver first later new
@@ -91,13 +91,13 @@ read_noted first old gave new line later result buf room length_is some took apa
     noted_so first gave new (after_read result buf line) later noted stays
     (read_on first old gave line result buf (subst (λ n. 0 < n) (sym length_is) some) took apart over)
 
--- The line noted that a read of its stream failed.
+-- The line recorded that a read of its stream failed.
 pub failed_noted : (first old gave new : StreamSeen) (line later : LineSeen) (e : Error) → Keeps old.left gave.left → Keeps old.held gave.held
     → later ≡ after_fill (Err e) line → new ≡ gave → LiesOver first line old → LiesOver first later new
 failed_noted first old gave new line later e kept apart noted stays over =
     noted_so first gave new (after_fill (Err e) line) later noted stays (failed_on first old gave line e kept apart over)
 
--- A write that took no bytes.
+-- A write that failed.
 refused_on : (first old new : StreamSeen) (line : LineSeen) (e : Error)
     → Keeps old.left new.left → Keeps old.held new.held → LiesOver first line old → LiesOver first (after_write (Err e) [] line) new
 refused_on first old new line e kept apart over = refused (is_nothing_yet (error_kind e))
@@ -106,7 +106,7 @@ refused_on first old new line e kept apart over = refused (is_nothing_yet (error
     refused true = nothing_moved first old new line line kept apart refl refl refl over
     refused false = nothing_moved first old new line (with_line_fault faults.Write line) kept apart refl refl refl over
 
--- The line noted that a read of its stream failed.
+-- The line recorded that a write to its stream failed.
 pub refused_noted : (first old gave new : StreamSeen) (line later : LineSeen) (e : Error) → Keeps old.left gave.left → Keeps old.held gave.held
     → later ≡ after_write (Err e) [] line → new ≡ gave → LiesOver first line old → LiesOver first later new
 refused_noted first old gave new line later e kept apart noted stays over =
@@ -117,13 +117,13 @@ none_held None new buf n none held = tt
 none_held (Some xs) None buf n none held = absurd held
 none_held (Some xs) (Some ys) buf n none held = held ∙ ap (λ k. xs ++ take k buf) none ∙ append-nil xs
 
--- What lies before a stream leaves what is said of the stream.
+-- Bytes in front of a stream do not change what holds of the stream.
 pub prepend_kept : (came : List ℕ) (old new : Option (List ℕ)) → Keeps old new → Keeps (prepend_known came old) (prepend_known came new)
 prepend_kept came None new kept = tt
 prepend_kept came (Some xs) None kept = absurd kept
 prepend_kept came (Some xs) (Some ys) kept = ap (λ l. came ++ l) kept
 
--- A write was noted.
+-- The line recorded a write.
 pub wrote_noted : (first old new : StreamSeen) (line later : LineSeen) (result : Result ℕ Error) (buf : List ℕ) → Keeps old.left new.left → WriteAppends old.held new.held result buf
     → later ≡ after_write result buf line → LiesOver first line old → LiesOver first later new
 wrote_noted first old new line later (Err e) buf kept held noted over = refused_noted first old new new line later e kept held noted refl over

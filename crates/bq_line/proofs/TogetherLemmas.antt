@@ -1,11 +1,11 @@
--- First bytes of texts that are written together.
+-- First parts of texts that are written together.
 use Rattle.std.proofs.Common.{◌≡◌, ℕ, ◌+◌, ◌-◌, ◌≤◌, Bool, true, false, nat_lt, List, ◌++◌, length, take, refl, sym, ap, ◌∙◌, arith, append_assoc, append-nil}
 use Rattle.std.proofs.lemmas.Bool.Decides.{nat_tests}
 use Rattle.std.proofs.lemmas.Grind.{common_steps}
 use Rattle.std.proofs.lemmas.List.{take-append-le, take_all}
 use Rattle.std.proofs.Math.Seq.{take-append-add}
 
--- of two
+-- of two texts
 pub taken_of_two : (n : ℕ) (xs ys : List ℕ) → take n (xs ++ ys) ≡ take n xs ++ take (n - length xs) ys
 taken_of_two n xs ys = by (nat_lt n (length xs)) refl
   where
@@ -19,7 +19,7 @@ taken_of_two n xs ys = by (nat_lt n (length xs)) refl
         let parts : n ≡ length xs + (n - length xs) = omega (arith, beyond) in
         ap (λ m. take m (xs ++ ys)) parts ∙ take-append-add xs ys (n - length xs) ∙ ap (λ l. l ++ take (n - length xs) ys) (sym (take_all n xs beyond))
 
--- of three, behind what was there
+-- of three texts, after what was there
 pub taken_together : (old first second third : List ℕ) (n : ℕ)
     → ((old ++ take n first) ++ take (n - length first) second) ++ take ((n - length first) - length second) third ≡ old ++ take n (first ++ second ++ third)
 taken_together old first second third n =

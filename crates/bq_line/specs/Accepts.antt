@@ -1,11 +1,12 @@
--- What the error of an accept says of its listener.
+-- What an error of accept means for its listener.
 use Rattle.std.specs.Prelude.{ℤ, pos, Bool, false, List, [], ◌∷◌, Option, Some, None}
 use Rattle.std.specs.List.{list_any}
 use Rattle.std.specs.Ordering.{int_eq}
 use Rattle.std.specs.declared.io.Error.{Error}
 use Rattle.std.specs.IoError.{raw_os_error}
 
--- Linux's numbers of the errors that say that the listener itself is broken: EBADF, EFAULT, EINVAL and ENOTSOCK
+-- the Linux error numbers that mean that the listener itself is broken: EBADF, EFAULT, EINVAL and
+-- ENOTSOCK
 abbrev pub listener_faults : List ℤ
 listener_faults = pos 9 ∷ pos 14 ∷ pos 22 ∷ pos 88 ∷ []
 
@@ -13,7 +14,7 @@ abbrev pub is_listener_fault : Option ℤ → Bool
 is_listener_fault None = false
 is_listener_fault (Some number) = list_any (λ fault. int_eq fault number) listener_faults
 
--- The listener accepts no more. Any other error is of one connection or passes: of the peer, of the network, or for
--- want of memory or descriptors.
+-- The listener accepts no more connections. Any other error concerns one connection or is
+-- temporary: it comes from the peer or the network, or from a lack of memory or descriptors.
 abbrev pub ends_listener : Error → Bool
 ends_listener e = is_listener_fault (raw_os_error e)

@@ -5,13 +5,13 @@ use Rattle.bq_line.specs.LineCalls.{new_line}
 use Rattle.bq_line.specs.declared.door.Opening.{Opening}
 use Rattle.bq_line.specs.declared.door.Opening.TheVariants as openings
 
--- A line on which nothing was done is out, or the door is at its end.
+-- An unused line was opened, or the door has ended.
 abbrev pub IsOpened : {L E : Type 0} → (L → LineSeen) → Bool → Bool → Result (Option L) E → Type 0
 IsOpened seen is_out is_at_end (Ok (Some line)) = (is_out ≡ true) × (is_at_end ≡ false) × (seen line ≡ new_line)
 IsOpened seen is_out is_at_end (Ok None) = (is_out ≡ false) × (is_at_end ≡ true)
 IsOpened seen is_out is_at_end (Err e) = (is_out ≡ false) × (is_at_end ≡ true)
 
--- The same for a look, which may find that no line has come yet.
+-- The same without waiting, where possibly no client has connected yet.
 abbrev pub IsLookedFor : {L E : Type 0} → (L → LineSeen) → Bool → Bool → Result (Opening L) E → Type 0
 IsLookedFor seen is_out is_at_end (Ok (openings.Line line)) = (is_out ≡ true) × (is_at_end ≡ false) × (seen line ≡ new_line)
 IsLookedFor seen is_out is_at_end (Ok openings.NotYet) = (is_out ≡ false) × (is_at_end ≡ false)
@@ -19,7 +19,7 @@ IsLookedFor seen is_out is_at_end (Ok openings.Later) = (is_out ≡ false) × (i
 IsLookedFor seen is_out is_at_end (Ok openings.NoMore) = (is_out ≡ false) × (is_at_end ≡ true)
 IsLookedFor seen is_out is_at_end (Err e) = (is_out ≡ false) × (is_at_end ≡ true)
 
--- It says that no more lines come.
+-- No more lines come.
 abbrev pub IsNoMore : {L : Type 0} → Opening L → Type 0
 IsNoMore openings.NoMore = Unit {0}
 IsNoMore _ = ⊥

@@ -7,7 +7,7 @@ use Rattle.bq_job.specs.promise.LineSteps.{LineSeen}
 use Rattle.bq_line.specs.LineParts.{bytes_up_to}
 use Rattle.bq_line.specs.declared.line.mem_line.MemLine.{MemLine}
 
--- what a line in memory tells of itself
+-- what a line in memory records
 abbrev pub seen_of : MemLine → LineSeen
 seen_of line = record {
   read = bytes_up_to line.parts.items line.place line.offset;
@@ -16,10 +16,10 @@ seen_of line = record {
   fault = line.fault;
 }
 
--- nothing was done on the line
+-- the line is unused
 abbrev pub IsFresh : MemLine → Type 0
 IsFresh line = seen_of line ≡ new_line
 
--- a line that was shut, as it tells itself
+-- a line that was shut, as it records itself
 abbrev pub line_over : MemLine × LineEnd → LineOver
 line_over over = record { seen = seen_of over.0; over = over.1 }

@@ -1,4 +1,4 @@
--- A reading of a clock as a number: 0 where it couldn't be read, else its moment and one more.
+-- A reading of a clock, encoded as a number: 0 if it failed, otherwise its moment plus one.
 use Rattle.std.specs.Prelude.{ℕ, zero, suc, Option, Some, None}
 
 abbrev pub number_of_reading : Option ℕ → ℕ

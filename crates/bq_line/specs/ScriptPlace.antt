@@ -5,12 +5,12 @@ pub record ScriptPlace : Type 0 where
   pub script : List (Option ℕ)
   pub place : ℕ
 
--- the last reading; an empty script reads None
+-- the last reading; None for an empty script
 abbrev pub last_reading : List (Option ℕ) → Option ℕ
 last_reading script = unwrap_or (slice_get script (length script - 1)) None
 
--- The readings that were given: those from the place before to the place after, and then, only where
--- that is the end of the script, any number of times the last one.
+-- The readings that were given: those from the place before to the place after and then, only at
+-- the end of the script, the last one any number of times.
 pub record IsRead (before : ScriptPlace) (readings : List (Option ℕ)) (after : ScriptPlace) : Type 0 where
   pub count : ℕ
   pub again : ℕ

@@ -1,4 +1,4 @@
-//! Clocks, which a run reads.
+//! Clocks that a run reads.
 ghost use Rattle.std.specs.Prelude.{◌≡◌, ℕ, List, [], ◌∷◌, ◌++◌, Option};
 ghost use Rattle.bq_job.specs.promise.History.{moment_heard};
 ghost use Rattle.std.proofs.Common.{append-nil, sym};
@@ -14,26 +14,27 @@ use std::marker::Model;
 use std::rt;
 use std::time::Instant;
 
-/// A clock that a run reads. What it reads is told by a relation between the clock before some readings,
-/// those readings in their order, and the clock after them.
+/// A clock that a run reads. Its readings are described by a relation between the clock before
+/// them, the readings in order, and the clock after them.
 pub trait Clock {
-    /// From the first clock on these readings were given, and the last one is what was left.
+    /// From the first clock, these readings were given in order, and the second clock is what
+    /// remained.
     ghost given: { Self → List (Option ℕ) → Self → Type 0 };
 
-    /// A reading: a moment in milliseconds, or none where the clock can't be read. A moment below the one
-    /// before is no error.
+    /// Returns a reading: a moment in milliseconds, or `None` if the clock can't be read. A moment
+    /// below the previous one is not an error.
     fn now(&mut self) -> Option<Moment>
         ensures { (first : Self) (readings : List (Option ℕ)) → given first readings self.old →
             given first (readings ++ result ∷ []) self.new };
 
-    /// A run that reads this clock has something to tell. Nothing is told unless a clock says otherwise.
+    /// Receives a notice from the run that reads this clock. By default it is ignored.
     fn tell(&self, _notice: Notice) {}
 
-    /// An unchanged clock gave no reading.
+    /// A clock that did not change gave no reading.
     ghost none_given: { (clock : Self) → given clock [] clock };
 }
 
-/// The moment heard after a reading: no reading, or a smaller one than the last, counts as the last one.
+/// Returns the moment after a reading: a failed reading, or one below `last`, counts as `last`.
 pub fn moment_heard(last: Moment, reading: Option<Moment>) -> Moment
     ensures { result ≡ moment_heard last reading }
 {
@@ -43,18 +44,19 @@ pub fn moment_heard(last: Moment, reading: Option<Moment>) -> Moment
     }
 }
 
-/// The machine's clock: the milliseconds since it was made. It tells the readings that it gave; nothing is
-/// claimed of what the system's clock reads.
+/// The machine's clock: the milliseconds since it was made. It records the readings that it gave;
+/// nothing is claimed about the system's clock.
 #[derive(Drop)]
 pub struct MachineClock<R> {
     rt: R,
-    // None where the system's clock couldn't be read.
+    // `None` if the system's clock couldn't be read.
     start: Option<Instant>,
     given: ReadingRecord,
 }
 
 impl<R: rt::Clock> MachineClock<R> {
-    /// A clock that stands at 0 now. Where the system's clock can't be read, it gives no moment ever.
+    /// Returns a clock that stands at 0 now. If the system's clock can't be read now, every reading
+    /// fails.
     pub fn new(rt: R) -> MachineClock<R>
         ensures { result.given ≡ [] }
     {
@@ -66,7 +68,7 @@ impl<R: rt::Clock> MachineClock<R> {
         }
     }
 
-    // The milliseconds since the clock was made.
+    // Returns the milliseconds since the clock was made.
     fn reading(&self) -> Option<Moment> {
         let now = Instant::now(&self.rt).ok()?;
         Moment::try_from(now.duration_since(self.start?).as_millis()).ok()
@@ -85,7 +87,8 @@ impl<R: rt::Clock> Clock for MachineClock<R> {
     }
 }
 
-/// The readings that a clock gave. It takes no memory, and its methods do nothing at run time.
+/// The readings that a clock gave, for proofs: it takes no memory, and its methods do nothing at
+/// run time.
 #[derive(Drop)]
 pub struct ReadingRecord {
     tag: Tag,
@@ -101,13 +104,14 @@ impl Model for ReadingRecord {
 }
 
 impl ReadingRecord {
+    /// Returns a record without readings.
     pub fn new() -> ReadingRecord
         ensures { result ≡ [] }
     {
         ReadingRecord { tag: Tag::empty() }
     }
 
-    /// The clock gave this reading too.
+    /// Adds a reading.
     pub fn note(&mut self, reading: Option<Moment>)
         ensures { self.new ≡ self.old ++ reading ∷ [] }
     {
@@ -115,7 +119,7 @@ impl ReadingRecord {
     }
 }
 
-// A tag and one reading more.
+// A tag and one more reading.
 #[derive(Clone, Copy)]
 struct Further<'a> {
     tag: &'a Tag,
@@ -137,11 +141,11 @@ fn with_reading(tag: &Tag, reading: Option<Moment>) -> Tag
     Tag::of::<Further<'_>, Noted>(&Further { tag, reading })
 }
 
-/// What a run tells whoever operates the server.
+/// What a run reports to the operator of the server.
 #[derive(Clone, Copy, Debug, PartialEq, Eq)]
 pub enum Notice {
-    /// No put is accepted from now on.
+    /// The server accepts no more puts.
     Draining,
-    /// Memory was refused, and a client was answered `OUT_OF_MEMORY`.
+    /// An allocation failed, and a client was answered `OUT_OF_MEMORY`.
     MemoryRefused,
 }

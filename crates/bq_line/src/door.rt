@@ -1,4 +1,4 @@
-//! Doors, at which clients come one after another.
+//! Doors, at which clients connect one after another.
 ghost use Rattle.std.specs.Prelude.{◌≡◌, Bool, List, [], ◌∷◌, ◌++◌, true, false};
 ghost use Rattle.bq_job.specs.promise.History.{LineOver};
 ghost use Rattle.bq_line.specs.Doors.{IsLookedFor, IsOpened};
@@ -25,16 +25,16 @@ use std::net::TcpListener;
 use std::os::fd::RawFd;
 use thiserror::Error;
 
-/// A door at which connections over TCP come.
+/// A door for TCP connections.
 pub type TcpDoor<'l, R> = ListenDoor<'l, R, TcpListener>;
 
-/// No line could be opened.
+/// No further line could be opened.
 #[derive(Clone, Copy, Debug, PartialEq, Eq, Error)]
 #[error("a connection could not be accepted")]
 pub struct DoorFault;
 
 impl DoorFault {
-    /// The number of this fault, 504.
+    /// Returns the number of this fault, 504.
     pub fn code(self) -> u16
         ensures { result ≡ 504 }
     {
@@ -42,36 +42,39 @@ impl DoorFault {
     }
 }
 
-/// The result of a look for the next line, which does not wait.
+/// The result of opening the next line without waiting.
 #[derive(Drop)]
 pub enum Opening<L> {
     /// The next line.
     Line(L),
-    /// None has come yet. The system reports when one has.
+    /// No client has connected yet. The system reports when one has.
     NotYet,
-    /// None can be accepted for a while, because the system is short of something. It does not report when that ends.
+    /// No connection can be accepted for a while, because the system lacks a resource. It does not
+    /// report when that ends.
     Later,
-    /// No more come.
+    /// No more lines come.
     NoMore,
 }
 
-/// A door, which opens one line after another, one at a time.
+/// A door, which opens lines one after another, one at a time.
 pub trait Door {
     type Line: Line + Drop;
 
-    /// Whether a line is out: it was opened, and isn't shut yet.
+    /// True if a line was opened and not shut yet.
     ghost is_out: { Self → Bool };
 
-    /// Whether no more lines come.
+    /// True if no more lines come.
     ghost is_at_end: { Self → Bool };
 
-    /// The lines that are over, in the order in which they were shut.
+    /// The lines that have ended, in the order in which they were shut.
     ghost lines_over: { Self → List LineOver };
 
-    /// The second is the first one, later: all that makes this door and no other is as it was.
+    /// The second door is the first one at a later moment: everything that identifies the door is
+    /// unchanged.
     ghost same: { Self → Self → Type 0 };
 
-    /// The next line. None says that no more come, and so does a fault.
+    /// Waits for the next line and opens it. `None` means that no more lines come, and so does an
+    /// error.
     fn open(&mut self) -> Result<Option<Self::Line>, DoorFault>
         requires inside { is_out self.old ≡ false }
         requires more { is_at_end self.old ≡ false }
@@ -79,8 +82,9 @@ pub trait Door {
         ensures over { lines_over self.new ≡ lines_over self.old }
         ensures same { (first : Self) → same first self.old → same first self.new };
 
-    /// Opens the next line without waiting for it. `may_have_come` is false if none can have come since the last look, so
-    /// that no system call is needed. On error no more lines come.
+    /// Opens the next line without waiting for it. `may_have_come` is false if no client can have
+    /// connected since the last call, so that no system call is needed. After an error no more
+    /// lines come.
     fn look(&mut self, may_have_come: bool) -> Result<Opening<Self::Line>, DoorFault>
         requires inside { is_out self.old ≡ false }
         requires more { is_at_end self.old ≡ false }
@@ -88,12 +92,13 @@ pub trait Door {
         ensures over { lines_over self.new ≡ lines_over self.old }
         ensures same { (first : Self) → same first self.old → same first self.new };
 
-    /// The descriptor by which the system reports when a line may have come, if there is one.
+    /// Returns the descriptor on which the system reports that a client may have connected, if
+    /// there is one.
     fn source(&self) -> Option<RawFd> {
         None
     }
 
-    /// Takes the line back that is out. It was over in this way.
+    /// Takes back the open line, which has ended in this way.
     fn shut(&mut self, line: Self::Line, end: LineEnd)
         requires { is_out self.old ≡ true }
         ensures inside { is_out self.new ≡ false }
@@ -102,6 +107,6 @@ pub trait Door {
             ≡ lines_over self.old ++ record { seen = Self.Line.seen line; over = end } ∷ [] }
         ensures same { (first : Self) → same first self.old → same first self.new };
 
-    /// An unchanged door is the same.
+    /// A door that did not change is the same door.
     ghost same_self: { (door : Self) → same door door };
 }

@@ -1,7 +1,7 @@
-//! Lines of bytes to clients, the doors at which lines come, and the clocks that a run reads.
+//! Lines of bytes to clients, the doors at which clients connect, and the clocks that a run reads.
 //!
-//! Each is a trait, by which a run knows no more than what the thing tells of itself, with one that lies in
-//! memory and one of the machine's own.
+//! Each is a trait, whose contract is all that a run knows of it, with an implementation in memory
+//! and one by the operating system.
 #![tactic(auto)]
 
 pub use door::{

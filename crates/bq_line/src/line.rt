@@ -21,37 +21,39 @@ use std::io;
 use std::io::ErrorKind;
 use std::os::fd::RawFd;
 
-/// A line to one client. It tells of itself the bytes that its reads gave and its writes took since it
-/// was new, whether its input has ended, and the first fault that a call of it answered.
+/// A line to one client. It records the bytes that its reads returned and its writes took since it
+/// was made, whether its input has ended, and the first fault that a call returned.
 pub trait Line {
-    /// What the line tells of itself.
+    /// What the line records.
     ghost seen: { Self → LineSeen };
 
-    /// Whether the line lies over the stream that told this of itself before the line was new. No call of a line
-    /// leaves its stream for another.
+    /// True if the line is over the stream that had this state before the line was made. No call of
+    /// a line changes its stream for another.
     ghost lies_over: { StreamSeen → Self → Type 0 };
 
-    /// The bytes that lie in a room of the line's own: they came, and aren't read yet.
+    /// The bytes in the line's own buffer, which came and were not read yet.
     ghost unread: { Self → List ℕ };
 
-    /// Reads at most as many bytes as the buffer has, as `std::io::Read` does. 0 bytes are the end of the
-    /// input. `WouldBlock`, `TimedOut` and `Interrupted` say that there are none yet; any other error is
-    /// a read fault. It may wait for bytes, without end.
+    /// Reads at most as many bytes as the buffer has room for, as `std::io::Read` does. A result of
+    /// 0 is the end of the input. `WouldBlock`, `TimedOut` and `Interrupted` mean that there are no
+    /// bytes yet; any other error is a read fault. It may wait for bytes without limit.
     fn read(&mut self, buf: &mut [u8]) -> io::Result<usize>
         requires { 0 < length buf.old }
         ensures bound { ReadsAtMost result buf.new }
         ensures seen { seen self.new ≡ after_read result buf.new (seen self.old) }
         ensures stays { StaysOver lies_over self.old self.new };
 
-    /// The same where nothing may be waited for: without bytes it says so at once, if the line can.
+    /// Reads as `read` does, but does not wait: without bytes it returns `WouldBlock`, if the line
+    /// can do that.
     fn read_now(&mut self, buf: &mut [u8]) -> io::Result<usize>
         requires { 0 < length buf.old }
         ensures bound { ReadsAtMost result buf.new }
         ensures seen { seen self.new ≡ after_read result buf.new (seen self.old) }
         ensures stays { StaysOver lies_over self.old self.new };
 
-    /// Where nothing lies in the line's own room, what comes goes there by one read, which may wait or not. A line that
-    /// has no such room does nothing. Errors are as those of `read`, and no byte is read by it yet.
+    /// If the line's own buffer is empty, reads into it once; `waits` says whether that may wait. A
+    /// line without a buffer does nothing. Errors are those of `read`. The bytes do not count as
+    /// read yet.
     fn fill(&mut self, waits: bool) -> io::Result<()>
         ensures seen { seen self.new ≡ after_fill result (seen self.old) }
         ensures stays { StaysOver lies_over self.old self.new }
@@ -59,27 +61,27 @@ pub trait Line {
         Ok(())
     }
 
-    /// Lends the bytes that lie in the line's own room.
+    /// Returns the bytes in the line's own buffer.
     fn unread(&self) -> &[u8]
         ensures { result.now ≡ unread self.now };
 
-    /// So many first bytes of those that lie in the line's own room are read.
+    /// Marks the first `count` bytes of the line's own buffer as read, and removes them.
     fn take_unread(&mut self, count: usize)
         requires { count ≤ length (unread self.old) }
         ensures seen { seen self.new ≡ after_take count (unread self.old) (seen self.old) }
         ensures stays { StaysOver lies_over self.old self.new };
 
-    /// Writes first bytes of the buffer, and says how many, as `std::io::Write` does. `WouldBlock`, `TimedOut` and
-    /// `Interrupted` say that there is no room yet, and leave the line as it was. Any other error is a write fault, and so
-    /// is a write that took no bytes.
+    /// Writes a first part of the buffer and returns its length, as `std::io::Write` does.
+    /// `WouldBlock`, `TimedOut` and `Interrupted` mean that there is no room yet, and leave the
+    /// line as it was. Any other error is a write fault, and so is a write that took no bytes.
     fn write(&mut self, buf: &[u8]) -> io::Result<usize>
         requires { 0 < length buf.now }
         ensures bound { WritesAtMost result buf.now }
         ensures seen { seen self.new ≡ after_write result buf.now (seen self.old) }
         ensures stays { StaysOver lies_over self.old self.new };
 
-    /// The same for three texts, as if they were one. A line that can copies none of them into one place first; any other
-    /// writes of the first text.
+    /// Writes three texts as if they were one. By default it writes from the first text only; a
+    /// line that supports gathered writes does not copy them.
     fn write_together(&mut self, first: &[u8], second: &[u8], third: &[u8]) -> io::Result<usize>
         requires { 0 < length first.now }
         ensures bound { WritesAtMost result (first.now ++ second.now ++ third.now) }
@@ -90,53 +92,58 @@ pub trait Line {
         self.write(first)
     }
 
-    /// Hands on what is held back, if anything is. An error is a write fault.
+    /// Sends what is held back, if anything is. An error is a write fault.
     fn flush(&mut self) -> io::Result<()>
         ensures seen { seen self.new ≡ after_flush result (seen self.old) }
         ensures stays { StaysOver lies_over self.old self.new };
 
-    /// Whether bytes that came lie in the line, so that the next read gives them without waiting.
+    /// Returns true if the line has buffered bytes, so that the next read returns them without
+    /// waiting.
     fn has_unread(&self) -> bool {
         false
     }
 
-    /// A hint that more will be written soon, so that small writes may go out together, or not any more: then all that
-    /// was written is on its way. A line that can't use it does nothing.
+    /// A hint: if `more`, more will be written soon, so that small writes may go out together;
+    /// otherwise everything that was written is sent. A line that can't use it does nothing.
     fn expect_more(&mut self, more: bool)
         ensures seen { seen self.new ≡ seen self.old }
         ensures stays { StaysOver lies_over self.old self.new }
     {}
 
-    /// Returns false if a read would only say that there are no bytes yet, as far as the line knows.
+    /// Returns false if a read would only report that there are no bytes yet, as far as the line
+    /// knows.
     fn may_give(&self) -> bool {
         true
     }
 
-    /// Returns false if a write would only say that there is no room yet, as far as the line knows.
+    /// Returns false if a write would only report that there is no room yet, as far as the line
+    /// knows.
     fn may_take(&self) -> bool {
         true
     }
 
-    /// Swaps the line's own read buffer with this one, if both are empty. A line that has none does nothing. So one
-    /// buffer can serve many lines, of which each keeps a buffer only while bytes lie in it.
+    /// Swaps the line's own read buffer with this one if both are empty. A line without a buffer
+    /// does nothing. So many lines can share one buffer, and a line keeps one only while it has
+    /// bytes in it.
     fn exchange(&mut self, _buffer: &mut ReadBuffer)
         ensures seen { seen self.new ≡ seen self.old }
         ensures stays { StaysOver lies_over self.old self.new }
     {}
 
-    /// The descriptor by which the system reports when the line is ready, if it has one.
+    /// Returns the descriptor on which the system reports that the line is ready, if there is one.
     fn source(&self) -> Option<RawFd> {
         None
     }
 
-    /// Notes what the system reported that the line is ready for. A line that is not watched does nothing.
+    /// Records what the system reported about the line's readiness. A line that is not watched does
+    /// nothing.
     fn note_ready(&mut self, _ready: Readiness)
         ensures seen { seen self.new ≡ seen self.old }
         ensures stays { StaysOver lies_over self.old self.new }
     {}
 }
 
-/// Returns true if an error says only that there are no bytes yet, or no room yet.
+/// Returns true if an error means only that there are no bytes yet, or no room yet.
 pub fn is_nothing_yet(e: &io::Error) -> bool
     ensures { result ≡ is_nothing_yet (error_kind e.now) }
 {
@@ -146,7 +153,7 @@ pub fn is_nothing_yet(e: &io::Error) -> bool
     }
 }
 
-// The first fault of a line stays, and a further one is dropped.
+// Records the first fault of a line; later ones are dropped.
 fn note_fault(first: &mut Option<LineFault>, fault: LineFault)
     ensures { first.new ≡ first_fault first.old fault }
 {
@@ -155,7 +162,7 @@ fn note_fault(first: &mut Option<LineFault>, fault: LineFault)
     }
 }
 
-// Copies as many first bytes as there is room for, and says how many.
+// Copies as many bytes as there is room for, and returns how many.
 fn copy_first(bytes: &[u8], buf: &mut [u8]) -> usize
     ensures count { result ≡ min (length bytes.now) (length buf.old) }
     ensures copied { take result buf.new ≡ take result bytes.now }

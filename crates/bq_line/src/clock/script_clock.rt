@@ -6,8 +6,8 @@ use bq_job::Moment;
 use std::alloc::Global;
 use std::marker::Model;
 
-/// A clock that gives its readings in their order, and then the last one again and again. An empty one
-/// gives none. Contracts see the readings and the place in them.
+/// A clock that gives the readings of a list in order, and then repeats the last one. With an empty
+/// list, every reading fails. In contracts, its value is the list and the place in it.
 #[derive(Drop)]
 pub struct ScriptClock {
     script: Vec<Option<Moment>, Global>,
@@ -26,7 +26,7 @@ impl Model for ScriptClock {
 }
 
 impl ScriptClock {
-    /// A clock that stands before its first reading.
+    /// Returns a clock before its first reading.
     pub fn new(script: Vec<Option<Moment>, Global>) -> ScriptClock
         ensures { result ≡ record { script = script.items; place = 0 } }
     {
@@ -58,7 +58,7 @@ impl Clock for ScriptClock {
     }
 }
 
-// The reading at a place of the script. Behind its end it is the last one.
+// Returns the reading at a place of the script, or the last one if the place is past its end.
 fn reading_at(script: &[Option<Moment>], place: usize) -> Option<Moment>
     ensures within { place < length script.now → slice_get script.now place ≡ Some result }
     ensures behind { length script.now ≤ place → result ≡ last_reading script.now }

@@ -1,4 +1,4 @@
-//! The next connection of a listener.
+//! Accepts the next connection of a listener.
 ghost use Rattle.std.specs.Prelude.{◌≡◌, OnErr, true};
 ghost use Rattle.bq_line.specs.Accepts.{ends_listener, is_listener_fault};
 
@@ -14,18 +14,21 @@ use std::{io, thread};
 /// How long a door waits before it tries again to accept a connection, in milliseconds.
 const REST: u64 = 100;
 
-/// Linux's numbers of the errors that say that the listener itself is broken: EBADF, EFAULT, EINVAL and ENOTSOCK.
+/// The Linux error numbers that mean that the listener itself is broken: EBADF, EFAULT, EINVAL and
+/// ENOTSOCK.
 const LISTENER_FAULTS: [i32; 4] = [9, 14, 22, 88];
 
-/// How many peers that are gone one accept passes that does not wait.
+/// How many peers that have disconnected already one call that does not wait skips.
 const PEERS: u32 = 64;
 
-/// What the error of an accept says.
+/// What an error of accept means.
 enum NotAccepted {
-    /// The peer had closed its connection, or a signal came. The next connection can be accepted at once.
+    /// The peer had closed its connection, or a signal arrived. The next connection can be accepted
+    /// at once.
     OfPeer,
-    /// The system lacks memory or descriptors, the network failed, or a firewall forbade the connection. Linux also
-    /// returns pending network errors of the new socket here. None of these says anything about the listener.
+    /// The system lacks memory or descriptors, the network failed, or a firewall rejected the
+    /// connection. Linux also returns pending network errors of the new socket here. None of these
+    /// concerns the listener.
     Passing,
     /// The listener is broken.
     OfListener,
@@ -33,9 +36,9 @@ enum NotAccepted {
 
 /// Returns the next connection, set to send each write at once.
 ///
-/// A peer that is gone by then is skipped. After any other error that does not come from the listener itself, the
-/// door waits and tries again, so such an error never ends a door. It is reported once, and so is the end of the
-/// listener.
+/// A peer that has already disconnected is skipped. After any other error that does not come from
+/// the listener itself, the door waits and tries again, so such an error never ends a door. It is
+/// reported once, and so is a broken listener.
 pub(super) fn accept<R: Wait + Clock + Eprint, T: Listen>(
     rt: &R,
     listener: &T,
@@ -47,7 +50,7 @@ pub(super) fn accept<R: Wait + Clock + Eprint, T: Listen>(
     for _ in rt.forever() {
         match listener.accept() {
             Ok(mut stream) => {
-                // This fails if the peer has gone.
+                // This fails if the peer has disconnected.
                 if stream.set_gathers(false).is_ok() {
                     met.end();
                     return Ok(Connection::new(stream));
@@ -72,16 +75,16 @@ pub(super) fn accept<R: Wait + Clock + Eprint, T: Listen>(
 /// The result of an accept that does not wait.
 #[derive(Drop)]
 pub(super) enum Accepted<S> {
-    /// A connection, none of whose calls waits.
+    /// A connection whose calls do not wait.
     Came(Connection<S>),
-    /// None has come yet.
+    /// No client has connected yet.
     NoneYet,
-    /// None can be accepted for a while.
+    /// No connection can be accepted for a while.
     Short,
 }
 
-/// Accepts the next connection of a listener that does not wait. `is_met` says whether an error was met since the last
-/// connection was accepted: it is reported once.
+/// Accepts the next connection of a listener that does not wait. `is_met` is true if an error
+/// occurred since the last connection was accepted; such an error is reported once.
 pub(super) fn accept_now<R: Eprint, T: Listen>(
     rt: &R,
     listener: &T,
@@ -94,7 +97,7 @@ pub(super) fn accept_now<R: Eprint, T: Listen>(
     for _ in 0..PEERS {
         match listener.accept() {
             Ok(mut stream) => {
-                // Neither can be set if the peer has gone.
+                // Neither can be set if the peer has disconnected.
                 if stream.set_gathers(false).is_ok() && stream.set_waits(false).is_ok() {
                     met.end();
                     *is_met = false;

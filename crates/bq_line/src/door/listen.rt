@@ -1,4 +1,4 @@
-//! What a door needs of a listener.
+//! What a door needs from a listener.
 ghost use Rattle.std.specs.Prelude.{◌≡◌, Bool, IfErr, true};
 ghost use Rattle.bq_line.specs.Accepts.{ends_listener};
 
@@ -12,21 +12,23 @@ pub trait Listen {
     /// The stream of a connection. Its calls wait.
     type Stream: Socket + Drop;
 
-    /// Whether it may come to its end.
+    /// True if the listener may break.
     ghost may_fail: { Self → Bool };
 
-    /// Waits for the next connection. An error says that this one could not be accepted, or that the listener is broken
-    /// and accepts no more (`ends_listener`). Only a listener that may fail returns an error of the second kind.
+    /// Waits for the next connection. An error means that this connection could not be accepted, or
+    /// that the listener is broken and accepts no more (`ends_listener`). Only a listener that may
+    /// break returns an error of the second kind.
     fn accept(&self) -> io::Result<Self::Stream>
         ensures { IfErr result (λ e. ends_listener e ≡ true → may_fail self.now ≡ true) };
 
-    /// The descriptor by which the system reports when a connection has come, if there is one.
+    /// Returns the descriptor on which the system reports that a client has connected, if there is
+    /// one.
     fn source(&self) -> Option<RawFd> {
         None
     }
 }
 
-/// Nothing is known of the system's sockets: each may come to its end at once.
+/// Nothing is assumed about the system's sockets: any of them may break at once.
 impl Listen for TcpListener {
     ghost use Rattle.std.specs.Prelude.{true};
 

@@ -15,31 +15,31 @@ use std::os::fd::RawFd;
 use std::rt::Clock;
 use std::sync::Wait;
 
-/// A door at which connections come that a listener accepts. Many doors can share a listener: a connection
-/// comes at one of them.
+/// A door for the connections that a listener accepts. Several doors can share a listener; each
+/// connection goes to one door.
 #[derive(Drop)]
 pub struct ListenDoor<'l, R, T> {
     rt: &'l R,
     listener: &'l T,
-    // Where it is told that connections can't be accepted.
+    // Reports that connections can't be accepted.
     refusals: Option<&'l Refusals>,
-    // Where it is told that all doors are taken.
+    // Reports that all doors are taken.
     free: Option<&'l FreeDoors>,
-    // Where it is counted that the door is at its end.
+    // Counts the doors that still take connections.
     counted: Option<&'l OpenDoors>,
-    // How many connections still come. None: they come without end.
+    // How many more connections come; `None` for no limit.
     left: Option<u32>,
-    // What the next connection is read through. It goes out with a connection, and comes back with it.
+    // The read buffer of the next connection. It is lent to an open line, and comes back with it.
     buffer: Option<ReadBuffer>,
     is_out: bool,
     is_at_end: bool,
     met_fault: bool,
-    // Whether an accept that does not wait met a shortage since the last connection.
+    // True if an accept that does not wait met a shortage since the last connection.
     met_shortage: bool,
-    // For proofs alone.
+    // For proofs only.
     over: LineRecord,
     ghost lent: { is_out ≡ false → IsSome buffer },
-    // It is at its end by a fault, or after all connections that may come.
+    // The door has ended because of a fault, or after all connections that may come.
     ghost ended: { is_at_end ≡ true → met_fault ≡ false → left ≡ Some 0 },
 }
 
@@ -48,8 +48,8 @@ impl<'l, R: Wait + Clock + Eprint, S: Socket + Drop + Send, T: Listen<Stream = S
     R,
     T,
 > {
-    /// A door at which so many connections of the listener come, or with None connections without end. They are
-    /// read through this buffer, one after another.
+    /// Returns a door for `sessions` connections of the listener, or for connections without limit
+    /// if it is `None`. They are read through `buffer`, one after another.
     pub fn new(
         rt: &'l R,
         listener: &'l T,
@@ -81,7 +81,7 @@ impl<'l, R: Wait + Clock + Eprint, S: Socket + Drop + Send, T: Listen<Stream = S
 }
 
 impl<'l, R: Clock + Eprint, T> ListenDoor<'l, R, T> {
-    /// The same door, which tells of connections that can't be accepted.
+    /// Returns the same door, which also reports connections that can't be accepted.
     pub fn telling(mut self, refusals: &'l Refusals) -> ListenDoor<'l, R, T>
         ensures inside { result.is_out ≡ self.entry.is_out }
         ensures at_end { result.is_at_end ≡ self.entry.is_at_end }
@@ -95,7 +95,7 @@ impl<'l, R: Clock + Eprint, T> ListenDoor<'l, R, T> {
         self
     }
 
-    /// The same door, one of these, which tell that all of them are taken.
+    /// Returns the same door as one of a group that reports when all of its doors are taken.
     pub fn among(mut self, free: &'l FreeDoors) -> ListenDoor<'l, R, T>
         ensures inside { result.is_out ≡ self.entry.is_out }
         ensures at_end { result.is_at_end ≡ self.entry.is_at_end }
@@ -110,7 +110,7 @@ impl<'l, R: Clock + Eprint, T> ListenDoor<'l, R, T> {
         self
     }
 
-    /// The same door, one of these, which are counted.
+    /// Returns the same door as one of a group that is counted.
     pub fn counted(mut self, among: &'l OpenDoors) -> ListenDoor<'l, R, T>
         ensures inside { result.is_out ≡ self.entry.is_out }
         ensures at_end { result.is_at_end ≡ self.entry.is_at_end }
@@ -126,7 +126,7 @@ impl<'l, R: Clock + Eprint, T> ListenDoor<'l, R, T> {
         self
     }
 
-    /// Whether the door is at its end because a connection could not be accepted.
+    /// Returns true if the door has ended because a connection could not be accepted.
     pub fn met_fault(&self) -> bool
         ensures { result ≡ self.now.met_fault }
     {
@@ -139,7 +139,7 @@ impl<'l, R: Clock + Eprint, T> ListenDoor<'l, R, T> {
         }
     }
 
-    // One at which no more connections come isn't free again.
+    // A door that takes no more connections isn't free again.
     fn tell_free(&self) {
         if self.left == Some(0) {
             return;
@@ -164,7 +164,7 @@ impl<'l, R: Clock + Eprint, T> ListenDoor<'l, R, T> {
         }
     }
 
-    // A connection goes out, which is counted, and the buffer with it.
+    // Counts a connection that goes out, and lends it the buffer.
     fn lend(&mut self) -> ReadBuffer
         requires more { self.old.left ≡ Some 0 → ⊥ }
         requires inside { self.old.is_out ≡ false }
@@ -199,7 +199,7 @@ impl<'l, R: Wait + Clock + Eprint, S: Socket + Drop + Send, T: Listen<Stream = S
 
     ghost lines_over = { λ door. door.over };
 
-    // It has the same listener, and as many connections come at it in all.
+    // It has the same listener, and the same total number of connections.
     ghost same = { λ first last. (last.listener ≡ first.listener) ×
         (in_all last.left last.is_out last.over ≡ in_all first.left first.is_out first.over) };
 
@@ -213,11 +213,11 @@ impl<'l, R: Wait + Clock + Eprint, S: Socket + Drop + Send, T: Listen<Stream = S
         ensures over { self.new.over ≡ self.old.over }
         ensures same { (first : _) → ⟦<ListenDoor<'l, R, T> as Door>⟧.same first self.old →
             ⟦<ListenDoor<'l, R, T> as Door>⟧.same first self.new }
-        // A fault is one of the listener, and is kept for `met_fault`.
+        // A fault comes from the listener, and is kept for `met_fault`.
         ensures of_listener { OnErr result (T.may_fail self.old.listener.now ≡ true) }
         ensures fault { OnErr result (self.new.met_fault ≡ true) }
         ensures no_fault { OnOk result (self.new.met_fault ≡ self.old.met_fault) }
-        // There is no line exactly where as many were opened as may come.
+        // There is no line if and only if all connections that may come were opened.
         ensures none { IfOk result (λ line. IsNone line ↔ (self.old.left ≡ Some 0)) }
         ensures left { OnErr result (self.old.left ≡ Some 0 → ⊥) }
     {
@@ -241,7 +241,7 @@ impl<'l, R: Wait + Clock + Eprint, S: Socket + Drop + Send, T: Listen<Stream = S
         }
     }
 
-    // The listener was made not to wait.
+    // The listener was set not to wait.
     fn look(
         &mut self,
         may_have_come: bool,
@@ -256,7 +256,7 @@ impl<'l, R: Wait + Clock + Eprint, S: Socket + Drop + Send, T: Listen<Stream = S
         ensures of_listener { OnErr result (T.may_fail self.old.listener.now ≡ true) }
         ensures fault { OnErr result (self.new.met_fault ≡ true) }
         ensures no_fault { OnOk result (self.new.met_fault ≡ self.old.met_fault) }
-        // No more come exactly if as many were opened as may come.
+        // No more lines come if and only if all connections that may come were opened.
         ensures none { IfOk result (λ opening. IsNoMore opening ↔ (self.old.left ≡ Some 0)) }
         ensures left { OnErr result (self.old.left ≡ Some 0 → ⊥) }
     {
@@ -294,8 +294,8 @@ impl<'l, R: Wait + Clock + Eprint, S: Socket + Drop + Send, T: Listen<Stream = S
         self.listener.source()
     }
 
-    // What the system still gathers is sent first: closing drops it where the client sent bytes that nobody read. The
-    // connection is closed where its stream is dropped, and the buffer is kept for the next one.
+    // Data that the system still gathers is sent first: closing a socket with unread input discards
+    // it. Dropping the stream closes the connection, and the buffer is kept for the next one.
     fn shut(&mut self, mut line: BufferedLine<Connection<S>>, end: LineEnd) {
         line.expect_more(false);
         self.tell_free();

@@ -1,22 +1,23 @@
-//! What is told of connections that can't be accepted.
+//! Reports connections that can't be accepted.
 ghost use Rattle.std.specs.Prelude.{◌≡◌};
 
 use std::io;
 use std::io::Eprint;
 use std::sync::atomic::{AtomicU32, Ordering};
 
-/// Tells on standard error where connections can't be accepted: a line when some door meets a fault, and no other
-/// until each door that met one has accepted a connection again. The doors of a listener share it.
+/// Reports on standard error that connections can't be accepted: one line when a door meets a
+/// fault, and no other line until each door that met one has accepted a connection again. The doors
+/// of a listener share it.
 #[derive(Drop)]
 pub struct Refusals {
-    // What is told before the system's words.
+    // The text before the system's error message.
     text: &'static str,
-    // How many doors met a fault, and accepted no connection since.
+    // How many doors met a fault and have accepted no connection since.
     met: AtomicU32,
 }
 
 impl Refusals {
-    /// None was met. A line begins with this text.
+    /// Returns a record without faults. Each line begins with `text`.
     pub fn new(text: &'static str) -> Refusals
         ensures { result.text ≡ text.entry }
     {
@@ -26,21 +27,22 @@ impl Refusals {
         }
     }
 
-    // A door met a fault, where it accepted a connection before.
+    // Records that a door met its first fault since it accepted a connection.
     fn meet<R: Eprint>(&self, rt: &R, e: &io::Error) {
         if self.met.fetch_add(1, Ordering::Relaxed) == 0 {
-            // Who closes standard error doesn't want to know.
+            // If standard error is closed, the line is lost.
             let _told = eprintln!(rt; "{}: {e}", self.text);
         }
     }
 
-    // A door that met a fault accepted a connection again.
+    // Records that a door that met a fault accepted a connection again.
     fn pass(&self) {
         self.met.fetch_sub(1, Ordering::Relaxed);
     }
 }
 
-/// Whether one door met a fault since it accepted a connection, told by what its doors share, if it is told at all.
+/// Whether one door met a fault since it last accepted a connection. The record that its doors
+/// share, if any, reports it.
 #[derive(Drop)]
 pub(super) struct Met<'r> {
     refusals: Option<&'r Refusals>,
@@ -55,12 +57,12 @@ impl<'r> Met<'r> {
         }
     }
 
-    /// A door of which it is known whether it met a fault since it accepted a connection.
+    /// A door that may have met a fault already, as `is_met` says.
     pub(super) fn before(refusals: Option<&'r Refusals>, is_met: bool) -> Met<'r> {
         Met { refusals, is_met }
     }
 
-    /// A connection could not be accepted.
+    /// Records that a connection could not be accepted.
     pub(super) fn note<R: Eprint>(&mut self, rt: &R, e: &io::Error) {
         if self.is_met {
             return;
@@ -71,7 +73,7 @@ impl<'r> Met<'r> {
         }
     }
 
-    /// A connection was accepted.
+    /// Records that a connection was accepted.
     pub(super) fn end(self) {
         if self.is_met {
             if let Some(refusals) = self.refusals {

@@ -12,8 +12,8 @@ use std::marker::Model;
 use std::os::fd::RawFd;
 use std::{io, mem};
 
-/// A line over any stream. Beside the stream it keeps the two marks, and records of the bytes that the
-/// stream's reads gave and its writes took, which take no memory.
+/// A line over any stream. Besides the stream it keeps two flags, and records of the bytes that the
+/// stream's reads returned and its writes took; these records take no memory.
 #[derive(Drop)]
 pub struct IoLine<S> {
     stream: S,
@@ -24,7 +24,7 @@ pub struct IoLine<S> {
 }
 
 impl<S: Duplex> IoLine<S> {
-    /// A line on which nothing was done, over this stream.
+    /// Returns an unused line over this stream.
     pub fn new(stream: S) -> IoLine<S>
         ensures new { result
             ≡ record { stream = stream; ended = false; fault = None; read = []; written = [] } }
@@ -40,7 +40,7 @@ impl<S: Duplex> IoLine<S> {
         }
     }
 
-    // Keeps what came of a read.
+    // Records the result of a read.
     fn note_read(&mut self, came: &io::Result<usize>, buf: &[u8])
         requires { ReadsAtMost came.now buf.now }
         ensures seen { ⟦<IoLine<S> as Line>⟧.seen self.new
@@ -54,7 +54,7 @@ impl<S: Duplex> IoLine<S> {
         }
     }
 
-    // Keeps that a read failed, unless there were only no bytes yet.
+    // Records that a read failed, unless there were merely no bytes yet.
     fn note_error(&mut self, e: &io::Error)
         ensures seen { ⟦<IoLine<S> as Line>⟧.seen self.new
             ≡ after_fill (Err e.now) (⟦<IoLine<S> as Line>⟧.seen self.old) }
@@ -65,7 +65,7 @@ impl<S: Duplex> IoLine<S> {
         }
     }
 
-    // Keeps that a write failed, unless there was only no room yet.
+    // Records that a write failed, unless there was merely no room yet.
     fn note_unwritten(&mut self, e: &io::Error)
         ensures seen { ⟦<IoLine<S> as Line>⟧.seen self.new
             ≡ after_write (Err e.now) [] (⟦<IoLine<S> as Line>⟧.seen self.old) }
@@ -76,7 +76,7 @@ impl<S: Duplex> IoLine<S> {
         }
     }
 
-    // One read of the stream, which may wait or not.
+    // Reads the stream once; `waits` says whether that may wait.
     fn read_by(&mut self, buf: &mut [u8], waits: bool) -> io::Result<usize>
         requires { 0 < length buf.old }
         ensures bound { ReadsAtMost result buf.new }
@@ -93,7 +93,7 @@ impl<S: Duplex> IoLine<S> {
 }
 
 impl<S> IoLine<S> {
-    /// The stream, whatever was done on the line.
+    /// Returns the stream, whatever was done on the line.
     pub fn into_stream(self) -> S
         ensures { result ≡ self.stream }
     {
@@ -101,9 +101,9 @@ impl<S> IoLine<S> {
     }
 }
 
-// The clauses `stream` hold each call to the stream: where that tells the bytes that it has left and that it holds, a
-// line that answers other bytes than its stream, or makes no call, meets none of them. The clauses `stays` hold the
-// line as a whole to the stream that it was made over.
+// The `stream` clauses tie each call to the stream: if the stream's remaining and written bytes are
+// known, a line that returns other bytes than its stream, or does not call it, violates them. The
+// `stays` clauses tie the whole line to the stream that it was made over.
 impl<S: Duplex> Line for IoLine<S> {
     ghost use Rattle.std.specs.Prelude.{[]};
     ghost use Rattle.bq_line.specs.Streams.{LiesOver};
@@ -114,7 +114,7 @@ impl<S: Duplex> Line for IoLine<S> {
         (record { read = line.read; written = line.written; ended = line.ended; fault = line.fault })
         (record { left = S.remaining line.stream; held = S.contents line.stream }) };
 
-    // It has no room of its own.
+    // It has no buffer of its own.
     ghost unread = { λ line. [] };
 
     fn read(&mut self, buf: &mut [u8]) -> io::Result<usize>
@@ -230,9 +230,9 @@ impl<S: Duplex> Line for IoLine<S> {
     }
 }
 
-/// A line over a stream that is read through a buffer, which is the line's own room: what lies there is lent, so that
-/// nobody has to copy it. Only where nothing does is the stream asked, for as much as the buffer has room for. What is
-/// written goes to the stream at once.
+/// A line over a stream that is read through a buffer of the line's own. Buffered bytes are lent to
+/// the caller, so that they need not be copied. The stream is read only if the buffer is empty, for
+/// as many bytes as fit. Writes go to the stream at once.
 #[derive(Drop)]
 pub struct BufferedLine<S> {
     line: IoLine<S>,
@@ -240,7 +240,7 @@ pub struct BufferedLine<S> {
 }
 
 impl<S: Duplex> BufferedLine<S> {
-    /// A line on which nothing was done, over this stream. What lay in the buffer is given up.
+    /// Returns an unused line over this stream. The contents of the buffer are dropped.
     pub fn new(stream: S, mut came: ReadBuffer) -> BufferedLine<S>
         ensures { result ≡ record {
           line = record { stream = stream; ended = false; fault = None; read = []; written = [] };
@@ -254,7 +254,7 @@ impl<S: Duplex> BufferedLine<S> {
         }
     }
 
-    // One read of what lies in the buffer, or else of the stream.
+    // Reads from the buffer once or, if it is empty, from the stream.
     fn read_by(&mut self, buf: &mut [u8], waits: bool) -> io::Result<usize>
         requires { 0 < length buf.old }
         ensures bound { ReadsAtMost result buf.new }
@@ -269,7 +269,7 @@ impl<S: Duplex> BufferedLine<S> {
 }
 
 impl<S> BufferedLine<S> {
-    /// The buffer, whatever was done on the line. The stream is dropped.
+    /// Returns the buffer, whatever was done on the line, and drops the stream.
     pub fn into_buffer(self) -> ReadBuffer
     where
         S: Drop,
@@ -285,7 +285,7 @@ impl<S: Duplex> Line for BufferedLine<S> {
 
     ghost seen = { λ line. ⟦<IoLine<S> as Line>⟧.seen line.line };
 
-    // What lies in the buffer comes before what the stream has left.
+    // The buffered bytes come before those that the stream has left.
     ghost lies_over = { λ first line. LiesOver first (⟦<IoLine<S> as Line>⟧.seen line.line)
         (record { left = prepend_known line.came (S.remaining line.line.stream); held = S.contents line.line.stream }) };
 
@@ -345,7 +345,7 @@ impl<S: Duplex> Line for BufferedLine<S> {
         self.line.may_take()
     }
 
-    // What lies in the buffer would be lost with it.
+    // Buffered bytes would be lost with the buffer.
     fn exchange(&mut self, buffer: &mut ReadBuffer) {
         if self.came.is_empty() && buffer.is_empty() {
             mem::swap(&mut self.came, buffer);
@@ -361,7 +361,8 @@ impl<S: Duplex> Line for BufferedLine<S> {
     }
 }
 
-/// Bytes that went over a line. It takes no memory, and its methods do nothing at run time.
+/// The bytes that went over a line, for proofs: it takes no memory, and its methods do nothing at
+/// run time.
 #[derive(Drop)]
 pub struct ByteRecord {
     tag: Tag,
@@ -376,20 +377,21 @@ impl Model for ByteRecord {
 }
 
 impl ByteRecord {
+    /// Returns a record without bytes.
     pub fn new() -> ByteRecord
         ensures { result ≡ [] }
     {
         ByteRecord { tag: Tag::empty() }
     }
 
-    /// These bytes went over the line too.
+    /// Adds bytes that went over the line.
     pub fn note(&mut self, bytes: &[u8])
         ensures { self.new ≡ self.old ++ bytes.now }
     {
         self.tag = with_bytes(&self.tag, bytes);
     }
 
-    // So many first bytes of three texts went over the line too.
+    // Adds the first `count` bytes of three texts that went over the line.
     #[tactic(auto, using(crate::proofs::TogetherLemmas::taken_together))]
     fn note_together(&mut self, count: usize, first: &[u8], second: &[u8], third: &[u8])
         ensures { self.new ≡ self.old ++ take count (first.now ++ second.now ++ third.now) }
@@ -402,7 +404,7 @@ impl ByteRecord {
     }
 }
 
-// So many first bytes, or all where there are fewer.
+// Returns the first `count` bytes, or all if there are fewer.
 fn first_bytes(count: usize, bytes: &[u8]) -> &[u8]
     ensures { result.now ≡ take count bytes.now }
 {

@@ -14,20 +14,20 @@ use std::io::ErrorKind;
 /// A part of what a client in memory does.
 #[derive(Drop)]
 pub enum Part {
-    /// It sends these bytes. A part without bytes gives none, and is no end of the input.
+    /// It sends these bytes. A part without bytes is skipped; it does not end the input.
     Bytes(Vec<u8, Global>),
-    /// It sends no more until so many bytes were written to it.
+    /// It sends no more until this many bytes were written to it.
     AfterWritten(usize),
-    /// Its line fails: one read is answered by a fault.
+    /// Its line fails: one read returns a fault.
     Fault,
 }
 
-/// A line to a client in memory: a list of parts, behind which the input ends, and room for the bytes
-/// that are written.
+/// A line to a client in memory: a list of parts, after which the input ends, and room for the
+/// bytes that are written.
 #[derive(Drop)]
 pub struct MemLine {
     parts: Vec<Part, Global>,
-    // How many parts are over, and how many bytes of the next one were read.
+    // How many parts are done, and how many bytes of the next one were read.
     place: usize,
     offset: usize,
     written: Vec<u8, Global>,
@@ -36,12 +36,13 @@ pub struct MemLine {
     ended: bool,
     fault: Option<LineFault>,
     ghost fits: { vec_len written + room ≤ vec_capacity written },
-    // Its input has ended only where no part is left.
+    // Its input has ended only if no part is left.
     ghost none_left: { ended ≡ true → vec_len parts ≤ place },
 }
 
 impl MemLine {
-    /// A line of these parts, to which `room` bytes can be written. Their memory is asked for here.
+    /// Returns a line with these parts, to which `room` bytes can be written. Returns `NoMemory` if
+    /// the allocation of that room fails.
     #[tactic(auto, using(crate::proofs::PartLemmas::at_first))]
     pub fn new(alloc: Global, parts: Vec<Part, Global>, room: usize) -> Result<MemLine, NoMemory>
         ensures parts { IfOk result (λ line. line.parts ≡ parts) }
@@ -63,14 +64,14 @@ impl MemLine {
         }
     }
 
-    /// The bytes that were written to the line.
+    /// Returns the bytes that were written to the line.
     pub fn written(&self) -> &[u8]
         ensures { result.now ≡ self.now.written.items }
     {
         self.written.as_slice()
     }
 
-    // The parts that are over are passed.
+    // Skips the parts that are done.
     fn pass_parts(&mut self)
         ensures seen { ⟦<MemLine as Line>⟧.seen self.new ≡ ⟦<MemLine as Line>⟧.seen self.old }
         ensures open { IfSome (slice_get self.new.parts.items self.new.place)
@@ -86,7 +87,7 @@ impl MemLine {
         self.offset = offset;
     }
 
-    // The part that comes next answers, which isn't over.
+    // Reads from the next part, which isn't done.
     fn read_part(&mut self, buf: &mut [u8]) -> io::Result<usize>
         requires some { 0 < length buf.old }
         requires open { IfSome (slice_get self.old.parts.items self.old.place)
@@ -132,10 +133,10 @@ impl Line for MemLine {
       fault = line.fault;
     } };
 
-    // Its stream are the bytes of its parts, and nothing was written to it at first.
+    // Its stream consists of the bytes of its parts, and nothing had been written to it.
     ghost lies_over = { λ first line. first ≡ record { left = Some (all_bytes line.parts.items); held = Some [] } };
 
-    // It has no room of its own.
+    // It has no buffer of its own.
     ghost unread = { λ line. [] };
 
     fn read(&mut self, buf: &mut [u8]) -> io::Result<usize>
@@ -144,7 +145,7 @@ impl Line for MemLine {
         ensures seen { ⟦<MemLine as Line>⟧.seen self.new
             ≡ after_read result buf.new (⟦<MemLine as Line>⟧.seen self.old) }
         ensures stays { StaysOver ⟦<MemLine as Line>⟧.lies_over self.old self.new }
-        // The first part that isn't over answers, and no other is passed.
+        // The first part that isn't done answers, and no other is skipped.
         ensures answered { IsAnsweredBy
             (slice_get self.old.parts.items (open_place self.old.parts.items self.old.place self.old.offset (vec_len self.old.written)))
             result }
@@ -159,14 +160,14 @@ impl Line for MemLine {
         self.read_part(buf)
     }
 
-    // A client in memory is never waited for.
+    // A client in memory never has to be waited for.
     fn read_now(&mut self, buf: &mut [u8]) -> io::Result<usize>
         requires { 0 < length buf.old }
         ensures bound { ReadsAtMost result buf.new }
         ensures seen { ⟦<MemLine as Line>⟧.seen self.new
             ≡ after_read result buf.new (⟦<MemLine as Line>⟧.seen self.old) }
         ensures stays { StaysOver ⟦<MemLine as Line>⟧.lies_over self.old self.new }
-        // The first part that isn't over answers, and no other is passed.
+        // The first part that isn't done answers, and no other is skipped.
         ensures answered { IsAnsweredBy
             (slice_get self.old.parts.items (open_place self.old.parts.items self.old.place self.old.offset (vec_len self.old.written)))
             result }
@@ -192,7 +193,7 @@ impl Line for MemLine {
         ensures seen { ⟦<MemLine as Line>⟧.seen self.new
             ≡ after_write result buf.now (⟦<MemLine as Line>⟧.seen self.old) }
         ensures stays { StaysOver ⟦<MemLine as Line>⟧.lies_over self.old self.new }
-        // As many bytes as fit are taken. Only where none does is there a fault.
+        // As many bytes as fit are taken. A write fails only if no byte fits.
         ensures taken { IfOk result
             (λ count. (count ≡ min (length buf.now) self.old.room)
             × (self.new.room + count ≡ self.old.room)) }
@@ -220,7 +221,8 @@ impl Line for MemLine {
     }
 }
 
-// Whether a part is over, once so many bytes of it were read and so many were written to the line.
+// Returns true if a part is done, given how many of its bytes were read and how many bytes were
+// written to the line.
 fn is_over(part: &Part, offset: usize, written: usize) -> bool
     ensures { result ≡ is_over offset written part.now }
 {
@@ -231,7 +233,7 @@ fn is_over(part: &Part, offset: usize, written: usize) -> bool
     }
 }
 
-// The place and the offset from which the line goes on: parts that are over are passed.
+// Returns the place and the offset at which the line continues, after skipping parts that are done.
 fn next_open(parts: &[Part], place: usize, offset: usize, written: usize) -> (usize, usize)
     ensures same { bytes_up_to parts.now result.0 result.1 ≡ bytes_up_to parts.now place offset }
     ensures open { IfSome (slice_get parts.now result.0)

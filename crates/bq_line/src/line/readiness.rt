@@ -10,14 +10,16 @@ pub struct Readiness {
     pub reads: bool,
     /// There may be room for bytes.
     pub writes: bool,
-    /// The client sends no more: after a read that leaves room in its buffer comes the end of the input.
+    /// The client sends no more: after a read that leaves room in its buffer comes the end of the
+    /// input.
     pub is_closing: bool,
-    /// No event of the stream will be reported, so it is given up: its next read fails.
+    /// No event of the stream will be reported, so the connection can't be used: its next read
+    /// fails.
     pub is_lost: bool,
 }
 
 impl Readiness {
-    /// What is known of a stream before its first event: it has room for bytes.
+    /// The state of a stream before its first event: it has room for bytes.
     pub const NEW: Readiness = Readiness {
         reads: false,
         writes: true,
@@ -25,7 +27,7 @@ impl Readiness {
         is_lost: false,
     };
 
-    /// What is noted of a stream whose events cannot be watched.
+    /// The state of a stream whose events cannot be watched.
     pub const LOST: Readiness = Readiness {
         reads: true,
         writes: false,
@@ -33,7 +35,7 @@ impl Readiness {
         is_lost: true,
     };
 
-    /// What is known once this was reported too.
+    /// Combines what is known with what was reported now.
     pub fn and(self, more: Readiness) -> Readiness {
         Readiness {
             reads: self.reads || more.reads,
@@ -43,8 +45,9 @@ impl Readiness {
         }
     }
 
-    /// What is known after a read into a room of this many bytes. A read that leaves room took all that there was. One that was
-    /// interrupted took nothing, and no event follows it: it has to be made again.
+    /// Returns what is known after a read into a buffer of this many bytes. A read that leaves room
+    /// took all bytes that there were. A read that was interrupted took nothing, and no event
+    /// follows it, so it has to be repeated.
     pub fn after_read(self, came: &io::Result<usize>, room: usize) -> Readiness {
         let took_all = match came {
             Ok(count) => *count < room && !self.is_closing,
@@ -58,7 +61,8 @@ impl Readiness {
         }
     }
 
-    /// What is known after a write. One that was interrupted left the room as it was, and has to be made again.
+    /// Returns what is known after a write. A write that was interrupted left the room as it was,
+    /// and has to be repeated.
     pub fn after_write(self, took: &io::Result<usize>) -> Readiness {
         let found_no_room = match took {
             Ok(_) => false,

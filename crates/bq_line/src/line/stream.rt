@@ -1,5 +1,5 @@
-//! Streams of both ways: what a line lies over, what a connection needs of a stream, and the connection. Behind them is
-//! the buffer that a stream is read into.
+//! Streams in both directions: what a line is built on, what a connection needs of a stream, the
+//! connection, and the buffer that a stream is read into.
 ghost use Rattle.std.specs.Prelude.{◌≡◌, ◌==◌, ◌≤◌, ◌<◌, ℕ, [], Bool, IfOk, OnErr, OnOk, List, None, Option, ◌++◌};
 ghost use Rattle.std.specs.Prelude.{drop, false, length, min, take, true, vec_len};
 ghost use Rattle.std.specs.Io.{ReadsAtMost, WritesAtMost};
@@ -16,13 +16,14 @@ use std::marker::Model;
 use std::net::TcpStream;
 use std::os::fd::{AsRawFd, RawFd};
 
-/// A stream that is read and written, and whose two ways are apart: a read changes nothing of what was written, and
-/// a write nothing of what is left to read. The standard library's `Read` and `Write` each speak of one way alone.
+/// A stream that is read and written, with independent directions: a read does not change what was
+/// written, and a write does not change what is left to read. The contracts of the standard
+/// library's `Read` and `Write` cover one direction each.
 pub trait Duplex {
-    /// The bytes that reads will give from here on, where they are known.
+    /// The bytes that reads will return from here on, if they are known.
     ghost remaining: { Self → Option (List ℕ) } = { λ _. None };
 
-    /// The bytes that were written, where they are known.
+    /// The bytes that were written, if they are known.
     ghost contents: { Self → Option (List ℕ) } = { λ _. None };
 
     /// Reads as `std::io::Read` does.
@@ -31,8 +32,8 @@ pub trait Duplex {
         ensures bytes { ReadConsumes (remaining self.old) (remaining self.new) result buf.new }
         ensures apart { Keeps (contents self.old) (contents self.new) };
 
-    /// Reads as `read` does, but where that would wait for bytes it answers `WouldBlock`. A stream that has
-    /// one read only is read by that one: who reads it must be ready to wait.
+    /// Reads as `read` does, but returns `WouldBlock` where that would wait for bytes. A stream
+    /// without such a read uses `read`, so the caller must be prepared to wait.
     fn read_now(&mut self, buf: &mut [u8]) -> io::Result<usize>
         ensures bound { ReadsAtMost result buf.new }
         ensures bytes { ReadConsumes (remaining self.old) (remaining self.new) result buf.new }
@@ -47,8 +48,9 @@ pub trait Duplex {
         ensures bytes { WriteAppends (contents self.old) (contents self.new) result buf.now }
         ensures apart { Keeps (remaining self.old) (remaining self.new) };
 
-    /// Writes first bytes of three texts, as `write` does of the one that they are together. A stream that has a call for
-    /// that copies none of them into one place first; any other writes of the first text.
+    /// Writes a first part of three texts, as `write` does for the text that they form together. By
+    /// default it writes from the first text only; a stream with gathered writes does not copy
+    /// them.
     fn write_together(&mut self, first: &[u8], second: &[u8], third: &[u8]) -> io::Result<usize>
         ensures bound { WritesAtMost result (first.now ++ second.now ++ third.now) }
         ensures bytes { WriteAppends (contents self.old) (contents self.new)
@@ -58,34 +60,38 @@ pub trait Duplex {
         self.write(first)
     }
 
-    /// Hands on what is held back, as `std::io::Write` does.
+    /// Sends what is held back, as `std::io::Write` does.
     fn flush(&mut self) -> io::Result<()>
         ensures bytes { Keeps (contents self.old) (contents self.new) }
         ensures apart { Keeps (remaining self.old) (remaining self.new) };
 
-    /// More will be written soon, so that small writes may go out together, or not any more. No bytes are at stake:
-    /// what was written stays written, and a stream that can't use the hint does nothing.
+    /// A hint whether more will be written soon, so that small writes may go out together. It does
+    /// not change which bytes were written, and a stream that can't use it does nothing.
     fn expect_more(&mut self, more: bool)
         ensures bytes { Keeps (contents self.old) (contents self.new) }
         ensures apart { Keeps (remaining self.old) (remaining self.new) }
     {}
 
-    /// Returns false if a read would only say that there are no bytes yet, as far as the stream knows.
+    /// Returns false if a read would only report that there are no bytes yet, as far as the stream
+    /// knows.
     fn may_give(&self) -> bool {
         true
     }
 
-    /// Returns false if a write would only say that there is no room yet, as far as the stream knows.
+    /// Returns false if a write would only report that there is no room yet, as far as the stream
+    /// knows.
     fn may_take(&self) -> bool {
         true
     }
 
-    /// The descriptor by which the system reports when the stream is ready, if it has one.
+    /// Returns the descriptor on which the system reports that the stream is ready, if there is
+    /// one.
     fn source(&self) -> Option<RawFd> {
         None
     }
 
-    /// Notes what the system reported that the stream is ready for. A stream that is not watched does nothing.
+    /// Records what the system reported about the stream's readiness. A stream that is not watched
+    /// does nothing.
     fn note_ready(&mut self, _ready: Readiness)
         ensures bytes { Keeps (contents self.old) (contents self.new) }
         ensures apart { Keeps (remaining self.old) (remaining self.new) }
@@ -96,7 +102,7 @@ fn would_block() -> io::Error {
     io::Error::from(ErrorKind::WouldBlock)
 }
 
-/// One read of a stream, which may wait for bytes or not.
+/// Reads a stream once; `waits` says whether that may wait for bytes.
 pub fn read_by<S: Duplex>(stream: &mut S, buf: &mut [u8], waits: bool) -> io::Result<usize>
     ensures bound { ReadsAtMost result buf.new }
     ensures bytes { ReadConsumes (S.remaining stream.old) (S.remaining stream.new) result buf.new }
@@ -109,22 +115,25 @@ pub fn read_by<S: Duplex>(stream: &mut S, buf: &mut [u8], waits: bool) -> io::Re
     }
 }
 
-/// A stream whose calls can be switched between waiting and not, and which can hold small writes back for a while so
-/// that they go out together. Switching moves no bytes.
+/// A stream whose calls can be switched between waiting and not waiting, and which can hold small
+/// writes back for a while so that they go out together. Switching does not move bytes.
 pub trait Socket: Duplex {
-    /// The stream was switched to calls that wait, or to calls that don't. Only a switch that succeeds says so.
+    /// The stream was switched to waiting calls, or to calls that do not wait. Only a successful
+    /// switch establishes this.
     ghost is_set_to_wait: { Bool → Self → Type 0 } = { λ waits stream. Unit {0} };
 
-    /// The stream was switched to hold small writes back, or to send each at once. Only a switch that succeeds says so.
+    /// The stream was switched to hold small writes back, or to send each at once. Only a
+    /// successful switch establishes this.
     ghost is_set_to_gather: { Bool → Self → Type 0 } = { λ gathers stream. Unit {0} };
 
-    /// Whether its calls wait, for bytes or for room. Those that don't answer `WouldBlock`.
+    /// Sets whether calls wait, for bytes or for room. Calls that do not wait return `WouldBlock`.
     fn set_waits(&mut self, waits: bool) -> io::Result<()>
         ensures switched { OnOk result (is_set_to_wait waits self.new) }
         ensures remaining { Keeps (Self.remaining self.old) (Self.remaining self.new) }
         ensures contents { Keeps (Self.contents self.old) (Self.contents self.new) };
 
-    /// Whether small writes may be held back. Where they may no more, those that were are sent.
+    /// Sets whether small writes may be held back. Switching this off sends those that are held
+    /// back.
     fn set_gathers(&mut self, gathers: bool) -> io::Result<()>
         ensures switched { OnOk result (is_set_to_gather gathers self.new) }
         ensures remaining { Keeps (Self.remaining self.old) (Self.remaining self.new) }
@@ -141,7 +150,7 @@ impl Socket for TcpStream {
     }
 }
 
-/// Nothing is known of what goes over the system's sockets.
+/// Nothing is assumed about the bytes that go over the system's sockets.
 impl Duplex for TcpStream {
     fn read(&mut self, buf: &mut [u8]) -> io::Result<usize> {
         Read::read(self, buf)
@@ -152,7 +161,7 @@ impl Duplex for TcpStream {
     }
 
     fn write_together(&mut self, first: &[u8], second: &[u8], third: &[u8]) -> io::Result<usize> {
-        // The stream's own: that of `Write` writes of the first slice alone.
+        // The stream's own method: that of `Write` writes the first slice only.
         TcpStream::write_vectored(
             self,
             &[
@@ -172,23 +181,24 @@ impl Duplex for TcpStream {
     }
 }
 
-/// A connection. Its reads and writes wait, however long it takes; `read_now` doesn't. What is written goes out at
-/// once; while more is expected, the system may gather it for a while. The stream is switched over only where the last
-/// call was of the other kind.
+/// A connection. Its reads and writes wait as long as it takes; `read_now` doesn't wait. Writes go
+/// out at once, except that the system may gather them while more is expected. The stream is
+/// switched only if its last call was of the other kind.
 #[derive(Drop)]
 pub struct Connection<S> {
     stream: S,
-    // Whether calls of the stream wait.
+    // True if calls of the stream wait.
     waits: bool,
-    // Whether the system may gather what is written.
+    // True if the system may gather writes.
     gathers: bool,
-    // What the stream of a watched connection is ready for. None of its calls waits, and those that would be in vain make
-    // no system call.
+    // For a watched connection, what its stream is ready for. None of its calls waits, and those
+    // that would be in vain make no system call.
     ready: Option<Readiness>,
 }
 
 impl<S: Socket> Connection<S> {
-    /// A connection over a stream that waits, as an accepted one does, and that gathers nothing.
+    /// Returns a connection over a stream that waits, as accepted streams do, and that gathers
+    /// nothing.
     pub fn new(stream: S) -> Connection<S>
         ensures { result
             ≡ record { stream = stream; waits = true; gathers = false; ready = None } }
@@ -201,8 +211,8 @@ impl<S: Socket> Connection<S> {
         }
     }
 
-    /// A connection over a stream that does not wait and gathers nothing. Somebody watches the stream, and notes here what it
-    /// is ready for.
+    /// Returns a connection over a stream that does not wait and gathers nothing. The event loop
+    /// watches the stream, and records here what it is ready for.
     pub fn watched(stream: S) -> Connection<S>
         ensures stream { result.stream ≡ stream }
         ensures gathers { result.gathers ≡ false }
@@ -215,7 +225,7 @@ impl<S: Socket> Connection<S> {
         }
     }
 
-    // One read of the stream, if that is ready.
+    // Reads the stream once if it is ready.
     fn read_ready(&mut self, buf: &mut [u8], ready: Readiness) -> io::Result<usize>
         ensures bound { ReadsAtMost result buf.new }
         ensures bytes { ReadConsumes (S.remaining self.old.stream) (S.remaining self.new.stream) result buf.new }
@@ -232,7 +242,7 @@ impl<S: Socket> Connection<S> {
         came
     }
 
-    // One write to the stream, if that is ready.
+    // Writes to the stream once if it is ready.
     fn write_ready(&mut self, buf: &[u8], ready: Readiness) -> io::Result<usize>
         ensures bound { WritesAtMost result buf.now }
         ensures bytes { WriteAppends (S.contents self.old.stream) (S.contents self.new.stream) result buf.now }
@@ -266,10 +276,10 @@ impl<S: Socket> Connection<S> {
         took
     }
 
-    // Calls of the stream wait from now on, or they don't.
+    // Sets whether calls of the stream wait.
     fn set_waits(&mut self, waits: bool) -> io::Result<()>
         ensures switched { OnOk result (self.new.waits ≡ waits) }
-        // What is remembered is changed by a switch that succeeded, and by no other.
+        // Only a successful switch changes the recorded state.
         ensures made { OnOk result ((self.old.waits ≡ waits → ⊥) → S.is_set_to_wait waits self.new.stream) }
         ensures kept { OnErr result (self.new.waits ≡ self.old.waits) }
         ensures gathers { self.new.gathers ≡ self.old.gathers }
@@ -283,7 +293,7 @@ impl<S: Socket> Connection<S> {
         Ok(())
     }
 
-    // The stream may hold small writes back from now on, or it may not.
+    // Sets whether the stream may hold small writes back.
     fn set_gathers(&mut self, gathers: bool) -> io::Result<()>
         ensures switched { OnOk result (self.new.gathers ≡ gathers) }
         ensures made { OnOk result ((self.old.gathers ≡ gathers → ⊥) → S.is_set_to_gather gathers self.new.stream) }
@@ -300,7 +310,8 @@ impl<S: Socket> Connection<S> {
     }
 }
 
-// Each call that succeeds was made of a stream that waits, or of one that doesn't, as its clause `waits` says.
+// Each successful call was made on a stream that waits, or on one that does not, as the clause
+// `waits` says.
 impl<S: Socket> Duplex for Connection<S> {
     ghost remaining = { λ connection. S.remaining connection.stream };
 
@@ -394,11 +405,12 @@ impl<S: Socket> Duplex for Connection<S> {
     }
 }
 
-/// How many bytes one read of a stream takes at most, where they go into a buffer.
+/// The largest number of bytes that one read of a stream takes into a buffer.
 pub const READ_ROOM: usize = 65536;
 
-/// Bytes that a stream gave and that nobody has taken yet, in a room that is set aside once, and that nobody touches
-/// before the first read: who waits for a client costs hardly any memory. Contracts see it as these bytes.
+/// Bytes that a stream returned and no caller has taken yet. The memory is allocated once and not
+/// touched before the first read, so an idle connection uses hardly any. In contracts, its value is
+/// the list of these bytes.
 #[derive(Drop)]
 pub struct ReadBuffer {
     room: Vec<u8, Global>,
@@ -419,7 +431,7 @@ impl Model for ReadBuffer {
 }
 
 impl ReadBuffer {
-    /// An empty buffer. Its memory is asked for here.
+    /// Returns an empty buffer. Returns `NoMemory` if its allocation fails.
     pub fn new(alloc: Global) -> Result<ReadBuffer, NoMemory>
         ensures { IfOk result (λ buffer. buffer ≡ []) }
     {
@@ -433,7 +445,7 @@ impl ReadBuffer {
         }
     }
 
-    /// What lies in it is given up.
+    /// Drops all bytes.
     pub fn clear(&mut self)
         ensures { self.new ≡ [] }
     {
@@ -441,13 +453,14 @@ impl ReadBuffer {
         self.to = 0;
     }
 
+    /// Returns true if the buffer holds no bytes.
     pub fn is_empty(&self) -> bool
         ensures { result ≡ (length self.now == 0) }
     {
         self.from == self.to
     }
 
-    /// Gives up the first `n` bytes.
+    /// Drops the first `n` bytes.
     pub fn drop_front(&mut self, n: usize)
         requires { n ≤ length self.old }
         ensures { self.new ≡ drop n self.old }
@@ -455,13 +468,14 @@ impl ReadBuffer {
         self.from += n;
     }
 
+    /// Returns the bytes in the buffer.
     pub fn as_slice(&self) -> &[u8]
         ensures { result.now ≡ self.now }
     {
         &self.room[self.from..self.to]
     }
 
-    /// Reads the stream once, where nothing lies in the buffer. `waits` says whether it may wait for bytes.
+    /// Reads the stream once if the buffer is empty. `waits` says whether that may wait for bytes.
     pub fn fill<S: Duplex>(&mut self, stream: &mut S, waits: bool) -> io::Result<()>
         ensures bytes { Keeps (prepend_known self.old (S.remaining stream.old))
             (prepend_known self.new (S.remaining stream.new)) }
@@ -475,7 +489,7 @@ impl ReadBuffer {
         }
     }
 
-    /// Reads what lies in the buffer. Where nothing does, the stream is read first, once.
+    /// Reads from the buffer. If it is empty, reads the stream into it once first.
     pub fn read<S: Duplex>(
         &mut self,
         stream: &mut S,
@@ -491,7 +505,7 @@ impl ReadBuffer {
         Ok(self.give(buf))
     }
 
-    // Moves as many bytes as both have room for from the front into `buf`, and says how many.
+    // Moves as many bytes as possible from the front into `buf`, and returns how many.
     fn give(&mut self, buf: &mut [u8]) -> usize
         ensures count { result ≡ min (length self.old) (length buf.old) }
         ensures given { take result buf.new ≡ take result self.old }
@@ -518,7 +532,7 @@ impl ReadBuffer {
     }
 }
 
-// All of the room can be read into from now on.
+// Extends the vector to its whole room, so that all of it can be read into.
 fn make_whole(room: &mut Vec<u8, Global>)
     requires { READ_ROOM ≤ vec_capacity room.old }
     ensures len { READ_ROOM ≤ vec_len room.new }
@@ -529,7 +543,7 @@ fn make_whole(room: &mut Vec<u8, Global>)
     }
 }
 
-// One read of a stream into the room.
+// Reads a stream into the room once.
 #[tactic(auto, using(std::proofs::lemmas::List::with_items_is))]
 fn read_once<S: Duplex>(
     stream: &mut S,

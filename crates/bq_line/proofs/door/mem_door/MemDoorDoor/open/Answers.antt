@@ -4,13 +4,13 @@ use Rattle.std.specs.Prelude.{slice_index_or}
 use Rattle.bq_line.specs.MemDoors.{IsFresh}
 use Rattle.bq_line.proofs.door.mem_door.MemDoorDoor.open.Goals as goal
 
--- what holds of each holds of each behind the first
+-- what holds of each element holds of each after the first
 behind : {X : Type 0} (P : X → Type 0) (x : X) (xs ys : List X) → ys ≡ x ∷ xs → All P ys → All P xs
 behind P x xs ys e h k d below =
     let there : suc k < length ys = omega (arith, ap length e) in
     subst (λ zs. P (slice_index_or zs (suc k) d)) e (h (suc k) d there)
 
--- what stays behind the first of the last elements
+-- what remains after the first of the last elements
 last_but_one : {X : Type 0} (n : ℕ) (xs ys : List X) (x : X) → drop n xs ≡ x ∷ ys → ys ≡ drop (suc n) xs
 last_but_one zero [] ys x e = absurd cc
 last_but_one zero (z ∷ xs) ys x e = let same : xs ≡ ys = cc in sym same
