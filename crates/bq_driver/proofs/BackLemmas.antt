@@ -1,15 +1,15 @@
--- The doors of a run come back in the order in which they were handed out.
+-- The doors of a run come back in the order in which they were passed in.
 use Rattle.std.proofs.Common.{◌≡◌, ◌∙◌, List, [], ◌∷◌, ◌++◌, map, ap, sym, subst, append-nil, append_assoc}
 use Rattle.bq_driver.specs.Tending.{AreSame}
 
--- One door more comes back.
+-- One more door comes back.
 pub same_more : {D : Type 0} (same : D → D → Type 0) (firsts lasts : List D) (first last : D) → AreSame same firsts lasts → same first last → AreSame same (firsts ++ first ∷ []) (lasts ++ last ∷ [])
 same_more same [] [] first last h s = (s, tt)
 same_more same [] (l ∷ lasts) first last h s = absurd h
 same_more same (f ∷ firsts) [] first last h s = absurd h
 same_more same (f ∷ firsts) (l ∷ lasts) first last h s = (h.0, same_more same firsts lasts first last h.1 s)
 
--- The doors that came back so far, of those that were handed out and of which these still are to come.
+-- The doors that have come back so far; those in `rest` are still to come.
 pub record AreBack {D T : Type 0} (same : D → D → Type 0) (door_of : T → D) (all rest : List T) (doors : List D) : Type 0 where
   pub firsts : List D
   pub back : AreSame same firsts doors

@@ -1,4 +1,4 @@
--- What carrying out an action comes to, for an action that is known by an equation.
+-- The result of carrying out an action that is known by an equation.
 use Rattle.std.proofs.Common.{◌≡◌, ℕ, List, [], ◌++◌, append-nil, refl, sym, ap, ◌∙◌, subst, inl, inr}
 use Rattle.bq_job.specs.declared.answer.Answer.{Answer}
 use Rattle.bq_job.specs.declared.step.Step.{Step}
@@ -36,7 +36,7 @@ none_begun (actions.Write answer) line = ap (λ w. record line { written = w }) 
 none_begun (actions.LineOver end) line = refl
 none_begun actions.Stray line = refl
 
--- Where no answer is to be written, the line tells the same before.
+-- If no answer is to be written, the line's record is the same.
 same_before : (action : Action) (sent : ℕ) (line : LineSeen) → ((answer : Answer) → action ≡ actions.Write answer → ⊥) → with_part action sent line ≡ line
 same_before (actions.Submit step) sent line other = refl
 same_before actions.Read sent line other = refl
@@ -66,7 +66,7 @@ at_once went old seen sent link new later after next action other c = (
   ),
 )
 
--- The answer's rest was written: whole, as far as there was room, or it broke off.
+-- The rest of the answer was written: all of it, as far as there was room, or it was cut off.
 pub wrote_whole : {K : Type 0} (went : K → List Step → List Answer → K → Type 0) (old : SeatMachine) (seen : LineSeen) (sent : ℕ) (link : K) (new : SeatMachine) (later : LineSeen) (now : ℕ) (next : Action) {action : Action} (answer : Answer)
     → action ≡ actions.Write answer → Resumes (answer_text answer) sent seen wrotes.Whole now later → IsMove old events.WriteDone next new → ComesOn went old seen sent link new later 0 link next action
 wrote_whole went old seen sent link new later now next answer e w move =
@@ -85,7 +85,7 @@ broke_off went old seen sent link new later now next answer e w move =
 none : (P : List Step → List Answer → Type 0) (submitted : List Step) (taken : List Answer) → submitted ≡ [] → taken ≡ [] → P [] [] → P submitted taken
 none P submitted taken s t h = subst (λ xs. P xs taken) (sym s) (subst (P []) (sym t) h)
 
--- what a link did in an action: what it tells of its calls, or nothing where it was left alone
+-- what a link did in an action: what it records of its calls, or nothing if it was not used
 pub gone : {K : Type 0} (went : K → List Step → List Answer → K → Type 0) (P : List Step → List Answer → Type 0) (first last : K) (action : Action) (submitted : List Step) (taken : List Answer)
     → ((submitted : List Step) (taken : List Answer) → went first submitted taken last → P submitted taken) → (last ≡ first → P [] []) → HasGone went first action submitted taken last → MayCall action submitted taken → P submitted taken
 gone went P first last (actions.Submit step) submitted taken calls alone h c = calls submitted taken h

@@ -22,7 +22,7 @@ same_bytes [] (y ∷ ys) = refl
 same_bytes (x ∷ xs) [] = refl
 same_bytes (x ∷ xs) (y ∷ ys) = ap (λ b. (x == y) && b) (same_bytes xs ys) ∙ and_if (x == y) (are_same xs ys)
 
--- the first six bytes tell whether a line is the word
+-- the first six bytes determine whether a line is the word
 kept_tells : (line : List ℕ) → are_same (take 6 line) drain_word ≡ are_same line drain_word
 kept_tells [] = refl
 kept_tells (a ∷ []) = refl
@@ -37,7 +37,7 @@ take_front zero xs ys = refl
 take_front (suc n) [] ys = refl
 take_front (suc n) (x ∷ xs) ys = ap (λ zs. x ∷ zs) (take_front n xs ys)
 
--- what is kept of a line serves as well as the line
+-- what is kept of a line is as good as the line
 kept_serves : (line bytes : List ℕ) (failed : Bool) → drains_from (take 6 line) bytes failed ≡ drains_from line bytes failed
 kept_serves line [] failed = ap (λ b. if failed then 0 else one_if b) (kept_tells line)
 kept_serves line (byte ∷ bytes) failed = elim (cases_Bool (byte == 10)) [
@@ -48,14 +48,14 @@ kept_serves line (byte ∷ bytes) failed = elim (cases_Bool (byte == 10)) [
       ∙ kept_serves (line ++ byte ∷ []) bytes failed)
 ]
 
--- one byte of a line, which is no LF
+-- one byte of a line other than LF
 pub byte_read : (kept later : List ℕ) (byte : ℕ) → (byte == 10) ≡ false → later ≡ take 6 (kept ++ byte ∷ []) → HasRead kept (byte ∷ []) false later
 byte_read kept later byte other is rest failed =
     ap (λ b. if b then one_if (are_same kept drain_word) + drains_from [] rest failed else drains_from (kept ++ byte ∷ []) rest failed) other
     ∙ sym (kept_serves (kept ++ byte ∷ []) rest failed)
     ∙ ap (λ xs. drains_from xs rest failed) (sym is)
 
--- and a LF
+-- an LF
 pub line_read : (kept : List ℕ) (byte : ℕ) → (byte == 10) ≡ true → HasRead kept (byte ∷ []) true kept
 line_read kept byte feed rest failed =
     ap (λ b. if b then one_if (are_same kept drain_word) + drains_from [] rest failed else drains_from (kept ++ byte ∷ []) rest failed) feed
@@ -65,7 +65,7 @@ pub read_none : (before : Option (List ℕ)) → Consumes before before []
 read_none None = tt
 read_none (Some xs) = refl
 
--- bytes after bytes
+-- bytes followed by bytes
 pub read_on : (before next after : Option (List ℕ)) (text bytes : List ℕ) → Consumes before next text → Consumes next after bytes → Consumes before after (text ++ bytes)
 read_on None next after text bytes h i = tt
 read_on (Some x) None after text bytes h i = absurd h
@@ -79,7 +79,7 @@ read_same (Some x) None after text h i = absurd h
 read_same (Some x) (Some y) None text h i = absurd i
 read_same (Some x) (Some y) (Some z) text h i = h ∙ ap (λ xs. text ++ xs) i
 
--- the end was met, or a fault
+-- the end or a fault was met
 pub ends_read : (before next after : Option (List ℕ)) (text : List ℕ) (failed : Bool) → Consumes before next text → Consumes next after [] → IfSome next (λ bytes. IsAtEnd after) → IsReadToEnd before after text failed
 ends_read None next after text failed h i end = tt
 ends_read (Some x) None after text failed h i end = absurd h
@@ -92,19 +92,19 @@ fails_read (Some x) None after text h i = absurd h
 fails_read (Some x) (Some y) None text h i = absurd i
 fails_read (Some x) (Some y) (Some z) text h i = (h ∙ ap (λ xs. text ++ xs) i, λ f. absurd (true≢false f))
 
--- so many drains, and then so many
+-- some drains, and then more
 submits_both : {K : Type 0} (went : K → List Step → K → Type 0) (first last : K) (before : List Step) (n m total : ℕ) → total ≡ n + m
     → went first ((before ++ replicate n Drain) ++ replicate m Drain) last → went first (before ++ replicate total Drain) last
 submits_both went first last before n m total is h =
     subst (λ (xs : List Step). went first xs last)
     (append_assoc before (replicate n Drain) (replicate m Drain) ∙ ap (λ xs. before ++ xs) (replicate-append-replicate n m Drain) ∙ ap (λ k. before ++ replicate k Drain) (sym is)) h
 
--- From a link to another so many drains were submitted.
+-- This many drains were submitted between two links.
 abbrev pub Drained : {K : Type 0} → (K → List Step → K → Type 0) → K → ℕ → K → Type 0
 Drained went old count new = (first : _) (before : List Step) → went first before old → went first (before ++ replicate count Drain) new
 
--- What was read of a control line up to some byte, and the drains for its lines that are over. This much is
--- kept of the line that isn't.
+-- What was read from a control line so far, the drains for the lines that have ended, and what is
+-- kept of the unfinished line.
 pub record HasDrained {K : Type 0} (went : K → List Step → K → Type 0) (at_first left : Option (List ℕ)) (old : K) (kept : List ℕ) (seen : ControlSeen) (new : K) : Type 0 where
   pub count : ℕ
   pub read : Consumes at_first left seen.text
@@ -149,19 +149,19 @@ drained_still went at_first left after old new kept seen h read = record {
   drained = h.drained;
 }
 
--- the text that was read, behind which nothing comes
+-- the text that was read, after which nothing comes
 counts_all : (kept text : List ℕ) (count : ℕ) (failed : Bool) → ((rest : List ℕ) (failed : Bool) → drains (text ++ rest) failed ≡ count + drains_from kept rest failed)
     → drains text failed ≡ count + drains_from kept [] failed
 counts_all kept text count failed h = ap (λ xs. drains xs failed) (sym (append-nil text)) ∙ h [] failed
 
--- the end of the input, where the last line is over too
+-- the end of the input, which also ends the last line
 pub drained_all : {K : Type 0} (went : K → List Step → K → Type 0) (at_first left : Option (List ℕ)) (old new last : K) (kept : List ℕ) (seen : ControlSeen)
     → HasDrained went at_first left old kept seen new → Drained went new (one_if (are_same kept drain_word)) last → Drained went old (drains seen.text seen.failed) last
 drained_all went at_first left old new last kept seen h drained first before w =
     submits_both went first last before h.count (one_if (are_same kept drain_word)) _
     (ap (λ b. drains seen.text b) h.well ∙ counts_all kept seen.text h.count false h.counted) (drained first _ (h.drained first before w))
 
--- a fault, before which an unfinished line is none
+-- a fault, after which an unfinished line does not count
 pub drained_before : {K : Type 0} (went : K → List Step → K → Type 0) (at_first left : Option (List ℕ)) (old new : K) (kept : List ℕ) (seen : ControlSeen)
     → HasDrained went at_first left old kept seen new → Drained went old (drains seen.text true) new
 drained_before went at_first left old new kept seen h first before w =

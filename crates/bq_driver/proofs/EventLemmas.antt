@@ -1,4 +1,4 @@
--- What events do to the past of a line and to what the line tells.
+-- How events change the past of a line and what the line records.
 use Rattle.std.proofs.Common.{◌≡◌, ℕ, Bool, true, false, List, [], ◌∷◌, ◌++◌, Option, Some, None, is_some, length, refl, sym, ap, ◌∙◌, subst, append-nil, if◌then◌else◌}
 use Rattle.std.proofs.lemmas.List.Concat.{flat_map-append}
 use Rattle.bq_job.specs.declared.answer.Answer.{Answer}
@@ -20,7 +20,7 @@ fault_same fault p = at p.fault refl
     at None e = refl
     at (Some f) e = e
 
--- a fault changes nothing else that is told
+-- a fault changes nothing else in the record
 pub fault_keeps : (fault : LineFault) (p : Past) → ((with_fault fault p).bytes ≡ p.bytes) × ((with_fault fault p).ended ≡ p.ended)
 fault_keeps fault p = at (is_some p.fault)
   where
@@ -28,13 +28,13 @@ fault_keeps fault p = at (is_some p.fault)
     at true = (refl, refl)
     at false = (refl, refl)
 
--- the line told a fault after these bytes
+-- the line recorded a fault after these bytes
 pub told_fault : (fault : LineFault) (old new : LineSeen) (written : List ℕ) (p : Past) → new ≡ with_line_fault fault old → old ≡ seen_line written p → new ≡ seen_line written (with_fault fault p)
 told_fault fault old new written p r s =
     let keeps = fault_keeps fault p in
     r ∙ ap (with_line_fault fault) s ∙ same_seen _ (seen_line written (with_fault fault p)) (sym keeps.1) (sym (fault_same fault p)) (sym keeps.0) refl
 
--- a read fault changes nothing that was written
+-- a read fault does not change what was written
 pub writes_still : (p : Past) (written : List ℕ) → IsWrittenSo p.fault p.written written → IsWrittenSo (with_fault faults.Read p).fault (with_fault faults.Read p).written written
 writes_still p written h = at p.fault refl h
   where
@@ -49,7 +49,7 @@ fault_steps fault p = at (is_some p.fault)
     at true = refl
     at false = refl
 
--- a fault takes no step
+-- a fault does not submit a step
 pub taken_at_fault : (fault : LineFault) (p : Past) (taken : List Step) → p.steps ≡ taken → (with_fault fault p).steps ≡ taken
 taken_at_fault fault p taken e = fault_steps fault p ∙ e
 
@@ -73,7 +73,7 @@ writes_at_mail a p written h = at p.closing
 texts_joined : (first : List Answer) (a : Answer) → answers_text (first ++ a ∷ []) ≡ answers_text first ++ answer_text a
 texts_joined first a = flat_map-append answer_text first (a ∷ []) ∙ ap (λ x. answers_text first ++ x) (append-nil (answer_text a))
 
--- the answer was written whole
+-- the whole answer was written
 pub wrote : (fault : Option LineFault) (handed first : List Answer) (a : Answer) (written : List ℕ) → fault ≡ None → handed ≡ first ++ a ∷ [] → written ≡ answers_text first → IsWrittenSo fault handed (written ++ answer_text a)
 wrote None handed first a written e is w = ap (λ x. x ++ answer_text a) w ∙ sym (texts_joined first a) ∙ ap answers_text (sym is)
 wrote (Some f) handed first a written e is w = absurd cc

@@ -1,4 +1,4 @@
--- What a seat did goes on by each action, whatever its link is.
+-- A seat's record continues with each action, whatever its link is.
 use Rattle.std.proofs.Common.{◌≡◌, ℕ, ◌⊎◌, Bool, true, false, not, List, [], ◌∷◌, ◌++◌, Option, Some, None, is_some, length, refl, sym, ap, ◌∙◌, subst, append-nil, append_assoc, if◌then◌else◌, inl, inr}
 use Rattle.bq_job.specs.declared.answer.Answer.{Answer}
 use Rattle.bq_job.specs.declared.line_end.LineEnd.{LineEnd}
@@ -31,7 +31,7 @@ use Rattle.bq_driver.specs.Writing.{BreaksOff, with_written}
 use Rattle.bq_seat.proofs.OrderlyLemmas.{orderly}
 use Rattle.bq_driver.proofs.EventLemmas.{cut_off, taken_at_fault, taken_at_mail, told_fault, writes_at_mail, writes_still, wrote}
 
--- The event happened, which the last action awaited; the machine goes on by this action.
+-- The awaited event happened, and the machine continues with this action.
 goes_on : (size : ℕ) (old new : SeatMachine) (seen later : LineSeen) (written : List ℕ) (event : Event) (action next : Action) (before : List Step) (got : List Answer) (submitted : List Step) (taken : List Answer)
     → (s : IsOnLine size old seen action before got) → IsMove old event next new → answers event (awaited old) ≡ true
     → later ≡ seen_line written (with_event event (with_action action s.past)) → (with_event event (with_action action s.past)).steps ≡ submitted
@@ -98,7 +98,7 @@ none_mailed_on size old new seen next submitted taken move s =
     goes_on size old new seen seen s.written events.NothingYet actions.PollMail next submitted taken submitted taken s move (ap (answers events.NothingYet) awaited_is)
     s.seen_is s.submitted_is s.taken_is s.writes
 
--- what a fault leaves as it was
+-- what a fault leaves unchanged
 mail_at_fault : (fault : LineFault) (p : Past) → (with_fault fault p).mail ++ (with_fault fault p).late_mail ≡ p.mail ++ p.late_mail
 mail_at_fault fault p = at (is_some p.fault)
   where
@@ -106,12 +106,12 @@ mail_at_fault fault p = at (is_some p.fault)
     at true = refl
     at false = refl
 
--- without a fault all of it was written
+-- without a fault everything was written
 unbroken : (fault : Option LineFault) (handed : List Answer) (written : List ℕ) → fault ≡ None → IsWrittenSo fault handed written → written ≡ answers_text handed
 unbroken None handed written e h = h
 unbroken (Some f) handed written e h = absurd cc
 
--- the answer was written whole
+-- the whole answer was written
 wrote_on : (size : ℕ) (old new : SeatMachine) (seen later : LineSeen) (answer : Answer) (next : Action) (submitted : List Step) (taken : List Answer)
     → later ≡ with_written (answer_text answer) seen → IsMove old events.WriteDone next new
     → IsOnLine size old seen (actions.Write answer) submitted taken → IsOnLine size new later next submitted taken
@@ -122,7 +122,7 @@ wrote_on size old new seen later answer next submitted taken told move s =
     (told ∙ ap (with_written (answer_text answer)) s.seen_is) s.submitted_is s.taken_is
     (wrote p.fault (p.written ++ answer ∷ []) p.written answer s.written s.found.1 refl (unbroken p.fault p.written s.written s.found.1 s.writes))
 
--- the writing of an answer broke off
+-- the writing of an answer was cut off
 broke_on : (size : ℕ) (old new : SeatMachine) (seen later : LineSeen) (answer : Answer) (next : Action) (submitted : List Step) (taken : List Answer)
     → BreaksOff (answer_text answer) seen later → IsMove old events.WriteFault next new → IsOnLine size old seen (actions.Write answer) submitted taken → IsOnLine size new later next submitted taken
 broke_on size old new seen later answer next submitted taken broke move s =
@@ -142,7 +142,7 @@ read_fault_on size old new seen later next submitted taken told move s =
     goes_on size old new seen later s.written events.ReadFault actions.Read next submitted taken submitted taken s move (ap (answers events.ReadFault) awaited_is)
     (told_fault faults.Read seen later s.written p told s.seen_is) (taken_at_fault faults.Read p submitted s.submitted_is) (s.taken_is ∙ sym (mail_at_fault faults.Read p)) (writes_still p s.written s.writes)
 
--- A read of the line came to this event.
+-- A read of the line resulted in this event.
 read_on : (size : ℕ) (old new : SeatMachine) (seen later : LineSeen) (event : Event) (next : Action) (submitted : List Step) (taken : List Answer)
     → IsReadAs seen event later → IsMove old event next new → IsOnLine size old seen actions.Read submitted taken → IsOnLine size new later next submitted taken
 read_on size old new seen later (events.Bytes piece) next submitted taken told move s =
@@ -160,7 +160,7 @@ read_on size old new seen later events.NothingYet next submitted taken told move
 read_on size old new seen later events.ReadFault next submitted taken told move s = read_fault_on size old new seen later next submitted taken told move s
 read_on size old new seen later _ next submitted taken told move s = absurd told
 
--- what was written of the mail that was handed out, by how the line ended
+-- what was written of the answers given for writing, depending on how the line ended
 written_of : (end : LineEnd) (fault : Option LineFault) (asked : List Request) (own : List Answer) (written : List ℕ) → IsFaultOf end fault → IsWrittenSo fault own written → IsWritten end asked own written × IsNoneUnwritten end own written
 written_of ends.Quit fault asked own written f w = (subst (λ (o : Option LineFault). IsWrittenSo o own written) f w, tt)
 written_of ends.EndOfInput fault asked own written f w = (subst (λ (o : Option LineFault). IsWrittenSo o own written) f w, tt)
@@ -168,7 +168,7 @@ written_of ends.ReadFault fault asked own written f w =
     let all : written ≡ answers_text own = subst (λ (o : Option LineFault). IsWrittenSo o own written) f w in (inl all, all)
 written_of ends.WriteFault fault asked own written f w = (subst (λ (o : Option LineFault). IsWrittenSo o own written) f w, tt)
 
--- A line that is over was served.
+-- A line that has ended was served.
 pub line_served : (size : ℕ) (machine : SeatMachine) (seen : LineSeen) (end : LineEnd) (submitted : List Step) (taken : List Answer)
     → IsOnLine size machine seen (actions.LineOver end) submitted taken → IsLineServed size (record { seen = seen; over = end }) submitted taken
 line_served size machine seen end submitted taken s =
@@ -214,7 +214,7 @@ left_on size old new seen later action next submitted more taken got h s =
     (subst (λ (a : Action). IsOnLine size new later a submitted taken) (sym h.action_is)
     (subst (λ (x : LineSeen). IsOnLine size new x action submitted taken) (sym h.line) (subst (λ (m : SeatMachine). IsOnLine size m seen action submitted taken) (sym h.machine) s)))
 
--- A step in its turn is counted: it is no tick.
+-- A step in its turn counts: it is not a tick.
 turn_counts : (step : Step) (taken : List Step) (mail : List Answer) → IsInTurn step taken mail → as_submitted step ≡ step ∷ []
 turn_counts steps.Connect taken mail h = refl
 turn_counts (steps.Ask request) taken mail h = refl
@@ -224,7 +224,7 @@ turn_counts steps.Drain taken mail h = refl
 turn_counts steps.Tick taken mail h = absurd h
 turn_counts steps.Gone taken mail h = refl
 
--- The line goes on by each action that was carried out.
+-- The line continues with each action that was carried out.
 pub carried_on : (size : ℕ) (old new : SeatMachine) (seen later : LineSeen) (action next : Action) (submitted more : List Step) (taken got : List Answer)
     → Carried old seen action new later next more got → IsOnLine size old seen action submitted taken → IsOnLine size new later next (submitted ++ more) (taken ++ got)
 carried_on size old new seen later (actions.Submit step) next submitted more taken got h s =
@@ -264,7 +264,7 @@ carried_on size old new seen later actions.PollMail next submitted more taken go
 carried_on size old new seen later (actions.LineOver end) next submitted more taken got h s = left_on size old new seen later (actions.LineOver end) next submitted more taken got h s
 carried_on size old new seen later actions.Stray next submitted more taken got h s = left_on size old new seen later actions.Stray next submitted more taken got h s
 
--- A line is opened, on which nothing was done.
+-- An unused line is opened.
 pub opened_on : (size : ℕ) (old new : SeatMachine) (action : Action) (seen : LineSeen) → awaited old ≡ Awaited.ALine → old.reader.max_job_size ≡ size → IsMove old events.Opened action new → seen ≡ new_line → IsOnLine size new seen action [] []
 opened_on size old new action seen waits same move fresh =
     let straight : is_stray action ≡ false = move.stray ∙ ap (λ (a : Awaited). not (answers events.Opened a)) waits in

@@ -1,4 +1,4 @@
--- What is written behind a body is short.
+-- What is written after a body is short.
 use Rattle.std.proofs.Common.{◌≤◌, arith, length}
 use Rattle.bq_job.specs.declared.answer.Answer.{Answer}
 use Rattle.bq_job.specs.declared.answer.Answer.TheVariants as answers

@@ -1,4 +1,4 @@
--- A seat goes on with its door, by each thing that it does.
+-- A seat and its door continue with each thing that the seat does.
 use Rattle.std.proofs.Common.{ℕ, ◌≡◌, true, false, List, [], ◌∷◌, ◌++◌, refl, sym, ap, ◌∙◌, subst, append-nil, append_assoc, inl, inr}
 use Rattle.bq_job.specs.declared.answer.Answer.{Answer}
 use Rattle.bq_job.specs.declared.line_end.LineEnd.{LineEnd}
@@ -76,7 +76,7 @@ tends_at_end seen machine door next over inside ended size before got t =
       placed = (inside, ended);
     })
 
--- A line that is over was shut.
+-- A line that has ended was shut.
 pub tends_shut : {L : Type 0} (seen : L → LineSeen) (machine : SeatMachine) (line : L) (end : LineEnd) (sent : ℕ) (door next : DoorSeen)
     → next.lines_over ≡ door.lines_over ++ record { seen = seen line; over = end } ∷ [] → next.is_out ≡ false → next.is_at_end ≡ door.is_at_end
     → Tends seen (attendant machine (places.On line (actions.LineOver end) sent)) door [] [] (attendant machine places.Between) next
@@ -132,7 +132,7 @@ tends_acted went first last seen old new line later action next sent now submitt
   λ door. tends_carried seen old new line later action next sent now submitted taken door carried.1,
 )
 
--- A seat that has done nothing, at a new door.
+-- A new seat at a new door.
 pub tended_new : {L : Type 0} (seen : L → LineSeen) (size : ℕ) (a : Attendant L) (door : DoorSeen) → IsNewSeat size a → IsNewDoor door → IsTended seen size a door [] []
 tended_new {L} seen size a door seat new =
     subst (λ (q : LinePlace L). IsTended seen size (attendant a.machine q) door [] []) (sym seat.place) (record {
@@ -149,19 +149,19 @@ tended_new {L} seen size a door seat new =
       placed = (new.inside, new.more);
     })
 
--- the place at which a seat begins, by an equation
+-- the place where a seat starts, by an equation
 pub from_place : {K L : Type 0} (went : K → List Step → List Answer → K → Type 0) (first last : K) (seen : L → LineSeen) (machine new : SeatMachine) (place same later : LinePlace L) (door next : DoorSeen)
     → place ≡ same → GoesOn went first last seen (attendant machine same) door (attendant new later) next → GoesOn went first last seen (attendant machine place) door (attendant new later) next
 from_place {L} went first last seen machine new place same later door next e h =
     subst (λ (q : LinePlace L). GoesOn went first last seen (attendant machine q) door (attendant new later) next) (sym e) h
 
--- The same by an equation, where the link is left alone.
+-- The same by an equation, if the link is not used.
 pub tends_from : {L : Type 0} (seen : L → LineSeen) (machine : SeatMachine) (place same : LinePlace L) (door next : DoorSeen) (later : Attendant L)
     → place ≡ same → Tends seen (attendant machine same) door [] [] later next → Tends seen (attendant machine place) door [] [] later next
 tends_from {L} seen machine place same door next later e h =
     subst (λ (q : LinePlace L). Tends seen (attendant machine q) door [] [] later next) (sym e) h
 
--- The line that is out was told something, and tells the same of itself.
+-- The open line was given a hint, and its record is unchanged.
 pub tends_told : {L : Type 0} (seen : L → LineSeen) (machine : SeatMachine) (line later : L) (action : Action) (sent : ℕ) (door : DoorSeen)
     → seen later ≡ seen line → Tends seen (attendant machine (places.On line action sent)) door [] [] (attendant machine (places.On later action sent)) door
 tends_told seen machine line later action sent door same size before got t =

@@ -1,4 +1,4 @@
--- Texts that are written part after part.
+-- Texts that are written in several parts.
 use Rattle.std.proofs.Common.{◌≡◌, ℕ, ◌+◌, ◌-◌, ◌≤◌, Bool, true, false, nat_lt, List, [], ◌++◌, append-nil, refl, sym, ap, subst, ◌∙◌, arith, length, take, take_all, drop, take-add, append_assoc, if◌then◌else◌}
 use Rattle.std.proofs.lemmas.Bool.Decides.{nat_tests}
 use Rattle.std.proofs.lemmas.Grind.{common_steps}
@@ -40,7 +40,7 @@ breaks_at_once old new text n = record {
 pub take_begins : (n : ℕ) (bytes : List ℕ) → IsBeginning (take n bytes) bytes
 take_begins n bytes = (drop n bytes, sym (take-append-drop n bytes))
 
--- the rest is written on as far as this
+-- the rest was written up to here
 pub written_from : (old mid new : LineSeen) (bytes : List ℕ) (done n : ℕ) → mid ≡ with_begun bytes done old
     → new ≡ with_written (take n (drop done bytes)) mid → new ≡ with_begun bytes (done + n) old
 written_from old mid new bytes done n m h = rw (take-add done n bytes) (written_joined old mid new (take done bytes) (take n (drop done bytes)) m h)
@@ -55,7 +55,7 @@ stops text old new first sent wrote false at w n = subst (λ v. WritesOn text fi
 pub whole_on : (text : List ℕ) (new first : LineSeen) (sent : ℕ) → length text ≤ sent → new ≡ with_begun text sent first → new ≡ with_written text first
 whole_on text new first sent all n = n ∙ ap (λ bytes. with_written bytes first) (take_all sent text all)
 
--- what is left of two parts
+-- what remains of two parts
 pub left_of_two : (n : ℕ) (xs ys : List ℕ) → drop n (xs ++ ys) ≡ drop n xs ++ drop (n - length xs) ys
 left_of_two n xs ys = by (nat_lt n (length xs)) refl
   where

@@ -1,4 +1,4 @@
--- What a seat did so far.
+-- What a seat has done so far.
 use Rattle.std.specs.Prelude.{ℕ, ◌≡◌, List, [], ◌∷◌, ◌++◌, Option, Some, None}
 use Rattle.bq_job.specs.declared.answer.Answer.{Answer}
 use Rattle.bq_job.specs.declared.line_end.LineFault.{LineFault}
@@ -18,14 +18,15 @@ use Rattle.bq_driver.specs.Carried.{with_part}
 use Rattle.bq_driver.specs.declared.attendant.LinePlace.{LinePlace}
 use Rattle.bq_driver.specs.declared.attendant.LinePlace.TheVariants as places
 
--- what was written of the answers that were handed out for writing: all of it, but after a write fault
+-- what was written of the answers that were given for writing: all of it, except after a write
+-- fault
 abbrev pub IsWrittenSo : Option LineFault → List Answer → List ℕ → Type 0
 IsWrittenSo None handed written = written ≡ answers_text handed
 IsWrittenSo (Some faults.Read) handed written = written ≡ answers_text handed
 IsWrittenSo (Some faults.Write) handed written = IsCutOff handed written
 
--- A line that is out, while this action is carried out: what was submitted and taken for it up to the event
--- that the action answers.
+-- An open line while this action is carried out: the steps and answers submitted and taken for it
+-- up to the event that the action answers.
 pub record IsOnLine (max_job_size : ℕ) (machine : SeatMachine) (seen : LineSeen) (action : Action)
     (submitted : List Step) (taken : List Answer) : Type 0 where
   pub past : Past
@@ -39,7 +40,7 @@ pub record IsOnLine (max_job_size : ℕ) (machine : SeatMachine) (seen : LineSee
   pub awaits : awaited_by action ≡ Some (awaited machine)
   pub limit_is : machine.reader.max_job_size ≡ max_job_size
 
--- what was done for the line that is out
+-- what was done for the open line
 abbrev pub IsAt : {L : Type 0} → (L → LineSeen) → ℕ → SeatMachine → LinePlace L → List Step → List Answer → Type 0
 IsAt seen max_job_size machine places.Between submitted taken =
     (submitted ≡ []) × (taken ≡ []) × (awaited machine ≡ Awaited.ALine) × (machine.reader.max_job_size ≡ max_job_size)
@@ -48,7 +49,7 @@ IsAt seen max_job_size machine (places.On line action sent) submitted taken =
 IsAt seen max_job_size machine places.Leaving submitted taken = (submitted ≡ []) × (taken ≡ [])
 IsAt seen max_job_size machine places.Done submitted taken = (submitted ≡ Gone ∷ []) × (taken ≡ [])
 
--- What a seat did: its lines that are over, and then the one that is out.
+-- What a seat did: the lines that have ended, and then the open one.
 pub record IsAttending {L : Type 0} (seen : L → LineSeen) (max_job_size : ℕ) (machine : SeatMachine) (place : LinePlace L)
     (lines : List LineOver) (submitted : List Step) (taken : List Answer) : Type 0 where
   pub before : List Step

@@ -1,4 +1,4 @@
--- What carrying out an action comes to: which event it was, and what the line and the link did.
+-- The result of carrying out an action: which event it was, and what the line and the link did.
 use Rattle.std.specs.Prelude.{ℕ, true, ◌≡◌, ◌⊎◌, List, [], ◌∷◌, ◌++◌}
 use Rattle.bq_job.specs.declared.answer.Answer.{Answer}
 use Rattle.bq_job.specs.declared.step.Step.{Step}
@@ -15,7 +15,7 @@ use Rattle.bq_seat.specs.declared.machine.Event.{Event}
 use Rattle.bq_seat.specs.declared.machine.Event.TheVariants as events
 use Rattle.bq_seat.specs.declared.machine.SeatMachine.{SeatMachine}
 
--- what one read of a line comes to
+-- the result of one read of a line
 abbrev pub IsReadAs : LineSeen → Event → LineSeen → Type 0
 IsReadAs seen (events.Bytes piece) later = later ≡ record seen { read = seen.read ++ piece.now }
 IsReadAs seen events.EndOfInput later = later ≡ record seen { ended = true }
@@ -32,7 +32,8 @@ pub record IsLeft (old : SeatMachine) (seen : LineSeen) (action : Action) (new :
   pub none_submitted : submitted ≡ []
   pub none_taken : taken ≡ []
 
--- The action was carried out, and the next one is this. These steps were submitted and these answers taken.
+-- The action was carried out, and `next` is the next one. These steps were submitted, and these
+-- answers taken.
 abbrev pub Carried : SeatMachine → LineSeen → Action → SeatMachine → LineSeen → Action → List Step → List Answer → Type 0
 Carried old seen (actions.Submit step) new later next submitted taken =
     (later ≡ seen) × (taken ≡ [])
@@ -53,19 +54,20 @@ Carried old seen (actions.LineOver end) new later next submitted taken =
     IsLeft old seen (actions.LineOver end) new later next submitted taken
 Carried old seen actions.Stray new later next submitted taken = IsLeft old seen actions.Stray new later next submitted taken
 
--- What a line tells while this action is carried out: if that is an answer to be written, this many bytes of it are written.
+-- What a line records while this action is carried out: if the action writes an answer, `sent`
+-- bytes of it are written.
 abbrev pub with_part : Action → ℕ → LineSeen → LineSeen
 with_part (actions.Write answer) sent line = with_begun (answer_text answer) sent line
 with_part _ sent line = line
 
--- Any action but a submission and a look at the mail submits and takes nothing.
+-- Only a submission and a check of the mail submit or take anything.
 abbrev pub MayCall : Action → List Step → List Answer → Type 0
 MayCall (actions.Submit step) submitted taken = Unit {0}
 MayCall actions.PollMail submitted taken = Unit {0}
 MayCall _ submitted taken = (submitted ≡ []) × (taken ≡ [])
 
--- The action was carried out, or a further part of it. `first` and `last` are what the line told, and tells, apart from
--- the part of an answer that is written only in part.
+-- The action was carried out, or a further part of it. `first` and `last` are what the line
+-- recorded before and after, not counting an answer of which only a part is written.
 abbrev pub CarriesOn : SeatMachine → LineSeen → Action → ℕ → SeatMachine → LineSeen → Action → ℕ → List Step → List Answer → Type 0
 CarriesOn old seen action sent new later next now submitted taken =
     (first : LineSeen) → seen ≡ with_part action sent first
@@ -76,7 +78,7 @@ abbrev pub CarriedPart : SeatMachine → LineSeen → Action → ℕ → SeatMac
 CarriedPart old seen action sent new later next now submitted taken =
     MayCall action submitted taken × CarriesOn old seen action sent new later next now submitted taken
 
--- Only a submission and a look at the mail go to the link, which else is left alone.
+-- Only a submission and a check of the mail use the link; otherwise it is unchanged.
 abbrev pub HasGone : {K : Type 0} → (K → List Step → List Answer → K → Type 0) → K → Action → List Step → List Answer → K → Type 0
 HasGone went old (actions.Submit step) submitted taken new = went old submitted taken new
 HasGone went old actions.PollMail submitted taken new = went old submitted taken new

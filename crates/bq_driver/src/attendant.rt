@@ -1,5 +1,5 @@
-//! A seat that attends to a door: it serves the door's lines one after another, one action at a time, and how one
-//! action is carried out.
+//! A seat that attends to a door: it serves the door's lines one after another, one action at a
+//! time. Also how one action is carried out.
 ghost use Rattle.std.specs.Prelude.{◌≡◌, ◌≤◌, ◌↔◌, [], true, false, not, IfOk, IsTrue, ◌<◌, ◌++◌, ℕ, List, length};
 ghost use Rattle.bq_seat.specs.Outstanding.{ReadsWith};
 ghost use Rattle.bq_seat.specs.Past.{Awaited};
@@ -27,31 +27,31 @@ use std::{io, mem};
 /// Where a seat is with its door.
 #[derive(Drop)]
 pub enum LinePlace<L> {
-    /// The next line is to be opened.
+    /// The next line has to be opened.
     Between,
-    /// This line is out, and the action is the next one for it. If that is an answer to be written, this many bytes of it
-    /// are written already.
+    /// This line is open, and the action is its next one. If the action writes an answer, the
+    /// number says how many bytes of it were written already.
     On(L, Action, usize),
-    /// No more lines come, and that is to be submitted.
+    /// No more lines come, which has to be submitted.
     Leaving,
     /// It was submitted that no more lines come.
     Done,
 }
 
-/// The result of a look for the next line.
+/// The result of opening the next line without waiting.
 #[derive(Clone, Copy, Debug, PartialEq, Eq)]
 pub enum Looked {
-    /// A line is out.
+    /// A line was opened.
     Opened,
-    /// None has come yet. The system reports when one has.
+    /// No client has connected yet. The system reports when one has.
     NotYet,
-    /// None can be accepted for a while. The system does not report when that ends.
+    /// No connection can be accepted for a while. The system does not report when that ends.
     Later,
-    /// No more come.
+    /// No more lines come.
     NoMore,
 }
 
-/// A seat and where it is with its door.
+/// A seat, and where it is with its door.
 #[derive(Drop)]
 pub struct Attendant<L> {
     pub machine: SeatMachine,
@@ -59,7 +59,8 @@ pub struct Attendant<L> {
 }
 
 impl<L: Line + Drop> Attendant<L> {
-    /// A seat whose door is to be opened first. All memory but that for bodies is asked for here.
+    /// Returns a seat whose door has not been opened. Bodies may have at most `max_job_size` bytes.
+    /// Everything except bodies is allocated here; returns `NoMemory` if that fails.
     pub fn new(alloc: Global, max_job_size: u32) -> Result<Attendant<L>, NoMemory>
         requires { (1 ≤ max_job_size) × (max_job_size ≤ LARGEST_BODY) }
         ensures place { IfOk result (λ a. a.place ≡ LinePlace.Between) }
@@ -73,14 +74,15 @@ impl<L: Line + Drop> Attendant<L> {
         })
     }
 
-    /// Whether its door is at its end, and that was submitted.
+    /// Returns true if its door has ended and that was submitted.
     pub fn is_done(&self) -> bool
         ensures { IsTrue result ↔ (self.now.place ≡ LinePlace.Done) }
     {
         matches!(self.place, LinePlace::Done)
     }
 
-    /// Whether nothing but its line can move it: the line is to be read, and no answer is outstanding.
+    /// Returns true if the seat is blocked on input: it wants to read and has no outstanding
+    /// answer.
     pub fn awaits_line(&self) -> bool
         ensures reads { IsTrue result
             → (line : L) × (sent : ℕ) × (self.now.place ≡ LinePlace.On line Action.Read sent) }
@@ -90,17 +92,17 @@ impl<L: Line + Drop> Attendant<L> {
         matches!(self.place, LinePlace::On(_, Action::Read, _)) && !self.machine.has_outstanding()
     }
 
-    /// Returns true if its line is to be read while an answer is outstanding.
+    /// Returns true if it wants to read while an answer is outstanding.
     pub fn reads_on(&self) -> bool {
         matches!(self.place, LinePlace::On(_, Action::Read, _)) && self.machine.has_outstanding()
     }
 
-    /// Returns true if its line is to be read.
+    /// Returns true if it wants to read its line.
     pub fn reads(&self) -> bool {
         matches!(self.place, LinePlace::On(_, Action::Read, _))
     }
 
-    /// Returns true if a step is to be submitted, perhaps one that was handed back.
+    /// Returns true if it wants to submit a step, possibly again.
     pub fn submits(&self) -> bool {
         matches!(
             self.place,
@@ -108,18 +110,18 @@ impl<L: Line + Drop> Attendant<L> {
         )
     }
 
-    /// Returns true if it is to look for an answer in its mail.
+    /// Returns true if it wants to check its mail for an answer.
     pub fn polls_mail(&self) -> bool {
         matches!(self.place, LinePlace::On(_, Action::PollMail, _))
     }
 
-    /// Returns true if an answer is to be written.
+    /// Returns true if it wants to write an answer.
     pub fn writes(&self) -> bool {
         matches!(self.place, LinePlace::On(_, Action::Write(_), _))
     }
 
-    /// Returns true if it is blocked on input that has not come, as far as its line knows: it wants to read and has no
-    /// outstanding answer.
+    /// Returns true if it is blocked on input that has not come, as far as its line knows: it wants
+    /// to read and has no outstanding answer.
     pub fn awaits_bytes(&self) -> bool {
         match &self.place {
             LinePlace::On(line, Action::Read, _) => {
@@ -129,8 +131,8 @@ impl<L: Line + Drop> Attendant<L> {
         }
     }
 
-    /// Returns true if it has to read or write again although nothing moved, and no event will say so: the call was
-    /// interrupted.
+    /// Returns true if it has to read or write again although nothing moved and no event will
+    /// report it, because the call was interrupted.
     pub fn tries_again(&self) -> bool {
         match &self.place {
             LinePlace::On(line, Action::Read, _) => line.may_give(),
@@ -139,14 +141,15 @@ impl<L: Line + Drop> Attendant<L> {
         }
     }
 
-    /// Returns true if its next line is to be opened.
+    /// Returns true if its next line has to be opened.
     pub fn is_between(&self) -> bool
         ensures { IsTrue result ↔ (self.now.place ≡ LinePlace.Between) }
     {
         matches!(self.place, LinePlace::Between)
     }
 
-    /// The descriptor by which the system reports when the line that is out is ready, if it has one.
+    /// Returns the descriptor on which the system reports that the open line is ready, if there is
+    /// one.
     pub fn source(&self) -> Option<RawFd> {
         match &self.place {
             LinePlace::On(line, _, _) => line.source(),
@@ -154,7 +157,7 @@ impl<L: Line + Drop> Attendant<L> {
         }
     }
 
-    /// Notes what the system reported that the line is ready for.
+    /// Records what the system reported about the line's readiness.
     pub fn note_ready(&mut self, ready: Readiness)
         ensures { (door : DoorSeen) → Tends L.seen self.old door [] [] self.new door }
     {
@@ -163,7 +166,7 @@ impl<L: Line + Drop> Attendant<L> {
         }
     }
 
-    /// Swaps the read buffer of the line that is out with this one, if both are empty.
+    /// Swaps the read buffer of the open line with this one if both are empty.
     pub fn exchange(&mut self, buffer: &mut ReadBuffer)
         ensures { (door : DoorSeen) → Tends L.seen self.old door [] [] self.new door }
     {
@@ -172,7 +175,7 @@ impl<L: Line + Drop> Attendant<L> {
         }
     }
 
-    /// Sends on its way what the line was told to hold back for answers that come soon.
+    /// Sends what the line holds back for further answers.
     pub fn hand_on(&mut self)
         ensures { (door : DoorSeen) → Tends L.seen self.old door [] [] self.new door }
     {
@@ -181,7 +184,8 @@ impl<L: Line + Drop> Attendant<L> {
         }
     }
 
-    /// Looks for the next line without waiting for it. `may_have_come` is false if none can have come since the last look.
+    /// Opens the next line without waiting for it. `may_have_come` is false if no client can have
+    /// connected since the last call.
     pub fn look<D: Door<Line = L>>(
         &mut self,
         alloc: Global,
@@ -214,8 +218,8 @@ impl<L: Line + Drop> Attendant<L> {
         }
     }
 
-    /// One action of the seat, and whether something moved by it. A step that was handed back is submitted
-    /// again at the next turn.
+    /// Carries out one action of the seat, and returns true if something moved. A step that was not
+    /// accepted is submitted again at the next call.
     pub fn go_on<D: Door<Line = L>, K: Link>(
         &mut self,
         alloc: Global,
@@ -227,13 +231,14 @@ impl<L: Line + Drop> Attendant<L> {
             (door_seen D.is_out D.is_at_end D.lines_over door.old) }
         requires ready { K.is_ready link.old }
         ensures ready { K.is_ready link.new }
-        // Whatever it did before, it went on by the steps that it submitted and the answers that it took.
+        // Whatever it did before, it continued with the steps that it submitted and the answers
+        // that it took.
         ensures went { let at = door_seen D.is_out D.is_at_end D.lines_over in
             GoesOn K.went link.old link.new L.seen self.old (at door.old) self.new (at door.new) }
-        // It is the same door still.
+        // The door is still the same.
         ensures same { (first : D) → D.same first door.old → D.same first door.new }
     {
-        // A line that is out stays where it lies until it is over.
+        // An open line stays in place until it ends.
         match &mut self.place {
             LinePlace::On(line, action, sent) => match action {
                 Action::LineOver(end) => {
@@ -253,7 +258,7 @@ impl<L: Line + Drop> Attendant<L> {
     }
 }
 
-// The next line is opened, or no more come.
+// Opens the next line, or learns that no more come.
 fn open_line<L: Line + Drop, D: Door<Line = L>>(
     alloc: Global,
     machine: &mut SeatMachine,
@@ -273,8 +278,8 @@ fn open_line<L: Line + Drop, D: Door<Line = L>>(
     }
 }
 
-// The line is over, and its place is free. That is a function of its own, since a call makes room for a line, and fills
-// that, whether it comes to it or not.
+// Shuts the line, and frees its place. A separate function, because its caller would otherwise
+// reserve and initialize room for a line on every path.
 fn shut_line<L: Line + Drop, D: Door<Line = L>>(
     place: &mut LinePlace<L>,
     door: &mut D,
@@ -291,7 +296,7 @@ fn shut_line<L: Line + Drop, D: Door<Line = L>>(
     }
 }
 
-// It is submitted that no more lines come.
+// Submits that no more lines come.
 fn leave<L: Line + Drop, K: Link>(place: &mut LinePlace<L>, link: &mut K) -> bool
     requires leaving { place.old ≡ LinePlace.Leaving }
     requires ready { K.is_ready link.old }
@@ -307,14 +312,15 @@ fn leave<L: Line + Drop, K: Link>(place: &mut LinePlace<L>, link: &mut K) -> boo
     }
 }
 
-/// Carries out one action of a seat's machine, in whose place then lies what the machine does next. Where a line
-/// is over, nothing is done. What lies in the room before and after has no meaning.
+/// Carries out one action of a seat's machine, and replaces it by the machine's next action. An
+/// action that ends the line does nothing here. The contents of `room` have no meaning before or
+/// after.
 ///
-/// If the action is an answer to be written, this many bytes of it were written before. What the line has no room for
-/// remains to be written.
+/// If the action writes an answer, `sent` is the number of its bytes that were written before.
+/// Bytes for which the line has no room remain to be written.
 ///
-/// Returns true if something moved. Nothing did if a step was handed back, no mail was there, or the line had no bytes or
-/// no room yet: then the same action can be tried again later.
+/// Returns true if something moved. Nothing moved if a step was not accepted, there was no mail, or
+/// the line had no bytes or no room yet; the same action can then be tried again later.
 pub fn carry_out<L: Line, K: Link>(
     alloc: Global,
     machine: &mut SeatMachine,
@@ -354,7 +360,7 @@ pub fn carry_out<L: Line, K: Link>(
     }
 }
 
-// The same for an action that writes nothing.
+// Does the same for an action that writes nothing.
 fn act<L: Line, K: Link>(
     alloc: Global,
     machine: &mut SeatMachine,
@@ -396,7 +402,8 @@ fn act<L: Line, K: Link>(
     }
 }
 
-// What lies in the line's own room is handed on from where it lies. A line that has none is read into this one.
+// Passes on the bytes in the line's own buffer without copying them. A line without a buffer is
+// read into `room`.
 fn read<L: Line>(
     alloc: Global,
     machine: &mut SeatMachine,
@@ -415,7 +422,7 @@ fn read<L: Line>(
     }
 }
 
-// Where nothing lies in the line's own room, it has none or its input has ended.
+// If the line's own buffer is empty, it has none or its input has ended.
 fn hand_on<L: Line>(
     alloc: Global,
     machine: &mut SeatMachine,
@@ -477,7 +484,7 @@ fn tell_error(alloc: Global, machine: &mut SeatMachine, next: &mut Action, e: &i
     }
 }
 
-// More is written soon where bytes that came lie behind the command whose answer is written now.
+// Another answer is written soon if more bytes came after the command whose answer is written now.
 fn expect_answers<L: Line>(machine: &SeatMachine, line: &mut L)
     ensures seen { L.seen line.new ≡ L.seen line.old }
     ensures stays { StaysOver L.lies_over line.old line.new }
@@ -487,7 +494,7 @@ fn expect_answers<L: Line>(machine: &SeatMachine, line: &mut L)
     }
 }
 
-// The line is waited for only where no answer is outstanding. All answers so far are on their way to the client before.
+// Reading waits only if no answer is outstanding. All answers so far are sent before.
 fn fill_line<L: Line>(machine: &SeatMachine, line: &mut L) -> io::Result<()>
     ensures seen { L.seen line.new ≡ after_fill result (L.seen line.old) }
     ensures stays { StaysOver L.lies_over line.old line.new }
@@ -498,7 +505,7 @@ fn fill_line<L: Line>(machine: &SeatMachine, line: &mut L) -> io::Result<()>
     line.fill(!machine.has_outstanding())
 }
 
-// The same for a line that has no room of its own.
+// Does the same for a line without a buffer of its own.
 fn read_line<L: Line>(machine: &SeatMachine, line: &mut L, room: &mut [u8]) -> io::Result<usize>
     requires { 0 < length room.old }
     ensures bound { ReadsAtMost result room.new }

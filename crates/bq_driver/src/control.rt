@@ -1,4 +1,4 @@
-//! The control line, whose lines `drain` begin the drain.
+//! The control line. Its lines `drain` start draining.
 ghost use Rattle.std.specs.Prelude.{◌≡◌, ◌++◌, ◌∷◌, [], List, replicate, take, true, IfErr};
 ghost use Rattle.bq_job.specs.promise.ControlDid.{IsControlDone, are_same, drain_word, drains, one_if};
 ghost use Rattle.bq_job.specs.declared.step.Step.{Step};
@@ -14,27 +14,30 @@ use std::sync::Wait;
 use std::thread::Parker;
 use std::time::Duration;
 
-/// What a line says that begins the drain.
+/// The line that starts draining.
 const DRAIN_WORD: &[u8] = b"drain";
 
-/// How many first bytes of a line are kept: one more than the word has, since a longer line says nothing.
+/// How many bytes of a line are kept: one more than the word has, since a longer line means
+/// nothing.
 const BYTES_KEPT: usize = 6;
 
-/// How long it sleeps if the control line has no byte yet and didn't wait for any, in milliseconds.
+/// How long the thread sleeps if the control line has no byte yet and didn't wait for one, in
+/// milliseconds.
 const LINE_REST: u64 = 10;
 
-/// How long it sleeps if there is no room for a step, in milliseconds. There is some again soon.
+/// How long the thread sleeps if there is no room for a step, in milliseconds. Room becomes free
+/// soon.
 const STEP_REST: u64 = 1;
 
-/// Where a control line submits its steps.
+/// The link through which a control line submits its steps.
 pub trait ControlLink {
     /// The core and the link are ready for a call.
     ghost is_ready: { Self → Type 0 };
 
-    /// From the first link on these steps were submitted, and the last link is what was left.
+    /// From the first link, these steps were submitted, and the second link is what remained.
     ghost went: { Self → List Step → Self → Type 0 };
 
-    /// Submits a step, or hands it back where there is no room for it now.
+    /// Submits a step, or returns it if there is no room for it now.
     fn submit(&mut self, step: Step) -> Result<(), Step>
         requires ready { is_ready self.old }
         ensures ready { is_ready self.new }
@@ -43,7 +46,7 @@ pub trait ControlLink {
             SubmitsOn went first before step result self.new };
 }
 
-/// The first bytes of the line that is being read: enough to tell whether it says `drain`.
+/// The first bytes of the line that is being read, enough to recognize `drain`.
 #[derive(Drop)]
 pub struct LineSoFar {
     first: ArrayVec<u8, BYTES_KEPT>,
@@ -58,7 +61,7 @@ impl Model for LineSoFar {
 }
 
 impl LineSoFar {
-    /// A line of which nothing was read.
+    /// Returns a line of which nothing was read.
     pub fn new() -> LineSoFar
         ensures { result ≡ [] }
     {
@@ -70,11 +73,11 @@ impl LineSoFar {
     fn note(&mut self, byte: u8)
         ensures { self.new ≡ take 6 (self.old ++ byte ∷ []) }
     {
-        // What comes behind the first bytes tells nothing more.
+        // Bytes after the first ones do not matter.
         let _full = self.first.try_push(byte);
     }
 
-    /// Returns true if the line ends by this byte; else the byte is noted.
+    /// Returns true if this byte ends the line; otherwise notes it.
     #[tactic(auto, using(crate::proofs::ControlLemmas::line_read, crate::proofs::ControlLemmas::byte_read))]
     pub fn ends_by(&mut self, byte: u8) -> bool
         ensures { HasRead self.old (byte ∷ []) result self.new }
@@ -86,7 +89,7 @@ impl LineSoFar {
         false
     }
 
-    /// Returns true if the line says `drain`.
+    /// Returns true if the line is `drain`.
     #[tactic(auto, using(crate::proofs::ControlLemmas::same_bytes))]
     pub fn says_drain(&self) -> bool
         ensures { result ≡ are_same self.now drain_word }
@@ -95,7 +98,7 @@ impl LineSoFar {
     }
 }
 
-// Submits a step, which may have to be tried again.
+// Submits a step, and tries again until there is room.
 fn submit<R: Wait, K: ControlLink>(rt: &R, link: &mut K, step: Step)
     requires ready { K.is_ready link.old }
     ensures ready { K.is_ready link.new }
@@ -113,7 +116,7 @@ fn submit<R: Wait, K: ControlLink>(rt: &R, link: &mut K, step: Step)
     unreachable!()
 }
 
-// Sleeps before the same is tried again. No thread wakes it.
+// Sleeps before a retry. No thread wakes it up.
 fn rest<R: Wait>(rt: &R, millis: u64) {
     Parker::new().park_timeout(rt, Duration::from_millis(millis));
 }
@@ -129,7 +132,7 @@ fn submit_drain_if<R: Wait, K: ControlLink>(rt: &R, link: &mut K, says_drain: bo
     }
 }
 
-// Submits a drain for each line that says so, up to the end of the input or a fault of it.
+// Submits a drain for each line `drain`, until the input ends or fails.
 fn submit_drains<R: Wait, I: ControlInput, K: ControlLink>(rt: &R, control: &mut I, link: &mut K)
     requires new { I.seen control.old ≡ new_control }
     requires ready { K.is_ready link.old }
@@ -158,8 +161,8 @@ fn submit_drains<R: Wait, I: ControlInput, K: ControlLink>(rt: &R, control: &mut
     unreachable!()
 }
 
-/// Reads the control line to its end or its fault, and submits a drain for each of its lines that says so,
-/// and at last that it is gone. It takes no memory, however long a line is.
+/// Reads the control line until it ends or fails, submits a drain for each line `drain`, and
+/// finally submits that no more come. It allocates nothing, however long a line is.
 pub fn submit_control<R: Wait, I: ControlInput, K: ControlLink>(
     rt: &R,
     control: &mut I,
@@ -168,11 +171,11 @@ pub fn submit_control<R: Wait, I: ControlInput, K: ControlLink>(
     requires new { I.seen control.old ≡ new_control }
     requires ready { K.is_ready link.old }
     ensures ready { K.is_ready link.new }
-    // The end of the input was met, or it failed: which of them, and after which bytes, it tells itself.
+    // The input ended or failed; the input itself records which, and after which bytes.
     ensures over { IsOver (I.seen control.new) }
     ensures read { IsReadToEnd (I.remaining control.old) (I.remaining control.new)
         (I.seen control.new).text (I.seen control.new).failed }
-    // It failed only where a read of it may fail.
+    // It failed only if a read of it may fail.
     ensures fault { (I.seen control.new).failed ≡ true → I.may_fail control.old ≡ true }
     ensures done { (submitted : List Step) × IsControlDone (I.seen control.new).text (I.seen control.new).failed submitted
         × ((first : K) (before : List Step) → K.went first before link.old → K.went first (before ++ submitted) link.new) }

@@ -1,11 +1,11 @@
-//! What is read of the control line.
+//! The input of the control line.
 ghost use Rattle.std.specs.Prelude.{◌≡◌, ℕ, Bool, Option, List, [], false};
 ghost use Rattle.bq_driver.specs.ControlSeen.{ControlSeen, HasHeard, MayHear, after_heard};
 
 use crate::control_reader::ControlReader;
 use bq_line::line::ByteRecord;
 
-/// What one read of a control line came to.
+/// The result of one read of a control line.
 #[derive(Clone, Copy)]
 pub enum Heard {
     /// Its next byte.
@@ -18,33 +18,33 @@ pub enum Heard {
     Fault,
 }
 
-/// The input of a control line. It tells of itself the bytes that its reads gave since it was new, and
-/// whether one of them met the end or failed.
+/// The input of a control line. It records the bytes that its reads returned since it was made, and
+/// whether a read met the end or failed.
 pub trait ControlInput {
-    /// What the input tells of itself.
+    /// What the input records.
     ghost seen: { Self → ControlSeen };
 
-    /// The bytes that it has left, where they are known.
+    /// The bytes that are left, if they are known.
     ghost remaining: { Self → Option (List ℕ) };
 
     /// Whether a read of it may fail.
     ghost may_fail: { Self → Bool };
 
-    /// Reads one byte. A fault is told only where a read may fail.
+    /// Reads one byte. It fails only if a read may fail.
     fn next(&mut self) -> Heard
         ensures seen { seen self.new ≡ after_heard result (seen self.old) }
         ensures left { HasHeard (remaining self.old) (remaining self.new) result }
         ensures fault { MayHear (may_fail self.old) result }
         ensures same { may_fail self.new ≡ may_fail self.old };
 
-    /// Returns true if the next read waits for nothing, as far as the input knows.
+    /// Returns true if the next read does not wait, as far as the input knows.
     fn has_unread(&self) -> bool {
         true
     }
 }
 
-/// A control line over any reader. Beside the reader it keeps the two marks, and a record of the bytes that
-/// were read of it, which takes no memory.
+/// A control line over any reader. Besides the reader it keeps the two flags, and a record of the
+/// bytes that were read, which takes no memory.
 #[derive(Drop)]
 pub struct ControlLine<I> {
     reader: I,
@@ -54,7 +54,7 @@ pub struct ControlLine<I> {
 }
 
 impl<I> ControlLine<I> {
-    /// A control line of which nothing was read.
+    /// Returns a control line of which nothing was read.
     pub fn new(reader: I) -> ControlLine<I>
         ensures { result ≡ record { reader = reader; ended = false; failed = false; read = [] } }
     {
@@ -66,7 +66,7 @@ impl<I> ControlLine<I> {
         }
     }
 
-    /// The reader, whatever was read of it.
+    /// Returns the reader, whatever was read from it.
     pub fn into_reader(self) -> I
         ensures { result ≡ self.reader }
     {

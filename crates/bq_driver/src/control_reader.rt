@@ -1,4 +1,4 @@
-//! What a control line is read from.
+//! The readers of a control line.
 ghost use Rattle.std.specs.Prelude.{◌≡◌, Bool, false, true};
 ghost use Rattle.bq_driver.specs.ControlSeen.{HasHeard, MayHear};
 
@@ -7,24 +7,24 @@ use bq_line::line::is_nothing_yet;
 use std::alloc::Allocator;
 use std::io::{BufRead, BufReader, Read};
 
-/// A reader of a control line, which tells whether a read of it may fail at all.
+/// A reader of a control line, which states whether a read of it may fail at all.
 pub trait ControlReader: BufRead {
     /// Whether a read of it may fail.
     ghost may_fail: { Self → Bool };
 
-    /// Reads one byte. A fault is told only where a read may fail.
+    /// Reads one byte. It fails only if a read may fail.
     fn next_byte(&mut self) -> Heard
         ensures left { HasHeard (Self.remaining self.old) (Self.remaining self.new) result }
         ensures fault { MayHear (may_fail self.old) result }
         ensures same { may_fail self.new ≡ may_fail self.old };
 
-    /// Returns true if the next read waits for nothing, as far as the reader knows.
+    /// Returns true if the next read does not wait, as far as the reader knows.
     fn has_unread(&self) -> bool {
         true
     }
 }
 
-// What lies in memory is read without fail.
+// Reads from memory never fail.
 impl ControlReader for &[u8] {
     ghost may_fail = { λ _. false };
 
@@ -38,7 +38,7 @@ impl ControlReader for &[u8] {
     }
 }
 
-// What lies behind the buffer is outside of the process.
+// A buffered reader gets its data from outside the process.
 impl<R: Read, A: Allocator> ControlReader for BufReader<R, A> {
     ghost may_fail = { λ _. true };
 
@@ -63,7 +63,8 @@ impl<I: ControlReader> ControlReader for &mut I {
     }
 }
 
-/// The next byte of any reader. Of its errors nothing is known, so this is for one that may fail.
+/// Returns the next byte of any reader. Nothing is known about its errors, so use it for a reader
+/// that may fail.
 pub fn next_of<I: BufRead>(reader: &mut I) -> Heard
     ensures { HasHeard (I.remaining reader.old) (I.remaining reader.new) result }
 {

@@ -1,7 +1,7 @@
-//! A seat at work: it serves the lines of a door one after another, and has a link to a core, at which it
-//! submits steps and looks at its mail. Beside it the control line, which has a link too.
+//! A seat at work: it serves the lines of a door one after another. Through its link to a core it
+//! submits steps and checks its mail. The control line has a link too.
 //!
-//! What lies behind a link nobody here knows.
+//! Nothing here depends on what a link is connected to.
 #![tactic(auto)]
 
 pub mod attendant;

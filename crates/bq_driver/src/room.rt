@@ -1,4 +1,5 @@
-//! The room of a seat, from which answers go out to its line, and into which it reads.
+//! The memory of a seat from which answers are written to its line, and into which the line is
+//! read.
 ghost use Rattle.std.specs.Prelude.{ℕ, List, ◌≡◌, ◌<◌, ◌≤◌, ◌+◌, ◌++◌, drop, length, take, false, true, if◌then◌else◌};
 ghost use Rattle.std.specs.Io.{WritesAtMost};
 ghost use Rattle.std.specs.IoError.{error_kind};
@@ -14,15 +15,15 @@ use bq_seat::PIECE_ROOM;
 use bq_wire::{HeadBuf, answer_body, answer_head, answer_tail, push_bytes};
 use std::io;
 
-/// Room for one piece: an answer that fits into it goes out from there, and a line that has no room of its own is read
-/// into it. It is made once a run, since a new one would be filled with zeros first.
+/// Room for one piece: short answers are written from it, and a line without a buffer of its own is
+/// read into it. It is made once per run, since a new one would be filled with zeros first.
 #[derive(Drop)]
 pub struct Room {
     pub piece: [u8; PIECE_ROOM],
 }
 
 impl Room {
-    /// What lies in it has no meaning.
+    /// Returns a room whose contents have no meaning.
     pub fn new() -> Room {
         Room {
             piece: [0; PIECE_ROOM],
@@ -41,10 +42,12 @@ pub enum Wrote {
     Fault,
 }
 
-/// Writes the rest of the text of an answer, of which `sent` bytes were written before, and flushes the line.
+/// Writes the rest of the text of an answer, of which `sent` bytes were written before, and flushes
+/// the line.
 ///
-/// It goes out in one write if the line takes it whole. The contents of the room have no meaning before and after. If there
-/// is no room yet for all of it, `sent` counts what was written in all.
+/// It goes out in one write if the line takes all of it. The contents of the room have no meaning
+/// before and after. If there is no room yet for all of it, `sent` becomes the number of bytes
+/// written so far.
 pub fn write_answer<L: Line>(
     line: &mut L,
     answer: &Answer,
@@ -73,8 +76,8 @@ fn flush<L: Line>(line: &mut L) -> Wrote
     }
 }
 
-// Most texts have few bytes behind the head, or none. These go out from the room of the head, so that no
-// other has to be made.
+// Most texts have few or no bytes after the head. These are appended to the head's own buffer, so
+// that no other is needed.
 fn write_text<L: Line>(line: &mut L, answer: &Answer, sent: &mut usize, room: &mut Room) -> Wrote
     ensures text { Resumes (answer_text answer.now) sent.old (L.seen line.old) result sent.new (L.seen line.new) }
     ensures stays { StaysOver L.lies_over line.old line.new }
@@ -90,7 +93,7 @@ fn write_text<L: Line>(line: &mut L, answer: &Answer, sent: &mut usize, room: &m
     }
 }
 
-// Whether the head's room has some left for the other parts.
+// Returns true if the head's buffer has room for the other parts.
 fn have_room(head: &HeadBuf, body: &[u8], tail: &[u8]) -> bool
     ensures { result ≡ true → length head.now.items + length body.now + length tail.now ≤ 256 }
 {
@@ -115,8 +118,8 @@ fn write_behind<L: Line>(
     write_rest(line, head.as_slice(), sent)
 }
 
-// Of the others most are joined in the room. What is longer goes out from where it lies, since a copy of a large body
-// costs more than the call that takes its parts apart.
+// Most other texts are joined in the room. A longer one is written from where its parts are, since
+// copying a large body costs more than a gathered write.
 fn write_long<L: Line>(
     line: &mut L,
     room: &mut Room,
@@ -136,7 +139,7 @@ fn write_long<L: Line>(
     }
 }
 
-// Joins the parts of a text in the room, which holds them, and writes the rest of them together.
+// Joins the parts of a text, which fit into the room, and writes the rest of it.
 fn write_joined<L: Line>(
     line: &mut L,
     room: &mut [u8],
@@ -155,7 +158,7 @@ fn write_joined<L: Line>(
     write_rest(line, &room[..end], sent)
 }
 
-// Writes the rest of three parts, each time as much as one call takes.
+// Writes the rest of three parts, as much at a time as one call takes.
 fn write_parts<L: Line>(
     line: &mut L,
     head: &[u8],
@@ -185,7 +188,7 @@ fn write_parts<L: Line>(
     Wrote::Whole
 }
 
-// Returns true if three parts have no more bytes than these.
+// Returns true if `done` bytes are all of the three parts.
 fn is_whole(head: &[u8], body: &[u8], tail: &[u8], done: usize) -> bool
     ensures whole { result ≡ true → length (head.now ++ body.now ++ tail.now) ≤ done }
     ensures more { result ≡ false → done < length (head.now ++ body.now ++ tail.now) }
@@ -195,7 +198,7 @@ fn is_whole(head: &[u8], body: &[u8], tail: &[u8], done: usize) -> bool
         && done - head.len() - body.len() >= tail.len()
 }
 
-// Writes once of what three parts have after the bytes that are done.
+// Makes one write from what follows the first `done` bytes of three parts.
 fn write_some<L: Line>(
     line: &mut L,
     head: &[u8],
@@ -216,7 +219,7 @@ fn write_some<L: Line>(
     }
 }
 
-// Writes once of what two parts have after the bytes that are done.
+// Makes one write from what follows the first `done` bytes of two parts.
 fn write_of_two<L: Line>(line: &mut L, body: &[u8], tail: &[u8], done: usize) -> io::Result<usize>
     requires { done < length (body.now ++ tail.now) }
     ensures bound { WritesAtMost result (drop done (body.now ++ tail.now)) }
@@ -238,7 +241,7 @@ fn behind(count: usize, bytes: &[u8]) -> &[u8]
     &bytes[count.min(bytes.len())..]
 }
 
-// Whether a room of so many bytes holds all three.
+// Returns true if `room` bytes hold all three parts.
 fn fits(room: usize, head: &[u8], body: &[u8], tail: &[u8]) -> bool
     ensures { result ≡ true → length head.now + length body.now + length tail.now ≤ room }
 {
@@ -247,7 +250,7 @@ fn fits(room: usize, head: &[u8], body: &[u8], tail: &[u8]) -> bool
         && tail.len() <= room - head.len() - body.len()
 }
 
-// Puts the bytes at this place of the room, and says where they end.
+// Copies the bytes to this place of the room, and returns where they end.
 fn put(room: &mut [u8], at: usize, bytes: &[u8]) -> usize
     requires { at + length bytes.now ≤ length room.old }
     ensures end { result ≡ at + length bytes.now }
@@ -259,7 +262,8 @@ fn put(room: &mut [u8], at: usize, bytes: &[u8]) -> usize
     end
 }
 
-// Writes these bytes from the one after `sent` on, until all are written, there is no room yet, or a write fails.
+// Writes the bytes after the first `sent`, until all are written, there is no room yet, or a write
+// fails.
 fn write_rest<L: Line>(line: &mut L, bytes: &[u8], sent: &mut usize) -> Wrote
     ensures text { Resumes bytes.now sent.old (L.seen line.old) result sent.new (L.seen line.new) }
     ensures stays { StaysOver L.lies_over line.old line.new }
