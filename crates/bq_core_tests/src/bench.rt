@@ -1,4 +1,4 @@
-//! A core beside the room for its answers, and a reader of what its clients ask.
+//! A core with the room for its answers, and a reader of its clients' requests.
 ghost use Rattle.std.specs.Prelude.{◌≡◌};
 
 use crate::texts::{plain_step, push_text};
@@ -9,7 +9,7 @@ use std::alloc::Global;
 use std::marker::Model;
 use std::test::Fail;
 
-/// A core, its answers and the reader, and the comparisons that its steps had made when they were last looked at.
+/// A core, its answers and the reader, and the number of comparisons when counting started.
 #[derive(Drop)]
 pub(crate) struct Bench {
     alloc: Global,
@@ -26,11 +26,11 @@ impl Model for Bench {
 
     ghost view = { λ _. tt };
 
-    // The answers of each step find room.
+    // There is room for the answers of each step.
     ghost invariant = { λ b. b.core.machine.settings.seats < b.outs.most };
 }
 
-/// So many seats, bodies of so many bytes, and nothing else chosen.
+/// Returns settings with this many seats, this limit on bodies, and defaults for the rest.
 pub(crate) fn config(seats: u16, max_job_size: u32) -> Config
     ensures { result.seats ≡ seats }
 {
@@ -43,7 +43,7 @@ pub(crate) fn config(seats: u16, max_job_size: u32) -> Config
 }
 
 impl Bench {
-    /// A new core of this configuration, where nobody is connected.
+    /// Returns a new core with this configuration, to which no client has connected.
     pub(crate) fn new(alloc: Global, config: Config) -> Result<Bench, Fail> {
         let outs = Outs::new(alloc, config.seats)?;
         let reader = RequestReader::new(alloc, 10)?;
@@ -61,7 +61,7 @@ impl Bench {
         self.core.step(self.alloc, at, seat, what, &mut self.outs);
     }
 
-    // What a client asks by this text of a script. Bodies may have 10 bytes.
+    // Returns the request that this text of a script makes. Bodies may have 10 bytes.
     fn asked(&mut self, words: &str) -> Result<Option<Request>, Fail> {
         let mut line = Vec::new(self.alloc);
         push_text(&mut line, words)?;
@@ -71,7 +71,7 @@ impl Bench {
         Ok(request)
     }
 
-    /// Takes the step that a script writes so. Whether it is one.
+    /// Takes the step that the text of a script describes. Returns false if it describes none.
     pub(crate) fn take(&mut self, at: Moment, seat: Seat, words: &str) -> Result<bool, Fail> {
         if let Some(step) = plain_step(words) {
             self.step(at, seat, step);
@@ -86,17 +86,17 @@ impl Bench {
         }
     }
 
-    /// The client at the seat asks, at the first moment.
+    /// The client at the seat makes a request at moment 0.
     pub(crate) fn ask(&mut self, seat: Seat, request: Request) {
         self.step(0, seat, Step::Ask(request));
     }
 
-    /// Takes out the oldest answer of the last step.
+    /// Removes and returns the oldest answer of the last step.
     pub(crate) fn answer(&mut self) -> Option<(Seat, Answer)> {
         self.outs.take_first()
     }
 
-    /// Whether memory was ample in the last step.
+    /// Returns true if nothing failed for lack of memory in the last step.
     pub(crate) fn was_ample(&self) -> bool {
         !self.outs.left_out() && !self.outs.unshared()
     }
@@ -105,12 +105,12 @@ impl Bench {
         self.core.next_due()
     }
 
-    /// From here on comparisons are counted.
+    /// Starts counting comparisons.
     pub(crate) fn count(&mut self) {
         self.compared = self.core.comparisons();
     }
 
-    /// How many comparisons were made since then.
+    /// Returns how many comparisons were made since then.
     pub(crate) fn counted(&self) -> u64 {
         self.core.comparisons().saturating_sub(self.compared)
     }

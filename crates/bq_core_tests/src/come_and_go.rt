@@ -6,10 +6,10 @@ use bq_job::{Answer, Body, JobId, Request, Seat};
 use std::alloc::Global;
 use std::test::Fail;
 
-/// How many tubes come.
+/// The number of tubes.
 const TUBES: u32 = 3000;
 
-/// How many others come before a tube goes.
+/// How many other tubes come before a tube goes.
 const STAY: u32 = 5;
 
 /// How many names they share.
@@ -33,7 +33,7 @@ fn state_of(turn: u32) -> State {
     }
 }
 
-// A step of this turn went as it has to.
+// Fails with the number of the turn if its step did not go well.
 fn ended(is_well: bool, turn: u32) -> Result<(), Fail> {
     if is_well {
         Ok(())
@@ -42,7 +42,7 @@ fn ended(is_well: bool, turn: u32) -> Result<(), Fail> {
     }
 }
 
-// The client at seat 0 uses the tube of a turn. Its name comes back once it is long gone.
+// The client at seat 0 uses the tube of a turn. Its name is used again long after the tube is gone.
 fn use_tube(bench: &mut Bench, turn: u32) -> Result<(), Fail> {
     bench.ask(
         0,
@@ -61,13 +61,13 @@ fn is_found(answer: &Option<(Seat, Answer)>, wanted: Option<JobId>) -> bool {
     }
 }
 
-// What one peek of the used tube finds.
+// Checks what one peek into the used tube finds.
 fn peek(bench: &mut Bench, turn: u32, request: Request, job: Option<JobId>) -> Result<(), Fail> {
     bench.ask(0, request);
     ended(is_found(&bench.answer(), job), turn)
 }
 
-// What the three peeks find.
+// Checks what the three peeks find.
 fn see(
     bench: &mut Bench,
     turn: u32,
@@ -124,7 +124,7 @@ fn bury(bench: &mut Bench, turn: u32) -> Result<(), Fail> {
     ended(matches!(bench.answer(), Some((0, Answer::Buried))), turn)
 }
 
-// A tube comes: no job of another is in it, and its own is, in the state of its turn.
+// A tube comes: it contains no job of another tube, and then its own, in the state of its turn.
 fn come(alloc: Global, bench: &mut Bench, turn: u32) -> Result<(), Fail> {
     use_tube(bench, turn)?;
     see(bench, turn, None, None, None)?;
@@ -140,7 +140,7 @@ fn come(alloc: Global, bench: &mut Bench, turn: u32) -> Result<(), Fail> {
     see_job(bench, turn)
 }
 
-// A tube goes with its job, which is in it still.
+// A tube goes with its job, which is still in it.
 fn go(bench: &mut Bench, turn: u32) -> Result<(), Fail> {
     use_tube(bench, turn)?;
     see_job(bench, turn)?;
@@ -149,7 +149,7 @@ fn go(bench: &mut Bench, turn: u32) -> Result<(), Fail> {
     ended(matches!(bench.answer(), Some((0, Answer::Deleted))), turn)
 }
 
-/// Tubes come and go, and their names come back. No job is ever seen in another's tube.
+/// Tubes come and go, and their names are used again. No job is ever seen in the tube of another.
 pub(crate) fn come_and_go(alloc: Global, bench: &mut Bench) -> Result<(), Fail> {
     for turn in 1..=TUBES {
         come(alloc, bench, turn)?;

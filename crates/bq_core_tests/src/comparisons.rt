@@ -13,7 +13,7 @@ static NOTHING_DUE: Script = "0 0 crowd of 10000 jobs
     0 0 count
     0 0 tick";
 
-// Else the failure tells both numbers.
+// Fails with both numbers if there were more.
 fn at_most(made: u64, most: u64) -> Result<(), Fail> {
     if made <= most {
         Ok(())
@@ -31,7 +31,8 @@ fn comparisons_of_a_step(rt: HostRuntime) -> Result<(), Fail> {
     at_most(tick, 3840)
 }
 
-/// A put beside 250 clients that watch another tube, and the same beside those that wait for jobs of it.
+/// A put next to 250 clients that watch another tube, and the same next to clients that wait for
+/// jobs of that tube.
 static PUT: &[Script] = &[
     "0 0 crowd of 250 watchers
     0 0 count
@@ -41,7 +42,7 @@ static PUT: &[Script] = &[
     0 0 put 0 0 9 1~x | 0 INSERTED 1",
 ];
 
-/// Steps that hand out no job, beside them.
+/// Steps next to them that hand out no job.
 static CALM: &[Script] = &[
     "0 0 crowd of 250 watchers
     0 0 count
@@ -61,7 +62,7 @@ static CALM: &[Script] = &[
     0 0 end",
 ];
 
-/// A look for the next due moment, where none of them holds a job.
+/// A query of the next due moment, when none of them holds a job.
 static LOOK: &[Script] = &[
     "0 0 crowd of 250 watchers
     0 0 put 0 0 99 1~x | 0 INSERTED 1
@@ -75,7 +76,7 @@ static LOOK: &[Script] = &[
     0 0 due 99000",
 ];
 
-// The second of two scripts makes at most so many comparisons more than the first.
+// The second of two scripts makes at most this many more comparisons than the first.
 fn expect_as_many(alloc: Global, scripts: &[Script], more: u64) -> Result<(), Fail> {
     let [without, with] = scripts else {
         return Err(Fail::from("no two scripts"));
@@ -85,8 +86,9 @@ fn expect_as_many(alloc: Global, scripts: &[Script], more: u64) -> Result<(), Fa
     at_most(with, without.saturating_add(more))
 }
 
-// A put into a tube at which nobody waits makes the comparisons of the insertion alone. Where no waiting client may
-// have a job, none is looked for: of each step's two parts either asks at most for the first end of a time to run.
+// A put into a tube for which no client waits makes only the comparisons of the insertion. If no
+// waiting client may have a job, none is searched for: in each of a step's two parts, at most the
+// earliest end of a time to run is looked up.
 #[test]
 fn waiters_of_another_tube_cost_nothing(rt: HostRuntime) -> Result<(), Fail> {
     expect_as_many(rt.alloc(), PUT, 0)?;

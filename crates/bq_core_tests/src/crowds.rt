@@ -1,4 +1,5 @@
-//! Many jobs, many tubes and many clients. A job is put and a tube is used, watched and listed each.
+//! Many jobs, many tubes and many clients: a job is put into each tube, and each is used, watched
+//! and listed.
 use crate::bench::Bench;
 use crate::come_and_go::come_and_go;
 use crate::play::{Script, play};
@@ -8,7 +9,7 @@ use bq_job::{Answer, Body, Request, Seat, Step};
 use std::alloc::Global;
 use std::test::Fail;
 
-/// How many tubes there are beside the default tube.
+/// How many tubes there are besides the default tube.
 const TUBES: u32 = 1200;
 
 static MANY_TUBES: &[Script] = &[
@@ -18,14 +19,14 @@ static MANY_TUBES: &[Script] = &[
     0 1 reserve | 1 RESERVED 1 1~x",
 ];
 
-// Of the last of them five are left, with that which is used and the default tube.
+// Five of the last tubes are left, besides the used one and the default tube.
 static TUBES_IN_TURN: &[Script] = &[
     "0 0 crowd of 3000 tubes in turn
     0 1 stats | 1 ..current-jobs-ready: 2/current-jobs-reserved: 1/current-jobs-delayed: 1/current-jobs-buried: 1/
     0 1 stats | 1 ..current-tubes: 7/",
 ];
 
-// The last four are watched still, and the last of them is used.
+// The last four are still watched, and the last one is used.
 static WATCHED_TUBES: &[Script] = &[
     "0 0 crowd of 10000 watched tubes
     0 2 stats | 2 ..current-jobs-ready: 0/current-jobs-reserved: 0/current-jobs-delayed: 0/current-jobs-buried: 0/
@@ -40,7 +41,7 @@ fn is_inserted(answer: &Option<(Seat, Answer)>, number: u32) -> bool {
     matches!(answer, Some((0, Answer::Inserted(id))) if *id == u64::from(number))
 }
 
-// A put of the client at seat 0, which is accepted under this number.
+// The client at seat 0 puts a job, which gets this id.
 fn put(alloc: Global, bench: &mut Bench, number: u32) -> Result<(), Fail> {
     let put = Request::Put {
         pri: number,
@@ -55,7 +56,7 @@ fn put(alloc: Global, bench: &mut Bench, number: u32) -> Result<(), Fail> {
     Ok(())
 }
 
-// So many jobs more are put, of which the first is the most urgent, into a core that had none.
+// Puts this many jobs, the first the most urgent, into a core that had none.
 fn put_jobs(alloc: Global, bench: &mut Bench, jobs: u32) -> Result<(), Fail> {
     for number in 1..=jobs {
         put(alloc, bench, number)?;
@@ -63,7 +64,7 @@ fn put_jobs(alloc: Global, bench: &mut Bench, jobs: u32) -> Result<(), Fail> {
     Ok(())
 }
 
-// A name of 200 bytes. Names are in the order of their numbers.
+// Returns a name of 200 bytes. Names are ordered like their numbers.
 pub(crate) fn long_name(number: u32) -> [u8; 200] {
     let mut name = [b'a'; 200];
     name[0] = b'0' + (number / 1000 % 10) as u8;
@@ -73,12 +74,12 @@ pub(crate) fn long_name(number: u32) -> [u8; 200] {
     name
 }
 
-// The name of a turn: another order than that of the names' bytes.
+// Returns the name of a turn; the turns are not in the order of the names.
 fn name_of(turn: u32) -> [u8; 200] {
     long_name(turn.saturating_mul(7) % TUBES)
 }
 
-// Puts of the client at seat 0 go into this tube.
+// Returns true if puts of the client at seat 0 go into this tube.
 pub(crate) fn is_using(answer: &Option<(Seat, Answer)>, name: &[u8]) -> bool {
     match answer {
         Some((0, Answer::Using(used))) => used.as_slice() == name,
@@ -86,7 +87,7 @@ pub(crate) fn is_using(answer: &Option<(Seat, Answer)>, name: &[u8]) -> bool {
     }
 }
 
-// The client at seat 1 watches so many tubes.
+// Returns true if the client at seat 1 watches this many tubes.
 fn is_watching(answer: &Option<(Seat, Answer)>, tubes: u32) -> bool {
     matches!(answer, Some((1, Answer::Watching(count))) if *count == u64::from(tubes))
 }
@@ -116,7 +117,7 @@ fn watch_tubes(bench: &mut Bench) -> Result<(), Fail> {
     Ok(())
 }
 
-// The list of the long names and of the default tube.
+// Returns the list of the long names and of the default tube.
 fn list_of_tubes(alloc: Global) -> Result<Vec<u8, Global>, Fail> {
     let mut list = Vec::from_slice(alloc, b"---\n")?;
     for number in 0..TUBES {
@@ -128,7 +129,7 @@ fn list_of_tubes(alloc: Global) -> Result<Vec<u8, Global>, Fail> {
     Ok(list)
 }
 
-// The client at seat 1 is shown this list.
+// Returns true if the client at seat 1 gets this list.
 fn is_shown(bench: &mut Bench, request: Request, list: &[u8]) -> bool {
     bench.ask(1, request);
     match bench.answer() {
@@ -137,7 +138,7 @@ fn is_shown(bench: &mut Bench, request: Request, list: &[u8]) -> bool {
     }
 }
 
-// Both lists have all names.
+// Both lists contain all names.
 fn see_lists(alloc: Global, bench: &mut Bench) -> Result<(), Fail> {
     let list = list_of_tubes(alloc)?;
     if is_shown(bench, Request::ListTubes, &list)
@@ -155,7 +156,7 @@ fn see_tubes(alloc: Global, bench: &mut Bench) -> Result<(), Fail> {
     see_lists(alloc, bench)
 }
 
-// The client at this seat watches an empty tube alone.
+// The client at this seat watches only an empty tube.
 fn watch_empty(bench: &mut Bench, seat: Seat) -> Result<(), Fail> {
     let (empty, default) = (tube(b"empty")?, tube(b"default")?);
     bench.step(0, seat, Step::Connect);
@@ -164,7 +165,8 @@ fn watch_empty(bench: &mut Bench, seat: Seat) -> Result<(), Fail> {
     Ok(())
 }
 
-// Clients at the seats from 1 on watch another tube than the client at seat 0, and wait or don't.
+// The clients at the seats from 1 on watch another tube than the client at seat 0, and wait or
+// don't wait.
 fn watch_all(bench: &mut Bench, clients: u16, do_wait: bool) -> Result<(), Fail> {
     for number in 0..clients {
         let seat = number.saturating_add(1);
@@ -176,7 +178,7 @@ fn watch_all(bench: &mut Bench, clients: u16, do_wait: bool) -> Result<(), Fail>
     Ok(())
 }
 
-/// The crowd of these words comes. Whether there is such a one.
+/// Runs the crowd that these words name. Returns false if there is none.
 pub(crate) fn has_come(alloc: Global, bench: &mut Bench, words: &str) -> Result<bool, Fail> {
     match words {
         "10000 jobs" => put_jobs(alloc, bench, 10_000)?,

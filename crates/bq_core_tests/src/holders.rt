@@ -1,4 +1,4 @@
-//! Steps of clients that hold jobs while they wait: each is told when the time to run of its own ends soon.
+//! Clients that hold jobs while they wait: each is answered when its own time to run ends soon.
 use crate::play::{Script, play};
 use std::test::Fail;
 

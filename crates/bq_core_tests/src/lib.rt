@@ -1,5 +1,5 @@
-//! The tests of the core, which use its public calls alone. The answers are found by hand, by the rules
-//! of the queue.
+//! Tests of the core. They use public calls only, and expect answers that were found by hand from
+//! the rules of the queue.
 #![tactic(auto)]
 
 #[cfg(test)]

@@ -1,10 +1,10 @@
-//! A limit on jobs.
+//! Job limits.
 use crate::bench::config;
 use crate::play::{Script, play_with};
 use bq_core::Config;
 use std::test::Fail;
 
-// Four seats, bodies of 10 bytes, and so many jobs at most.
+// Four seats, bodies of 10 bytes, and this job limit.
 fn limited(most: u32) -> Config {
     Config {
         max_jobs: Some(most),

@@ -1,4 +1,4 @@
-//! Steps of clients at several tubes, with delays, pauses and jobs that are chosen by their id.
+//! Clients at several tubes, with delays, pauses and jobs that are selected by id.
 use crate::play::{Script, play};
 use std::test::Fail;
 

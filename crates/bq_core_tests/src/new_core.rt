@@ -1,11 +1,10 @@
-//! Which configurations a core takes.
+//! Which configurations a core accepts.
 use crate::bench::config;
 use bq_core::{Config, Core, CoreFault};
 use std::alloc::Global;
 use std::test::Fail;
 
-// The number of the fault of so many seats, bodies of so many bytes, and so many jobs at most, or 0 where a core was
-// made.
+// Returns the number of the fault for these settings, or 0 if a core was made.
 fn code_of(alloc: Global, seats: u16, max_job_size: u32, max_jobs: Option<u32>) -> u16 {
     let chosen = Config {
         max_jobs,

@@ -1,4 +1,4 @@
-//! Steps of clients that all use and watch the default tube.
+//! Clients that all use and watch only the default tube.
 use crate::play::{Script, play};
 use std::test::Fail;
 

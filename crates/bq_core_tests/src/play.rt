@@ -1,4 +1,4 @@
-//! Scripts of steps, taken and answered.
+//! Scripts of steps and their answers.
 use crate::bench::{Bench, config};
 use crate::crowds::has_come;
 use crate::texts::is_wanted;
@@ -7,11 +7,11 @@ use bq_job::{Moment, Seat, Step};
 use std::alloc::Global;
 use std::test::Fail;
 
-/// Steps and what they are answered, in a row each: the moment, the seat, what happens there, and behind each `|` an
-/// answer, with the seat that it goes to. It is answered that and nothing else. `~` is CR LF, and `/` is LF. Of an
-/// answer that begins with `..` only these lines are wanted. A row of `due` is no step: it tells the next due moment.
-/// Nor is one of `count`, from which on comparisons are counted, nor one of a crowd. A row that begins with `#` is a
-/// remark.
+/// Steps and their answers, one step per row: the moment, the seat, what happens there, and after
+/// each `|` an answer with the seat that it goes to. The step must give exactly these answers. `~`
+/// is CR LF, and `/` is LF. If an answer begins with `..`, only these lines of it are compared.
+/// Some rows are not steps: `due` states the next due moment, `count` starts counting comparisons,
+/// and `crowd of` runs a crowd. A row that begins with `#` is a comment.
 pub(crate) type Script = &'static str;
 
 /// A row of a script.
@@ -23,7 +23,7 @@ struct Row {
     answers: &'static str,
 }
 
-// A number, and what stands behind it.
+// A number, and the text after it.
 fn numbered(text: &'static str) -> Option<(u64, &'static str)> {
     let (number, rest) = text.split_once(' ')?;
     Some((number.parse::<u64>().ok()?, rest))
@@ -46,7 +46,7 @@ fn row_of(text: &'static str) -> Option<Row> {
     })
 }
 
-// The oldest answer of the last step that is left is this one.
+// The oldest remaining answer of the last step is this one.
 fn is_next(alloc: Global, bench: &mut Bench, wanted: &'static str) -> Result<bool, Fail> {
     let (Some((to, answer)), Some((seat, text))) = (bench.answer(), seated(wanted)) else {
         return Ok(false);
@@ -54,7 +54,8 @@ fn is_next(alloc: Global, bench: &mut Bench, wanted: &'static str) -> Result<boo
     Ok(to == seat && is_wanted(alloc, &answer, text)?)
 }
 
-// The answers of the last step are those wanted, in their order, and no others, and memory was ample.
+// The answers of the last step are exactly those wanted, in order, and nothing failed for lack of
+// memory.
 fn is_answered(alloc: Global, bench: &mut Bench, answers: &'static str) -> Result<bool, Fail> {
     for wanted in answers.split('|') {
         let wanted = wanted.trim();
@@ -65,7 +66,7 @@ fn is_answered(alloc: Global, bench: &mut Bench, answers: &'static str) -> Resul
     Ok(bench.answer().is_none() && bench.was_ample())
 }
 
-// The step of the row is taken, and answered as it says.
+// Takes the step of the row, and returns true if it is answered as the row says.
 fn is_right(alloc: Global, bench: &mut Bench, row: &Row) -> Result<bool, Fail> {
     if let Some(due) = row.words.strip_prefix("due ") {
         return Ok(bench.next_due() == due.parse::<u64>().ok());
@@ -80,7 +81,7 @@ fn is_right(alloc: Global, bench: &mut Bench, row: &Row) -> Result<bool, Fail> {
     Ok(bench.take(row.at, row.seat, row.words)? && is_answered(alloc, bench, row.answers)?)
 }
 
-// The same of a row's text.
+// Does the same for the text of a row.
 fn is_kept(alloc: Global, bench: &mut Bench, text: &'static str) -> Result<bool, Fail> {
     match row_of(text) {
         Some(row) => is_right(alloc, bench, &row),
@@ -88,7 +89,7 @@ fn is_kept(alloc: Global, bench: &mut Bench, text: &'static str) -> Result<bool,
     }
 }
 
-// The steps of the script are taken, and answered as it says. Else the failure tells the row.
+// Takes the steps of the script, and fails with the first row that is not answered as it says.
 fn take_all(alloc: Global, bench: &mut Bench, script: Script) -> Result<(), Fail> {
     for text in script.split('\n') {
         let text = text.trim();
@@ -99,7 +100,7 @@ fn take_all(alloc: Global, bench: &mut Bench, script: Script) -> Result<(), Fail
     Ok(())
 }
 
-// The first three seats connect, and then the script is played. How many comparisons were counted in it.
+// Connects the first three seats, and plays the script. Returns how many comparisons it counted.
 fn play_at(alloc: Global, bench: &mut Bench, script: Script) -> Result<u64, Fail> {
     for seat in 0..3 {
         bench.step(0, seat, Step::Connect);
@@ -108,13 +109,13 @@ fn play_at(alloc: Global, bench: &mut Bench, script: Script) -> Result<u64, Fail
     Ok(bench.counted())
 }
 
-/// A script is played at a new core of this configuration. How many comparisons were counted in it.
+/// Plays a script at a new core with this configuration. Returns how many comparisons it counted.
 pub(crate) fn play_one(alloc: Global, config: Config, script: Script) -> Result<u64, Fail> {
     let mut bench = Bench::new(alloc, config)?;
     play_at(alloc, &mut bench, script)
 }
 
-/// Each script is played, at a core of its own.
+/// Plays each script, at a core of its own.
 pub(crate) fn play_with(alloc: Global, config: Config, scripts: &[Script]) -> Result<(), Fail> {
     for script in scripts {
         play_one(alloc, config, script)?;
@@ -122,7 +123,7 @@ pub(crate) fn play_with(alloc: Global, config: Config, scripts: &[Script]) -> Re
     Ok(())
 }
 
-/// The same with four seats and bodies of 10 bytes.
+/// Does the same with four seats and bodies of 10 bytes.
 pub(crate) fn play(alloc: Global, scripts: &[Script]) -> Result<(), Fail> {
     play_with(alloc, config(4, 10), scripts)
 }

@@ -1,10 +1,10 @@
-//! Jobs of a lost connection, with a delay and without one.
+//! Jobs whose holder disconnects, with a requeue delay and without one.
 use crate::bench::config;
 use crate::play::{Script, play_with};
 use bq_core::Config;
 use std::test::Fail;
 
-// Four seats, bodies of 10 bytes, and so many seconds of delay for the jobs of a lost connection.
+// Four seats, bodies of 10 bytes, and this requeue delay in seconds.
 fn delayed(seconds: u32) -> Config {
     Config {
         requeue_delay: seconds,

@@ -1,3 +1,3 @@
-//! Texts of statistics as they were written down by hand, and counts that follow what happens.
+//! Texts of statistics that were written by hand, and counts that follow what happens.
 mod changes;
 mod whole_texts;

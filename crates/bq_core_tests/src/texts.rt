@@ -9,7 +9,7 @@ pub(crate) fn tube(name: &[u8]) -> Result<TubeName, Fail> {
     Ok(TubeName::new(name).ok_or("a tube's name")?)
 }
 
-/// A step that isn't read from a client's line.
+/// Returns a step that isn't read from a client's line, if the words name one.
 pub(crate) fn plain_step(words: &str) -> Option<Step> {
     match words {
         "connect" => Some(Step::Connect),
@@ -23,7 +23,7 @@ pub(crate) fn plain_step(words: &str) -> Option<Step> {
     }
 }
 
-/// Puts the bytes of a script's text at the end: `~` is CR LF, and `/` is LF.
+/// Appends the bytes of a script's text: `~` is CR LF, and `/` is LF.
 pub(crate) fn push_text(bytes: &mut Vec<u8>, text: &str) -> Result<(), AllocError> {
     for byte in text.as_bytes() {
         match *byte {
@@ -35,7 +35,8 @@ pub(crate) fn push_text(bytes: &mut Vec<u8>, text: &str) -> Result<(), AllocErro
     Ok(())
 }
 
-// What a client is written for the answer. The end of a line, for which that is nothing, has a word.
+// Returns what a client receives for the answer. The answer to a close, for which that is nothing,
+// has a word.
 fn text_of(alloc: Global, answer: &Answer) -> Result<Vec<u8>, AllocError> {
     if let Answer::Closed = answer {
         return Vec::from_slice(alloc, b"closed\r\n");
@@ -48,12 +49,13 @@ fn text_of(alloc: Global, answer: &Answer) -> Result<Vec<u8>, AllocError> {
     Ok(text)
 }
 
-// Whether the lines stand in the text behind one another.
+// Returns true if the text contains these lines, one after another.
 fn has_lines(text: &[u8], lines: &[u8]) -> bool {
     !lines.is_empty() && text.windows(lines.len()).any(|piece| piece == lines)
 }
 
-/// Whether the answer is the one that a script wants: this text, or one with the lines behind `..` in it.
+/// Returns true if the answer is the one that a script wants: this text or, after `..`, a text with
+/// these lines in it.
 pub(crate) fn is_wanted(alloc: Global, answer: &Answer, wanted: &str) -> Result<bool, AllocError> {
     let text = text_of(alloc, answer)?;
     let mut bytes = Vec::new(alloc);

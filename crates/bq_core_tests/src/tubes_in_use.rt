@@ -1,5 +1,5 @@
-//! Tubes that come and go while clients use and watch them: each is emptied and filled again while it is there, and its
-//! name comes back once it is gone.
+//! Tubes that come and go while clients use and watch them. Each is emptied and filled again while
+//! it exists, and its name is used again once it is gone.
 use crate::bench::Bench;
 use crate::crowds::{is_using, long_name};
 use crate::texts::tube;
@@ -12,13 +12,13 @@ const WATCHED: u32 = 10_000;
 
 const NAMES: u32 = 1_300;
 
-/// How many others come before one is watched no longer.
+/// How many other tubes come before a tube is no longer watched.
 const STAY: u32 = 4;
 
 /// How many tubes are paused, go with their pause, and come back.
 const PAUSED: u32 = 2_000;
 
-// A step of this turn went as it has to.
+// Fails with the number of the turn if its step did not go well.
 fn ended(is_well: bool, turn: u32) -> Result<(), Fail> {
     if is_well {
         Ok(())
@@ -33,7 +33,7 @@ fn use_tube(bench: &mut Bench, name: &[u8], turn: u32) -> Result<(), Fail> {
     ended(is_using(&bench.answer(), name), turn)
 }
 
-// The client at seat 1 watches the tube of this turn too, or no longer, and so many then.
+// The client at seat 1 starts or stops watching the tube of this turn, and then watches this many.
 fn watch(bench: &mut Bench, turn: u32, count: u32) -> Result<(), Fail> {
     let tube = tube(&long_name(turn % NAMES))?;
     bench.ask(1, Request::Watch { tube });
@@ -66,7 +66,8 @@ fn put(alloc: Global, bench: &mut Bench, id: JobId, turn: u32) -> Result<(), Fai
     ended(is_put, turn)
 }
 
-// The job of the tube that is used goes to the client that watches it, which deletes it: the tube is empty, and stays.
+// The job of the used tube goes to the client that watches the tube, which deletes it. The tube is
+// then empty, and stays.
 fn pass_job(alloc: Global, bench: &mut Bench, id: JobId, turn: u32) -> Result<(), Fail> {
     put(alloc, bench, id, turn)?;
     bench.ask(1, Request::Reserve);
@@ -76,7 +77,8 @@ fn pass_job(alloc: Global, bench: &mut Bench, id: JobId, turn: u32) -> Result<()
     ended(matches!(bench.answer(), Some((1, Answer::Deleted))), turn)
 }
 
-/// Tubes come, and each passes two jobs while it is used and watched. Once it is watched and used no longer it is gone.
+/// Tubes come, and each passes two jobs on while it is used and watched. A tube that is no longer
+/// watched or used is gone.
 pub(crate) fn pass_through_tubes(alloc: Global, bench: &mut Bench) -> Result<(), Fail> {
     let mut id = 1;
     for turn in 1..=WATCHED {
@@ -92,7 +94,7 @@ pub(crate) fn pass_through_tubes(alloc: Global, bench: &mut Bench) -> Result<(),
     Ok(())
 }
 
-// The client at seat 0 pauses the tube that it uses, for so many seconds.
+// The client at seat 0 pauses the tube that it uses for this many seconds.
 fn pause(bench: &mut Bench, name: &[u8], seconds: u32, turn: u32) -> Result<(), Fail> {
     bench.ask(
         0,
@@ -105,7 +107,7 @@ fn pause(bench: &mut Bench, name: &[u8], seconds: u32, turn: u32) -> Result<(), 
     ended(bench.next_due() == Some(u64::from(seconds) * 1000), turn)
 }
 
-/// Tubes are paused and go, and their pauses with them: each comes back without one.
+/// Tubes are paused and go, and so do their pauses: each comes back without one.
 pub(crate) fn pause_tubes(alloc: Global, bench: &mut Bench) -> Result<(), Fail> {
     for turn in 1..=PAUSED {
         let name = long_name(turn % 3);

@@ -1,11 +1,11 @@
-//! Another owner of a job's body.
+//! Another reference to a job's body.
 
 use crate::putting::{job, put, tube};
 use bq_job::{JobId, JobState};
 use bq_jobs::NumberedJobs;
 use std::test::Fail;
 
-// Whether there is a job of this id, of which another owner reads these bytes.
+// Returns true if there is a job with this id, and another reference to its body reads these bytes.
 fn reads(jobs: &mut NumberedJobs, id: JobId, bytes: &[u8]) -> bool {
     match jobs.share_body(id) {
         Some(Ok(body)) => body.as_slice() == bytes,

@@ -1,4 +1,5 @@
-//! The three boxes of a job, of which any may be refused, and which go back to the heap after a peak.
+//! The three boxes of a job. The allocation of any of them may fail, and they return to the heap
+//! after a peak.
 
 use crate::putting::{job, put, tube};
 use bq_index::{BoxSource, NoMemory as Refused};
@@ -9,7 +10,7 @@ use std::mem::size_of_val;
 use std::process::Abort;
 use std::test::Fail;
 
-/// A heap that refuses one of the boxes that it is asked for.
+/// A heap in which one of the allocations fails.
 #[derive(Drop)]
 pub(crate) struct Refusing {
     pub(crate) heap: Global,
@@ -27,7 +28,7 @@ impl BoxSource for Refusing {
     }
 }
 
-// Adds the jobs below an id, each to room of its own.
+// Adds the jobs below an id, each with room that is reserved for it.
 fn fill(
     rt: &impl Abort,
     alloc: Global,
@@ -42,7 +43,7 @@ fn fill(
     Ok(())
 }
 
-// Removes the jobs of these ids, and tells whether each was there.
+// Removes the jobs with these ids, and returns true if each existed.
 fn remove_all(jobs: &mut NumberedJobs, first: JobId, end: JobId) -> bool {
     let mut are_there = true;
     for id in first..end {
@@ -51,7 +52,7 @@ fn remove_all(jobs: &mut NumberedJobs, first: JobId, end: JobId) -> bool {
     are_there
 }
 
-/// Whichever box is refused, the others are kept for the next call, which asks for those that are left.
+/// Whichever box fails, the others are kept for the next call, which allocates the missing ones.
 fn refuse_one(
     rt: &impl Abort,
     alloc: Global,
@@ -85,7 +86,7 @@ fn each_box_refused_in_turn(rt: HostRuntime) -> Result<(), Fail> {
     refuse_one(&rt, rt.alloc(), &mut NumberedJobs::new(), name, 3, 1)
 }
 
-/// Gives back the room of as many jobs as there is room for, and tells of how many it went.
+/// Returns all spare room to the heap, and reports for how many jobs that was.
 fn give_back_all(jobs: &mut NumberedJobs) -> usize {
     let before = jobs.room();
     for _ in 0..before {
@@ -94,7 +95,7 @@ fn give_back_all(jobs: &mut NumberedJobs) -> usize {
     before.saturating_sub(jobs.room())
 }
 
-// A peak of 200 jobs, of which 3 are left and then none.
+// A peak of 200 jobs, after which 3 are left and then none.
 fn peak_passes(
     rt: &impl Abort,
     alloc: Global,
@@ -121,7 +122,8 @@ fn peak_passes(
     Ok(())
 }
 
-/// After a peak the room goes back to the heap, three boxes for each job, but for that of the jobs there are.
+/// After a peak the room returns to the heap, three boxes for each job, except that of the jobs
+/// that exist.
 #[test]
 fn room_of_a_peak_given_back(rt: HostRuntime) -> Result<(), Fail> {
     peak_passes(
@@ -132,7 +134,7 @@ fn room_of_a_peak_given_back(rt: HostRuntime) -> Result<(), Fail> {
     )
 }
 
-/// A heap that notes how large the last three boxes are that it is asked for.
+/// A heap that records the sizes of its last three boxes.
 #[derive(Drop)]
 struct Weighing {
     heap: Global,
@@ -147,8 +149,8 @@ impl BoxSource for Weighing {
     }
 }
 
-/// No box is larger than the first page of `bq_jobs` says: its place in its tube or at its holder, its place
-/// among delays and leases, and its box by id.
+/// No box is larger than the first page of `bq_jobs` says: the place in the tube or at the holder,
+/// the place among delays and leases, and the box by id.
 #[test]
 fn bytes_of_a_job(rt: HostRuntime) -> Result<(), Fail> {
     let mut source = Weighing {

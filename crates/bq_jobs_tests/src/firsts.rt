@@ -26,7 +26,7 @@ pub(crate) const JOBS: &[(JobId, &str, Pri, JobState)] = &[
     (16, "ab", 0, JobState::Reserved(1, 4)),
 ];
 
-/// A kind of job, of which the first is asked for.
+/// A kind of job whose first one is queried.
 #[derive(Clone, Copy)]
 pub(crate) enum Kind {
     Ready(&'static str),
@@ -73,12 +73,12 @@ fn add_all(rt: &impl Abort, alloc: Global, jobs: &mut NumberedJobs) -> Result<()
     Ok(())
 }
 
-// Looks for the first job of each kind.
+// Queries the first job of each kind.
 fn look(rt: &impl Abort, jobs: &mut NumberedJobs) {
     for (kind, wanted) in FIRSTS {
         let before = jobs.comparisons();
         assert!(rt; first_of(rt, jobs, *kind) == *wanted);
-        // What a look compares is counted; a tube without jobs isn't looked for among them.
+        // The comparisons of a query are counted; a tube without jobs needs none.
         assert!(rt; jobs.comparisons() > before || wanted.is_none());
     }
 }

@@ -1,4 +1,5 @@
-//! The tests of shelves and of the jobs of a queue, which lie in them. Each uses public calls alone.
+//! Tests of shelves, and of the jobs of a queue, which are kept in shelves. They use public calls
+//! only.
 #![tactic(auto)]
 
 #[cfg(test)]

@@ -1,4 +1,4 @@
-//! More jobs than stand in any other test.
+//! More jobs than in any other test.
 
 use crate::putting::{job, put, tube};
 use bq_job::{JobState, NoMemory, TubeName};
@@ -8,7 +8,7 @@ use std::test::Fail;
 
 const JOBS: u64 = 3_000;
 
-/// Puts all jobs in, each one more urgent than the one before it.
+/// Adds all jobs, each more urgent than the previous one.
 fn fill(alloc: Global, jobs: &mut NumberedJobs, name: TubeName) -> Result<bool, NoMemory> {
     for id in 0..JOBS {
         let pri = (JOBS - id) as u32;
@@ -20,7 +20,7 @@ fn fill(alloc: Global, jobs: &mut NumberedJobs, name: TubeName) -> Result<bool, 
     Ok(true)
 }
 
-/// Takes all jobs out in the order in which they would be handed out: the last one first.
+/// Removes all jobs in the order in which they would be handed out: the last one first.
 fn empty(jobs: &mut NumberedJobs, name: &TubeName) -> bool {
     for taken in 1..=JOBS {
         match jobs.first_ready(name) {

@@ -1,4 +1,5 @@
-//! Jobs with the names of their tubes: the same as those with numbers, by the calls that a program would use.
+//! Jobs with the names of their tubes: the same as those with numbers, through the calls that a
+//! program would use.
 
 use crate::boxes::Refusing;
 use crate::firsts::{FIRSTS, JOBS, Kind};
@@ -9,7 +10,7 @@ use std::alloc::Global;
 use std::process::Abort;
 use std::test::Fail;
 
-// Adds a job, where there is room and no job of its id.
+// Adds a job if there is room and no job with its id.
 fn put(jobs: &mut Jobs, job: Job) -> bool {
     if jobs.room() == 0 || jobs.get(job.id).is_some() {
         return false;
@@ -39,7 +40,7 @@ fn add_all(rt: &impl Abort, alloc: Global, jobs: &mut Jobs) -> Result<(), Fail> 
     Ok(())
 }
 
-// Looks for the first job of each kind, and counts what that compares.
+// Queries the first job of each kind, and counts the comparisons of that.
 fn look(rt: &impl Abort, jobs: &mut Jobs) {
     for (kind, wanted) in FIRSTS {
         let before = jobs.comparisons();
@@ -48,7 +49,7 @@ fn look(rt: &impl Abort, jobs: &mut Jobs) {
     }
 }
 
-// Whether the job of this id is lent with the name of this tube.
+// Returns true if the job with this id has the name of this tube.
 fn is_in(jobs: &mut Jobs, id: JobId, name: &TubeName) -> bool {
     match jobs.get(id) {
         None => false,
@@ -68,7 +69,7 @@ fn first_of_each_kind_by_names(rt: HostRuntime) -> Result<(), Fail> {
     Ok(())
 }
 
-// A job is taken out, changed and added again in the room that it leaves.
+// Removes a job, changes it and adds it again in the same room.
 fn change(jobs: &mut Jobs, id: JobId, state: JobState) -> bool {
     match jobs.remove(id) {
         None => false,
@@ -98,7 +99,7 @@ fn job_changed_in_its_room(rt: HostRuntime) -> Result<(), Fail> {
     Ok(())
 }
 
-// Whichever of the three boxes of a job is refused, the next call asks for those that are left.
+// Whichever of the three boxes of a job fails, the next call allocates the missing ones.
 fn refuse_one(rt: &impl Abort, alloc: Global, refused: usize, left: usize) -> Result<(), Fail> {
     let mut jobs = Jobs::new();
     let mut source = Refusing {

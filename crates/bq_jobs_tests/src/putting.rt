@@ -1,4 +1,4 @@
-//! How the tests put jobs in and change them.
+//! How the tests add and change jobs.
 
 use bq_job::{Body, Counts, Job, JobId, JobState, NoMemory, Pri, TubeName};
 use bq_jobs::NumberedJobs;
@@ -9,7 +9,7 @@ pub fn tube(rt: &impl Abort, name: &str) -> TubeName {
     TubeName::new(name.as_bytes()).expect(rt, "the name of a tube")
 }
 
-/// A job with a body of three bytes.
+/// Returns a job with a body of three bytes.
 pub fn job(
     alloc: Global,
     id: JobId,
@@ -30,7 +30,7 @@ pub fn job(
     })
 }
 
-/// Adds a job, where there is room and no job of its id.
+/// Adds a job if there is room and no job with its id.
 pub fn put(alloc: Global, jobs: &mut NumberedJobs, job: Job) -> bool {
     if jobs.room() == 0 || jobs.get(job.id).is_some() || jobs.know(alloc, &job.tube).is_err() {
         return false;
@@ -39,7 +39,7 @@ pub fn put(alloc: Global, jobs: &mut NumberedJobs, job: Job) -> bool {
     true
 }
 
-/// Changes the state of a job by taking it out and adding it again.
+/// Changes the state of a job by removing it and adding it again.
 pub fn change(alloc: Global, jobs: &mut NumberedJobs, id: JobId, state: JobState) -> bool {
     match jobs.remove(id) {
         None => false,

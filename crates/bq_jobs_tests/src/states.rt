@@ -5,7 +5,8 @@ use bq_job::{JobState, TubeName};
 use bq_jobs::NumberedJobs;
 use std::test::Fail;
 
-/// States of a job, and of which kinds it is then: ready, delayed, buried, due, a lease, held.
+/// States of a job, and the kinds that it then belongs to: ready, delayed, buried, due, a lease,
+/// held.
 const STATES: &[(JobState, [bool; 6])] = &[
     (JobState::Ready, [true, false, false, false, false, false]),
     (

@@ -1,4 +1,4 @@
-//! Bells: who waits is woken by what it waits for, also where that came before.
+//! Wake-ups: a waiting thread is woken up by what it waits for, even if that came before it waited.
 ghost use Rattle.std.specs.Prelude.{◌≡◌};
 
 use crate::ends::{Shared, links_of_four, submit_one};
@@ -8,7 +8,7 @@ use std::sync::Wait;
 use std::test::Fail;
 use std::time::{Clock, Duration, Instant};
 
-// Far longer than any wait of these tests that is woken.
+// Far longer than any wait of these tests that is woken up.
 fn long() -> Duration {
     Duration::from_secs(20)
 }
@@ -20,7 +20,7 @@ fn was_woken<R: Clock>(rt: &R, start: Instant) -> bool {
     }
 }
 
-// The core waits once this end has submitted a step, and takes it.
+// The core waits after this end has submitted a step, and takes the step.
 fn wakes_the_core<R: Wait>(rt: &R, intake: &Shared, core: &mut CoreEnd, end: SeatEnd) -> bool
     requires core { core.old.intake ≡ intake.now.id }
     requires seat { end.intake ≡ intake.now.id }
@@ -44,7 +44,7 @@ fn each_end_wakes_the_core(rt: HostRuntime) -> Result<(), Fail> {
     Ok(())
 }
 
-// The end waits once its bell was rung.
+// The end waits after it was woken up.
 fn hears_its_bell<R: Wait>(rt: &R, intake: &Shared, end: &mut SeatEnd) {
     intake.wake(end.number());
     end.wait(rt, intake, long());

@@ -13,7 +13,7 @@ fn is_inserted(got: Option<Answer>, id: u64) -> bool {
     matches!(got, Some(Answer::Inserted(given)) if given == id)
 }
 
-// Whether the intake has room for four steps, and hands the fifth back.
+// Returns true if the intake has room for four steps and returns the fifth.
 fn fills<R: Wait>(rt: &R, intake: &Shared, first: &mut SeatEnd, second: &mut SeatEnd) -> bool
     requires first { first.old.intake ≡ intake.now.id }
     requires second { second.old.intake ≡ intake.now.id }
@@ -27,7 +27,7 @@ fn fills<R: Wait>(rt: &R, intake: &Shared, first: &mut SeatEnd, second: &mut Sea
         && matches!(second.submit(rt, intake, Step::Gone), Err(Step::Gone))
 }
 
-// Whether the core takes the four steps, and then none.
+// Returns true if the core takes the four steps, and then none.
 fn empties<R: Wait>(rt: &R, intake: &Shared, core: &mut CoreEnd) -> bool
     requires { core.old.intake ≡ intake.now.id }
     ensures { IsSameCore core.old core.new }
@@ -50,7 +50,7 @@ fn intake_by_hand(rt: HostRuntime) -> Result<(), Fail> {
     Ok(())
 }
 
-// Sends the first end the answers with these numbers, and says whether each of them found room.
+// Sends the first end the answers with these numbers, and returns true if each of them found room.
 fn send_all(core: &mut CoreEnd, ids: Range<u64>) -> bool
     requires { 0 < length core.old.rings }
     ensures { IsSameCore core.old core.new }
@@ -63,7 +63,7 @@ fn send_all(core: &mut CoreEnd, ids: Range<u64>) -> bool
     true
 }
 
-// The mail of an end is the answers with these numbers.
+// Returns true if the mail of an end consists of the answers with these numbers.
 fn has_mail(end: &mut SeatEnd, ids: Range<u64>) -> bool
     ensures { IsSameSeat end.old end.new }
 {
@@ -75,7 +75,7 @@ fn has_mail(end: &mut SeatEnd, ids: Range<u64>) -> bool
     true
 }
 
-// The same, where each is taken once it is known to wait, and then none waits.
+// Does the same, but takes each answer only once it is known to wait; then none waits.
 fn has_known_mail(end: &mut SeatEnd, ids: Range<u64>) -> bool
     ensures { IsSameSeat end.old end.new }
 {
@@ -87,7 +87,7 @@ fn has_known_mail(end: &mut SeatEnd, ids: Range<u64>) -> bool
     !end.has_mail()
 }
 
-// Whether its ring has room for four answers, and hands the fifth back.
+// Returns true if its ring has room for four answers and returns the fifth.
 fn fills_ring(core: &mut CoreEnd) -> bool
     requires { 0 < length core.old.rings }
     ensures { IsSameCore core.old core.new }

@@ -1,4 +1,4 @@
-//! Ends to test, and what they do in more than one test.
+//! Ends to test, and operations that several tests use.
 ghost use Rattle.std.specs.Prelude.{◌≡◌, ◌+◌, ◌<◌, ◌≤◌, All, IfOk, length};
 ghost use Rattle.bq_link.specs.EndStates.{IsPair, IsSameCore, IsSameSeat};
 
@@ -11,7 +11,8 @@ use std::thread;
 /// The intake of all tests.
 pub type Shared = Intake<Anything>;
 
-/// The links of so many seats: the intake, the core's end, the last seat's and the control line's.
+/// Returns the links of `count` seats: the intake, the core's end, the last seat's end and the
+/// control line's.
 pub fn last_ends(alloc: Global, count: u16) -> Result<(Shared, CoreEnd, SeatEnd, SeatEnd), NoMemory>
     requires { (1 ≤ count) × (count ≤ 256) }
     ensures core { IfOk result (λ r. r.1.intake ≡ r.0.id) }
@@ -25,10 +26,11 @@ pub fn last_ends(alloc: Global, count: u16) -> Result<(Shared, CoreEnd, SeatEnd,
     Ok((intake, core, first, second))
 }
 
-/// The links of four seats, without the control line's end: the intake, the core's end and the seats'.
+/// The links of four seats, without the control line's end: the intake, the core's end and the
+/// seats' ends.
 pub type Four = (Shared, CoreEnd, (SeatEnd, SeatEnd), (SeatEnd, SeatEnd));
 
-// Takes out the last end.
+// Removes and returns the last end.
 fn last_end(intake: &Shared, seats: &mut Vec<SeatEnd>) -> SeatEnd
     requires some { 0 < length seats.old.items }
     requires here { All (λ s. s.intake ≡ intake.now.id) seats.old.items }
@@ -53,7 +55,7 @@ pub fn links_of_four(alloc: Global) -> Result<Four, NoMemory>
     Ok((intake, core, (a, b), (c, d)))
 }
 
-/// Submits a step, again and again while the intake is full.
+/// Submits a step, and tries again while the intake is full.
 pub fn submit_one<R: Wait>(rt: &R, intake: &Shared, end: &mut SeatEnd, step: Step)
     requires { end.old.intake ≡ intake.now.id }
     ensures { end.new.intake ≡ end.old.intake }
@@ -69,7 +71,7 @@ pub fn submit_one<R: Wait>(rt: &R, intake: &Shared, end: &mut SeatEnd, step: Ste
     unreachable!()
 }
 
-/// Whether the intake had room for a step.
+/// Returns true if the intake had room for a step.
 pub fn submits<R: Wait>(rt: &R, intake: &Shared, end: &mut SeatEnd, step: Step) -> bool
     requires { end.old.intake ≡ intake.now.id }
     ensures { IsSameSeat end.old end.new }
@@ -77,7 +79,7 @@ pub fn submits<R: Wait>(rt: &R, intake: &Shared, end: &mut SeatEnd, step: Step) 
     end.submit(rt, intake, step).is_ok()
 }
 
-/// Whether the core takes a step of the end with this number, and which it is.
+/// Returns the step that the core takes, if it comes from the end with this number.
 pub fn takes<R: Wait>(rt: &R, intake: &Shared, core: &mut CoreEnd, seat: Seat) -> Option<Did>
     requires { core.old.intake ≡ intake.now.id }
     ensures { IsSameCore core.old core.new }

@@ -1,4 +1,5 @@
-//! Seats that submit numbered steps from threads of their own, which the core takes once and in order.
+//! Seats that submit numbered steps from threads of their own. The core takes each step once, and
+//! those of a seat in order.
 ghost use Rattle.std.specs.Prelude.{◌≡◌};
 
 use crate::ends::{Shared, last_ends, submit_one};
@@ -9,7 +10,7 @@ use std::test::Fail;
 use std::thread;
 use std::thread::Threads;
 
-// Submits touches of the jobs from 1 on, so many.
+// Submits `count` touches, of the jobs from 1 on.
 fn submit_all<R: Wait>(rt: &R, intake: &Shared, end: SeatEnd, count: u64)
     requires { end.intake ≡ intake.now.id }
 {
@@ -37,10 +38,11 @@ fn take_one<R: Wait>(rt: &R, intake: &Shared, core: &mut CoreEnd) -> (Seat, Step
     unreachable!()
 }
 
-// As many steps as each seat submits.
+// The number of steps that each seat submits.
 const STEPS: u64 = 1000;
 
-// Takes all steps of two seats, and says whether each seat's were its touches, once and in order.
+// Takes all steps of two seats, and returns true if each seat's were its touches, once and in
+// order.
 fn take_all<R: Wait>(rt: &R, intake: &Shared, core: CoreEnd) -> bool
     requires { core.intake ≡ intake.now.id }
 {
@@ -74,7 +76,8 @@ fn submit_two<R: Threads + Wait + Sync>(rt: &R, intake: &Shared, a: SeatEnd, b: 
     );
 }
 
-// Two seats submit 2,000 steps through an intake of four places, so that many find it full and try again.
+// Two seats submit 2,000 steps through an intake of four places, so that many find it full and are
+// tried again.
 #[test]
 fn two_seats_in_order(rt: HostRuntime) -> Result<(), Fail> {
     let (intake, core, a, b) = last_ends(rt.alloc(), 1)?;

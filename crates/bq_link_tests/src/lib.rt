@@ -1,4 +1,4 @@
-//! The tests of the links between seats and core. Each uses public calls alone.
+//! Tests of the links between seats and core. They use public calls only.
 #![tactic(auto)]
 
 #[cfg(test)]

@@ -1,4 +1,4 @@
-//! The links of as many seats as a server may have.
+//! The links of the largest number of seats that a server may have.
 ghost use Rattle.std.specs.Prelude.{◌≡◌, ◌<◌, length};
 ghost use Rattle.bq_link.specs.EndStates.{IsSameCore, IsSameSeat};
 
@@ -8,7 +8,7 @@ use bq_link::{CoreEnd, SeatEnd};
 use std::sync::Wait;
 use std::test::Fail;
 
-// Whether the core takes a step of the control line and one of the last seat.
+// Returns true if the core takes a step of the control line and one of the last seat.
 fn takes_both<R: Wait>(
     rt: &R,
     intake: &Shared,
@@ -27,7 +27,7 @@ fn takes_both<R: Wait>(
         && takes(rt, intake, core, 255) == Some(Did::Tick)
 }
 
-// Whether an answer to the last seat comes to that one alone.
+// Returns true if an answer to the last seat reaches only that seat.
 fn sends_to_last(core: &mut CoreEnd, last: &mut SeatEnd, control: &mut SeatEnd) -> bool
     requires { 255 < length core.old.rings }
 {

@@ -1,4 +1,4 @@
-//! The text of an answer of each kind, as the protocol has it, and how texts are joined.
+//! The text of an answer of each kind, as the protocol defines it, and how texts are joined.
 
 use bq_job::{Answer, Body, JobId, Text, TubeName};
 use bq_wire::{HeadBuf, answer_body, answer_head, answer_tail};
@@ -15,7 +15,7 @@ fn text_of(alloc: Global, answer: &Answer) -> Result<Vec<u8>, AllocError> {
     Ok(text)
 }
 
-// Whether that is the text of the answer.
+// Returns true if that is the text of the answer.
 fn is_text(alloc: Global, answer: Answer, want: &str) -> Result<bool, AllocError> {
     Ok(text_of(alloc, &answer)?.as_slice() == want.as_bytes())
 }
@@ -60,7 +60,7 @@ fn answers_with_bytes(rt: HostRuntime) -> Result<(), Fail> {
     Ok(())
 }
 
-// The texts of answers of words alone, in the order of `word_alone`.
+// The texts of answers that consist of a word, in the order of `word_alone`.
 const WORDS: &str = "KICKED DELETED RELEASED BURIED TOUCHED PAUSED NOT_FOUND NOT_IGNORED DRAINING \
     OUT_OF_MEMORY TIMED_OUT DEADLINE_SOON UNKNOWN_COMMAND BAD_FORMAT JOB_TOO_BIG EXPECTED_CRLF";
 
@@ -86,7 +86,7 @@ fn word_alone(place: u64) -> Answer {
     }
 }
 
-// Whether the text of the answer is this word and the end of the line.
+// Returns true if the text of the answer is this word and CR LF.
 fn is_word(alloc: Global, answer: Answer, word: &str) -> Result<bool, AllocError> {
     let text = text_of(alloc, &answer)?;
     Ok(text.as_slice().strip_suffix(b"\r\n") == Some(word.as_bytes()))
@@ -103,7 +103,7 @@ fn are_words(alloc: Global) -> Result<u64, AllocError> {
     Ok(place)
 }
 
-// The answer behind the last of them is to the end of a line, which nobody reads.
+// The answer after the last of these is the one to a close, which has no text.
 #[test]
 fn answers_of_words_alone(rt: HostRuntime) -> Result<(), Fail> {
     assert!(rt; are_words(rt.alloc())? == 16);

@@ -1,4 +1,4 @@
-//! Worked readings, each cut at every byte and cut in two at every place.
+//! Worked readings, each cut at every byte, and cut in two at every place.
 
 use crate::pieces::{push_text, read, single_bytes, two_pieces};
 use std::alloc::{AllocError, Global};
@@ -22,7 +22,7 @@ fn expect_cut(
     Ok(())
 }
 
-// A row of a table: a largest body, a text, and its requests in short.
+// A row of a table: the limit on bodies, a text, and its requests in short form.
 fn row_of(row: &str) -> Option<(u32, &str, &str)> {
     let (limit, rest) = row.split_once('|')?;
     let (text, wanted) = rest.split_once('|')?;
@@ -43,8 +43,8 @@ fn expect_rows(rt: &impl Abort, alloc: Global, rows: &str) -> Result<(), Fail> {
     Ok(())
 }
 
-// A row of a table of long texts: a head, what stands between head and tail and how often, a tail, and the
-// requests in short.
+// A row of a table of long texts: a head, a filler and how often it is repeated, a tail, and the
+// requests in short form.
 #[derive(Drop)]
 struct LongRow<'r> {
     head: &'r str,
@@ -126,7 +126,8 @@ const HOSTILE: &str = "65535|quit^~|101;\n\
     65535|put 004294967295 0 0 0~~put 004294967296 0 0 0~|put 4294967295 0 0 of;102;\n\
     65535|put 0 0 1 1~a^Xput 0 0 1 1~aX%put 0 0 1 1~^~|104;104;put 0 0 1 of 13;";
 
-// The commands that count or list, with the words that they want, with others, and words nearly theirs.
+// The commands that count or list: with the words that they want, with others, and words that
+// nearly match theirs.
 const STATISTICS: &str = "65535|stats~stats-job 7~stats-tube a.b~list-tubes~list-tubes-watched~|\
     stats;stats-job 7;stats-tube a.b;list-tubes;list-tubes-watched;\n\
     65535|stats ~stats x~list-tubes a~list-tubes-watched ~list-tubes-watched 1~|102;102;102;102;102;\n\

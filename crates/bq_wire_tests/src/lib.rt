@@ -1,5 +1,5 @@
-//! The tests of values and texts of the protocol, and of the machine of a connection. Each uses public
-//! calls alone.
+//! Tests of values and texts of the protocol, and of the machine of a connection. They use public
+//! calls only.
 #![tactic(auto)]
 
 #[cfg(test)]

@@ -1,11 +1,11 @@
-//! What the lines of all commands ask for.
+//! What the lines of all commands request.
 
 use crate::pieces::read;
 use std::alloc::{AllocError, Global};
 use std::process::Abort;
 use std::test::Fail;
 
-// What a line asks for, in short.
+// Returns what a line requests, in short form.
 fn asked(alloc: Global, line: &str) -> Result<String, AllocError> {
     let mut bytes = Vec::from_slice(alloc, line.as_bytes())?;
     bytes.extend_from_slice(b"\r\n")?;
@@ -21,7 +21,7 @@ fn expect_all(rt: &impl Abort, alloc: Global, lines: &str, wanted: &str) -> Resu
     Ok(())
 }
 
-// Lines that ask for what they say.
+// Lines whose request in short form is the line itself.
 const COMMANDS: &str = "reserve\n\
     reserve-with-timeout 7\n\
     reserve-job 18446744073709551615\n\
@@ -47,7 +47,7 @@ const COMMANDS: &str = "reserve\n\
     list-tubes-watched\n\
     quit";
 
-// A known word with other words behind it than it wants.
+// Known commands with the wrong words after them.
 const BAD_WORDS: &str = "put 1 2 3\n\
     put 1 2 3 4 5\n\
     reserve 1\n\
@@ -83,7 +83,7 @@ const BAD_WORDS: &str = "put 1 2 3\n\
     list-tubes-watched a\n\
     quit now";
 
-// Words that are nearly those of commands.
+// Words that nearly match commands.
 const UNKNOWN: &str = "\n\
     \x20\n\
     PUT\n\

@@ -1,4 +1,4 @@
-//! Requests in short.
+//! Requests in short form.
 
 use bq_job::{Request, TubeName};
 use std::alloc::{AllocError, Global};
@@ -60,7 +60,7 @@ fn noted_pause(alloc: Global, tube: &TubeName, delay: u32) -> Result<String, All
     Ok(note)
 }
 
-/// A request in short, in the words of the protocol: a refusal is its number.
+/// Returns a request in short form, in the words of the protocol; a rejected request is its number.
 pub fn noted(alloc: Global, request: &Request) -> Result<String, AllocError> {
     match request {
         Request::Put {

@@ -4,7 +4,7 @@ use crate::noted::noted;
 use bq_wire::requests_of;
 use std::alloc::{AllocError, Global};
 
-/// Puts the bytes of a text at the end: `~` is CR LF, `^` is CR, and `%` is LF.
+/// Appends the bytes of a text: `~` is CR LF, `^` is CR, and `%` is LF.
 pub fn push_text(bytes: &mut Vec<u8>, text: &str) -> Result<(), AllocError> {
     for byte in text.as_bytes() {
         match *byte {
@@ -17,7 +17,7 @@ pub fn push_text(bytes: &mut Vec<u8>, text: &str) -> Result<(), AllocError> {
     Ok(())
 }
 
-/// The requests of a text in pieces, in short, each with `;` behind it.
+/// Returns the requests of a text in pieces, in short form, each followed by `;`.
 pub fn read(alloc: Global, limit: u32, pieces: &[Vec<u8>]) -> Result<String, AllocError> {
     let Ok(requests) = requests_of(alloc, limit.max(1).min(1_048_576), pieces) else {
         return Err(AllocError);
@@ -30,7 +30,7 @@ pub fn read(alloc: Global, limit: u32, pieces: &[Vec<u8>]) -> Result<String, All
     Ok(notes)
 }
 
-/// A text cut in two.
+/// Returns a text cut in two.
 pub fn two_pieces(alloc: Global, text: &[u8], at: usize) -> Result<Vec<Vec<u8>>, AllocError> {
     let mut pieces = Vec::new(alloc);
     let at = at.min(text.len());
@@ -39,7 +39,7 @@ pub fn two_pieces(alloc: Global, text: &[u8], at: usize) -> Result<Vec<Vec<u8>>,
     Ok(pieces)
 }
 
-/// A text in pieces of one byte.
+/// Returns a text in pieces of one byte.
 pub fn single_bytes(alloc: Global, text: &[u8]) -> Result<Vec<Vec<u8>>, AllocError> {
     let mut pieces = Vec::new(alloc);
     for byte in text {

@@ -1,11 +1,11 @@
-//! What a reader keeps from piece to piece.
+//! What a reader keeps from one piece to the next.
 
 use bq_job::{Refusal, Request};
 use bq_wire::RequestReader;
 use std::alloc::Global;
 use std::test::Fail;
 
-// A word for what a reader hands out.
+// A word for what a reader returns.
 fn word_of(request: &Option<Request>) -> &'static str {
     match request {
         None => "nothing",
@@ -16,13 +16,13 @@ fn word_of(request: &Option<Request>) -> &'static str {
     }
 }
 
-// How many bytes of the piece the reader takes, and what it hands out.
+// Returns how many bytes of the piece the reader takes, and what it returns.
 fn fed(alloc: Global, reader: &mut RequestReader, piece: &[u8]) -> (usize, &'static str) {
     let (taken, request) = reader.feed(alloc, piece);
     (taken, word_of(&request))
 }
 
-// A quit holds until the restart.
+// A quit holds until the reader is restarted.
 fn is_over_until_restarted(alloc: Global, reader: &mut RequestReader) -> bool {
     let is_over = fed(alloc, reader, b"quit\r\nres") == (6, "quit")
         && fed(alloc, reader, b"reserve\r\n") == (0, "nothing");
@@ -30,7 +30,7 @@ fn is_over_until_restarted(alloc: Global, reader: &mut RequestReader) -> bool {
     is_over && fed(alloc, reader, b"reserve\r\n") == (9, "reserve")
 }
 
-// What came of a line before the restart is forgotten.
+// A restart discards the beginning of a line.
 fn is_forgotten(alloc: Global, reader: &mut RequestReader) -> bool {
     let is_begun = fed(alloc, reader, b"res") == (3, "nothing");
     reader.restart();

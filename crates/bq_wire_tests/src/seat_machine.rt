@@ -1,5 +1,5 @@
-//! What the machine does with whole lines, event by event. Between any two of them it is given every event
-//! that doesn't answer its last action: each is stray, and what follows is the same.
+//! What the machine does with whole lines, event by event. Between any two events it also gets
+//! every event that does not answer its last action. Each of these is stray and changes nothing.
 
 ghost use Rattle.std.specs.Prelude.{IfSome};
 ghost use Rattle.bq_seat.specs.SeatMoves.{FitsPiece, event_told};
@@ -11,8 +11,8 @@ use std::alloc::Global;
 use std::process::Abort;
 use std::test::Fail;
 
-// All events, as the tables write them. Where bytes come, they stand behind the word, and `~` in them is CR LF, `^` CR
-// and `%` LF.
+// All events, as the tables write them. Bytes follow the word; in them `~` is CR LF, `^` CR and `%`
+// LF.
 const ALL_EVENTS: &str = "opened\n\
     submitted\n\
     bytes delete 1~\n\
@@ -24,7 +24,7 @@ const ALL_EVENTS: &str = "opened\n\
     write done\n\
     write fault";
 
-// The event of a row, of which the bytes lie here.
+// Returns the event of a row; `bytes` are its bytes.
 fn event_of<'b>(event: &str, bytes: &'b [u8]) -> Option<Event<'b>>
     ensures { IfSome result (λ event. FitsPiece event) }
 {
@@ -43,7 +43,7 @@ fn event_of<'b>(event: &str, bytes: &'b [u8]) -> Option<Event<'b>>
     }
 }
 
-// The same by the other call, where the event brings no answer.
+// Does the same for the other call, if the event carries no answer.
 fn told_of<'b>(event: &str, bytes: &'b [u8]) -> Option<Told<'b>>
     ensures { IfSome result (λ told. FitsPiece (event_told told)) }
 {
@@ -85,7 +85,7 @@ fn name_of(action: &Action) -> &'static str {
     }
 }
 
-// Whether the event answers an action of this name.
+// Returns true if the event answers an action with this name.
 fn answers(event: &str, last: &str) -> bool {
     match last {
         "read" => {
@@ -99,7 +99,8 @@ fn answers(event: &str, last: &str) -> bool {
     }
 }
 
-// The name of the action that answers an event, which is told by `on_told` where that may be.
+// Returns the name of the action that answers an event. The event is passed to `on_told` if
+// possible.
 fn told(
     alloc: Global,
     machine: &mut SeatMachine,
@@ -119,7 +120,7 @@ fn told(
     Ok(name_of(&machine.on(alloc, event)))
 }
 
-// Tells the machine each event that doesn't answer an action of this name.
+// Passes the machine each event that does not answer an action with this name.
 fn stray(
     rt: &impl Abort,
     alloc: Global,
@@ -135,7 +136,7 @@ fn stray(
     Ok(())
 }
 
-// Lines, one behind another: in each row an event, and the action that answers it.
+// Lines one after another. Each row has an event, and the action that answers it.
 fn play_at(
     rt: &impl Abort,
     alloc: Global,
@@ -160,7 +161,8 @@ fn play(rt: &impl Abort, alloc: Global, session: &str) -> Result<(), Fail> {
     play_at(rt, alloc, &mut machine, session, true)
 }
 
-// A line with commands behind a wait, and then one that comes in pieces and quits inside a body first.
+// A line with commands after a wait, and then one that comes in pieces, with a quit inside a body
+// first.
 const WAITS: &str = "opened|connect\n\
     submitted|read\n\
     nothing yet|read\n\
@@ -195,7 +197,7 @@ const WAITS: &str = "opened|connect\n\
     write done|quit\n\
     submitted|close";
 
-// Ends of the input: behind a wait it is told, and the line is closed after the answer.
+// Ends of input: during a wait the end is submitted, and the line is closed after the answer.
 const ENDS: &str = "opened|connect\n\
     submitted|read\n\
     bytes reserve~|reserve\n\
@@ -215,7 +217,7 @@ const ENDS: &str = "opened|connect\n\
     closed|over by end of input\n\
     opened|connect";
 
-// Faults: a line is closed after one, and the next line begins anew.
+// Faults: the line is closed after one, and the next line starts anew.
 const FAULTS: &str = "opened|connect\n\
     submitted|read\n\
     bytes reserve~|reserve\n\

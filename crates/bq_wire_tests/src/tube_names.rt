@@ -1,4 +1,4 @@
-//! Which bytes are the name of a tube, and how names stand in order.
+//! Which bytes form the name of a tube, and how names are ordered.
 
 use bq_job::TubeName;
 use std::process::Abort;

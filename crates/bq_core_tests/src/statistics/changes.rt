@@ -1,4 +1,4 @@
-//! Lines of texts that follow what happens.
+//! Lines of texts that change with what happens.
 use crate::play::{Script, play};
 use std::test::Fail;
 

@@ -1,4 +1,4 @@
-//! Whole texts, as they were written down by hand.
+//! Complete texts, written by hand.
 use crate::bench::config;
 use crate::play::{Script, play, play_with};
 use std::test::Fail;
@@ -44,7 +44,7 @@ static FIRST_TEXTS: &[Script] = &[
 ];
 
 static EACH_NUMBER: &[Script] = &[
-    // No number is 0, and each differs from those beside it.
+    // No number is 0, and each differs from its neighbours.
     "# each number
     0 0 use t | 0 USING t
     0 1 watch t | 1 WATCHING 2
@@ -116,7 +116,7 @@ static EACH_NUMBER: &[Script] = &[
 
 #[test]
 fn whole_texts(rt: HostRuntime) -> Result<(), Fail> {
-    // There is one seat, and bodies are usual.
+    // There is one seat, and the limit on bodies is the default.
     play_with(rt.alloc(), config(1, 65_535), FIRST_TEXTS)?;
     play(rt.alloc(), EACH_NUMBER)
 }

@@ -1,4 +1,4 @@
-//! Boxes are asked for one by one, and those before a refusal are kept.
+//! Boxes are allocated one by one, and those before a failure are kept.
 
 use super::putting::put;
 use bq_index::{BoxSource, NoMemory, Shelf};
@@ -7,7 +7,7 @@ use std::mem::size_of_val;
 use std::process::Abort;
 use std::test::Fail;
 
-/// A heap that refuses one of the boxes that it is asked for.
+/// A heap in which one of the allocations fails.
 #[derive(Drop)]
 struct Refusing {
     heap: Global,
@@ -25,7 +25,8 @@ impl BoxSource for Refusing {
     }
 }
 
-/// Of three boxes this one is refused: so many are asked for, and so many are spare then.
+/// The allocation of three boxes fails at this one; then this many were requested, and this many
+/// are spare.
 const REFUSALS: &[(usize, usize, usize)] = &[(4, 3, 3), (1, 1, 0), (2, 2, 1), (3, 3, 2)];
 
 fn reserve_three(rt: &impl Abort, heap: Global, refused: usize, asked: usize, spare: usize) {
@@ -38,7 +39,7 @@ fn reserve_three(rt: &impl Abort, heap: Global, refused: usize, asked: usize, sp
     let made = shelf.reserve_from(&mut source, 3);
     assert!(rt; made.is_ok() == (spare == 3));
     assert!(rt; (source.asked, shelf.spare()) == (asked, spare));
-    // What is spare is not asked for again.
+    // Spare boxes are not requested again.
     assert!(rt; shelf.reserve_from(&mut source, spare).is_ok());
     assert!(rt; source.asked == asked);
 }
@@ -50,7 +51,7 @@ fn boxes_one_by_one(rt: HostRuntime) {
     }
 }
 
-/// The same through the heap itself, any of whose answers may be a refusal.
+/// The same with the heap itself, whose allocations may fail.
 #[test]
 fn boxes_of_the_heap(rt: HostRuntime) {
     let mut shelf: Shelf<u64, u64> = Shelf::new();
@@ -59,7 +60,7 @@ fn boxes_of_the_heap(rt: HostRuntime) {
     assert!(rt; made == Ok(()) && spare == 3 || made == Err(NoMemory) && spare < 3);
 }
 
-/// A heap that notes how large the last box is that it is asked for.
+/// A heap that records the size of its last box.
 #[derive(Drop)]
 struct Weighing {
     heap: Global,
@@ -73,7 +74,7 @@ impl BoxSource for Weighing {
     }
 }
 
-/// A box has 24 bytes beside its key and its value.
+/// A box has 24 bytes besides its key and its value.
 #[test]
 fn bytes_of_a_box(rt: HostRuntime) -> Result<(), Fail> {
     let mut source = Weighing {
@@ -89,7 +90,8 @@ fn bytes_of_a_box(rt: HostRuntime) -> Result<(), Fail> {
     Ok(())
 }
 
-/// A box that is given back is no longer there for an insertion. Where none is spare, nothing is given back.
+/// A box that is returned to the heap is no longer available for an insertion. If none is spare,
+/// none is returned.
 #[test]
 fn one_box_given_back(rt: HostRuntime) -> Result<(), Fail> {
     let mut shelf: Shelf<u64, u64> = Shelf::new();
@@ -104,7 +106,8 @@ fn one_box_given_back(rt: HostRuntime) -> Result<(), Fail> {
     Ok(())
 }
 
-/// A chain of spare boxes that is far longer than a stack is deep is let go, one box after another.
+/// A chain of spare boxes that is far longer than the stack is deep is freed, one box after
+/// another.
 #[test]
 fn a_million_spare_boxes(rt: HostRuntime) -> Result<(), Fail> {
     let mut shelf: Shelf<u64, u64> = Shelf::new();

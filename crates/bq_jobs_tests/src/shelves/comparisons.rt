@@ -56,7 +56,7 @@ fn look(shelf: &mut Shelf<u64, u64>, key: u64, spread: &mut Spread) {
     spread.note(lent, next);
 }
 
-/// Puts an entry, as `put` does, and notes the insertion alone.
+/// Adds an entry as `put` does, and counts only the insertion.
 fn add(shelf: &mut Shelf<u64, u64>, key: u64, spread: &mut Spread) {
     if shelf.spare() > 0 && shelf.get(&key).is_none() {
         let before = shelf.comparisons();

@@ -1,4 +1,4 @@
-//! A shelf of more entries than any usual queue has jobs.
+//! A shelf with more entries than a usual queue has jobs.
 
 use super::putting::put;
 use bq_index::Shelf;
@@ -6,7 +6,7 @@ use std::test::Fail;
 
 const ENTRIES: u64 = 30_011;
 
-/// The place of a key in the order in which they are put: far from that of the key before it.
+/// The key at a place in the order of insertion, far from the previous key.
 fn key_at(place: u64) -> u64 {
     place % ENTRIES * 389 % ENTRIES
 }
@@ -20,7 +20,7 @@ fn fill(shelf: &mut Shelf<u64, u64>) -> bool {
     true
 }
 
-/// Whether each key is the next one from itself, and none stands behind the last one.
+/// Returns true if each key is found from itself, and none comes after the last one.
 fn is_full(shelf: &mut Shelf<u64, u64>) -> bool {
     for key in 0..ENTRIES {
         match shelf.next_from(&key) {

@@ -2,7 +2,7 @@
 
 use bq_index::Shelf;
 
-/// Puts an entry where there is a spare box and no such key, whatever the type of the keys is.
+/// Adds an entry if there is a spare box and no such key, whatever the type of the keys.
 pub fn put<K: Ord + Drop, V: Drop>(shelf: &mut Shelf<K, V>, key: K, value: V) -> bool {
     if shelf.spare() == 0 || shelf.get(&key).is_some() {
         return false;

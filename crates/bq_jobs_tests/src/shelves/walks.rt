@@ -1,4 +1,4 @@
-//! What is read of a catalog.
+//! Reading a catalog.
 ghost use Rattle.std.specs.Prelude.{Bool};
 
 use bq_index::{Catalog, NoMemory, Test, Visitor};
@@ -6,7 +6,7 @@ use std::alloc::Global;
 use std::process::Abort;
 use std::test::Fail;
 
-/// What was shown last.
+/// The entry that was visited last.
 #[derive(Drop)]
 struct Last {
     key: u64,
@@ -22,7 +22,7 @@ impl Visitor<u64, u64> for Last {
     }
 }
 
-/// A value of this passes.
+/// Passes if the value is this one.
 struct Is(u64);
 
 impl Test<u64, u64> for Is {
@@ -35,7 +35,7 @@ impl Test<u64, u64> for Is {
     }
 }
 
-/// The tenfold of each key, at four keys.
+/// Ten times each key, at four keys.
 fn four(alloc: Global) -> Result<Catalog<u64, u64>, NoMemory> {
     let mut catalog = Catalog::new();
     catalog.reserve(alloc, 4)?;

@@ -1,4 +1,4 @@
--- the end stays the same one
+-- the end's identity does not change
 use Rattle.bq_link.specs.EndStates.{IsSameSeat}
 use Rattle.bq_link_tests.proofs.by_hand.has_mail.Given as goal
 

@@ -1,4 +1,4 @@
--- the end stays the same one
+-- the end's identity does not change
 use Rattle.bq_link.specs.EndStates.{IsSameCore}
 use Rattle.bq_link_tests.proofs.by_hand.send_all.Given as goal
 
