@@ -1,4 +1,4 @@
-//! Calls that ask for memory: each succeeds, or is refused and changes nothing.
+//! Calls that allocate: each succeeds, or fails and changes nothing.
 
 use crate::outcome::{Outcome, tell};
 use bq_core::{Config, Core, CoreFault, Outs};
@@ -14,7 +14,7 @@ use std::alloc::Global;
 use std::io;
 use std::io::Print;
 
-/// So many seats, and what is usual else.
+/// This many seats, and defaults for the rest.
 pub fn config(seats: u16) -> Config {
     Config {
         seats,
@@ -32,7 +32,7 @@ fn made_or_refused(is_made: bool) -> Outcome {
     }
 }
 
-// A shelf of one entry is to have room for four more.
+// A shelf with one entry gets room for four more.
 fn shelf(alloc: Global) -> Outcome {
     let mut shelf: Shelf<u64, u64> = Shelf::new();
     if shelf.reserve(alloc, 3).is_err() || shelf.spare() == 0 || shelf.get(&7).is_some() {
@@ -63,7 +63,7 @@ fn job(alloc: Global) -> Option<Job> {
     })
 }
 
-// Jobs, of which there is one, are to have room for one more.
+// A collection with one job gets room for one more.
 fn jobs(alloc: Global) -> Outcome {
     let mut jobs = Jobs::new();
     let Some(job) = job(alloc) else {
@@ -89,7 +89,7 @@ fn core(alloc: Global) -> Outcome {
     }
 }
 
-// What is under the lock, with a journal.
+// The state under the lock, with a journal.
 fn lock(alloc: Global) -> Outcome {
     match Locked::new(alloc, config(2), 10) {
         Ok(_) => Outcome::Made,
@@ -116,7 +116,7 @@ fn tell_of_lines<R: Print>(rt: &R, alloc: Global) -> io::Result<()> {
     tell(rt, "seat", made_or_refused(machine))
 }
 
-/// Each of them in turn.
+/// Runs each of them in turn.
 pub fn tell_all<R: Print>(rt: &R, alloc: Global) -> io::Result<()> {
     tell_of_core(rt, alloc)?;
     tell(rt, "links", links_of_two(alloc))?;

@@ -1,4 +1,4 @@
-//! What comes of a call, and how it is told.
+//! The outcome of a call, and how it is printed.
 
 use std::io;
 use std::io::Print;
@@ -6,13 +6,13 @@ use std::io::Print;
 #[derive(Clone, Copy, PartialEq, Eq)]
 pub enum Outcome {
     Made,
-    /// It was refused memory, and has changed nothing.
+    /// An allocation failed, and nothing was changed.
     Refused,
-    /// It was refused a thread, and has changed nothing.
+    /// A thread could not be started, and nothing was changed.
     ThreadRefused,
-    /// A command was left out for want of memory, and what came after followed from that.
+    /// A command was skipped because an allocation failed, and what came after followed from that.
     LeftOut,
-    /// What the call is to be given was refused.
+    /// An allocation failed for an argument of the call.
     NotBegun,
     Wrong,
 }
@@ -30,7 +30,7 @@ impl Outcome {
     }
 }
 
-/// Tells it in one line.
+/// Prints the outcome on one line.
 pub fn tell<R: Print>(rt: &R, name: &str, outcome: Outcome) -> io::Result<()> {
     let text = outcome.text();
     println!(rt; "{name}: {text}")

@@ -1,4 +1,4 @@
-//! Runs over a door that counts how often it is opened: one that is refused opens none.
+//! Runs over a door that counts how often it is opened. A run that fails opens none.
 
 use crate::makings::config;
 use crate::outcome::{Outcome, tell};
@@ -15,14 +15,15 @@ use std::sync::Wait;
 use std::sync::atomic::{AtomicU64, Ordering};
 use std::thread::Threads;
 
-/// What the one client sends, what it is written, and what where memory is refused to its put.
+/// What the only client sends, what it receives, and what it receives if the allocation for its put
+/// fails.
 const ONE: &[&[Client]] = &[&[("put 0 0 1 1~a~reserve-with-timeout 0~quit~", 100)]];
 
 const WRITTEN: &[u8] = b"INSERTED 1\r\nRESERVED 1 1\r\na\r\n";
 
 const LEFT_OUT: &[u8] = b"OUT_OF_MEMORY\r\nTIMED_OUT\r\n";
 
-// What came of a client, by what it was written.
+// The outcome for a client, from what it received.
 fn came_of(written: &[u8]) -> Outcome {
     if written == WRITTEN {
         Outcome::Made
@@ -33,7 +34,7 @@ fn came_of(written: &[u8]) -> Outcome {
     }
 }
 
-// What came of the one client at the door.
+// The outcome for the only client at the door.
 fn came_at(door: &CountedDoor) -> Outcome {
     match door.door.over() {
         [(line, LineEnd::Quit)] => came_of(line.written()),
@@ -48,7 +49,7 @@ fn came_at_all(doors: &[CountedDoor]) -> Outcome {
     }
 }
 
-// A run that is refused has opened no door.
+// A run that fails has opened no door.
 fn refused(fault: RunFault, opened: &AtomicU64) -> Outcome {
     match fault {
         RunFault::NoMemory if opened.load(Ordering::SeqCst) == 0 => Outcome::Refused,
@@ -57,7 +58,7 @@ fn refused(fault: RunFault, opened: &AtomicU64) -> Outcome {
     }
 }
 
-// Nobody says anything on the control line.
+// A control line without input.
 const SILENT: &[u8] = b"";
 
 fn sessions<R: Threads + Wait + Sync>(rt: &R, alloc: Global, opened: &AtomicU64) -> Outcome {
@@ -80,7 +81,7 @@ fn locked<R: Threads + Wait + Sync>(rt: &R, alloc: Global, opened: &AtomicU64) -
     }
 }
 
-/// The run of the links, and the one around a lock.
+/// Runs the run of the links, and the one around a lock.
 pub fn tell_all<R: Print + Threads + Wait + Sync>(rt: &R, alloc: Global) -> io::Result<()> {
     let opened = AtomicU64::new(0);
     tell(rt, "run_sessions", sessions(rt, alloc, &opened))?;

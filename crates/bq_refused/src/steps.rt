@@ -1,5 +1,5 @@
-//! Steps of a core, row by row. A step stands between two lines, its words before it is taken and `taken` behind
-//! it, and then its answers. From the first bury on none may take any memory.
+//! Steps of a core, row by row. Each step is between two lines: its words before it is taken, and
+//! `taken` after it; then come its answers. From the first bury on, no step may allocate.
 ghost use Rattle.std.specs.Prelude.{◌≡◌, ◌<◌};
 
 use bq_core::{Config, Core, Outs};
@@ -13,7 +13,8 @@ use std::io::Print;
 #[derive(Clone, Copy)]
 enum Does {
     Connects,
-    /// Delay in seconds, and the body. The priority is 0, and the time to run nine seconds.
+    /// A put with a delay in seconds, and a body. The priority is 0, and the time to run nine
+    /// seconds.
     Puts(u32, &'static str),
     Asks(&'static str),
     SendsNoMore,
@@ -131,7 +132,7 @@ static WITHOUT_MEMORY: &[Row] = &[
     (0, 0, Does::Rests),
 ];
 
-/// A core of three seats, the room for its answers, and a reader of what clients ask.
+/// A core of three seats, the room for its answers, and a reader of the clients' requests.
 #[derive(Drop)]
 struct Bench {
     core: Core,
@@ -154,7 +155,7 @@ impl Bench {
         Some(Bench { core, outs, reader })
     }
 
-    // What the client asks by a line of these words.
+    // Returns the request that the client makes with a line of these words.
     fn asked(&mut self, alloc: Global, words: &str) -> Option<Step> {
         let _ = self.reader.feed(alloc, words.as_bytes());
         let (_, request) = self.reader.feed(alloc, b"\r\n");
@@ -176,7 +177,7 @@ impl Bench {
         self.core.step(alloc, at, seat, what, &mut self.outs);
     }
 
-    // Tells the answers of the last step. There are two at most.
+    // Prints the answers of the last step. There are at most two.
     fn tell_answers<R: Print>(&mut self, rt: &R) -> io::Result<()> {
         for _ in 0..3 {
             if let Some((seat, answer)) = self.outs.take_first() {
@@ -208,7 +209,7 @@ fn tell_answer<R: Print>(rt: &R, seat: Seat, answer: &Answer) -> io::Result<()> 
     rt.write_all(answer_tail(answer))
 }
 
-// Takes the steps of the rows. Where what a client asks is refused memory itself, they end there.
+// Takes the steps of the rows. If an allocation fails for a request itself, it stops there.
 fn tell_rows<R: Print>(rt: &R, alloc: Global, bench: &mut Bench, rows: &[Row]) -> io::Result<()> {
     for (at, seat, does) in rows {
         let Some(step) = bench.step_of(alloc, *does) else {
@@ -223,7 +224,7 @@ fn tell_rows<R: Print>(rt: &R, alloc: Global, bench: &mut Bench, rows: &[Row]) -
     Ok(())
 }
 
-// Each table has a function of its own, which is what it costs least to prove.
+// Each table has a function of its own, because that is cheapest to prove.
 fn tell_first<R: Print>(rt: &R, alloc: Global, bench: &mut Bench) -> io::Result<()> {
     tell_rows(rt, alloc, bench, WITH_MEMORY)
 }
@@ -243,7 +244,7 @@ fn tell_with<R: Print>(rt: &R, alloc: Global, bench: &mut Bench) -> io::Result<(
     tell_waits(rt, alloc, bench)
 }
 
-/// All rows, by one core.
+/// Runs all rows at one core.
 pub fn tell_all<R: Print>(rt: &R, alloc: Global) -> io::Result<()> {
     match Bench::new(alloc) {
         Some(mut bench) => tell_with(rt, alloc, &mut bench),
@@ -257,7 +258,8 @@ fn tell_held<R: Print>(rt: &R, alloc: Global, bench: &mut Bench) -> io::Result<(
     tell_rows(rt, alloc, bench, WITHOUT_MEMORY)
 }
 
-/// Prints the steps of a client that holds a job, with a core of their own. After the first bury, a tick follows each step.
+/// Runs the steps of a client that holds a job, at a core of their own. After the first bury, a
+/// tick follows each step.
 pub fn tell_held_job<R: Print>(rt: &R, alloc: Global) -> io::Result<()> {
     match Bench::new(alloc) {
         Some(mut bench) => tell_held(rt, alloc, &mut bench),

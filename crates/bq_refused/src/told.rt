@@ -1,4 +1,5 @@
-//! All calls and steps, one after another. A second test has the steps of a client that holds a job.
+//! All calls and steps, one after another. A second test runs the steps of a client that holds a
+//! job.
 
 use crate::{makings, runs, steps};
 use std::test::Fail;

@@ -24,7 +24,7 @@ use Rattle.bq_run_one.proofs.DeskLemmas.{seat_none, seat_on}
 use Rattle.bq_driver.proofs.CarriedLemmas.{none_begun}
 use Rattle.bq_driver.proofs.SeatLemmas.{carried_on, line_served}
 
--- From a new desk on, the seat alone did what its line was served with.
+-- Starting from a new desk, only this seat did anything, and it served its line.
 pub record IsServingAlone (settings : Settings) (seat : ℕ) (readings : List (Option ℕ)) (desk : DeskState) (machine : SeatMachine) (seen : LineSeen) (action : Action) (sent : ℕ) : Type 0 where
   pub first : DeskState
   pub submitted : List Step
@@ -52,7 +52,7 @@ goes_on_alone settings seat readings reads desk next old new seen later action t
   on_line = carried_on settings.max_job_size old new s.before c.0 action then_action s.submitted submitted s.taken taken c.2 s.on_line;
 }
 
--- no mail lies at a new desk
+-- a new desk has no mail
 abbrev the_empty : List Answer
 the_empty = []
 
@@ -64,14 +64,14 @@ no_mail (suc n) (suc t) = no_mail n t
 pub new_mails_are : (settings : Settings) (d : DeskState) → IsNewDesk settings d → length d.mails ≡ settings.seats
 new_mails_are settings d new = ap length new.mails ∙ length-replicate settings.seats the_empty
 
--- Nothing waits at a new desk.
+-- No answer waits at a new desk.
 pub none_waits : (settings : Settings) (d : DeskState) (seat : ℕ) → IsNewDesk settings d → waiting seat d ≡ []
 none_waits settings d seat new =
     ap (λ (ms : List (List Answer)). slice_index_or ms seat [] ++ answers_to seat d.pending) new.mails
     ∙ ap (λ (xs : List Answer). xs ++ answers_to seat d.pending) (no_mail settings.seats seat)
     ∙ ap (answers_to seat) new.pending
 
--- steps at one seat alone
+-- steps at one seat only
 alone_there : (seat : ℕ) (history : List Entry) → ((other : ℕ) → other ≢ seat → steps_at other history ≡ []) → list_all (λ (e : Entry). e.seat == seat) (without_ticks history) ≡ true
 alone_there seat [] h = refl
 alone_there seat (e ∷ history) h =
@@ -98,7 +98,7 @@ alone_there seat (e ∷ history) h =
         let same : (e.seat == e.seat) ≡ true = eq-eqb e.seat e.seat refl in
         let no : e.what ∷ steps_at e.seat history ≡ [] = rw (x, same) at g in cc
 
--- A line that is over: what its seat and the core did, and the tie.
+-- A line that has ended: what its seat and the core did, and how it fits together.
 pub over_alone : (settings : Settings) (seat : ℕ) (readings : List (Option ℕ)) (desk : DeskState) (machine : SeatMachine) (seen : LineSeen) (end : LineEnd) (sent : ℕ) (s : IsServingAlone settings seat readings desk machine seen (actions.LineOver end) sent)
     → seat < settings.seats → length s.first.mails ≡ settings.seats → IsLineJoined settings seat (record { seen = seen; over = end }) readings s.went.history s.went.went.given desk.core
 over_alone settings seat readings desk machine seen end sent s within many =

@@ -53,7 +53,7 @@ map_append : (xs ys : List Entry) → map (λ (e : Entry). e.moment) (xs ++ ys) 
 map_append [] ys = refl
 map_append (x ∷ xs) ys = ap (λ ms. x.moment ∷ ms) (map_append xs ys)
 
--- two stretches of a history are timed by the readings of both
+-- two consecutive parts of a history are timed by the readings of both
 timed_on : (first next last : ℕ) (readings reads : List (Option ℕ)) (history more : List Entry) → IsTimedFrom first readings history next → IsTimedFrom next reads more last → IsTimedFrom first (readings ++ reads) (history ++ more) last
 timed_on first next last readings reads history more a b = record {
   picked =
@@ -65,7 +65,7 @@ timed_on first next last readings reads history more a b = record {
   last_is = b.last_is ∙ ap (λ (n : ℕ). last_heard n reads) a.last_is ∙ sym (heard_append first readings reads);
 }
 
--- what waited, was given and taken, twice
+-- what waited, was given and was taken, twice
 tied_on : (t : ℕ) (first next last : DeskState) (given later : List GivenAnswer) (taken more : List Answer)
     → waiting t first ++ answers_to t given ≡ taken ++ waiting t next → waiting t next ++ answers_to t later ≡ more ++ waiting t last
     → waiting t first ++ answers_to t (given ++ later) ≡ (taken ++ more) ++ waiting t last
@@ -77,7 +77,7 @@ tied_on t first next last given later taken more h i =
     ∙ ap (λ (xs : List Answer). taken ++ xs) i
     ∙ sym (append_assoc taken more (waiting t last))
 
--- What happened at a desk, one after the other.
+-- What happened at a desk in two consecutive parts.
 pub desk_on : (first next last : DeskState) (readings reads : List (Option ℕ)) (history more : List Entry) (took later : ℕ → List Answer)
     → DeskWent first readings history took next → DeskWent next reads more later last
     → DeskWent first (readings ++ reads) (history ++ more) (λ t. took t ++ later t) last
@@ -103,7 +103,7 @@ entry_steps t at seat what =
 abbrev no_steps : List Step
 no_steps = []
 
--- nothing is held where nothing is pending
+-- if nothing is pending, nothing is held
 pub none_held : {X : Type 0} (xs ys : List X) → xs ++ ys ≡ [] → xs ≡ []
 none_held [] ys h = refl
 none_held (x ∷ xs) ys h = absurd cc
@@ -166,7 +166,7 @@ seat_heard d n seat reading core heard mails pending = record {
   others_took = λ t differs. refl;
 }
 
--- A seat did nothing, or one thing after the other.
+-- A seat did nothing, or two things one after the other.
 pub seat_none : (d : DeskState) (seat : ℕ) → SeatWent seat d [] [] [] d
 seat_none d seat = record {
   history = [];
@@ -190,7 +190,7 @@ seat_on first next last seat readings reads submitted more taken later a b = rec
   others_took = λ t differs. ap (λ (xs : List Answer). xs ++ b.took t) (a.others_took t differs) ∙ b.others_took t differs;
 }
 
--- Answers were only put into the mail: the seat did nothing.
+-- Answers were only moved into the mail: the seat did nothing.
 pub seat_sorted : (d n : DeskState) (seat : ℕ) → IsSorted d n → SeatWent seat d [] [] [] n
 seat_sorted d n seat s = record {
   history = [];
@@ -208,7 +208,7 @@ seat_sorted d n seat s = record {
   others_took = λ t differs. refl;
 }
 
--- a clock that was left alone gave no reading
+-- a clock that did not change gave no reading
 pub gave_none : {C : Type 0} (given : C → List (Option ℕ) → C → Type 0) (clock : C) → GaveReadings given clock [] clock
 gave_none given clock first before h = subst (λ (rs : List (Option ℕ)). given first rs clock) (sym (append-nil before)) h
 
@@ -232,7 +232,7 @@ pub went_sorted : {C : Type 0} (given : C → List (Option ℕ) → C → Type 0
 went_sorted given seat first last s same =
     ([], subst (λ c. GaveReadings given first.clock [] c) (sym same) (gave_none given first.clock), seat_sorted (state_of first) (state_of last) seat s)
 
--- The clock was read once, and the core took a step at the moment heard then.
+-- The clock was read once, and the core took a step at the resulting moment.
 pub went_step : {C : Type 0} (given : C → List (Option ℕ) → C → Type 0) (seat : ℕ) (what : Step) (first heard last : Desk C) (reading : Option ℕ) (outcome : Outcome)
     → GaveReadings given first.clock (reading ∷ []) last.clock → heard.heard ≡ moment_heard first.heard reading → heard.core.machine ≡ first.core.machine
     → IsStep heard.core.machine heard.heard seat what outcome last.outs.given last.core.machine
@@ -258,7 +258,7 @@ went_heard given seat first last reading gave moment core outs mails held = (
       (ap (λ (xs : Option GivenAnswer). option_to_list xs ++ last.outs.given) held ∙ ap (λ o. option_to_list first.held ++ o.given) outs),
 )
 
--- No step was taken, and the clock was left alone.
+-- No step was taken, and the clock did not change.
 pub went_same : {C : Type 0} (given : C → List (Option ℕ) → C → Type 0) (seat : ℕ) (first last : Desk C) → state_of last ≡ state_of first → last.clock ≡ first.clock → WentAt given seat first [] [] last
 went_same given seat first last same clock = (
   [],

@@ -1,4 +1,4 @@
--- A desk as its state, and what happens at it.
+-- The state of a desk, and what happens at it.
 use Rattle.std.specs.Prelude.{ℕ, List, ◌++◌, Option}
 use Rattle.std.specs.Option.{option_to_list}
 use Rattle.bq_job.specs.declared.answer.Answer.{Answer}

@@ -1,4 +1,4 @@
--- What lies on a desk beside its clock.
+-- What a desk contains besides its clock.
 use Rattle.std.specs.Prelude.{ℕ, ◌≡◌, ◌<◌, ◌≤◌, List, [], ◌∷◌, ◌++◌, length, replicate, slice_index_or}
 use Rattle.bq_job.specs.declared.answer.Answer.{Answer}
 use Rattle.bq_job.specs.declared.settings.Settings.{Settings}
@@ -11,16 +11,16 @@ pub record DeskState : Type 0 where
   -- the mail of each seat, and the answers that are not in it yet
   pub mails : List (List Answer)
   pub pending : List GivenAnswer
-  -- the moment heard last
+  -- the moment of the last reading
   pub heard : ℕ
   -- how many answers a step can give
   pub most : ℕ
 
--- what waits for a seat
+-- the answers that wait for a seat
 abbrev pub waiting : ℕ → DeskState → List Answer
 waiting seat d = slice_index_or d.mails seat [] ++ answers_to seat d.pending
 
--- a desk at which nothing was done
+-- a new desk
 pub record IsNewDesk (settings : Settings) (d : DeskState) : Type 0 where
   pub core : d.core ≡ new_machine settings
   pub mails : d.mails ≡ replicate settings.seats []
@@ -33,7 +33,7 @@ pub record HasMails (d : DeskState) : Type 0 where
   pub many : length d.mails ≡ d.core.settings.seats
   pub room : d.core.settings.seats < d.most
 
--- Answers went from one place on the desk to another, and no seat sees it.
+-- Answers moved from one place on the desk to another, which no seat can notice.
 pub record IsSorted (first last : DeskState) : Type 0 where
   pub core : last.core ≡ first.core
   pub heard : last.heard ≡ first.heard

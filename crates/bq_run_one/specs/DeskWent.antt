@@ -1,4 +1,4 @@
--- What happened at a desk: the core took steps, and answers were taken out.
+-- What happened at a desk: the core took steps, and answers were taken from the mail.
 use Rattle.std.specs.Prelude.{ℕ, ◌≡◌, ◌≢◌, ◌<◌, List, [], ◌++◌, length, Option}
 use Rattle.bq_job.specs.declared.answer.Answer.{Answer}
 use Rattle.bq_job.specs.declared.step.Step.{Step}
@@ -7,8 +7,8 @@ use Rattle.bq_job.specs.promise.History.{IsTimedFrom, steps_at}
 use Rattle.bq_job.specs.promise.Runs.{Entry, Run, answers_to}
 use Rattle.bq_run_one.specs.DeskState.{DeskState, waiting}
 
--- The core took the steps of this history at moments of these readings, and at each seat these answers were
--- taken out of the mail.
+-- The core took the steps of this history at moments of these readings, and these answers were
+-- taken from the mail of each seat.
 pub record DeskWent (first : DeskState) (readings : List (Option ℕ)) (history : List Entry)
     (taken : ℕ → List Answer) (last : DeskState) : Type 0 where
   pub given : List GivenAnswer
@@ -17,7 +17,8 @@ pub record DeskWent (first : DeskState) (readings : List (Option ℕ)) (history 
   pub many : length last.mails ≡ length first.mails
   pub tied : (seat : ℕ) → seat < length first.mails → waiting seat first ++ answers_to seat given ≡ taken seat ++ waiting seat last
 
--- What happened at a desk, as its seat sees it: it alone submitted these steps and took these answers.
+-- What happened at a desk, as its seat sees it: only this seat submitted steps and took answers,
+-- namely these.
 pub record SeatWent (seat : ℕ) (first : DeskState) (readings : List (Option ℕ))
     (submitted : List Step) (taken : List Answer) (last : DeskState) : Type 0 where
   pub history : List Entry

@@ -7,13 +7,13 @@ use Rattle.bq_run_one.specs.DeskOf.{state_of}
 use Rattle.bq_line.specs.GivenReadings.{GaveReadings}
 use Rattle.bq_run_one.specs.declared.desk.Desk.{Desk}
 
--- The core took a tick at the moment that is heard now.
+-- The core took a tick at the moment of the last reading.
 abbrev pub HasTicked : {C : Type 0} → ℕ → Desk C → Desk C → Type 0
 HasTicked seat old new = (outcome : Outcome) × IsStep old.core.machine new.heard seat Tick outcome new.outs.given new.core.machine
 
--- What happens at this seat's look, where this is the next moment at which something is due. Where nothing is
--- ever due nothing happens. Else the clock is read once, and the core takes a tick exactly where the moment
--- heard then has come to it.
+-- What a check of this seat's mail does if `due` is the next moment at which something is due. If
+-- nothing is ever due, nothing happens. Otherwise the clock is read once, and the core takes a tick
+-- if and only if the resulting moment has reached `due`.
 abbrev pub PassesTime : {C : Type 0} → (C → List (Option ℕ) → C → Type 0) → ℕ → Option ℕ → Desk C → Desk C → Type 0
 PassesTime given seat None old new = (state_of new ≡ state_of old) × (new.clock ≡ old.clock)
 PassesTime given seat (Some due) old new =

@@ -13,18 +13,18 @@ use bq_mail::{Mail, new_mails};
 use bq_run_start::RunFault;
 use std::alloc::Global;
 
-/// What serves all seats.
+/// The state that serves all seats.
 #[derive(Drop)]
 pub struct Desk<C> {
-    /// For the steps that may ask for memory.
+    /// For the steps that may allocate.
     pub alloc: Global,
     pub core: Core,
     pub outs: Outs,
-    /// An answer that found its mail full.
+    /// An answer that did not fit into its mail.
     pub held: Option<(Seat, Answer)>,
     pub mails: Vec<Mail, Global>,
     pub clock: C,
-    /// The moment heard last.
+    /// The moment of the last reading, in milliseconds.
     pub heard: Moment,
 }
 
@@ -38,9 +38,10 @@ impl<C: Clock + Drop> Desk<C> {
     ghost use Rattle.bq_run_one.specs.TimePassing.{PassesTime};
     ghost use Rattle.std.specs.Prelude.{if◌then◌else◌};
 
-    /// A desk at which nothing was done. All memory but that for jobs and answers is asked for here.
+    /// Returns a new desk. Everything except jobs and answers is allocated here.
     ///
-    /// The fault is `BadConfiguration` where the configuration is out of its ranges, and else `NoMemory`.
+    /// Returns `BadConfiguration` if a setting is out of its range, and otherwise `NoMemory` if an
+    /// allocation fails.
     pub fn new(alloc: Global, config: Config, clock: C) -> Result<Desk<C>, RunFault>
         ensures made { IfOk result (λ desk. IsNewDesk config (state_of desk)) }
         ensures clock { IfOk result (λ desk. desk.clock ≡ clock) }
@@ -70,8 +71,8 @@ impl<C: Clock + Drop> Desk<C> {
         })
     }
 
-    /// The core takes the step of the seat, where all answers so far are in the mail; else the step is
-    /// handed back: some seat has not looked at its mail for long.
+    /// The core takes the step of the seat if all answers so far are in the mail. Otherwise the
+    /// step is returned: some seat has not checked its mail for a long time.
     pub fn submit(&mut self, seat: Seat, step: Step) -> Result<(), Step>
         requires mails { HasMails (state_of self.old) }
         ensures mails { HasMails (state_of self.new) }
@@ -85,7 +86,7 @@ impl<C: Clock + Drop> Desk<C> {
         Ok(())
     }
 
-    /// The oldest answer that waits for the seat. Time passes before.
+    /// Returns the oldest answer that waits for the seat. Lets time pass first.
     pub fn mail(&mut self, seat: Seat) -> Option<Answer>
         requires mails { HasMails (state_of self.old) }
         requires within { seat < length (state_of self.old).mails }
@@ -96,7 +97,7 @@ impl<C: Clock + Drop> Desk<C> {
         self.take_mail(seat)
     }
 
-    // Time passes where all answers so far are in the mail.
+    // Lets time pass if all answers so far are in the mail.
     fn pass_time(&mut self, seat: Seat)
         requires mails { HasMails (state_of self.old) }
         ensures mails { HasMails (state_of self.new) }
@@ -109,7 +110,8 @@ impl<C: Clock + Drop> Desk<C> {
         }
     }
 
-    // The clock is read where the core is ever due, and the core takes a tick exactly where it is due by then.
+    // Reads the clock if the core is ever due. The core takes a tick if and only if it is due by
+    // then.
     fn tick_if_due(&mut self, seat: Seat)
         requires mails { HasMails (state_of self.old) }
         requires empty { (state_of self.old).pending ≡ [] }
@@ -138,7 +140,7 @@ impl<C: Clock + Drop> Desk<C> {
         self.mails[usize::from(seat)].take_first()
     }
 
-    // Puts what is pending into the mail. Whether nothing is pending any more.
+    // Puts pending answers into the mail. Returns true if none is pending afterwards.
     fn deliver(&mut self) -> bool
         ensures sorted { IsSorted (state_of self.old) (state_of self.new) }
         ensures clock { self.new.clock ≡ self.old.clock }
@@ -171,7 +173,7 @@ impl<C: Clock + Drop> Desk<C> {
         }
     }
 
-    // The core takes the step at the moment that the clock gives now.
+    // The core takes the step at the moment that the clock reads now.
     fn take_step(&mut self, seat: Seat, what: Step)
         requires mails { HasMails (state_of self.old) }
         requires empty { (state_of self.old).pending ≡ [] }
@@ -184,7 +186,7 @@ impl<C: Clock + Drop> Desk<C> {
             .step(self.alloc, self.heard, seat, what, &mut self.outs);
     }
 
-    // Reads the clock once. The moment heard last follows the reading, which is answered.
+    // Reads the clock once and returns the reading. Updates the moment of the last reading.
     fn hear(&mut self) -> Option<Moment>
         ensures read { GaveReadings C.given self.old.clock (result ∷ []) self.new.clock }
         ensures heard { self.new.heard ≡ moment_heard self.old.heard result }
@@ -199,8 +201,8 @@ impl<C: Clock + Drop> Desk<C> {
     }
 }
 
-// Puts an answer into the mail of its seat, or hands it back where that is full. Without such a seat it
-// is dropped.
+// Puts an answer into the mail of its seat, or returns it if the mail is full. If there is no such
+// seat, it is dropped.
 fn post(mails: &mut Vec<Mail, Global>, seat: Seat, answer: Answer) -> Result<(), Answer>
     ensures many { length mails.new.items ≡ length mails.old.items }
     ensures full { IfErr result (λ back. 4 ≤ length (slice_index_or mails.new.items seat [])) }

@@ -1,4 +1,4 @@
-//! The link of a seat to a desk in the same hand.
+//! The link of a seat to a desk on the same thread.
 ghost use Rattle.std.specs.Prelude.{◌≡◌, ◌<◌, ℕ, List, length};
 ghost use Rattle.bq_job.specs.declared.answer.Answer.{Answer};
 ghost use Rattle.bq_job.specs.declared.step.Step.{Step};
@@ -27,7 +27,7 @@ pub struct DeskSeat<'a, C> {
 impl<'a, C: Clock + Drop> Link for DeskSeat<'a, C> {
     ghost is_ready = { λ l. HasMails (state_of l.desk.now) × (l.seat < length (state_of l.desk.now).mails) };
 
-    // Who drops the link knows the desk by it.
+    // When the link is dropped, its owner still knows that the desk is the same.
     ghost went = { λ first submitted taken last. (last.desk.ghost_name ≡ first.desk.ghost_name) × (last.seat ≡ first.seat) ×
         WentAt C.given first.seat first.desk.now submitted taken last.desk.now };
 
@@ -52,8 +52,8 @@ impl<'a, C: Clock + Drop> Link for DeskSeat<'a, C> {
     }
 }
 
-/// Carries out one action of a seat's machine at the desk, in whose place then lies what the machine does next.
-/// It says whether something moved.
+/// Carries out one action of a seat's machine at the desk, and replaces it by the machine's next
+/// action. Returns true if something moved.
 pub fn act<L: Line, C: Clock + Drop>(
     machine: &mut SeatMachine,
     action: &mut Action,

@@ -1,4 +1,5 @@
-//! A desk: a core with its clock and the mail of each seat, all in one hand. And the run of one line at it.
+//! A desk: a core with its clock and the mail of each seat, all owned by one thread; and the run of
+//! one line at it.
 #![tactic(auto)]
 
 pub use one::{One, run_one};

@@ -25,10 +25,10 @@ use std::time::Duration;
 /// The seat of a lone client.
 const ONLY_SEAT: Seat = 0;
 
-/// How long a run rests between two looks at the mail, in milliseconds.
+/// How long a run sleeps between two checks of the mail, in milliseconds.
 const REST: u64 = 1;
 
-/// A line that is over: the line itself, how it was over, and the clock as it was left.
+/// A line that has ended: the line itself, how it ended, and the clock.
 #[derive(Drop)]
 pub struct One<L, C> {
     pub line: L,
@@ -36,11 +36,12 @@ pub struct One<L, C> {
     pub clock: C,
 }
 
-/// Serves one line to its end on this thread. It may wait, where the line's read does, and it goes on as
-/// long as a reserve is answered by nothing.
+/// Serves one line until it ends, on this thread. It may block if reads of the line block, and it
+/// does not return while a reserve stays unanswered.
 ///
-/// The fault is `BadConfiguration` where the configuration is out of its ranges or the seats aren't 1,
-/// and else `NoMemory`. Either way the line was neither read nor written, and is given up.
+/// Returns `BadConfiguration` if a setting is out of its range or the number of seats isn't 1, and
+/// otherwise `NoMemory` if an allocation fails. In both cases the line was neither read nor
+/// written, and is dropped.
 pub fn run_one<R: Wait, L: Line + Drop, C: Clock + Drop>(
     rt: &R,
     alloc: Global,
@@ -48,13 +49,13 @@ pub fn run_one<R: Wait, L: Line + Drop, C: Clock + Drop>(
     line: L,
     clock: C,
 ) -> Result<One<L, C>, RunFault>
-    // Nothing was done on the line yet.
+    // The line is unused.
     requires new { L.seen line ≡ new_line }
-    // There is one history of the client's steps, each at the moment of a reading of the clock. The
-    // one-list machine takes it, and the line was written exactly what it is owed along it.
+    // There is one history of the client's steps, each at the moment of a clock reading. The
+    // one-list machine takes it, and the client received exactly what it is owed along it.
     ensures served { IfOk result (λ one. (readings : List (Option ℕ)) × C.given clock readings one.clock ×
         IsHistoryOfLine config 0 (record { seen = L.seen one.line; over = one.end }) readings) }
-    // It is the line that was handed in, over the same stream.
+    // It is the line that was passed in, over the same stream.
     ensures stays { IfOk result (λ one. StaysOver L.lies_over line one.line) }
     ensures bad_configuration { IsErrOf result RunFault.BadConfiguration ↔ IsTrue
         (not (is_lone config)) }
@@ -70,7 +71,7 @@ pub fn run_one<R: Wait, L: Line + Drop, C: Clock + Drop>(
     Ok(serve_line(rt, line, desk, machine))
 }
 
-// Serves a line to its end at a new desk, by its only seat.
+// Serves a line until it ends, at a new desk, with its only seat.
 fn serve_line<R: Wait, L: Line + Drop, C: Clock + Drop>(
     rt: &R,
     line: L,
@@ -120,8 +121,8 @@ fn is_look(action: &Action) -> bool {
     matches!(action, Action::PollMail)
 }
 
-// A look at the mail that found nothing, where the line isn't to be read: nothing can come before time has
-// passed.
+// If the mail was checked and was empty, and the line isn't to be read, nothing can come before
+// time has passed.
 fn rest_between_looks<R: Wait>(rt: &R, bell: &Parker, looked: bool, next: &Action) {
     if looked && is_look(next) {
         bell.park_timeout(rt, Duration::from_millis(REST));
