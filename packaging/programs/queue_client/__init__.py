@@ -1,4 +1,4 @@
-"""A client of the work queue's protocol, shared by the programs for operators. Servers: bqd and beanstalkd."""
+"""A client of the work queue's protocol, shared by the programs for operators. It works with bqd and beanstalkd."""
 from .faults import Fault, Refused, said
 from .server import STATES, Job, Server
 

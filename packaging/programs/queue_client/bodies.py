@@ -1,10 +1,10 @@
-"""Bodies of jobs as a person can read them: text, or bytes in hexadecimal. They come from strangers."""
+"""Job bodies in readable form: as text, or as bytes in hexadecimal. Their contents are not trusted."""
 import collections
 
-# What is shown of a body.
+# How many bytes of a body are shown.
 LIMIT = 4096
 
-# `kind` is "text" or "hex", `text` what is shown, `shown` of `size` bytes.
+# `kind` is "text" or "hex", `text` is what is shown, which covers `shown` of `size` bytes.
 Body = collections.namedtuple("Body", "kind text shown size")
 
 
@@ -18,7 +18,8 @@ def readable(body, width=16):
 
 
 def text_of(part, cut):
-    """The text of these bytes, or None if they are none. Where they are cut the last character may be cut too."""
+    """Returns the text of these bytes, or None if they are not text. If they are `cut`, the last character may be
+    incomplete."""
     for lacking in range(4 if cut else 1):
         try:
             text = part[: len(part) - lacking].decode()
@@ -29,7 +30,8 @@ def text_of(part, cut):
 
 
 def dump(part, width):
-    """Lines of some bytes each: where they are, the bytes in hexadecimal by eights, and those that are printable ASCII."""
+    """Returns lines with some bytes each: their offset, the bytes in hexadecimal in groups of eight, and the printable
+    ASCII."""
     lines = []
     for first in range(0, len(part), width):
         row = part[first : first + width]

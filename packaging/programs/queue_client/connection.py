@@ -1,4 +1,4 @@
-"""A connection to a server: lines go out, heads and bodies come in, each within a limit of time."""
+"""A connection to a server. Lines are sent; heads and bodies are received, each within a time limit."""
 import socket
 import time
 
@@ -9,7 +9,7 @@ HEAD_LIMIT = 224
 
 
 class Connection:
-    """A connection to a server. Each answer has to come within `patience` seconds."""
+    """A connection to a server. Each answer has to arrive within `patience` seconds."""
 
     def __init__(self, name, host, port, patience):
         self.name, self.patience = name, patience
@@ -24,7 +24,7 @@ class Connection:
             raise Fault(f"cannot connect to {name}: {said(fault)}") from None
 
     def close(self):
-        """Closes the connection. Jobs that were reserved by it go back to the queue."""
+        """Closes the connection. The server releases the jobs that it reserved."""
         self.stream.close()
 
     def send(self, data):
@@ -38,7 +38,8 @@ class Connection:
             raise Fault(f"{self.name} is lost: {said(fault)}") from None
 
     def head(self, command):
-        """Returns the next answer's first line. The answer to `command` has to be whole within the limit from now."""
+        """Returns the first line of the next answer. The whole answer to `command` has to arrive within the time limit
+        from now."""
         self.until = time.monotonic() + self.patience
         while (end := self.kept.find(b"\r\n", 0, HEAD_LIMIT)) < 0:
             if len(self.kept) >= HEAD_LIMIT:
@@ -55,7 +56,7 @@ class Connection:
         return found
 
     def odd(self, command, what):
-        """The fault that an answer is none of the protocol's."""
+        """Returns the fault that an answer does not follow the protocol."""
         return Fault(f"{self.name} answered {command} by {what}")
 
     def _receive(self, command):

@@ -1,14 +1,14 @@
-"""What can go wrong between a program and the server."""
+"""Errors between a program and the server."""
 
 
 class Fault(Exception):
-    """What went wrong, as one line for the person who reads it. The connection can't be used any more."""
+    """An error, as one line for a person. The connection can't be used any more."""
 
 
 class Refused(Fault):
-    """A command that the server refused by a word of the protocol. The connection can still be used."""
+    """A command that the server rejected with a word of the protocol. The connection can still be used."""
 
 
 def said(fault):
-    """The system's words on a fault."""
+    """Returns the system's message for an error."""
     return getattr(fault, "strerror", None) or str(fault)

@@ -1,7 +1,7 @@
-"""What there is to show of a server and its tubes at one moment, as a record."""
+"""What is shown of a server and its tubes at one moment, as a record."""
 from .reading import COUNTS, DELETES, PUTS, TIMEOUTS, rate
 
-# What is shown of a tube: the heading and the statistic that it is.
+# What is shown of a tube: each heading with its statistic.
 COLUMNS = {
     **COUNTS,
     "using": "current-using",
@@ -10,24 +10,24 @@ COLUMNS = {
     "pause": "pause-time-left",
 }
 
-# What is shown of a tube as a rate a second, and the statistic that counts it.
+# What is shown of a tube as a rate per second, with the statistic that counts it.
 RATES = {"put_rate": PUTS, "deleted_rate": DELETES}
 
 RATES_OF_SERVER = {"put_rate": PUTS, "timeout_rate": TIMEOUTS}
 
 
 def numbers_of(found):
-    """The numbers of a tube."""
+    """Returns the numbers of a tube."""
     return {heading: found[key] for heading, key in COLUMNS.items()}
 
 
 def rates_of(wanted, earlier, later, passed):
-    """The rates of a tube or of the server, by two of its statistics; None for each if no time has passed."""
+    """Returns the rates of a tube or of the server from two of its statistics; None for each if no time has passed."""
     return {name: rate(earlier, later, key, passed) if passed else None for name, key in wanted.items()}
 
 
 def picture(name, earlier, later):
-    """What there is to show of two readings. Without an earlier one there are no rates."""
+    """Returns what is shown of two readings. Without an earlier one there are no rates."""
     passed = later.moment - earlier.moment if earlier else None
 
     def tube(it, now):

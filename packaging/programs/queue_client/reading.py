@@ -1,12 +1,12 @@
-"""What a server reports of itself and its tubes at one moment, and the rates between two moments."""
+"""What a server reports about itself and its tubes at one moment, and the rates between two moments."""
 import time
 
 from .faults import Fault
 
-# The states of a job and the statistic that counts each.
+# The states of a job, with the statistic that counts each.
 COUNTS = {it: f"current-jobs-{it}" for it in ["ready", "reserved", "delayed", "buried"]}
 
-# What is counted from the start on, and so shown as a rate a second.
+# Counters that start at 0 with the server, and so are shown as a rate per second.
 PUTS, DELETES, TIMEOUTS = "total-jobs", "cmd-delete", "job-timeouts"
 
 OF_SERVER = [*COUNTS.values(), PUTS, TIMEOUTS, "current-connections", "current-waiting", "draining"]
@@ -15,7 +15,7 @@ OF_TUBE = [*COUNTS.values(), "current-using", "current-watching", "current-waiti
 
 
 class Reading:
-    """What a server told of itself and its tubes, and when."""
+    """What a server reported about itself and its tubes, and when."""
 
     def __init__(self, server):
         self.server = numbers(server.name, "stats", server.statistics(), OF_SERVER)
@@ -27,7 +27,7 @@ class Reading:
 
 
 def numbers(server, command, found, wanted):
-    """Returns what was told, if it has each statistic that is wanted, as a number or a word of its own."""
+    """Returns the statistics if all that are wanted are there, as numbers or in words of their own."""
     for key in wanted:
         if not isinstance(found.get(key), str if key == "draining" else int):
             raise Fault(f"{server} answered {command} without a number for {key}")
@@ -35,6 +35,7 @@ def numbers(server, command, found, wanted):
 
 
 def rate(earlier, later, key, seconds):
-    """By how much a count grew a second. One that fell began anew, as the count of a tube does that was gone."""
+    """Returns by how much a counter grew per second. One that decreased restarted from 0, as that of a tube that was
+    gone does."""
     before = earlier.get(key, 0) if earlier else 0
     return (later[key] - (before if before <= later[key] else 0)) / seconds

@@ -7,19 +7,19 @@ from .faults import Refused
 from .texts import names_of, statistics_of
 from .words import shown
 
-# The states in which a job can be peeked at and deleted by whoever likes.
+# The states in which any client can peek at a job and delete it.
 STATES = ("ready", "delayed", "buried")
 
-# Texts of statistics are some hundred bytes; a list has a line of at most 203 bytes for each tube.
+# Texts of statistics have some hundred bytes; a list has a line of at most 203 bytes for each tube.
 LARGEST_TEXT = 64 << 20
 
-# beanstalkd can be set to take bodies of up to a gibibyte.
+# beanstalkd can be configured to accept bodies of up to a gibibyte.
 LARGEST_BODY = 1 << 30
 
 # How many commands are sent before their answers are read: few enough that neither side's buffers fill.
 TOGETHER = 50
 
-# Words by which a server refuses a command. After any of them the next answer is that of the next command.
+# The words with which a server rejects a command. The next answer then belongs to the next command.
 REFUSALS = {b"OUT_OF_MEMORY", b"INTERNAL_ERROR", b"DRAINING", b"JOB_TOO_BIG", b"EXPECTED_CRLF", b"BAD_FORMAT",
             b"UNKNOWN_COMMAND", b"NOT_FOUND"}
 
@@ -27,18 +27,18 @@ Job = collections.namedtuple("Job", "id body")
 
 
 class Server:
-    """A server, by one connection. Each answer has to come within `patience` seconds."""
+    """A server, through one connection. Each answer has to arrive within `patience` seconds."""
 
     def __init__(self, host, port, patience):
         self.name = shown(host, port)
         self.connection = Connection(self.name, host, port, patience)
 
     def close(self):
-        """Closes the connection. Jobs that were reserved by it go back to the queue."""
+        """Closes the connection. The server releases the jobs that it reserved."""
         self.connection.close()
 
     def statistics(self):
-        """Returns the server's statistics by their keys."""
+        """Returns the server's statistics by key."""
         self._send("stats")
         return self._statistics("stats")
 
@@ -70,17 +70,17 @@ class Server:
         return self._statistics(command, may_lack=True)
 
     def use(self, tube):
-        """Makes the tube the one that puts, peeks and kicks go to. It exists from then on."""
+        """Selects the tube for puts, peeks and kicks. It exists from then on."""
         self._send(f"use {tube}")
         self._answer("use", {b"USING " + tube.encode(): True})
 
     def peek(self, state):
-        """Returns the first job of that state in the used tube, or None."""
+        """Returns the first job in that state in the used tube, or None."""
         self._send(f"peek-{state}")
         return self._job(f"peek-{state}", b"FOUND")
 
     def put(self, priority, delay, ttr, body):
-        """Puts a job into the used tube, and returns its id."""
+        """Puts a job into the used tube and returns its id."""
         self.connection.send(f"put {priority} {delay} {ttr} {len(body)}\r\n".encode() + body + b"\r\n")
         head = self.connection.head("put")
         found = re.fullmatch(rb"INSERTED ([0-9]{1,20})", head)
@@ -89,17 +89,18 @@ class Server:
         return int(found[1])
 
     def reserve_job(self, job_id):
-        """Reserves a ready, delayed or buried job, and returns it; None if it is in no such state."""
+        """Reserves a ready, delayed or buried job and returns it; None if it is in none of these states."""
         command = f"reserve-job {job_id}"
         self._send(command)
         return self._job(command, b"RESERVED")
 
     def delete(self, job_id):
-        """Deletes a job. Returns whether it was there and was not reserved by another client."""
+        """Deletes a job. Returns whether it existed and was not reserved by another client."""
         return self._acts(f"delete {job_id}", b"DELETED")
 
     def delete_and_peek(self, job_id, state):
-        """Deletes a job as `delete` does, and returns with it the job that `peek` finds then, in one round trip."""
+        """Deletes a job as `delete` does, and returns it with the job that `peek` finds afterwards, in one round trip.
+        """
         self._send(f"delete {job_id}", f"peek-{state}")
         deleted = self._answer("delete", {b"DELETED": True, b"NOT_FOUND": False})
         return deleted, self._job(f"peek-{state}", b"FOUND")
@@ -113,7 +114,7 @@ class Server:
         return self._acts(f"release {job_id} {priority} {delay}", b"RELEASED")
 
     def kick(self, bound):
-        """Kicks at most so many buried jobs of the used tube, or delayed ones if none is buried; returns how many."""
+        """Kicks at most `bound` buried jobs of the used tube, or delayed ones if none is buried. Returns how many."""
         self._send(f"kick {bound}")
         head = self.connection.head("kick")
         found = re.fullmatch(rb"KICKED ([0-9]{1,20})", head)
@@ -122,7 +123,7 @@ class Server:
         return int(found[1])
 
     def pause(self, tube, seconds):
-        """Pauses a tube, or with 0 ends its pause. Returns whether there is such a tube."""
+        """Pauses a tube, or ends its pause if `seconds` is 0. Returns whether the tube exists."""
         return self._acts(f"pause-tube {tube} {seconds}", b"PAUSED")
 
     def _send(self, *commands):
@@ -139,7 +140,7 @@ class Server:
         return meanings[head]
 
     def _job(self, command, word):
-        """The job that the next answer carries behind that word; None for NOT_FOUND."""
+        """Returns the job that the next answer carries after that word; None for NOT_FOUND."""
         head = self.connection.head(command)
         if head == b"NOT_FOUND":
             return None
@@ -161,7 +162,7 @@ class Server:
         return found
 
     def _text(self, command, may_lack=False):
-        """The text that the next answer has; None for NOT_FOUND, if that may be."""
+        """Returns the text of the next answer; None for NOT_FOUND, if `may_lack`."""
         head = self.connection.head(command)
         if may_lack and head == b"NOT_FOUND":
             return None
@@ -174,6 +175,6 @@ class Server:
         return text[:-2].decode()
 
     def _unwanted(self, command, head):
-        """The fault that a command was answered by this head."""
+        """Returns the fault that a command was answered with this head."""
         fault = self.connection.odd(command, repr(head.decode("ascii", "replace")))
         return Refused(*fault.args) if head in REFUSALS else fault

@@ -5,7 +5,7 @@ TUBE_NAME = re.compile(r"[A-Za-z0-9+/;.$_()][-A-Za-z0-9+/;.$_()]{0,199}")
 
 
 def names_of(text):
-    """Returns the tubes' names of a list, or None if it is no list of tubes."""
+    """Returns the tube names in a list, or None if it isn't a list of tubes."""
     lines = text.splitlines()[1:]
     names = [unquoted(it[2:]) for it in lines]
     if not all(it.startswith("- ") for it in lines) or not all(map(TUBE_NAME.fullmatch, names)):
@@ -14,7 +14,7 @@ def names_of(text):
 
 
 def statistics_of(text):
-    """Returns the values of a text of statistics by their keys, or None if it is none."""
+    """Returns the values in a text of statistics by key, or None if it isn't one."""
     pairs = [it.partition(": ") for it in text.splitlines()[1:]]
     if not all(colon for _, colon, _ in pairs):
         return None
@@ -22,10 +22,10 @@ def statistics_of(text):
 
 
 def unquoted(word):
-    """A word without the quotes that beanstalkd puts around some."""
+    """Returns a word without the quotes that beanstalkd puts around some."""
     return word[1:-1] if len(word) > 1 and word[0] == word[-1] == '"' else word
 
 
 def value_of(word):
-    """A number if the word is one, else the word."""
+    """Returns a number if the word is one, otherwise the word."""
     return int(word) if word.isdigit() and len(word) <= 20 else unquoted(word)

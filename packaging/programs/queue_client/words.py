@@ -1,4 +1,4 @@
-"""Words of a command line: addresses, tubes and numbers. Each reader fails as argparse wants it."""
+"""Words of a command line: addresses, tubes and numbers. Each reader reports errors as argparse expects."""
 import argparse
 import math
 import re
@@ -7,12 +7,12 @@ from .texts import TUBE_NAME
 
 DEFAULT_PORT = 11300
 
-# The largest priority, delay, time to run and bound of the protocol.
+# The largest priority, delay, time to run and bound in the protocol.
 LARGEST_NUMBER = (1 << 32) - 1
 
 
 def address(word, default_port=DEFAULT_PORT):
-    """The host and the port of HOST, HOST:PORT, [HOST] or [HOST]:PORT."""
+    """Reads the host and the port from HOST, HOST:PORT, [HOST] or [HOST]:PORT."""
     found = re.fullmatch(r"(?:\[([0-9A-Fa-f:.%\w]+)\]|([^\s:\[\]]+))(?::([0-9]{1,5}))?", word)
     port = int(found[3] or default_port) if found else 0
     if not 1 <= port <= 65535:
@@ -21,12 +21,12 @@ def address(word, default_port=DEFAULT_PORT):
 
 
 def shown(host, port):
-    """An address as one writes it."""
+    """Returns an address in its usual notation."""
     return f"[{host}]:{port}" if ":" in host else f"{host}:{port}"
 
 
 def tube(word):
-    """A tube's name."""
+    """Reads the name of a tube."""
     if not TUBE_NAME.fullmatch(word):
         raise argparse.ArgumentTypeError(
             f"{word!r} is no name of a tube: 1 to 200 letters, digits and -+/;.$_(), not - at its beginning")
@@ -34,7 +34,7 @@ def tube(word):
 
 
 def seconds(least, most):
-    """What reads a number of seconds in a range."""
+    """Returns a reader of a number of seconds in a range."""
     def read(word):
         try:
             value = float(word)
@@ -47,7 +47,7 @@ def seconds(least, most):
 
 
 def whole(least, most=LARGEST_NUMBER):
-    """What reads a whole number in a range."""
+    """Returns a reader of a whole number in a range."""
     def read(word):
         if not re.fullmatch("[0-9]{1,20}", word) or not least <= int(word) <= most:
             raise argparse.ArgumentTypeError(f"{word!r} is no whole number from {least} to {most}")
@@ -56,6 +56,6 @@ def whole(least, most=LARGEST_NUMBER):
 
 
 def timeout(parser):
-    """Adds the option for how long an answer may take."""
+    """Adds the option for the time within which an answer has to arrive."""
     parser.add_argument("--timeout", metavar="SECONDS", type=seconds(0.1, 3600), default=5.0,
                         help="how long an answer may take, 0.1 to 3600; 5 unless chosen")

@@ -6,12 +6,12 @@ from .progress import Progress
 from .results import Result, Unfinished, jobs
 from .show import tube_of
 
-# How many jobs one command kicks at most: a server does nothing else meanwhile.
+# The largest number of jobs that one command kicks: the server does nothing else meanwhile.
 KICKED_TOGETHER = 1000
 
 
 def put(server, asked):
-    """Puts a file or standard input as one job."""
+    """Puts a file, or standard input, as one job."""
     body = body_of(server, asked.file)
     server.use(asked.tube)
     job_id = server.put(asked.priority, asked.delay, asked.ttr, body)
@@ -19,7 +19,7 @@ def put(server, asked):
 
 
 def body_of(server, path):
-    """Reads the body, if it isn't larger than the server takes."""
+    """Reads the body, if it isn't larger than the server accepts."""
     most = server.statistics().get("max-job-size")
     if not isinstance(most, int):
         raise Fault(f"{server.name} answered stats without a number for max-job-size")
@@ -54,12 +54,12 @@ def kick(server, asked):
 
 
 def was_kicked(tube, kicked, state):
-    """The result of a kick."""
+    """Returns the result of a kick."""
     return Result({"tube": tube, "kicked": kicked, "state": state}, [f"kicked {jobs(kicked, kicked and state)} of {tube}"])
 
 
 def pause(server, asked):
-    """Pauses a tube, so that none of its jobs is handed out."""
+    """Pauses a tube, so that its jobs are not handed out."""
     paused(server, asked.tube, asked.seconds)
     return Result({"tube": asked.tube, "pause": asked.seconds}, [f"paused {asked.tube} for {asked.seconds} seconds"])
 

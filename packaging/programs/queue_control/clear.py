@@ -7,7 +7,7 @@ from .sweep import Sweep, planned, told
 
 
 class Clear(Sweep):
-    """Deletes jobs. The next job is asked for together with the deletion of the one before."""
+    """Deletes jobs. The next job is requested together with the deletion of the previous one."""
 
     def __init__(self, server, asked):
         super().__init__(asked)

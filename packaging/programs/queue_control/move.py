@@ -1,8 +1,8 @@
-"""The command move: jobs of a tube go to another server or to another tube, and none is lost.
+"""The command move: moves the jobs of a tube to another server or to another tube, without losing any.
 
-Each job is reserved here, put there, and deleted here, in this order. So where that is interrupted a job is here, or
-here and there, and never at neither place. A buried job is put there with the longest delay, so that no worker gets it
-before it is buried there too.
+Each job is reserved at the source, put at the target, and deleted at the source, in this order. So if a move is
+interrupted, a job is at the source or at both places, and never at neither. A buried job is put at the target with the
+longest delay, so that no worker gets it before it is buried there too.
 """
 import enum
 import secrets
@@ -25,7 +25,8 @@ class Step(enum.Enum):
 
 
 class Move(Sweep):
-    """Moves jobs. `doubled` has pairs of ids of jobs that may be at both places: the one here, and there if known."""
+    """Moves jobs. `doubled` has pairs of ids of jobs that may be at both places: the id at the source, and the one at
+    the target if it is known."""
 
     def __init__(self, source, target, asked):
         super().__init__(asked)
@@ -47,13 +48,14 @@ class Move(Sweep):
         return True
 
     def _move(self, state, body):
-        """Moves a job that is reserved here. If that fails it is given back, and named if it may be doubled."""
+        """Moves a job that is reserved at the source. If that fails, the job is released, and recorded if it may be at
+        both places."""
         try:
             self._copy(state, body)
             if self.source.delete(self.about["id"]):
                 self.done[state] += 1
             elif not self.target.delete(self.copy):
-                # Its time to run was over here, and a worker got it; and one there got the copy.
+                # Its time to run expired at the source and a worker got it, and another worker got the copy.
                 self.ends()
         except Refused:
             self._give_back(state)
@@ -64,7 +66,7 @@ class Move(Sweep):
             raise
 
     def _copy(self, state, body):
-        """Puts the job there, and brings it to the state that it has here."""
+        """Puts the job at the target, and brings it into the state that it has at the source."""
         self.step = Step.SENT
         try:
             self.copy = self.target.put(self.about["pri"], delay_of(state, self.about), self.about["ttr"], body)
@@ -77,7 +79,8 @@ class Move(Sweep):
             self.target.bury(self.copy, self.about["pri"])
 
     def _give_back(self, state):
-        """Brings the job that is reserved here back to its state. If its connection is lost it comes back as ready."""
+        """Brings the job that is reserved at the source back into its state. If that connection is lost, the server
+        makes it ready."""
         try:
             if state == "buried":
                 self.source.bury(self.about["id"], self.about["pri"])
@@ -87,21 +90,21 @@ class Move(Sweep):
             pass
 
     def ends(self):
-        """Is done with the current job, and notes it if it may be at both places."""
+        """Finishes the current job, and records it if it may be at both places."""
         if self.step in (Step.SENT, Step.COPIED):
             self.doubled.append((self.about["id"], self.copy))
         self.step = Step.NONE
 
 
 def delay_of(state, about):
-    """The delay that a job is put with, so that it is not ready sooner than it would be. What is left is rounded down."""
+    """Returns the delay for the put, so that the job is not ready too early. The server rounds `time-left` down."""
     if state == "buried":
         return LARGEST_NUMBER
     return min(about["time-left"] + 1, LARGEST_NUMBER) if state == "delayed" else 0
 
 
 def is_same(source, target):
-    """Whether both are one server: a tube that is used by a connection to the one is there at the other."""
+    """Returns true if both are the same server: a tube that one connection uses exists for the other."""
     name = f"bqctl-{secrets.token_hex(16)}"
     source.use(name)
     return target.tube(name) is not None
@@ -135,13 +138,13 @@ def move(source, asked):
 
 
 def result_of(work, counts, about, to_tube):
-    """What was moved or would be, and what may be at both places."""
+    """Returns what was moved or would be, and which jobs may be at both places."""
     record, lines = told(work.asked, "moved", counts, about, f" to {to_tube} of {work.target.name}")
     doubled = [{"source": here, "target": there} for here, there in work.doubled]
     return Result({**record, "doubled": doubled}, [*lines, *(may_be_doubled(work, *it) for it in work.doubled)])
 
 
 def may_be_doubled(work, here, there):
-    """That a job may be at both places, as a sentence."""
+    """Returns a sentence that says that a job may be at both places."""
     copy = f"as job {there} of {work.target.name}" if there else f"at {work.target.name}, which gave no id"
     return f"job {here} of {work.source.name} may be doubled, {copy}"

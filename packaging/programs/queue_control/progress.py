@@ -1,17 +1,17 @@
-"""Work that takes a while: its progress on a terminal, and how it is interrupted."""
+"""Long-running work: its progress on a terminal, and how it is interrupted."""
 import contextlib
 import signal
 import sys
 import time
 
-# How often the line of progress is written at most, in seconds.
+# The shortest time between two updates of the progress line, in seconds.
 BETWEEN = 0.1
 
 TO_THE_LINES_END = "\033[K"
 
 
 class Progress:
-    """A line on standard error that says how much is done, if that is a terminal."""
+    """A line on standard error that shows how much is done, if that is a terminal."""
 
     def __init__(self, done, total):
         self.done, self.total = done, total
@@ -19,21 +19,21 @@ class Progress:
         self.next = time.monotonic() + BETWEEN
 
     def at(self, count):
-        """Says that so many jobs are done."""
+        """Shows that `count` jobs are done."""
         if self.shows and time.monotonic() >= self.next:
             self.next = time.monotonic() + BETWEEN
             sys.stderr.write(f"\r{self.done} {count} of {max(count, self.total)} jobs{TO_THE_LINES_END}")
             sys.stderr.flush()
 
     def end(self):
-        """Takes the line away."""
+        """Removes the line."""
         if self.shows:
             sys.stderr.write(f"\r{TO_THE_LINES_END}")
             sys.stderr.flush()
 
 
 class Interrupts:
-    """Signals that end the work. The first lets it finish the current job; a second one ends it at once."""
+    """The signals that end the work. The first one lets it finish the current job; the second one ends it at once."""
 
     SIGNALS = (signal.SIGINT, signal.SIGTERM, signal.SIGHUP)
 
@@ -47,7 +47,7 @@ class Interrupts:
 
     @contextlib.contextmanager
     def caught(self):
-        """Catches the signals while this is entered, but for those that are ignored."""
+        """Catches the signals while this is entered, except those that are ignored."""
         before = {it: signal.getsignal(it) for it in self.SIGNALS}
         caught = [it for it, handler in before.items() if handler != signal.SIG_IGN]
         for it in caught:

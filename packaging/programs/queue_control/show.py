@@ -1,4 +1,4 @@
-"""The commands that show: stats, tubes and peek."""
+"""The commands that only read: stats, tubes and peek."""
 import sys
 
 from queue_client import Fault, STATES
@@ -19,13 +19,13 @@ def tube_of(server, name):
 
 
 def stats(server, asked):
-    """The statistics of the server or of a tube, with the protocol's keys."""
+    """Returns the statistics of the server or of a tube, with the protocol's keys."""
     found = tube_of(server, asked.tube) if asked.tube else server.statistics()
     return Result(found, [f"{key}: {value}" for key, value in found.items()])
 
 
 def tubes(server, asked):
-    """All tubes with their numbers, by name."""
+    """Returns all tubes with their numbers, by name."""
     names = sorted(server.tubes())
     told = zip(names, server.tube_statistics(names))
     found = {it: numbers(server.name, f"stats-tube {it}", about, OF_TUBE) for it, about in told if about}
@@ -35,7 +35,7 @@ def tubes(server, asked):
 
 
 def peek(server, asked):
-    """The first job of a state, or of each."""
+    """Returns the first job of a state, or of each state."""
     tube_of(server, asked.tube)
     server.use(asked.tube)
     found = [looked_at(server, state) for state in ([asked.state] if asked.state else STATES)]
@@ -48,7 +48,7 @@ def peek(server, asked):
 
 
 def raw(server, asked, shown):
-    """Writes the body of the job to standard output, byte by byte."""
+    """Writes the body of the job to standard output unchanged."""
     if not shown:
         raise Fault(f"{server.name} has no {asked.state} job in {asked.tube}")
     (_, body), = shown
@@ -57,7 +57,7 @@ def raw(server, asked, shown):
 
 
 def looked_at(server, state):
-    """The first job of a state as a record, and its body; None if there is none."""
+    """Returns the first job of a state as a record, and its body; None if there is none."""
     job = server.peek(state)
     if not job:
         return None
@@ -66,7 +66,7 @@ def looked_at(server, state):
 
 
 def body_of(body):
-    """A body as a part of a record: its text, or where it is none its bytes in hexadecimal."""
+    """Returns a body as part of a record: its text, or its bytes in hexadecimal if it isn't text."""
     try:
         return {"size": len(body), "body": body.decode()}
     except UnicodeDecodeError:
@@ -74,7 +74,7 @@ def body_of(body):
 
 
 def lines_of(record, body):
-    """A job as a person reads it: what it is, and the beginning of its body."""
+    """Returns a job as a person reads it: its properties, and the beginning of its body."""
     found = readable(body)
     about = "\n".join(f"{key}: {value}" for key, value in record.items() if not key.startswith("body"))
     cut = f"\n(the first {found.shown} of {found.size} bytes; --raw writes all)" if found.shown < found.size else ""

@@ -1,4 +1,5 @@
-"""Work on one job of a tube after the other, until none is left or it is interrupted: what clear and move share."""
+"""Processes the jobs of a tube one after the other, until none is left or it is interrupted. clear and move share it.
+"""
 from queue_client import Fault
 from queue_client.reading import COUNTS
 
@@ -7,25 +8,25 @@ from .results import Result, by_state, jobs
 
 
 class Sweep:
-    """Does jobs of the given states. `done` counts those that were done, by their states."""
+    """Processes jobs in the given states. `done` counts them by state."""
 
     def __init__(self, asked):
         self.asked = asked
         self.done = dict.fromkeys(asked.state, 0)
 
     def count(self):
-        """How many jobs were done."""
+        """Returns how many jobs were processed."""
         return sum(self.done.values())
 
     def one(self, state):
-        """Does the first job of a state. Returns whether there was one."""
+        """Processes the first job of a state. Returns whether there was one."""
         raise NotImplementedError
 
     def all(self, word, total):
-        """Does all jobs. `word` and `total` are for the line of progress.
+        """Processes all jobs. `word` and `total` are for the progress line.
 
-        A state is gone through until it has no job, and then all are again until none has: a delayed job may have
-        become ready meanwhile.
+        Each state is processed until it has no job, and then all are processed again until none has any, because a
+        delayed job may have become ready meanwhile.
         """
         progress = Progress(word, total)
         try:
@@ -35,7 +36,7 @@ class Sweep:
             progress.end()
 
     def _all_of(self, state, progress):
-        """Does all jobs of a state. Returns whether there was one."""
+        """Processes all jobs of a state. Returns whether there was one."""
         found = False
         while self.count() < self.asked.limit and self.one(state):
             found = True
@@ -46,7 +47,7 @@ class Sweep:
 
 
 def planned(about, asked):
-    """How many jobs of each state there are to do, by the statistics of the tube."""
+    """Returns how many jobs of each state there are to process, from the statistics of the tube."""
     plan = {}
     for state in asked.state:
         plan[state] = min(about[COUNTS[state]], asked.limit - sum(plan.values()))
@@ -54,7 +55,7 @@ def planned(about, asked):
 
 
 def told(asked, word, counts, about, to=""):
-    """What was deleted or moved, or would be, and how many jobs stay that workers have reserved, if that is known."""
+    """Returns what was deleted or moved, or would be, and how many reserved jobs stay, if that is known."""
     count = sum(counts.values())
     reserved = about[COUNTS["reserved"]] if about else None
     verb = {"deleted": "would delete", "moved": "would move"}[word] if asked.dry_run else word

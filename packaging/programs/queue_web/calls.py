@@ -1,4 +1,4 @@
-"""The paths that bqd-web answers."""
+"""The paths that bqd-web serves."""
 import asyncio
 import hmac
 import json
@@ -17,7 +17,7 @@ from .watcher import DEFAULT, Busy
 
 FOLDER = pathlib.Path(__file__).parent / "page"
 
-# The files of the page, all of them read at the start. No other file is ever read.
+# The files of the page, which are all read at the start. No other file is ever read.
 FILES = {
     "/": ("page.html", "text/html; charset=utf-8"),
     "/page.css": ("page.css", "text/css; charset=utf-8"),
@@ -26,20 +26,20 @@ FILES = {
     "/icon.svg": ("icon.svg", "image/svg+xml"),
 }
 
-# What stands in the page for the token of the actions.
+# The placeholder in the page for the token of the actions.
 TOKEN = b"@TOKEN@"
 
-# How many jobs one kick of the page makes ready at most.
+# The largest number of jobs that one kick of the page makes ready.
 MOST_KICKED = 1000
 
 
 def as_json(value, status=200):
-    """An answer of JSON."""
+    """Returns an answer of JSON."""
     return Answer(status, "application/json", json.dumps(value, separators=(",", ":")).encode())
 
 
 class Calls:
-    """Answers requests by what a watcher knows. With `actions` it takes those that change something, too."""
+    """Answers requests from what a watcher knows. With `actions` it also accepts those that change something."""
 
     def __init__(self, watcher, server, names, actions):
         self.watcher, self.server, self.names = watcher, server, names
@@ -53,7 +53,7 @@ class Calls:
 
     async def answer(self, request):
         """Answers a request."""
-        # Monitors call by whatever name; what they get says nothing of what jobs hold.
+        # Monitoring may use any host name; metrics reveal nothing about the contents of jobs.
         if request.path != "/metrics" and not self.names.knows(request.headers.get("host", "")):
             return text(421, "this name is not known here: start bqd-web with --host NAME")
         if request.path in self.acts and request.method == "POST":
@@ -68,7 +68,7 @@ class Calls:
         return Answer(200, CONTENT_TYPE, exposition(self.watcher.view))
 
     async def _state(self, _):
-        """What is known of the server and its tubes. It is made once for each reading, whoever asks."""
+        """Returns what is known of the server and its tubes. It is computed once for each reading."""
         view = self.watcher.view
         if view is not self.view:
             known = {"server": self.server, "up": view.up, "since": round(view.since, 3), "why": view.why}
@@ -80,7 +80,7 @@ class Calls:
         return as_json({"every": history.EVERY * history.POINTS / history.SPARK_POINTS, "tubes": self.watcher.sparks()})
 
     async def _tube(self, request):
-        """A tube, its last ten minutes, and its first jobs."""
+        """Returns a tube, its last ten minutes, and its first jobs."""
         name, view = request.words.get("name", ""), self.watcher.view
         if not view.up or name not in view.later.tubes:
             return as_json({"name": name, "up": view.up, "why": view.why, "gone": view.up}, 503 if not view.up else 404)
@@ -95,7 +95,7 @@ class Calls:
         return as_json({**known, **counts, "every": history.EVERY, "points": self.watcher.points(name), "first": first})
 
     async def _act(self, request):
-        """Carries out an action, if the request comes from the page that was served here."""
+        """Carries out an action if the request comes from the page that this server served."""
         refused = self._forged(request)
         if refused:
             return refused
@@ -111,7 +111,7 @@ class Calls:
         return as_json(done, 409 if "failed" in done else 200)
 
     def _forged(self, request):
-        """The answer to a request of another site's page, or None."""
+        """Returns the answer to a request from another site's page, or None if the request is genuine."""
         headers = request.headers
         if headers.get("content-type", "").partition(";")[0].strip().lower() != "application/json":
             return text(415, "an action is JSON")
@@ -148,7 +148,7 @@ class Calls:
 
     @staticmethod
     def _delete(asked):
-        """Deletes the job that was looked at, if it is still in that tube and in a state that can be looked at."""
+        """Deletes the job that was shown, if it is still in that tube and in a state in which it can be shown."""
         name, job_id = tube_of(asked), number_of({"id": int(asked["id"])}, "id", 1, (1 << 64) - 1)
 
         def task(server):
@@ -160,19 +160,19 @@ class Calls:
 
 
 def paused(server, name, seconds, done):
-    """Pauses a tube, or ends its pause; what was done."""
+    """Pauses a tube, or ends its pause. Returns what was done."""
     return {"done": done} if server.pause(name, seconds) else {"failed": f"there is no tube {name} any more"}
 
 
 def tube_of(asked):
-    """The tube of an action."""
+    """Returns the tube of an action."""
     if not isinstance(asked["tube"], str) or not TUBE_NAME.fullmatch(asked["tube"]):
         raise ValueError
     return asked["tube"]
 
 
 def number_of(asked, key, least, most):
-    """A number of an action."""
+    """Returns a number of an action."""
     value = asked[key]
     if type(value) is not int or not least <= value <= most:
         raise ValueError

@@ -1,8 +1,8 @@
-"""A small server of HTTP/1.1 for pages and short calls, made to stand slow, many and ill-meaning clients.
+"""A small HTTP/1.1 server for pages and short calls, which withstands slow, numerous and hostile clients.
 
-It reads no file and keeps no state of a client. A request's head and body are limited in size and in time, and so is
-the time in which a client takes an answer. Each connection beyond the most that are served ends the one whose request
-or answer began longest ago, so idle and slow clients never keep others out.
+It reads no file and keeps no state of a client. A request's head and body are limited in size and time, and so is the
+time in which a client takes an answer. If there are too many connections, the one whose request or answer began longest
+ago is aborted, so idle and slow clients never keep others out.
 """
 import asyncio
 import collections
@@ -15,17 +15,17 @@ import urllib.parse
 LARGEST_HEAD = 8192
 LARGEST_BODY = 4096
 
-# How long a request may take to come, and an answer to go, in seconds.
+# How long a request may take to arrive, and an answer to be sent, in seconds.
 REQUEST_WITHIN = 10
 ANSWER_WITHIN = 20
 
-# How many connections there are at a time.
+# The largest number of connections at the same time.
 MOST_CONNECTIONS = 256
 
-# How much is written at once: what a client that reads slowly keeps in memory.
+# How many bytes are written at once, which is what a slow client keeps in memory.
 PIECE = 1 << 16
 
-# What each answer carries. The policy forbids what isn't from here, and any script or style within a page.
+# The headers of every answer. The policy forbids anything from another origin, and any script or style within a page.
 HEADERS = {
     "Content-Security-Policy": "default-src 'none'; script-src 'self'; style-src 'self'; connect-src 'self'; img-src 'self'; "
                                "base-uri 'none'; form-action 'none'; frame-ancestors 'none'",
@@ -51,7 +51,7 @@ HEADER = re.compile(r"([!#$%&'*+.^_`|~0-9A-Za-z-]+):[ \t]*([ -~\t]*?)[ \t]*")
 
 
 class Bad(Exception):
-    """A request that is answered by this status, and whose connection is closed then."""
+    """A request that is answered with this status; then its connection is closed."""
 
     def __init__(self, status, why):
         super().__init__(why)
@@ -59,12 +59,13 @@ class Bad(Exception):
 
 
 def text(status, what):
-    """An answer of one line of text."""
+    """Returns an answer of one line of text."""
     return Answer(status, "text/plain; charset=utf-8", what.encode() + b"\n")
 
 
 def head_of(data):
-    """Reads a request's line and headers; the method, the path with its words, the headers, and whether it stays open."""
+    """Reads a request's line and headers. Returns the method, the path with its parameters, the headers, and whether
+    the connection is kept."""
     try:
         lines = data.decode("ascii").split("\r\n")[:-2]
     except UnicodeDecodeError:
@@ -84,7 +85,7 @@ def head_of(data):
 
 
 def body_size(headers):
-    """How many bytes the body has."""
+    """Returns the length of the body."""
     if "transfer-encoding" in headers:
         raise Bad(501, "a body wants a Content-Length")
     size = headers.get("content-length", "0")
@@ -96,7 +97,7 @@ def body_size(headers):
 
 
 def words_of(target):
-    """The path and the words behind its question mark, each word once."""
+    """Returns the path and the parameters after its question mark; each may occur only once."""
     path, _, query = target.partition("?")
     try:
         pairs = urllib.parse.parse_qsl(query, keep_blank_values=True, strict_parsing=bool(query), errors="strict")
@@ -110,11 +111,11 @@ class Connections:
 
     def __init__(self, answer):
         self.answer = answer
-        # The connections, the one whose request or answer began longest ago first.
+        # The connections, ordered by when their request or answer began, the oldest first.
         self.open = collections.OrderedDict()
 
     async def listen(self, place):
-        """Listens at a path or at a host and a port; returns the server."""
+        """Listens at a path, or at a host and a port. Returns the server."""
         if isinstance(place, str):
             return await asyncio.start_unix_server(self._serve, place, limit=LARGEST_HEAD, backlog=128)
         return await asyncio.start_server(self._serve, *place, limit=LARGEST_HEAD, backlog=128)
@@ -128,19 +129,19 @@ class Connections:
             while await self._one(reader, writer):
                 pass
         except (asyncio.TimeoutError, asyncio.IncompleteReadError, OSError, asyncio.CancelledError):
-            # The client is too slow, or has gone; or bqd-web ends.
+            # The client is too slow or has disconnected, or bqd-web ends.
             pass
         finally:
             self.open.pop(writer, None)
             await closed(writer)
 
     def _begins(self, writer):
-        """Notes that a request or an answer of this connection begins."""
+        """Records that a request or an answer of this connection begins."""
         self.open[writer] = writer.transport
         self.open.move_to_end(writer)
 
     async def _one(self, reader, writer):
-        """Answers the next request. Returns whether the connection stays."""
+        """Answers the next request. Returns whether the connection is kept."""
         request, stays = None, False
         try:
             request, stays = await self._request(reader)
@@ -153,7 +154,7 @@ class Connections:
         return stays
 
     async def _request(self, reader):
-        """Reads the next request, and whether the connection stays after it."""
+        """Reads the next request, and whether the connection is kept after it."""
         try:
             data = await asyncio.wait_for(reader.readuntil(b"\r\n\r\n"), REQUEST_WITHIN)
         except asyncio.LimitOverrunError:
@@ -164,7 +165,7 @@ class Connections:
         return Request(method, *words_of(target), headers, body), stays
 
     async def _answered(self, request):
-        """The answer to a request; a fault of this program ends neither it nor the connection."""
+        """Returns the answer to a request. An error in this program ends neither it nor the connection."""
         try:
             return await self.answer(request)
         except Bad:
@@ -175,7 +176,7 @@ class Connections:
 
 
 async def sent(writer, answer, request, stays):
-    """Writes an answer, piece by piece as the client takes it. A HEAD gets no body."""
+    """Writes an answer in pieces, as the client takes it. A HEAD request gets no body."""
     writer.write(head_bytes(answer, stays))
     view = memoryview(b"" if request and request.method == "HEAD" else answer.body)
     for first in range(0, len(view), PIECE):
@@ -185,7 +186,7 @@ async def sent(writer, answer, request, stays):
 
 
 def head_bytes(answer, stays):
-    """The status line and the headers of an answer."""
+    """Returns the status line and the headers of an answer."""
     fields = {"Content-Type": answer.kind, "Content-Length": len(answer.body), **HEADERS}
     fields["Connection"] = "keep-alive" if stays else "close"
     if answer.status == 405:

@@ -1,4 +1,4 @@
-"""The last ten minutes of each tube, a point every two seconds."""
+"""The last ten minutes of each tube, one point every two seconds."""
 import array
 import math
 
@@ -8,30 +8,30 @@ from queue_client.reading import COUNTS
 EVERY = 2.0
 POINTS = 300
 
-# What is kept of a tube. A number takes four bytes, so a tube takes some seven kilobytes.
+# What is recorded of a tube. A number takes four bytes, so a tube takes some seven kilobytes.
 KEPT = [*COUNTS, *RATES]
 
-# Of how many tubes it is kept.
+# The largest number of tubes that are recorded.
 MOST_TUBES = 4000
 
-# How many points a reading may be late and still stand for them.
+# A reading that is at most this many points late counts for the points that it missed.
 MOST_LATE = 5
 
-# How many points there are in a sparkline: each is the largest of those that it stands for.
+# How many points a sparkline has: each is the largest of several recorded points.
 SPARK_POINTS = 60
 
 
 class History:
-    """Rings of points by tube and by what is counted. A point without a value is not a number."""
+    """Rings of points by tube and by statistic. A missing value is NaN."""
 
     def __init__(self):
         self.rings, self.seen = {}, {}
         self.count, self.next, self.earlier = 0, None, None
 
     def add(self, reading, moment):
-        """Adds a point, if it is time for one. Without a reading, since the server is down, it has no values.
+        """Adds a point if it is time for one. Without a reading, because the server is down, it has no values.
 
-        A slow reading stands for the points that it was late for too, and after a long pause those have no values.
+        A slow reading also counts for the points that it missed; after a long pause these have no values.
         """
         self.next = moment if self.next is None else self.next
         if moment < self.next:
@@ -70,17 +70,17 @@ class History:
         return self.rings.get(name)
 
     def _forget(self):
-        """Drops the tubes of which no point is left."""
+        """Drops the tubes that have no points left."""
         for name in [it for it, seen in self.seen.items() if self.count - seen > POINTS]:
             del self.rings[name], self.seen[name]
 
     def of(self, name):
-        """The points of a tube, the oldest first, None for those that have no value."""
+        """Returns the points of a tube, the oldest first; None for points without a value."""
         rings = self.rings.get(name)
         return {key: self._ordered(ring) for key, ring in rings.items()} if rings else {key: [] for key in KEPT}
 
     def sparks(self):
-        """The sparkline of each tube: its ready jobs."""
+        """Returns the sparkline of each tube: its ready jobs."""
         return {name: shortened(self._ordered(rings["ready"])) for name, rings in self.rings.items()}
 
     def _ordered(self, ring):
@@ -89,7 +89,7 @@ class History:
 
 
 def shortened(points):
-    """The points of a sparkline: the largest of each few that follow one another."""
+    """Returns the points of a sparkline: the largest of each few consecutive points."""
     some = POINTS // SPARK_POINTS
     parts = [[it for it in points[at : at + some] if it is not None] for at in range(0, len(points), some)]
     return [max(it) if it else None for it in parts]

@@ -1,4 +1,4 @@
-"""Where bqd-web listens, and by which names it may be called."""
+"""Where bqd-web listens, and the names under which it may be reached."""
 import argparse
 import contextlib
 import errno
@@ -13,7 +13,7 @@ DEFAULT_PORT = 11380
 
 
 def place(word):
-    """HOST, HOST:PORT or unix:PATH, as a word of a command line: a pair, or the path."""
+    """Reads HOST, HOST:PORT or unix:PATH from a command line: a pair, or the path."""
     if word.startswith("unix:"):
         path = word[len("unix:"):]
         if not path.startswith("/") or len(os.fsencode(path)) > 107:
@@ -23,12 +23,13 @@ def place(word):
 
 
 def shown_place(where):
-    """A place as one calls it."""
+    """Returns a place in its usual notation."""
     return f"unix:{where}" if isinstance(where, str) else f"http://{shown(*where)}/"
 
 
 def is_local(where):
-    """Whether only this machine reaches the place: a Unix socket, or a host all of whose addresses are loopback."""
+    """Returns true if only this machine reaches the place: a Unix socket, or a host whose addresses are all loopback.
+    """
     if isinstance(where, str):
         return True
     found = socket.getaddrinfo(*where, type=socket.SOCK_STREAM)
@@ -36,13 +37,13 @@ def is_local(where):
 
 
 def host_of(header):
-    """The name in a Host header, without its port; None if it is malformed."""
+    """Returns the name in a Host header without its port; None if it is malformed."""
     found = re.fullmatch(r"(\[[0-9A-Fa-f:.]+\]|[-\w.]+)(?::[0-9]{1,5})?", header)
     return found and found[1].strip("[]").rstrip(".").lower()
 
 
 def is_address(name):
-    """Whether a name is an address in digits."""
+    """Returns true if a name is a numeric address."""
     try:
         ipaddress.ip_address(name)
         return True
@@ -51,11 +52,11 @@ def is_address(name):
 
 
 class Names:
-    """The names by which the page may be called.
+    """The names under which the page may be reached.
 
-    A page of another site can have its own name lead to this place and then read what is served (DNS rebinding), so a
-    name has to be known: addresses in digits, localhost, the name that was listened at, and those that were given.
-    By a Unix socket no browser comes but through a proxy, which knows its names.
+    A page of another site can make its own name resolve to this address and then read what is served (DNS rebinding).
+    So a name has to be known: numeric addresses, localhost, the name of the listening address, and the configured
+    names. A browser reaches a Unix socket only through a proxy, which knows its names.
     """
 
     def __init__(self, where, given):
@@ -63,13 +64,13 @@ class Names:
         self.known = {"localhost", *(it.lower() for it in given)} | (set() if isinstance(where, str) else {where[0].lower()})
 
     def knows(self, header):
-        """Whether a Host header has a name that may be."""
+        """Returns true if a Host header has an allowed name."""
         name = host_of(header)
         return name is not None and (self.every or name in self.known or is_address(name))
 
 
 def wants_free(path):
-    """Fails if a process listens at this path. A socket that one left which has ended may be taken."""
+    """Fails if a process listens at this path. A socket left by a process that has ended may be reused."""
     with contextlib.suppress(ConnectionRefusedError, FileNotFoundError):
         with socket.socket(socket.AF_UNIX, socket.SOCK_STREAM) as probe:
             probe.connect(path)

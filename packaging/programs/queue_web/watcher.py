@@ -1,4 +1,4 @@
-"""The one connection to the server: a thread reads the statistics once a second, and carries out what it is asked to."""
+"""The only connection to the server: a thread reads the statistics once a second, and carries out tasks."""
 import collections
 import concurrent.futures
 import os
@@ -16,17 +16,17 @@ from .history import History
 # How often the statistics are read, in seconds.
 BETWEEN = 1.0
 
-# For how long a look at a tube's first jobs serves whoever asks.
+# How long a look at a tube's first jobs is reused for other requests, in seconds.
 LOOK_SERVES = 0.9
 
-# How many tasks may wait for the connection.
+# The largest number of tasks that may wait for the connection.
 MOST_TASKS = 64
 
-# What is known of the server: whether it answers, since when (of the clock) that is so, why it doesn't, and its last two
-# readings. `took` is how many seconds the last one took.
+# What is known of the server: whether it answers, since when (by the clock) that is so, why it doesn't, and its last
+# two readings. `took` is how many seconds the last one took.
 View = collections.namedtuple("View", "up since why earlier later took")
 
-# The tube that each connection begins with, which exists as long as it does.
+# The tube that each connection starts with, and which exists as long as the connection.
 DEFAULT = "default"
 
 
@@ -35,7 +35,7 @@ class Busy(Exception):
 
 
 class Watcher:
-    """Watches a server. `view` is what is known of it; whoever reads it gets one that isn't changed any more."""
+    """Watches a server. `view` is what is known of it; a view that was read does not change any more."""
 
     def __init__(self, host, port, patience):
         self.address, self.patience = (host, port), patience
@@ -47,11 +47,11 @@ class Watcher:
         self.thread = threading.Thread(target=self._watch, daemon=True)
 
     def start(self):
-        """Begins to watch."""
+        """Starts watching."""
         self.thread.start()
 
     def ask(self, task):
-        """Has a task carried out on the connection: a call that takes the server. Returns the future of its result."""
+        """Runs a task, a function of the server, on the connection. Returns the future of its result."""
         future = concurrent.futures.Future()
         try:
             self.tasks.put_nowait((task, future))
@@ -60,16 +60,16 @@ class Watcher:
         return future
 
     def look(self, name):
-        """Asks for the first job of each state of a tube. Many that ask at once are served by one look."""
+        """Requests the first job of each state of a tube. Simultaneous requests share one look."""
         return self.ask(lambda server: self._looked(server, name))
 
     def sparks(self):
-        """The sparkline of each tube."""
+        """Returns the sparkline of each tube."""
         with self.lock:
             return self.history.sparks()
 
     def points(self, name):
-        """The last ten minutes of a tube."""
+        """Returns the last ten minutes of a tube."""
         with self.lock:
             return self.history.of(name)
 
@@ -77,7 +77,7 @@ class Watcher:
         try:
             self._go_on()
         except BaseException:
-            # A fault of this program. Whoever started it starts it again.
+            # An error in this program. The service manager restarts it.
             traceback.print_exc()
             os._exit(1)
 
@@ -86,11 +86,11 @@ class Watcher:
             begun = time.monotonic()
             self._read()
             took = time.monotonic() - begun
-            # A server with very many tubes is given as long a rest as it worked.
+            # After a long reading, as of very many tubes, the server rests as long as it worked.
             self._serve(begun + max(BETWEEN, 2 * took))
 
     def _read(self):
-        """Takes a reading; a connection that was lost is made anew."""
+        """Takes a reading. A lost connection is made anew."""
         begun = time.monotonic()
         try:
             if not self.server:
@@ -112,7 +112,7 @@ class Watcher:
         self.view = View(False, since, str(fault), None, None, None)
 
     def _serve(self, until):
-        """Carries out tasks until that moment."""
+        """Runs tasks until that moment."""
         while (left := until - time.monotonic()) > 0:
             try:
                 task, future = self.tasks.get(timeout=left)
@@ -142,7 +142,7 @@ class Watcher:
 
 
 def looked(server, name):
-    """The first job of each state of a tube. A tube that has gone isn't made by this."""
+    """Returns the first job of each state of a tube. This does not create a tube that has gone."""
     if server.tube(name) is None:
         return None
     server.use(name)
@@ -153,7 +153,7 @@ def looked(server, name):
 
 
 def first_of(server, state):
-    """The first job of a state as a record, with the beginning of its body; None if there is none."""
+    """Returns the first job of a state as a record, with the beginning of its body; None if there is none."""
     job = server.peek(state)
     if not job:
         return None
