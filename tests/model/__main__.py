@@ -1,11 +1,12 @@
 #!/usr/bin/env python3
-"""Holds the built programs to the rules of the queue, which are written here a second time.
+"""Compares the built programs with the rules of the queue, which are written here a second time.
 
     python3 tests/model --bq PATH --bqd PATH [--engine NAME] [--seed N] [--minutes M] [--one-in N]
 
-Worked sessions, random sessions of `bq`, many clients of `bqd` one command at a time, many side by side, and
-clients that are cut off; those of `bqd` by each of its engines. It ends with a line 'N passed, M failed', and status 0 where nothing failed. With
---broken NAME the rules are turned in one place, and the run has to fail; --self-check tries all of these.
+It runs worked sessions, random sessions of `bq`, many clients of `bqd` one command at a time, many side by side, and
+clients that are cut off; those of `bqd` with each of its engines. The last line is 'N passed, M failed', and the status
+is 0 if nothing failed. With --broken NAME one rule is changed, and the run has to fail; --self-check tries all of
+these.
 """
 import argparse
 import sys

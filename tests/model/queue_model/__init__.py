@@ -1,1 +1,1 @@
-"""The rules of the queue a second time, and the means to hold the built programs to them."""
+"""The rules of the queue a second time, and the means to compare the built programs with them."""

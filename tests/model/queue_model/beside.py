@@ -1,12 +1,12 @@
-"""Many clients of `bqd` side by side: what their lines are written is what one history gives them, to the byte.
+"""Many clients of `bqd` side by side: each receives exactly the bytes that one history gives it.
 
-In what order their steps are taken isn't known while they run. So each client keeps to tubes and jobs of its own,
-but that it puts jobs into the box of the next one and waits for those in its own box. Then what it is answered
-hangs on the others in two ways alone: the ids of its puts, and that what it takes out of its box was put before.
-One history with these answers is made afterwards: each client's requests in their order, and the puts in that of
-their ids. No other order counts, so each client goes on in it as far as its next put that has its turn. The
-machine takes it with its clock standing still, and ages and times left aren't compared. So only a put has a
-delay, all of them the same: jobs that are delayed are due in the order of their ids, whenever they were put.
+The order of their steps isn't known while they run. So each client uses tubes and jobs of its own, except that it puts
+jobs into the box of the next client and waits for those in its own box. Its answers then depend on the others in two
+ways only: the ids of its puts, and that whatever it takes from its box was put before. Afterwards one history with
+these answers is made: each client's requests in order, and all puts in the order of their ids. No other order matters:
+for each id in turn, the machine takes the steps of the client that put it, up to that put. Its clock stands still, and
+ages and times left aren't compared. For the same reason only a put has a delay, and all delays are equal: delayed jobs
+are due in the order of their ids, whenever they were put.
 """
 import random
 import re
@@ -17,10 +17,10 @@ from . import lockstep, programs, report
 from .machine import PLAIN
 from .reader import requests_of
 
-TURNS = 8  # of each client
+TURNS = 8  # for each client
 SETTINGS = PLAIN._replace(max_job_size=300)
-PATIENCE = 2 * programs.PATIENCE  # for all that the clients ask
-PRIORITY = 5  # of what lies in a box: so the job of the least id is the first one, whatever else was put by then
+PATIENCE = 2 * programs.PATIENCE  # for everything that the clients ask
+PRIORITY = 5  # of the jobs in a box, so that the job with the lowest id is the first one, whatever else was put by then
 AGES = re.compile(rb"\n(age|time-left|pause-time-left): \d+")
 
 
@@ -29,24 +29,24 @@ class Wrong(Exception):
 
 
 def without_ages(answer):
-    """An answer without what hangs on the clock: ages, times left, and how long the text is with them."""
+    """Returns an answer without what depends on the clock: ages, times left, and the length of a text with them."""
     if not AGES.search(answer):
         return answer
     return re.sub(rb"\AOK \d+", b"OK", AGES.sub(rb"\n\1", answer))
 
 
 class Talker:
-    """A client, one connection after another, with what it asked and what it was answered."""
+    """A client with one connection after another, its requests and their answers."""
 
     def __init__(self, number, clients, seed, server):
         self.number, self.random, self.server = number, random.Random(seed), server
         self.own, self.other, self.box = b"own.%d" % number, b"other.%d" % number, b"box.%d" % number
         self.next_box = b"box.%d" % ((number + 1) % clients)
         self.turns, self.used, self.jobs = TURNS, None, []
-        # Its steps so far, each an event with its request and its answer, and how many of them were taken over.
+        # Its steps so far, each an event with its request and its answer, and how many of them the history has.
         self.steps, self.taken_over = [], 0
 
-    # -- what it says -----------------------------------------------------------------------------
+    # -- sending ------------------------------------------------------------------------------------
 
     def open(self):
         self.line = lockstep.Client(self.number, self.server.connect())
@@ -62,7 +62,7 @@ class Talker:
             self.line.connection.sendall(text[begin:end])
 
     def go_on(self):
-        """Its next turn, which has one job for the next client, and takes one out of its own box."""
+        """Takes its next turn: puts one job for the next client, and takes one from its own box."""
         self.turns -= 1
         texts = [self.command() for _ in range(self.random.randrange(1, 9))]
         texts.insert(self.random.randrange(len(texts) + 1), self.share())
@@ -82,7 +82,7 @@ class Talker:
         ))
 
     def command(self):
-        """A command that tells nothing of others, and does nothing to them."""
+        """A command that does not depend on other clients and does not affect them."""
         if self.random.random() < 0.2:
             return self.put(self.random.choice((0, 1, 9, 1023, 2000)))
         job = self.random.choice(self.jobs[-12:]) if self.jobs else 0
@@ -97,10 +97,10 @@ class Talker:
             b"no-command\r\n", b"delete x\r\n", b"put 0 0 9 1\r\nabc", b"put 0 0 9 301\r\n%s\r\n" % (b"y" * 301),
         ))
 
-    # -- what it hears ----------------------------------------------------------------------------
+    # -- receiving ----------------------------------------------------------------------------------
 
     def hear(self):
-        """Takes what has come. Whether all is over."""
+        """Reads what has arrived. Returns true if everything is done."""
         is_open = self.line.more(time.monotonic() + 1)
         answer = self.line.whole_answer()
         while answer is not None:
@@ -123,7 +123,7 @@ class Talker:
             self.jobs.append(int(answer.split()[1]))
 
     def close(self):
-        """The server has closed the connection: whether it was the last one."""
+        """The server has closed the connection. Returns true if it was the last one."""
         self.line.connection.close()
         if [it.command for it in self.asked] != [b"quit"] or self.line.kept:
             raise Wrong("client %d: its connection ended; it has %s, and asked %r" % (
@@ -139,7 +139,7 @@ class Talker:
         return [int(answer.split()[1]) for _, _, answer in self.steps if answer and answer.startswith(b"INSERTED ")]
 
     def goes_into(self, machine, last=None):
-        """The machine takes this client's next steps, up to the put that was given this id, or all."""
+        """Runs this client's next steps on the machine, up to the put with this id, or all of them."""
         while self.taken_over < len(self.steps):
             event, request, wanted = self.steps[self.taken_over]
             self.taken_over += 1
@@ -154,7 +154,7 @@ class Talker:
 
 
 def all_talk(talkers):
-    """All clients say and hear what they have to, each as soon as it can."""
+    """Lets all clients send and receive what they have to, each as soon as it can."""
     until = time.monotonic() + PATIENCE
     with selectors.DefaultSelector() as ready:
         def listen(talker):
@@ -177,7 +177,7 @@ def all_talk(talkers):
 
 
 def hold_to_one_history(talkers, last, machine):
-    """Holds all that was answered to one history, which is made of it. The last client comes behind all others."""
+    """Checks all answers against one history, which is made from them. The last client comes after all others."""
     owners = {}
     for talker in talkers:
         for given in talker.ids_given():
@@ -192,7 +192,7 @@ def hold_to_one_history(talkers, last, machine):
 
 
 def look_at_all(server, number):
-    """A client that asks for what is left of everybody's jobs."""
+    """A client that asks for what is left of all clients' jobs."""
     looker = Talker(number, number + 1, number, server)
     looker.turns, looker.line, looker.asked = 0, lockstep.Client(number, server.connect()), []
     looker.steps.append(("connect", None, None))
@@ -205,7 +205,7 @@ def look_at_all(server, number):
 
 
 def beside(program, rules, seed, clients):
-    """One run of so many clients. Its report counts one, passed or failed."""
+    """Runs this many clients once. Its report counts one, passed or failed."""
     name, commands = "%d clients side by side" % clients, 0
     with programs.Server(program, clients, SETTINGS) as server:
         talkers = [Talker(at, clients, "%s/%d" % (seed, at), server) for at in range(clients)]

@@ -1,9 +1,9 @@
-"""Machines with one rule turned. Each must be found to differ from the programs."""
+"""Machines with one rule changed. Each must be found to differ from the programs."""
 from .machine import BURIED, DELAYED, READY, URGENT_BELOW, Machine
 
 
 class LeastById(Machine):
-    """The least ready job is that of the least id, whatever its priority."""
+    """The least ready job is the one with the lowest id, whatever its priority."""
 
     def rank(self, job):
         return job.id
@@ -20,7 +20,7 @@ class NewIdAtRelease(Machine):
 
 
 class LeaseUncounted(Machine):
-    """A lease that ended is counted nowhere."""
+    """A lease that expires isn't counted."""
 
     def count_timeout(self, job):
         pass
@@ -41,7 +41,7 @@ class PauseIgnored(Machine):
 
 
 class LastWaiterFirst(Machine):
-    """A job goes to who has waited the shortest time."""
+    """A job goes to the client that has waited for the shortest time."""
 
     def wait_rank(self, seat):
         return -seat.ticket, seat.number
@@ -55,21 +55,21 @@ class DelayedKickedFirst(Machine):
 
 
 class UrgentAtTheLimit(Machine):
-    """A ready job of the first priority that isn't urgent is counted as urgent."""
+    """A ready job with the first priority that isn't urgent is counted as urgent."""
 
     def is_urgent(self, job):
         return job.state == READY and job.pri <= URGENT_BELOW
 
 
 class FirstWatchedOnly(Machine):
-    """A reserve looks into the tube alone that is watched longest."""
+    """A reserve looks only into the tube that the client has watched for the longest time."""
 
     def looks_in(self, seat):
         return seat.watched[:1]
 
 
 class CloseKeepsJobs(Machine):
-    """The jobs of a connection that is gone stay reserved."""
+    """The jobs of a connection that was closed stay reserved."""
 
     def give_back(self, seat):
         pass

@@ -1,4 +1,4 @@
-"""Random input: commands that mostly mean something to the machine as it is, and bytes that don't."""
+"""Random input: commands that mostly fit the machine's state, and bytes that don't."""
 from .machine import BURIED, DELAYED, READY, RESERVED
 from .reader import COMMANDS, LONGEST_LINE
 
@@ -9,14 +9,14 @@ MANY_TUBES = (b"default",) + tuple(b"tube-%d" % number for number in range(1, 20
 PRIORITIES = (0, 1, 5, 1023, 1024, 1025, 2**32 - 1)
 NAME_BYTES = b"ABCxyz019-+/;.$_()"
 
-# How often each command is chosen. A plain reserve is rare: where nothing fits, it ends a session.
+# How often each command is chosen. A plain reserve is rare: if no job fits, it ends a session.
 WEIGHTS = {
     b"put": 30, b"reserve": 2, b"reserve-with-timeout": 14, b"reserve-job": 5, b"delete": 8, b"release": 7, b"bury": 7,
     b"touch": 4, b"kick": 5, b"kick-job": 4, b"use": 8, b"list-tube-used": 2, b"watch": 6, b"ignore": 5, b"peek": 3,
     b"peek-ready": 3, b"peek-delayed": 3, b"peek-buried": 3, b"pause-tube": 4, b"stats-job": 7, b"stats-tube": 8,
     b"stats": 5, b"list-tubes": 3, b"list-tubes-watched": 3, b"quit": 0,
 }
-# The state that a job has best for a command to carry out something.
+# The state of a job in which a command usually succeeds.
 FITTING = {
     b"reserve-job": (READY, DELAYED, BURIED), b"delete": (RESERVED, READY, BURIED), b"release": (RESERVED,), b"bury": (RESERVED,),
     b"touch": (RESERVED,), b"kick-job": (BURIED, DELAYED), b"peek": (READY, RESERVED), b"stats-job": (READY, DELAYED, RESERVED, BURIED),
@@ -30,13 +30,13 @@ class Times:
         self.delays, self.leases, self.timeouts, self.pauses = delays, leases, timeouts, pauses
 
 
-# Where the clock stands, every duration but 0 is without end.
+# If the clock stands still, every duration except 0 is endless.
 STILL = Times(delays=(0,) * 9 + (1, 5, 100, 2**32 - 1), leases=(0, 1, 2) + (9,) * 9 + (100, 2**32 - 1),
               timeouts=(0,), pauses=(0, 0, 0, 1, 60, 2**32 - 1))
 
 
 class Chooser:
-    """Chooses input by a generator of random numbers."""
+    """Chooses input with a generator of random numbers."""
 
     def __init__(self, random, times, weights=None, tubes=TUBES):
         self.random, self.times, self.tubes = random, times, tubes
@@ -44,7 +44,7 @@ class Chooser:
         self.words, self.weights = list(weights), list(weights.values())
 
     def command(self, machine, number):
-        """A well-formed command of the seat, with the body of a put."""
+        """Returns a well-formed command of the seat, with the body of a put."""
         seat = machine.seats[number]
         word = self.random.choices(self.words, self.weights)[0]
         if word == b"put":
@@ -67,7 +67,7 @@ class Chooser:
         return b" ".join(words) + b"\r\n"
 
     def with_own(self, job):
-        """A command of the job's holder about it."""
+        """Returns a command of the job's holder about the job."""
         pri, delay = self.random.choice(PRIORITIES), self.random.choice(self.times.delays)
         return self.random.choice((
             b"release %d %d %d\r\n" % (job.id, pri, delay), b"bury %d %d\r\n" % (job.id, pri),
@@ -75,12 +75,13 @@ class Chooser:
         ))
 
     def put(self, body):
-        """A put with this body."""
+        """Returns a put with this body."""
         numbers = self.random.choice(PRIORITIES), self.random.choice(self.times.delays), self.random.choice(self.times.leases), len(body)
         return b"put %d %d %d %d\r\n" % numbers + body + b"\r\n"
 
     def body(self, largest):
-        """A body: mostly short, now and then with line ends in it or as long as may be, or a little longer."""
+        """Returns a body, mostly short. Now and then it contains line ends, or has the largest size or a little more.
+        """
         kind = self.random.random()
         if kind < 0.02:
             return b"x" * (largest + self.random.choice((0, 0, 1, 2)))
@@ -89,7 +90,7 @@ class Chooser:
         return bytes(self.random.choice(b"ab\r\n \0\xff") for _ in range(min(largest, self.random.choice((0, 1, 1, 2, 3, 9)))))
 
     def job_id(self, machine, seat, word):
-        """The number of a job that fits, or of one that doesn't, or of none."""
+        """Returns the id of a job that fits, of one that doesn't, or of none."""
         states = FITTING[word]
         own = [it.id for it in machine.held_by(seat)] if RESERVED in states else []
         fitting = [it.id for it in machine.jobs.values() if it.state in states]
@@ -100,14 +101,14 @@ class Chooser:
         return self.random.choice((0, 1, machine.next_id, 2**32, 2**64 - 1))
 
     def tube(self):
-        """A tube: seldom one that nobody else has."""
+        """Returns a tube, seldom one that no other client uses."""
         if self.random.random() < 0.05:
             size = self.random.choice((1, 5, 199, 200))
             return b"a" + bytes(self.random.choice(NAME_BYTES) for _ in range(size - 1))
         return self.random.choice(self.tubes)
 
     def bad(self, command):
-        """A line that isn't well formed, or bytes that are nearly a command."""
+        """Returns a line that isn't well formed, or bytes that are nearly a command."""
         line = command.partition(b"\r\n")[0]
         first = line.partition(b" ")[0]
         size = self.random.choice((LONGEST_LINE - 1, LONGEST_LINE, LONGEST_LINE + 1, LONGEST_LINE + 2, 1000, 5000))
@@ -125,7 +126,7 @@ class Chooser:
         return self.random.choice(choices) + b"\r\n"
 
     def bad_put(self, largest):
-        """A put whose body is too big or doesn't end as it must, or whose line is long by zeros."""
+        """Returns a put whose body is too big or has a wrong end, or whose line is long because of zeros."""
         kind = self.random.randrange(4)
         if kind == 0:
             body = b"x" * (largest + self.random.choice((1, 2, 3)))
@@ -138,14 +139,14 @@ class Chooser:
         return b"put 0 0 9 %d\r\n" % (largest + 1) + b"y" * (largest + 1) + b"XY"
 
     def spoiled(self, command):
-        """A command with one byte taken out, put in or changed."""
+        """Returns a command with one byte removed, inserted or changed."""
         place = self.random.randrange(len(command))
         byte = bytes([self.random.choice(b"\r\n 0 9ax-")])
         kind = self.random.randrange(3)
         return command[:place] + (b"" if kind == 0 else byte) + command[place + (kind != 1):]
 
     def text(self, machine, number):
-        """What a client may send next: mostly a command."""
+        """Returns what a client may send next, mostly a command."""
         command, kind = self.command(machine, number), self.random.random()
         if kind < 0.82:
             return command
@@ -158,7 +159,7 @@ class Chooser:
         return self.spoiled(command)
 
     def cuts(self, text):
-        """The text in pieces."""
+        """Returns the text in pieces."""
         many = min(len(text), self.random.choice((1, 3, 8, 20)))
         places = sorted({0, len(text), *(self.random.randrange(len(text) + 1) for _ in range(many))})
         return [text[a:b] for a, b in zip(places, places[1:])]

@@ -1,11 +1,11 @@
-"""The two engines of `bqd`: what serves its connections."""
+"""The two engines of `bqd`, which serve its connections."""
 
-# The words that choose each: a thread for each connection, or one thread for all.
+# The options that select each: a thread for each connection, or one thread for all.
 ENGINES = {"threads": [], "event-loop": ["--event-loop"]}
 
 
 class Engine(str):
-    """The path of `bqd`, with the words that choose one of its engines."""
+    """The path of `bqd`, with the options that select one of its engines."""
 
     def __new__(cls, path, name="threads"):
         made = super().__new__(cls, path)
@@ -22,7 +22,7 @@ class Engine(str):
 
 
 def engines_of(path, name=None):
-    """The program by each of its engines, or by this one alone."""
+    """Returns the program with each of its engines, or with this one only."""
     return [Engine(path, it) for it in ENGINES if name in (None, it)]
 
 
@@ -39,5 +39,5 @@ def of_loop(run):
 
 
 def add_choice(parser):
-    """Lets a command line choose one engine."""
+    """Adds an option that selects one engine."""
     parser.add_argument("--engine", choices=sorted(ENGINES), help="one of the two engines of bqd; both, unless given")

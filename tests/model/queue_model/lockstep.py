@@ -1,11 +1,10 @@
 """Many clients of `bqd`, one command at a time, so that the order of the steps is known.
 
-The server's clock is the machine's, so nothing may hang on milliseconds: the moments at which something
-happens by itself lie more than SLACK apart, nobody sends while one of them is nearer than SLACK, and an
-answer that takes longer than SLACK makes the run one that can't be judged, and so do statistics that are
-told only when what they have to say has passed. A client that goes while its reserve waits is noticed a second later
-at most, and what comes of it is of the moment at which it was. Ages and times left are told in
-whole seconds, and may be off by one.
+The server's clock is also the machine's, so nothing may depend on milliseconds. The moments at which something happens
+by itself are more than SLACK apart, and no client sends while one of them is nearer than SLACK. A run can't be judged
+if an answer takes longer than SLACK, or if statistics are received only after the moment that they depend on. If a
+client disconnects while its reserve waits, the server notices within a second; the effect counts from the moment at
+which it noticed. Ages and times left are in whole seconds, and may be off by one.
 """
 import random
 import re
@@ -20,14 +19,14 @@ from .machine import PLAIN, RESERVED
 from .reader import requests_of
 
 SLACK = 350  # milliseconds
-GONE = 1100  # milliseconds: so late a client that has gone while its reserve waits may be noticed
-NEAR = 100000  # what lies further ahead doesn't come while a run lasts
+GONE = 1100  # milliseconds: how late a client that disconnected while its reserve waits may be noticed
+NEAR = 100000  # what is further ahead doesn't happen during a run
 TICKS_AHEAD = 8
 SHRINK_ANSWER_SECONDS = 2
 RUN_SECONDS = 60
 SHRINK_SECONDS = 60
-MANY = 100  # so many clients choose among more tubes
-STEADY = 0  # a client that never waits nor goes: it asks what others can't tell
+MANY = 100  # this many clients choose among more tubes
+STEADY = 0  # a client that never waits or leaves: it queries what others can't
 
 LONG = 1000
 TIMED = Times(delays=(0,) * 12 + (1, 2, LONG, LONG), leases=(LONG,) * 12 + (1, 2, 3),
@@ -36,8 +35,8 @@ FEW_JOBS = {b"put": 18, b"delete": 20, b"use": 5, b"pause-tube": 3}  # so that m
 HEAD = re.compile(rb"(RESERVED \d+|FOUND \d+|OK) (\d+)")
 ABOUT = re.compile(rb"^(age|time-left|pause-time-left): (\d+)$")
 
-# One thing that happens: open, ask (with pieces of bytes), shut (the client sends no more, with bytes before),
-# drop (the client is gone), rest (until the next moment), control (with bytes).
+# One action: open, ask (with pieces of bytes), shut (the client sends no more, with bytes before), drop (the client
+# disconnects), rest (until the next moment), control (with bytes).
 Action = namedtuple("Action", "kind client pieces")
 
 
@@ -46,15 +45,15 @@ class Differs(Exception):
 
 
 class Unclear(Exception):
-    """An answer took so long, or two moments came to lie so near, that nothing can be said."""
+    """An answer took so long, or two moments came so close to each other, that the run can't be judged."""
 
 
 class Left(Exception):
-    """An action that means nothing now, or would hang on milliseconds."""
+    """An action that means nothing now, or would depend on milliseconds."""
 
 
 def alike(wanted, got):
-    """Whether two answers are the same, but for a second more or less in ages and times left."""
+    """Returns true if two answers are equal, except for a second more or less in ages and times left."""
     if wanted == got:
         return True
     ours, theirs = wanted.split(b"\n"), got.split(b"\n")
@@ -74,7 +73,7 @@ class Client:
         self.number, self.connection, self.kept = number, connection, b""
 
     def more(self, until):
-        """Reads what has come. False at the end of the connection."""
+        """Reads what has arrived. Returns false at the end of the connection."""
         ready, _, _ = select.select([self.connection], [], [], max(0, until - time.monotonic()))
         if not ready:
             raise Differs("client %d: nothing came; it has %s" % (self.number, report.told(self.kept)))
@@ -86,7 +85,7 @@ class Client:
         return bool(piece)
 
     def whole_answer(self):
-        """Takes the first whole answer out of what has come, or gives None."""
+        """Removes and returns the first complete answer from what has arrived, or None."""
         end = self.kept.find(b"\r\n")
         if end < 0:
             return None
@@ -98,7 +97,7 @@ class Client:
         return answer
 
     def answer(self, wanted, until):
-        """Reads an answer and holds it to the one that is wanted."""
+        """Reads an answer and compares it with the wanted one."""
         got = self.whole_answer()
         while got is None:
             try:
@@ -113,7 +112,7 @@ class Client:
             raise Differs("client %d: differs %s" % (self.number, report.apart(wanted, got)))
 
     def ends(self, until):
-        """Holds the connection to end now, with nothing more said."""
+        """Checks that the connection ends now without further bytes."""
         while self.more(until):
             pass
         if self.kept:
@@ -138,11 +137,12 @@ class Run:
 
     @staticmethod
     def coming(machine):
-        """The moments that lie ahead and near, in their order."""
+        """Returns the moments that are ahead and near, in order."""
         return sorted(it for it in machine.moments() if machine.now < it < machine.now + NEAR)
 
     def is_spaced(self, trial):
-        """Whether the moments lie apart that may come by themselves, also by what the first of them bring. The trial goes on."""
+        """Returns true if the moments at which something may happen by itself are far enough apart, including those
+        that result from the first of them. Advances `trial`."""
         for _ in range(TICKS_AHEAD):
             ahead = self.coming(trial)
             if any(b - a <= SLACK for a, b in zip(ahead, ahead[1:])):
@@ -153,7 +153,7 @@ class Run:
         return True
 
     def pass_moments(self):
-        """Waits past each moment that is near, and reads what comes of it."""
+        """Waits past each moment that is near, and reads the answers that result."""
         while True:
             now, ahead = self.now(), self.coming(self.machine)
             self.looked_at = now
@@ -173,30 +173,30 @@ class Run:
             self.hold_to_be_in_time()
 
     def hold_to_be_in_time(self):
-        """Since time was looked at, no more of it may have passed than lies before the next moment."""
+        """Checks that less time has passed since the last reading than there is before the next moment."""
         if self.now() - self.looked_at > SLACK:
             raise Unclear("an answer took longer than %d ms" % SLACK)
 
     # -- actions ----------------------------------------------------------------------------------
 
     def judged(self, happens, *of):
-        """Lets something happen, and holds what comes of it to the machine."""
+        """Lets something happen, and compares the result with the machine."""
         try:
             happens(*of)
         except Differs:
-            # What was answered late may be another answer; where nothing came at all, that isn't why.
+            # A late answer may be a different one; if none came at all, that is not the reason.
             if SLACK < self.now() - self.looked_at < 1000 * self.patience:
                 raise Unclear("another answer took longer than %d ms" % SLACK)
             raise
         self.hold_to_be_in_time()
 
     def play(self, action):
-        """Does an action. What means nothing now is Left."""
+        """Carries out an action. Raises Left if it means nothing now."""
         self.judged(self.pass_moments)
         self.judged(getattr(self, "do_" + action.kind), action)
 
     def is_asking(self, number):
-        """Whether a client is connected and doesn't wait."""
+        """Returns true if a client is connected and doesn't wait."""
         return number in self.clients and not self.machine.seats[number].is_waiting()
 
     def do_open(self, action):
@@ -208,7 +208,8 @@ class Run:
         self.exchange(number, [b"list-tube-used\r\n"])
 
     def hold_to_mean_something(self, action):
-        """Holds an action to have whole requests alone, none of them behind one that waits. It is tried on a copy of the machine."""
+        """Checks that an action consists of complete requests, none of them after one that waits. It is tried on a copy
+        of the machine."""
         if not self.is_asking(action.client):
             raise Left()
         requests, rest = requests_of(b"".join(action.pieces), self.settings.max_job_size)
@@ -230,7 +231,7 @@ class Run:
         self.exchange(action.client, action.pieces)
 
     def exchange(self, number, pieces):
-        """A client sends requests, and everybody reads what is answered."""
+        """A client sends requests, and all clients read the answers."""
         requests, _ = requests_of(b"".join(pieces), self.settings.max_job_size)
         self.hold_to_be_in_time()
         began = self.now()
@@ -244,22 +245,23 @@ class Run:
         if requests[-1].command == b"quit":
             self.close(number, began)
         elif self.machine.seats[number].is_waiting():
-            # Nothing tells its client that it waits: only the count of those that do.
+            # A client gets no sign that it waits; only the count of waiting clients shows it.
             self.until_statistics(b"current-waiting: %d\n" % sum(it.is_waiting() for it in self.machine.seats.values()))
 
     def close(self, number, began):
-        """The server closes the connection of a client, and its jobs go on."""
+        """The server closes the connection of a client, and its jobs become ready again."""
         answers = self.machine.step(began, number, "close")
         self.clients.pop(number).ends(time.monotonic() + self.patience)
         self.gather(answers)
 
     def is_calm(self):
-        """Whether nothing happens by itself before a client must have been noticed that goes now while it waits."""
+        """Returns true if nothing happens by itself before the server must have noticed a client that disconnects now
+        while it waits."""
         ahead = self.coming(self.machine)
         return not ahead or ahead[0] > self.now() + GONE + SLACK
 
     def hold_to_leave(self, number, ends):
-        """Holds a client's leaving to be one that means something now."""
+        """Checks that it makes sense now for a client to leave."""
         if number not in self.clients or number == STEADY:
             raise Left()
         if self.machine.seats[number].is_waiting() and not self.is_calm():
@@ -282,7 +284,7 @@ class Run:
         self.shut(number, began)
 
     def shut(self, number, began):
-        """A client sends no more. Where its reserve waits, that is noticed later: when something comes to it."""
+        """A client sends no more. If its reserve waits, the server notices that later, when something is due for it."""
         connection = self.clients[number].connection
         is_waiting = self.machine.seats[number].is_waiting()
         connection.shutdown(socket.SHUT_WR)
@@ -293,7 +295,7 @@ class Run:
         self.close(number, began)
 
     def noticed(self, began):
-        """A client that went at that moment while it waited is noticed now. Time is looked at anew."""
+        """The server now notices a client that left at that moment while it waited. The time is read again."""
         now = self.now()
         if now - began > GONE:
             raise Unclear("a client that had gone was noticed after more than %d ms" % GONE)
@@ -318,7 +320,7 @@ class Run:
             self.until_statistics(left)
 
     def until_statistics(self, line):
-        """The steady client asks for statistics until they have a line."""
+        """The steady client requests statistics until they contain a line."""
         until = time.monotonic() + self.patience
         ahead = self.coming(self.machine)
         while True:
@@ -338,7 +340,7 @@ class Run:
                 raise Differs("statistics don't come to have %r: %s" % (line, report.told(got)))
 
     def do_rest(self, _action):
-        """Waits for the next moment, where it comes soon."""
+        """Waits for the next moment, if it comes soon."""
         ahead = self.coming(self.machine)
         if not ahead or ahead[0] > self.now() + 4000:
             raise Left()
@@ -353,20 +355,22 @@ class Run:
             self.until_statistics(b"draining: true\n")
 
     def leave(self, number):
-        """A client leaves. The steady one, which is the last, asks before what is left."""
+        """A client leaves. The steady one, which is the last, first asks what is left."""
         began = self.now()
         if number == STEADY:
             self.exchange(STEADY, [b"stats\r\nlist-tubes\r\nstats-tube default\r\n"])
         self.shut(number, began)
 
     def calm_down(self):
-        """Lets pass what happens by itself before a client that goes now while it waits must have been noticed."""
+        """Lets pass what happens by itself before the server must have noticed a client that disconnects now while it
+        waits."""
         self.pass_moments()
         while not self.is_calm():
             self.do_rest(None)
 
     def finish(self):
-        """All clients leave, those first that wait, and the steady one last; what everybody was written is then known whole."""
+        """All clients leave, first those that wait, and last the steady one. Then everything that the clients received
+        is known."""
         for number in sorted(self.clients, key=lambda it: (it == STEADY, not self.machine.seats[it].is_waiting())):
             self.judged(self.calm_down if self.machine.seats[number].is_waiting() else self.pass_moments)
             self.judged(self.leave, number)
@@ -375,7 +379,7 @@ class Run:
 
 
 class Script:
-    """Chooses actions along the machine."""
+    """Chooses actions that fit the machine."""
 
     def __init__(self, seed, clients):
         self.random = random.Random(seed)
@@ -383,22 +387,22 @@ class Script:
         self.clients = clients
 
     def wait(self):
-        """A reserve that mostly waits: it is what many clients are about."""
+        """A reserve that mostly waits, which is the purpose of many clients."""
         return self.random.choice((
             b"reserve\r\n", b"reserve\r\n", b"reserve-with-timeout 1\r\n", b"reserve-with-timeout 2\r\n", b"reserve-with-timeout 1000\r\n",
         ))
 
     def soon(self):
-        """Something that goes on by itself in a second or two."""
+        """Something that ends by itself in a second or two."""
         return self.random.choice((
             b"put 0 1 1000 0\r\n\r\n", b"put 7 2 1000 1\r\nd\r\n", b"put 3 0 3 1\r\nm\r\n",
             b"pause-tube default 1\r\n", b"pause-tube a 2\r\n",
-            # its lease begins at once, where it is the least job that the client may have
+            # its lease begins at once if it is the least job that the client may have
             b"put 0 0 2 1\r\nl\r\nreserve-with-timeout 0\r\n", b"put 0 0 3 1\r\nl\r\nreserve-with-timeout 0\r\n",
         ))
 
     def next(self, run):
-        """The next action."""
+        """Returns the next action."""
         number, kind = self.random.randrange(self.clients), self.random.random()
         if number not in run.clients:
             return Action("open", number, [])
@@ -411,7 +415,7 @@ class Script:
         if kind < 0.085:
             return Action("control", number, [self.random.choice((b"drains\n", b" drain\n", b"DRAIN\n", b"\n", b"drain\r\n"))])
         if run.machine.seats[number].is_waiting():
-            # Who waits is asked nothing: another one puts or gives a job back.
+            # A waiting client can't make requests: another client puts or releases a job.
             number = self.random.choice([it for it in run.clients if run.is_asking(it)])
         if kind < 0.28:
             return Action("ask", number, [self.wait()])
@@ -428,14 +432,15 @@ class Script:
 
 
 def one_run(program, rules, settings, clients, next_action, patience=programs.PATIENCE):
-    """One run over the actions that `next_action` gives, until it gives None.
+    """Runs the actions that `next_action` returns, until it returns None.
 
-    It returns the actions, how many commands were asked, and what differed."""
+    It returns the actions, how many commands were sent, and what differed.
+    """
     done = []
     with programs.Server(program, clients, settings) as server:
         run = Run(server, rules, settings, patience)
         try:
-            # A new server's clock stands a little before ours; nothing hangs on that.
+            # A new server's clock is slightly behind ours; nothing depends on that.
             for number in range(min(clients, 8)):
                 run.play(Action("open", number, []))
             until = time.monotonic() + RUN_SECONDS
@@ -460,13 +465,13 @@ def one_run(program, rules, settings, clients, next_action, patience=programs.PA
 
 
 def replayed(actions):
-    """The same actions one after another."""
+    """Returns the same actions one after another."""
     left = iter(actions)
     return lambda run: next(left, None)
 
 
 def chosen(script, many):
-    """So many actions of a script; in half of all scripts the server drains towards the end."""
+    """Returns this many actions of a script; in half of all scripts the server drains towards the end."""
     drain_at = script.random.choice((many * 3 // 4, None))
     left = iter(range(many))
 
@@ -480,7 +485,7 @@ def chosen(script, many):
 
 
 def made_settings(seed, known):
-    """The settings of a run, of what the program knows."""
+    """Returns the settings of a run, among those that the program supports."""
     chance = random.Random("settings %s" % seed)
     jobs = chance.choice((None, 3, 40)) if "--max-jobs" in known else None
     delay = chance.choice((0, 1, 2, LONG)) if "--requeue-delay" in known else 0
@@ -488,7 +493,7 @@ def made_settings(seed, known):
 
 
 def lockstep(program, known, rules, seed, clients, many, will_shrink=True, tries=3):
-    """One run of many actions. One that can't be judged is made again with another seed."""
+    """Runs many actions once. A run that can't be judged is repeated with another seed."""
     settings, name, unclear = made_settings(seed, known), "%d clients" % clients, ""
     for again in range(tries):
         script = Script("%s/%d" % (seed, again), clients)
@@ -509,7 +514,7 @@ def lockstep(program, known, rules, seed, clients, many, will_shrink=True, tries
 
 
 def shorter(program, rules, settings, clients, done, told):
-    """Fewer actions that still show a difference, with what it is then."""
+    """Returns fewer actions that still show a difference, with that difference."""
     last = [told]
 
     def differs(actions):

@@ -13,19 +13,18 @@ URGENT_BELOW = 1024
 
 READY, DELAYED, RESERVED, BURIED = "ready", "delayed", "reserved", "buried"
 
-# What is chosen at the start: the largest body, the most jobs (None: no limit), and after how many
-# seconds the jobs of a lost connection are ready again.
+# The settings: the largest body, the most jobs (None: no limit), and the requeue delay in seconds.
 Settings = namedtuple("Settings", "max_job_size max_jobs requeue_delay")
 PLAIN = Settings(max_job_size=65535, max_jobs=None, requeue_delay=0)
 
 
 def later(moment, seconds):
-    """The moment so many seconds later."""
+    """Returns the moment `seconds` later."""
     return min(moment + 1000 * seconds, GREATEST)
 
 
 def raised(count):
-    """A count that grew by one."""
+    """Returns a count that grew by one."""
     return min(count + 1, GREATEST)
 
 
@@ -42,7 +41,7 @@ class Job:
         self.make_ready()
 
     def copy(self):
-        """The same job by itself."""
+        """Returns a copy of the job."""
         other = object.__new__(Job)
         for slot in self.__slots__:
             setattr(other, slot, getattr(self, slot))
@@ -58,14 +57,14 @@ class Job:
         self._set(DELAYED, until=until)
 
     def make_ready_after(self, now, delay):
-        """Ready, or delayed where the delay isn't 0."""
+        """Makes the job ready, or delayed if the delay isn't 0."""
         if delay == 0:
             self.make_ready()
         else:
             self.make_delayed(later(now, delay))
 
     def reserve(self, seat, now):
-        """Reserved by a seat from now on."""
+        """Reserves the job for a seat from now on."""
         self._set(RESERVED, until=later(now, self.ttr), holder=seat)
         self.reserves = raised(self.reserves)
 
@@ -74,7 +73,7 @@ class Job:
 
 
 class Seat:
-    """A place for one connection. It waits where it has a ticket."""
+    """The place of one connection at a time. Its client waits if it has a ticket."""
 
     def __init__(self, number):
         self.number = number
@@ -85,7 +84,7 @@ class Seat:
         self.ended = False
 
     def copy(self):
-        """The same seat by itself."""
+        """Returns a copy of the seat."""
         other = Seat(self.number)
         other.__dict__.update(self.__dict__)
         other.watched = list(self.watched)
@@ -99,14 +98,14 @@ class Seat:
 
 
 class Tube:
-    """What is kept of a tube: its counts, and its pause as it was asked with its end."""
+    """What is kept of a tube: its counts, and its pause as requested, with its end."""
 
     def __init__(self):
         self.total_jobs = self.deletes = self.pauses = 0
         self.pause, self.pause_end = 0, None
 
     def copy(self):
-        """The same tube by itself."""
+        """Returns a copy of the tube."""
         other = Tube()
         other.__dict__.update(self.__dict__)
         return other
@@ -127,7 +126,7 @@ class Machine:
         self.is_draining = False
 
     def copy(self):
-        """The same machine by itself, to try a step on."""
+        """Returns a copy of the machine, to try a step on."""
         other = object.__new__(type(self))
         other.__dict__.update(self.__dict__)
         other.jobs = {number: job.copy() for number, job in self.jobs.items()}
@@ -138,7 +137,7 @@ class Machine:
     # -- a step -----------------------------------------------------------------------------------
 
     def step(self, moment, seat, event, request=None):
-        """One step. It returns the answers as pairs of a seat's number and an answer, in their order.
+        """Takes one step. It returns the answers as pairs of a seat's number and an answer, in order.
 
         The event is connect, ask (with a request), end, close, drain or tick.
         """
@@ -150,7 +149,7 @@ class Machine:
         return answers
 
     def ripen(self):
-        """Delays, leases and pauses that are over."""
+        """Ends delays, leases and pauses that are due."""
         for job in self.jobs.values():
             if job.state == DELAYED and job.until <= self.now:
                 job.make_ready()
@@ -163,12 +162,12 @@ class Machine:
         return []
 
     def count_timeout(self, job):
-        """A lease ended without its holder's word."""
+        """A lease expired."""
         job.timeouts = raised(job.timeouts)
         self.job_timeouts = raised(self.job_timeouts)
 
     def settle(self):
-        """Ready jobs go to who waits for them."""
+        """Hands ready jobs out to waiting clients."""
         answers = []
         while True:
             waiting = [seat for seat in self.seats.values() if seat.is_waiting()]
@@ -183,7 +182,7 @@ class Machine:
             answers.append((seat.number, texts.reserved(job)))
 
     def lapse(self):
-        """Waits that end without a job."""
+        """Ends waits without a job."""
         answers = []
         for seat in sorted((it for it in self.seats.values() if it.is_waiting()), key=self.wait_rank):
             if any(job.until - self.now <= SOON for job in self.held_by(seat)):
@@ -197,7 +196,7 @@ class Machine:
         return answers
 
     def act(self, number, event, request):
-        """What the event itself does."""
+        """The effect of the event itself."""
         seat = self.seats.get(number)
         if event == "drain":
             self.is_draining = True
@@ -215,22 +214,22 @@ class Machine:
         return []
 
     def give_back(self, seat):
-        """The jobs of a connection that is gone."""
+        """Makes the jobs of a closed connection ready or delayed."""
         for job in self.held_by(seat):
             job.make_ready_after(self.now, self.settings.requeue_delay)
 
     # -- what holds of the machine now ------------------------------------------------------------
 
     def rank(self, job):
-        """The place of a ready job: the least is first."""
+        """The place of a ready job: the least goes first."""
         return job.pri, job.id
 
     def wait_rank(self, seat):
-        """The place of a waiting seat: the least is first."""
+        """The place of a waiting seat: the least goes first."""
         return seat.ticket, seat.number
 
     def looks_in(self, seat):
-        """The tubes that a reserve of the seat takes jobs from."""
+        """The tubes from which a reserve of the seat takes jobs."""
         return seat.watched
 
     def is_paused(self, name):
@@ -250,7 +249,7 @@ class Machine:
         return [job for job in self.jobs.values() if job.state == RESERVED and job.holder == seat.number]
 
     def jobs_in(self, name, state):
-        """The jobs of a tube that are of a state, the first of them first."""
+        """The jobs of a tube in a state, in order."""
         order = {READY: self.rank, DELAYED: lambda job: (job.until, job.id), BURIED: lambda job: (job.burial, job.id)}
         return sorted((it for it in self.jobs.values() if it.tube == name and it.state == state), key=order[state])
 
@@ -267,11 +266,11 @@ class Machine:
         return sorted(names)
 
     def kept(self, name):
-        """What is kept of a tube, for a change."""
+        """The record of a tube, for a change."""
         return self.tubes.setdefault(name, Tube())
 
     def forget_tubes(self):
-        """A tube that is gone takes its counts and its pause with it."""
+        """Forgets the counts and pauses of tubes that no longer exist."""
         for name in set(self.tubes).difference(self.tube_names()):
             del self.tubes[name]
 
@@ -281,14 +280,14 @@ class Machine:
         return job if job is not None and job.state == RESERVED and job.holder == seat.number else None
 
     def moments(self):
-        """A list of each moment at which something may happen by itself, or another answer be given."""
+        """All moments at which something may happen by itself, or an answer may change."""
         found = [job.until for job in self.jobs.values() if job.until is not None]
         found += [job.until - SOON for job in self.jobs.values() if job.state == RESERVED]
         found += [seat.until for seat in self.seats.values() if seat.until is not None]
         return found + [tube.pause_end for tube in self.tubes.values() if tube.pause_end is not None]
 
     def next_due(self):
-        """The least moment before which a tick changes nothing, or None."""
+        """The earliest moment before which a tick changes nothing, or None."""
         found = [job.until for job in self.jobs.values() if job.until is not None]
         found += [tube.pause_end for tube in self.tubes.values() if tube.pause_end is not None]
         for seat in self.seats.values():
@@ -300,7 +299,7 @@ class Machine:
     # -- the commands -----------------------------------------------------------------------------
 
     def asked(self, seat, request):
-        """Carries a command out and returns its answer, or None where it has none yet."""
+        """Carries out a command. Returns its answer, or None if it has none yet."""
         if request.command == b"refused":
             return texts.plain(request.arguments[0])
         method = "do_" + request.command.decode().replace("-", "_")
@@ -354,7 +353,7 @@ class Machine:
         return texts.plain(b"RELEASED")
 
     def released(self, job):
-        """Behind each release: the job stays the one that it is."""
+        """Called after each release: the job stays the same one."""
 
     def do_bury(self, seat, number, pri):
         job = self.own(seat, number)
@@ -373,7 +372,7 @@ class Machine:
         return texts.plain(b"TOUCHED")
 
     def kicked_first(self, name):
-        """The jobs of a tube that a kick takes from, the first first."""
+        """The jobs of a tube that a kick would take, in order."""
         return self.jobs_in(name, BURIED) or self.jobs_in(name, DELAYED)
 
     def do_kick(self, seat, bound):
@@ -453,4 +452,4 @@ class Machine:
         return texts.names(sorted(seat.watched))
 
     def do_quit(self, _seat):
-        """Nothing: the line's close follows."""
+        """Does nothing: the line's close follows."""

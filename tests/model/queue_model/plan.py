@@ -1,4 +1,4 @@
-"""What is run, in how many processes, and what is told of it."""
+"""What is run, in how many processes, and what is reported."""
 import concurrent.futures
 import multiprocessing
 import time
@@ -17,16 +17,17 @@ BESIDE, BESIDE_CLIENTS = 3, 64
 SOAKS, SOAK_SECONDS = 2, 10
 TUBES = 10_000
 PROCESSES = 5
-LATE_TRIES = 4  # for the runs that couldn't be judged, once all others are done: a machine is held up for a minute, not for ever
+LATE_TRIES = 4  # for runs that couldn't be judged, after all others: a machine is slow for a minute, not for ever
 
 
 def pool():
-    """Processes that wait most of the time: more than there are processors."""
+    """Returns a pool of processes. They mostly wait, so there are more than processors."""
     return concurrent.futures.ProcessPoolExecutor(PROCESSES, mp_context=multiprocessing.get_context("fork"))
 
 
 def round_of(bq, bqds, known, rules, seed, one_in=1):
-    """The calls of a round, or one in so many of each kind, those of bqd by each of its engines. What takes longest comes first."""
+    """Returns the calls of a round, or one in so many of each kind, those of bqd with each of its engines. The longest
+    come first."""
     def some(many):
         return range(-(-many // one_in))
 
@@ -44,7 +45,7 @@ def is_unjudged(report):
 
 
 def made(processes, calls, keep):
-    """Makes these calls. The reports are kept, but of runs that couldn't be judged, whose calls are given back."""
+    """Makes these calls. Keeps their reports, except those of runs that couldn't be judged, whose calls it returns."""
     started = {processes.submit(*it): it for it in calls}
     left = []
     for ended in concurrent.futures.as_completed(started):
@@ -56,7 +57,7 @@ def made(processes, calls, keep):
 
 
 def made_with_patience(processes, calls, keep):
-    """Makes these calls, and those again whose runs couldn't be judged."""
+    """Makes these calls, and repeats those whose runs couldn't be judged."""
     left = made(processes, calls, keep)
     for _ in range(LATE_TRIES):
         if left:
@@ -70,7 +71,8 @@ def options_known(bq, bqd):
 
 
 def whole_run(bq, bqds, seed, minutes, rules, one_in=1):
-    """Rounds, or so small a part of each, until the minutes are over, one at least. It returns all reports, which it tells as they come."""
+    """Runs rounds, or a part of each, until the minutes are over, at least one. Prints all reports as they come, and
+    returns them."""
     begun, known, reports = time.monotonic(), options_known(bq, bqds[0]), []
 
     def keep(it):
@@ -90,7 +92,7 @@ def whole_run(bq, bqds, seed, minutes, rules, one_in=1):
 
 
 def summed(reports):
-    """A line for each kind of report."""
+    """Returns a line for each kind of report."""
     lines = []
     for name in dict.fromkeys(it.name for it in reports):
         some = [it for it in reports if it.name == name]
@@ -102,7 +104,7 @@ def summed(reports):
 
 
 def finds(bq, bqd, known, name, seed):
-    """Where a broken machine is found to differ: the place and the seconds that it took, or None."""
+    """Returns where a broken machine is found to differ, and after how many seconds, or None."""
     rules, begun = BROKEN[name], time.monotonic()
     found = sessions.batch(bq, known["bq"], rules, "%s/%s" % (seed, name), 30, will_shrink=False)
     for at in range(12):
@@ -114,7 +116,7 @@ def finds(bq, bqd, known, name, seed):
 
 
 def self_check(bq, bqd, seed):
-    """Each broken machine has to be found. It returns how many were and how many weren't."""
+    """Checks that each broken machine is found. Returns how many were found and how many weren't."""
     known, passed, failed = options_known(bq, bqd), 0, 0
     with pool() as processes:
         calls = {name: processes.submit(finds, bq, bqd, known, name, seed) for name in BROKEN}
@@ -126,7 +128,7 @@ def self_check(bq, bqd, seed):
 
 
 def counts(reports):
-    """How many parts passed, and how many failed. Where most runs couldn't be judged, that is a failure."""
+    """Returns how many parts passed and how many failed. If most runs couldn't be judged, that counts as a failure."""
     passed, failed = sum(it.passed for it in reports), sum(it.failed for it in reports)
     runs = [it for it in reports if it.name.endswith("clients")]
     empty = [it for it in runs if is_unjudged(it)]

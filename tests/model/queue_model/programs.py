@@ -1,4 +1,4 @@
-"""Starting the programs, feeding them, and ending them whatever happens."""
+"""Starts the programs, sends them input, and ends them whatever happens."""
 import array
 import fcntl
 import os
@@ -10,22 +10,21 @@ import threading
 import time
 from collections import namedtuple
 
-# For so many seconds nothing comes before a program counts as one that hangs: a machine that other guests hold up may
-# stand still for some.
+# A program that outputs nothing for this many seconds counts as hanging. A virtual machine may stall for some seconds.
 PATIENCE = 30
 
-# What a session of `bq` left: status is None where it had to be ended.
+# The result of a session of `bq`: status is None if it had to be killed.
 Ran = namedtuple("Ran", "status out complaint")
 
 
 def options_of(program):
-    """The options that a program's help names, among those that it may lack."""
+    """Returns which of the optional options a program's help names."""
     ran = subprocess.run([program, "--help"], stdin=subprocess.DEVNULL, stdout=subprocess.PIPE, timeout=30, check=True)
     return {it for it in ("--max-jobs", "--requeue-delay") if it.encode() in ran.stdout}
 
 
 def words_for(settings):
-    """The options that choose these settings."""
+    """Returns the options for these settings."""
     words = ["--max-job-size", str(settings.max_job_size)]
     if settings.max_jobs is not None:
         words += ["--max-jobs", str(settings.max_jobs)]
@@ -35,14 +34,14 @@ def words_for(settings):
 
 
 def unread(pipe):
-    """How many bytes of a pipe weren't read yet."""
+    """Returns how many bytes of a pipe were not read yet."""
     count = array.array("i", [0])
     fcntl.ioctl(pipe, termios.FIONREAD, count)
     return count[0]
 
 
 def feed(started, pieces):
-    """Writes pieces, each once the one before was read, so that the program reads them apart."""
+    """Writes pieces, each after the previous one was read, so that the program reads them separately."""
     try:
         for place, piece in enumerate(pieces):
             started.stdin.write(piece)
@@ -52,7 +51,7 @@ def feed(started, pieces):
                 time.sleep(0)
         started.stdin.close()
     except OSError:
-        # The program ended before its input did, as it does behind a quit.
+        # The program ended before its input did, as it does after a quit.
         try:
             started.stdin.close()
         except OSError:
@@ -60,7 +59,7 @@ def feed(started, pieces):
 
 
 def run_session(program, settings, pieces, seconds):
-    """One session of `bq` whose clock stands still. It is ended after so many seconds."""
+    """Runs one session of `bq` whose clock stands still. It is killed after this many seconds."""
     with tempfile.TemporaryFile() as out, tempfile.TemporaryFile() as complaint:
         words = [program, "--still"] + words_for(settings)
         started = subprocess.Popen(words, stdin=subprocess.PIPE, stdout=out, stderr=complaint)
@@ -80,7 +79,7 @@ def run_session(program, settings, pieces, seconds):
 
 
 class Server:
-    """A running `bqd`, to be used in a with statement."""
+    """A running `bqd`, for use in a with statement."""
 
     def __init__(self, program, seats, settings):
         words = [program, "--listen", "127.0.0.1:0", "--seats", str(seats)] + program.words + words_for(settings)
@@ -113,7 +112,7 @@ class Server:
         self.started.stdin.flush()
 
     def connect(self):
-        """A new connection to it."""
+        """Returns a new connection to it."""
         made = socket.create_connection(self.address, timeout=PATIENCE)
         made.setsockopt(socket.IPPROTO_TCP, socket.TCP_NODELAY, 1)
         return made
@@ -129,7 +128,7 @@ class Server:
 
 
 def found_program(path):
-    """The full path of a program that can be run, or an exit with a word about it."""
+    """Returns the full path of an executable program, or exits with a message."""
     path = os.path.abspath(path)
     if not os.access(path, os.X_OK) or os.path.isdir(path):
         raise SystemExit("model: %s is no program" % path)

@@ -1,18 +1,18 @@
-"""How bytes are read into requests.
+"""The reading of bytes into requests.
 
-It is written over whole texts: what a text holds doesn't hang on how it came in pieces.
+It works on whole texts: what a text contains doesn't depend on the pieces in which it came.
 """
 import re
 from collections import namedtuple
 
 LINE_END = b"\r\n"
-LONGEST_LINE = 222  # without its end
+LONGEST_LINE = 222  # without its CR LF
 
 NUMBER = "number"
 ID = "id"
 TUBE = "tube"
 
-# Each command with the kinds of the words behind it.
+# Each command with the kinds of the words after it.
 COMMANDS = {
     b"put": (NUMBER, NUMBER, NUMBER, NUMBER),
     b"reserve": (),
@@ -45,17 +45,17 @@ LIMITS = {NUMBER: 2**32, ID: 2**64}
 DIGITS = re.compile(rb"[0-9]+")
 TUBE_NAME = re.compile(rb"[A-Za-z0-9+/;.$_()][A-Za-z0-9+/;.$_()-]{0,199}")
 
-# A command with its arguments; `refused` has the refusal's text as its argument.
+# A command with its arguments; the argument of `refused` is the text of the answer.
 Request = namedtuple("Request", "command arguments")
 
 
 def refused(text):
-    """The request that is answered by a refusal of the reader."""
+    """Returns the request that the reader rejected with this answer."""
     return Request(b"refused", (text,))
 
 
 def word_value(kind, word):
-    """What a word stands for, or None where it isn't of its kind."""
+    """Returns the value of a word, or None if it isn't of its kind."""
     if kind == TUBE:
         return word if TUBE_NAME.fullmatch(word) else None
     if not DIGITS.fullmatch(word):
@@ -65,7 +65,7 @@ def word_value(kind, word):
 
 
 def line_request(line):
-    """The request of a line without its end. That of a put has no body yet."""
+    """Returns the request of a line without its CR LF. A put has no body yet."""
     if len(line) > LONGEST_LINE:
         return refused(b"BAD_FORMAT")
     first, *words = line.split(b" ")
@@ -81,7 +81,7 @@ def line_request(line):
 
 
 def first_request(text, max_job_size):
-    """The first whole request of a text and how many bytes it takes, or None."""
+    """Returns the first complete request of a text and its length in bytes, or None."""
     end = text.find(LINE_END)
     if end < 0:
         return None
@@ -100,7 +100,7 @@ def first_request(text, max_job_size):
 
 
 def requests_of(text, max_job_size):
-    """All requests of a text up to the first quit, and the bytes behind them."""
+    """Returns all requests of a text up to the first quit, and the bytes after them."""
     requests = []
     while not requests or requests[-1].command != b"quit":
         found = first_request(text, max_job_size)

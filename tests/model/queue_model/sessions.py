@@ -1,4 +1,4 @@
-"""Random sessions of one client: what `bq --still` writes is what the machine answers, to the byte."""
+"""Random sessions of one client: `bq --still` writes exactly the bytes that the machine answers."""
 import random
 
 from . import programs, report, shrink
@@ -11,7 +11,7 @@ SHRINK_SECONDS = 40
 
 
 def answers_to(rules, settings, text):
-    """What a whole input is answered, and how many requests it has; None where the session would wait without end."""
+    """Returns the answers to a whole input and its number of requests; None if the session would wait for ever."""
     machine, out, asked = rules(settings), [], 0
     machine.step(0, SEAT, "connect")
     requests, rest = requests_of(text, settings.max_job_size)
@@ -26,7 +26,7 @@ def answers_to(rules, settings, text):
 
 
 def made_session(seed, rules, settings):
-    """The texts of a random session, chosen along the machine."""
+    """Returns the texts of a random session, chosen to fit the machine."""
     chance = random.Random(seed)
     chooser, machine, texts, kept = Chooser(chance, STILL), rules(settings), [], b""
     machine.step(0, SEAT, "connect")
@@ -39,7 +39,7 @@ def made_session(seed, rules, settings):
                 trial.step(0, SEAT, "ask", request)
                 waits_at = place if trial.seats[SEAT].is_waiting() else None
         if waits_at is not None:
-            # It can only be the last, with nothing behind it.
+            # It can only be the last request, with nothing after it.
             if not behind and waits_at + 1 == len(requests) and chance.random() < 0.2:
                 return texts + [text]
             continue
@@ -51,7 +51,7 @@ def made_session(seed, rules, settings):
 
 
 def made_settings(seed, known):
-    """The settings of a session, of what the program knows."""
+    """Returns the settings of a session, among those that the program supports."""
     chance = random.Random("settings %s" % seed)
     size = chance.choice((1, 2, 9, 200, 65535, 65535, 65535, 5000, 1048576 if chance.random() < 0.1 else 100))
     jobs = chance.choice((None, 1, 2, 5, 20)) if "--max-jobs" in known else None
@@ -59,7 +59,7 @@ def made_settings(seed, known):
 
 
 def difference(program, rules, settings, pieces, seconds=programs.PATIENCE):
-    """What is told where the program and the rules differ over an input in pieces, else None."""
+    """Returns how the program and the rules differ on an input in pieces, or None."""
     expected = answers_to(rules, settings, b"".join(pieces))
     if expected is None:
         return None
@@ -74,7 +74,7 @@ def difference(program, rules, settings, pieces, seconds=programs.PATIENCE):
 
 
 def one_session(program, known, rules, seed, will_shrink):
-    """One session, whole and in pieces. It returns how many requests it has, and what differed."""
+    """Runs one session, as a whole and in pieces. It returns its number of requests, and what differed."""
     settings = made_settings(seed, known)
     texts = made_session(seed, rules, settings)
     whole = b"".join(texts)
@@ -92,7 +92,8 @@ def one_session(program, known, rules, seed, will_shrink):
 
 
 def in_turn(number):
-    """What is asked of the tube of this number: its one job comes into a state, is looked at, and goes two tubes later."""
+    """Returns the commands for the tube with this number: its only job is put, gets into a state, is looked at, and is
+    deleted two tubes later."""
     tube, body = b"t%d" % number, b"%d" % number
     delay = 100 if number % 4 == 1 else 0
     lines = [b"use " + tube, b"put %d %d 60 %d\r\n%s" % (number % 7, delay, len(body), body), b"watch " + tube]
@@ -103,7 +104,7 @@ def in_turn(number):
 
 
 def tubes_in_turn(program, rules, many):
-    """So many tubes that come and go, each with a job: none is seen in another's tube."""
+    """Runs a session in which many tubes come and go, each with a job: none is seen in another's tube."""
     texts = [in_turn(number) for number in range(1, many + 1)]
     told = difference(program, rules, PLAIN, [b"".join(texts)], 4 * programs.PATIENCE)
     if told:
@@ -112,7 +113,7 @@ def tubes_in_turn(program, rules, many):
 
 
 def batch(program, known, rules, seed, many, will_shrink=True):
-    """Some sessions, up to the first that differs."""
+    """Runs some sessions, up to the first that differs."""
     commands = 0
     for place in range(many):
         asked, told = one_session(program, known, rules, "%s/%d" % (seed, place), will_shrink)

@@ -1,9 +1,9 @@
-"""Finding a shorter list that still shows a difference."""
+"""Finds a shorter list that still shows a difference."""
 import time
 
 
 def shrunk(items, differs, seconds):
-    """Takes out parts of the list as long as `differs` holds of what is left, for at most so many seconds."""
+    """Removes parts of the list as long as `differs` holds for the rest, for at most this many seconds."""
     until = time.monotonic() + seconds
     size = max(len(items) // 2, 1)
     while size:

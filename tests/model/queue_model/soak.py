@@ -1,7 +1,7 @@
-"""Many clients of `bqd` at once, which are cut off at random: no accepted job is lost, none is doubled.
+"""Many clients of `bqd` at once, which are cut off at random: no accepted job is lost, and none is doubled.
 
-Each job's body is unlike all others. A client that was cut off doesn't know what became of its last
-command; everything else is counted exactly.
+All bodies of jobs differ. A client that was cut off doesn't know whether its last command was carried out; everything
+else is counted exactly.
 """
 import random
 import re
@@ -35,7 +35,7 @@ class Book:
 
 
 class Line:
-    """A connection that says one thing and reads its answer."""
+    """A connection that sends one command and reads its answer."""
 
     def __init__(self, server, book):
         self.connection, self.book, self.kept = server.connect(), book, b""
@@ -68,7 +68,7 @@ class Line:
         self.kept += piece
 
     def answer(self):
-        """The words of a head, and the body."""
+        """Returns the words of the answer's head, and its body."""
         while b"\r\n" not in self.kept:
             self.read()
         head = self.up_to(self.kept.index(b"\r\n") + 2)[:-2].split(b" ")
@@ -80,7 +80,7 @@ class Line:
         return self.answer()
 
     def cut_off(self):
-        """Ends the connection hard: what wasn't read or sent is thrown away."""
+        """Resets the connection; data that wasn't read or sent is lost."""
         self.connection.setsockopt(socket.SOL_SOCKET, socket.SO_LINGER, struct.pack("ii", 1, 0))
         self.connection.close()
 
@@ -113,7 +113,7 @@ class Worker(threading.Thread):
             line.cut_off()
 
     def may_cut(self, line, text):
-        """Now and then a part of a command, or the whole without reading its answer, is the last that is sent."""
+        """Now and then, a part of a command, or a command whose answer is not read, is the last that is sent."""
         kind = self.random.random()
         if kind < 0.02:
             line.say(text[:self.random.randrange(len(text))])
@@ -158,7 +158,7 @@ class Worker(threading.Thread):
             return
         number, kind = int(head[1]), self.random.random()
         if kind < 0.1:
-            return  # kept until its lease ends, or this client
+            return  # held until its lease ends, or this client does
         if kind < 0.2:
             text = b"release %d 1 0\r\n" % number
             self.may_cut(line, text)
@@ -182,12 +182,12 @@ class Worker(threading.Thread):
 
 
 def values(text):
-    """The numbers of a text of statistics."""
+    """Returns the numbers in a text of statistics."""
     return {key: int(value) for key, value in re.findall(r"^([a-z-]+): (\d+)$", text.decode(), re.M)}
 
 
 def drained(line, book):
-    """Deletes all that is left, and returns it: ids with bodies."""
+    """Deletes all jobs that are left, and returns them: ids with bodies."""
     left, until = {}, time.monotonic() + programs.PATIENCE
     while time.monotonic() < until:
         head, body = line.ask(b"reserve-with-timeout 1\r\n")
@@ -208,7 +208,7 @@ def drained(line, book):
 
 
 def settle(book, left, server_says, tube_says):
-    """Compares what the clients know with what was left and what the server says."""
+    """Compares what the clients know with what was left and what the server reports."""
     lost = [it for it in book.put if it not in book.maybe_deleted and it not in left]
     if lost:
         book.fault("%d accepted jobs are lost: %r" % (len(lost), sorted(lost)[:10]))
@@ -234,7 +234,7 @@ def settle(book, left, server_says, tube_says):
 
 
 def soak(program, seed, seconds, clients=12):
-    """One soak. Its report counts one, passed or failed."""
+    """Runs one soak. Its report counts one, passed or failed."""
     book = Book()
     with programs.Server(program, clients + 4, PLAIN) as server:
         until = time.monotonic() + seconds

@@ -2,12 +2,12 @@
 
 
 def plain(head):
-    """An answer without a body."""
+    """Returns an answer without a body."""
     return head + b"\r\n"
 
 
 def with_body(head, body):
-    """An answer with a body, also an empty one."""
+    """Returns an answer with a body, possibly an empty one."""
     return b"%s %d\r\n%s\r\n" % (head, len(body), body)
 
 
@@ -16,23 +16,23 @@ def reserved(job):
 
 
 def found(job):
-    """What a peek answers."""
+    """Returns the answer to a peek."""
     return plain(b"NOT_FOUND") if job is None else with_body(b"FOUND %d" % job.id, job.body)
 
 
 def names(tubes):
-    """A list of tubes."""
+    """Returns a list of tubes."""
     return with_body(b"OK", b"---\n" + b"".join(b"- %s\n" % name for name in tubes))
 
 
 def table(rows):
-    """A text of statistics."""
+    """Returns a text of statistics."""
     lines = ["---"] + ["%s: %s" % row for row in rows]
     return with_body(b"OK", "".join(line + "\n" for line in lines).encode())
 
 
 def seconds_until(machine, moment):
-    """Whole seconds from now to a moment, 0 where there is none."""
+    """Returns the whole seconds until a moment; 0 if there is none."""
     return 0 if moment is None else (moment - machine.now) // 1000
 
 
@@ -55,7 +55,7 @@ def job_statistics(machine, job):
 
 
 def job_counts(machine, jobs):
-    """The five counts of jobs by state."""
+    """Returns the five counts of jobs by state."""
     return [("current-jobs-urgent", sum(machine.is_urgent(job) for job in jobs))] + [
         ("current-jobs-" + state, sum(job.state == state for job in jobs))
         for state in ("ready", "reserved", "delayed", "buried")

@@ -1,4 +1,4 @@
-"""Worked sessions and steps with their answers, found by hand. `~` stands for CR LF, `^` for LF."""
+"""Worked sessions and steps with their answers, found by hand. `~` is CR LF, and `^` is LF."""
 from . import programs, report
 from .machine import PLAIN, Machine
 from .reader import requests_of
@@ -86,8 +86,8 @@ SESSIONS = (
      b"INSERTED 1~OUT_OF_MEMORY~RESERVED 1 1~x~OUT_OF_MEMORY~DELETED~INSERTED 2~"),
 )
 
-# What the steps show, the settings, and the steps: a moment, a seat, an event or a command, the answers,
-# and (None: not looked at) the next due moment. All seats have connected at 0.
+# What the steps show, the settings, and the steps: a moment, a seat, an event or a command, the answers, and the next
+# due moment (None: not checked). All seats have connected at 0.
 STEPS = (
     ("a job goes to who waits for its tube", PLAIN, (
         (0, 1, b"watch a~", [(1, b"WATCHING 2~")], None),
@@ -192,7 +192,7 @@ STEPS = (
 
 
 def steps_differ(rules, settings, steps):
-    """What is told where the rules answer worked steps otherwise, else None."""
+    """Returns how the rules answer worked steps differently, or None."""
     machine = rules(settings)
     for seat in range(3):
         machine.step(0, seat, "connect")
@@ -209,7 +209,7 @@ def steps_differ(rules, settings, steps):
 
 
 def rules_alone(rules):
-    """The worked sessions and steps, by the rules alone."""
+    """Runs the worked sessions and steps with the rules alone."""
     passed, notes = 0, []
     for name, settings, text, wanted in SESSIONS:
         given = answers_to(rules, settings, spelled(text))
@@ -224,7 +224,7 @@ def rules_alone(rules):
 
 
 def program_too(program, known):
-    """The worked sessions by the program: whole, and where they are short, byte by byte."""
+    """Runs the worked sessions with the program: as a whole and, if they are short, byte by byte."""
     passed, commands, notes = 0, 0, []
     for name, settings, text, wanted in SESSIONS:
         if settings.max_jobs is not None and "--max-jobs" not in known:
