@@ -1,7 +1,8 @@
-"""What is done with each command that a page shows: it is run beside the given programs, or it is known why not.
+"""What is done with each command that a page shows: it is run with the given programs, or there is a reason not to run
+it.
 
-A rule is a shape of commands and a function that tries one: it answers None where the command was run and did what
-it has to, or the reason for which it isn't run. A command that no rule knows is a fault of the page, or wants a rule.
+A rule is a pattern of commands and a function that tries one. The function returns None if the command was run and did
+what it should, or the reason why it isn't run. A command without a rule is a fault of the page, or needs a rule.
 """
 import contextlib
 import os
@@ -19,29 +20,29 @@ from pages import ROOT
 from programs import PATIENCE
 from servers import Server, free_port
 
-# The port that pages write, that of a second server, and the pipe of the service.
+# The port in the pages, that of a second server, and the pipe of the service.
 PORT = "11300"
 OTHER = "11301"
 CONTROL = "/run/bqd.control"
 
 RULES = []
 
-# The operator's programs, which the package installs beside the server.
+# The operator's programs, which the package installs next to the server.
 OPERATORS = ["bqctl", "bqd-drain", "bqd-top", "bqd-web"]
 
-# First words of a line that is a command. A program's name alone is none.
+# The first words of commands. A program's name on its own is not a command.
 HEADS = """rt tools/build tools/refused_by_prover.py nc telnet systemctl journalctl apt echo bqd bq bqctl bqd-top bqd-drain bqd-web prlimit ulimit
     python3 sed printf packaging/deb.sh promtool curl ssh (cd crates/bqd/out/bqd crates/bq/out/bq bash""".split()
 
 
 def is_command(text):
-    """Whether what stands as code in a sentence is a command."""
+    """Returns true if code in a sentence is a command."""
     words = text.split()
     return text == ".ci/run" or (len(words) > 1 and words[0] in HEADS)
 
 
 def rule(shape):
-    """Puts a function down as what tries the commands of a shape."""
+    """Registers a function that tries the commands that match a pattern."""
     def put(function):
         RULES.append((re.compile(shape), function))
         return function
@@ -49,7 +50,7 @@ def rule(shape):
 
 
 def tried(text, room):
-    """What became of a command: the reasons for which parts of it weren't run; an exception where one is wrong."""
+    """Tries a command. Returns the reasons why parts of it weren't run; raises an exception if a part is wrong."""
     whys = []
     for step in re.split(r" && (?![^(]*\))", text):
         found = next(((function, match) for shape, function in RULES for match in [shape.fullmatch(step)] if match), None)
@@ -60,7 +61,7 @@ def tried(text, room):
 
 
 class Room:
-    """A folder as a clone is that has built its programs, and a folder of programs as the package installs them."""
+    """A folder like a clone with built programs, and a folder of programs as the package installs them."""
 
     def __init__(self, bq, bqd):
         self.bq, self.bqd = bq, bqd
@@ -80,12 +81,12 @@ class Room:
         shutil.rmtree(self.folder)
 
     def started(self, command, **more):
-        """The command by a shell, in a session of its own. It has ended when this is left."""
+        """Starts the command in a shell, in a session of its own. It is ended at the end."""
         path = f"{self.folder}/bin:{os.environ['PATH']}"
         return started(["bash", "-c", command], cwd=self.folder, env={**os.environ, "PATH": path}, **more)
 
     def ends(self, command, sent=b"", status=0):
-        """What the command tells, which ends by itself with this status."""
+        """Returns the output of a command that ends by itself with this status."""
         with self.started(command, stderr=subprocess.STDOUT) as process:
             output, _ = process.communicate(sent, PATIENCE)
         if process.returncode != status:
@@ -100,13 +101,13 @@ def started(words, **more):
         try:
             yield process
         finally:
-            # Its own session alone: what it started is in it.
+            # Only its own session, which contains everything that it started.
             with contextlib.suppress(ProcessLookupError):
                 os.killpg(process.pid, signal.SIGKILL)
 
 
 def session(server):
-    """That a job can be put, reserved and deleted."""
+    """Checks that a job can be put, reserved and deleted."""
     client = server.client()
     client.asks(b"put 5 0 10 3\r\nabc\r\nreserve\r\n", b"INSERTED 1\r\nRESERVED 1 3\r\nabc\r\n")
     client.asks(b"delete 1\r\n", b"DELETED\r\n")
@@ -178,7 +179,7 @@ def is_command_of_bqctl(room, name):
 
 @rule(r"(bqctl .*)")
 def tidies(room, command):
-    """Beside a server whose tube default has a job of each state; a move goes to a second one."""
+    """Runs a command on a server whose tube default has a job in each state; a move goes to a second server."""
     with Server(room.bqd) as server, Server(room.bqd) as other:
         client = server.client()
         client.asks(b"put 0 0 60 1\r\na\r\nput 0 60 60 1\r\nb\r\n", b"INSERTED 1\r\nINSERTED 2\r\n")
@@ -191,7 +192,8 @@ def tidies(room, command):
 
 @rule(r"bqd-web((?: .*)?)")
 def serves_a_page(room, words):
-    """Beside a server, at a port of its own: the page and the metrics, and its end by an interrupt."""
+    """Runs bqd-web with a server, at a port of its own: checks the page and the metrics, and its end by an interrupt.
+    """
     with Server(room.bqd) as server:
         port = free_port()
         own = [("--server", f"127.0.0.1:{server.port}"), ("--listen", f"127.0.0.1:{port}")]
@@ -225,7 +227,7 @@ def tunnels(room, here, there):
 
 @contextlib.contextmanager
 def piped(room):
-    """A server whose control line is a named pipe, as the service's is, and the pipe's path."""
+    """Starts a server whose control line is a named pipe, as the service's is. Returns it with the pipe's path."""
     pipe = f"{room.folder}/control"
     os.mkfifo(pipe)
     held = os.open(pipe, os.O_RDWR)

@@ -1,17 +1,17 @@
-"""What pages name as code: files, options, and words of the code; and what they link to. Each has to be there."""
+"""What pages name as code (files, options, and words of the code) and what they link to. Each has to exist."""
 import functools
 import re
 
 from pages import ROOT, codes, manual_options, manuals, markdown, place
 
-# Files of the code and of what goes with it. What a page names has to stand in one of them.
+# The files in which a word that a page names has to occur: code, and what belongs to it.
 KINDS = ["*.rt", "*.antt", "*.py", "*.c", "*.edit", "*.sh", "*.yml", "*.html", "*.css", "*.js", "*.service", "*.socket", "*.default", "*.1", "*.txt", "*.md"]
 FOLDERS = ["crates", "packaging", "tests", "tools"]
 
-# What stands in a path for a name that one chooses.
+# Placeholders in a path.
 CHOSEN = re.compile(r"NAME|FOLDER|bug_in_words")
 
-# What belongs to the system, to the toolchain or to beanstalkd, or is a form of a goal's name.
+# Words of the system, of the toolchain or of beanstalkd, and forms of a goal's name.
 OTHERS = set("""
 -C
 -delayed
@@ -65,7 +65,7 @@ spin_loop
 
 @functools.lru_cache(maxsize=None)
 def paths():
-    """The path of each file and folder, as `/crates/bq_job/src/job.rt`; not of what was built."""
+    """Returns the path of each file and folder, as `/crates/bq_job/src/job.rt`, except those that are built."""
     found = set()
     for folder in [*FOLDERS, "docs", ".ci"]:
         for path in [ROOT / folder, *(ROOT / folder).rglob("*")]:
@@ -77,7 +77,7 @@ def paths():
 
 @functools.lru_cache(maxsize=None)
 def sources():
-    """The text of each file of code, by its path; not of these tests, which name what isn't there."""
+    """Returns the text of each code file by its path, except these tests, which name things that don't exist."""
     found = {}
     for it in paths():
         path = ROOT / it[1:]
@@ -89,19 +89,19 @@ def sources():
 
 @functools.lru_cache(maxsize=None)
 def words():
-    """Each word of the code."""
+    """Returns each word of the code."""
     return set().union(*(re.findall(r"[A-Za-z_][\w]*", text) for text in sources().values()))
 
 
 @functools.lru_cache(maxsize=None)
 def keys():
-    """Each word of the code with its hyphens, as keys of statistics have them."""
+    """Returns each word of the code including hyphens, as in keys of statistics."""
     return set().union(*(re.findall(r"[-\w]+", text) for text in sources().values()))
 
 
 @functools.lru_cache(maxsize=None)
 def is_path(text):
-    """Whether a file or a folder is there whose path ends so, with or without what kind it is of."""
+    """Returns true if a file or a folder exists whose path ends with this, with or without its suffix."""
     wanted = CHOSEN.sub("*", text.rstrip("/")).replace("*", "[^/]*").replace(".", r"\.")
     shape = re.compile(rf".*/{wanted}(\.\w+)?")
     return any(shape.fullmatch(it) for it in paths())
@@ -109,7 +109,7 @@ def is_path(text):
 
 @functools.lru_cache(maxsize=None)
 def is_member(owner, name):
-    """Whether a function, a variant or a definition of this name stands with that type or in that file."""
+    """Returns true if that type or file has a function, a variant or a definition of this name."""
     made = re.compile(rf"\b{re.escape(name)}\b")
     of_type = re.compile(rf"\b(struct|enum|trait|type|record|data|impl\b[^\n]*)\s{re.escape(owner)}\b")
     for path, text in sources().items():
@@ -120,12 +120,12 @@ def is_member(owner, name):
 
 
 def is_known(text, options):
-    """Whether what stands as code in a page is there."""
+    """Returns true if the code in a page exists."""
     if text in OTHERS:
         return True
     if re.fullmatch(r"--?[A-Za-z].*", text):
         return all(it in options or it in keys() or re.fullmatch("[A-Z]+(:[A-Z]+)?|[0-9.:]+", it) for it in text.split())
-    # A form of the protocol, as `peek <id>`.
+    # A form of the protocol, such as `peek <id>`.
     text = re.sub(r"( <\w+>)+$", "", text)
     built = re.fullmatch(r"crates/(\w+)/out/\1", text)
     if built:
@@ -143,14 +143,14 @@ def is_known(text, options):
 
 
 def paths_in(page):
-    """The paths of the repository that a page names within its sentences."""
+    """Returns the paths of the repository that a page names in its sentences."""
     for number, line in enumerate(page.read_text().splitlines(), 1):
         for found in re.findall(r"(?<![\w/.`-])(?:docs|tests|tools|packaging|crates|\.ci)/[\w./*-]*\w", line):
             yield number, found
 
 
 def links_in(page):
-    """The places of the repository that a page links to, as they are written."""
+    """Returns the places of the repository that a page links to, as they are written."""
     text = re.sub(r"^```\w*\n.*?^```", lambda found: "\n" * found[0].count("\n"), page.read_text(), flags=re.M | re.S)
     for number, line in enumerate(text.split("\n"), 1):
         for found in re.findall(r"\]\(([^)\s]+)\)", line):
@@ -159,19 +159,19 @@ def links_in(page):
 
 
 def anchors(page):
-    """The headings of a page, as links name them."""
+    """Returns the headings of a page, in the form in which links name them."""
     return {re.sub(r"[^\w -]", "", it).strip().lower().replace(" ", "-") for it in re.findall(r"^#+ (.*)$", page.read_text(), re.M)}
 
 
 def is_linked(page, link):
-    """Whether a link of the page leads to a file and a heading that are there."""
+    """Returns true if a link of the page leads to an existing file and heading."""
     path, _, heading = link.partition("#")
     target = (page.parent / path) if path else page
     return target.exists() and (not heading or heading in anchors(target))
 
 
 def named(options, is_command):
-    """What pages name: where it stands, what it is, and whether it is there."""
+    """Returns what pages name: the place, the kind, and whether it exists."""
     for page in markdown():
         for piece in codes(page):
             if not is_command(piece.text):

@@ -1,7 +1,7 @@
-"""How much there is to believe of the main promise: the definitions that the clause of `run_sessions` reaches.
+"""How much one has to trust for the main promise: the definitions that the clause of `run_sessions` reaches.
 
-From `IsRunOf` on, each name that a definition has is followed to the definition that the imports of its file say,
-or to the type of the code where it is one. What the toolchain's library defines isn't counted.
+Starting from `IsRunOf`, each name in a definition is followed, by the imports of its file, to its definition or to the
+type in the code. Definitions in the toolchain's library aren't counted.
 """
 import collections
 import functools
@@ -9,7 +9,7 @@ import re
 
 from pages import ROOT
 
-# Where the way down begins: the crate, the file of its definitions and the name.
+# The starting point: the crate, the file of its definitions, and the name.
 BEGIN = ("bq_run", "Sessions", "IsRunOf")
 
 Definition = collections.namedtuple("Definition", "name lines comments")
@@ -18,14 +18,15 @@ WORD = re.compile(r"(?<![\w.])[A-Za-z_]\w*(?:\.[A-Za-z_]\w*)*")
 
 
 def file_of(crate, module):
-    """The file of a module, of definitions or of a type that the code declares."""
+    """Returns the file of a module: of definitions, or of a type that the code declares."""
     if module.startswith("declared/"):
         return ROOT / "crates" / crate / "src" / (module.rsplit("/", 1)[0][len("declared/"):] + ".rt")
     return ROOT / "crates" / crate / "specs" / (module + ".antt")
 
 
 def listed(text, above=""):
-    """The names of an import, each with its path: `a.{b, c.{d, e as f}}` lists a.b, a.c.d and a.c.e as f."""
+    """Returns the names of an import, each with its path: for `a.{b, c.{d, e as f}}` these are a.b, a.c.d, and a.c.e as
+    f."""
     head, brace, inside = text.partition("{")
     if not brace:
         return [above + text]
@@ -41,7 +42,8 @@ def listed(text, above=""):
 
 @functools.lru_cache(maxsize=None)
 def imports(path):
-    """What the names of a file of definitions mean: crate, module and name; and the modules that it names anew."""
+    """Returns what the names in a file of definitions mean (crate, module and name), and the modules that it renames.
+    """
     names, modules = {}, {}
     for crate, wanted in re.findall(r"^(?:pub )?use Rattle\.(bq_\w+)\.specs\.(.+)$", path.read_text(), re.M):
         for it in listed(wanted):
@@ -58,7 +60,7 @@ def imports(path):
 
 @functools.lru_cache(maxsize=None)
 def definitions(path):
-    """The definitions of a file by their names, each with its lines and with the comments above it."""
+    """Returns the definitions of a file by name, each with its lines and with the comments above it."""
     found, comments, name = {}, [], None
     for line in path.read_text().splitlines():
         begun = re.match(r"(?:abbrev |pub |record |data |def )+([^\s:]+)", line)
@@ -77,7 +79,7 @@ def definitions(path):
 
 @functools.lru_cache(maxsize=None)
 def types(path):
-    """The types that a file of code declares, the same way."""
+    """Returns the types that a code file declares, likewise."""
     found, comments, name = {}, [], None
     for line in path.read_text().splitlines():
         begun = re.match(r"pub(?:\([^)]*\))? (?:struct|enum) (\w+)", line)
@@ -98,17 +100,17 @@ def types(path):
 
 
 def named_by(crate, module, name):
-    """The definition, and where the names in it lead."""
+    """Returns the definition, and the definitions that its names refer to."""
     path = file_of(crate, module)
     if path.suffix == ".rt":
         found = types(path).get(name)
-        # A type of the code names others of its own crate or of those that it uses.
+        # A type in the code refers to others in its crate or in those that it uses.
         words = set(re.findall(r"\b[A-Z]\w+", "\n".join(found.lines[1:]))) if found else set()
         return found, [it for it in map(lambda word: declared_as(crate, word), words) if it]
     found = definitions(path).get(name)
     names, modules = imports(path)
     if not found:
-        # It is handed on, or one of the values of a definition that is there.
+        # The name is re-exported, or is a value of a definition in this file.
         return None, [names[name]] if name in names else [(crate, module, it) for it in with_value(path, name)]
     led = []
     for word in WORD.findall("\n".join(found.lines)):
@@ -124,13 +126,13 @@ def named_by(crate, module, name):
 
 
 def with_value(path, name):
-    """The definition by cases that has this value."""
+    """Returns the definition by cases that has this value."""
     return [it.name for it in definitions(path).values() if any(re.match(rf"\s+(?:\w+ )*{name}\b", line) for line in it.lines[1:])]
 
 
 @functools.lru_cache(maxsize=None)
 def declared_as(crate, word):
-    """The type of the code that has this name, in this crate or in bq_job."""
+    """Returns the type in the code with this name, in this crate or in bq_job."""
     for it in dict.fromkeys([crate, "bq_job"]):
         for path in sorted((ROOT / "crates" / it / "src").rglob("*.rt")):
             if word in types(path):
@@ -140,7 +142,7 @@ def declared_as(crate, word):
 
 
 def reached():
-    """All that is reached, each by its crate, module and name."""
+    """Returns everything that is reached, each by its crate, module and name."""
     found, left = {}, [BEGIN]
     while left:
         it = left.pop()
@@ -153,7 +155,7 @@ def reached():
 
 
 def counts():
-    """How many definitions, types, files, lines without comments, and with them."""
+    """Returns the numbers of definitions, of types, of files, of lines without comments, and of lines with them."""
     found = reached()
     of_types = [it for it in found if it[1].startswith("declared/")]
     files = {file_of(crate, module) for crate, module, _ in found}
@@ -166,7 +168,7 @@ def rounded(number):
 
 
 def sentence():
-    """The sentence of docs/HEADLINE.md that has the counts."""
+    """Returns the sentence of docs/HEADLINE.md with the counts."""
     definitions, types, files, lines, whole = counts()
     return (
         f"The clause of `run_sessions` reaches {definitions} definitions and {types} types in {files} files: "
@@ -175,6 +177,6 @@ def sentence():
 
 
 def faults():
-    """What the page says otherwise."""
+    """Returns what the page says differently."""
     wanted = sentence()
     return [] if wanted in (ROOT / "docs/HEADLINE.md").read_text() else [f"docs/HEADLINE.md lacks: {wanted}"]

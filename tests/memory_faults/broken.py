@@ -9,7 +9,7 @@ INSERTED, REFUSED = b"INSERTED 1\r\n", b"OUT_OF_MEMORY\r\n"
 
 
 class Broken(Program):
-    """A program whose outcome is turned where a request was refused, or always."""
+    """A program whose result is falsified if an allocation failed, or always."""
 
     def __init__(self, program, turn, always=False):
         super().__init__(program.path, program.host, *program.first)
@@ -33,7 +33,7 @@ def hangs(_status, out, complaint):
 
 
 def changed_and_then_refused(status, out, complaint):
-    """The put is carried out, and answered OUT_OF_MEMORY: the job is there behind it."""
+    """The put is carried out and answered OUT_OF_MEMORY, so the job exists afterwards."""
     return status, out.replace(REFUSED + b"TIMED_OUT\r\n", REFUSED + b"RESERVED 1 1\r\na\r\n"), complaint
 
 
@@ -49,7 +49,7 @@ def fault_not_told(status, out, _complaint):
     return status, out, b""
 
 
-# How each is broken, and whether it is also where nothing was refused.
+# How each is broken, and whether it is broken even if no allocation failed.
 SESSIONS = {
     "refused_without_need": (refused_without_need, True),
     "panics": (panics, False),
@@ -66,17 +66,17 @@ def door_opened_and_then_refused(status, out, complaint):
 
 
 def refusal_hidden(status, out, complaint):
-    """A call that was refused says that it was made."""
+    """A failed call reports success."""
     return status, out.replace(b"links: refused", b"links: made"), complaint
 
 
-# The same of the calls of the libraries.
+# The same for the calls of the libraries.
 LIBRARY = {
     "door_opened_and_then_refused": door_opened_and_then_refused,
     "refusal_hidden": refusal_hidden,
 }
 
-# A server that serves whom it accepted before it asked for all its memory, and then has none.
+# A server that serves clients whom it accepted before its last allocation, which then fails.
 EARLY = """#!%s
 import os, socket, sys
 door = socket.create_server(("127.0.0.1", 0))
@@ -94,7 +94,8 @@ for _ in range(2):
 
 
 def early_server(host, folder):
-    """A server that opens its doors before its last request for memory. It is no program of C: the library isn't loaded into it."""
+    """A server that opens its doors before its last allocation. It is not a C program, so the library isn't loaded into
+    it."""
     path = f"{folder}/early"
     with open(path, "w") as file:
         file.write(EARLY % sys.executable)

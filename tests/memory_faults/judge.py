@@ -1,14 +1,14 @@
-"""What a session may be answered where memory is refused: the rules of the model, told by the bytes which command was refused."""
+"""What a session may be answered if allocations fail: the rules of the model; the bytes show which command failed."""
 from queue_model.machine import Machine
 from queue_model.reader import requests_of
 
 SEAT = 0
 REFUSED = b"OUT_OF_MEMORY\r\n"
 
-# The commands that may be answered OUT_OF_MEMORY. A put that ends badly is one of them: the memory for its
-# body is asked for before its end is looked at.
+# The commands that may be answered OUT_OF_MEMORY. A put with a wrong end is one of them, because its body is allocated
+# before its end is checked.
 MAY_BE_REFUSED = {b"put", b"use", b"watch", b"stats", b"stats-job", b"stats-tube", b"list-tubes", b"list-tubes-watched"}
-# What those are answered before any memory is asked for.
+# The answers for which nothing is allocated.
 UNREFUSABLE = {b"DRAINING\r\n", b"NOT_FOUND\r\n"}
 
 
@@ -19,7 +19,7 @@ def may_be_refused(request, answer):
 
 
 def judged(settings, text, out):
-    """How many commands of a session were refused, by what it wrote; or a word on what is wrong."""
+    """Returns how many commands of a session failed for lack of memory, according to its output; or what is wrong."""
     machine, refusals = Machine(settings), 0
     machine.step(0, SEAT, "connect")
     requests, _ = requests_of(text, settings.max_job_size)

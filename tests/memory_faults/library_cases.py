@@ -1,8 +1,8 @@
-"""Calls of the libraries, by the tests of bq_refused: each with its requests for memory refused in turn.
+"""Calls of the libraries, in tests of bq_refused: each allocation fails in turn.
 
-One tells what came of each call in a line, then the steps of a core, one after another (its steps.rt). What it
-tells where nothing is refused stands in library_told.txt. The other tells the steps of a client that holds a job, by a
-core of its own.
+One test prints the outcome of each call on a line, then the steps of a core, one after another (its steps.rt). Its
+output without failures is in library_told.txt. The other prints the steps of a client that holds a job, at a core of
+its own.
 """
 import os
 import pathlib
@@ -10,7 +10,7 @@ import re
 
 from refusal import each_in_turn
 
-# The test, as its program is asked for it, and what it tells where nothing is refused, with the toolchain's last line.
+# The test's name for its program, and its output if no allocation fails, with the toolchain's last line.
 TEST = "told::all_calls"
 TOLD = (pathlib.Path(__file__).resolve().parent / "library_told.txt").read_bytes() + b"\ntest result: ok\n"
 
@@ -37,7 +37,7 @@ HELD_STEPS = [
 # How many of them come with ample memory.
 HELD_AMPLE = 7
 
-# What may come of a call where one request was refused, beside `made`.
+# The possible outcomes of a call in which one allocation failed, besides `made`.
 OUTCOMES = {
     **dict.fromkeys((b"shelf", b"jobs"), {b"refused", b"not begun"}),
     **dict.fromkeys((b"core", b"outs", b"links", b"reader", b"seat", b"lock"), {b"refused"}),
@@ -45,20 +45,20 @@ OUTCOMES = {
 }
 STEPS = b"steps: "
 FIRST_FREE = b"step bury 2 0\n"
-# How many requests a step may make at most: a put the three boxes of a job. A use and a watch the box of a new tube, that
-# of the end of its pause, and the two by which the jobs know the tube; a watch also a growth of its client's list. What
-# tells a text that text and the lists that it gathers for it. All others make none.
+# How many allocations a step may make at most. A put: the three boxes of a job. A use and a watch: the box of a new
+# tube, that of the end of its pause, and the two through which the jobs know the tube; a watch also one for its
+# client's list. Commands answered with a text: that text, and the lists that are gathered for it. All others make none.
 MOST = {b"put": 3, b"use": 4, b"watch": 5, b"list-tubes": 3, b"list-tubes-watched": 2, b"stats-job": 1, b"stats-tube": 1, b"stats": 1}
 
 
 def parted(out):
-    """What came of each call, and what is told of the steps."""
+    """Returns the outcome of each call, and the output about the steps."""
     calls, _, steps = out.partition(STEPS)
     return dict(line.split(b": ", 1) for line in calls.splitlines()), steps
 
 
 def refused_once(program, full, nth):
-    """One run with the nth request refused: whether it was, and what is wrong."""
+    """Makes one run whose nth allocation fails. Returns whether it failed, and what is wrong."""
     status, out, complaint = program.run([], b"", at=nth)
     refused = program.host.was_refused()
     if status != 0 or complaint:
@@ -77,7 +77,7 @@ def refused_once(program, full, nth):
 
 
 def calls_refused(program):
-    """Each request of the whole program refused in turn."""
+    """Lets each allocation of the whole program fail in turn."""
     status, full, complaint = program.run([], b"")
     if status != 0 or complaint or full != TOLD:
         return 1, f"status {status} though nothing was refused, and it tells {full[-120:]!r}"
@@ -85,7 +85,7 @@ def calls_refused(program):
 
 
 def marked(program):
-    """The lines that the program tells, each with how many requests there were before it."""
+    """Returns the lines that the program prints, each with the number of allocations before it."""
     marks = f"{program.host.told}.marks"
     open(marks, "wb").close()
     program.run([], b"", marks=marks)
@@ -96,7 +96,7 @@ def marked(program):
 
 
 def steps_counted(program):
-    """No step makes more requests than it may."""
+    """Checks that no step makes more allocations than it may."""
     lines = marked(program)
     pairs = list(zip(lines[::2], lines[1::2]))
     if len(pairs) < 50:
@@ -109,7 +109,8 @@ def steps_counted(program):
 
 
 def steps_without_memory(program):
-    """All requests refused from the first bury on change nothing: what comes then takes no memory."""
+    """Checks that nothing changes if all allocations fail from the first bury on: the steps after it do not allocate.
+    """
     full = program.run([], b"")
     begun = next((count for count, line in marked(program) if line == FIRST_FREE), None)
     if begun is None:
@@ -119,12 +120,13 @@ def steps_without_memory(program):
 
 
 def told_of(step, answer):
-    """What is told of a step of the one client; None is the answer to its close."""
+    """Returns the output for a step of the only client; None is the answer to its close."""
     return b"step " + step + b"\ntaken\n" + (b"to 0: closed\n" if answer is None else b"to 0:\n" + answer if answer else b"")
 
 
 def held_job(program):
-    """The steps of a client that holds a job. From its first bury on a request that is refused changes nothing that is told."""
+    """Runs the steps of a client that holds a job. From its first bury on, a failing allocation does not change the
+    output."""
     ticked = [it for step in HELD_STEPS[HELD_AMPLE:] for it in (step, (b"tick", b""))]
     told = b"steps: begun\n" + b"".join(told_of(*it) for it in HELD_STEPS[:HELD_AMPLE] + ticked) + b"\ntest result: ok\n"
     full = program.run([], b"")

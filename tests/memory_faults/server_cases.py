@@ -1,4 +1,4 @@
-"""`bqd` with refused memory, at its start and in the middle of a load; and with a listener that ends."""
+"""`bqd` with failing allocations, at its start and under load, and with a listener that breaks."""
 import random
 import signal
 import socket
@@ -28,7 +28,7 @@ class Client:
         self.file = self.socket.makefile("rb")
 
     def ask(self, line, body=None):
-        """The answer's words, and its body where it has one. A connection that is gone gives no words."""
+        """Returns the answer's words, and its body if it has one. A closed connection gives no words."""
         try:
             self.socket.sendall(line + b"\r\n" + (b"" if body is None else body + b"\r\n"))
             words = self.file.readline().rstrip(b"\r\n").split(b" ")
@@ -44,7 +44,7 @@ class Client:
 
 
 def started(bqd, words, **chosen):
-    """A server whose requests are refused by that pattern, and where it listens: None where it doesn't."""
+    """Starts a server whose allocations fail in that pattern. Returns it, and where it listens: None if it doesn't."""
     server = subprocess.Popen(
         [bqd.path, "--listen", "127.0.0.1:0", *bqd.first, *words], env=bqd.host.environment(**chosen),
         stdin=subprocess.PIPE, stdout=subprocess.PIPE, stderr=subprocess.PIPE,
@@ -57,7 +57,7 @@ def started(bqd, words, **chosen):
 
 
 def ended(server):
-    """The status of a server that ends by itself, and what it complained of, but for seats that are all taken."""
+    """Returns the status of a server that ends by itself, and its messages, except that all seats are taken."""
     try:
         _, complaint = server.communicate(timeout=10)
         return server.returncode, complaint.replace(TAKEN, b"")
@@ -69,11 +69,12 @@ def ended(server):
 
 
 def start_refused(bqd, faults, nth):
-    """One start with the nth request refused: it serves whom it accepted, or ends with a fault and has told nobody anything.
+    """Starts a server once whose nth allocation fails: it serves the clients that it accepted, or ends with a fault
+    before it has answered any client.
 
-    The fault is no memory, until it is a thread for which the system's library is refused some: one that writes what is
-    told, or the one that serves. Then that asks for memory, and starts threads once it has all of it. `faults` are those
-    of the starts so far.
+    The fault is no memory, until it is a thread that the system's library could not start: the one that writes notices,
+    or the one that serves. After that the program allocates, and starts threads once it has all memory. `faults` are
+    those of the starts so far.
     """
     server, address = started(bqd, ["--seats", str(SEATS), "--sessions", "1"], at=nth)
     told = []
@@ -97,7 +98,8 @@ def start_refused(bqd, faults, nth):
 
 
 def listener_ends(bqd):
-    """A listener at which the third accept fails for good: both seats serve whom they accepted, and the fault is told at once and at the end."""
+    """A listener whose third accept fails for good: both seats serve the clients that they accepted, and the fault is
+    reported at once and at the end."""
     server, address = started(bqd, ["--seats", str(SEATS)], accepts=SEATS + 1)
     told = []
     for _ in range(SEATS if address else 0):
@@ -127,7 +129,7 @@ class Load:
             self.wrong = self.wrong or text
 
     def ask(self, client, line, body=None):
-        """Asks, and sees that only a command that may be is answered OUT_OF_MEMORY."""
+        """Sends a command, and checks that only one that may fail is answered OUT_OF_MEMORY."""
         words, text = client.ask(line, body)
         if words == [b"OUT_OF_MEMORY"]:
             with self.lock:
@@ -146,7 +148,7 @@ class Load:
                 self.accepted[words[1]] = body
 
     def take(self, client):
-        """Reserves a job, sees that it is one that was accepted, and deletes it. It answers whether there was one."""
+        """Reserves a job, checks that it was accepted, and deletes it. Returns whether there was one."""
         words, body = self.ask(client, b"reserve-with-timeout 0")
         if words[0] != b"RESERVED":
             return False
@@ -154,13 +156,13 @@ class Load:
         with self.lock:
             is_twice = words[1] in self.deleted
             self.deleted.add(words[1])
-        # Who put it may hear of it later than who takes it.
+        # The client that put a job may learn of it later than the client that takes it.
         if is_twice or gone != [b"DELETED"] or self.accepted.get(words[1], body) != body:
             self.complain(f"job {words[1]!r}, body {body!r}, twice: {is_twice}, delete answered {gone}")
         return True
 
     def work(self, seed):
-        """One client's commands."""
+        """The commands of one client."""
         chance, client = random.Random(seed), Client(self.address)
         for _ in range(ROUNDS):
             kind = chance.randrange(10)
@@ -175,11 +177,12 @@ class Load:
 
 
 def load_refused(bqd, every):
-    """A load in which every nth request is refused: it is told, nothing is lost, nothing doubled, and no other command refused."""
+    """A load in which every nth allocation fails: that is reported, no job is lost or doubled, and no other command
+    fails."""
     server, address = started(bqd, ["--seats", str(CLIENTS + 1)], every=every, later=1)
     try:
         load = Load(address)
-        # Who is answered knows that the start is over.
+        # Once a client is answered, the start is over.
         first = Client(address)
         first.ask(b"list-tube-used")
         first.close()
@@ -209,7 +212,7 @@ def load_refused(bqd, every):
 
 
 def cases(bqd):
-    """The cases by name: each a call that answers how many runs it made, and what is wrong or None."""
+    """Returns the cases by name. Each is a call that returns how many runs it made, and what is wrong or None."""
     faults, name = [], " ".join(["bqd", *bqd.first])
     yield f"{name}: start", lambda: each_in_turn(lambda nth: start_refused(bqd, faults, nth))
     yield f"{name}: a listener that ends", lambda: listener_ends(bqd)

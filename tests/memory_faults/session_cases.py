@@ -1,4 +1,4 @@
-"""Sessions of `bq --still`, each with every request for memory refused in turn."""
+"""Sessions of `bq --still`, in which every allocation fails once."""
 import itertools
 
 from queue_model import sessions
@@ -10,7 +10,7 @@ from refusal import each_in_turn
 NEEDS = (b"the options", b"the queue and its seats")
 NO_MEMORY = [(1, b"", b"bq: no memory\nbq: could not allocate memory for " + need + b"\n") for need in NEEDS]
 
-# Each input with what it is answered where nothing is refused, and where its refusable command is.
+# Each input with its answers if no allocation fails, and the place of the command that can fail.
 PUT = b"put 0 0 1 1\r\na\r\n"
 TABLE = {
     "put": (PUT + b"reserve-with-timeout 0\r\n", b"INSERTED 1\r\nRESERVED 1 1\r\na\r\n", b"OUT_OF_MEMORY\r\nTIMED_OUT\r\n"),
@@ -19,7 +19,7 @@ TABLE = {
     "list-tubes": (b"list-tubes\r\n", b"OK 14\r\n---\n- default\n\r\n", b"OUT_OF_MEMORY\r\n"),
     "list-tubes-watched": (b"list-tubes-watched\r\n", b"OK 14\r\n---\n- default\n\r\n", b"OUT_OF_MEMORY\r\n"),
 }
-# Those that count: what they are answered in full is judged by the model.
+# Those that count: the model judges their full answers.
 COUNTING = {
     "stats": b"stats\r\n",
     "stats-job": PUT + b"stats-job 1\r\n",
@@ -30,7 +30,7 @@ EACH_NTH = (2, 3, 5, 7)
 
 
 def ending(ran):
-    """What is wrong with how a session ended, or None: a fault that was told, or status 0."""
+    """Returns what is wrong with how a session ended, or None: it reported a fault, or has status 0."""
     status, out, complaint = ran
     if status == 0 and not complaint or ran in NO_MEMORY:
         return None
@@ -38,7 +38,7 @@ def ending(ran):
 
 
 def by_table(bq, text, full, without):
-    """One of the inputs whose outcomes are known by hand: each of them comes, and no other."""
+    """One of the inputs whose outcomes are known by hand: each of them occurs, and no other."""
     seen = set()
 
     def run(nth):
@@ -58,7 +58,7 @@ def by_table(bq, text, full, without):
 
 
 def by_model(bq, settings, text, **pattern):
-    """One run of a session that the model judges. It returns whether something was refused, and what is wrong."""
+    """Runs a session once that the model judges. It returns whether an allocation failed, and what is wrong."""
     ran = bq.run(["--still", "--max-job-size", str(settings.max_job_size)], text, **pattern)
     refused = bq.host.was_refused()
     wrong = ending(ran)
@@ -73,7 +73,7 @@ def by_model(bq, settings, text, **pattern):
 
 
 def long_session(bq, seed):
-    """A random session, with each request refused, and then every nth."""
+    """A random session in which each allocation fails, and then every nth."""
     settings = PLAIN._replace(max_job_size=(200, 65535)[seed % 2])
     text = b"".join(sessions.made_session(f"refused {seed}", Machine, settings)) + b"quit\r\n"
     if sessions.answers_to(Machine, settings, text) is None:
@@ -85,7 +85,7 @@ def long_session(bq, seed):
 
 
 def words_refused(bq):
-    """Help and bad options, with each request refused: their text, or that there was no memory."""
+    """Help and bad options, while each allocation fails: their text, or that there was no memory."""
     def run(words, status):
         full = bq.run(words, b"", at=0)
         if full[0] != status:
@@ -100,7 +100,7 @@ def words_refused(bq):
 
 
 def cases(bq):
-    """The cases by name: each a call that answers how many runs it made, and what is wrong or None."""
+    """Returns the cases by name. Each is a call that returns how many runs it made, and what is wrong or None."""
     for name, (text, full, without) in TABLE.items():
         yield f"bq: {name}", lambda t=text, f=full, w=without: by_table(bq, t, f, w)
     for name, text in COUNTING.items():

@@ -1,11 +1,11 @@
-"""beanstalkd as a server that runs."""
+"""beanstalkd as a running server."""
 import subprocess
 
 from servers import Server, connected, free_port
 
 
 class Beanstalkd(Server):
-    """beanstalkd, which tells nothing when it listens, and takes the words `-z BYTES` as bqd does."""
+    """beanstalkd. It does not report that it listens, and accepts the words `-z BYTES` as bqd does."""
 
     def __init__(self, program, *words, port=None):
         port = port or free_port()

@@ -1,4 +1,4 @@
-"""A browser without a window, Chromium, that is led by its DevTools."""
+"""Chromium without a window, controlled through its DevTools protocol."""
 import base64
 import json
 import os
@@ -15,7 +15,7 @@ from programs import PATIENCE
 
 
 class Browser:
-    """Chromium with one page. `events` are what it told of the page: requests, messages and exceptions."""
+    """Chromium with one page. `events` are what it reported about the page: requests, messages and exceptions."""
 
     def __init__(self, chromium):
         self.folder = tempfile.mkdtemp(prefix="browser-")
@@ -64,11 +64,11 @@ class Browser:
             pass
 
     def call(self, method, **words):
-        """Calls the browser, and returns what it answers."""
+        """Calls the browser, and returns its answer."""
         self.number += 1
         data = json.dumps({"id": self.number, "method": method, "params": words}).encode()
         size = bytes([0x80 | len(data)]) if len(data) < 126 else b"\xfe" + struct.pack(">H", len(data))
-        # The mask is of zeros, so the data stays as it is.
+        # The mask consists of zeros, so the data stays as it is.
         self.stream.sendall(b"\x81" + size + b"\0\0\0\0" + data)
         while True:
             told = json.loads(self._message())
@@ -87,14 +87,14 @@ class Browser:
         return text
 
     def shows(self, url, width=1200, height=800, scheme="light"):
-        """Loads a page in a window of that size, in light or dark."""
+        """Loads a page in a window of this size, in light or dark mode."""
         self.call("Emulation.setDeviceMetricsOverride", width=width, height=height, deviceScaleFactor=1, mobile=width < 600)
         self.call("Emulation.setEmulatedMedia", features=[{"name": "prefers-color-scheme", "value": scheme}])
         self.call("Page.navigate", url="about:blank")
         self.call("Page.navigate", url=url)
 
     def value(self, script):
-        """The value of a script in the page."""
+        """Returns the value of a script in the page."""
         found = self._evaluated(script)
         assert "exceptionDetails" not in found, found
         return found["result"].get("value")
@@ -103,7 +103,7 @@ class Browser:
         return self.call("Runtime.evaluate", expression=script, awaitPromise=True, returnByValue=True)
 
     def awaits(self, script, wanted):
-        """Waits until a script has that value. It has none while the page is loaded."""
+        """Waits until a script has this value. It has none while the page is loading."""
         for _ in range(200):
             found = self._evaluated(script)["result"].get("value")
             if found == wanted:
@@ -120,11 +120,11 @@ class Browser:
             stream.write(base64.b64decode(found["data"]))
 
     def faults(self):
-        """The exceptions and the errors that the page met, but for answers that say that there is nothing."""
+        """Returns the exceptions and errors of the page, except answers that say that there is nothing."""
         told = [it for it in self.events if it.get("method") in ("Runtime.exceptionThrown", "Runtime.consoleAPICalled", "Log.entryAdded")]
         return [str(it["params"])[:400] for it in told if "404 (Not Found)" not in str(it)]
 
     def hosts(self):
-        """The hosts that were asked for something."""
+        """Returns the hosts that the page contacted."""
         sent = [it["params"]["request"]["url"] for it in self.events if it.get("method") == "Network.requestWillBeSent"]
         return {it.split("/")[2] for it in sent if it.startswith(("http", "ws"))}

@@ -7,7 +7,7 @@ from programs import same
 from servers import Server, free_port
 from web import Web
 
-# What would show by a variable of the page that it was taken as markup.
+# Text that would set a variable of the page if it were interpreted as markup.
 MARKUP = b'<img src=x onerror="window.taken=1"><script>window.taken=1</script></script>"\'><svg onload=window.taken=1>'
 
 STRANGE = "a+b/c;d.$_()-/.././;script" + "n" * 174
@@ -24,7 +24,7 @@ def text_of(name):
 
 
 def browser_run_list(bqd, chromium):
-    """The list is kept current, sorted and filtered, with 0, 3 and 200 tubes; nothing else is asked for anything."""
+    """The list is kept current, sorted and filtered, with 0, 3 and 200 tubes, and the page contacts no other host."""
     with Server(bqd) as server, Web(server.port) as page, Browser(chromium) as browser:
         teller = Teller(server)
         for scheme, width in [("light", 1200), ("dark", 390)]:
@@ -50,7 +50,7 @@ def browser_run_list(bqd, chromium):
 
 
 def browser_run_tube(bqd, chromium):
-    """A tube's page is kept current, and what strangers put there is never taken as markup; also without actions."""
+    """A tube's page is kept current, and untrusted text is never interpreted as markup; also without actions."""
     with Server(bqd, "-z", "1048576") as server, Web(server.port) as page, Browser(chromium) as browser:
         teller = Teller(server)
         name = STRANGE.encode()
@@ -72,7 +72,7 @@ def browser_run_tube(bqd, chromium):
 
 
 def browser_run_actions(bqd, chromium):
-    """A tube is paused and a job deleted once that is confirmed, and not where it is cancelled."""
+    """A tube is paused and a job deleted after confirmation, but not after a cancel."""
     with Server(bqd) as server, Web(server.port, "--allow-actions") as page, Browser(chromium) as browser:
         teller = Teller(server)
         for _ in range(2):
@@ -95,7 +95,7 @@ def browser_run_actions(bqd, chromium):
 
 
 def browser_run_down(bqd, chromium):
-    """A server that goes away is shown as down with the reason, and as live when it is there again."""
+    """If the server goes away, it is shown as down with the reason, and as live once it is back."""
     port = free_port()
     with Web(port) as page, Browser(chromium) as browser:
         browser.shows(address(page))

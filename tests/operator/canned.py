@@ -1,4 +1,4 @@
-"""A server that answers what it is told to, whatever it is asked."""
+"""A server that gives prepared answers, whatever it is asked."""
 import pathlib
 import socket
 import sys
@@ -10,54 +10,54 @@ PROGRAMS = pathlib.Path(__file__).resolve().parent.parent.parent / "packaging/pr
 
 
 def top(*words, **more):
-    """How bqd-top ends with these words."""
+    """Returns how bqd-top ends with these words."""
     return ended(sys.executable, PROGRAMS / "bqd-top", *words, **more)
 
 
 def drain(*words, **more):
-    """How bqd-drain ends with these words."""
+    """Returns how bqd-drain ends with these words."""
     return ended(sys.executable, PROGRAMS / "bqd-drain", *words, **more)
 
 
 def ctl(*words, **more):
-    """How bqctl ends with these words."""
+    """Returns how bqctl ends with these words."""
     return ended(sys.executable, PROGRAMS / "bqctl", *words, **more)
 
 
 def ok(text):
-    """The answer that has a text."""
+    """Returns the answer that carries a text."""
     return b"OK %d\r\n%s\r\n" % (len(text), text)
 
 
 def yaml(**pairs):
-    """A text of statistics; `current_jobs_ready=1` is the line `current-jobs-ready: 1`."""
+    """Returns a text of statistics; `current_jobs_ready=1` is the line `current-jobs-ready: 1`."""
     lines = [f"{key.replace('_', '-')}: {value}\n" for key, value in pairs.items()]
     return "".join(["---\n", *lines]).encode()
 
 
 def statistics(**changed):
-    """A server's answer to `stats`, all of it 0 but what is said to be otherwise."""
+    """Returns a server's answer to `stats`, with 0 for everything that isn't given."""
     jobs = {f"current_jobs_{it}": 0 for it in ["urgent", "ready", "reserved", "delayed", "buried"]}
     rest = {"job_timeouts": 0, "total_jobs": 0, "current_connections": 1, "current_waiting": 0, "draining": "false"}
     return ok(yaml(**{**jobs, **rest, **changed}))
 
 
 def tube(name, **changed):
-    """A server's answer to `stats-tube`, the same way."""
+    """Returns a server's answer to `stats-tube`, likewise."""
     jobs = {f"current_jobs_{it}": 0 for it in ["urgent", "ready", "reserved", "delayed", "buried"]}
     keys = ["total_jobs", "current_using", "current_watching", "current_waiting", "cmd_delete", "pause_time_left"]
     return ok(yaml(name=name, **{**jobs, **dict.fromkeys(keys, 0), **changed}))
 
 
 def tubes(*names):
-    """A server's answer to `list-tubes`."""
+    """Returns a server's answer to `list-tubes`."""
     return ok("".join(["---\n", *(f"- {it}\n" for it in names)]).encode())
 
 
 class Canned:
-    """Listens at a free port of the loopback, and answers the lines of one connection by these answers in their order.
+    """Listens at a free loopback port, and answers the lines of one connection with these answers in order.
 
-    After the last one it closes, or stays silent where it `stays`.
+    After the last one it closes, or stays silent if it `stays`.
     """
 
     def __init__(self, *answers, stays=False):

@@ -1,4 +1,4 @@
-"""Runs of bqd-top and bqd-drain beside a server that answers what it is told to."""
+"""Runs of bqd-top and bqd-drain against a server with prepared answers."""
 import json
 import os
 import tempfile
@@ -7,17 +7,17 @@ from canned import Canned, drain, ok, statistics, top, tube, tubes, yaml
 from programs import Ended, same
 from servers import free_port
 
-# A picture of no tube that exists twice, for what goes wrong later.
+# One picture with a short interval and a short timeout, for failures that come later.
 QUICK = ["--once", "--interval", "0.1", "--timeout", "0.5"]
 
 
 def tells(found, name, fault):
-    """That a program ended with this fault alone."""
+    """Checks that a program ended with this fault and nothing else."""
     same(found, Ended(1, b"", f"{name}: {fault}\n".encode()))
 
 
 def run_bad_words():
-    """Bad options are status 2, with what is wrong on standard error."""
+    """Bad options end with status 2 and a message on standard error."""
     for program, bad in [
         (top, ["--interval", "0"]),
         (top, ["--interval", "nan"]),
@@ -42,7 +42,7 @@ def run_bad_words():
 
 
 def run_nobody_listens():
-    """An address that isn't there."""
+    """An address at which no server listens."""
     address = f"127.0.0.1:{free_port()}"
     wanted = f"cannot connect to {address}: Connection refused"
     tells(top("--once", address), "bqd-top", wanted)
@@ -50,7 +50,7 @@ def run_nobody_listens():
 
 
 def run_goes_away():
-    """A server that goes away, before and between its answers and within one."""
+    """A server that goes away: before its answers, between them, and within one."""
     for answers in [[], [statistics()], [statistics(), tubes("a")], [statistics()[:20]], [statistics()[:-3]]]:
         with Canned(*answers) as server:
             found = top(*QUICK, server.address)
@@ -60,7 +60,7 @@ def run_goes_away():
 
 
 def run_slow():
-    """A server that gives no answer, and one that gives a part of it."""
+    """A server that gives no answer, and one that gives only a part of it."""
     for answers in [[], [statistics()], [statistics()[:-3]], [b"OK"]]:
         with Canned(*answers, stays=True) as server:
             wanted = f"{server.address} gave no answer within 0.5 seconds; are all of its seats taken?"
@@ -68,7 +68,7 @@ def run_slow():
 
 
 def run_odd_answers():
-    """Answers that are none of the protocol's, or none to what was asked."""
+    """Answers that do not follow the protocol, or do not fit the command."""
     for answers, of in [
         ([b"HTTP/1.1 400 Bad Request\r\n"], "stats by 'HTTP/1.1 400 Bad Request'"),
         ([b"OUT_OF_MEMORY\r\n"], "stats by 'OUT_OF_MEMORY'"),
@@ -90,7 +90,7 @@ def run_odd_answers():
 
 
 def run_rates():
-    """What was put and deleted a second is told by two readings; a tube that began anew counts from 0."""
+    """The rates of puts and deletions come from two readings; a tube that was made again counts from 0."""
     first = [statistics(total_jobs=100), tubes("a", "b", "gone")]
     first += [tube("a", total_jobs=50, cmd_delete=10), tube("b", total_jobs=50), tube("gone")]
     second = [statistics(total_jobs=130, job_timeouts=5), tubes("a", "b", "new", "going")]
@@ -111,7 +111,7 @@ def run_rates():
 
 
 def run_table():
-    """The table to the byte, sorted by what is ready."""
+    """The exact table, sorted by ready jobs."""
     told = [statistics(current_jobs_ready=12, current_jobs_buried=1, current_connections=7, draining="true")]
     told += [tubes("default", "mail"), tube("default", current_jobs_buried=1)]
     told += [tube("mail", current_jobs_ready=12, current_watching=3, current_waiting=2, pause_time_left=60)]
@@ -128,7 +128,7 @@ default      0         0        0       1    0.0        0.0      0         0    
 
 
 def run_unwritten():
-    """A picture that can't be written is a fault, unless who read it has gone."""
+    """A picture that can't be written is a fault, unless its reader has gone."""
     for target, wanted in [("/dev/full", (1, b"bqd-top: cannot write: No space left on device\n")), (None, (0, b""))]:
         with Canned(*[statistics(), tubes()] * 2, stays=True) as server:
             read, write = os.pipe()
@@ -139,7 +139,7 @@ def run_unwritten():
 
 
 def run_drain_by_no_pipe():
-    """A control line that isn't there, that nobody reads, or that is no pipe; and no file is made."""
+    """A control line that does not exist, has no reader, or is not a pipe; no file is created."""
     with tempfile.TemporaryDirectory() as room:
         pipe, file, none = (os.path.join(room, it) for it in ["pipe", "file", "none"])
         os.mkfifo(pipe)

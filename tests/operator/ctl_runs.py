@@ -1,4 +1,4 @@
-"""Runs of bqctl, but for its moves."""
+"""Runs of bqctl, except its moves."""
 import json
 import os
 import signal
@@ -17,22 +17,22 @@ BYTES = bytes(range(256)) * 4
 
 
 def tells(found, *lines):
-    """That a program ended well and wrote these lines."""
+    """Checks that a program succeeded and wrote these lines."""
     same(found, Ended(0, "".join(it + "\n" for it in lines).encode(), b""))
 
 
 def fails(found, *lines):
-    """That it ended with status 1 and these lines on standard error alone."""
+    """Checks that it ended with status 1 and exactly these lines on standard error."""
     same(found, Ended(1, b"", "".join(f"bqctl: {it}\n" for it in lines).encode()))
 
 
 def beside(server):
-    """bqctl beside that server."""
+    """Returns bqctl for that server."""
     return lambda *words, **more: ctl("--server", f"127.0.0.1:{server.port}", *words, **more)
 
 
 def run_ctl_bad_words():
-    """Bad words are status 2, with what is wrong on standard error, and no server is asked."""
+    """Bad words end with status 2 and a message on standard error, and no server is contacted."""
     for bad in [
         [],
         ["look"],
@@ -74,14 +74,14 @@ def run_ctl_bad_words():
 
 
 def run_ctl_nobody_listens():
-    """An address that isn't there."""
+    """An address at which no server listens."""
     address = f"127.0.0.1:{free_port()}"
     for words in [["tubes"], ["clear", "mail"], ["put", "mail"]]:
         fails(ctl(*words, "--server", address), f"cannot connect to {address}: Connection refused")
 
 
 def run_ctl_goes_away():
-    """A server that goes away in the middle: what was done until then is told."""
+    """A server that goes away in the middle: what was done until then is reported."""
     begun = [tube("mail", current_jobs_ready=3), b"USING mail\r\n", b"FOUND 1 1\r\na\r\n"]
     once = [*begun, b"DELETED\r\n", b"FOUND 2 1\r\nb\r\n"]
     for answers, done, command in [
@@ -98,7 +98,7 @@ def run_ctl_goes_away():
 
 
 def run_ctl_json_of_failure():
-    """What was done is told for scripts too where the work fails."""
+    """What was done is also reported as JSON if the work fails."""
     answers = [tube("mail", current_jobs_buried=2000), b"USING mail\r\n", b"KICKED 1000\r\n", b"OUT_OF_MEMORY\r\n"]
     with Canned(*answers, stays=True) as server:
         found = ctl("--json", "kick", "mail", "--all", "--server", server.address)
@@ -108,7 +108,7 @@ def run_ctl_json_of_failure():
 
 
 def run_ctl_odd_answers():
-    """Answers that are none of the protocol's."""
+    """Answers that do not follow the protocol."""
     begun = [tube("mail"), b"USING mail\r\n"]
     for answers, words, of in [
         ([tubes("\x1b[2J")], ["tubes"], "list-tubes by no list of tubes"),
@@ -141,7 +141,7 @@ def run_ctl_unwritten():
 
 
 def each_run_ctl_put_and_peek(start):
-    """A job is put from standard input and from a file, and is shown as it is, without being taken."""
+    """A job is put from standard input and from a file, and is shown unchanged, without being reserved."""
     with start("-z", "1048576") as server, tempfile.TemporaryDirectory() as room:
         ask, teller = beside(server), Teller(server)
         tells(ask("put", "mail", sent=b"hello"), "put job 1 into mail")
@@ -170,7 +170,7 @@ def each_run_ctl_put_and_peek(start):
 
 
 def each_run_ctl_peek_shows_no_control_bytes(start):
-    """A body that tries to write to the terminal is shown in hexadecimal, and a long one is cut."""
+    """A body that tries to control the terminal is shown in hexadecimal, and a long one is cut."""
     with start() as server:
         ask, teller = beside(server), Teller(server)
         teller.put(b"\x1b[2J\x1b]0;title\x07")
@@ -186,7 +186,7 @@ def each_run_ctl_peek_shows_no_control_bytes(start):
 
 
 def each_run_ctl_no_tube(start):
-    """A tube that isn't there is a fault, and no command but put makes one."""
+    """A tube that does not exist is a fault, and only put creates one."""
     with start() as server:
         for words in [["stats"], ["peek"], ["kick"], ["unpause"], ["clear"], ["move", "--to", "/other"]]:
             fails(beside(server)(words[0], "none", *words[1:]), f"127.0.0.1:{server.port} has no tube none")
@@ -215,7 +215,7 @@ def each_run_ctl_kick_and_pause(start):
 
 
 def each_run_ctl_clear(start):
-    """Jobs are deleted by their states, up to a limit; those that a worker has stay."""
+    """Jobs are deleted by state, up to a limit; reserved jobs stay."""
     with start() as server:
         ask, teller = beside(server), Teller(server)
         for _ in range(3):
@@ -252,7 +252,7 @@ def each_run_ctl_many_tubes(start):
 
 
 def each_run_ctl_clear_interrupted(start):
-    """An interrupt ends a clear after the current job, and what it deleted is what it says."""
+    """An interrupt ends a clear after the current job, and it reports exactly what it deleted."""
     with start() as server:
         teller = Teller(server)
         for _ in range(3000):

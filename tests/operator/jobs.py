@@ -1,25 +1,25 @@
-"""Jobs that a test puts, and what of them is at a server, by the protocol alone."""
+"""Jobs that a test puts, and what a server says of them, through the protocol alone."""
 import re
 
 TUBE = b"mail"
 
 
 class Teller:
-    """A client that reads whole answers."""
+    """A client that reads complete answers."""
 
     def __init__(self, server):
         self.stream = server.client().stream
         self.read = self.stream.makefile("rb")
 
     def ask(self, line, body=None):
-        """The answer's first line, and what it carries."""
+        """Returns the answer's first line, and what it carries."""
         self.stream.sendall(line + b"\r\n" + (b"" if body is None else body + b"\r\n"))
         head = self.read.readline()[:-2]
         found = re.fullmatch(rb"(?:FOUND [0-9]+|RESERVED [0-9]+|OK) ([0-9]+)", head)
         return head, self.read.read(int(found[1]) + 2)[:-2] if found else b""
 
     def put(self, body, tube=TUBE, pri=0, delay=0, ttr=60, state="ready"):
-        """Puts a job in that state, and returns its id."""
+        """Puts a job, brings it into that state, and returns its id."""
         self.ask(b"use " + tube)
         head, _ = self.ask(b"put %d %d %d %d" % (pri, delay, ttr, len(body)), body)
         assert head.startswith(b"INSERTED "), head
@@ -30,7 +30,8 @@ class Teller:
         return job_id
 
     def job(self, job_id):
-        """A job's tube, state, priority, delay that is left, and time to run, with its body; None if there is none."""
+        """Returns a job's tube, state, priority, remaining delay and time to run, with its body; None if it doesn't
+        exist."""
         head, body = self.ask(b"peek %d" % job_id)
         if head == b"NOT_FOUND":
             return None
@@ -40,11 +41,11 @@ class Teller:
         return tube, about["state"], int(about["pri"]), int(about["time-left"]), int(about["ttr"]), body
 
     def jobs(self, first=1):
-        """All jobs from that id on, by their ids."""
+        """Returns all jobs from that id on, by id."""
         found = {it: self.job(it) for it in range(first, self.last() + 1)}
         return {job_id: about for job_id, about in found.items() if about}
 
     def last(self):
-        """The last id that was given out, if no put was refused."""
+        """Returns the last id that was given out, if no put was rejected."""
         _, text = self.ask(b"stats")
         return int(re.search(rb"^total-jobs: ([0-9]+)$", text, re.M)[1])

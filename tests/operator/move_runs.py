@@ -1,4 +1,4 @@
-"""Runs of bqctl's moves: a job is never lost, and the tool names those that may be doubled."""
+"""Runs of bqctl's moves: a job is never lost, and the tool names those that may be at both places."""
 import collections
 import contextlib
 import json
@@ -22,7 +22,7 @@ def address(server):
 
 
 def each_run_move(start):
-    """Jobs of each state arrive with their bodies, priorities, states, times to run and what is left of delays."""
+    """Jobs of each state arrive with their bodies, priorities, states, times to run and remaining delays."""
     moves_all(start, start)
 
 
@@ -76,7 +76,7 @@ def each_run_move_words(start):
 
 
 def each_run_move_of_paused(start):
-    """A tube that is paused can be moved."""
+    """A paused tube can be moved."""
     with start() as source, start() as target:
         here = Teller(source)
         here.put(b"a")
@@ -85,7 +85,7 @@ def each_run_move_of_paused(start):
 
 
 def each_run_move_refused(start):
-    """A job that the other server refuses stays as it was, and the move ends."""
+    """A job that the other server rejects stays as it was, and the move ends."""
     with start("-z", "2000") as source, start("-z", "1000") as target:
         here = Teller(source)
         for state, delay in [("ready", 0), ("delayed", 1000), ("buried", 0)]:
@@ -97,7 +97,7 @@ def each_run_move_refused(start):
 
 
 def about(job_id, state="ready", left=0):
-    """A server's answer to `stats-job`."""
+    """Returns a server's answer to `stats-job`."""
     return ok(yaml(id=job_id, tube="mail", state=state, pri=5, age=0, delay=0, ttr=9, time_left=left))
 
 
@@ -105,7 +105,7 @@ SEEN = [tube("mail", current_jobs_ready=1), b"USING mail\r\n", b"FOUND 7 1\r\na\
 
 
 def moved_between(source, target):
-    """How a move between two servers ends whose answers these are; the lines that they got."""
+    """Returns how a move between two servers with these answers ends, and the lines that they got."""
     with Canned(*source) as here, Canned(*target) as there:
         found = ctl("move", "mail", "--to", f"{there.address}/post", "--state", "ready", "--server", here.address)
         here.thread.join(10)
@@ -117,7 +117,7 @@ def moved_between(source, target):
 
 
 def run_move_target_lost():
-    """The other server goes away before it answers the put: the job is given back, and named as perhaps doubled."""
+    """The target goes away before it answers the put: the job is released, and named as possibly at both places."""
     told, (lines, _) = moved_between([*SEEN, b"RELEASED\r\n"], [b"USING post\r\n"])
     assert re.fullmatch("bqctl: THERE (closed the connection before it answered put|is lost: .*): "
                         "moved 0 jobs of mail to post of THERE", told[0]), told
@@ -126,7 +126,7 @@ def run_move_target_lost():
 
 
 def run_move_source_lost():
-    """This server goes away before it answers the delete: the job is named with the id that it has there."""
+    """The source goes away before it answers the delete: the job is named with its id at the target."""
     told, (lines, there) = moved_between(SEEN, [b"USING post\r\n", b"INSERTED 9\r\n"])
     assert re.fullmatch("bqctl: HERE (closed the connection before it answered delete|is lost: .*): "
                         "moved 0 jobs of mail to post of THERE", told[0]), told
@@ -135,9 +135,9 @@ def run_move_source_lost():
 
 
 def run_move_taken_meanwhile():
-    """A worker here gets the job while it is moved: the copy is deleted again, or named if a worker has it."""
+    """A worker gets the job at the source while it is moved: the copy is deleted again, or named if a worker has it."""
     here = [*SEEN, b"NOT_FOUND\r\n", b"NOT_FOUND\r\n", b"NOT_FOUND\r\n", tube("mail")]
-    # The body is a line of its own to the other server, and needs no answer.
+    # The other server reads the body as a separate line, which needs no answer.
     told, (_, there) = moved_between(here, [b"USING post\r\n", b"INSERTED 9\r\n", b"", b"NOT_FOUND\r\n"])
     same(told, ["bqctl: workers got jobs meanwhile: moved 0 jobs of mail to post of THERE",
                 "bqctl: job 7 of HERE may be doubled, as job 9 of THERE"])
@@ -149,7 +149,7 @@ def run_move_taken_meanwhile():
 
 
 def run_move_buried_is_never_ready():
-    """A buried job is put there with the longest delay and buried there, before it is deleted here."""
+    """A buried job is put with the longest delay and buried at the target, before it is deleted at the source."""
     source = [tube("mail", current_jobs_buried=1), b"USING mail\r\n", b"FOUND 7 1\r\na\r\n", about(7, "buried")]
     source += [b"RESERVED 7 1\r\na\r\n", b"DELETED\r\n", b"NOT_FOUND\r\n", b"NOT_FOUND\r\n", tube("mail")]
     target = [b"USING post\r\n", b"INSERTED 9\r\n", b"", b"RESERVED 9 1\r\na\r\n", b"BURIED\r\n"]
@@ -161,14 +161,15 @@ def run_move_buried_is_never_ready():
 
 @contextlib.contextmanager
 def moving(source, target):
-    """A move of all jobs that has been started."""
+    """Returns a move of all jobs that has been started."""
     command = [sys.executable, PROGRAMS / "bqctl", "--server", address(source), "--json", "move", "mail", "--to", address(target)]
     with subprocess.Popen(command, stdout=subprocess.PIPE, stderr=subprocess.PIPE) as process:
         yield process
 
 
 def interrupted(source, target, signals, begun, wait):
-    """Moves, and sends these signals so many seconds after `begun` is so; what the tool told for scripts, if anything."""
+    """Moves, and sends these signals this many seconds after `begun` is true. Returns what the tool reported as JSON,
+    if anything."""
     with moving(source, target) as process:
         awaits(begun)
         time.sleep(wait)
@@ -191,7 +192,7 @@ def accounts(round_number, source, target, signals):
 
 @contextlib.contextmanager
 def teller_of(server):
-    """A client that has gone again when it is left, and with it its seat."""
+    """A client that disconnects at the end and frees its seat."""
     yield Teller(server)
     server.clients.pop().close()
 
@@ -202,7 +203,7 @@ def accounts_of(round_number, source, target, signals, here, there):
     for number, body in enumerate(put):
         state = ["ready", "delayed", "buried"][number % 3]
         here.put(body, delay=1000 if state == "delayed" else 0, state=state)
-    # Mostly within the work, and now and then before it, as soon as it is connected here. Before that Python begins.
+    # Mostly within the work, and now and then before it, as soon as it has connected. Before that, Python starts.
     def begun():
         is_connected = round_number % 10 == 9 and b"\ncurrent-connections: 2\n" in here.ask(b"stats")[1]
         return is_connected or there.last() >= first_there
@@ -233,11 +234,11 @@ JOBS = 150
 
 
 def each_run_move_interrupted(start):
-    """A move that is interrupted at fifty random points, once or twice at once, and ended or killed: no job is lost."""
+    """A move that is interrupted at fifty random points, once or twice, and ended or killed: no job is lost."""
     rounds = [[signal.SIGINT]] * 30 + [[signal.SIGINT] * 2] * 20 + [[signal.SIGTERM]] * 10 + [[signal.SIGKILL]] * 15
     with start() as source, start() as target:
         cut = 0
         for number, signals in enumerate(rounds):
             cut += 0 < accounts(number, source, target, signals) < JOBS
-        # Many of the points have to be within the work, or little is tried.
+        # Many of the points have to be within the work; otherwise little is tested.
         assert cut >= 15, cut

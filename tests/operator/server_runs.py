@@ -1,4 +1,4 @@
-"""Runs of bqd-top and bqd-drain beside servers that run."""
+"""Runs of bqd-top and bqd-drain with real servers."""
 import json
 import os
 import pty
@@ -15,13 +15,13 @@ from servers import Server, awaits
 
 
 def each_run_jobs(start):
-    """bqd-top shows the jobs of two tubes by their states, and what is put meanwhile."""
+    """bqd-top shows the jobs of two tubes by state, and jobs that are put meanwhile."""
     with start() as server:
         shows_jobs(server)
 
 
 def shows_jobs(server):
-    """That bqd-top shows them."""
+    """Checks that bqd-top shows them."""
     client = server.client()
     client.asks(b"put 0 0 60 1\r\na\r\nput 0 60 60 1\r\nb\r\nput 0 0 60 1\r\nc\r\n", b"INSERTED 1\r\nINSERTED 2\r\nINSERTED 3\r\n")
     client.asks(b"reserve-job 1\r\nbury 1 0\r\nreserve-job 3\r\n", b"RESERVED 1 1\r\na\r\nBURIED\r\nRESERVED 3 1\r\nc\r\n")
@@ -30,7 +30,7 @@ def shows_jobs(server):
     done = []
     watching = threading.Thread(target=lambda: done.append(top("--once", "--json", "--interval", "2", address)))
     watching.start()
-    # What it told at first was told before this, or the rates below are wrong: it is given a second.
+    # The first picture must be older than this, or the rates below are wrong; it gets a second.
     time.sleep(1)
     client.asks(b"put 9 0 60 1\r\ne\r\ndelete 4\r\n", b"INSERTED 5\r\nDELETED\r\n")
     watching.join()
@@ -46,7 +46,7 @@ def shows_jobs(server):
 
 
 def bqd_run_many_tubes(bqd):
-    """More tubes than are asked for together, of the longest names."""
+    """More tubes than are queried together, with the longest names."""
     names = [f"{number:0200}" for number in range(300)]
     with Server(bqd) as server:
         client = server.client()
@@ -58,7 +58,7 @@ def bqd_run_many_tubes(bqd):
 
 
 def bqd_run_all_seats_taken(bqd):
-    """Where all seats are taken it is told that no answer came."""
+    """If all seats are taken, the program reports that no answer came."""
     with Server(bqd, "--seats", "1") as server:
         server.client().asks(b"list-tube-used\r\n", b"USING default\r\n")
         address = f"127.0.0.1:{server.port}"
@@ -67,7 +67,7 @@ def bqd_run_all_seats_taken(bqd):
 
 
 def bqd_run_in_place(bqd):
-    """On a terminal pictures come one over another, the first at once, until it is interrupted; that is status 0."""
+    """On a terminal, pictures replace each other, the first at once, until an interrupt; the status is then 0."""
     with Server(bqd) as server:
         own, other = pty.openpty()
         command = [sys.executable, PROGRAMS / "bqd-top", "--interval", "0.2", f"127.0.0.1:{server.port}"]
@@ -85,7 +85,7 @@ def bqd_run_in_place(bqd):
 
 
 def bqd_run_drain(bqd):
-    """It drains, tells how many jobs are left, and ends when a worker has done all but what is buried."""
+    """It drains, reports how many jobs are left, and ends when a worker has done all jobs except buried ones."""
     with tempfile.TemporaryDirectory() as room:
         pipe = os.path.join(room, "control")
         os.mkfifo(pipe)
@@ -107,7 +107,7 @@ def bqd_run_drain(bqd):
 
 
 def bqd_run_drain_of_another(bqd):
-    """A control line that isn't this server's: it is told that the server doesn't drain."""
+    """The control line of another server: it reports that the server doesn't drain."""
     with tempfile.TemporaryDirectory() as room:
         pipe = os.path.join(room, "control")
         os.mkfifo(pipe)
@@ -120,7 +120,7 @@ def bqd_run_drain_of_another(bqd):
 
 
 class Relay:
-    """Hands what is written to a named pipe on to a server's control line."""
+    """Forwards what is written to a named pipe to a server's control line."""
 
     def __init__(self, pipe, server):
         self.held, self.server = os.open(pipe, os.O_RDWR), server

@@ -1,4 +1,4 @@
-"""bqd-web as a program that runs, and what it answers."""
+"""bqd-web as a running program, and its answers."""
 import collections
 import http.client
 import json
@@ -15,7 +15,7 @@ Answer = collections.namedtuple("Answer", "status headers body")
 
 
 class Web:
-    """bqd-web beside the server at that port, with these words. It has ended when it is left."""
+    """bqd-web for the server at that port, with these words. It is ended when this is left."""
 
     def __init__(self, server_port, *words, listen=None):
         self.port = free_port()
@@ -37,7 +37,7 @@ class Web:
             raise
 
     def ask(self, path, method="GET", body=None, **headers):
-        """What a path answers. `x_bqd_token="t"` is the header X-Bqd-Token."""
+        """Returns the answer to a path. `x_bqd_token="t"` is the header X-Bqd-Token."""
         connection = http.client.HTTPConnection("127.0.0.1", self.port, timeout=10)
         try:
             fields = {name.replace("_", "-"): value for name, value in headers.items()}
@@ -48,22 +48,22 @@ class Web:
             connection.close()
 
     def json(self, path):
-        """The JSON that a path answers."""
+        """Returns the JSON that a path answers."""
         return json.loads(self.ask(path).body)
 
     def raw(self, data):
-        """The status that these bytes are answered by, or b"" where nothing comes."""
+        """Returns the status with which these bytes are answered, or b"" if no answer comes."""
         with socket.create_connection(("127.0.0.1", self.port), 10) as stream:
             stream.sendall(data)
             return stream.makefile("rb").readline()
 
     def metrics(self):
-        """The samples of the metrics, by their names with their labels."""
+        """Returns the samples of the metrics, by name and labels."""
         lines = self.ask("/metrics").body.decode().splitlines()
         return {it.rpartition(" ")[0]: float(it.rpartition(" ")[2]) for it in lines if not it.startswith("#")}
 
     def reads(self, is_so):
-        """Waits until something is so of what is known of the server, and returns that."""
+        """Waits until the predicate holds for what is known of the server, and returns that."""
         for _ in range(300):
             found = self.json("/api/state")
             if is_so(found):
@@ -76,11 +76,11 @@ class Web:
         return self.reads(lambda found: found["up"])
 
     def token(self):
-        """The token of the page."""
+        """Returns the token of the page."""
         return re.search(rb'name="bqd-token" content="([^"]*)"', self.ask("/").body)[1].decode()
 
     def act(self, what, asked, **changed):
-        """What an action is answered by, that comes from the page unless it is changed."""
+        """Returns the answer to an action, which comes from the page unless it is changed."""
         own = f"127.0.0.1:{self.port}"
         headers = {"content_type": "application/json", "origin": f"http://{own}", "x_bqd_token": self.token(), **changed}
         return self.ask(f"/api/{what}", "POST", json.dumps(asked), **{name: it for name, it in headers.items() if it is not None})

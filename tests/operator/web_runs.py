@@ -27,12 +27,12 @@ SECURE = {
 
 
 def web(*words):
-    """How bqd-web ends with these words."""
+    """Returns how bqd-web ends with these words."""
     return ended(sys.executable, PROGRAMS / "bqd-web", *words)
 
 
 def run_web_bad_words():
-    """Bad options are status 2, and actions are refused where other machines reach them."""
+    """Bad options end with status 2, and actions are rejected if other machines can reach them."""
     for bad in [
         ["127.0.0.1:1"],
         ["--listen", "127.0.0.1:65536"],
@@ -52,7 +52,7 @@ def run_web_bad_words():
 
 
 def run_web_cannot_listen():
-    """An address that another has."""
+    """An address that is in use."""
     with socket.create_server(("127.0.0.1", 0)) as taken:
         port = taken.getsockname()[1]
         found = web("--listen", f"127.0.0.1:{port}")
@@ -68,7 +68,7 @@ def run_web_labels():
 
 
 def run_web_history():
-    """The last ten minutes: the newest point last, a gap while there was no reading, and tubes that have gone forgotten."""
+    """The last ten minutes: the newest point last, a gap without readings, and no tubes that have gone."""
     sys.path.insert(0, str(PROGRAMS))
     from queue_web.history import EVERY, MOST_TUBES, POINTS, SPARK_POINTS, History
 
@@ -85,7 +85,7 @@ def run_web_history():
     history.add(None, 2 * EVERY)
     history.add(reading(6, mail=4, post=7), 3 * EVERY)
     same(history.of("mail")["ready"][-5:], [None, 1, 3, None, 4])
-    # The rate is of the time between the two readings, and there is none after a gap.
+    # The rate is between two readings, and there is none after a gap.
     same(history.of("mail")["put_rate"][-5:], [None, None, 10, None, None])
     same(history.of("post")["ready"][-2:], [None, 7])
     same({name: (len(it), it[-1]) for name, it in history.sparks().items()}, {"mail": (SPARK_POINTS, 4), "post": (SPARK_POINTS, 7)})
@@ -102,7 +102,7 @@ def run_web_history():
 
 
 def run_web_page_makes_no_markup():
-    """No script of the page makes markup of a text, and the page asks no other host."""
+    """No script of the page makes markup from text, and the page contacts no other host."""
     for name in os.listdir(PROGRAMS / "queue_web/page"):
         text = (PROGRAMS / "queue_web/page" / name).read_text()
         for it in ["innerHTML", "outerHTML", "insertAdjacent", "document.write", "eval(", "Function(", "DOMParser", "srcdoc",
@@ -112,7 +112,7 @@ def run_web_page_makes_no_markup():
 
 
 def each_run_web_shows(start):
-    """The page's numbers, a tube with its first jobs and the metrics, of jobs in each state."""
+    """The page's numbers, a tube with its first jobs, and the metrics, with jobs in each state."""
     with start() as server, Web(server.port) as page:
         teller = Teller(server)
         for state, delay in [("ready", 0), ("ready", 0), ("delayed", 1000), ("buried", 0)]:
@@ -139,7 +139,8 @@ def each_run_web_shows(start):
 
 
 def each_run_web_of_strangers(start):
-    """Bodies that try to be markup, or are no text, are text of JSON, cut at 4,096 bytes; a tube's name is as it was."""
+    """Bodies that try to be markup, or aren't text, become JSON text, cut at 4,096 bytes; a tube's name is unchanged.
+    """
     name = b"a+b/c;d.$_()-" + b"n" * 187
     with start("-z", "1048576") as server, Web(server.port) as page:
         teller = Teller(server)
@@ -176,7 +177,7 @@ def each_run_web_many_tubes(start):
 
 
 def each_run_web_is_one_connection(start):
-    """However many look, the server has one connection of bqd-web, and no tube is made by a look."""
+    """However many look, bqd-web has one connection to the server, and looking creates no tube."""
     with start() as server, Web(server.port) as page:
         page.is_up()
         teller = Teller(server)
@@ -195,7 +196,7 @@ def each_run_web_is_one_connection(start):
 
 
 def each_run_web_goes_on_without_server(start):
-    """A server that isn't there, comes, goes away and comes again is shown as it is."""
+    """A server that is missing, comes, goes away and comes back is shown correctly."""
     port = free_port()
     with Web(port) as page:
         down = page.reads(lambda it: "cannot connect" in it["why"])
@@ -219,14 +220,14 @@ def run_web_of_silent_server():
 
 
 def run_web_of_odd_server():
-    """Names that are none are a fault of the server, and never reach the page."""
+    """Names that are invalid are a fault of the server, and never reach the page."""
     with Canned(statistics(), tubes("<b>x</b>"), stays=True) as server:
         with Web(server.address.split(":")[1]) as page:
             page.reads(lambda it: "answered list-tubes by no list of tubes" in (it["why"] or ""))
 
 
 def bqd_run_web_paths(bqd):
-    """Nothing is served but the page and what it asks; no path of the file system, and nothing can be written."""
+    """Only the page and its requests are served: no path of the file system, and nothing can be written."""
     with Server(bqd) as server, Web(server.port) as page:
         page.is_up()
         for path, kind in [("/", "text/html"), ("/page.css", "text/css"), ("/page.js", "text/javascript"), ("/charts.js", "text/javascript"),
@@ -249,7 +250,7 @@ def bqd_run_web_paths(bqd):
 
 
 def bqd_run_web_limits(bqd):
-    """Requests that are too large or none are refused, and the connection is closed then."""
+    """Requests that are too large or malformed are rejected, and the connection is then closed."""
     with Server(bqd) as server, Web(server.port) as page:
         own = b"Host: 127.0.0.1\r\n"
         for data, status in [
@@ -284,7 +285,7 @@ def bqd_run_web_limits(bqd):
 
 
 def bqd_run_web_slow_clients(bqd):
-    """100 clients that send slowly, 100 that say nothing and 100 that read nothing do not keep others out."""
+    """100 clients that send slowly, 100 that send nothing and 100 that read nothing do not keep others out."""
     with Server(bqd) as server, Web(server.port) as page, contextlib.ExitStack() as clients:
         page.is_up()
         for number in range(300):
@@ -302,7 +303,7 @@ def bqd_run_web_slow_clients(bqd):
 
 
 def bqd_run_web_names(bqd):
-    """Another site whose name leads here reads nothing but metrics, unless the name is given."""
+    """Another site whose name resolves to this address reads nothing but metrics, unless the name is configured."""
     with Server(bqd) as server, Web(server.port, "--host", "queue.example") as page:
         page.is_up()
         for host, status in [("evil.example", 421), ("evil.example:11380", 421), ("127.0.0.1.evil.example", 421), ("", 421), ("a b", 421),
@@ -313,7 +314,7 @@ def bqd_run_web_names(bqd):
 
 
 def each_run_web_actions(start):
-    """What the page changes, and that a job that is looked at is deleted only where it was seen."""
+    """The effects of the page's actions; a job that is shown is deleted only in the state in which it was shown."""
     with start() as server, Web(server.port, "--allow-actions") as page:
         teller = Teller(server)
         for _ in range(3):
@@ -346,7 +347,7 @@ def each_run_web_actions(start):
 
 
 def bqd_run_web_forged_actions(bqd):
-    """An action that does not come from the page with its token is refused, and nothing is changed by it."""
+    """An action that does not come from the page with its token is rejected, and changes nothing."""
     with Server(bqd) as server, Web(server.port, "--allow-actions") as page:
         teller = Teller(server)
         teller.put(b"a")
@@ -375,7 +376,7 @@ def bqd_run_web_forged_actions(bqd):
 
 
 def bqd_run_web_unix_socket(bqd):
-    """A Unix socket, which is taken over from a process that has ended and from no other."""
+    """A Unix socket, which is taken over only from a process that has ended."""
     with Server(bqd) as server, tempfile.TemporaryDirectory() as room:
         path = os.path.join(room, "web")
         for _ in range(2):

@@ -1,4 +1,4 @@
-"""Runs of bqd whose clients send many commands together: each answer is whole, in its order, and there at once."""
+"""Runs of bqd whose clients send many commands together: each answer is complete, in order, and sent at once."""
 import socket
 import struct
 import time
@@ -6,11 +6,11 @@ import time
 from programs import Ended, same
 from servers import Server, awaits, value
 
-# How soon the last answer of a batch has to come, in seconds. A system that waits for an acknowledgement of what it
-# sent before holds it back for 0.04.
+# Within how many seconds the last answer of a batch has to come. A system that waits for an acknowledgement of what it
+# sent before would delay it by 0.04.
 SOON = 0.025
 
-# How often it is tried, since a busy machine can be late without the server, and how often it has to be soon.
+# How often it is tried, since a busy machine can be late without the server's fault, and how often it has to be soon.
 TRIES = 40
 SOON_TRIES = 4
 WARM_UP = 10
@@ -20,26 +20,26 @@ SMALL = b"USING default\r\n"
 
 
 def body_of(size):
-    """A body in which no byte looks like its neighbours."""
+    """Returns a body in which no byte equals its neighbours."""
     return bytes(at * 7 % 251 for at in range(size))
 
 
 def with_job(server, size):
-    """A client, and the answer to a peek at job 1, which has so many bytes."""
+    """Returns a client, and the answer to a peek at job 1, which has this many bytes."""
     client = server.client()
     client.asks(b"put 0 0 600 %d\r\n" % size + body_of(size) + b"\r\n", b"INSERTED 1\r\n")
     return client, b"FOUND 1 %d\r\n" % size + body_of(size) + b"\r\n"
 
 
 def resets(client):
-    """Cuts the connection off, and what lies in it is dropped."""
+    """Resets the connection, which drops the data in it."""
     client.stream.setsockopt(socket.SOL_SOCKET, socket.SO_LINGER, struct.pack("ii", 1, 0))
     client.stream.close()
 
 
 def is_soon(tried):
-    """That something often comes soon. `tried` does it once and says how long it took."""
-    # The system acknowledges at once what comes first, whatever the server does.
+    """Checks that something is often quick. `tried` does it once and returns how long it took."""
+    # The system acknowledges the first packets at once, whatever the server does.
     for _ in range(WARM_UP):
         tried()
     took = []
@@ -51,8 +51,8 @@ def is_soon(tried):
 
 
 def run_thousand_at_once(bqd):
-    """A thousand commands in one send are answered whole and in their order, by 16 KB, 64 KB and 20 MB, also where the
-    client stops reading for three seconds."""
+    """A thousand commands in one send are answered completely and in order, with answers of 16 KB, 64 KB and 20 MB in
+    total, even if the client stops reading for three seconds."""
     for size, share, rest in [(0, 1000, 0), (47, 1, 0), (LARGE, 3, 0), (LARGE, 3, 3)]:
         with Server(bqd, "--seats", "1") as server:
             client, found = with_job(server, size)
@@ -64,7 +64,7 @@ def run_thousand_at_once(bqd):
 
 
 def run_batch_byte_by_byte(bqd):
-    """A batch that comes a byte at a time is answered as one that comes at once."""
+    """A batch that arrives byte by byte is answered like one that arrives at once."""
     with Server(bqd, "--seats", "1") as server:
         client, found = with_job(server, 3)
         client.stream.setsockopt(socket.IPPROTO_TCP, socket.TCP_NODELAY, 1)
@@ -75,8 +75,8 @@ def run_batch_byte_by_byte(bqd):
 
 
 def run_batch_with_a_wait(bqd):
-    """Puts with a waiting reserve behind them are answered before it is, also with more commands behind it than a read
-    takes at once; what it waits for comes as soon as it is put, and then the rest."""
+    """Puts followed by a waiting reserve are answered before it is, even if more commands follow than one read takes;
+    what it waits for comes as soon as it is put, and then the other answers."""
     behind = 600
     with Server(bqd, "--seats", "2") as server:
         client, other = server.client(), server.client()
@@ -100,8 +100,8 @@ def run_batch_with_a_wait(bqd):
 
 
 def run_hand_out_behind_a_batch(bqd):
-    """A reserve that a batch ends in, and that waits, is answered at once when its job comes, and so is one whose job is
-    there."""
+    """A reserve at the end of a batch that waits is answered at once when its job comes, and so is one whose job is
+    already there."""
     with Server(bqd, "--seats", "2") as server:
         client, other = server.client(), server.client()
         numbers = iter(range(1, 10000))
@@ -127,7 +127,7 @@ def run_hand_out_behind_a_batch(bqd):
 
 
 def run_last_answer_at_once(bqd):
-    """The last answer of a batch comes at once, and so does that of a lone command and of one in two packets."""
+    """The last answer of a batch comes at once, and so does that of a single command and of one in two packets."""
     with Server(bqd, "--seats", "1") as server:
         client, found = with_job(server, 500)
 
@@ -147,7 +147,7 @@ def run_last_answer_at_once(bqd):
 
 
 def run_batch_then_half_a_put(bqd):
-    """What stands before half a put is answered at once, and the put once its rest has come."""
+    """The commands before half a put are answered at once, and the put once the rest of it has come."""
     with Server(bqd, "--seats", "1") as server:
         client = server.client()
         numbers = iter(range(1, 10000))
@@ -163,7 +163,7 @@ def run_batch_then_half_a_put(bqd):
 
 
 def run_batch_then_the_end(bqd):
-    """A batch with a half-close behind it is answered whole, and then the server closes."""
+    """A batch followed by a half-close is answered completely, and then the server closes."""
     with Server(bqd, "--seats", "1", "--sessions", "1") as server:
         client, found = with_job(server, LARGE)
         client.sends(b"peek 1\r\nlist-tube-used\r\n" * 50)
@@ -175,8 +175,8 @@ def run_batch_then_the_end(bqd):
 
 
 def run_batch_then_a_quit_and_more(bqd):
-    """A batch with a quit behind it is answered whole, and then the server closes, also with more bytes behind the quit
-    than a read takes, which nobody reads."""
+    """A batch followed by a quit is answered completely, and then the server closes, even if more bytes follow the quit
+    than one read takes; nobody reads these."""
     with Server(bqd, "--seats", "1") as server:
         for more in [b"", SMALL, b"x" * 1000, b"x" * 70000, b"x" * 200000]:
             for _ in range(10):
@@ -187,14 +187,14 @@ def run_batch_then_a_quit_and_more(bqd):
 
 
 def run_reset_while_answers_are_written(bqd):
-    """Once a write of an answer has failed, no later command of the line is carried out. The job that its client held is
-    ready again, and its seat serves another client."""
+    """Once a write of an answer has failed, no later command of that client is carried out. The job that the client
+    held is ready again, and its seat serves another client."""
     with Server(bqd, "--seats", "2") as server:
         client, found = with_job(server, LARGE)
         client.asks(b"reserve\r\n", found.replace(b"FOUND", b"RESERVED", 1))
         other = server.client()
         client.sends(b"put 9 0 600 1\r\nz\r\npeek 1\r\n" * 400)
-        # It stands at a write once no more is put, since nobody reads.
+        # It is blocked in a write once no more is put, because the client doesn't read.
         puts = [0]
         awaits(lambda: puts.append(value(other, b"total-jobs")) or len(puts) > 50 and puts[-50] == puts[-1] > 1)
         same(puts[-1] < 400, True)

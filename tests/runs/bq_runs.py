@@ -17,21 +17,21 @@ def run_session(bq):
 
 
 def run_end_of_input(bq):
-    """The end of the input is status 0, behind nothing, behind a command, and behind a part of one."""
+    """At the end of the input the status is 0: after nothing, after a command, and after a part of one."""
     same(ended(bq), Ended(0, b"", b""))
     same(ended(bq, sent=b"reserve\r\n"), Ended(0, b"TIMED_OUT\r\n", b""))
     same(ended(bq, sent=b"list-tube-used\r\nlist-tube-used"), Ended(0, b"USING default\r\n", b""))
 
 
 def run_read_fault(bq):
-    """A read that fails is told on standard error, with status 1."""
+    """A failed read is reported on standard error, with status 1."""
     folder = os.open("/", os.O_RDONLY)
     same(ended(bq, stdin=folder), Ended(1, b"", b"bq: read failed\n"))
     os.close(folder)
 
 
 def run_read_fault_behind_commands(bq):
-    """What came before a read fault was answered."""
+    """The commands before a read fault are answered."""
     with socket.create_server(("127.0.0.1", 0)) as listener:
         client = socket.create_connection(listener.getsockname())
         server, _ = listener.accept()
@@ -39,7 +39,7 @@ def run_read_fault_behind_commands(bq):
         server.close()
         client.sendall(b"put 0 0 9 1\r\nx\r\nput")
         same(process.stdout.readline(), b"INSERTED 1\r\n")
-        # The connection is reset and not closed.
+        # The connection is reset instead of closed.
         client.setsockopt(socket.SOL_SOCKET, socket.SO_LINGER, struct.pack("ii", 1, 0))
         client.close()
         output, errors = process.communicate(timeout=PATIENCE)
@@ -47,7 +47,7 @@ def run_read_fault_behind_commands(bq):
 
 
 def run_write_fault(bq):
-    """A write that fails is told on standard error, with status 1."""
+    """A failed write is reported on standard error, with status 1."""
     wanted = Ended(1, None, b"bq: write failed\n")
     sent = b"list-tube-used\r\nlist-tube-used\r\n"
     with open("/dev/full", "wb") as full:
@@ -59,7 +59,7 @@ def run_write_fault(bq):
 
 
 def run_output_closed(bq):
-    """Standard output that is closed is a write fault, once something is to be written."""
+    """A closed standard output is a write fault, as soon as there is something to write."""
     def close_output():
         os.close(1)
     same(ended(bq, sent=b"list-tube-used\r\n", before=close_output), Ended(1, b"", b"bq: write failed\n"))
@@ -67,7 +67,7 @@ def run_output_closed(bq):
 
 
 def run_bad_options(bq):
-    """Bad options are status 2, with what is wrong on standard error."""
+    """Bad options end with status 2 and a message on standard error."""
     for words in [
         ["--max-job-size", "0"],
         ["--max-job-size", "1048577"],
@@ -87,7 +87,7 @@ def run_bad_options(bq):
 
 
 def run_help(bq):
-    """Help goes to standard output, and has the options with their ranges and what they are unless chosen."""
+    """Help goes to standard output, and lists the options with their ranges and defaults."""
     found = ended(bq, "--help")
     same((found.status, found.errors), (0, b""))
     has_all(found.output.decode(), ["bq", "--still", "--max-job-size", "1 to 1048576", "65535", "--version"])
@@ -105,7 +105,7 @@ def run_help_unwritten(bq):
 
 
 def run_sizes(bq):
-    """A body may have 65,535 bytes unless chosen, and as many as are chosen: 1 to 1,048,576."""
+    """A body may have 65,535 bytes by default, or the chosen number: 1 to 1,048,576."""
     for words, most in [
         ([], 65535),
         (["--max-job-size", "65536"], 65536),
@@ -122,7 +122,7 @@ def run_sizes(bq):
 
 
 def run_statistics(bq):
-    """The statistics tell the size of bodies that is chosen, and one connection."""
+    """The statistics show the chosen limit on bodies, and one connection."""
     text = (
         b"---\n"
         b"current-jobs-urgent: 0\n"
@@ -144,7 +144,7 @@ def run_statistics(bq):
 
 
 def run_clock(bq):
-    """Time goes on for a client as it does elsewhere, unless it is asked to stand still."""
+    """A client's time passes normally, unless it is set to stand still."""
     began = [
         (lease, wanted, subprocess.Popen([bq, *words], stdin=subprocess.PIPE, stdout=subprocess.PIPE))
         for words, lease, wanted in [
@@ -166,5 +166,5 @@ def run_clock(bq):
 
 
 def run_no_memory(bq):
-    """Memory that is refused from the first request on is told on standard error, with status 1."""
+    """If all allocations fail, that is reported on standard error, with status 1."""
     has_no_memory(bq, "bq")

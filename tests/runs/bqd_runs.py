@@ -13,28 +13,28 @@ from servers import TAKEN, Server, all_wait, free_port
 
 LOOPBACK = "127.0.0.1"
 
-# How late a job may come to who waits for it, in seconds, where it is put and where its lease has ended. A seat that
-# waits rests for twenty times and for twice as long between two looks, unless it is woken.
+# How late a waiting client may get a job, in seconds, after the job was put or its lease ended. A seat that waits polls
+# every 20 times and every 40 times as long, unless it is woken up.
 SOON = 0.005
 LATE = 0.05
 
-# How often it is tried, since a busy machine can be late without the server, and how often a job has to come soon,
-# since it may by chance.
+# How often it is tried, since a busy machine can be late without the server's fault, and how often a job has to be
+# soon, since it may be by chance.
 TRIES = 8
 MANY_TRIES = 60
 SOON_TRIES = 3
 
-# What is told where no file descriptor is left for a connection.
+# The message if no file descriptor is left for a connection.
 SHORT = b"bqd: no connection can be accepted: Too many open files (os error 24)\n"
 
 
 def run_no_words(bqd):
-    """An address has to be given."""
+    """An address is required."""
     refuses_words(bqd)
 
 
 def run_bad_options(bqd):
-    """Bad options are status 2, with what is wrong on standard error."""
+    """Bad options end with status 2 and a message on standard error."""
     listen = ["--listen", "127.0.0.1:0"]
     for words in [
         ["--seats", "1"],
@@ -63,7 +63,7 @@ def run_bad_options(bqd):
 
 
 def run_help(bqd):
-    """Help goes to standard output, and has the options with their ranges and what they are unless chosen."""
+    """Help goes to standard output, and lists the options with their ranges and defaults."""
     found = ended(bqd, "--help")
     same((found.status, found.errors), (0, b""))
     has_all(found.output.decode(), ["bqd", "--listen", "--seats", "1 to 256", "16", "--max-job-size"])
@@ -85,19 +85,20 @@ def run_version(bqd):
 
 
 def cannot_listen(bqd, address, why, *words):
-    """That it reports `cannot listen` on a line of its own, and the address and the system's reason on the next."""
+    """Checks that it reports `cannot listen` on a line of its own, and the address and the system's reason on the next.
+    """
     told = f"bqd: cannot listen\nbqd: {address}: {why}\n".encode()
     same(ended(bqd, *words), Ended(1, b"", told))
 
 
 def run_cannot_listen(bqd):
-    """An address that is taken, one of another machine, one that may not be had, and a text that is none."""
+    """An address in use, one of another machine, one that is not permitted, and a text that is no address."""
     with socket.create_server((LOOPBACK, 0)) as listener:
         port = listener.getsockname()[1]
         taken = f"{LOOPBACK}:{port}"
         cannot_listen(bqd, taken, "Address already in use (os error 98)", "--listen", taken)
         cannot_listen(bqd, taken, "Address already in use (os error 98)", "-l", LOOPBACK, "-p", str(port))
-    # An address that is kept for documents, and no machine's.
+    # An address that is reserved for documentation, and belongs to no machine.
     cannot_listen(bqd, "192.0.2.1:0", "Cannot assign requested address (os error 99)", "--listen", "192.0.2.1:0")
     for text in [LOOPBACK, "", f"{LOOPBACK}:65536"]:
         found = ended(bqd, "--listen", text)
@@ -108,7 +109,7 @@ def run_cannot_listen(bqd):
 
 
 def run_one_client(bqd):
-    """It tells where it listens, serves a client there, and ends with status 0 once its seat has ended."""
+    """It reports where it listens, serves a client there, and ends with status 0 once its seat has ended."""
     with Server(bqd, "--seats", "1", "--sessions", "1", port=free_port()) as server:
         same(server.told, f"listening {LOOPBACK}:{server.port}\n".encode())
         client = server.client()
@@ -121,7 +122,7 @@ def run_one_client(bqd):
 
 
 def run_listens_there_alone(bqd):
-    """It listens at the address that is chosen, and at no other of the machine."""
+    """It listens at the chosen address, and at no other of the machine."""
     with Server(bqd, "--seats", "1") as server:
         server.client().asks(b"list-tube-used\r\n", b"USING default\r\n")
         with socket.socket() as other:
@@ -129,7 +130,7 @@ def run_listens_there_alone(bqd):
 
 
 def run_chosen_port(bqd):
-    """Port 0 takes a free one, which is told."""
+    """With port 0 it takes a free port, which it reports."""
     with Server(bqd, listen=["--listen", f"{LOOPBACK}:0"]) as server:
         address, _, port = server.told.decode().rstrip("\n").rpartition(":")
         same(address, f"listening {LOOPBACK}")
@@ -138,7 +139,7 @@ def run_chosen_port(bqd):
 
 
 def run_words_of_beanstalkd(bqd):
-    """Address, port and size of bodies can be chosen by -l, -p and -z, and -V changes nothing."""
+    """Address, port and the limit on bodies can be set with -l, -p and -z, and -V changes nothing."""
     port = free_port()
     words = ["-V", "-l", LOOPBACK, "-p", str(port), "-VV", "-z", "3"]
     with Server(bqd, "--seats", "1", listen=words, port=port) as server:
@@ -149,7 +150,7 @@ def run_words_of_beanstalkd(bqd):
 
 
 def run_numbers_at_the_ends(bqd):
-    """The least and the greatest number of each option are taken, and do what they say."""
+    """The smallest and the largest number of each option are accepted and take effect."""
     words = ["--seats", "1", "--sessions", "1", "-z", "1", "--max-jobs", "1", "--requeue-delay", "0"]
     with Server(bqd, *words) as server:
         client = server.client()
@@ -164,14 +165,14 @@ def run_numbers_at_the_ends(bqd):
         client.asks(b"put 0 0 9 1\r\nx\r\nreserve\r\nquit\r\n", b"INSERTED 1\r\nRESERVED 1 1\r\nx\r\n")
         client.hears_end()
         server.client().asks(b"reserve-with-timeout 0\r\nkick-job 1\r\n", b"TIMED_OUT\r\nKICKED\r\n")
-    # An address of this machine alone that nobody else listens at.
+    # A loopback address at which no other process listens.
     address = "127." + ".".join(str(random.randint(1, 254)) for _ in range(3))
     with Server(bqd, listen=["-l", address, "-p", "65535"]) as server:
         same(server.told, f"listening {address}:65535\n".encode())
 
 
 def run_sessions_are_counted(bqd):
-    """A seat serves exactly as many connections as are chosen: the next one is never answered."""
+    """A seat serves exactly the chosen number of connections: the next one is never answered."""
     for sessions in [1, 3]:
         with Server(bqd, "--seats", "1", "--sessions", str(sessions)) as server:
             for _ in range(sessions):
@@ -185,7 +186,8 @@ def run_sessions_are_counted(bqd):
 
 
 def run_drain(bqd):
-    """The line drain on standard input begins draining, which is told once: puts are refused, and jobs are handed out."""
+    """The line drain on standard input starts draining, which is reported once: puts are rejected, and jobs are handed
+    out."""
     with Server(bqd, "--seats", "1", "--sessions", "1") as server:
         client = server.client()
         server.control(b"other\ndraining\n dra")
@@ -208,7 +210,7 @@ def run_drain(bqd):
 
 
 def run_ends_with_its_input(bqd):
-    """It ends once all seats and standard input have ended, and not before."""
+    """It ends once all seats and standard input have ended, and not earlier."""
     with Server(bqd, "--seats", "1", "--sessions", "1") as server:
         client = server.client()
         client.sends(b"quit\r\n")
@@ -218,7 +220,7 @@ def run_ends_with_its_input(bqd):
 
 
 def run_goes_on_behind_its_input(bqd):
-    """It serves as long as seats do, also when standard input has ended."""
+    """It serves as long as seats do, even if standard input has ended."""
     with Server(bqd, "--seats", "1", "--sessions", "2") as server:
         server.process.stdin.close()
         for _ in range(2):
@@ -229,7 +231,7 @@ def run_goes_on_behind_its_input(bqd):
 
 
 def run_one_seat(bqd):
-    """One seat serves one client at a time; the next one is served when that has gone."""
+    """One seat serves one client at a time; the next one is served once that one has disconnected."""
     with Server(bqd, "--seats", "1") as server:
         first, second = server.client(), server.client()
         first.asks(b"list-tube-used\r\n", b"USING default\r\n")
@@ -240,7 +242,7 @@ def run_one_seat(bqd):
 
 
 def run_seats_unless_chosen(bqd):
-    """There are 16 seats unless chosen."""
+    """There are 16 seats by default."""
     with Server(bqd) as server:
         for _ in range(16):
             server.client().asks(b"list-tube-used\r\n", b"USING default\r\n")
@@ -250,7 +252,7 @@ def run_seats_unless_chosen(bqd):
 
 
 def run_most_seats(bqd):
-    """256 clients are served at a time, also where each waits for what the last one puts."""
+    """256 clients are served at the same time, even if each waits for what the last one puts."""
     with Server(bqd, "--seats", "256", "--sessions", "1") as server:
         clients = [server.client() for _ in range(256)]
         for client in clients:
@@ -258,7 +260,7 @@ def run_most_seats(bqd):
         putter = clients.pop()
         for client in clients:
             client.sends(b"reserve\r\n")
-        # One whose reserve comes late would be given the job of one that has closed.
+        # A client whose reserve comes late would get the job of one that has closed.
         all_wait(putter, len(clients))
         putter.asks(b"put 0 0 600 1\r\nx\r\n" * 255, b"".join(b"INSERTED %d\r\n" % (k + 1) for k in range(255)))
         heard = set()
@@ -272,7 +274,7 @@ def run_most_seats(bqd):
 
 
 def run_sizes(bqd):
-    """A body may have 65,535 bytes unless chosen, and as many as are chosen: 1 to 1,048,576."""
+    """A body may have 65,535 bytes by default, or the chosen number: 1 to 1,048,576."""
     for words, most in [([], 65535), (["--max-job-size", "1048576"], 1048576), (["--max-job-size", "1"], 1)]:
         body = b"x" * most
         with Server(bqd, "--seats", "1", "--sessions", "1", *words) as server:
@@ -285,7 +287,7 @@ def run_sizes(bqd):
 
 
 def run_wait(bqd):
-    """A client that waits is given the job that another one puts."""
+    """A client that waits gets the job that another client puts."""
     with Server(bqd, "--seats", "2", "--sessions", "1") as server:
         one, other = server.client(), server.client()
         one.sends(b"reserve\r\n")
@@ -297,7 +299,7 @@ def run_wait(bqd):
 
 
 def run_many_commands_at_once(bqd):
-    """A hundred commands in one packet, and a put in two with a quit behind it, are answered in their order."""
+    """A hundred commands in one packet, and a put in two packets followed by a quit, are answered in order."""
     with Server(bqd, "--seats", "1", "--sessions", "2") as server:
         client = server.client()
         client.asks(b"list-tube-used\r\n" * 100, b"USING default\r\n" * 100)
@@ -311,7 +313,7 @@ def run_many_commands_at_once(bqd):
 
 
 def run_sends_no_more(bqd):
-    """A client that sends no more is answered what it asked, a wait too."""
+    """A client that sends no more gets all answers, including that of a wait."""
     with Server(bqd, "--seats", "1", "--sessions", "20") as server:
         for number in range(1, 11):
             put = b"put 0 0 9 1\r\nx\r\ndelete %d\r\n" % number, b"INSERTED %d\r\nDELETED\r\n" % number
@@ -326,7 +328,7 @@ def run_sends_no_more(bqd):
 
 
 def run_job_of_a_lost_client(bqd):
-    """A job that a client held when it went goes to one that waits."""
+    """If a client disconnects, the job that it held goes to a waiting client."""
     with Server(bqd, "--seats", "2") as server:
         other = server.client()
         for number in range(1, 11):
@@ -340,7 +342,7 @@ def run_job_of_a_lost_client(bqd):
 
 
 def run_more_clients_than_seats(bqd):
-    """Of 48 clients that come at once each is served by one of 16 seats."""
+    """Of 48 clients that connect at once, each is served by one of 16 seats."""
     with Server(bqd, "--sessions", "3") as server:
         clients = [server.client() for _ in range(48)]
         for client in clients:
@@ -352,7 +354,7 @@ def run_more_clients_than_seats(bqd):
 
 
 def run_put_goes_on_at_once(bqd):
-    """A job that is put goes to a client that waits as soon as it is put, at some random moments at least."""
+    """A waiting client gets a job as soon as it is put, at some random moments at least."""
     soon = 0
     with Server(bqd, "--seats", "2") as server:
         one, other = server.client(), server.client()
@@ -371,7 +373,7 @@ def run_put_goes_on_at_once(bqd):
 
 
 def run_rests(bqd):
-    """While clients wait or say nothing, the server does next to no work."""
+    """While clients wait or send nothing, the server does next to no work."""
     with Server(bqd) as server:
         clients = [server.client() for _ in range(16)]
         for client in clients:
@@ -385,7 +387,8 @@ def run_rests(bqd):
 
 
 def run_seldom_wakes(bqd):
-    """While 16 clients say nothing and one waits, the server's threads wake fewer than 30 times a second in all."""
+    """While 16 clients send nothing and one waits, the server's threads wake up fewer than 30 times a second in total.
+    """
     with Server(bqd, "--seats", "17") as server:
         for _ in range(16):
             server.client().asks(b"list-tube-used\r\n", b"USING default\r\n")
@@ -399,7 +402,7 @@ def run_seldom_wakes(bqd):
 
 
 def run_lease_goes_on_in_time(bqd):
-    """A lease of a silent client ends never before its time, and once at least as soon as it is over."""
+    """A lease of a silent client never ends too early, and at least once ends as soon as it is due."""
     with Server(bqd, "--seats", "2") as server:
         one, other = server.client(), server.client()
         for number in range(1, TRIES + 1):
@@ -418,7 +421,7 @@ def run_lease_goes_on_in_time(bqd):
 
 
 def run_output_unwritten(bqd):
-    """Where standard output takes nothing, it serves all the same."""
+    """If standard output can't be written, it still serves."""
     port = free_port()
     with open("/dev/full", "wb") as full:
         words = [f"{LOOPBACK}:{port}", "--seats", "1", "--sessions", "1"]
@@ -431,7 +434,7 @@ def run_output_unwritten(bqd):
 
 @contextlib.contextmanager
 def inputs():
-    """Standard inputs of each kind, by their names, and whether a drain is in them."""
+    """Standard inputs of each kind, by name, and whether they contain a drain."""
     with tempfile.TemporaryFile() as drain, tempfile.TemporaryFile() as empty, contextlib.ExitStack() as stack:
         drain.write(b"other\ndrain\n")
         drain.seek(0)
@@ -453,7 +456,7 @@ def inputs():
 
 
 def run_control_line_of_each_kind(bqd):
-    """Whatever standard input is, a drain in it is heard, clients are served, and its end costs no work."""
+    """Whatever standard input is, a drain in it takes effect, clients are served, and its end costs no work."""
     with inputs() as kinds:
         for stdin, has_drain in kinds.values():
             with Server(bqd, "--seats", "2", stdin=stdin) as server:
@@ -466,7 +469,7 @@ def run_control_line_of_each_kind(bqd):
 
 
 def run_control_line_keeps_its_flags(bqd):
-    """Standard input isn't switched to non-blocking: other processes may share it."""
+    """Standard input isn't switched to non-blocking mode, since other processes may share it."""
     end, other = os.pipe()
     with Server(bqd, "--seats", "1", stdin=end) as server:
         server.client().asks(b"list-tube-used\r\n", b"USING default\r\n")
@@ -476,8 +479,8 @@ def run_control_line_keeps_its_flags(bqd):
 
 
 def run_descriptors_refused(bqd):
-    """A seat that is refused a file descriptor rests, and serves once there is one."""
-    # Its streams, its listener, what it waits by and one connection.
+    """A seat that can't get a file descriptor sleeps, and serves once there is one."""
+    # Its streams, its listener, what it polls with, and one connection.
     with Server(bqd, "--seats", "2", "--sessions", "1", before=limits(NOFILE=5 + bqd.is_loop)) as server:
         first, second = server.client(), server.client()
         first.asks(b"list-tube-used\r\n", b"USING default\r\n")
@@ -492,14 +495,14 @@ def run_descriptors_refused(bqd):
 
 
 def run_shortage_is_told(bqd):
-    """That no connection can be accepted is told when it happens, and again only after it went well."""
-    # Its streams, its listener, what it waits by and one connection.
+    """That no connection can be accepted is reported when it happens, and again only after one was accepted."""
+    # Its streams, its listener, what it polls with, and one connection.
     with Server(bqd, "--seats", "2", before=limits(NOFILE=(5 + bqd.is_loop, 64))) as server:
         first = server.client()
         first.asks(b"list-tube-used\r\n", b"USING default\r\n")
         second = server.client()
         server.tells(SHORT)
-        # It is tried again and again meanwhile.
+        # Meanwhile it is tried again and again.
         same(server.is_silent(0.5), True)
         server.may_open(64)
         second.asks(b"list-tube-used\r\n", b"USING default\r\n")
@@ -512,18 +515,18 @@ def run_shortage_is_told(bqd):
 
 
 def run_no_memory(bqd):
-    """Memory that is refused from the first request on is told on standard error, with status 1."""
+    """If all allocations fail, that is reported on standard error, with status 1."""
     has_no_memory(bqd, "bqd", "--listen", f"{LOOPBACK}:0")
 
 
 def pieces(text, cuts):
-    """A text cut at these places."""
+    """Returns a text cut at these places."""
     ends = [0] + [cut for cut in cuts if cut < len(text)] + [len(text)]
     return [text[begin:end] for begin, end in zip(ends, ends[1:])]
 
 
 def run_bodies_at_the_edges(bqd):
-    """Bodies as long as a read or a write takes at once, and a byte less or more, come back as they were sent."""
+    """Bodies as long as one read or write takes, and a byte less or more, come back unchanged."""
     sizes = [0, 1, 4095, 4096, 4097, 65535, 65536, 1048576]
     with Server(bqd, "--seats", "1", "--max-job-size", "1048576") as server:
         client = server.client()
@@ -541,7 +544,7 @@ def run_bodies_at_the_edges(bqd):
 
 
 def run_commands_at_once(bqd):
-    """Commands that come together, more of them than a read takes at once, are answered one after another."""
+    """Commands that arrive together, more of them than one read takes, are answered one after another."""
     puts = b"".join(b"put 0 0 9 %d\r\n%s\r\n" % (size, b"x" * size) for size in range(1000))
     ids = range(1, 1001)
     with Server(bqd, "--seats", "1") as server:
@@ -551,8 +554,8 @@ def run_commands_at_once(bqd):
 
 
 def run_answers_before_a_wait(bqd):
-    """What was answered goes to the client before the server waits, for the rest of a put or for a job: with further
-    commands behind the reserve too, and sooner than the seat that waits looks again."""
+    """Answers reach the client before the server waits for the rest of a put or for a job, even with further commands
+    after the reserve, and before the waiting seat polls again."""
     with Server(bqd, "--seats", "1") as server:
         client = server.client()
         client.asks(b"list-tube-used\r\nput 0 9 9 1\r\n", b"USING default\r\n")
@@ -571,7 +574,7 @@ def run_answers_before_a_wait(bqd):
 
 
 def run_long_answers_at_once(bqd):
-    """Answers that are sent together are whole and in their order, however much they come to."""
+    """Answers that are sent together are complete and in order, however large they are."""
     drawn = random.Random(5)
     sizes = [0, 1000, *range(16360, 16370), 40000, 65535]
     with Server(bqd, "--seats", "1") as server:
@@ -586,7 +589,7 @@ def run_long_answers_at_once(bqd):
 
 
 def run_what_a_client_left(bqd):
-    """What a client sent and nobody read is no part of what the next one sends."""
+    """Unread input of one client is not part of the next client's."""
     with Server(bqd, "--seats", "1") as server:
         first = server.client()
         first.sends(b"list-tube-used\r\nquit\r\nuse other\r\nput 0 0 9 3\r\nab")
@@ -596,7 +599,7 @@ def run_what_a_client_left(bqd):
 
 
 def run_seats_taken_are_told(bqd):
-    """That a connection took the last free seat is told when it does, before anybody waits, and not soon again."""
+    """That a connection took the last free seat is reported at once, before any client waits, and not again soon."""
     with Server(bqd, "--seats", "2") as server:
         first = server.client()
         first.asks(b"list-tube-used\r\n", b"USING default\r\n")
@@ -604,7 +607,7 @@ def run_seats_taken_are_told(bqd):
         second = server.client()
         second.asks(b"list-tube-used\r\n", b"USING default\r\n")
         server.tells(TAKEN)
-        # The seat that is free in between isn't so for a minute.
+        # The seat that is free in between isn't free for a minute.
         for _ in range(3):
             second.close()
             second = server.client()
@@ -613,7 +616,7 @@ def run_seats_taken_are_told(bqd):
 
 
 def run_seats_that_end_are_not_free(bqd):
-    """A seat that serves no more connections isn't free: the last connection of all takes the last seat."""
+    """A seat that serves no more connections isn't free: the very last connection takes the last seat."""
     with Server(bqd, "--seats", "2", "--sessions", "1") as server:
         for _ in range(2):
             same(server.is_silent(0.3), True)
@@ -636,8 +639,9 @@ def run_seat_served_once_of_twice_is_free(bqd):
 
 
 def run_seats_taken_are_told_again(bqd):
-    """After some seat was free for a minute it is told again that all are taken, though others became free later."""
-    # The clock goes a hundred times as fast.
+    """After some seat was free for a minute, it is reported again that all are taken, even if other seats became free
+    later."""
+    # The clock runs a hundred times as fast.
     with Server(bqd, "--seats", "3", env=faults(clock=100)) as server:
         clients = [server.client() for _ in range(3)]
         for client in clients:

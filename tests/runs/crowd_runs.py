@@ -1,5 +1,5 @@
-"""Runs of bqd with more clients than most: many answers by one command, many that ask at one moment, and a client on each
-seat for each kind of what is due."""
+"""Runs of bqd with especially many clients: many answers by one command, many requests at the same moment, and a client
+at each seat for each kind of event that is due."""
 import concurrent.futures
 import time
 
@@ -8,8 +8,8 @@ from programs import same
 from servers import Server, all_wait
 from waiting_runs import ANSWER, ASK, all_ask_at_one_moment, often
 
-# How late an answer may come, in seconds. A seat that isn't woken looks again only after its rest, and where it has
-# waited for some time that is a second.
+# How late an answer may come, in seconds. A seat that isn't woken up polls again only after it has slept, which after
+# some time is a second.
 LATE = 0.2
 LONG_WAIT = 1.6
 
@@ -44,13 +44,13 @@ def run_kick_for_many(bqd):
 
 
 def run_many_ask_at_one_moment(bqd):
-    """Of 250 clients that ask at the same moment, and then all wait, each is answered."""
+    """Of 250 clients that make a request at the same moment, and then all wait, each is answered."""
     all_ask_at_one_moment(bqd, 250, 250, 20)
 
 
 def run_delay_after_an_hour(bqd):
-    """After more than an hour of silence a delay of ten seconds is over in time, in each of some servers."""
-    # How often as fast as it does the clock goes, and by it the silence, and how late a job may come, in seconds.
+    """After more than an hour of silence, a delay of ten seconds ends in time, in each of several servers."""
+    # How many times as fast the clock runs; and by that clock the silence, and how late a job may come, in seconds.
     speed, silence, late, servers = 2000, 5400, 300, 6
 
     def took(_):
@@ -73,7 +73,7 @@ def run_delay_after_an_hour(bqd):
 
 
 class Round:
-    """Clients of which each waits in a tube of its own, with as many others."""
+    """Clients that each wait in a tube of their own, and equally many others."""
 
     def __init__(self, number, waiting, others):
         self.waiting, self.others = waiting, others
@@ -97,7 +97,7 @@ class Round:
             next_line(client)
 
     def others_reserve(self):
-        """Each of the others holds the job of a tube."""
+        """Each of the others reserves the job of a tube."""
         self.each_watches(self.others)
         for client in self.others:
             client.sends(b"reserve\r\n")
@@ -110,13 +110,13 @@ def next_line(client):
 
 
 def job(client):
-    """The id of a job that a client is given."""
+    """Returns the id of the job that a client gets."""
     number = int(next_line(client).split()[1])
     client.hears(b"x\r\n")
     return number
 
 
-# What is due a second after it was asked for.
+# Each of these makes something due after a second.
 def reserves(it):
     for client in it.waiting:
         client.sends(b"reserve-with-timeout 1\r\n")
@@ -156,18 +156,18 @@ def requeues(it):
         client.close()
 
 
-# Each with what is told by it, or None where it is a job.
+# Each with the answer that is due, or None if it is a job.
 DUE = [(reserves, b"TIMED_OUT\r\n"), (leases, None), (delays, None), (pauses, None), (warnings, b"DEADLINE_SOON\r\n"), (requeues, None)]
 
 
 def lateness(bqd, begin, told):
-    """How late the last of the clients hears what is due, in seconds: half of the seats have one that waits, and then the
-    other half."""
+    """Returns how late the last of the clients gets the answer that is due, in seconds: first half of the seats have a
+    waiting client, and then the other half."""
     half, worst = 4, 0
     with Server(bqd, "--seats", str(2 * half), "--requeue-delay", "1") as server:
         first, second = ([server.client() for _ in range(half)] for _ in range(2))
         for number, (waiting, others) in enumerate([(first, second), (second, first)]):
-            # The seats of those that closed are the only free ones.
+            # The only free seats are those of the clients that closed.
             waiting = [server.client() if it.stream.fileno() < 0 else it for it in waiting]
             now = Round(number, waiting, others)
             now.each_watches(waiting)
@@ -183,8 +183,8 @@ def lateness(bqd, begin, told):
 
 
 def run_due_on_each_seat(bqd):
-    """Whichever seat serves a client that waits, it hears in time what is due: the end of its wait, of another's lease, of
-    a delay and of a pause, a warning, and the job of a lost connection."""
+    """Whichever seat serves a waiting client, the client gets in time what is due: the end of its wait, of another
+    client's lease, of a delay and of a pause, a warning, and the job of a client that disconnected."""
     def tried():
         with concurrent.futures.ThreadPoolExecutor(len(DUE)) as pool:
             found = list(pool.map(lambda it: (it[0].__name__, lateness(bqd, *it)), DUE))

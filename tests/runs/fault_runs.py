@@ -1,4 +1,4 @@
-"""Runs of bqd where the system fails it, and where its clients treat it badly."""
+"""Runs of bqd in which system calls fail, or clients misbehave."""
 import errno
 import os
 import select
@@ -10,10 +10,10 @@ from programs import Ended, same
 from queue_model.engines import of_loop, of_threads
 from servers import OTHERS, TAKEN, Server, awaits, threads_with, value
 
-# How long a seat rests that was refused what it needs for a connection, in seconds.
+# How long a seat sleeps that could not get a resource for a connection, in seconds.
 REST = 0.1
 
-# How long what takes a tenth of a second may take on a busy machine.
+# How many seconds an operation of a tenth of a second may take on a busy machine.
 LONG = 5.0
 
 # How late the end of a lease may be, in seconds, and how often it is tried, since a busy machine can be late by itself.
@@ -24,7 +24,7 @@ ASK, ANSWER = b"list-tube-used\r\n", b"USING default\r\n"
 
 
 def run_peers_that_are_gone(bqd):
-    """A connection that is gone before it is accepted is passed over, and nobody is told."""
+    """A connection that is gone before it is accepted is skipped without a report."""
     for code in [errno.ECONNABORTED, errno.EINTR]:
         with Server(bqd, "--seats", "1", "--sessions", "1", env=faults(accepts=code, times=3)) as server:
             client = server.client()
@@ -34,7 +34,7 @@ def run_peers_that_are_gone(bqd):
 
 
 def run_connection_that_would_hold_back(bqd):
-    """A connection that can't be made to send each write at once is shut unserved, and the next one is taken."""
+    """A connection that can't be set to send each write at once is closed unserved, and the next one is accepted."""
     with Server(bqd, "--seats", "1", "--sessions", "1", env=faults(nodelay=errno.EINVAL, times=1)) as server:
         first = server.client()
         first.hears_end()
@@ -46,7 +46,7 @@ def run_connection_that_would_hold_back(bqd):
 
 @of_loop
 def run_connection_that_cannot_be_watched(bqd):
-    """A connection that the system doesn't watch is shut unserved, and the next one is taken."""
+    """A connection that can't be watched is closed unserved, and the next one is accepted."""
     for code in [errno.ENOSPC, errno.ENOMEM]:
         with Server(bqd, "--seats", "1", "--sessions", "2", env=faults(watches=code, times=1)) as server:
             server.client().hears_end()
@@ -56,26 +56,27 @@ def run_connection_that_cannot_be_watched(bqd):
             same(server.end(), Ended(0, b"", b""))
 
 
-# What a connection can lack, and what Linux returns of a connection that the network or a firewall broke (accept(2)).
+# The resources that a connection can lack, and the errors that Linux returns for a connection that the network or a
+# firewall broke (accept(2)).
 SHORTAGES = [errno.EMFILE, errno.ENFILE, errno.ENOBUFS, errno.ENOMEM]
 OF_THE_NETWORK = [
     errno.EPROTO, errno.ENETDOWN, errno.ENOPROTOOPT, errno.EHOSTDOWN, errno.ENONET, errno.EHOSTUNREACH, errno.EOPNOTSUPP,
     errno.ENETUNREACH, errno.EPERM, errno.ETIMEDOUT,
 ]
 
-# What says that the listener itself is broken.
+# The errors that mean that the listener itself is broken.
 OF_THE_LISTENER = [errno.EINVAL, errno.EBADF, errno.ENOTSOCK, errno.EFAULT]
 AT_THE_END = b"bqd: a connection could not be accepted\n"
 
 
 def told_of(code):
-    """What is told of an error of an accept."""
+    """The message for an error of accept."""
     return f"bqd: no connection can be accepted: {os.strerror(code)} (os error {code})\n".encode()
 
 
 def run_shortages(bqd):
-    """After an error of one connection, and where there is too little of something for one, the seat rests and tries
-    again, and that is told once."""
+    """After an error of one connection, or if a resource is lacking, the seat sleeps and tries again. That is reported
+    once."""
     tries = 2
     for code in SHORTAGES + OF_THE_NETWORK:
         begun = time.monotonic()
@@ -88,8 +89,8 @@ def run_shortages(bqd):
 
 
 def run_faults_of_a_listener(bqd):
-    """A fault of the listener's own ends a seat for good, which is told; another one serves on. It is told at the end
-    too, with status 1."""
+    """A fault of the listener itself ends a seat for good, which is reported; another seat continues. It is reported at
+    the end too, with status 1."""
     for code in OF_THE_LISTENER:
         with Server(bqd, "--seats", "2", "--sessions", "1", env=faults(accepts=code, times=1)) as server:
             server.tells(told_of(code))
@@ -99,14 +100,14 @@ def run_faults_of_a_listener(bqd):
             # A seat that has ended isn't free.
             server.tells(TAKEN)
             client.close()
-            # The last seat ended well: the server waits for the end of the control line.
+            # The last seat ended normally: the server waits for the end of the control line.
             same(server.goes_on(2 * REST), True)
             same(server.end(), Ended(1, b"", AT_THE_END))
 
 
 def run_last_seat_fails(bqd):
-    """Once the last seat has ended by a fault of the listener, the server tells it and ends with status 1, whether the
-    control line is open or not."""
+    """Once the last seat has ended because of a fault of the listener, the server reports it and ends with status 1,
+    whether or not the control line is open."""
     for seats, words in [(1, []), (2, []), (2, ["--sessions", "1"])]:
         for is_open in [True, False]:
             code = errno.EINVAL
@@ -116,7 +117,8 @@ def run_last_seat_fails(bqd):
 
 @of_threads
 def run_last_seat_fails_behind_a_client(bqd):
-    """So it does once the client of the last seat has gone, and if the other seat has served all that it may."""
+    """It also does so after the client of the last seat has disconnected, and if the other seat has served all that it
+    may."""
     code = errno.EBADF
     with Server(bqd, "--seats", "1", env=faults(accepts=code, after=1, times=1)) as server:
         client = server.client()
@@ -142,11 +144,11 @@ def run_last_seat_fails_behind_a_client(bqd):
 
 @of_threads
 def run_each_thread_refused(bqd):
-    """Whichever thread is refused, nobody is served, with status 1."""
+    """Whichever thread can't be started, no client is served, and the status is 1."""
     with Server(bqd, "--seats", "256", env=faults(thread=200)) as server:
         same(server.end(), Ended(1, b"", b"bqd: a thread was refused\n"))
     seats = 2
-    # The first one is there.
+    # The first thread already exists.
     threads = seats + OTHERS - 1
     for nth in range(1, threads + 1):
         with Server(bqd, "--seats", str(seats), env=faults(thread=nth)) as server:
@@ -156,13 +158,13 @@ def run_each_thread_refused(bqd):
 
 
 def passing_errors(bqd):
-    """The errors of a call that is made again soon. An event loop makes a call that found nothing again once the system reports more,
-    which it does where it meant it."""
+    """The errors of a call that is repeated soon. An event loop repeats a call that found nothing only once the system
+    reports more, which it does if it really had found nothing."""
     return [errno.EINTR] if bqd.is_loop else [errno.EINTR, errno.EAGAIN]
 
 
 def run_reads_that_are_tried_again(bqd):
-    """A read that was interrupted, or that has nothing yet, is made again soon."""
+    """A read that was interrupted, or that has nothing yet, is repeated soon."""
     for code in passing_errors(bqd):
         with Server(bqd, "--seats", "1", "--sessions", "1", env=faults(reads=code, times=2)) as server:
             client = server.client()
@@ -173,7 +175,8 @@ def run_reads_that_are_tried_again(bqd):
 
 
 def run_writes_that_are_tried_again(bqd):
-    """A write that was interrupted, or that found no room, is made again, also for the rest of an answer. Every byte arrives once."""
+    """A write that was interrupted, or that found no room, is repeated, also for the rest of an answer. Every byte
+    arrives once."""
     puts = 8
     answers = b"".join(b"INSERTED %d\r\n" % put for put in range(1, puts + 1))
     for code in passing_errors(bqd):
@@ -188,12 +191,12 @@ def run_writes_that_are_tried_again(bqd):
 
 
 def run_writes_that_fail(bqd):
-    """Whatever other error a write meets, the answer before it is the last that counts, or was cut off there. No later command
-    of the line is carried out, and the seat serves the next client."""
+    """After any other error of a write, the answer before it is the last that counts, or was cut off there. No later
+    command of the client is carried out, and the seat serves the next client."""
     puts = 8
     for code in [errno.EPIPE, errno.ECONNRESET, errno.ENOBUFS]:
         for nth, cut in [(1, 0), (2, 0), (2, 3), (puts, 0), (puts, 11)]:
-            # Where the answer before was cut, the write that fails is that of its rest.
+            # If the previous answer was cut, the write that fails is that of its rest.
             carried_out = nth - 1 if cut else nth
             answers = b"".join(b"INSERTED %d\r\n" % put for put in range(1, carried_out + 1))
             written = answers[: len(b"INSERTED 1\r\n") * (carried_out - 1) + cut]
@@ -207,11 +210,11 @@ def run_writes_that_fail(bqd):
 
 
 def run_gone_while_it_waits(bqd):
-    """The seat of a client that goes while it waits is soon free for another."""
+    """If a client disconnects while it waits, its seat is soon free for another client."""
     with Server(bqd, "--seats", "1") as server:
         first = server.client()
         first.asks(ASK + b"reserve\r\n", ANSWER)
-        # Its seat rests by now.
+        # Its seat sleeps by now.
         time.sleep(0.15)
         first.close()
         other = server.client()
@@ -220,13 +223,13 @@ def run_gone_while_it_waits(bqd):
 
 
 def run_large_answers_behind_a_wait(bqd):
-    """Answers that are more than the system takes at once come whole, behind a wait too."""
+    """Answers larger than what the system takes at once are complete, also after a wait."""
     size, peeks = 1 << 20, 12
     body = bytes(at * 7 % 251 for at in range(size))
     with Server(bqd, "--seats", "2", "--max-job-size", str(size)) as server:
         waits, puts = server.client(), server.client()
         waits.sends(b"reserve\r\n")
-        # Its seat looks meanwhile whether it has gone, by reads that don't wait.
+        # Meanwhile its seat checks with reads that don't wait whether it has disconnected.
         time.sleep(0.15)
         waits.sends(b"peek 1\r\n" * peeks)
         time.sleep(0.15)
@@ -238,7 +241,7 @@ def run_large_answers_behind_a_wait(bqd):
 
 
 def run_answers_that_nobody_reads(bqd):
-    """Answers that a client doesn't read take no memory: the server waits for it."""
+    """Answers that a client doesn't read take no memory: the server waits for the client."""
     size, peeks = 65535, 200
     answer = b"FOUND 1 %d\r\n%s\r\n" % (size, b"x" * size)
     with Server(bqd, "--seats", "1") as server:
@@ -253,7 +256,7 @@ def run_answers_that_nobody_reads(bqd):
 
 
 def run_time_goes_as_it_does(bqd):
-    """A lease of a second ends a second later, and not before, also where steps come all the time."""
+    """A lease of one second ends one second later and not earlier, even while steps are taken all the time."""
     with Server(bqd, "--seats", "3") as server:
         holds, waits, asks = server.client(), server.client(), server.client()
         for number in range(1, TRIES + 1):
@@ -275,7 +278,7 @@ def run_time_goes_as_it_does(bqd):
 
 
 def run_serves_without_end(bqd):
-    """Unless a number is chosen, a seat serves one client after another without end."""
+    """Without a chosen number, a seat serves one client after another without limit."""
     with Server(bqd, "--seats", "1") as server:
         for _ in range(1200):
             client = server.client()
@@ -285,12 +288,12 @@ def run_serves_without_end(bqd):
 
 
 def run_answers_go_out_at_once(bqd):
-    """An answer goes out at once, though its client has not yet confirmed the one before."""
+    """An answer is sent at once, even if its client has not acknowledged the previous one."""
     with Server(bqd, "--seats", "2") as server:
         one, other = server.client(), server.client()
         took = []
         for number in range(1, 5 * TRIES + 1):
-            # The client's system confirms nothing before 40 milliseconds have passed.
+            # The client's system does not acknowledge within 40 milliseconds.
             one.stream.setsockopt(socket.IPPROTO_TCP, socket.TCP_QUICKACK, 0)
             one.asks(ASK + b"reserve\r\n", ANSWER)
             begun = time.monotonic()

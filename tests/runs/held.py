@@ -1,11 +1,11 @@
-"""How much of the heap a program holds: a small library (held.c) that is loaded before libc's own counts it."""
+"""How much of the heap a program holds, counted by a small library (held.c) that is loaded before libc."""
 import tempfile
 
 from preloaded import environment
 
 
 class Held:
-    """The environment of a program (`env`) of which is told how many bytes it holds."""
+    """The environment (`env`) of a program, which then reports how many bytes it holds."""
 
     def __init__(self):
         self.file = tempfile.NamedTemporaryFile(prefix="held-")
@@ -14,6 +14,6 @@ class Held:
         self.env = environment("held", HELD_IN=self.file.name)
 
     def now(self):
-        """How many bytes of the heap the program holds now."""
+        """Returns how many bytes of the heap the program holds now."""
         with open(self.file.name, "rb") as file:
             return int.from_bytes(file.read(8), "little", signed=True)

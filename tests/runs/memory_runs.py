@@ -6,13 +6,13 @@ from servers import Server
 # How many commands are sent before their answers are read.
 AT_ONCE = 500
 
-# How many tubes come and go, and how many bytes they may take each once they have gone: a name alone has 200.
+# How many tubes come and go, and how many bytes each may take after it has gone: its name alone has 200.
 TUBES = 20000
 OF_A_TUBE = 40
 
 
 def in_turn(client, commands):
-    """Sends commands, each a text with its answer, some at a time."""
+    """Sends commands, each a text with its answer, in batches."""
     for begun in range(0, len(commands), AT_ONCE):
         some = commands[begun : begun + AT_ONCE]
         client.sends(b"".join(text for text, _ in some))
@@ -20,7 +20,8 @@ def in_turn(client, commands):
 
 
 def come_and_gone(name, first, count):
-    """So many tubes, one after another, each with a job that is put and deleted, from the job of this id on."""
+    """Returns the commands for this many tubes, one after another, each with a job that is put and deleted; `first` is
+    the id of the first job."""
     commands = []
     for id in range(first, first + count):
         tube = (name % id).ljust(200, b"x")
@@ -33,7 +34,7 @@ def come_and_gone(name, first, count):
 
 
 def run_tubes_that_have_gone(bqd):
-    """Tubes that have gone leave no memory behind them, though each had jobs."""
+    """Tubes that have gone leave no memory allocated, although each had jobs."""
     with Server(bqd, "--seats", "1") as server:
         client = server.client()
         in_turn(client, come_and_gone(b"a%d-", 1, 500))
@@ -50,7 +51,7 @@ OF_A_PLACE = 512
 
 
 def run_memory_behind_a_peak(bqd):
-    """What a peak of jobs took is given back to the allocator, in small steps, once they are deleted."""
+    """The memory of a peak of jobs is returned to the allocator, in small steps, once they are deleted."""
     held = Held()
     with Server(bqd, "--seats", "1", env=held.env) as server:
         client = server.client()

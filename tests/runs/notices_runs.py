@@ -1,4 +1,4 @@
-"""Runs of bqd whose standard error nobody reads."""
+"""Runs of bqd whose standard error is not read."""
 import errno
 import fcntl
 import os
@@ -14,19 +14,19 @@ from waiting_runs import often
 
 ASK, ANSWER = b"list-tube-used\r\n", b"USING default\r\n"
 
-# How many lines wait until they are written (docs/OPERATING.md).
+# How many lines can wait to be written (docs/OPERATING.md).
 ROOM = 64
 
 
 
 class FullPipe:
-    """A pipe that takes nothing more, until it is read."""
+    """A pipe that takes no more data until it is read."""
 
     def __init__(self):
         self.reading, self.writing = os.pipe()
         fcntl.fcntl(self.writing, fcntl.F_SETPIPE_SZ, 4096)
         self.held = b"." * fcntl.fcntl(self.writing, fcntl.F_GETPIPE_SZ)
-        # As much as it holds, so that this doesn't wait.
+        # Exactly as much as it holds, so that this doesn't block.
         same(os.write(self.writing, self.held), len(self.held))
         same(select.select([], [self.writing], [], 0)[1], [])
 
@@ -38,7 +38,7 @@ class FullPipe:
         os.close(self.writing)
 
     def lines(self, count):
-        """The lines behind what was held back, so many of them."""
+        """Returns the next lines after those that filled the pipe."""
         heard = b""
         while heard[len(self.held) :].count(b"\n") < count:
             came, _, _ = select.select([self.reading], [], [], PATIENCE)
@@ -50,7 +50,7 @@ class FullPipe:
 
 
 def works_for(client, seconds, counts):
-    """A client that asks one command after another. How many were answered is added to the counts."""
+    """A client that sends one command after another. The number of answers is added to the counts."""
     end, count = time.monotonic() + seconds, 0
     while time.monotonic() < end:
         client.asks(ASK, ANSWER)
@@ -59,8 +59,8 @@ def works_for(client, seconds, counts):
 
 
 def run_clients_beside_a_blocked_standard_error(bqd):
-    """While nobody reads standard error, draining begins and 16 clients work on, one of which took the last seat. Once it
-    is read it has the notices."""
+    """While standard error is not read, draining begins and 16 clients continue to work, the last of which took the
+    last seat. Once it is read, it contains the notices."""
     with FullPipe() as pipe, Server(bqd, "--seats", "16", stderr=pipe.writing) as server:
         clients = [server.client() for _ in range(16)]
         for client in clients:
@@ -81,7 +81,7 @@ def run_clients_beside_a_blocked_standard_error(bqd):
 
 
 def run_ends_beside_a_blocked_standard_error(bqd):
-    """A server ends though nobody reads standard error: when all is over, and when its last seat fails."""
+    """A server ends even if standard error is not read: when everything is done, and when its last seat fails."""
     with FullPipe() as pipe, Server(bqd, "--seats", "1", "--sessions", "1", stderr=pipe.writing) as server:
         server.client().asks(ASK + b"quit\r\n", ANSWER)
         server.process.stdin.close()
@@ -92,8 +92,8 @@ def run_ends_beside_a_blocked_standard_error(bqd):
 
 
 def run_last_notices_are_written(bqd):
-    """What was told is written before the server ends, if standard error is read soon, here by a machine that is not too
-    busy for it once at least."""
+    """Notices are written before the server ends if standard error is read soon, which a busy machine does at least
+    once."""
     def tried():
         with FullPipe() as pipe, Server(bqd, "--seats", "1", stderr=pipe.writing, env=faults(accepts=errno.EBADF, times=1)) as server:
             same(server.goes_on(0.3), True)
@@ -105,11 +105,12 @@ def run_last_notices_are_written(bqd):
 
 
 def run_notices_without_room(bqd):
-    """Notices that find no room are counted, and how many they were is told once standard error is read."""
+    """Notices for which there is no room are counted, and their number is reported once standard error is read."""
     code, dropped = errno.EPROTO, 5
-    # One more is in the hand of the thread that writes.
+    # The thread that writes has one more.
     written = 1 + ROOM
-    # Every other accept fails, and then the seat rests for a tenth of a second, a hundred times as fast.
+    # Every other accept fails, after which the seat sleeps for a tenth of a second; the clock runs a hundred times as
+    # fast.
     failing = faults(accepts=code, times=written + dropped, each=2, clock=100)
     with FullPipe() as pipe, Server(bqd, "--seats", "1", stderr=pipe.writing, env=failing) as server:
         for _ in range(written + dropped + 1):
@@ -119,6 +120,6 @@ def run_notices_without_room(bqd):
         server.clients.clear()
         lines = pipe.lines(written + 1)
         same(set(lines[:written]) <= {told_of(code), TAKEN}, True)
-        # That the one seat is taken is told too, once or more.
+        # It is also reported, once or more, that the only seat is taken.
         words = lines[written].split()
         same((b" ".join([*words[:1], *words[2:]]), int(words[1]) > dropped), (b"bqd: lines were dropped: standard error was blocked", True))

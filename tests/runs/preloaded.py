@@ -1,4 +1,4 @@
-"""Small libraries that are loaded before libc's own: each is a file of C beside this one."""
+"""Small libraries that are loaded before libc: each is a C file in this folder."""
 import functools
 import os
 import pathlib
@@ -8,7 +8,7 @@ import tempfile
 
 @functools.lru_cache(maxsize=None)
 def library(name):
-    """Builds the library of this name. Its folder goes with this process."""
+    """Builds the library with this name. Its folder is removed when this process ends."""
     folder = tempfile.TemporaryDirectory(prefix=f"{name}-")
     made = f"{folder.name}/lib{name}.so"
     source = pathlib.Path(__file__).resolve().parent / f"{name}.c"
@@ -17,6 +17,6 @@ def library(name):
 
 
 def environment(name, **more):
-    """The environment of a program for which it is loaded, with these variables besides."""
+    """Returns the environment of a program for which the library is loaded, with these variables added."""
     _, made = library(name)
     return {**os.environ, "LD_PRELOAD": made, **more}

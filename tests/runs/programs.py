@@ -1,17 +1,18 @@
-"""Programs that are run: their words, their streams, their limits, and what they end with."""
+"""Programs that are run: their words, their streams, their limits, and their results."""
 import collections
 import re
 import resource
 import subprocess
 
-# How long a program may take, in seconds. None takes a tenth of it, unless the machine is busy.
+# How long a program may take, in seconds. Usually it takes less than a tenth of it.
 PATIENCE = 20
 
 Ended = collections.namedtuple("Ended", "status output errors")
 
 
 def limits(**wanted):
-    """What sets the limits of a program before it begins, as NOFILE=4, or NOFILE=(4, 64) where it may be raised to that."""
+    """Returns what sets the limits of a program before it starts, as NOFILE=4, or NOFILE=(4, 64) if it may be raised to
+    that."""
     def set_limits():
         for name, most in wanted.items():
             pair = most if isinstance(most, tuple) else (most, most)
@@ -20,7 +21,7 @@ def limits(**wanted):
 
 
 def ended(program, *words, sent=b"", stdin=None, stdout=subprocess.PIPE, before=None):
-    """How a program ends that is sent these bytes, or reads from that file."""
+    """Returns the result of a program that receives these bytes, or reads from that file."""
     with subprocess.Popen(
         [program, *words],
         stdin=subprocess.PIPE if stdin is None else stdin,
@@ -37,7 +38,7 @@ def ended(program, *words, sent=b"", stdin=None, stdout=subprocess.PIPE, before=
 
 
 def same(found, wanted):
-    """That what was found is what was wanted."""
+    """Checks that the result is the wanted one."""
     if found != wanted:
         raise AssertionError(f"wanted {shown(wanted)}, found {shown(found)}")
 
@@ -48,14 +49,14 @@ def shown(value):
 
 
 def has_all(text, parts):
-    """That a text has all of these parts."""
+    """Checks that a text contains all of these parts."""
     for part in parts:
         if part not in text:
             raise AssertionError(f"{part!r} is not in {text!r}")
 
 
 def refuses_words(program, *words):
-    """That these words are bad options: nothing on standard output, what is wrong on standard error, status 2."""
+    """Checks that these words are bad options: nothing on standard output, a message on standard error, status 2."""
     found = ended(program, *words)
     same((found.status, found.output), (2, b""))
     if not found.errors.startswith(b"error: "):
@@ -63,7 +64,7 @@ def refuses_words(program, *words):
 
 
 def tells_version(program, name):
-    """That a program tells its name and its version alone."""
+    """Checks that a program prints its name and its version, and nothing else."""
     found = ended(program, "--version")
     same((found.status, found.errors), (0, b""))
     same(ended(program, "-v"), found)
@@ -72,12 +73,12 @@ def tells_version(program, name):
 
 
 def begins(found):
-    """Whether a program began: the system neither refused to start it nor did its loader give it up."""
+    """Returns true if a program started: the system did not refuse it, and its loader did not fail."""
     return found is not None and found.status >= 0 and found.status != 127
 
 
 def ended_with_data(program, words, most):
-    """How a program ends that has so many bytes of data at most, or None where the system doesn't start it."""
+    """Returns the result of a program that may have this many bytes of data, or None if the system doesn't start it."""
     try:
         return ended(program, *words, before=limits(DATA=most))
     except OSError:
@@ -85,14 +86,14 @@ def ended_with_data(program, words, most):
 
 
 def has_no_memory(program, name, *words):
-    """That a program whose first request for memory is refused says so, and nothing else.
+    """Checks that a program whose first allocation fails says so, and nothing else.
 
-    It has as little data as it begins with at all, whatever its size: below that the system's loader can't load it.
+    It gets as little data as it needs to start at all, whatever its size: with less, the system's loader can't load it.
     """
     page = resource.getpagesize()
     too_few, enough = 0, 1
     while not begins(found := ended_with_data(program, words, enough * page)):
-        # By small steps: with much more it would have the memory that it is to be refused.
+        # In small steps: with much more, it would have the memory that it must not get.
         too_few, enough = enough, enough + 1 + enough // 4
         if enough * page > 1 << 32:
             raise AssertionError("it never began")

@@ -1,4 +1,4 @@
-"""Runs of bqd whose seats wait for clients, or whose clients say nothing."""
+"""Runs of bqd whose seats wait for clients, or whose clients send nothing."""
 import os
 import time
 
@@ -7,13 +7,13 @@ from queue_model.engines import of_loop
 from servers import Server, awaits, threads_with
 from waiting_runs import ANSWER, ASK, PUT, often, time_in_a_second
 
-# How many bytes of memory a seat may take to which no client has come: fewer than what it reads through has, or what
-# it writes large answers from.
+# How many bytes of memory a seat without a client may take: fewer than its read buffer has, or the buffer from which it
+# writes large answers.
 OF_A_SEAT = 64 << 10
 
 
 def at_rest(bqd, seats):
-    """How much memory a server takes that has served one client on one of its seats."""
+    """Returns how much memory a server takes that has served one client at one of its seats."""
     with Server(bqd, "--seats", str(seats)) as server:
         awaits(lambda: server.threads() == threads_with(bqd, seats))
         server.client().asks(b"list-tube-used\r\n", b"USING default\r\n")
@@ -22,13 +22,13 @@ def at_rest(bqd, seats):
 
 
 def run_seats_without_clients(bqd):
-    """Seats to which no client has come take less memory than either of their buffers has room for."""
+    """Seats without a client take less memory than either of their buffers has room for."""
     more = 64
     same(at_rest(bqd, 1 + more) - at_rest(bqd, 1) < more * OF_A_SEAT, True)
 
 
 def run_control_line_that_does_not_wait(bqd):
-    """If reads of standard input don't wait, the server sleeps between two of them, and hears a drain and the end."""
+    """If reads of standard input don't wait, the server sleeps between two of them, and notices a drain and the end."""
     with Server(bqd, "--seats", "1", "--sessions", "1", before=lambda: os.set_blocking(0, False)) as server:
         client = server.client()
         client.asks(ASK, ANSWER)
@@ -40,15 +40,14 @@ def run_control_line_that_does_not_wait(bqd):
         same(server.end(), Ended(0, b"", b""))
 
 
-# How many bytes of memory an event loop may take to which no client has come, and how many more for a client that says
-# nothing.
+# How many bytes of memory an event loop without clients may take, and how many more for a silent client.
 OF_ALL_SEATS = 8 << 20
 OF_A_CLIENT = 2 << 10
 
 
 @of_loop
 def run_loop_without_clients(bqd):
-    """An event loop takes little memory for the most seats that there are."""
+    """An event loop takes little memory for the largest number of seats."""
     with Server(bqd, "--seats", "256") as server:
         time.sleep(0.3)
         same(server.memory() <= OF_ALL_SEATS, True)
@@ -56,7 +55,7 @@ def run_loop_without_clients(bqd):
 
 @of_loop
 def run_loop_with_silent_clients(bqd):
-    """A connection that says nothing takes little memory, also one that said something before, and many after one another."""
+    """A silent connection takes little memory, even if it sent something before, and so do many one after another."""
     many = 200
     with Server(bqd, "--seats", str(many + 1)) as server:
         for _ in range(2 * many):

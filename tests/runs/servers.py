@@ -12,27 +12,27 @@ from programs import PATIENCE, Ended, same
 # What is reported when a connection takes the last free seat.
 TAKEN = b"bqd: all seats are taken: further connections wait\n"
 
-# How many threads a server has beside those of its seats: the first one, those of the run and of the core, and the one
-# that writes what is told.
+# How many threads a server has besides those of its seats: the first one, those of the run and of the core, and the one
+# that writes notices.
 OTHERS = 4
 
-# The same of an event loop, in which the core has no thread of its own.
+# The same for an event loop, in which the core has no thread of its own.
 OTHERS_BY_LOOP = 3
 
 
 def threads_with(bqd, seats):
-    """How many threads a server has of which so many seats are open."""
+    """Returns how many threads a server has with this many open seats."""
     return OTHERS_BY_LOOP if bqd.is_loop else seats + OTHERS
 
 
 def free_port():
-    """A port of the loopback at which nobody listens."""
+    """Returns a loopback port at which no process listens."""
     with socket.create_server(("127.0.0.1", 0)) as listener:
         return listener.getsockname()[1]
 
 
 def awaits(is_so):
-    """Waits until something is so."""
+    """Waits until something is true."""
     for _ in range(1000):
         if is_so():
             return
@@ -41,7 +41,7 @@ def awaits(is_so):
 
 
 def connected(port):
-    """A connection to a server, which may not listen yet where it can't tell that."""
+    """Returns a connection to a server, which may not listen yet if it can't report that."""
     for _ in range(1000):
         try:
             return socket.create_connection(("127.0.0.1", port), PATIENCE)
@@ -51,11 +51,11 @@ def connected(port):
 
 
 class Server:
-    """bqd with these words behind the address, 127.0.0.1 and a port that is free unless given, and those of its engine, if
-    it was chosen.
+    """bqd with these words after the address (127.0.0.1 and a free port, unless given), and those of its engine, if one
+    was chosen.
 
-    What it told of its address is in `told`, and by that the port is found. (One that was free a moment ago may be
-    another's by now.) Its standard input stays open until it is left.
+    `told` is what it reported about its address, from which the port is known. (A port that was free a moment ago may
+    be in use by now.) Its standard input stays open until the end.
     """
 
     def __init__(
@@ -89,46 +89,46 @@ class Server:
             self.process.communicate()
 
     def client(self):
-        """A client that is connected."""
+        """Returns a connected client."""
         client = Client(self.port)
         self.clients.append(client)
         return client
 
     def control(self, line):
-        """Sends bytes on the control line, and leaves it open."""
+        """Sends bytes on the control line, and keeps it open."""
         self.process.stdin.write(line)
 
     def told_next(self):
-        """The line that comes next on standard error, while the server goes on."""
+        """Returns the next line on standard error, while the server continues."""
         came, _, _ = select.select([self.process.stderr], [], [], PATIENCE)
         return self.process.stderr.readline() if came else b""
 
     def tells(self, line):
-        """That this line comes next on standard error, but for what is told of seats where it isn't that."""
+        """Checks that this is the next line on standard error, apart from lines about seats."""
         told = self.told_next()
         same(self.told_next() if told == TAKEN != line else told, line)
 
     def is_silent(self, seconds):
-        """Whether nothing comes on standard error for so many seconds."""
+        """Returns true if standard error stays silent for this many seconds."""
         came, _, _ = select.select([self.process.stderr], [], [], seconds)
         return not came
 
     def may_open(self, most):
-        """From now on the server may have so many file descriptors."""
+        """Limits how many file descriptors the server may have from now on."""
         resource.prlimit(self.process.pid, resource.RLIMIT_NOFILE, (most, resource.prlimit(self.process.pid, resource.RLIMIT_NOFILE)[1]))
 
     def threads(self):
-        """How many threads the server has now."""
+        """Returns how many threads the server has now."""
         return len(os.listdir(f"/proc/{self.process.pid}/task"))
 
     def time_worked(self):
-        """How many seconds of a processor the server has taken."""
+        """Returns how many seconds of processor time the server has used."""
         with open(f"/proc/{self.process.pid}/stat") as stat:
             ticks = stat.read().rsplit(")", 1)[1].split()[11:13]
         return sum(map(int, ticks)) / os.sysconf("SC_CLK_TCK")
 
     def times_woken(self):
-        """How often the server's threads have given their processor up to rest. Each was woken as often, or rests still."""
+        """Returns how often the server's threads have gone to sleep. Each was woken up as often, or still sleeps."""
         times = 0
         for thread in os.listdir(f"/proc/{self.process.pid}/task"):
             with open(f"/proc/{self.process.pid}/task/{thread}/status") as status:
@@ -136,12 +136,12 @@ class Server:
         return times
 
     def memory(self):
-        """How many bytes of memory the server has written to, and not given back."""
+        """Returns how many bytes of memory the server has written to and not returned."""
         with open(f"/proc/{self.process.pid}/status") as status:
             return next(int(line.split()[1]) << 10 for line in status if line.startswith("VmRSS"))
 
     def goes_on(self, seconds):
-        """Whether the server hasn't ended so many seconds later."""
+        """Returns true if the server is still running this many seconds later."""
         try:
             self.process.wait(seconds)
             return False
@@ -149,17 +149,17 @@ class Server:
             return True
 
     def ended(self):
-        """Waits for the end of the server, while the control line stays open."""
+        """Waits until the server ends, while the control line stays open."""
         status = self.process.wait(PATIENCE)
         return Ended(status, self.process.stdout.read(), self.process.stderr.read())
 
     def end_as_told(self):
-        """Ends the control line, and waits for the end of the server."""
+        """Ends the control line, and waits until the server ends."""
         output, errors = self.process.communicate(b"", PATIENCE)
         return Ended(self.process.returncode, output, errors)
 
     def end(self):
-        """The same, but for what was told of seats: most runs have few of them, and take them all."""
+        """Does the same, but ignores lines about seats: most runs have few of them, and take them all."""
         found = self.end_as_told()
         return found._replace(errors=found.errors.replace(TAKEN, b""))
 
@@ -181,7 +181,8 @@ class Client:
             pass
 
     def all_that_comes(self):
-        """All bytes that come until the server closes. Where it left some of ours unread, its system resets the connection."""
+        """Returns all bytes until the server closes. If it left some of ours unread, its system resets the connection.
+        """
         heard = b""
         try:
             while piece := self.stream.recv(1 << 16):
@@ -191,7 +192,7 @@ class Client:
         return heard
 
     def hears(self, text):
-        """That these bytes come next."""
+        """Checks that these bytes come next."""
         heard = b""
         while len(heard) < len(text):
             piece = self.stream.recv(len(text) - len(heard))
@@ -205,7 +206,7 @@ class Client:
         self.hears(answer)
 
     def hears_nothing(self, seconds):
-        """That no byte comes for so many seconds."""
+        """Checks that no byte comes for this many seconds."""
         came, _, _ = select.select([self.stream], [], [], seconds)
         same(came, [])
 
@@ -217,7 +218,7 @@ class Client:
 
 
 def value(client, name):
-    """A number of `stats`."""
+    """Returns a number of `stats`."""
     client.sends(b"stats\r\n")
     with client.stream.makefile("rb", buffering=0) as lines:
         head = lines.readline().split()
@@ -229,5 +230,5 @@ def value(client, name):
 
 
 def all_wait(client, count):
-    """Waits until the reserves of so many clients wait, as one that doesn't is told."""
+    """Waits until the reserves of this many clients wait, as a client that doesn't wait can see."""
     awaits(lambda: value(client, b"current-waiting") == count)

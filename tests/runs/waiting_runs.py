@@ -1,4 +1,5 @@
-"""Runs of bqd in which something is due while all clients are silent, a client holds its seat up, or many ask at once."""
+"""Runs of bqd in which something is due while all clients are silent, a client blocks its seat, or many make requests
+at once."""
 import threading
 import time
 
@@ -6,15 +7,16 @@ from programs import Ended, same
 from queue_model.engines import of_loop
 from servers import TAKEN, Server
 
-# What is due comes so soon after its moment, in seconds, unless the machine is busy: then it is tried again.
+# Within how many seconds an answer comes after it is due, unless the machine is busy: then it is tried again.
 SOON = 0.005
 TRIES = 8
 
-# What all of these wait for is due after so many seconds. The server counts whole milliseconds.
+# After how many seconds all of these events are due. The server counts whole milliseconds.
 SECOND = 1
 MILLISECOND = 0.001
 
-# Between two looks for a client that has gone a seat rests a tenth of a second at first, and a second at most.
+# Between two checks for a client that has disconnected, a seat sleeps a tenth of a second at first, and a second at
+# most.
 LONGEST_REST = 1
 
 ASK = b"list-tube-used\r\n"
@@ -24,14 +26,14 @@ JOB = b"RESERVED 1 1\r\nx\r\n"
 
 
 def between(act):
-    """The moments just before and just after an act."""
+    """Returns the moments just before and just after an act."""
     before = time.monotonic()
     act()
     return before, time.monotonic()
 
 
 def often(tried):
-    """That something goes well once. `tried` does it, and says what was found where it didn't."""
+    """Checks that something succeeds once. `tried` does it, and returns what was found if it failed."""
     found = []
     for _ in range(TRIES):
         found.append(tried())
@@ -41,15 +43,16 @@ def often(tried):
 
 
 def is_due_in_time(bqd, begin, answer, *words):
-    """That a client that waits hears an answer a second after what `begin` does, never before, and once at least soon.
+    """Checks that a waiting client gets an answer a second after what `begin` does, never earlier, and at least once on
+    time.
 
-    `begin` is handed three clients, does what makes something due, says between which moments, and leaves all of them
+    `begin` gets three clients, makes something due, returns the moments before and after that, and leaves all clients
     silent or waiting: the first one for the answer.
     """
     def tried():
         with Server(bqd, "--seats", "3", *words) as server:
             clients = [server.client() for _ in range(3)]
-            # Another that waits, for a job of a tube that has none.
+            # Another client that waits, for a job of a tube that has none.
             clients[2].asks(b"watch none\r\nignore default\r\n", b"WATCHING 2\r\nWATCHING 1\r\n")
             clients[2].sends(b"reserve\r\n")
             time.sleep(0.15)
@@ -62,7 +65,7 @@ def is_due_in_time(bqd, begin, answer, *words):
 
 
 def run_lease_ends_while_all_sleep(bqd):
-    """A job whose lease ends goes to a client that waits, in time."""
+    """A job whose lease ends goes to a waiting client, in time."""
     def begin(waits, holds, _):
         holds.asks(b"put 0 0 1 1\r\nx\r\n", b"INSERTED 1\r\n")
         moments = between(lambda: holds.asks(b"reserve\r\n", JOB))
@@ -72,7 +75,7 @@ def run_lease_ends_while_all_sleep(bqd):
 
 
 def run_delay_ends_while_all_sleep(bqd):
-    """A job whose delay ends goes to a client that waits, in time."""
+    """A job whose delay ends goes to a waiting client, in time."""
     def begin(waits, puts, _):
         waits.sends(b"reserve\r\n")
         time.sleep(0.05)
@@ -81,7 +84,7 @@ def run_delay_ends_while_all_sleep(bqd):
 
 
 def run_pause_ends_while_all_sleep(bqd):
-    """A job of a tube whose pause ends goes to a client that waits, in time."""
+    """A job of a tube whose pause ends goes to a waiting client, in time."""
     def begin(waits, pauses, _):
         pauses.asks(PUT, b"INSERTED 1\r\n")
         moments = between(lambda: pauses.asks(b"pause-tube default 1\r\n", b"PAUSED\r\n"))
@@ -91,14 +94,14 @@ def run_pause_ends_while_all_sleep(bqd):
 
 
 def run_reserve_ends_while_all_sleep(bqd):
-    """A reserve whose time is over is told so, in time."""
+    """A reserve that times out is answered in time."""
     def begin(waits, *_):
         return between(lambda: waits.sends(b"reserve-with-timeout 1\r\n"))
     is_due_in_time(bqd, begin, b"TIMED_OUT\r\n")
 
 
 def run_deadline_nears_while_all_sleep(bqd):
-    """Who waits and holds a job whose lease ends a second later is told so, in time."""
+    """A client that waits and holds a job whose lease ends a second later gets its warning in time."""
     def begin(waits, *_):
         waits.asks(b"put 0 0 2 1\r\nx\r\n", b"INSERTED 1\r\n")
         moments = between(lambda: waits.asks(b"reserve\r\n", JOB))
@@ -108,7 +111,7 @@ def run_deadline_nears_while_all_sleep(bqd):
 
 
 def run_requeue_delay_ends_while_all_sleep(bqd):
-    """A job of a lost connection goes to a client that waits once its delay ends, in time."""
+    """A job of a client that disconnected goes to a waiting client once its requeue delay ends, in time."""
     def begin(waits, holds, _):
         holds.asks(PUT + b"reserve\r\n", b"INSERTED 1\r\n" + JOB)
         waits.sends(b"reserve\r\n")
@@ -118,7 +121,7 @@ def run_requeue_delay_ends_while_all_sleep(bqd):
 
 
 def run_earlier_moment_while_all_sleep(bqd):
-    """What is due before the next known moment comes in time: the core, which sleeps until that moment, is woken."""
+    """What is due before the known next moment comes in time: the core, which sleeps until that moment, is woken up."""
     def begin(waits, puts, _):
         waits.sends(b"reserve-with-timeout 3\r\n")
         time.sleep(0.05)
@@ -128,7 +131,7 @@ def run_earlier_moment_while_all_sleep(bqd):
 
 
 def run_drain_while_all_sleep(bqd):
-    """Draining begins as soon as it is asked for, though nobody sends a command."""
+    """Draining begins as soon as it is requested, even if no client sends a command."""
     def tried():
         with Server(bqd, "--seats", "4") as server:
             puts = server.client()
@@ -146,7 +149,7 @@ def run_drain_while_all_sleep(bqd):
 
 
 def works(client, rounds):
-    """A client that puts jobs into a tube of its own, is handed them and deletes them, so many times."""
+    """A client that puts jobs into a tube of its own, reserves and deletes them, this many times."""
     for _ in range(rounds):
         client.sends(PUT)
         number = int(client.stream.recv(64).split()[1])
@@ -154,14 +157,15 @@ def works(client, rounds):
 
 
 def run_others_beside_one_that_does_not_read(bqd):
-    """A client that doesn't read its answers holds up nobody else, and is answered whole when it does."""
+    """A client that doesn't read its answers does not block other clients, and gets all of its answers when it reads.
+    """
     size, peeks = 65535, 300
     body = b"y" * size
     with Server(bqd, "--seats", "3") as server:
         stopped, *others = [server.client() for _ in range(3)]
         stopped.asks(b"use big\r\nput 0 0 60 %d\r\n%s\r\n" % (size, body), b"USING big\r\nINSERTED 1\r\n")
         stopped.sends(b"peek 1\r\n" * peeks)
-        # Its seat's thread stands in a write by now.
+        # Its seat's thread is blocked in a write by now.
         time.sleep(0.1)
         for client in others:
             works(client, 200)
@@ -174,7 +178,7 @@ def run_others_beside_one_that_does_not_read(bqd):
 
 
 def all_ask_at_one_moment(bqd, seats, number, rounds):
-    """Fails unless each of some clients is answered that ask at the same moment, and then all wait."""
+    """Fails unless all of some clients are answered that make a request at the same moment, and then all wait."""
     with Server(bqd, "--seats", str(seats)) as server:
         clients = [server.client() for _ in range(number)]
         for _ in range(rounds):
@@ -185,13 +189,13 @@ def all_ask_at_one_moment(bqd, seats, number, rounds):
 
 
 def run_no_step_is_left_over(bqd):
-    """Of clients that ask at the same moment, and then all wait, each is answered."""
+    """Of clients that make a request at the same moment, and then all wait, each is answered."""
     for number, rounds in ((2, 3000), (4, 2000), (16, 300)):
         all_ask_at_one_moment(bqd, 16, number, rounds)
 
 
 def run_ends_while_seats_are_busy(bqd):
-    """Once its connections have been served it ends at once, though seats were busy up to the last moment."""
+    """Once it has served its connections it ends at once, even if seats were busy up to the last moment."""
     def tried():
         with Server(bqd, "--seats", "4", "--sessions", "2") as server:
             server.process.stdin.close()
@@ -212,14 +216,14 @@ def run_ends_while_seats_are_busy(bqd):
             begun = time.monotonic()
             same(server.process.wait(20), 0)
             took = time.monotonic() - begun
-            # Where all four were served at a time that was told.
+            # It is reported if all four were served at the same time.
             same(server.process.stderr.read().replace(TAKEN, b""), b"")
         return None if took <= 0.1 else took
     often(tried)
 
 
 def measured_at_rest(bqd, silent, waiting, rest, measure):
-    """Measures a server beside clients that say nothing and others that wait, once they have done so for some seconds.
+    """Measures a server with some silent clients and others that wait, after some seconds.
 
     `measure` returns None, or what is wrong.
     """
@@ -249,28 +253,29 @@ def time_in_a_second(server):
 
 
 def run_idle_server_is_not_woken(bqd):
-    """While 200 clients say nothing, no thread of the server wakes."""
+    """While 200 clients are silent, no thread of the server wakes up."""
     measured_at_rest(bqd, 200, 0, 0.2, lambda server: woken(server, 1, 0))
 
 
 def run_idle_server_takes_no_time(bqd):
-    """While 200 clients say nothing, the server takes no processor time."""
+    """While 200 clients are silent, the server takes no processor time."""
     measured_at_rest(bqd, 200, 0, 0.2, time_in_a_second)
 
 
 def run_those_who_wait_are_seldom_woken(bqd):
-    """While 50 clients have waited for some time, the server's threads wake at most 60 times a second in all."""
+    """While 50 clients have waited for some time, the server's threads wake up at most 60 times a second in total."""
     measured_at_rest(bqd, 0, 50, 2, lambda server: woken(server, 2, 120))
 
 
 @of_loop
 def run_loop_is_not_woken(bqd):
-    """While 200 clients say nothing and 50 wait, an event loop isn't woken at all."""
+    """While 200 clients are silent and 50 wait, an event loop does not wake up at all."""
     measured_at_rest(bqd, 200, 50, 0.5, lambda server: woken(server, 2, 0))
 
 
 def run_gone_after_a_long_wait(bqd):
-    """The job of a client that goes while it waits, and has waited for long, is soon another's."""
+    """If a client disconnects after it has waited for long, the job that it held is soon available to another client.
+    """
     with Server(bqd, "--seats", "2") as server:
         goes, waits = server.client(), server.client()
         goes.asks(PUT + b"reserve\r\n", b"INSERTED 1\r\n" + JOB)
