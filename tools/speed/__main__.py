@@ -1,10 +1,12 @@
-"""Measures bqd beside beanstalkd: tools/speed --bqd PATH [--beanstalkd PATH] [--engine NAME] [--rounds N] [--time MS] [--only a,b]
+"""Compares the speed of bqd with that of beanstalkd.
 
-Each round starts beanstalkd and bqd by each of its engines anew, one after the other, on loopback, and puts the same
-load on each (load.c, which is built by cc). What is printed is a table of ratios for each engine, ours to theirs: the
-median over the rounds with its quartiles. --engine measures one engine alone. --save FILE keeps every round as a line
-of a table, and --plot FILE draws the medians from such a table (with --from FILE: from a table of an earlier run, and
-nothing is measured). --pin LIST binds servers and load to these processors.
+    tools/speed --bqd PATH [--beanstalkd PATH] [--engine NAME] [--rounds N] [--time MS] [--only a,b]
+
+Each round starts beanstalkd and bqd (with each of its engines) anew, one after the other, on loopback, and puts the
+same load on each (load.c, which is built with cc). The output is a table of ratios for each engine, ours to theirs: the
+median over the rounds with its quartiles. --engine measures only one engine. --save FILE keeps every round as a line of
+a table, and --plot FILE draws the medians from such a table (with --from FILE: from a table of an earlier run, without
+measuring). --pin LIST binds servers and load to these processors.
 """
 import argparse
 import os
@@ -19,10 +21,10 @@ import time
 HERE = pathlib.Path(__file__).resolve().parent
 MOST_BYTES = 1048576
 
-# What serves the connections of bqd, and the words that choose it.
+# The engines of bqd, and the options that select each.
 ENGINES = {"threads": [], "event-loop": ["--event-loop"]}
 
-# The name of a scenario, the words for load.c, and what it is in words.
+# The name of a scenario, the words for load.c, and a description.
 SCENARIOS = [
     ("one", ("pairs", 1), "one connection: put, reserve, delete, each after the last was answered"),
     ("four", ("pairs", 4), "four such connections, each with its own tube"),
@@ -46,7 +48,7 @@ def free_port():
 
 
 class Server:
-    """A server that runs, with the processor time that it took."""
+    """A running server, with the processor time that it took."""
 
     def __init__(self, words, port, pin):
         words = (["taskset", "-c", pin] if pin else []) + words
@@ -70,7 +72,7 @@ class Server:
 
 
 def measured(load, words_of, told, span, pin):
-    """Operations a second, processor time an operation, and three percentiles of a batch's time."""
+    """Returns operations per second, processor time per operation, and three percentiles of a batch's time."""
     port = free_port()
     server = Server(words_of(port), port, pin)
     try:
@@ -98,7 +100,7 @@ def measure(chosen, save):
             if chosen.only and name not in chosen.only.split(","):
                 continue
             for number in range(chosen.rounds):
-                # Each is the first one in turn.
+                # Each server is the first one in turn.
                 first = number % len(servers)
                 for server in [*servers][first:] + [*servers][:first]:
                     rows.append((name, number, server, *measured(load, servers[server], told, chosen.time, chosen.pin)))
@@ -107,14 +109,14 @@ def measure(chosen, save):
 
 
 def ratios(rows, name, field, engine):
-    """Ours to theirs, round by round."""
+    """Returns the ratio of our value to theirs, round by round."""
     ours = {row[1]: row[field] for row in rows if row[0] == name and row[2] == engine}
     theirs = {row[1]: row[field] for row in rows if row[0] == name and row[2] == "beanstalkd"}
     return sorted(ours[it] / theirs[it] for it in ours if theirs.get(it))
 
 
 def measured_engines(rows):
-    """The engines of which there are rows."""
+    """Returns the engines that have rows."""
     return [it for it in ENGINES if any(row[2] == it for row in rows)]
 
 
@@ -126,21 +128,21 @@ def table(rows, engine):
             continue
         low, high = columns[0][len(columns[0]) // 4], columns[0][len(columns[0]) * 3 // 4]
         middle = [f"{statistics.median(it):.2f}" if it else "" for it in columns]
-        # A hand-off's number of operations is that of the load.
+        # The number of operations of a hand-off is determined by the load.
         operations = "" if name == "hand-off" else f"{middle[0]} ({low:.2f} to {high:.2f})"
         lines.append(f"| {words} | {operations} | {middle[1]} | {middle[2]} | {middle[3]} | {middle[4]} |")
     return "\n".join(lines)
 
 
 def plot(rows):
-    """Bars from 1, to the right where bqd answers more operations. Those of the last engine that was measured."""
+    """Draws bars from 1, to the right if bqd answers more operations, for the last engine that was measured."""
     engine = measured_engines(rows)[-1]
     shown = [(name, words) for name, _, words in SCENARIOS if ratios(rows, name, 3, engine)]
     height, left, middle, scale = 26, 470, 640, 150
     out = [f'<svg xmlns="http://www.w3.org/2000/svg" width="900" height="{height * len(shown) + 50}" font-family="sans-serif" font-size="12">']
     out.append('<rect width="100%" height="100%" fill="white"/>')
     for place, (name, words) in enumerate(shown):
-        # The time of a hand-off is better where it is smaller.
+        # A hand-off is better if its time is smaller.
         values = [1 / it for it in ratios(rows, name, 5, engine)] if name == "hand-off" else ratios(rows, name, 3, engine)
         value = statistics.median(values)
         width = min(max(value - 1, -1), 1.5) * scale
