@@ -1,6 +1,6 @@
 #!/usr/bin/env bash
-# Makes a Debian package of the programs that were built: packaging/deb.sh [FOLDER], the folder that it goes to.
-# Both programs have to be built before: tools/build, without a name. Status 2 for bad words, 1 for a fault.
+# Makes a Debian package of the built programs: packaging/deb.sh [FOLDER], the folder for the package.
+# Build both programs first: tools/build, without a name. The status is 2 for bad words, 1 for a failure.
 set -euo pipefail
 
 fail() {
@@ -28,7 +28,7 @@ tree=$room/tree
 install -d -m 755 "$tree"
 
 install -D -m 755 crates/bqd/out/bqd "$tree/usr/bin/bqd"
-# Not in /usr/bin: Google's cloud client has a program of that name there.
+# Not in /usr/bin, where Google's cloud client has a program of this name.
 install -D -m 755 crates/bq/out/bq "$tree/usr/lib/bqd/bq"
 strip --remove-section=.comment --remove-section=.note "$tree/usr/bin/bqd" "$tree/usr/lib/bqd/bq"
 for module in queue_client queue_control queue_web; do
@@ -51,7 +51,7 @@ install -D -m 644 LICENSE "$tree/usr/share/doc/bqd/copyright"
 install -D -m 644 packaging/debian/lintian-overrides "$tree/usr/share/lintian/overrides/bqd"
 gzip -9n "$tree"/usr/share/man/man1/*.1 "$tree/usr/share/doc/bqd/changelog"
 
-# What the package is, with the libraries and their versions that the programs need.
+# The package's control data, with the versions of the libraries that the programs need.
 mkdir "$room/debian" "$tree/DEBIAN"
 cp packaging/debian/control "$room/debian/control"
 cp packaging/changelog "$room/debian/changelog"

@@ -1,17 +1,16 @@
-/* Loaded before libc's own (LD_PRELOAD): the program's requests for memory are counted, and chosen ones
-   are refused.
+/* Loaded before libc (LD_PRELOAD): counts the program's allocations, and makes chosen ones fail.
 
-   REFUSE_AT=N      the Nth request is refused
-   REFUSE_FROM=N    the Nth request and all behind it are refused
-   REFUSE_EVERY=N   every Nth request is refused
-   REFUSE_ACCEPTS=N the Nth call that accepts a connection, and all behind it, fail as at a listener that has ended
-   REFUSE_LATER=1   nothing is refused or counted before a signal SIGUSR2, nor after a second one
-   REFUSE_TOLD=FILE at the first refusal one byte is written to FILE, which has to be there
+   REFUSE_AT=N      the Nth request fails
+   REFUSE_FROM=N    the Nth request and all later ones fail
+   REFUSE_EVERY=N   every Nth request fails
+   REFUSE_ACCEPTS=N the Nth call that accepts a connection, and all later ones, fail as at a broken listener
+   REFUSE_LATER=1   nothing fails or is counted before a signal SIGUSR2, nor after a second one
+   REFUSE_TOLD=FILE at the first failure one byte is written to FILE, which has to exist
    REFUSE_MARKS=FILE each time the program writes a line to standard output, the line `requests COUNT`
                     and that line are written to FILE
 
-   A request is a call of malloc, calloc, realloc (but of one that gives memory back) or an aligned
-   one. With none of the variables nothing is refused. */
+   A request is a call of malloc, calloc, realloc (unless it returns memory) or an aligned one. Without
+   any of the variables nothing fails. */
 #define _GNU_SOURCE
 #include <dlfcn.h>
 #include <errno.h>
@@ -46,7 +45,7 @@ static void turn(int signal) {
     atomic_store(&is_idle, !atomic_load(&is_idle));
 }
 
-/* The count begins where the program does: what the loader asked for before isn't the program's. */
+/* The count starts with the program, without the allocations of the loader. */
 __attribute__((constructor)) static void begin(void) {
     const char *told_to = getenv("REFUSE_TOLD"), *marks_to = getenv("REFUSE_MARKS");
     if (told_to)
@@ -99,7 +98,7 @@ int posix_memalign(void **room, size_t align, size_t size) {
     return *room ? 0 : ENOMEM;
 }
 
-/* A listener that does not wait is asked in vain too, which does not count. */
+/* A listener that does not wait is also called when no client has connected, which does not count. */
 static int has_nobody(int listener) {
     struct pollfd asked = {.fd = listener, .events = POLLIN};
     return (fcntl(listener, F_GETFL) & O_NONBLOCK) && poll(&asked, 1, 0) == 0;
@@ -121,7 +120,7 @@ int accept4(int listener, struct sockaddr *peer, socklen_t *length, int flags) {
 
 int accept(int listener, struct sockaddr *peer, socklen_t *length) { return accept4(listener, peer, length, 0); }
 
-/* What the program writes to its standard output is noted beside the count, as far as it is asked for. */
+/* Records the program's standard output next to the count, if that is wanted. */
 ssize_t write(int file, const void *bytes, size_t length) {
     static ssize_t (*libc_write)(int, const void *, size_t);
     if (!libc_write)

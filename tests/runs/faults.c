@@ -1,16 +1,16 @@
-/* Loaded before libc's own (LD_PRELOAD): chosen calls of the system fail, as they may at any time.
+/* Loaded before libc (LD_PRELOAD): chosen system calls fail, as they may at any time.
 
-   FAULT_ACCEPTS=CODE  the first FAULT_TIMES calls that accept a connection fail with this error, but for FAULT_AFTER calls
-                       before them; where FAULT_EACH is set, one of so many calls
+   FAULT_ACCEPTS=CODE  the first FAULT_TIMES calls that accept a connection fail with this error, after FAULT_AFTER calls
+                       that do not; if FAULT_EACH is set, only one of that many calls
    FAULT_READS=CODE    the first FAULT_TIMES calls that read a connection fail with this error
-   FAULT_WRITES=CODE   the FAULT_NTH-th call that writes to a connection fails with this error; where FAULT_CUT is set, the
-                       call before it takes so many bytes at most
+   FAULT_WRITES=CODE   the FAULT_NTH-th call that writes to a connection fails with this error; if FAULT_CUT is set, the
+                       call before it takes at most that many bytes
    FAULT_WATCHES=CODE  the first FAULT_TIMES calls that have the system watch a connection fail with this error
    FAULT_NODELAY=CODE  the first FAULT_TIMES calls that have a connection send each write at once fail with this error
-   FAULT_THREAD=N      the Nth thread is refused
-   FAULT_CLOCK=N       the clock goes N times as fast, and sleeps and waits with an end are as much shorter
+   FAULT_THREAD=N      the Nth thread can't be started
+   FAULT_CLOCK=N       the clock runs N times as fast, and sleeps and waits with a time limit are that much shorter
 
-   With none of the variables no call fails. */
+   Without any of the variables no call fails. */
 #define _GNU_SOURCE
 #include <dlfcn.h>
 #include <errno.h>
@@ -99,7 +99,7 @@ int pthread_create(pthread_t *thread, const pthread_attr_t *how, void *(*work)(v
     return libc_create(thread, how, work, given);
 }
 
-/* A wait without an end is one of some hundred years. */
+/* A wait without a time limit is one of some hundred years. */
 static struct timespec shorter(const struct timespec *asked) {
     long long rest = (asked->tv_sec % speed * 1000000000LL + asked->tv_nsec) / speed;
     return (struct timespec){asked->tv_sec / speed + rest / 1000000000, rest % 1000000000};
@@ -116,7 +116,7 @@ int epoll_wait(int poll, struct epoll_event *events, int most, int wait) {
     return libc_wait(poll, events, most, wait > 0 ? (int)(wait / speed) + 1 : wait);
 }
 
-/* The waits of threads for one another: their end is a time from now, or a moment of the clock. */
+/* The waits of threads for each other: their limit is a duration, or a moment of the clock. */
 long syscall(long number, ...) {
     long (*libc_syscall)(long, ...) = dlsym(RTLD_NEXT, "syscall");
     long given[6];

@@ -1,5 +1,5 @@
-/* Loaded before libc's own (LD_PRELOAD): how many bytes of the heap a program holds now stands in the file HELD_IN,
-   eight bytes as the machine has them. */
+/* Loaded before libc (LD_PRELOAD): writes how many bytes of the heap a program holds to the file HELD_IN, as eight
+   bytes in the machine's byte order. */
 #include <fcntl.h>
 #include <malloc.h>
 #include <stdatomic.h>
@@ -11,7 +11,7 @@ extern void *__libc_malloc(size_t), *__libc_calloc(size_t, size_t), *__libc_real
 extern void *__libc_memalign(size_t, size_t);
 extern void __libc_free(void *);
 
-/* What is held before the file is there is counted too. */
+/* Memory allocated before the file is open counts too. */
 static atomic_long at_first, *held = &at_first;
 
 __attribute__((constructor)) static void begin(void) {

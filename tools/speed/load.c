@@ -1,11 +1,10 @@
-/* A load on a work queue server, from one thread: so many connections, each of which sends a batch of commands,
- * reads all their answers, and then sends the next batch.
+/* A load on a work queue server, from one thread: a number of connections, each of which sends a batch of commands,
+ * reads all answers, and then sends the next batch.
  *
  *   load HOST PORT SCENARIO NUMBER MILLISECONDS
  *
- * It prints how many commands were answered, the seconds that they took, and the median, the 99th and the
- * 99.9th percentile of the microseconds that a batch took. Any other answer than the one that is due ends it
- * with status 3.
+ * It prints how many commands were answered, how many seconds that took, and the median, the 99th and the
+ * 99.9th percentile of a batch's time in microseconds. A wrong answer ends it with status 3.
  */
 #include <arpa/inet.h>
 #include <errno.h>
@@ -26,12 +25,12 @@ typedef struct {
     int number;
     int phase;            /* which batch of its round comes next */
     int awaited;          /* how many answers are due */
-    int waits;            /* its reserve is answered by another's put */
-    char *out;            /* what is to be sent, and how much of it was */
+    int waits;            /* its reserve is answered by another client's put */
+    char *out;            /* the data to send, and how much of it was sent */
     size_t out_len, sent;
-    char *in;             /* what was read and isn't understood yet */
+    char *in;             /* data that was read and not parsed yet */
     size_t in_len;
-    uint64_t ids[BATCH];  /* the jobs that were handed out to it */
+    uint64_t ids[BATCH];  /* the jobs that it has reserved */
     int held;
     double began;
 } Connection;
@@ -104,7 +103,7 @@ static void delete_held(Connection *c) {
     }
 }
 
-/* Sends what is left of the batch; the socket has room for it, or the server reads slowly and we wait. */
+/* Sends the rest of the batch, and waits if the server reads slowly. */
 static void flush(Connection *c) {
     while (c->sent < c->out_len) {
         ssize_t n = send(c->fd, c->out + c->sent, c->out_len - c->sent, MSG_NOSIGNAL);
@@ -114,7 +113,7 @@ static void flush(Connection *c) {
     c->sent = c->out_len = 0;
 }
 
-/* Takes one whole answer off the bytes at hand: its length, or 0 where more have to come. */
+/* Parses one complete answer in the buffer. Returns its length, or 0 if more bytes have to come. */
 static size_t answer(Connection *c, const char *bytes, size_t len) {
     const char *end = memchr(bytes, '\n', len);
     unsigned long long id, size;
@@ -137,7 +136,7 @@ static size_t answer(Connection *c, const char *bytes, size_t len) {
     exit(3);
 }
 
-/* Reads what has come; whether all that was due is there. */
+/* Reads what has arrived. Returns true if all answers are there. */
 static int read_answers(Connection *c) {
     ssize_t n = recv(c->fd, c->in + c->in_len, ROOM - c->in_len, 0);
     size_t done = 0, len;
@@ -174,7 +173,7 @@ static void own_tube(Connection *c) {
     move_to(c, tube);
 }
 
-/* What a scenario does at each of its connections, and the number of connections. */
+/* What a scenario does on each of its connections, and the number of connections. */
 static const char *scenario;
 static int number;
 
@@ -235,7 +234,7 @@ static void serve_until(double end, int from) {
     }
 }
 
-/* A put at a moment that nobody foresees, to a worker that waits: the time until it has the job. */
+/* A put at a random moment, for a waiting worker: measures the time until the worker has the job. */
 static void hand_off(double end) {
     Connection *worker = &all[0], *producer = &all[1];
     while (now() < end) {

@@ -9,7 +9,7 @@ function svgElement(name, attributes) {
   return made;
 }
 
-// The runs of points that follow one another without a gap, each as a list of [x, y] in a box of width and height.
+// Returns the runs of consecutive points without a gap, each as a list of [x, y] in a box of width and height.
 function runs(values, most, width, height) {
   const found = [];
   let run = null;
@@ -22,7 +22,7 @@ function runs(values, most, width, height) {
   return found;
 }
 
-// The texts of the two paths of a line: the line itself, and the area below it.
+// Returns the two SVG paths of a line: the line itself, and the area below it.
 function paths(values, most, width, height) {
   let line = "", area = "";
   for (const run of runs(values, most, width, height)) {
@@ -34,7 +34,7 @@ function paths(values, most, width, height) {
   return [line, area];
 }
 
-// Draws a line of these values into an SVG of that size.
+// Draws a line of these values into an SVG of this size.
 function drawLine(svg, series, most, width, height) {
   svg.setAttribute("viewBox", `0 0 ${width} ${height}`);
   svg.setAttribute("preserveAspectRatio", "none");
@@ -56,7 +56,7 @@ function drawSpark(svg, values) {
   drawLine(svg, [{values, colour: "ready"}], most * 1.12, 120, 26);
 }
 
-// The least round number that isn't below a value: 1, 2 or 5 and zeros behind it.
+// Returns the smallest round number that isn't below a value: 1, 2 or 5 followed by zeros.
 function roundUp(value) {
   if (value <= 1) return 1;
   const unit = Math.pow(10, Math.floor(Math.log10(value)));

@@ -1,4 +1,4 @@
-// The page of bqd-web. Names and bodies come from strangers: they are only ever set as text, never as markup.
+// The page of bqd-web. Names and bodies are not trusted: they are always set as text, never as markup.
 "use strict";
 
 const BETWEEN = 1000;
@@ -63,7 +63,7 @@ function duration(seconds) {
   return seconds < 172800 ? `${Math.floor(seconds / 3600)} h` : `${Math.floor(seconds / 86400)} days`;
 }
 
-// What a path answers, as JSON; null if nothing comes in time.
+// Returns the JSON that a path answers; null if no answer comes in time.
 async function fetched(path, options) {
   const stop = new AbortController();
   const timer = setTimeout(() => stop.abort(), 8000);
@@ -113,7 +113,7 @@ function showTotals(found) {
   byId("draining").hidden = !found.draining;
 }
 
-// The tubes that the filter lets through, in the chosen order.
+// Returns the tubes that pass the filter, in the chosen order.
 function chosen(tubes) {
   const wanted = state.filter.toLowerCase();
   const found = wanted ? tubes.filter(it => it.name.toLowerCase().includes(wanted)) : tubes.slice();
@@ -187,7 +187,7 @@ function showHeads() {
   byId("order").value = state.order;
 }
 
-// Sorts by a column: numbers begin with the largest, and the same column again turns the order round.
+// Sorts by a column, numbers from the largest down. Choosing the same column again reverses the order.
 function sortBy(key, turns) {
   state.falls = turns && state.order === key ? !state.falls : key !== "name";
   state.order = key;
@@ -276,7 +276,7 @@ function showJob(card, kind, job) {
   setText(card.cut, `The first ${number(job.shown)} of ${number(job.size)} bytes.`);
 }
 
-// What changes something. None of it is there unless the server allows it.
+// Actions that change something. They are shown only if the server allows them.
 
 function makeActions() {
   if (!token) return;
@@ -294,7 +294,7 @@ function makeActions() {
 
 async function act(what, question, more, wantsSeconds) {
   const tube = state.tube;
-  // One question at a time: an answer is never that of another.
+  // One dialog at a time, so that an answer never belongs to another one.
   if (state.asks) return;
   state.asks = true;
   const sure = await confirmed(what, question, wantsSeconds);
@@ -328,7 +328,7 @@ function tell(text) {
   untold = setTimeout(() => { told.hidden = true; }, 5000);
 }
 
-// What is looked at, by the part of the address behind the #.
+// The current view, from the part of the address after the #.
 
 function looks() {
   let name = "";
@@ -348,7 +348,7 @@ function looks() {
   turn();
 }
 
-// One turn after the other, a second apart. A turn that began later makes the earlier ones go on no more.
+// Updates once a second. A loop that starts later stops the earlier ones.
 async function turn() {
   const own = ++state.turn;
   for (let wait = SPARKS_BETWEEN; own === state.turn; wait += BETWEEN) {
@@ -364,7 +364,7 @@ async function turn() {
       try {
         show(found, tube, about);
       } catch (fault) {
-        // A fault of this page: the next turn may go well.
+        // An error in this page: the next update may succeed.
         console.error(fault);
       }
     }
@@ -380,7 +380,7 @@ function show(found, tube, about) {
     showTotals(found);
     if (!tube) showList(found);
   }
-  // What was shown of a tube stays while the server is down.
+  // While the server is down, a tube stays as it was shown.
   if (tube && about && (about.points || about.gone || !state.last)) showTube(about);
 }
 
