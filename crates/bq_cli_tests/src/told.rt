@@ -1,8 +1,8 @@
 //! What the programs tell on standard error where no run can have them tell it: seats that are taken once more after
 //! a minute, and each fault.
 
+use bq_cli::serve;
 use bq_program::{Fault, Need, Options, Program, tell_cannot_listen, tell_fault};
-use bq_server::serve;
 use std::alloc::Global;
 use std::fmt::Display;
 use std::io::{Eprint, ErrorKind, Print, Read, Write};

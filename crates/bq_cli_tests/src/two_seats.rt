@@ -2,8 +2,8 @@
 //! not depend on the order in which the threads run.
 
 use crate::told::Heard;
+use bq_cli::serve;
 use bq_program::Options;
-use bq_server::serve;
 use std::alloc::Global;
 use std::io::{Read, Write};
 use std::net::{Net, SocketAddr, TcpListener, TcpStream};

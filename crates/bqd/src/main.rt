@@ -1,7 +1,7 @@
 //! The server: a work queue for many clients over TCP.
 #![tactic(auto)]
 
-use bq_server::run_bqd;
+use bq_cli::run_bqd;
 use std::process::ExitCode;
 
 fn main(rt: HostRuntime) -> ExitCode {

@@ -1,8 +1,8 @@
 //! A server in a thread that the calling one watches.
 ghost use Rattle.std.specs.Prelude.{◌≡◌, ◌≤◌, IfOk, IfSome};
 ghost use Rattle.bq_program.specs.Chosen.{of_bqd};
-ghost use Rattle.bq_server.specs.Servers.{IsStatusOfListening, IsStatusOfServer};
-ghost use Rattle.bq_server.specs.declared.logging.Logging.{Logging};
+ghost use Rattle.bq_cli.specs.Servers.{IsStatusOfListening, IsStatusOfServer};
+ghost use Rattle.bq_cli.specs.declared.logging.Logging.{Logging};
 
 use crate::logging::Logging;
 use crate::server::serve_to;
@@ -202,8 +202,8 @@ struct ServerPromise<R, I> {
 
 impl<R, I: ControlReader> Promise<u8> for ServerPromise<R, I> {
     ghost use Rattle.std.specs.Prelude.{◌≤◌};
-    ghost use Rattle.bq_server.specs.Servers.{IsStatusOfServer};
-    ghost use Rattle.bq_server.specs.declared.logging.Logging.{Logging};
+    ghost use Rattle.bq_cli.specs.Servers.{IsStatusOfServer};
+    ghost use Rattle.bq_cli.specs.declared.logging.Logging.{Logging};
 
     ghost kept_by = { λ p status. (IsStatusOfServer (Logging R) I.remaining I.may_fail ⟦<Core as QueueCore>⟧.machine
         ⟦<Core as QueueCore>⟧.comparisons p.options.value p.listener.value p.control.value status) × (status ≤ 1) };

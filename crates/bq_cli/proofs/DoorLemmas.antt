@@ -7,7 +7,7 @@ use Rattle.bq_line.specs.InAll.{in_all}
 use Rattle.bq_run_start.proofs.ListLemmas.{first_passes, rest_passes}
 use Rattle.bq_job.specs.promise.History.{LineOver}
 use Rattle.bq_program.specs.declared.chosen.Options.{Options}
-use Rattle.bq_server.specs.Servers.{AreServedDoors, IsDoorAt, TcpDoor}
+use Rattle.bq_cli.specs.Servers.{AreServedDoors, IsDoorAt, TcpDoor}
 
 -- as a door over TCP says it
 abbrev pub IsSameDoor : {R : Type 0} → TcpDoor R → TcpDoor R → Type 0

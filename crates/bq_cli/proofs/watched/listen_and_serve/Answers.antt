@@ -1,6 +1,6 @@
 use Rattle.std.proofs.Common.{Some}
-use Rattle.bq_server.proofs.BeginLemmas.{left_of_new, of_some, status_by}
-use Rattle.bq_server.proofs.watched.listen_and_serve.Goals as goal
+use Rattle.bq_cli.proofs.BeginLemmas.{left_of_new, of_some, status_by}
+use Rattle.bq_cli.proofs.watched.listen_and_serve.Goals as goal
 
 pub returns-in-Ok-Some-clause-status : goal.returns-in-Ok-Some-clause-status
 returns-in-Ok-Some-clause-status g c =

@@ -3,9 +3,9 @@ ghost use Rattle.std.specs.Prelude.{◌≡◌, ◌≤◌, ◌↔◌, ◌&&◌, �
 ghost use Rattle.std.specs.List.{All, list_any};
 ghost use Rattle.bq_driver.specs.Tending.{AreSame, IsNewDoor, door_seen};
 ghost use Rattle.bq_program.specs.Statuses.{status_of_server};
-ghost use Rattle.bq_server.specs.Servers.{IsDoorAt, IsServerLoop, IsServerRun, IsStatusOfLoop};
-ghost use Rattle.bq_server.specs.Servers.{IsStatusOfServer, IsStatusOfThreads, MayRefuse};
-ghost use Rattle.bq_server.specs.Servers.{came_of_doors, came_of_loop, came_of_run, settings_of};
+ghost use Rattle.bq_cli.specs.Servers.{IsDoorAt, IsServerLoop, IsServerRun, IsStatusOfLoop};
+ghost use Rattle.bq_cli.specs.Servers.{IsStatusOfServer, IsStatusOfThreads, MayRefuse};
+ghost use Rattle.bq_cli.specs.Servers.{came_of_doors, came_of_loop, came_of_run, settings_of};
 ghost use Rattle.bq_event_loop.specs.EventLoopRuns.{IsEventLoopRun};
 ghost use Rattle.bq_run.specs.Sessions.{IsRunOf};
 ghost use Rattle.bq_steps.specs.Limits.{are_in_range};

@@ -1,8 +1,8 @@
 use Rattle.std.proofs.Common.{◌≡◌, List, subst, sym, arith}
 use Rattle.bq_driver.specs.Tending.{IsNewDoor}
 use Rattle.bq_run_start.proofs.ListLemmas.{all_pushed}
-use Rattle.bq_server.specs.Servers.{IsDoorAt, TcpDoor}
-use Rattle.bq_server.proofs.server.new_doors.Goals as goal
+use Rattle.bq_cli.specs.Servers.{IsDoorAt, TcpDoor}
+use Rattle.bq_cli.proofs.server.new_doors.Goals as goal
 
 IsNew : {R : Type 0} → TcpDoor R → Type 0
 IsNew d = IsNewDoor (record { is_out = d.is_out; is_at_end = d.is_at_end; lines_over = d.over })

@@ -1,8 +1,8 @@
 use Rattle.std.proofs.Common.{◌≡◌, ◌≤◌, vec_len}
 use Rattle.std.specs.List.{All}
 use Rattle.bq_driver.specs.Tending.{IsNewDoor}
-use Rattle.bq_server.specs.Servers.{IsDoorAt}
-use Rattle.bq_server.proofs.server.new_doors.Given as goal
+use Rattle.bq_cli.specs.Servers.{IsDoorAt}
+use Rattle.bq_cli.proofs.server.new_doors.Given as goal
 
 abbrev pub invariant-loop : goal.invariant-loop
 invariant-loop g l = record {

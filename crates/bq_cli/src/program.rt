@@ -1,8 +1,8 @@
 //! The server as a program, from the words of its command line to its status.
 ghost use Rattle.std.specs.Prelude.{◌≤◌, IfOk};
 ghost use Rattle.bq_program.specs.Ranges.{IsForBqd};
-ghost use Rattle.bq_server.specs.Servers.{IsStatusOfProgram};
-ghost use Rattle.bq_server.specs.declared.logging.Logging.{Logging};
+ghost use Rattle.bq_cli.specs.Servers.{IsStatusOfProgram};
+ghost use Rattle.bq_cli.specs.declared.logging.Logging.{Logging};
 
 use crate::watched::listen_and_serve;
 use bq_core::Core;

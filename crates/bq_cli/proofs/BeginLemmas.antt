@@ -8,7 +8,7 @@ use Rattle.std.specs.declared.net.tcp.TcpListener.{TcpListener}
 use Rattle.bq_job.specs.machine.Machine.{Machine}
 use Rattle.bq_program.specs.declared.chosen.Options.{Options}
 use Rattle.bq_program.specs.declared.fault.Fault.TheVariants.{CannotListen}
-use Rattle.bq_server.specs.Servers.{IsStatusOfServer}
+use Rattle.bq_cli.specs.Servers.{IsStatusOfServer}
 
 by_parts : (capacity : ℕ) (buffer : List ℕ) (left : Option (List ℕ)) → capacity ≡ 8192 → buffer ≡ []
     → (if capacity == 0 then None else prepend_known buffer left) ≡ left

@@ -20,7 +20,7 @@ use Rattle.bq_event_loop.specs.declared.run.EventLoopRun.{EventLoopRun}
 use Rattle.bq_run.specs.Sessions.{IsRunOf}
 use Rattle.bq_run.specs.declared.sessions.Run.{Run}
 use Rattle.bq_steps.specs.Limits.{are_in_range}
-use Rattle.bq_server.specs.declared.telling_clock.TellingClock.{TellingClock}
+use Rattle.bq_cli.specs.declared.telling_clock.TellingClock.{TellingClock}
 
 -- a door at which connections over TCP come
 abbrev pub TcpDoor : Type 0 → Type 0
