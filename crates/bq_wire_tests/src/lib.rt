@@ -1,5 +1,5 @@
-//! Tests of values and texts of the protocol, and of the machine of a connection. They use public
-//! calls only.
+//! Tests of values and texts of the protocol, of the machine of a connection, and of the links between
+//! seats and core. They use public calls only.
 #![tactic(auto)]
 
 #[cfg(test)]
@@ -8,6 +8,8 @@ mod answers;
 mod cut_readings;
 #[cfg(test)]
 mod lines;
+#[cfg(test)]
+mod links;
 #[cfg(test)]
 mod noted;
 #[cfg(test)]

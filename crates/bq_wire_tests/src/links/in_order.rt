@@ -2,7 +2,7 @@
 //! those of a seat in order.
 ghost use Rattle.std.specs.Prelude.{◌≡◌};
 
-use crate::ends::{Shared, last_ends, submit_one};
+use crate::links::ends::{Shared, last_ends, submit_one};
 use bq_job::{Request, Seat, Step};
 use bq_link::{CoreEnd, SeatEnd};
 use std::sync::Wait;

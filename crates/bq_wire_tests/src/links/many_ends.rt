@@ -2,7 +2,7 @@
 ghost use Rattle.std.specs.Prelude.{◌≡◌, ◌<◌, length};
 ghost use Rattle.bq_link.specs.EndStates.{IsSameCore, IsSameSeat};
 
-use crate::ends::{Did, Shared, last_ends, submits, takes};
+use crate::links::ends::{Did, Shared, last_ends, submits, takes};
 use bq_job::{Answer, Step};
 use bq_link::{CoreEnd, SeatEnd};
 use std::sync::Wait;

@@ -1,7 +1,7 @@
 //! Wake-ups: a waiting thread is woken up by what it waits for, even if that came before it waited.
 ghost use Rattle.std.specs.Prelude.{◌≡◌};
 
-use crate::ends::{Shared, links_of_four, submit_one};
+use crate::links::ends::{Shared, links_of_four, submit_one};
 use bq_job::Step;
 use bq_link::{CoreEnd, SeatEnd};
 use std::sync::Wait;
