@@ -20,8 +20,10 @@ pub left_of_new : {T A : Type 0} (remaining : T → Option (List ℕ)) (r : BufR
 left_of_new remaining r input i b c = by_parts (reader_capacity r) (reader_buffer r) (remaining r.inner) c b ∙ ap remaining i
 
 -- a status by the same options
-pub status_by : {R I K : Type 0} {left : I → Option (List ℕ)} {may_fail : I → Bool} {machine : K → Machine} {comparisons : K → ℕ} {chosen same : Options} {listener : TcpListener} {control : I} {status : ℕ}
-    → chosen ≡ same → IsStatusOfServer R left may_fail machine comparisons chosen listener control status → IsStatusOfServer R left may_fail machine comparisons same listener control status
+pub status_by : {R I K : Type 0} {left : I → Option (List ℕ)} {may_fail : I → Bool} {machine : K → Machine} {comparisons : K → ℕ}
+    {chosen same : Options} {listener : TcpListener} {control : I} {status : ℕ}
+    → chosen ≡ same → IsStatusOfServer R left may_fail machine comparisons chosen listener control status
+    → IsStatusOfServer R left may_fail machine comparisons same listener control status
 status_by {R} {I} {K} {left} {may_fail} {machine} {comparisons} {chosen} {same} {listener} {control} {status} e s =
     subst (λ (o : Options). IsStatusOfServer R left may_fail machine comparisons o listener control status) e s
 
@@ -30,7 +32,8 @@ pub of_some : (P : ℕ → Type 0) (came : Option ℕ) (status : ℕ) → came �
 of_some P came status is h = subst (λ (o : Option ℕ). IfSome o P) is h
 
 -- The program can't listen, whatever engine was chosen.
-pub cannot_begin : {R I K : Type 0} {left : I → Option (List ℕ)} {may_fail : I → Bool} {machine : K → Machine} {comparisons : K → ℕ} {options : Options} {listener : TcpListener} {control : I} {status : ℕ}
+pub cannot_begin : {R I K : Type 0} {left : I → Option (List ℕ)} {may_fail : I → Bool} {machine : K → Machine} {comparisons : K → ℕ}
+    {options : Options} {listener : TcpListener} {control : I} {status : ℕ}
     → status ≡ 1 → IsStatusOfServer R left may_fail machine comparisons options listener control status
 cannot_begin e = record {
   by_loop = λ chosen. record { came = Err CannotListen; served = tt; refused = tt; status_is = e };

@@ -14,7 +14,8 @@ settings_of_bq options = record { seats = 1; max_job_size = options.max_job_size
 
 -- The readings of a session's clock. If it stands still each is 0; else they are those that the machine's clock gave
 -- from the first to the last.
-pub record HasGiven {K : Type 0} (is_still : Bool) (first : MachineClock K) (readings : List (Option ℕ)) (last : MachineClock K) : Type 0 where
+pub record HasGiven {K : Type 0} (is_still : Bool) (first : MachineClock K) (readings : List (Option ℕ))
+    (last : MachineClock K) : Type 0 where
   pub still : is_still ≡ true → All (λ reading. reading ≡ Some 0) readings
   pub machine : is_still ≡ false → last.given ≡ first.given ++ readings
 
