@@ -1,4 +1,4 @@
--- How a server begins: a control line that was made over an input has what the input has.
+-- How a server begins: a new control line over an input has the bytes that the input has left.
 use Rattle.std.proofs.Common.{◌≡◌, ◌∙◌, ℕ, ◌==◌, Bool, List, [], Option, None, Some, IfSome, Err, ap, refl, subst, if◌then◌else◌}
 use Rattle.std.proofs.KnownBytes.{prepend_known-nil}
 use Rattle.std.specs.Io.Buffered.{reader_buffer, reader_capacity, reader_inner, reader_remaining}
@@ -27,11 +27,11 @@ pub status_by : {R I K : Type 0} {left : I → Option (List ℕ)} {may_fail : I 
 status_by {R} {I} {K} {left} {may_fail} {machine} {comparisons} {chosen} {same} {listener} {control} {status} e s =
     subst (λ (o : Options). IsStatusOfServer R left may_fail machine comparisons o listener control status) e s
 
--- what is promised of a value that is there
+-- the promise for a value of an option
 pub of_some : (P : ℕ → Type 0) (came : Option ℕ) (status : ℕ) → came ≡ Some status → IfSome came P → P status
 of_some P came status is h = subst (λ (o : Option ℕ). IfSome o P) is h
 
--- The program can't listen, whatever engine was chosen.
+-- The program cannot listen, whichever engine was chosen.
 pub cannot_begin : {R I K : Type 0} {left : I → Option (List ℕ)} {may_fail : I → Bool} {machine : K → Machine} {comparisons : K → ℕ}
     {options : Options} {listener : TcpListener} {control : I} {status : ℕ}
     → status ≡ 1 → IsStatusOfServer R left may_fail machine comparisons options listener control status

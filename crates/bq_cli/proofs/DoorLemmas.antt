@@ -10,7 +10,7 @@ use Rattle.bq_job.specs.promise.History.{LineOver}
 use Rattle.bq_program.specs.declared.chosen.Options.{Options}
 use Rattle.bq_cli.specs.Servers.{AreServedDoors, IsDoorAt, TcpDoor}
 
--- as a door over TCP says it
+-- the relation for doors over TCP
 abbrev pub IsSameDoor : {R : Type 0} → TcpDoor R → TcpDoor R → Type 0
 IsSameDoor first last = (last.listener ≡ first.listener)
     × (in_all last.left last.is_out last.over ≡ in_all first.left first.is_out first.over)
@@ -44,7 +44,7 @@ abbrev in_some : Option ℕ → ℕ
 in_some None = 0
 in_some (Some n) = n
 
--- none to come and none out: all are over
+-- no connection may come and none is out: all have ended
 all_over : (sessions : Option ℕ) (over : List LineOver) → in_all (Some 0) false over ≡ in_all sessions false []
     → sessions ≡ Some (length over)
 all_over None over h = absurd (let g : Some (0 + (0 + length over)) ≡ None = h in cc)
@@ -55,12 +55,12 @@ came_by : (left sessions : Option ℕ) (is_out : Bool) (over : List LineOver) �
 came_by left sessions is_out over l o h =
     all_over sessions over (sym (ap (λ n. in_all n is_out over) l ∙ ap (λ b. in_all (Some 0) b over) o) ∙ h)
 
--- A door that met no fault is at its end because all came that may.
+-- A door that met no fault is at its end because all of its connections came.
 pub all_came : {R : Type 0} (listener : TcpListener) (sessions : Option ℕ) (door : TcpDoor R) → door.is_out ≡ false → door.is_at_end ≡ true
     → IsDoorAt listener sessions door → door.met_fault ≡ false → sessions ≡ Some (length door.over)
 all_came listener sessions door o e h f = came_by door.left sessions door.is_out door.over (door.ended e f) o h.allowed
 
--- What a server's run says of its doors.
+-- what the run of a server says of its doors
 pub doors_served : {R : Type 0} (options : Options) (listener : TcpListener) (firsts lasts : List (TcpDoor R)) (many : ℕ)
     → many ≡ options.seats → AreSame IsSameDoor firsts lasts
     → All (λ door. IsDoorAt listener options.sessions door) firsts → All (λ door. (door.is_out ≡ false) × (door.is_at_end ≡ true)) lasts

@@ -1,4 +1,4 @@
--- What a server's run is given, what it comes to, and what its status is a status of.
+-- The run of a server: its settings, its end, and the status that follows.
 use Rattle.std.specs.Prelude.{ℕ, ◌≡◌, Bool, false, true, List, [], ◌++◌, length, Option, Some, None, Result, Ok, Err}
 use Rattle.std.specs.Prelude.{IfErr, IfOk, if◌then◌else◌, vec_len}
 use Rattle.std.specs.List.{All, list_any}
@@ -22,20 +22,20 @@ use Rattle.bq_run.specs.declared.sessions.Run.{Run}
 use Rattle.bq_steps.specs.Limits.{are_in_range}
 use Rattle.bq_cli.specs.declared.telling_clock.TellingClock.{TellingClock}
 
--- a door at which connections over TCP come
+-- a door that accepts TCP connections
 abbrev pub TcpDoor : Type 0 → Type 0
 TcpDoor R = ListenDoor R TcpListener
 
--- what the options say to a run of many clients
+-- the settings of a run by these options
 abbrev pub settings_of : Options → Settings
 settings_of options = record
     { seats = options.seats; max_job_size = options.max_job_size; max_jobs = options.max_jobs; requeue_delay = options.requeue_delay }
 
--- A run at some door of which a connection could not be accepted ends by a fault.
+-- A run fails if some door could not accept a connection.
 abbrev pub came_of_doors : {D : Type 0} → (D → Bool) → List D → Result (Unit {0}) Fault
 came_of_doors met_fault doors = if list_any met_fault doors then Err faults.NotAccepted else Ok tt
 
--- So does a run that was not made.
+-- A run that could not begin fails too.
 abbrev pub came_of_run : {D C I K : Type 0} → (D → Bool) → Result (Run D C I K) Fault → Result (Unit {0}) Fault
 came_of_run met_fault (Ok run) = came_of_doors met_fault run.doors.items
 came_of_run met_fault (Err fault) = Err fault
@@ -44,22 +44,22 @@ abbrev pub came_of_loop : {D C I K : Type 0} → (D → Bool) → Result (EventL
 came_of_loop met_fault (Ok run) = came_of_doors met_fault run.doors.items
 came_of_loop met_fault (Err fault) = Err fault
 
--- A door of a server: it is at this listener, and so many connections come at it in all.
+-- A door of a server: it is at this listener, and accepts this number of connections in all.
 pub record IsDoorAt {R : Type 0} (listener : TcpListener) (sessions : Option ℕ) (door : TcpDoor R) : Type 0 where
   pub at : door.listener.now ≡ listener
   pub allowed : in_all door.left door.is_out door.over ≡ in_all sessions false []
 
--- The doors of a server's run that is over. There was a door for each seat that the options choose, all at this listener,
--- each for as many connections as they choose, and each is at its end with no line out: one that met no fault of its
--- listener had exactly so many.
+-- The doors of a server whose run has ended. There was a door for each seat that the options choose, all at this listener,
+-- each for the number of connections that they choose. Each door is at its end with no line out. A door whose listener
+-- did not fail had exactly this number of connections.
 pub record AreServedDoors {R : Type 0} (options : Options) (listener : TcpListener) (many : ℕ) (of_run : List (TcpDoor R)) : Type 0 where
   pub seats : many ≡ options.seats
   pub doors : All (λ door. IsDoorAt listener options.sessions door) of_run
   pub at_end : All (λ door. (door.is_out ≡ false) × (door.is_at_end ≡ true)) of_run
   pub all_came : All (λ door. door.met_fault ≡ false → options.sessions ≡ Some (length door.over)) of_run
 
--- A server's run that is over, in which each connection had a thread. By a new clock it is one over these doors and this
--- control line, and the machine that took its history is the one of the options.
+-- A run of a server by threads that has ended. It began with a new clock, with these doors and this control line, and the
+-- machine that took its history has the settings of the options.
 pub record IsServerRun {R I K : Type 0} (left : I → Option (List ℕ)) (may_fail : I → Bool)
     (machine : K → Machine) (comparisons : K → ℕ) (options : Options) (listener : TcpListener) (control : I)
     (run : Run (TcpDoor R) (TellingClock R) I K) : Type 0 where
@@ -69,7 +69,7 @@ pub record IsServerRun {R I K : Type 0} (left : I → Option (List ℕ)) (may_fa
   pub is_run : IsRunOf (λ before readings after. after.clock.given ≡ before.clock.given ++ readings) (λ door. door.over)
       left may_fail machine comparisons (settings_of options) clock control run
 
--- The same of a run in which one thread served all connections.
+-- the same for a run by an event loop
 pub record IsServerLoop {R I K : Type 0} (left : I → Option (List ℕ)) (may_fail : I → Bool)
     (machine : K → Machine) (comparisons : K → ℕ) (options : Options) (listener : TcpListener) (control : I)
     (run : EventLoopRun (TcpDoor R) (TellingClock R) I K) : Type 0 where
@@ -79,7 +79,7 @@ pub record IsServerLoop {R I K : Type 0} (left : I → Option (List ℕ)) (may_f
   pub is_run : IsEventLoopRun (λ before readings after. after.clock.given ≡ before.clock.given ++ readings) (λ door. door.over)
       left may_fail machine comparisons (settings_of options) clock control run
 
--- Why there may be no run: what the system refuses, or options out of their ranges.
+-- Why there may be no run: the system refused something, or the options are out of their ranges.
 abbrev pub MayRefuse : Options → Fault → Type 0
 MayRefuse options faults.CannotListen = Unit {0}
 MayRefuse options (faults.NoMemory need) = Unit {0}
@@ -87,8 +87,7 @@ MayRefuse options faults.ThreadRefused = Unit {0}
 MayRefuse options faults.BadConfiguration = are_in_range (settings_of options) ≡ false
 MayRefuse options _ = ⊥
 
--- A status is that of what came of a server at this listener, in which each connection had a thread: a run, or why there
--- was none.
+-- The status follows from what came of a server at this listener, served by threads: a run, or why there was none.
 pub record IsStatusOfThreads (R : Type 0) {I K : Type 0} (left : I → Option (List ℕ)) (may_fail : I → Bool)
     (machine : K → Machine) (comparisons : K → ℕ) (options : Options) (listener : TcpListener) (control : I) (status : ℕ) : Type 0 where
   pub came : Result (Run (TcpDoor R) (TellingClock R) I K) Fault
@@ -96,7 +95,7 @@ pub record IsStatusOfThreads (R : Type 0) {I K : Type 0} (left : I → Option (L
   pub refused : IfErr came (λ fault. MayRefuse options fault)
   pub status_is : status ≡ status_of_server (came_of_run (λ door. door.met_fault) came)
 
--- The same of a server in which one thread served all connections.
+-- the same for a server by an event loop
 pub record IsStatusOfLoop (R : Type 0) {I K : Type 0} (left : I → Option (List ℕ)) (may_fail : I → Bool)
     (machine : K → Machine) (comparisons : K → ℕ) (options : Options) (listener : TcpListener) (control : I) (status : ℕ) : Type 0 where
   pub came : Result (EventLoopRun (TcpDoor R) (TellingClock R) I K) Fault
@@ -104,36 +103,36 @@ pub record IsStatusOfLoop (R : Type 0) {I K : Type 0} (left : I → Option (List
   pub refused : IfErr came (λ fault. MayRefuse options fault)
   pub status_is : status ≡ status_of_server (came_of_loop (λ door. door.met_fault) came)
 
--- A status is that of what came of a server at this listener, by the engine that the options choose.
+-- The status follows from what came of a server at this listener, by the engine that the options choose.
 pub record IsStatusOfServer (R : Type 0) {I K : Type 0} (left : I → Option (List ℕ)) (may_fail : I → Bool)
     (machine : K → Machine) (comparisons : K → ℕ) (options : Options) (listener : TcpListener) (control : I) (status : ℕ) : Type 0 where
   pub by_loop : options.event_loop ≡ true → IsStatusOfLoop R left may_fail machine comparisons options listener control status
   pub by_threads : options.event_loop ≡ false → IsStatusOfThreads R left may_fail machine comparisons options listener control status
 
--- None: it says that the address can't be bound or that memory for the control line was refused, and no clause tells
--- whether that is so. Else a server began at some listener, with a control line over this input.
+-- None: the address could not be bound or memory for the control line could not be allocated; no clause says whether
+-- that is so. Otherwise a server began at some listener, with a control line over this input.
 abbrev pub IsStatusOfBegun : (R : Type 0) {I K : Type 0} → (I → Option (List ℕ)) → (I → Bool) → (K → Machine) → (K → ℕ)
     → Options → Option (List ℕ) → Option (TcpListener × I) → ℕ → Type 0
 IsStatusOfBegun R left may_fail machine comparisons options input None status = status ≡ 1
 IsStatusOfBegun R left may_fail machine comparisons options input (Some begun) status =
     (left begun.1 ≡ input) × IsStatusOfServer R left may_fail machine comparisons options begun.0 begun.1 status
 
--- A status is that of what came of options by which a program listens and serves. Which listener the system gave for
--- their address no clause tells.
+-- The status follows from what came of a program that listens and serves by these options. No clause says which listener
+-- the system returned for their address.
 abbrev pub IsStatusOfListening : (R : Type 0) {I K : Type 0} → (I → Option (List ℕ)) → (I → Bool) → (K → Machine) → (K → ℕ)
     → Options → Option (List ℕ) → ℕ → Type 0
 IsStatusOfListening R {I} left may_fail machine comparisons options input status =
     (begun : Option (TcpListener × I)) × IsStatusOfBegun R left may_fail machine comparisons options input begun status
 
--- Words that choose nothing are a fault of theirs. Else the program listens and serves by what they choose.
+-- Words with no options are a fault. Otherwise the program listens and serves by their options.
 abbrev pub IsStatusOfWords : (R : Type 0) {I K : Type 0} → (I → Option (List ℕ)) → (I → Bool) → (K → Machine) → (K → ℕ)
     → Option (List ℕ) → Result BqdOptions OptionFault → ℕ → Type 0
 IsStatusOfWords R left may_fail machine comparisons input (Err fault) status = IsStatusOfOptionFault fault status
 IsStatusOfWords R left may_fail machine comparisons input (Ok chosen) status =
     IsForBqd chosen × IsStatusOfListening R left may_fail machine comparisons (of_bqd chosen) input status
 
--- A status is that of what came of the words of the command line. Which words were given no clause tells, so each
--- status up to 2 is that of some.
+-- The status follows from the words of the command line. No clause says which words were given, so every status up to 2 is
+-- possible for some words.
 abbrev pub IsStatusOfProgram : (R : Type 0) {I K : Type 0} → (I → Option (List ℕ)) → (I → Bool) → (K → Machine) → (K → ℕ)
     → Option (List ℕ) → ℕ → Type 0
 IsStatusOfProgram R left may_fail machine comparisons input status =

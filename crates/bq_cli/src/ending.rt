@@ -1,22 +1,22 @@
-//! How the thread that began a server hears that it has ended.
+//! How the thread that started a server learns that it has ended.
 
 use bq_line::OpenDoors;
 use std::sync::atomic::{AtomicU64, Ordering};
 use std::sync::{Wait, WaitMethods};
 
-/// The end of a server: its run is over, or its last door failed. After the latter the run may still wait for the end of
-/// the control line, which can take for ever.
+/// The end of a server: its run has ended, or its last door has failed. In the second case the run may still wait for the
+/// end of the control line, which may never come.
 #[derive(Drop)]
 pub struct Ending {
     doors: OpenDoors,
-    // 1 if the run is over.
+    // 1 if the run has ended.
     is_over: AtomicU64,
     // 1 if a thread has begun to report how the server ended.
     is_reported: AtomicU64,
 }
 
 impl Ending {
-    /// The end of a server with so many doors.
+    /// Makes the end of a server with this number of doors.
     pub fn new(doors: u16) -> Ending {
         Ending {
             doors: OpenDoors::new(u32::from(doors)),
@@ -25,17 +25,18 @@ impl Ending {
         }
     }
 
+    /// Returns the doors that are still open.
     pub fn doors(&self) -> &OpenDoors {
         &self.doors
     }
 
-    /// The run is over.
+    /// Notes that the run has ended, and wakes the thread that waits.
     pub fn note_over(&self) {
         self.is_over.store(1, Ordering::SeqCst);
         self.doors.wake();
     }
 
-    /// Waits until the run is over or the last door has failed. One thread may wait.
+    /// Waits until the run has ended or the last door has failed. Only one thread may wait.
     pub fn wait<R: Wait>(&self, rt: &R) {
         for _ in rt.forever() {
             if self.is_over.load(Ordering::SeqCst) == 1 || self.doors.have_failed() {
@@ -45,7 +46,7 @@ impl Ending {
         }
     }
 
-    /// Whether the caller is the first to report how the server ended, and is to do it.
+    /// Returns true if the caller is the first to report how the server ended, and so has to do it.
     pub fn is_first_to_report(&self) -> bool {
         self.is_reported.swap(1, Ordering::SeqCst) == 0
     }

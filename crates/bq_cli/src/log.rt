@@ -1,4 +1,4 @@
-//! Lines for standard error. A thread of its own writes them, so that no other thread waits for whoever reads them.
+//! Lines for standard error. A thread of its own writes them, so that no other thread waits for their reader.
 
 use arrayvec::ArrayString;
 use crossbeam_queue::ArrayQueue;
@@ -13,10 +13,10 @@ use std::time::Duration;
 /// How many lines can wait to be written.
 const ROOM: usize = 64;
 
-/// How many bytes a line has at most.
+/// The greatest length of a line, in bytes.
 const LINE_LENGTH: usize = 256;
 
-/// How often the end of a program waits for lines to be written.
+/// How many times the end of a program waits for lines to be written.
 const LAST_WAITS: u32 = 10;
 
 /// How long one of these waits takes at most, in milliseconds.
@@ -24,23 +24,24 @@ const LAST_WAIT: u64 = 100;
 
 type Line = ArrayString<LINE_LENGTH>;
 
-/// Lines that one thread writes to standard error in their order, while any thread adds more. No thread waits to add a
-/// line: if there is no room the line is dropped, and how many were is reported later.
+/// Lines that one thread writes to standard error in their order, while any thread adds more. Adding a line does not
+/// block: if there is no room the line is dropped, and the number of dropped lines is reported later.
 #[derive(Drop)]
 pub struct Log {
     lines: ArrayQueue<Line>,
-    // How many lines were dropped since that was last reported.
+    // The number of lines dropped since the last report of it.
     dropped: AtomicU64,
     // 1 if no more lines are added.
     is_closed: AtomicU64,
     // 1 if the log is closed and all its lines are written.
     is_written: AtomicU64,
-    // What the thread sleeps on that writes, and the one that closes.
+    // The thread that writes sleeps on the first, the one that closes the log on the second.
     writer: Parker,
     closer: Parker,
 }
 
 impl Log {
+    /// Makes an empty log, and allocates all memory that it needs.
     pub fn new(alloc: Global) -> Result<Log, AllocError> {
         Ok(Log {
             lines: ArrayQueue::new(alloc, ROOM)?,
@@ -52,7 +53,7 @@ impl Log {
         })
     }
 
-    /// Adds a line. It takes no memory.
+    /// Adds a line, or drops it if there is no room. It does not allocate.
     pub fn add<R: Wait, D: Display + Drop>(&self, rt: &R, line: D) {
         if self.lines.push(rt, line_of(line)).is_err() {
             self.dropped.fetch_add(1, Ordering::SeqCst);
@@ -63,7 +64,7 @@ impl Log {
     /// Writes lines as they come, until the log is closed and all of them are written.
     pub fn write<R: Wait + Eprint>(&self, rt: &R) {
         for _ in rt.forever() {
-            // This is read first: what was added before the log was closed is written below.
+            // Read before the lines are written, so that all lines added before the log was closed are written.
             let is_closed = self.is_closed.load(Ordering::SeqCst) == 1;
             self.write_waiting(rt);
             if is_closed {
@@ -81,7 +82,7 @@ impl Log {
             let Some(line) = self.lines.pop(rt) else {
                 break;
             };
-            // If standard error is closed, nobody wants to know.
+            // If standard error is closed, there is no reader.
             let _told = eprintln!(rt; "{}", line.as_str());
         }
         let dropped = self.dropped.swap(0, Ordering::SeqCst);
@@ -106,7 +107,7 @@ impl Log {
     }
 }
 
-// A line without its end. Parts of it for which there is no room are left out.
+// Returns the text of a line without its end, cut where it is too long.
 fn line_of<D: Display + Drop>(value: D) -> Line {
     let mut line = Line::new();
     let _whole = write!(line, "{value}");

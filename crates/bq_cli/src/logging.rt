@@ -11,8 +11,8 @@ use std::sync::{Arc, Wait};
 use std::thread::Threads;
 use std::time::Duration;
 
-/// A host whose standard error is a log, which another thread writes: no thread that reports something waits for
-/// whoever reads it. All else is the host's own.
+/// A host whose standard error is a log that another thread writes, so that no thread waits for the reader of what it
+/// reports. All other calls go to the host itself.
 #[derive(Drop)]
 pub struct Logging<R> {
     host: R,
@@ -20,11 +20,12 @@ pub struct Logging<R> {
 }
 
 impl<R> Logging<R> {
+    /// Makes a host that logs to what it shares with the writing thread.
     pub fn new(host: R, shared: Arc<Shared, Global>) -> Logging<R> {
         Logging { host, shared }
     }
 
-    /// What it shares with other threads.
+    /// Returns what it shares with other threads.
     pub fn shared(&self) -> &Shared {
         &self.shared
     }
@@ -76,7 +77,7 @@ impl<R: Print> Print for Logging<R> {
     }
 }
 
-/// What is reported is a line of the log, by either call.
+/// Both calls add a line to the log.
 impl<R: Wait> Eprint for Logging<R> {
     fn eprint<D: Display + Drop>(&self, value: D) -> io::Result<()> {
         self.eprintln(value)

@@ -1,4 +1,4 @@
-//! The server as a program, from the words of its command line to its status.
+//! The program `bqd`, from the words of its command line to its status.
 ghost use Rattle.std.specs.Prelude.{◌≤◌, IfOk};
 ghost use Rattle.bq_program.specs.Ranges.{IsForBqd};
 ghost use Rattle.bq_cli.specs.Servers.{IsStatusOfProgram};
@@ -15,10 +15,10 @@ use std::rt::{Clock, Env};
 use std::sync::Wait;
 use std::thread::Threads;
 
-/// All that `bqd` does: it serves the clients that connect to the address among the program's words, with the
-/// input as the control line, and tells what came of it. It returns the status of the program.
+/// Does all that `bqd` does: serves the clients that connect to the address in the program's words, with the input as the
+/// control line, and reports how that ended. Returns the status of the program.
 ///
-/// The input is the standard input of the program: an event loop waits for it by that descriptor.
+/// The input has to be the standard input of the program: an event loop waits for it by that descriptor.
 pub fn run_bqd<
     R: AllocGlobal
         + Env
@@ -34,8 +34,8 @@ pub fn run_bqd<
         + 'static,
     I: Read + Drop + Send + 'static,
 >(rt: &R, input: I) -> u8
-    // The status is one that some words have: that of their fault, or of the server that they choose, with a control
-    // line over this input. No clause tells which words were given, and any status up to 2 is that of some.
+    // The status is one that some words lead to: by their fault, or by the server that they choose, with a control line
+    // over this input. No clause says which words were given, and every status up to 2 is possible for some words.
     ensures status { IsStatusOfProgram (Logging R) ⟦<BufReader<I> as Read>⟧.remaining ⟦<BufReader<I> as ControlReader>⟧.may_fail
         ⟦<Core as QueueCore>⟧.machine ⟦<Core as QueueCore>⟧.comparisons (I.remaining input) result }
     ensures at_most { result ≤ 2 }

@@ -1,4 +1,4 @@
-//! All that the server does, from its options to its status.
+//! The server, from its options to its status.
 ghost use Rattle.std.specs.Prelude.{◌≡◌, ◌≤◌, ◌↔◌, ◌&&◌, ◌==◌, IfErr, IfOk, IsErrOf, IsTrue, false, not, true, vec_len};
 ghost use Rattle.std.specs.List.{All, list_any};
 ghost use Rattle.bq_driver.specs.Tending.{AreSame, IsNewDoor, door_seen};
@@ -31,7 +31,7 @@ use std::rt::Clock;
 use std::sync::Wait;
 use std::thread::Threads;
 
-// What the doors of a server tell, which they share.
+// What the doors of a server report, which they share.
 #[derive(Drop)]
 struct DoorsTell<'e> {
     refusals: Refusals,
@@ -53,12 +53,12 @@ impl<'e> DoorsTell<'e> {
     }
 }
 
-/// Serves the connections that the listener accepts, as the options choose, and tells on standard output
-/// where it listens. The control is the control line. It returns the status of the program: 0 when all
-/// seats and the control line have ended, and 1 after a fault, which is told on standard error.
+/// Serves the connections that the listener accepts by these options, and prints on standard output where it listens.
+/// Returns the status of the program: 0 when all seats and the control line have ended, and 1 after a fault, which is
+/// reported on standard error.
 ///
 /// An event loop reads the control line to its end before it accepts a connection, since nothing says when a read of it
-/// would not wait.
+/// would not block.
 pub fn serve<R: Net + Threads + Wait + Clock + Print + Eprint + Sync, I: ControlReader + Drop>(
     rt: &R,
     alloc: Global,
@@ -66,8 +66,8 @@ pub fn serve<R: Net + Threads + Wait + Clock + Print + Eprint + Sync, I: Control
     listener: TcpListener,
     control: I,
 ) -> u8
-    // The status is that of what came of the server. It is 0 only where there was a run of the options at this
-    // listener, and no door of it met a fault.
+    // The status follows from what came of the server. It is 0 only after a run of these options at this listener in
+    // which no door met a fault.
     ensures status { IsStatusOfServer R I.remaining I.may_fail ⟦<Core as QueueCore>⟧.machine
         ⟦<Core as QueueCore>⟧.comparisons options.now listener control result }
     ensures at_most { result ≤ 1 }
@@ -76,8 +76,8 @@ pub fn serve<R: Net + Threads + Wait + Clock + Print + Eprint + Sync, I: Control
     serve_to(rt, alloc, options, listener, &ending, control, None)
 }
 
-/// The same, for a thread that another one watches: it reports how the run ended unless that one has. The control line is
-/// that of this descriptor, if it has one.
+/// Does the same as `serve` in a thread that another one watches: it reports how the run ended, unless that thread has
+/// done so. The descriptor is that of the control line, if it has one.
 pub(crate) fn serve_to<
     R: Net + Threads + Wait + Clock + Print + Eprint + Sync,
     I: ControlReader + Drop,
@@ -96,7 +96,7 @@ pub(crate) fn serve_to<
 {
     match listener.local_addr() {
         Ok(address) => {
-            // Who closes standard output doesn't want to know.
+            // If standard output is closed, there is no reader.
             let _told = println!(rt; "listening {address}");
             serve_at(rt, alloc, options, &listener, ending, control, source)
         }
@@ -104,7 +104,7 @@ pub(crate) fn serve_to<
     }
 }
 
-// It is told that nobody can listen at the address of the options.
+// Reports that the server cannot listen at the address of the options.
 fn cannot_listen<R: Eprint>(rt: &R, options: &Options, e: &io::Error) -> u8
     ensures { result ≡ 1 }
 {
@@ -112,7 +112,7 @@ fn cannot_listen<R: Eprint>(rt: &R, options: &Options, e: &io::Error) -> u8
     tell_cannot_listen(rt, Program::Bqd, address, e)
 }
 
-// Serves at this listener by the engine that the options choose, and tells what came of it.
+// Serves at this listener by the engine that the options choose, and reports how that ended.
 fn serve_at<R: Net + Threads + Wait + Clock + Print + Eprint + Sync, I: ControlReader + Drop>(
     rt: &R,
     alloc: Global,
@@ -133,7 +133,7 @@ fn serve_at<R: Net + Threads + Wait + Clock + Print + Eprint + Sync, I: ControlR
     }
 }
 
-// The doors of an event loop must not wait.
+// Serves by an event loop, whose listener must not block.
 fn serve_by_loop<R: Net + Wait + Clock + Print + Eprint, I: ControlReader + Drop>(
     rt: &R,
     alloc: Global,
@@ -172,7 +172,7 @@ fn serve_by_threads<R: Threads + Wait + Clock + Print + Eprint + Sync, I: Contro
     tell_end(rt, ending, came_of(&came))
 }
 
-// Tells what came of a server, unless another thread did already.
+// Reports how a server ended, unless another thread has done so. Returns the status.
 fn tell_end<R: Eprint>(rt: &R, ending: &Ending, came: Result<(), Fault>) -> u8
     ensures { result ≡ status_of_server came }
 {
@@ -185,7 +185,7 @@ fn tell_end<R: Eprint>(rt: &R, ending: &Ending, came: Result<(), Fault>) -> u8
     }
 }
 
-// The run of a server, whose doors are new and at this listener, one for each seat.
+// Runs a server by threads, with a new door at this listener for each seat.
 fn run_server<'l, R: Threads + Wait + Clock + Print + Eprint + Sync, I: ControlReader + Drop>(
     rt: &'l R,
     alloc: Global,
@@ -209,7 +209,7 @@ fn run_server<'l, R: Threads + Wait + Clock + Print + Eprint + Sync, I: ControlR
     }
 }
 
-// The same by an event loop.
+// Runs a server by an event loop, in the same way.
 fn run_loop<'l, R: Net + Wait + Clock + Print + Eprint, I: ControlReader + Drop>(
     rt: &'l R,
     alloc: Global,
@@ -234,9 +234,8 @@ fn run_loop<'l, R: Net + Wait + Clock + Print + Eprint, I: ControlReader + Drop>
     }
 }
 
-/// Serves the connections that come at the doors, each door at a seat and in a thread of its own, as the
-/// options choose. The control is the control line. With a fault no door was opened, and the doors are given
-/// up.
+/// Serves the connections that come at the doors by these options, each door at a seat and in a thread of its own. On
+/// error no door was opened, and the doors are dropped.
 pub fn serve_doors<
     'l,
     R: Threads + Wait + Clock + Eprint + Sync,
@@ -252,14 +251,14 @@ pub fn serve_doors<
 ) -> Result<Run<TcpDoor<'l, R>, C, I, Core>, RunFault>
     requires new { All (λ door. IsNewDoor (door_seen ⟦<TcpDoor<'l, R> as Door>⟧.is_out
         ⟦<TcpDoor<'l, R> as Door>⟧.is_at_end ⟦<TcpDoor<'l, R> as Door>⟧.lines_over door)) doors.items }
-    // There is one history of all connections' steps and those of the control line, which the one-list machine
-    // takes by the options. Each connection of each door was written exactly what it is owed along it, as far
-    // as its reads and writes tell.
+    // There is one history of the steps of all connections and of the control line, and the one-list machine takes it by
+    // the options. Each connection of each door received exactly the bytes that this history prescribes for it, as far as
+    // its reads and writes show.
     ensures served { IfOk result (IsRunOf C.given ⟦<TcpDoor<'l, R> as Door>⟧.lines_over I.remaining I.may_fail
         ⟦<Core as QueueCore>⟧.machine ⟦<Core as QueueCore>⟧.comparisons (settings_of options.now) clock control) }
     ensures at_end { IfOk result (λ run. All (λ door. (⟦<TcpDoor<'l, R> as Door>⟧.is_out door ≡ false)
         × (⟦<TcpDoor<'l, R> as Door>⟧.is_at_end door ≡ true)) run.doors.items) }
-    // They are the doors that were handed in, in their order.
+    // The doors are those of the caller, in their order.
     ensures same { IfOk result
         (λ run. AreSame ⟦<TcpDoor<'l, R> as Door>⟧.same doors.entry.items run.doors.items) }
     ensures bad_configuration { IsErrOf result RunFault.BadConfiguration
@@ -268,8 +267,8 @@ pub fn serve_doors<
     run_sessions(rt, alloc, config_of(options), doors, clock, control)
 }
 
-/// The same by the calling thread alone, in an event loop. The listeners of the doors must not wait. The control line is
-/// that of this descriptor; with None it is read to its end before any door is looked at.
+/// Does the same as `serve_doors` by the calling thread alone, in an event loop. The listeners of the doors must not
+/// block. The descriptor is that of the control line; with None it is read to its end before any door is looked at.
 pub fn serve_doors_by_loop<
     'l,
     R: Net + Wait + Clock + Eprint,
@@ -298,7 +297,7 @@ pub fn serve_doors_by_loop<
     run_event_loop(rt, alloc, config_of(options), doors, clock, control, source)
 }
 
-// What the options say to a run.
+// The settings of a run by these options.
 fn config_of(options: &Options) -> Config
     ensures { result ≡ settings_of options.now }
 {
@@ -310,7 +309,7 @@ fn config_of(options: &Options) -> Config
     }
 }
 
-// What came of a server: its fault, or that some connection could not be accepted.
+// Returns the fault of a server, or that some connection could not be accepted.
 fn came_of<'l, R: Wait + Clock + Eprint, C: Drop, I: Drop>(
     came: &Result<Run<TcpDoor<'l, R>, C, I, Core>, Fault>,
 ) -> Result<(), Fault>
@@ -322,7 +321,7 @@ fn came_of<'l, R: Wait + Clock + Eprint, C: Drop, I: Drop>(
     }
 }
 
-// The same of an event loop.
+// Returns the same for an event loop.
 fn came_of_loop<'l, R: Wait + Clock + Eprint, C: Drop, I: Drop>(
     came: &Result<EventLoopRun<TcpDoor<'l, R>, C, I, Core>, Fault>,
 ) -> Result<(), Fault>
@@ -350,7 +349,7 @@ fn met_fault<R: Wait + Clock + Eprint>(doors: &[TcpDoor<'_, R>]) -> bool
     doors.iter().any(|door| door.met_fault())
 }
 
-// A door at which nothing was done.
+// Makes a door at this listener.
 fn new_door<'l, R: Wait + Clock + Eprint>(
     rt: &'l R,
     listener: &'l TcpListener,
@@ -368,7 +367,7 @@ fn new_door<'l, R: Wait + Clock + Eprint>(
         .counted(tell.ending.doors())
 }
 
-// A door for each seat, all at one listener.
+// Makes a door for each seat, all at one listener.
 fn new_doors<'l, R: Wait + Clock + Eprint>(
     rt: &'l R,
     alloc: Global,

@@ -6,7 +6,7 @@ use bq_job::NoMemory;
 use std::alloc::Global;
 use std::sync::Arc;
 
-/// What the thread that begins a server, the one that serves and the one that writes the log share.
+/// What three threads share: the one that starts a server, the one that serves, and the one that writes the log.
 #[derive(Drop)]
 pub struct Shared {
     pub log: Log,
@@ -14,7 +14,7 @@ pub struct Shared {
 }
 
 impl Shared {
-    /// For a server with so many doors.
+    /// Makes what the threads of a server with this number of doors share.
     pub fn new(alloc: Global, doors: u16) -> Result<Arc<Shared, Global>, NoMemory> {
         let Ok(log) = Log::new(alloc) else {
             return Err(NoMemory);

@@ -1,4 +1,4 @@
-//! The clock of a server that tells its operator what happens.
+//! The clock of a server that reports notices to its operator.
 ghost use Rattle.std.specs.Prelude.{◌≡◌, ◌++◌, []};
 ghost use Rattle.std.proofs.Common.{append-nil, sym};
 
@@ -7,7 +7,7 @@ use bq_line::clock::{Clock, MachineClock, Notice};
 use std::io::Eprint;
 use std::rt;
 
-/// The machine's clock. What a run has to tell goes to standard error, a line each.
+/// The machine's clock. The notices of a run go to standard error, a line each.
 #[derive(Drop)]
 pub struct TellingClock<'r, R> {
     rt: &'r R,
@@ -15,7 +15,7 @@ pub struct TellingClock<'r, R> {
 }
 
 impl<'r, R: rt::Clock> TellingClock<'r, R> {
-    /// A clock that stands at 0 now.
+    /// Makes a clock that reads 0 now.
     pub fn new(rt: &'r R) -> TellingClock<'r, R>
         ensures { result.clock.given ≡ [] }
     {
@@ -36,7 +36,7 @@ impl<'r, R: rt::Clock + Eprint> Clock for TellingClock<'r, R> {
     }
 
     fn tell(&self, notice: Notice) {
-        // Who closes standard error doesn't want to know.
+        // If standard error is closed, there is no reader.
         let _told = eprintln!(self.rt; "bqd: {}", text_of(notice));
     }
 }

@@ -25,10 +25,11 @@ use std::thread::{Promise, PromisedHandle, Threads};
 /// The descriptor of a program's standard input.
 const STANDARD_INPUT: RawFd = 0;
 
-/// Binds the address and serves until all is over: the status of the program. The input is the control line.
+/// Binds the address and serves until the server has ended. The input is the control line. Returns the status of the
+/// program.
 ///
-/// One thread serves, and one writes what is reported. The calling thread waits for the end, so that neither a control
-/// line that stays open nor a standard error that takes nothing holds it up.
+/// One thread serves, and one writes what is reported. The calling thread waits for the end. So neither a control line
+/// that stays open nor a standard error that blocks can hold it up.
 pub(crate) fn listen_and_serve<
     R: Net<Listener = TcpListener, Stream = TcpStream>
         + Threads
@@ -60,7 +61,7 @@ pub(crate) fn listen_and_serve<
     }
 }
 
-// Serves in a thread of its own: its status, or None if its last door failed, which is reported then.
+// Serves in a thread of its own. Returns its status, or None if its last door failed and that was reported.
 fn serve_watched<
     R: Net<Listener = TcpListener, Stream = TcpStream>
         + Threads
@@ -109,7 +110,7 @@ fn serve_watched<
     Ok(came)
 }
 
-// Starts the thread that writes the log, and says whether it could be.
+// Starts the thread that writes the log. Returns true if it could be started.
 fn start_log<R: Threads + Wait + Eprint + Copy + Send + 'static>(
     rt: R,
     shared: Arc<Shared, Global>,
@@ -142,7 +143,7 @@ fn start_server<
     thread::spawn_with(rt, promise, move || server.serve()).ok()
 }
 
-// What the thread of a server begins with.
+// What the thread of a server owns.
 #[derive(Drop)]
 struct Server<R, I> {
     rt: Logging<R>,
@@ -163,7 +164,7 @@ impl<
         + Sync,
     I: ControlReader + Drop,
 > Server<R, I> {
-    // Serves until all is over: the status.
+    // Serves until the server has ended. Returns the status.
     fn serve(self) -> u8
         ensures status { IsStatusOfServer (Logging R) I.remaining I.may_fail ⟦<Core as QueueCore>⟧.machine
             ⟦<Core as QueueCore>⟧.comparisons self.options self.listener self.control result }
@@ -191,7 +192,7 @@ impl<
     }
 }
 
-// That the status of a server's thread is that of its server.
+// The promise that the status of a server's thread is the status of its server.
 #[derive(Drop)]
 struct ServerPromise<R, I> {
     options: Snapshot<Options>,
@@ -209,8 +210,8 @@ impl<R, I: ControlReader> Promise<u8> for ServerPromise<R, I> {
         ⟦<Core as QueueCore>⟧.comparisons p.options.value p.listener.value p.control.value status) × (status ≤ 1) };
 }
 
-// What came of a server that has ended: the status of its thread, or None if its last door failed, which is reported
-// here then. Its thread may still wait for the end of the control line.
+// Returns the status of the thread of a server that has ended, or reports that its last door failed and returns None. In
+// the second case the thread may still wait for the end of the control line.
 fn came_of<R: Threads + Wait + Eprint, I: ControlReader>(
     rt: &R,
     logging: &Logging<R>,

@@ -1,10 +1,10 @@
-//! Words of a command line, and what is chosen or answered by them.
+//! Words of a command line, and the options or the text that they give.
 
 use bq_program::{OptionFault, Options, Program, options};
 use std::alloc::{AllocError, Global};
 use std::test::Fail;
 
-// A row of a table has the words, and what comes of them behind a bar.
+// A row of a table has the words and, after a bar, what comes of them.
 fn row_of(row: &str) -> Result<(&str, &str), Fail> {
     Ok(row.split_once('|').ok_or("no row")?)
 }
@@ -17,7 +17,7 @@ fn words_of(alloc: Global, line: &str) -> Result<Vec<&str>, AllocError> {
     Ok(words)
 }
 
-// What the program that is named first answers to the words.
+// Returns the options in these words, of which the first names the program.
 fn chosen(alloc: Global, line: &str) -> Result<Result<Options, OptionFault>, AllocError> {
     let words = words_of(alloc, line)?;
     let program = if line.starts_with("bqd") {
@@ -28,9 +28,9 @@ fn chosen(alloc: Global, line: &str) -> Result<Result<Options, OptionFault>, All
     Ok(options(alloc, program, words.as_slice()))
 }
 
-// Words that choose something: the address, the seats, the size of bodies, the limit on jobs, the delay of a lost
-// connection's jobs, the connections of each seat, and whether the clock stands still or one thread serves all. `-V` is
-// there for beanstalkd's users, and changes nothing.
+// Words with options: the address, the seats, the size of bodies, the limit on jobs, the delay of jobs whose connection
+// is lost, the connections of each seat, and whether the clock stands still or one thread serves all seats. `-V` is
+// there for users of beanstalkd, and changes nothing.
 const CHOSEN: &str = "bq|- 1 65535 - 0 - -\n\
     bq --still|- 1 65535 - 0 - still\n\
     bq --max-job-size 1|- 1 1 - 0 - -\n\
@@ -67,7 +67,7 @@ fn address(word: Option<&str>) -> Option<&str> {
     }
 }
 
-// Whether both are there with the same text, or neither is.
+// Returns true if both have the same text, or neither has one.
 fn are_same<'a, 'b>(one: Option<&'a str>, other: Option<&'b str>) -> bool {
     match (one, other) {
         (Some(one), Some(other)) => one.as_bytes() == other.as_bytes(),
@@ -91,7 +91,7 @@ fn is_chosen(options: &Options, wanted: &str) -> bool {
     is_listen && is_seats && is_size && is_jobs && is_delay && is_sessions && are_marked
 }
 
-/// Whether the words of each row choose what stands behind them.
+/// The words of each row give the options after the bar.
 pub fn are_chosen(alloc: Global, rows: &str) -> Result<bool, Fail> {
     for row in rows.split('\n') {
         let (line, wanted) = row_of(row)?;
@@ -111,7 +111,7 @@ fn what_words_choose(rt: HostRuntime) -> Result<(), Fail> {
     Ok(())
 }
 
-// Words that are refused, and a word that is told.
+// Words that are rejected, each with a word of the text that says why.
 const BAD: &str = "bq --max-job-size 0|\n\
     bq --max-job-size 1048577|\n\
     bq --max-job-size x|\n\
@@ -135,7 +135,7 @@ const BAD: &str = "bq --max-job-size 0|\n\
     bqd --listen|\n\
     bq -V|'-V'";
 
-// Whether the words of each row are refused, and what stands behind them is told.
+// The words of each row are rejected, with a text that has the word after the bar.
 fn are_refused(alloc: Global, rows: &str) -> Result<bool, Fail> {
     for row in rows.split('\n') {
         let (line, part) = row_of(row)?;

@@ -1,4 +1,4 @@
-//! Options that take a number, at both ends of their range.
+//! Options with a number, at both ends of their range.
 
 use crate::command_line::are_chosen;
 use std::test::Fail;

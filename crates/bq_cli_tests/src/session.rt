@@ -1,4 +1,4 @@
-//! The session of `bq`: from its words to how the client's line is over, over a console in memory.
+//! The session of `bq` over a console in memory: from its words to the end of the client's line.
 
 use bq_job::LineEnd;
 use bq_line::clock::MachineClock;
@@ -11,7 +11,7 @@ use std::rt::Clock;
 use std::sync::Wait;
 use std::test::Fail;
 
-/// What comes behind the client's bytes.
+/// What comes after the client's bytes.
 #[derive(Clone, Copy, PartialEq, Eq)]
 enum Behind {
     SendsNoMore,
@@ -37,8 +37,8 @@ impl Read for Sends {
     }
 }
 
-/// Where the client reads: what is written arrives only with a flush, in room for so many bytes. A flush
-/// fails where something was written into the last of the room.
+/// The client's end, with room for a number of bytes. What is written arrives only by a flush. A flush fails if the room
+/// is full.
 #[derive(Drop)]
 struct Reads {
     held: Vec<u8>,
@@ -65,8 +65,8 @@ impl Write for Reads {
     }
 }
 
-/// The words behind the program's name and what they choose, what the client sends, in how much room it reads, how its
-/// line is over, and what arrives there.
+/// The words after the program's name and their options, what the client sends, its room, how its line ends, and what it
+/// receives.
 struct Example {
     words: &'static [&'static str],
     chosen: (bool, u32, Option<u32>),
@@ -134,7 +134,7 @@ static EXAMPLES: &[Example] = &[
         end: LineEnd::WriteFault,
         arrives: "",
     },
-    // All of the answer is written, and the flush fails.
+    // The whole answer is written, and the flush fails.
     Example {
         words: &[],
         chosen: (false, 65535, None),
@@ -155,7 +155,7 @@ fn words_of(alloc: Global, words: &[&str]) -> Result<Vec<String>, Fail> {
     Ok(all)
 }
 
-// What comes of a client that sends this, by these words.
+// Serves a client that sends this, by these words.
 fn came<'r, R: Wait + Clock>(
     rt: &'r R,
     alloc: Global,
@@ -175,7 +175,7 @@ fn came<'r, R: Wait + Clock>(
     Ok(served)
 }
 
-// Whether an example comes out as it has to.
+// Returns true if an example ends as it has to.
 fn is_met<R: Wait + Clock>(rt: &R, alloc: Global, words: &[String], example: &Example) -> bool {
     let sends = Sends {
         bytes: example.sends.as_bytes(),
@@ -194,7 +194,7 @@ fn is_met<R: Wait + Clock>(rt: &R, alloc: Global, words: &[String], example: &Ex
     }
 }
 
-// From the words to how the line is over, and the bytes that arrive.
+// From the words to the end of the line and the bytes that the client receives.
 #[test]
 fn sessions_of_words(rt: HostRuntime) -> Result<(), Fail> {
     let alloc = rt.alloc();

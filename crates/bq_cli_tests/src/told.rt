@@ -1,5 +1,5 @@
-//! What the programs tell on standard error where no run can have them tell it: seats that are taken once more after
-//! a minute, and each fault.
+//! What the programs report on standard error in cases that no run of them can bring about: all seats are taken again
+//! after a minute, and each fault.
 
 use bq_cli::serve;
 use bq_program::{Fault, Need, Options, Program, tell_cannot_listen, tell_fault};
@@ -16,7 +16,7 @@ use std::thread::Threads;
 use std::time::Duration;
 use std::{io, thread};
 
-/// How long a client waits at most for bytes, in milliseconds.
+/// The longest time that a client waits for bytes, in milliseconds.
 const PATIENCE: u64 = 10_000;
 
 /// A host whose standard output and standard error are kept.
@@ -26,7 +26,7 @@ pub struct Heard<R> {
     alloc: Global,
     output: Mutex<Vec<u8>>,
     errors: Mutex<Vec<u8>>,
-    /// How many seconds its clock is ahead.
+    /// By how many seconds its clock is ahead.
     ahead: AtomicU64,
 }
 
@@ -118,7 +118,7 @@ impl<R: Wait> Eprint for Heard<R> {
     }
 }
 
-// Whether a client that quits is served. Its connection is closed at the end.
+// Returns true if a client that quits is served. Its connection is closed at the end.
 fn is_served<R: Net<Stream = TcpStream>>(rt: &R, address: SocketAddr) -> bool {
     let Ok(mut stream) = TcpStream::connect(rt, address) else {
         return false;
@@ -143,7 +143,7 @@ fn options(sessions: u32) -> Options {
     }
 }
 
-// Three clients, one after another. Before the third one the seat is free for a minute by the server's clock.
+// Serves three clients, one after another. Before the third one the seat is free for a minute by the server's clock.
 fn comes_a_minute_later<R: Clock + Net<Stream = TcpStream>>(
     rt: &R,
     address: SocketAddr,
@@ -154,7 +154,7 @@ fn comes_a_minute_later<R: Clock + Net<Stream = TcpStream>>(
     is_served(rt, address) && are_served
 }
 
-// The status of a server that these clients come to, and whether all were served.
+// Returns the status of a server for these clients, and whether all were served.
 fn serve_later<R: Threads + Wait + Clock + Net<Listener = TcpListener, Stream = TcpStream> + Sync>(
     heard: &Heard<R>,
     alloc: Global,
@@ -191,7 +191,7 @@ fn seats_are_told_again_after_a_minute(rt: HostRuntime) -> Result<(), Fail> {
     Ok(())
 }
 
-/// Each fault of a program, and what is told of it.
+/// Each fault of a program, and its report.
 const FAULTS: &[(Program, Fault, &str)] = &[
     (Program::Bq, Fault::ReadFailed, "bq: read failed\n"),
     (Program::Bq, Fault::WriteFailed, "bq: write failed\n"),

@@ -1,4 +1,4 @@
--- What is chosen for either program, in one form.
+-- The options of either program, as one type.
 use Rattle.std.specs.Prelude.{◌≡◌, false, Some, None}
 use Rattle.bq_program.specs.Ranges.{IsForBq, IsForBqd}
 use Rattle.bq_program.specs.declared.chosen.BqOptions.{BqOptions}
@@ -7,7 +7,7 @@ use Rattle.bq_program.specs.declared.program.Program.{Program}
 use Rattle.bq_program.specs.declared.program.Program.TheVariants.{Bq, Bqd}
 use Rattle.bq_program.specs.declared.chosen.Options.{Options}
 
--- A lone client has one seat, nobody listens, and no job waits once its connection is lost.
+-- A lone client has one seat, there is no listener, and a job of a lost connection is not delayed.
 abbrev pub of_bq : BqOptions → Options
 of_bq o = record {
   listen = None;
@@ -20,7 +20,7 @@ of_bq o = record {
   event_loop = false;
 }
 
--- A server listens, and its clock goes.
+-- A server listens, and its clock does not stand still.
 abbrev pub of_bqd : BqdOptions → Options
 of_bqd o = record {
   listen = Some o.listen;
@@ -33,7 +33,7 @@ of_bqd o = record {
   event_loop = o.event_loop;
 }
 
--- They are those of the program, each in its range.
+-- The options of this program, each in its range.
 abbrev pub AreInRange : Program → Options → Type 0
 AreInRange Bq o = (bq : BqOptions) × IsForBq bq × (o ≡ of_bq bq)
 AreInRange Bqd o = (bqd : BqdOptions) × IsForBqd bqd × (o ≡ of_bqd bqd)

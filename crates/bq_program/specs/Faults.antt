@@ -1,4 +1,4 @@
--- The fault of a program that a fault of its run is, or the end of its client's line, and how each is reported.
+-- The faults of a program that a fault of its run and an end of its client's line are, and the report of each.
 use Rattle.std.specs.Prelude.{ℕ, List, Option, Some, None, codes}
 use Rattle.bq_job.specs.declared.line_end.LineEnd.{LineEnd}
 use Rattle.bq_job.specs.declared.line_end.LineEnd.TheVariants as ends
@@ -14,14 +14,14 @@ fault_of_run runs.NoMemory = faults.NoMemory needs.Queue
 fault_of_run runs.ThreadRefused = faults.ThreadRefused
 fault_of_run runs.BadConfiguration = faults.BadConfiguration
 
--- None: all is well
+-- None: the line ended well
 abbrev pub fault_of_end : LineEnd → Option Fault
 fault_of_end ends.Quit = None
 fault_of_end ends.EndOfInput = None
 fault_of_end ends.ReadFault = Some faults.ReadFailed
 fault_of_end ends.WriteFault = Some faults.WriteFailed
 
--- memory for something was refused
+-- Memory for something could not be allocated.
 abbrev pub IsMemoryRefused : Fault → Type 0
 IsMemoryRefused (faults.NoMemory need) = Unit {0}
 IsMemoryRefused _ = ⊥
@@ -42,7 +42,7 @@ need_text needs.ControlLine = codes "could not allocate memory for the control l
 need_text needs.Doors = codes "could not allocate memory for the buffers of the seats"
 need_text needs.Queue = codes "could not allocate memory for the queue and its seats"
 
--- the second line, where the fault alone determines one
+-- the second line, if the fault alone determines one
 abbrev pub fault_detail : Fault → Option (List ℕ)
 fault_detail (faults.NoMemory need) = Some (need_text need)
 fault_detail _ = None

@@ -1,4 +1,4 @@
--- What the programs are called.
+-- The names of the programs.
 use Rattle.std.specs.Prelude.{ℕ, List, codes}
 use Rattle.bq_program.specs.declared.program.Program.{Program}
 use Rattle.bq_program.specs.declared.program.Program.TheVariants.{Bq, Bqd}

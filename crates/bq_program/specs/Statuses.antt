@@ -1,4 +1,4 @@
--- What a program answers to whoever started it: 0 where all is well, 1 after a fault, 2 for bad options.
+-- The status of a program: 0 if all went well, 1 after a fault, 2 for bad options.
 use Rattle.std.specs.Prelude.{ℕ, ◌≡◌, ◌≤◌, Result, Ok, Err}
 use Rattle.bq_job.specs.declared.line_end.LineEnd.{LineEnd}
 use Rattle.bq_job.specs.declared.line_end.LineEnd.TheVariants as ends
@@ -8,7 +8,7 @@ use Rattle.bq_program.specs.declared.fault.Fault.{Fault}
 use Rattle.bq_program.specs.declared.fault.Stop.{Stop}
 use Rattle.bq_program.specs.declared.fault.Stop.TheVariants as stops
 
--- A client's line is over.
+-- A client's line has ended.
 abbrev pub status_of_end : LineEnd → ℕ
 status_of_end ends.Quit = 0
 status_of_end ends.EndOfInput = 0
@@ -20,7 +20,7 @@ abbrev pub status_of_server : Result (Unit {0}) Fault → ℕ
 status_of_server (Ok done) = 0
 status_of_server (Err fault) = 1
 
--- Help that was asked for may not be written, which is a fault.
+-- Writing the help may fail, which is a fault.
 abbrev pub IsStatusOfOptionFault : OptionFault → ℕ → Type 0
 IsStatusOfOptionFault (words.AskedHelp text) status = status ≤ 1
 IsStatusOfOptionFault (words.BadOptions text) status = status ≡ 2

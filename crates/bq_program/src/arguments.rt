@@ -6,7 +6,7 @@ use std::io::ErrorKind;
 use std::rt::Env;
 use std::{env, io};
 
-/// The words of the command line, the program's name first.
+/// Returns the words of the command line, the program's name first. Words that are not UTF-8 are `BadOptions`.
 pub fn words<R: AllocGlobal + Env>(rt: &R) -> Result<Vec<String>, OptionFault> {
     match env::args(rt) {
         Ok(words) => {
@@ -17,7 +17,7 @@ pub fn words<R: AllocGlobal + Env>(rt: &R) -> Result<Vec<String>, OptionFault> {
     }
 }
 
-// Words that are no text can't be options.
+// Words that are not UTF-8 can't be options.
 fn fault_of_words(alloc: Global, e: &io::Error) -> OptionFault {
     if e.kind() == ErrorKind::OutOfMemory {
         return OptionFault::NoMemory;

@@ -1,57 +1,57 @@
-//! What is chosen for each program, and for either in one form.
+//! The options of each program, and one type for those of either.
 ghost use Rattle.std.specs.Prelude.{◌≡◌};
 ghost use Rattle.bq_program.specs.Chosen.{of_bq, of_bqd};
 
-/// What is chosen for `bq`.
+/// The options of `bq`.
 #[derive(Clone, Copy, Debug)]
 pub struct BqOptions {
-    /// Whether the clock stands at 0.
+    /// True if the clock always reads 0.
     pub still: bool,
-    /// How many bytes a job's body may have, 1 to 1,048,576.
+    /// The size of the largest body in bytes, 1 to 1,048,576.
     pub max_job_size: u32,
-    /// How many jobs there can be at a time, 1 or more. None: no limit. The definitions have a meaning for 0, a
-    /// queue that takes no job, which no program chooses: its words refuse it.
+    /// The most jobs at a time, 1 or more. None: no limit. In the definitions 0 is a queue that accepts no job; the
+    /// command line rejects it.
     pub max_jobs: Option<u32>,
 }
 
-/// What is chosen for `bqd`.
+/// The options of `bqd`.
 #[derive(Debug, Drop)]
 pub struct BqdOptions {
     /// The address to listen at, as it was written.
     pub listen: String,
-    /// How many clients can be connected at a time, 1 to 256.
+    /// The most clients that can be connected at a time, 1 to 256.
     pub seats: u16,
-    /// How many bytes a job's body may have, 1 to 1,048,576.
+    /// The size of the largest body in bytes, 1 to 1,048,576.
     pub max_job_size: u32,
-    /// How many jobs there can be at a time, 1 or more, as for `bq`. None: no limit.
+    /// The most jobs at a time, 1 or more, as for `bq`. None: no limit.
     pub max_jobs: Option<u32>,
-    /// For how many seconds a job of a lost connection is delayed; 0: it is ready at once.
+    /// The delay in seconds of a job whose connection is lost. 0: it is ready at once.
     pub requeue_delay: u32,
-    /// How many connections each seat serves, 1 or more. None: without end.
+    /// The number of connections that each seat serves, 1 or more. None: no limit.
     pub sessions: Option<u32>,
-    /// Whether one thread serves all seats; else each has a thread of its own.
+    /// True if one thread serves all seats; otherwise each seat has a thread of its own.
     pub event_loop: bool,
 }
 
-/// What is chosen for a program. A program that doesn't take an option has its default, and `bq` one seat.
+/// The options of either program. An option that the program does not take has its default, and `bq` has one seat.
 #[derive(Debug, Drop)]
 pub struct Options {
     /// The address to listen at, as it was written.
     pub listen: Option<String>,
-    /// Whether the clock stands at 0.
+    /// True if the clock always reads 0.
     pub still: bool,
-    /// How many clients can be connected at a time, 1 to 256.
+    /// The most clients that can be connected at a time, 1 to 256.
     pub seats: u16,
-    /// How many bytes a job's body may have, 1 to 1,048,576.
+    /// The size of the largest body in bytes, 1 to 1,048,576.
     pub max_job_size: u32,
-    /// How many jobs there can be at a time, 1 or more. None: no limit. A queue that takes no job, which 0 is in the
-    /// definitions, can't be chosen.
+    /// The most jobs at a time, 1 or more. None: no limit. In the definitions 0 is a queue that accepts no job; it can't
+    /// be chosen.
     pub max_jobs: Option<u32>,
-    /// For how many seconds a job of a lost connection is delayed; 0: it is ready at once.
+    /// The delay in seconds of a job whose connection is lost. 0: it is ready at once.
     pub requeue_delay: u32,
-    /// How many connections each seat serves, 1 or more. None: without end.
+    /// The number of connections that each seat serves, 1 or more. None: no limit.
     pub sessions: Option<u32>,
-    /// Whether one thread serves all seats; else each has a thread of its own.
+    /// True if one thread serves all seats; otherwise each seat has a thread of its own.
     pub event_loop: bool,
 }
 
@@ -92,10 +92,10 @@ impl From<BqdOptions> for Options {
 /// Why there are no options.
 #[derive(Debug, Drop)]
 pub enum OptionFault {
-    /// The words are no options of the program; the text says why.
+    /// The words are not options of the program. The text says why.
     BadOptions(String),
-    /// The text is the help that was asked for, or the version.
+    /// Help or the version was asked for. The text is the answer.
     AskedHelp(String),
-    /// A growth of memory was refused.
+    /// An allocation failed.
     NoMemory,
 }

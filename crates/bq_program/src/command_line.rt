@@ -1,4 +1,4 @@
-//! The options in the words of either program.
+//! Reads the options of either program from the words of its command line.
 ghost use Rattle.std.specs.Prelude.{◌≡◌, ◌≤◌, ℕ, IfOk, IfSome, None, Some, string_bytes};
 ghost use Rattle.bq_program.specs.Chosen.{AreInRange};
 ghost use Rattle.bq_program.specs.Ranges.{IsForBq, IsForBqd};
@@ -17,13 +17,13 @@ use std::convert::AsStr;
 
 mod commands;
 
-/// How many seats a server has, where nothing else is chosen.
+/// The number of seats of a server, unless chosen.
 const USUAL_SEATS: u16 = 16;
 
-/// The options in a program's words, of which the first is its name.
+/// Returns the options in the words of a program. The first word is the program's name.
 ///
-/// The fault is `AskedHelp` where help or the version was asked for, `BadOptions` where the words are no
-/// options of the program or a number is out of its range, and `NoMemory`.
+/// The error is `AskedHelp` if help or the version was asked for, `BadOptions` if the words are not options of the
+/// program or a number is out of its range, and `NoMemory` if an allocation failed.
 pub fn options<'a, S: AsStr>(
     alloc: Global,
     program: Program,
@@ -61,10 +61,7 @@ impl From<AllocError> for OptionFault {
     }
 }
 
-/// The options of `bq` in its words, of which the first is its name.
-///
-/// The fault is `AskedHelp` where help or the version was asked for, `BadOptions` where the words are no
-/// options of the program or a number is out of its range, and `NoMemory`.
+/// Returns the options in the words of `bq`. The first word is the program's name. The errors are those of `options`.
 pub fn bq_options<'a, S: AsStr>(alloc: Global, words: &'a [S]) -> Result<BqOptions, OptionFault>
     ensures { IfOk result (λ o. IsForBq o) }
 {
@@ -72,7 +69,7 @@ pub fn bq_options<'a, S: AsStr>(alloc: Global, words: &'a [S]) -> Result<BqOptio
     Ok(bq_chosen(&matches))
 }
 
-/// The options of `bqd` in its words, of which the first is its name. The faults are those of `bq_options`.
+/// Returns the options in the words of `bqd`. The first word is the program's name. The errors are those of `options`.
 pub fn bqd_options<'a, S: AsStr>(alloc: Global, words: &'a [S]) -> Result<BqdOptions, OptionFault>
     ensures { IfOk result (λ o. IsForBqd o) }
 {
@@ -80,7 +77,7 @@ pub fn bqd_options<'a, S: AsStr>(alloc: Global, words: &'a [S]) -> Result<BqdOpt
     bqd_chosen(alloc, &matches)
 }
 
-// What a command takes of these words.
+// Parses the words by a command.
 fn matches_of<'a, S: AsStr>(
     alloc: Global,
     command: Command<'a>,
@@ -92,7 +89,7 @@ fn matches_of<'a, S: AsStr>(
     }
 }
 
-// The parser has refused numbers that are out of range; the bounds here say so where they are read.
+// The parser rejects numbers that are out of range. The bounds here let the contracts say so.
 
 fn max_job_size(asked: Option<u32>) -> u32
     ensures least { 1 ≤ result }
@@ -113,7 +110,7 @@ fn seats(asked: Option<u16>) -> u16
     asked.unwrap_or(USUAL_SEATS).clamp(1, MOST_SEATS)
 }
 
-// A number that may be left out: how many connections a seat serves, or how many jobs there can be.
+// A number that may be left out: the connections of each seat, or the limit on jobs.
 fn count(asked: Option<u32>) -> Option<u32>
     ensures least { IfSome result (λ k. 1 ≤ k) }
     ensures left_out { asked ≡ None → result ≡ None }
@@ -125,8 +122,8 @@ fn count(asked: Option<u32>) -> Option<u32>
     }
 }
 
-// The word of the address that the listener is bound to: the address as it was written, or with the port that
-// was chosen beside it. The colons of an address are no port's then.
+// Returns the address to bind: as it was written, or with the port if that was given by an option of its own. In that
+// case colons in the address do not begin a port.
 fn listen_word(alloc: Global, address: &str, port: Option<u16>) -> Result<String, AllocError>
     ensures alone { port ≡ None → IfOk result (λ word. string_bytes word ≡ address.now) }
 {
@@ -157,7 +154,7 @@ fn bq_chosen(matches: &ArgMatches<'_>) -> BqOptions
 fn bqd_chosen(alloc: Global, matches: &ArgMatches<'_>) -> Result<BqdOptions, OptionFault>
     ensures { IfOk result (λ o. IsForBqd o) }
 {
-    // The parser has refused words without an address.
+    // The parser rejects words without an address.
     let address = matches.get_str(LISTEN).unwrap_or("");
     let listen = listen_word(alloc, address, matches.get_one::<u16>(PORT))?;
     Ok(BqdOptions {
@@ -171,7 +168,7 @@ fn bqd_chosen(alloc: Global, matches: &ArgMatches<'_>) -> Result<BqdOptions, Opt
     })
 }
 
-// What the parse says, as text: help and the version for standard output, what is wrong for standard error.
+// Returns the text of the parser: help and the version go to standard output, errors to standard error.
 fn fault_of(alloc: Global, e: &clap::Error) -> OptionFault {
     if e.kind() == ErrorKind::OutOfMemory {
         return OptionFault::NoMemory;

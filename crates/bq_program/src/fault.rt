@@ -1,4 +1,4 @@
-//! Why a program ends otherwise than well, and its status then.
+//! Why a program fails.
 ghost use Rattle.std.specs.Prelude.{◌≡◌, option_map};
 ghost use Rattle.bq_program.specs.Faults.{fault_detail, fault_of_end, fault_of_run, fault_text, need_text};
 
@@ -9,27 +9,30 @@ use bq_run_start::RunFault;
 /// What a program needs memory for.
 #[derive(Clone, Copy, Debug, PartialEq, Eq)]
 pub enum Need {
-    /// The words of its command line, and what they choose.
+    /// The words of its command line and the options.
     Options,
-    /// The line on which a server is told to drain.
+    /// The input on which a server receives the command `drain`.
     ControlLine,
-    /// The doors of a server's seats, with what connections are read and written through.
+    /// The doors of a server's seats, with the buffers of their connections.
     Doors,
-    /// The queue, its seats, and what goes between their threads.
+    /// The queue, its seats, and what passes between their threads.
     Queue,
 }
 
 /// Why a program ends with status 1.
 #[derive(Clone, Copy, Debug, PartialEq, Eq)]
 pub enum Fault {
-    /// The client's bytes could not be read to their end.
+    /// Reading from the client failed.
     ReadFailed,
-    /// What the client is owed, or help that was asked for, could not be written.
+    /// Writing to the client, or writing the help, failed.
     WriteFailed,
+    /// The address could not be bound.
     CannotListen,
-    /// Memory for this was refused.
+    /// Memory for this could not be allocated.
     NoMemory(Need),
+    /// The system refused to start a thread.
     ThreadRefused,
+    /// The configuration is out of its ranges, or has another number of seats than there are doors.
     BadConfiguration,
     /// Some seat ended because a connection could not be accepted.
     NotAccepted,
@@ -86,7 +89,7 @@ impl From<RunFault> for Fault {
     }
 }
 
-/// Which fault it is that a client's line was over in this way.
+/// Returns the fault that the end of a client's line is, or None if the line ended well.
 pub fn fault_of_end(end: LineEnd) -> Option<Fault>
     ensures { result ≡ fault_of_end end }
 {
@@ -97,11 +100,12 @@ pub fn fault_of_end(end: LineEnd) -> Option<Fault>
     }
 }
 
-/// Why a program didn't do its work, or not to its end.
+/// Why a program did not do all of its work.
 #[derive(Debug, Drop)]
 pub enum Stop {
-    /// Its words choose nothing.
+    /// Its command line has no options: they are wrong, or help was asked for.
     Options(OptionFault),
+    /// It failed.
     Fault(Fault),
 }
 

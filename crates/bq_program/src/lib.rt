@@ -1,5 +1,5 @@
-//! What both programs have in common: what is chosen for them by the words of their command lines, and what
-//! they tell whoever started them.
+//! What both programs have in common: their options, read from the words of a command line, and what they report to
+//! whoever started them.
 #![tactic(auto)]
 
 pub use arguments::words;

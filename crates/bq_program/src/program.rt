@@ -12,7 +12,7 @@ pub enum Program {
 }
 
 impl Program {
-    /// What the program is called.
+    /// Returns the name of the program.
     pub fn name(self) -> &'static str
         ensures { result.now ≡ name_of self }
     {

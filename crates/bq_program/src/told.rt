@@ -1,5 +1,5 @@
-//! What a program tells whoever started it: a status, and beside it a text on one of its streams. No clause
-//! sees what was written there.
+//! What a program reports to whoever started it: a status, and a text on standard output or standard error. No clause
+//! says what was written there.
 ghost use Rattle.std.specs.Prelude.{◌≡◌};
 ghost use Rattle.bq_program.specs.Statuses.{IsStatusOfOptionFault, IsStatusOfStop, status_of_server};
 
@@ -37,7 +37,7 @@ pub fn tell_cannot_listen<R: Eprint>(
     1
 }
 
-// Help goes to standard output; what the words have wrong goes to standard error.
+// Help goes to standard output, errors in the options to standard error.
 fn tell_option_fault<R: Print + Eprint>(rt: &R, program: Program, fault: &OptionFault) -> u8
     ensures { IsStatusOfOptionFault fault.now result }
 {
@@ -54,7 +54,7 @@ fn tell_option_fault<R: Print + Eprint>(rt: &R, program: Program, fault: &Option
     }
 }
 
-/// Tells why the program stops: its status.
+/// Reports why the program stops. Returns its status.
 pub fn tell_stop<R: Print + Eprint>(rt: &R, program: Program, stop: &Stop) -> u8
     ensures { IsStatusOfStop stop.now result }
 {
@@ -64,7 +64,7 @@ pub fn tell_stop<R: Print + Eprint>(rt: &R, program: Program, stop: &Stop) -> u8
     }
 }
 
-/// Tells what came of a server that listened: the status of `bqd`.
+/// Reports the fault of a server, if there is one. Returns the status of `bqd`.
 pub fn tell_server<R: Eprint>(rt: &R, came: Result<(), Fault>) -> u8
     ensures { result ≡ status_of_server came }
 {

@@ -5,9 +5,9 @@ use bq_line::line::Duplex;
 use std::io;
 use std::io::{Read, Write};
 
-/// An input and an output as one stream, as a program's standard input and output are. Nothing is buffered:
-/// each call is one of the input or of the output, and answers what that one answered. What these two tell of
-/// the bytes that are left and that are held, the stream tells.
+/// An input and an output as one stream, for example the standard input and output of a program. Nothing is buffered:
+/// each call is one call of the input or of the output, with the same result. The stream has the bytes that the input
+/// has left and the output holds.
 #[derive(Drop)]
 pub struct Console<I, O> {
     input: I,
@@ -15,13 +15,14 @@ pub struct Console<I, O> {
 }
 
 impl<I, O> Console<I, O> {
+    /// Makes a stream of an input and an output.
     pub fn new(input: I, output: O) -> Console<I, O>
         ensures { result ≡ record { input = input; output = output } }
     {
         Console { input, output }
     }
 
-    /// The output, whatever was written to it.
+    /// Returns the output.
     pub fn into_output(self) -> O
     where
         I: Drop,
@@ -36,7 +37,7 @@ impl<I: Read, O: Write> Duplex for Console<I, O> {
 
     ghost contents = { λ console. O.contents console.output };
 
-    // A program's input is waited for, whatever else comes: it has no read that doesn't wait.
+    // The input of a program has no read that does not block.
     fn read(&mut self, buf: &mut [u8]) -> io::Result<usize> {
         self.input.read(buf)
     }

@@ -1,4 +1,4 @@
-//! The session of a lone client as a program, from the words of its command line to its status.
+//! The program `bq`, from the words of its command line to its status.
 ghost use Rattle.std.specs.Prelude.{◌≡◌, [], IfOk, Result};
 ghost use Rattle.std.specs.Borrow.{Bor};
 ghost use Rattle.bq_line.specs.declared.clock.MachineClock.{MachineClock as AClock};
@@ -17,15 +17,14 @@ use std::io::{Eprint, Print};
 use std::rt::{Clock, Env};
 use std::sync::Wait;
 
-/// All that `bq` does: it serves the client at the other end of the stream, as the program's words choose, and
-/// tells what came of it. It returns the status of the program.
+/// Does all that `bq` does: serves the client at the other end of the stream by the options in the program's words, and
+/// reports how that ended. Returns the status of the program.
 pub fn run_bq<R: AllocGlobal + Env + Wait + Clock + Print + Eprint, S: Duplex + Drop>(
     rt: &R,
     stream: S,
 ) -> u8
-    // The status is that of what came of the client. One that was served has the promise of `serve_client`, by a new clock
-    // and over the stream that was handed in: what his line read is what this stream gave, and what it wrote this stream
-    // took.
+    // The status follows from what came of the client. A client that was served has the promise of `serve_client`, with a
+    // new clock and over this stream: its line read what the stream gave, and the stream took what the line wrote.
     ensures { (clock : AClock (Bor R)) × (clock.given ≡ []) × (came : Result (Served S (Bor R)) Stop)
         × IfOk came (λ served. IsForBq served.options)
         × IfOk came (λ served. IsSession served.options clock served.clock

@@ -1,4 +1,4 @@
-//! All that `bq` does for its client, on any stream: from its options to how the client's line is over.
+//! Serves the client of `bq` on any stream: from the options to the end of the client's line.
 ghost use Rattle.std.specs.Prelude.{◌≡◌, IfErr, IfOk};
 ghost use Rattle.bq_program.specs.Ranges.{IsForBq};
 ghost use Rattle.bq_session.specs.Sessions.{IsSession, settings_of_bq};
@@ -14,20 +14,21 @@ use std::alloc::Global;
 use std::rt;
 use std::sync::Wait;
 
-/// A client that was served until its line was over, and by what.
+/// A client that was served until its line ended, with the options and the clock that were used.
 #[derive(Drop)]
 pub struct Served<S, K> {
+    /// The line, with what was read from it and written to it.
     pub line: IoLine<S>,
+    /// How the line ended.
     pub end: LineEnd,
     /// The options by which it was served.
     pub options: BqOptions,
-    /// The machine's clock, as the session left it. A still clock was read in its place if the options say so.
+    /// The machine's clock, as the session left it. If the options say so, a clock that stands still was read instead.
     pub clock: MachineClock<K>,
 }
 
-/// Serves the client at the other end of the stream by these options, until its line is over. The clock is the one that
-/// is handed in, unless the options ask for one that always reads 0. On error the stream was neither read nor written,
-/// and is dropped.
+/// Serves the client at the other end of the stream by these options until its line ends. It reads this clock, unless
+/// the options ask for one that always reads 0. On error the stream was neither read nor written, and is dropped.
 pub fn serve_client<R: Wait, S: Duplex + Drop, K: rt::Clock + Drop>(
     rt: &R,
     alloc: Global,
@@ -37,11 +38,11 @@ pub fn serve_client<R: Wait, S: Duplex + Drop, K: rt::Clock + Drop>(
 ) -> Result<Served<S, K>, Fault>
     requires { IsForBq options.now }
     ensures options { IfOk result (λ served. served.options ≡ options.now) }
-    // By these options and the clock that they choose there is one history of the client's steps, which the one-list
-    // machine takes. The line was written exactly what it is owed along it.
+    // There is one history of the client's steps by these options and the clock that they choose, and the one-list
+    // machine takes it. The client received exactly the bytes that this history prescribes.
     ensures served { IfOk result (λ served. IsSession options.now clock served.clock
         (⟦<IoLine<S> as Line>⟧.seen served.line) served.end) }
-    // The line lies over the stream that was handed in.
+    // The line is over this stream.
     ensures over { IfOk result
         (λ served. ⟦<IoLine<S> as Line>⟧.lies_over
         (record { left = S.remaining stream; held = S.contents stream })
@@ -64,7 +65,7 @@ pub fn serve_client<R: Wait, S: Duplex + Drop, K: rt::Clock + Drop>(
     }
 }
 
-// What the options say to a run. No other client is there for whom a job would wait.
+// The settings of a run by these options. A job of a lost connection is not delayed, since no other client waits.
 fn config_of(options: &BqOptions) -> Config
     ensures { result ≡ settings_of_bq options.now }
 {

@@ -1,4 +1,4 @@
-//! What is told of a client that was served.
+//! What `bq` reports of its client.
 ghost use Rattle.std.specs.Prelude.{◌≡◌};
 ghost use Rattle.bq_program.specs.Statuses.{status_of_end};
 ghost use Rattle.bq_session.specs.Clients.{IsStatusOfClient};
@@ -8,7 +8,7 @@ use bq_job::LineEnd;
 use bq_program::{Program, Stop, fault_of_end, tell_fault, tell_stop};
 use std::io::{Eprint, Print};
 
-// Tells how the line of a client was over.
+// Reports the fault by which a line ended, if there is one. Returns the status.
 fn tell_end<R: Eprint>(rt: &R, end: LineEnd) -> u8
     ensures { result ≡ status_of_end end }
 {

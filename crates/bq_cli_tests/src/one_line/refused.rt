@@ -1,4 +1,4 @@
-//! Runs of one line that are refused.
+//! Runs of one line that are rejected.
 
 use super::runs::on_one_line;
 use bq_clients::clients::{PUTS, ROOM, STILL};
@@ -7,7 +7,7 @@ use bq_clients::settings::config;
 use std::alloc::Global;
 use std::sync::Wait;
 
-// A configuration isn't for one line where it isn't for one seat.
+// A configuration for one line has one seat.
 fn is_refused<R: Wait>(rt: &R, alloc: Global, row: &Refused) -> bool {
     on_one_line(rt, alloc, config(row.0, row.1), PUTS, ROOM, STILL).err() == row.2
 }

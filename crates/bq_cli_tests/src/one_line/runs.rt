@@ -28,7 +28,7 @@ pub fn on_line_of<R: Wait>(
     run_one(rt, alloc, config, line, clock)
 }
 
-/// Does the same for a line whose client does this.
+/// Runs one line whose client does this, in the same way.
 pub fn on_one_line<R: Wait>(
     rt: &R,
     alloc: Global,

@@ -1,10 +1,9 @@
-//! Sessions of a client that does one thing after another, or of a clock that goes on.
+//! Sessions in which the client does one thing after another, or the clock advances.
 
 use bq_clients::clients::{ROOM, STILL};
 use bq_job::{LineEnd, Moment};
 
-/// What the client does, the readings of the clock, the room for what is written to it, what is written, and
-/// how its line is over.
+/// What the client does, the readings of the clock, the client's room, what it receives, and how its line ends.
 pub type Scripted = (
     &'static str,
     &'static [Option<Moment>],
@@ -39,7 +38,7 @@ const SECONDS: &[Option<Moment>] = &[
 ];
 
 pub const SCRIPTED: &[Scripted] = &[
-    // timed_wait_by_the_clock: a wait of a second ends by the clock, though a further command is there.
+    // timed_wait_by_the_clock: a wait of a second ends by the clock, although another command is buffered.
     (
         "reserve-with-timeout 1~list-tube-used~",
         SECONDS,
@@ -47,7 +46,7 @@ pub const SCRIPTED: &[Scripted] = &[
         "TIMED_OUT\r\nUSING default\r\n",
         LineEnd::EndOfInput,
     ),
-    // A clock that falls, or that can't be read, stands still: the job of 1 second's delay isn't due.
+    // A clock that goes backwards or can't be read stands still: the job with a delay of 1 second is not due.
     (
         "put 0 1 9 1~x~reserve~",
         &[Some(1000), Some(999), None, Some(0)],
@@ -55,7 +54,7 @@ pub const SCRIPTED: &[Scripted] = &[
         "INSERTED 1\r\nTIMED_OUT\r\n",
         LineEnd::EndOfInput,
     ),
-    // A client that waits for its answers, and a clock that moves: a delayed job comes when it is due.
+    // The client waits for its answers and the clock advances: a delayed job comes when it is due.
     (
         "after 0 + put 0 1 9 1~ + x~reserve~ + after 29 + delete 1~",
         &[
@@ -75,8 +74,8 @@ pub const SCRIPTED: &[Scripted] = &[
         "INSERTED 1\r\nRESERVED 1 1\r\nx\r\nDELETED\r\n",
         LineEnd::EndOfInput,
     ),
-    // The age of a job is in whole seconds. The connection, the put and the two questions read the clock once
-    // each, and nothing is due that would read it besides.
+    // The age of a job is in whole seconds. The connection, the put and the two questions read the clock once each, and
+    // nothing is due that would read it again.
     (
         "put 0 0 9 1~x~stats-job 1~stats-job 1~",
         &[Some(0), Some(500), Some(2499), Some(2500)],
@@ -88,7 +87,7 @@ pub const SCRIPTED: &[Scripted] = &[
             kicks: 0\n\r\n",
         LineEnd::EndOfInput,
     ),
-    // A write is cut short where the room ends, and that ends the line.
+    // A write is cut short at the end of the room, and that ends the line.
     ("put 0 0 9 1~x~", STILL, 5, "INSER", LineEnd::WriteFault),
     // What came before a read fault is answered.
     (
@@ -98,6 +97,6 @@ pub const SCRIPTED: &[Scripted] = &[
         "INSERTED 1\r\n",
         LineEnd::ReadFault,
     ),
-    // A read fault ends a line also behind a reserve, which nothing has answered.
+    // A read fault also ends a line whose reserve was not answered.
     ("reserve~ + fails", STILL, ROOM, "", LineEnd::ReadFault),
 ];

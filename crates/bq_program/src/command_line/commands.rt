@@ -1,4 +1,4 @@
-//! What the programs take in their words, for the parser, and the help for it.
+//! The options of both programs for the parser, with their help.
 
 use bq_job::{LARGEST_BODY, MOST_SEATS};
 use clap::builder::ValueParser;
@@ -8,7 +8,7 @@ use std::alloc::{AllocError, Global};
 /// The version of both programs.
 const VERSION: &str = "0.1.0";
 
-/// The words, and what is chosen is looked up by them.
+/// The names of the options, by which their values are found.
 pub const EVENT_LOOP: &str = "event-loop";
 
 pub const LISTEN: &str = "listen";
@@ -31,7 +31,7 @@ const VERBOSE: &str = "verbose";
 
 const VERSION_WORD: &str = "version";
 
-/// What `bq` takes.
+/// Returns the command line of `bq`.
 pub fn bq_command<'a>(alloc: Global) -> Result<Command<'a>, AllocError> {
     let args = bq_args(alloc)?;
     Command::new(alloc, "bq")
@@ -41,7 +41,7 @@ pub fn bq_command<'a>(alloc: Global) -> Result<Command<'a>, AllocError> {
         .args(args)
 }
 
-/// What `bqd` takes.
+/// Returns the command line of `bqd`.
 pub fn bqd_command<'a>(alloc: Global) -> Result<Command<'a>, AllocError> {
     let args = bqd_args(alloc)?;
     Command::new(alloc, "bqd")
@@ -51,8 +51,8 @@ pub fn bqd_command<'a>(alloc: Global) -> Result<Command<'a>, AllocError> {
         .args(args)
 }
 
-// A command is handed all its arguments at once: each call that may be refused memory is a way on which what was
-// made so far is dropped, and costs its proof.
+// A command gets all its arguments at once. Each further call that may fail for want of memory would be one more path
+// on which everything is dropped, with a proof of its own.
 
 fn bq_args<'a>(alloc: Global) -> Result<Vec<Arg<'a>>, AllocError> {
     Ok(vec![in alloc;
@@ -78,7 +78,7 @@ fn bqd_args<'a>(alloc: Global) -> Result<Vec<Arg<'a>>, AllocError> {
     ]?)
 }
 
-// What takes one of these numbers, by its long word.
+// An option with a number, by its long name.
 fn number_arg<'a>(
     alloc: Global,
     name: &'a str,
@@ -185,7 +185,7 @@ fn requeue_delay_arg<'a>(alloc: Global) -> Arg<'a> {
     )
 }
 
-// beanstalkd's command lines have it, often more than once.
+// Command lines for beanstalkd have it, often more than once.
 fn verbose_arg<'a>(alloc: Global) -> Arg<'a> {
     Arg::new(alloc, VERBOSE)
         .short('V')
@@ -193,7 +193,7 @@ fn verbose_arg<'a>(alloc: Global) -> Arg<'a> {
         .action(ArgAction::Count)
 }
 
-// Its short word is beanstalkd's too.
+// beanstalkd has the same short name.
 fn version_arg<'a>(alloc: Global) -> Arg<'a> {
     Arg::new(alloc, VERSION_WORD)
         .short('v')
