@@ -26,7 +26,8 @@ use Rattle.bq_driver.proofs.CarriedLemmas.{gone, none_begun}
 use Rattle.bq_driver.proofs.SeatLemmas.{carried_on, line_served, opened_on}
 
 -- nothing more was submitted and taken
-none_more : {L : Type 0} (seen : L → LineSeen) (size : ℕ) (a : Attendant L) (door : DoorSeen) (before : List Step) (got : List Answer) → IsTended seen size a door before got → IsTended seen size a door (before ++ []) (got ++ [])
+none_more : {L : Type 0} (seen : L → LineSeen) (size : ℕ) (a : Attendant L) (door : DoorSeen) (before : List Step) (got : List Answer)
+    → IsTended seen size a door before got → IsTended seen size a door (before ++ []) (got ++ [])
 none_more seen size a door before got h =
     subst (λ (xs : List Step). IsTended seen size a door xs (got ++ [])) (sym (append-nil before))
     (subst (λ (ys : List Answer). IsTended seen size a door before ys) (sym (append-nil got)) h)
@@ -36,7 +37,8 @@ tends_still seen a door size before got h = none_more seen size a door before go
 
 -- A line was opened.
 pub tends_opened : {L : Type 0} (seen : L → LineSeen) (old new : SeatMachine) (line : L) (action : Action) (door next : DoorSeen)
-    → IsMove old events.Opened action new → next.lines_over ≡ door.lines_over → next.is_out ≡ true → next.is_at_end ≡ false → seen line ≡ new_line
+    → IsMove old events.Opened action new → next.lines_over ≡ door.lines_over → next.is_out ≡ true → next.is_at_end ≡ false
+    → seen line ≡ new_line
     → Tends seen (attendant old places.Between) door [] [] (attendant new (places.On line action 0)) next
 tends_opened seen old new line action door next move over out more fresh size before got t =
     let a = t.attends in
@@ -78,7 +80,8 @@ tends_at_end seen machine door next over inside ended size before got t =
 
 -- A line that has ended was shut.
 pub tends_shut : {L : Type 0} (seen : L → LineSeen) (machine : SeatMachine) (line : L) (end : LineEnd) (sent : ℕ) (door next : DoorSeen)
-    → next.lines_over ≡ door.lines_over ++ record { seen = seen line; over = end } ∷ [] → next.is_out ≡ false → next.is_at_end ≡ door.is_at_end
+    → next.lines_over ≡ door.lines_over ++ record { seen = seen line; over = end } ∷ [] → next.is_out ≡ false
+    → next.is_at_end ≡ door.is_at_end
     → Tends seen (attendant machine (places.On line (actions.LineOver end) sent)) door [] [] (attendant machine places.Between) next
 tends_shut seen machine line end sent door next left inside still size before got t =
     let a = t.attends in
@@ -93,7 +96,8 @@ tends_shut seen machine line end sent door next left inside still size before go
         got = a.got ++ a.getting;
         getting = [];
         of_lines = subst (λ (lines : List LineOver). AreLinesServed size lines (a.before ++ a.now) (a.got ++ a.getting)) (sym left)
-            (lines_more size door.lines_over over a.before a.now a.got a.getting a.of_lines (line_served size machine (seen line) end a.now a.getting on));
+            (lines_more size door.lines_over over a.before a.now a.got a.getting a.of_lines
+            (line_served size machine (seen line) end a.now a.getting on));
         at_place = (refl, refl, waits, on.limit_is);
         submitted_is = a.submitted_is ∙ sym (append-nil (a.before ++ a.now));
         taken_is = a.taken_is ∙ sym (append-nil (a.got ++ a.getting));
@@ -102,7 +106,8 @@ tends_shut seen machine line end sent door next left inside still size before go
     })
 
 -- An action of the line was carried out, or a part of it.
-tends_carried : {L : Type 0} (seen : L → LineSeen) (old new : SeatMachine) (line later : L) (action next : Action) (sent now : ℕ) (submitted : List Step) (taken : List Answer) (door : DoorSeen)
+tends_carried : {L : Type 0} (seen : L → LineSeen) (old new : SeatMachine) (line later : L) (action next : Action) (sent now : ℕ)
+    (submitted : List Step) (taken : List Answer) (door : DoorSeen)
     → CarriesOn old (seen line) action sent new (seen later) next now submitted taken
     → Tends seen (attendant old (places.On line action sent)) door submitted taken (attendant new (places.On later next now)) door
 tends_carried seen old new line later action next sent now submitted taken door carries size before got t =
@@ -124,16 +129,20 @@ tends_carried seen old new line later action next sent now submitted taken door 
     }
 
 -- the same with the link's calls
-pub tends_acted : {K L : Type 0} (went : K → List Step → List Answer → K → Type 0) (first last : K) (seen : L → LineSeen) (old new : SeatMachine) (line later : L) (action next : Action) (sent now : ℕ) (submitted : List Step) (taken : List Answer)
+pub tends_acted : {K L : Type 0} (went : K → List Step → List Answer → K → Type 0) (first last : K) (seen : L → LineSeen)
+    (old new : SeatMachine) (line later : L) (action next : Action) (sent now : ℕ) (submitted : List Step) (taken : List Answer)
     → HasGone went first action submitted taken last → CarriedPart old (seen line) action sent new (seen later) next now submitted taken
-    → (Calls went first submitted taken last) × ((door : DoorSeen) → Tends seen (attendant old (places.On line action sent)) door submitted taken (attendant new (places.On later next now)) door)
+    → (Calls went first submitted taken last)
+    × ((door : DoorSeen) → Tends seen (attendant old (places.On line action sent)) door submitted taken
+    (attendant new (places.On later next now)) door)
 tends_acted went first last seen old new line later action next sent now submitted taken h carried = (
   gone went (λ s t. Calls went first s t last) first last action submitted taken (λ s t w. inl w) (λ e. inr (e, refl, refl)) h carried.0,
   λ door. tends_carried seen old new line later action next sent now submitted taken door carried.1,
 )
 
 -- A new seat at a new door.
-pub tended_new : {L : Type 0} (seen : L → LineSeen) (size : ℕ) (a : Attendant L) (door : DoorSeen) → IsNewSeat size a → IsNewDoor door → IsTended seen size a door [] []
+pub tended_new : {L : Type 0} (seen : L → LineSeen) (size : ℕ) (a : Attendant L) (door : DoorSeen) → IsNewSeat size a → IsNewDoor door
+    → IsTended seen size a door [] []
 tended_new {L} seen size a door seat new =
     subst (λ (q : LinePlace L). IsTended seen size (attendant a.machine q) door [] []) (sym seat.place) (record {
       attends = record {
@@ -150,20 +159,24 @@ tended_new {L} seen size a door seat new =
     })
 
 -- the place where a seat starts, by an equation
-pub from_place : {K L : Type 0} (went : K → List Step → List Answer → K → Type 0) (first last : K) (seen : L → LineSeen) (machine new : SeatMachine) (place same later : LinePlace L) (door next : DoorSeen)
-    → place ≡ same → GoesOn went first last seen (attendant machine same) door (attendant new later) next → GoesOn went first last seen (attendant machine place) door (attendant new later) next
+pub from_place : {K L : Type 0} (went : K → List Step → List Answer → K → Type 0) (first last : K) (seen : L → LineSeen)
+    (machine new : SeatMachine) (place same later : LinePlace L) (door next : DoorSeen)
+    → place ≡ same → GoesOn went first last seen (attendant machine same) door (attendant new later) next
+    → GoesOn went first last seen (attendant machine place) door (attendant new later) next
 from_place {L} went first last seen machine new place same later door next e h =
     subst (λ (q : LinePlace L). GoesOn went first last seen (attendant machine q) door (attendant new later) next) (sym e) h
 
 -- The same by an equation, if the link is not used.
-pub tends_from : {L : Type 0} (seen : L → LineSeen) (machine : SeatMachine) (place same : LinePlace L) (door next : DoorSeen) (later : Attendant L)
+pub tends_from : {L : Type 0} (seen : L → LineSeen) (machine : SeatMachine) (place same : LinePlace L) (door next : DoorSeen)
+    (later : Attendant L)
     → place ≡ same → Tends seen (attendant machine same) door [] [] later next → Tends seen (attendant machine place) door [] [] later next
 tends_from {L} seen machine place same door next later e h =
     subst (λ (q : LinePlace L). Tends seen (attendant machine q) door [] [] later next) (sym e) h
 
 -- The open line was given a hint, and its record is unchanged.
 pub tends_told : {L : Type 0} (seen : L → LineSeen) (machine : SeatMachine) (line later : L) (action : Action) (sent : ℕ) (door : DoorSeen)
-    → seen later ≡ seen line → Tends seen (attendant machine (places.On line action sent)) door [] [] (attendant machine (places.On later action sent)) door
+    → seen later ≡ seen line → Tends seen (attendant machine (places.On line action sent)) door [] []
+    (attendant machine (places.On later action sent)) door
 tends_told seen machine line later action sent door same size before got t =
     let a = t.attends in
     let at = a.at_place in

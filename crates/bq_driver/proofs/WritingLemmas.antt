@@ -1,5 +1,6 @@
 -- Texts that are written in several parts.
-use Rattle.std.proofs.Common.{◌≡◌, ℕ, ◌+◌, ◌-◌, ◌≤◌, Bool, true, false, nat_lt, List, [], ◌++◌, append-nil, refl, sym, ap, subst, ◌∙◌, arith, length, take, take_all, drop, take-add, append_assoc, if◌then◌else◌}
+use Rattle.std.proofs.Common.{◌≡◌, ℕ, ◌+◌, ◌-◌, ◌≤◌, Bool, true, false, nat_lt, List, [], ◌++◌, append-nil}
+use Rattle.std.proofs.Common.{refl, sym, ap, subst, ◌∙◌, arith, length, take, take_all, drop, take-add, append_assoc, if◌then◌else◌}
 use Rattle.std.proofs.lemmas.Bool.Decides.{nat_tests}
 use Rattle.std.proofs.lemmas.Grind.{common_steps}
 use Rattle.std.proofs.lemmas.List.{take-append-drop, drop-append-le, drop_all}
@@ -43,16 +44,20 @@ take_begins n bytes = (drop n bytes, sym (take-append-drop n bytes))
 -- the rest was written up to here
 pub written_from : (old mid new : LineSeen) (bytes : List ℕ) (done n : ℕ) → mid ≡ with_begun bytes done old
     → new ≡ with_written (take n (drop done bytes)) mid → new ≡ with_begun bytes (done + n) old
-written_from old mid new bytes done n m h = rw (take-add done n bytes) (written_joined old mid new (take done bytes) (take n (drop done bytes)) m h)
+written_from old mid new bytes done n m h =
+    rw (take-add done n bytes) (written_joined old mid new (take done bytes) (take n (drop done bytes)) m h)
 
 -- There is no room yet, or the write failed.
 pub stops : (text : List ℕ) (old new first : LineSeen) (sent : ℕ) (wrote : Wrote) (none_yet : Bool) → old ≡ with_begun text sent first
-    → wrote ≡ (if none_yet then wrotes.NotYet else wrotes.Fault) → new ≡ (if none_yet then old else with_line_fault faults.Write old) → WritesOn text first wrote sent new
+    → wrote ≡ (if none_yet then wrotes.NotYet else wrotes.Fault) → new ≡ (if none_yet then old else with_line_fault faults.Write old)
+    → WritesOn text first wrote sent new
 stops text old new first sent wrote true at w n = subst (λ v. WritesOn text first v sent new) (sym w) (n ∙ at)
-stops text old new first sent wrote false at w n = subst (λ v. WritesOn text first v sent new) (sym w) (breaks_off first old new text (take sent text) (take_begins sent text) at n)
+stops text old new first sent wrote false at w n =
+    subst (λ v. WritesOn text first v sent new) (sym w) (breaks_off first old new text (take sent text) (take_begins sent text) at n)
 
 -- All of it was written.
-pub whole_on : (text : List ℕ) (new first : LineSeen) (sent : ℕ) → length text ≤ sent → new ≡ with_begun text sent first → new ≡ with_written text first
+pub whole_on : (text : List ℕ) (new first : LineSeen) (sent : ℕ) → length text ≤ sent → new ≡ with_begun text sent first
+    → new ≡ with_written text first
 whole_on text new first sent all n = n ∙ ap (λ bytes. with_written bytes first) (take_all sent text all)
 
 -- what remains of two parts
@@ -67,4 +72,5 @@ left_of_two n xs ys = by (nat_lt n (length xs)) refl
     by false h =
         let beyond : length xs ≤ n = grind (arith, nat_tests, h) in
         let parts : n ≡ length xs + (n - length xs) = omega (arith, beyond) in
-        ap (λ m. drop m (xs ++ ys)) parts ∙ drop-append-add xs ys (n - length xs) ∙ ap (λ l. l ++ drop (n - length xs) ys) (sym (drop_all n xs beyond))
+        ap (λ m. drop m (xs ++ ys)) parts ∙ drop-append-add xs ys (n - length xs)
+        ∙ ap (λ l. l ++ drop (n - length xs) ys) (sym (drop_all n xs beyond))

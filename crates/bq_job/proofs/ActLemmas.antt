@@ -1,6 +1,7 @@
 -- What a command leaves: everything that each part of a step keeps, and at most one more client
 -- that waits or is answered.
-use Rattle.std.proofs.Common.{◌⊎◌, ℕ, zero, suc, ◌≡◌, ◌≤◌, ◌+◌, Bool, true, not, cond, List, [], ◌∷◌, map, arith, refl, ap, ◌∙◌, inl, inr, Option, Some, None}
+use Rattle.std.proofs.Common.{◌⊎◌, ℕ, zero, suc, ◌≡◌, ◌≤◌, ◌+◌, Bool, true, not, cond, List}
+use Rattle.std.proofs.Common.{[], ◌∷◌, map, arith, refl, ap, ◌∙◌, inl, inr, Option, Some, None}
 use Rattle.std.proofs.lemmas.{Bool.{and_from, cases_Bool, cond_both, eqb-true, or_right}, Grind.common_steps}
 use Rattle.std.specs.{List.{AllByRecursion as All, Contains}, Prelude.{◌==◌, count_by}}
 use Rattle.bq_job.specs.machine.{Effect, Machine.Machine, SeatRecord, after_close, after_connect, after_delete, after_put, effect}
@@ -8,7 +9,8 @@ use Rattle.bq_job.specs.{beside.waiting_count, machine.{empty_seat, is_held_by, 
 use Rattle.bq_job.specs.machine.{reserve_effect, silent, state_once_left, telling, waiting_from, with_end, with_pause}
 use Rattle.bq_job.specs.{machine.{with_seat, with_tube}, Types.{Answer, Job, Request, Step}}
 use Rattle.bq_job.specs.declared.answer.Answer.TheVariants as answers
-use Rattle.bq_job.proofs.KeptLemmas.{IsMild, Keeps, has_holder, kept_of_close, kept_of_drain, kept_of_filter, kept_of_jobs, kept_of_push, kept_of_seat, numbers_above, only_seat}
+use Rattle.bq_job.proofs.KeptLemmas.{IsMild, Keeps, has_holder, kept_of_close, kept_of_drain, kept_of_filter}
+use Rattle.bq_job.proofs.KeptLemmas.{kept_of_jobs, kept_of_push, kept_of_seat, numbers_above, only_seat}
 use Rattle.bq_job.proofs.EffectKinds.{IsFreeOrOwn, Kind, adds, changes_jobs, changes_seat, changes_tube, deletes, passes, tells, waits}
 use Rattle.bq_job.proofs.{BecomeLemmas.free_by_delay, CommandKinds.kind_of, EachEvent.{IsSeat, each_event}}
 use Rattle.bq_job.proofs.ListLemmas.{all_always, all_weaker, count_cons, count_of_map, list_any_with}
@@ -34,28 +36,35 @@ record IsThere (m : Machine) (s : SeatRecord) : Type 0 where
 
 -- the same machine with other jobs
 leaves_jobs : (m n : Machine) (answer : Answer) → Keeps n → n.seats ≡ m.seats → Leaves m (telling answer n)
-leaves_jobs m n answer h same = leaves_telling m n answer h (let e : waiting_count n ≡ waiting_count m = ap (count_by is_waiting) same in omega arith)
+leaves_jobs m n answer h same = leaves_telling m n answer h
+    (let e : waiting_count n ≡ waiting_count m = ap (count_by is_waiting) same in omega arith)
 
 -- a job that the client holds
-pub held_here : (m : Machine) (s : SeatRecord) (j : Job) → Contains m.seats s → s.connected ≡ true → is_held_by s.number j ≡ true → has_holder m.seats j ≡ true
+pub held_here : (m : Machine) (s : SeatRecord) (j : Job) → Contains m.seats s → s.connected ≡ true → is_held_by s.number j ≡ true
+    → has_holder m.seats j ≡ true
 held_here m s j there c held = grind (arith, common_steps, or_right, list_any_with, and_from)
 
 -- a job that is changed for the client that asks
-holder_stays : (m : Machine) (s : SeatRecord) (j k : Job) → Contains m.seats s → s.connected ≡ true → (k ≡ j) ⊎ IsFreeOrOwn s k → has_holder m.seats j ≡ true → has_holder m.seats k ≡ true
+holder_stays : (m : Machine) (s : SeatRecord) (j k : Job) → Contains m.seats s → s.connected ≡ true → (k ≡ j) ⊎ IsFreeOrOwn s k
+    → has_holder m.seats j ≡ true → has_holder m.seats k ≡ true
 holder_stays m s j k there c h held = grind (arith, common_steps, held_here)
 
 -- A seat changes, and its client waits as before.
-pub kept_of_quiet_seat : (number : ℕ) (f : SeatRecord → SeatRecord) (m : Machine) → Keeps m → ((s : SeatRecord) → (f s).number ≡ s.number) → ((s : SeatRecord) → (f s).connected ≡ s.connected) → ((s : SeatRecord) → (f s).wait ≡ s.wait) → Keeps (with_seat number f m)
+pub kept_of_quiet_seat : (number : ℕ) (f : SeatRecord → SeatRecord) (m : Machine) → Keeps m → ((s : SeatRecord) → (f s).number ≡ s.number)
+    → ((s : SeatRecord) → (f s).connected ≡ s.connected) → ((s : SeatRecord) → (f s).wait ≡ s.wait) → Keeps (with_seat number f m)
 kept_of_quiet_seat number f m h same stays waits_as =
     kept_of_seat number f h
     (all_always (λ s. s.number ≡ number → IsMild s (f s)) m.seats
     (λ s e. record { number = same s; stays = λ c. stays s ∙ c; waits = λ w. rw (waits_as s, stays s) w }))
 
 -- A change of one seat that makes no client wait does not add a waiting client.
-no_more_wait : (number : ℕ) (f : SeatRecord → SeatRecord) (m : Machine) → ((s : SeatRecord) → is_waiting (f s) ≡ true → is_waiting s ≡ true) → waiting_count (with_seat number f m) ≤ waiting_count m
+no_more_wait : (number : ℕ) (f : SeatRecord → SeatRecord) (m : Machine) → ((s : SeatRecord) → is_waiting (f s) ≡ true → is_waiting s ≡ true)
+    → waiting_count (with_seat number f m) ≤ waiting_count m
 no_more_wait number f m less = grind (arith, common_steps, count_of_map, all_always, cond_both)
 
-leaves_seat : (number : ℕ) (f : SeatRecord → SeatRecord) (m : Machine) (answer : Answer) → Keeps m → ((s : SeatRecord) → (f s).number ≡ s.number) → ((s : SeatRecord) → (f s).connected ≡ s.connected) → ((s : SeatRecord) → (f s).wait ≡ s.wait) → Leaves m (telling answer (with_seat number f m))
+leaves_seat : (number : ℕ) (f : SeatRecord → SeatRecord) (m : Machine) (answer : Answer) → Keeps m
+    → ((s : SeatRecord) → (f s).number ≡ s.number) → ((s : SeatRecord) → (f s).connected ≡ s.connected)
+    → ((s : SeatRecord) → (f s).wait ≡ s.wait) → Leaves m (telling answer (with_seat number f m))
 leaves_seat number f m answer h same stays waits_as =
     leaves_telling m (with_seat number f m) answer (kept_of_quiet_seat number f m h same stays waits_as)
     (no_more_wait number f m (λ s w. rw (waits_as s) at w))
@@ -64,13 +73,17 @@ at_most_one : (b : Bool) → cond b 1 0 ≤ 1
 at_most_one b = grind (arith, common_steps, cases_Bool)
 
 -- A change of one seat adds at most one waiting client.
-one_more_waits : (f : SeatRecord → SeatRecord) (low n number : ℕ) (seats : List SeatRecord) → map (λ s. s.number) seats ≡ numbers low n → count_by is_waiting (map (λ s. cond (s.number == number) (f s) s) seats) ≤ count_by is_waiting seats + 1
+one_more_waits : (f : SeatRecord → SeatRecord) (low n number : ℕ) (seats : List SeatRecord) → map (λ s. s.number) seats ≡ numbers low n
+    → count_by is_waiting (map (λ s. cond (s.number == number) (f s) s) seats) ≤ count_by is_waiting seats + 1
 one_more_waits f low n number [] e = omega arith
 one_more_waits f low zero number (s ∷ seats) e = absurd cc
 one_more_waits f low (suc n) number (s ∷ seats) e =
     let here : s.number ≡ low = (cc) in
     let rest : map (λ s. s.number) seats ≡ numbers (suc low) n = (cc) in
-    rw (count_cons is_waiting (cond (s.number == number) (f s) s) (map (λ s. cond (s.number == number) (f s) s) seats), count_cons is_waiting s seats)
+    rw (
+      count_cons is_waiting (cond (s.number == number) (f s) s) (map (λ s. cond (s.number == number) (f s) s) seats),
+      count_cons is_waiting s seats,
+    )
     (elim (cases_Bool (s.number == number)) [
       | inl b ↦
           let at : s.number ≡ number = eqb-true s.number number b in
@@ -85,7 +98,8 @@ one_more_waits f low (suc n) number (s ∷ seats) e =
     ])
 
 -- the client begins to wait
-leaves_reserve : (until : Option ℕ) (m : Machine) (s : SeatRecord) → Keeps m → IsThere m s → s.connected ≡ true → Leaves m (reserve_effect until m s)
+leaves_reserve : (until : Option ℕ) (m : Machine) (s : SeatRecord) → Keeps m → IsThere m s → s.connected ≡ true
+    → Leaves m (reserve_effect until m s)
 leaves_reserve until m s h there c = record {
   keeps = kept_of_seat s.number (waiting_from (raised m.tickets) until) h
       (all_weaker (λ t. t.number ≡ s.number → t ≡ s) (λ t. t.number ≡ s.number → IsMild t (waiting_from (raised m.tickets) until t)) m.seats
@@ -94,17 +108,23 @@ leaves_reserve until m s h there c = record {
 }
 
 -- every kind of command
-leaves_kind : (request : Request) (m : Machine) (s : SeatRecord) {e : Effect} → Kind m s request e → Keeps m → IsThere m s → s.connected ≡ true → Leaves m e
+leaves_kind : (request : Request) (m : Machine) (s : SeatRecord) {e : Effect} → Kind m s request e → Keeps m → IsThere m s
+    → s.connected ≡ true → Leaves m e
 leaves_kind request m s (passes none) h there c = leaves_silent m m h (omega arith)
 leaves_kind request m s (tells answer one common unclosed) h there c = leaves_jobs m m answer h refl
 leaves_kind request m s (waits until one waiting) h there c = leaves_reserve until m s h there c
 leaves_kind request m s (adds pri delay ttr body one accepts free) h there c =
-    leaves_jobs m (after_put m (new_job m s pri delay ttr body)) (answers.Inserted m.next_id) (kept_of_push (new_job m s pri delay ttr body) h accepts refl (free_by_delay delay m.moment)) refl
-leaves_kind request m s (deletes id j asks found free) h there c = leaves_jobs m (after_delete m j) answers.Deleted (kept_of_filter (λ k. not (k.id == j.id)) h) refl
+    leaves_jobs m (after_put m (new_job m s pri delay ttr body)) (answers.Inserted m.next_id)
+    (kept_of_push (new_job m s pri delay ttr body) h accepts refl (free_by_delay delay m.moment)) refl
+leaves_kind request m s (deletes id j asks found free) h there c =
+    leaves_jobs m (after_delete m j) answers.Deleted (kept_of_filter (λ k. not (k.id == j.id)) h) refl
 leaves_kind request m s (changes_jobs answer f burials says changes) h there c =
-    leaves_jobs m (record m { jobs = map f m.jobs; burials = burials }) answer (kept_of_jobs f h changes.same (λ j held. holder_stays m s j (f j) there.seated c (changes.holder j) held)) refl
-leaves_kind request m s (changes_seat answer f says changes) h there c = leaves_seat s.number f m answer h changes.number changes.connected changes.wait
-leaves_kind request m s (changes_tube tube seconds one) h there c = leaves_jobs m (with_tube tube (with_pause seconds m.moment) m) answers.Paused h refl
+    leaves_jobs m (record m { jobs = map f m.jobs; burials = burials }) answer
+    (kept_of_jobs f h changes.same (λ j held. holder_stays m s j (f j) there.seated c (changes.holder j) held)) refl
+leaves_kind request m s (changes_seat answer f says changes) h there c =
+    leaves_seat s.number f m answer h changes.number changes.connected changes.wait
+leaves_kind request m s (changes_tube tube seconds one) h there c =
+    leaves_jobs m (with_tube tube (with_pause seconds m.moment) m) answers.Paused h refl
 
 leaves_connect : (m : Machine) (seat : ℕ) → Keeps m → Leaves m (silent (after_connect m seat))
 leaves_connect m seat h =
@@ -116,11 +136,14 @@ leaves_connect m seat h =
 
 leaves_close : (m : Machine) (seat : ℕ) → Keeps m → Leaves m (telling answers.Closed (after_close m seat))
 leaves_close m seat h =
-    leaves_telling m (after_close m seat) answers.Closed (kept_of_close (state_once_left m) seat (free_by_delay m.settings.requeue_delay m.moment) h) (no_more_wait seat (λ s. empty_seat s.number) m (λ s w. absurd cc))
+    leaves_telling m (after_close m seat) answers.Closed
+    (kept_of_close (state_once_left m) seat (free_by_delay m.settings.requeue_delay m.moment) h)
+    (no_more_wait seat (λ s. empty_seat s.number) m (λ s w. absurd cc))
 
 there_of : (m : Machine) (seat : ℕ) (s : SeatRecord) → Keeps m → IsSeat m seat s → IsThere m s
 there_of m seat s h is = record {
-  alone = all_weaker (λ t. t.number ≡ seat → t ≡ s) (λ t. t.number ≡ s.number → t ≡ s) m.seats (λ t only i. only (i ∙ is.number)) (only_seat 0 m.settings.seats seat m.seats s h.seated is.found);
+  alone = all_weaker (λ t. t.number ≡ seat → t ≡ s) (λ t. t.number ≡ s.number → t ≡ s) m.seats (λ t only i. only (i ∙ is.number))
+      (only_seat 0 m.settings.seats seat m.seats s h.seated is.found);
   seated = is.there;
 }
 
@@ -130,7 +153,8 @@ leaves_effect m seat what h = each_event m seat (λ what e. Leaves m e) (record 
   nothing = λ what. (leaves_silent m m h (omega arith));
   connects = λ s is. leaves_connect m s.number h;
   asks = λ request s is c w. leaves_kind request m s (kind_of request m s) h (there_of m seat s h is) c;
-  ends = λ s is. leaves_silent m (with_seat s.number with_end m) (kept_of_quiet_seat s.number with_end m h (λ t. refl) (λ t. refl) (λ t. refl)) (no_more_wait s.number with_end m (λ t w. w));
+  ends = λ s is. leaves_silent m (with_seat s.number with_end m)
+      (kept_of_quiet_seat s.number with_end m h (λ t. refl) (λ t. refl) (λ t. refl)) (no_more_wait s.number with_end m (λ t w. w));
   closes = λ s is. leaves_close m s.number h;
   drains = leaves_silent m (record m { draining = true }) (kept_of_drain h) (omega arith);
 }) what

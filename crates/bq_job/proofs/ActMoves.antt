@@ -20,12 +20,15 @@ after_itself : (what : Step) (m : Machine) → After what m m
 after_itself what m = unchanged what m.settings.max_jobs m.jobs m.next_id
 
 -- every kind of command
-after_kind : (request : Request) (m : Machine) (s : SeatRecord) {e : Effect} → Kind m s request e → Ids m → After (steps.Ask request) m e.machine
+after_kind : (request : Request) (m : Machine) (s : SeatRecord) {e : Effect} → Kind m s request e → Ids m
+    → After (steps.Ask request) m e.machine
 after_kind request m s (passes none) ids = after_itself (steps.Ask request) m
 after_kind request m s (tells answer one common unclosed) ids = after_itself (steps.Ask request) m
 after_kind request m s (waits until one waiting) ids = after_itself (steps.Ask request) m
 after_kind request m s (adds pri delay ttr body one accepts free) ids =
-    added (new_job m s pri delay ttr body) refl (omega arith) refl (λ now. let here : is_ready_state (delayed_by 0 m.moment) ≡ true = refl in subst (λ n. is_ready_state (delayed_by n m.moment) ≡ true) (sym now) here) free
+    added (new_job m s pri delay ttr body) refl (omega arith) refl
+    (λ now. let here : is_ready_state (delayed_by 0 m.moment) ≡ true = refl in
+    subst (λ n. is_ready_state (delayed_by n m.moment) ≡ true) (sym now) here) free
 after_kind request m s (deletes id j asks found free) ids =
     removed_one j.id (ap (λ r. removed (steps.Ask r) j.id) asks ∙ rw (eq-eqb id j.id (sym (found_job id m.jobs j found).0)) refl) refl refl
 after_kind request m s (changes_jobs answer f burials says changes) ids = changed f refl refl changes.same (changes.becomes ids)
@@ -38,7 +41,14 @@ after_closed m seat =
     changed (given_back left seat) refl refl
     (λ j. cond_both (is_held_by seat j) (in_state left j) j (λ k. k.id ≡ j.id) (λ e. refl) (λ e. refl))
     (λ j i. cond_both (is_held_by seat j) (in_state left j) j (Becomes steps.Close j)
-    (λ e. record { id = refl; tube = refl; body = refl; ready = λ h. absurd (held_not_ready seat j e h); held = λ h. inr (told_if_given_up steps.Close j.id j.state left h (free_by_delay m.settings.requeue_delay m.moment) (itself_told j.id)) })
+    (λ e. record {
+      id = refl;
+      tube = refl;
+      body = refl;
+      ready = λ h. absurd (held_not_ready seat j e h);
+      held = λ h.
+          inr (told_if_given_up steps.Close j.id j.state left h (free_by_delay m.settings.requeue_delay m.moment) (itself_told j.id));
+    })
     (λ e. becomes_itself steps.Close j))
 
 -- whether or not memory was lacking

@@ -13,7 +13,8 @@ use Rattle.bq_job.proofs.{ListLemmas.all_weaker, LookupLemmas.job_found}
 
 -- no client holds a job that is ready or delayed
 pub free_by_delay : (delay moment : ℕ) → is_reserved (delayed_by delay moment) ≡ false
-free_by_delay delay moment = cond_both (delay == 0) states.Ready (states.Delayed (later moment delay)) (λ s. is_reserved s ≡ false) (λ e. refl) (λ e. refl)
+free_by_delay delay moment = cond_both (delay == 0) states.Ready (states.Delayed (later moment delay)) (λ s. is_reserved s ≡ false)
+    (λ e. refl) (λ e. refl)
 
 pub held_not_ready : (seat : ℕ) (j : Job) → is_held_by seat j ≡ true → is_ready j ≡ true → ⊥
 held_not_ready seat j h i = grind (arith, common_steps)
@@ -22,17 +23,20 @@ pub put_aside_not_held : (s : JobState) → (is_buried s || is_delayed s) ≡ tr
 put_aside_not_held s h i = grind (arith, common_steps, cases_Bool)
 
 -- If a holder gives up a job, that is recorded.
-pub told_if_given_up : (what : Step) (id : ℕ) (before after : JobState) → is_reserved before ≡ true → is_reserved after ≡ false → list_any (disturbs id) (given_up what id) ≡ true → list_any (disturbs id) (change what id before after) ≡ true
+pub told_if_given_up : (what : Step) (id : ℕ) (before after : JobState) → is_reserved before ≡ true → is_reserved after ≡ false
+    → list_any (disturbs id) (given_up what id) ≡ true → list_any (disturbs id) (change what id before after) ≡ true
 told_if_given_up what id before after held free told = grind (arith, common_steps, cases_Bool)
 
 pub itself_told : (id : ℕ) → ((id == id) || false) ≡ true
 itself_told id = or_left (id == id) false (eq-eqb id id refl)
 
 -- what holds of all elements holds of them in order, and of the first of them
-all_put_in_order : (P : Job → Type 0) (before : Job → Job → Bool) (j : Job) (jobs : List Job) → P j → All P jobs → All P (put_in_order before j jobs)
+all_put_in_order : (P : Job → Type 0) (before : Job → Job → Bool) (j : Job) (jobs : List Job) → P j → All P jobs
+    → All P (put_in_order before j jobs)
 all_put_in_order P before j [] h i = (h, tt)
 all_put_in_order P before j (k ∷ jobs) h i =
-    cond_both (before k j) (k ∷ put_in_order before j jobs) (j ∷ k ∷ jobs) (All P) (λ e. (i.0, all_put_in_order P before j jobs h i.1)) (λ e. (h, i))
+    cond_both (before k j) (k ∷ put_in_order before j jobs) (j ∷ k ∷ jobs) (All P)
+    (λ e. (i.0, all_put_in_order P before j jobs h i.1)) (λ e. (h, i))
 
 pub all_in_order : (P : Job → Type 0) (before : Job → Job → Bool) (jobs : List Job) → All P jobs → All P (in_order before jobs)
 all_in_order P before [] h = tt
@@ -47,25 +51,31 @@ all_of_take P (suc n) (j ∷ jobs) h = (h.0, all_of_take P n jobs h.1)
 abbrev pub IsAside : List Job → Job → Type 0
 IsAside jobs k = (job_with k.id jobs ≡ Some k) × (is_reserved k.state ≡ true → ⊥)
 
-aside_of_filter : (jobs : List Job) (p : Job → Bool) (next : ℕ) → AreIdsWithin 1 jobs next → ((j : Job) → p j ≡ true → (is_buried j.state || is_delayed j.state) ≡ true) → All (IsAside jobs) (filter p jobs)
+aside_of_filter : (jobs : List Job) (p : Job → Bool) (next : ℕ) → AreIdsWithin 1 jobs next
+    → ((j : Job) → p j ≡ true → (is_buried j.state || is_delayed j.state) ≡ true) → All (IsAside jobs) (filter p jobs)
 aside_of_filter jobs p next ids only =
-    all_weaker (λ j. (job_with j.id jobs ≡ Some j) × (p j ≡ true)) (IsAside jobs) (filter p jobs) (λ j h. (h.0, put_aside_not_held j.state (only j h.1)))
-    (all_of_filter (λ j. job_with j.id jobs ≡ Some j) p jobs (all_from_members (λ j. job_with j.id jobs ≡ Some j) jobs (λ j i. (job_found 1 next jobs j ids i).0)))
+    all_weaker (λ j. (job_with j.id jobs ≡ Some j) × (p j ≡ true)) (IsAside jobs) (filter p jobs)
+    (λ j h. (h.0, put_aside_not_held j.state (only j h.1)))
+    (all_of_filter (λ j. job_with j.id jobs ≡ Some j) p jobs
+    (all_from_members (λ j. job_with j.id jobs ≡ Some j) jobs (λ j i. (job_found 1 next jobs j ids i).0)))
 
 pub kickable_aside : (tube : List ℕ) (jobs : List Job) (next : ℕ) → AreIdsWithin 1 jobs next → All (IsAside jobs) (kickable tube jobs)
 kickable_aside tube jobs next ids =
     of_first (filter (is_buried_in tube) jobs)
-    (aside_of_filter jobs (is_buried_in tube) next ids (λ j e. or_left (is_buried j.state) (is_delayed j.state) (and_parts (is_buried j.state) (is_same_name tube j.tube) e).0))
+    (aside_of_filter jobs (is_buried_in tube) next ids
+    (λ j e. or_left (is_buried j.state) (is_delayed j.state) (and_parts (is_buried j.state) (is_same_name tube j.tube) e).0))
   where
     of_first : (first : List Job) → All (IsAside jobs) first → All (IsAside jobs) (kicked_first tube jobs first)
     of_first [] h = grind (arith, common_steps, all_in_order, aside_of_filter, or_right, and_parts)
     of_first (j ∷ first) h = all_in_order (IsAside jobs) is_buried_before (j ∷ first) h
 
-pub chosen_not_held : (jobs chosen : List Job) (j : Job) → job_with j.id jobs ≡ Some j → All (IsAside jobs) chosen → list_any (λ k. k.id == j.id) chosen ≡ true → is_reserved j.state ≡ true → ⊥
+pub chosen_not_held : (jobs chosen : List Job) (j : Job) → job_with j.id jobs ≡ Some j → All (IsAside jobs) chosen
+    → list_any (λ k. k.id == j.id) chosen ≡ true → is_reserved j.state ≡ true → ⊥
 chosen_not_held jobs [] j found h any held = absurd cc
 chosen_not_held jobs (k ∷ chosen) j found h any held =
     grind (arith, common_steps, or_cases, eqb-true, chosen_not_held jobs chosen j)
 
 -- If the job of one id changes, each job of the list becomes what it may.
-pub one_becomes : (what : Step) (id : ℕ) (f : Job → Job) (jobs : List Job) (next : ℕ) (j : Job) → AreIdsWithin 1 jobs next → job_with id jobs ≡ Some j → Becomes what j (f j) → (k : Job) → Contains jobs k → Becomes what k (cond (k.id == id) (f k) k)
+pub one_becomes : (what : Step) (id : ℕ) (f : Job → Job) (jobs : List Job) (next : ℕ) (j : Job) → AreIdsWithin 1 jobs next
+    → job_with id jobs ≡ Some j → Becomes what j (f j) → (k : Job) → Contains jobs k → Becomes what k (cond (k.id == id) (f k) k)
 one_becomes what id f jobs next j ids found becomes k i = grind (arith, common_steps, cond_both, eqb-true, job_found, becomes_itself)

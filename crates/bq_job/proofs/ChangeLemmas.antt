@@ -1,5 +1,6 @@
 -- What a command does to the list of jobs, and the happenings that are recorded.
-use Rattle.std.proofs.Common.{ℕ, suc, ◌≡◌, Bool, true, false, not, cond, List, [], ◌∷◌, ◌++◌, map, arith, refl, sym, ap, ◌∙◌, subst, inl, inr, ◌⊎◌, Option, Some, None, rules}
+use Rattle.std.proofs.Common.{ℕ, suc, ◌≡◌, Bool, true, false, not, cond, List, [], ◌∷◌, ◌++◌, map}
+use Rattle.std.proofs.Common.{arith, refl, sym, ap, ◌∙◌, subst, inl, inr, ◌⊎◌, Option, Some, None, rules}
 use Rattle.std.proofs.lemmas.Bool.{or_left, or_right, or_cases, both_ways, cond_both, eqb-true, eq-eqb, false_from_ne_true, cases_Bool}
 use Rattle.std.proofs.{Common.map-id, lemmas.{Grind.common_steps, List.Folds.list_any-append}}
 use Rattle.std.specs.Prelude.{filter, flat_map, is_none, option_map, ◌==◌}
@@ -17,8 +18,10 @@ pub record Becomes (what : Step) (j k : Job) : Type 0 where
   pub id : k.id ≡ j.id
   pub tube : k.tube ≡ j.tube
   pub body : k.body ≡ j.body
-  pub ready : is_ready j ≡ true → ((is_ready k ≡ true) × (k.pri ≡ j.pri)) ⊎ (list_any (disturbs j.id) (change what j.id j.state k.state) ≡ true)
-  pub held : is_reserved j.state ≡ true → (is_reserved k.state ≡ true) ⊎ (list_any (disturbs j.id) (change what j.id j.state k.state) ≡ true)
+  pub ready : is_ready j ≡ true → ((is_ready k ≡ true) × (k.pri ≡ j.pri))
+      ⊎ (list_any (disturbs j.id) (change what j.id j.state k.state) ≡ true)
+  pub held : is_reserved j.state ≡ true → (is_reserved k.state ≡ true)
+      ⊎ (list_any (disturbs j.id) (change what j.id j.state k.state) ≡ true)
 
 pub becomes_itself : (what : Step) (j : Job) → Becomes what j j
 becomes_itself what j = record { id = refl; tube = refl; body = refl; ready = λ h. inl (h, refl); held = λ h. inl h }
@@ -26,14 +29,18 @@ becomes_itself what j = record { id = refl; tube = refl; body = refl; ready = λ
 -- the jobs and the next id before and after a command: jobs changed, one was removed, or one was
 -- added within the limit
 pub data JobsAfter (what : Step) (limit : Option ℕ) (jobs : List Job) (next : ℕ) (later : List Job) (next_then : ℕ) : Type 0 where
-  changed : (f : Job → Job) → later ≡ map f jobs → next_then ≡ next → ((j : Job) → (f j).id ≡ j.id) → ((j : Job) → Contains jobs j → Becomes what j (f j)) → JobsAfter what limit jobs next later next_then
-  removed_one : (id : ℕ) → removed what id ≡ deleted id ∷ [] → later ≡ filter (λ k. not (k.id == id)) jobs → next_then ≡ next → JobsAfter what limit jobs next later next_then
-  added : (j : Job) → later ≡ jobs ++ j ∷ [] → next_then ≡ suc next → j.id ≡ next → (j.delay ≡ 0 → is_ready j ≡ true) → is_full limit jobs ≡ false → JobsAfter what limit jobs next later next_then
+  changed : (f : Job → Job) → later ≡ map f jobs → next_then ≡ next → ((j : Job) → (f j).id ≡ j.id)
+      → ((j : Job) → Contains jobs j → Becomes what j (f j)) → JobsAfter what limit jobs next later next_then
+  removed_one : (id : ℕ) → removed what id ≡ deleted id ∷ [] → later ≡ filter (λ k. not (k.id == id)) jobs → next_then ≡ next
+      → JobsAfter what limit jobs next later next_then
+  added : (j : Job) → later ≡ jobs ++ j ∷ [] → next_then ≡ suc next → j.id ≡ next → (j.delay ≡ 0 → is_ready j ≡ true)
+      → is_full limit jobs ≡ false → JobsAfter what limit jobs next later next_then
 
 pub unchanged : (what : Step) (limit : Option ℕ) (jobs : List Job) (next : ℕ) → JobsAfter what limit jobs next jobs next
 unchanged what limit jobs next = changed (λ j. j) (sym (map-id jobs)) refl (λ j. refl) (λ j i. becomes_itself what j)
 
-any_in_parts : {X Y : Type 0} (p : Y → Bool) (g : X → List Y) (xs : List X) → list_any (λ x. list_any p (g x)) xs ≡ true → list_any p (flat_map g xs) ≡ true
+any_in_parts : {X Y : Type 0} (p : Y → Bool) (g : X → List Y) (xs : List X) → list_any (λ x. list_any p (g x)) xs ≡ true
+    → list_any p (flat_map g xs) ≡ true
 any_in_parts p g [] h = h
 any_in_parts p g (x ∷ xs) h =
     grind (arith, common_steps, list_any-append, or_cases, or_left, or_right, any_in_parts p g xs)
@@ -59,10 +66,12 @@ none_of_parts g (x ∷ xs) h = rw (h.0, none_of_parts g xs h.1) refl
 
 -- each job of the list existed before
 were_there : (jobs : List Job) (next : ℕ) → AreIdsWithin 1 jobs next → All (λ j. is_none (job_with j.id jobs) ≡ false) jobs
-were_there jobs next ids = all_from_members (λ j. is_none (job_with j.id jobs) ≡ false) jobs (λ j i. ap is_none (job_found 1 next jobs j ids i).0)
+were_there jobs next ids = all_from_members (λ j. is_none (job_with j.id jobs) ≡ false) jobs
+    (λ j i. ap is_none (job_found 1 next jobs j ids i).0)
 
 -- If no job is new, only plain happenings are recorded.
-plain_changes : (what : Step) (before after : List Job) → All (λ j. is_none (job_with j.id before) ≡ false) after → All (λ h. is_plain h ≡ true) (changes what before after)
+plain_changes : (what : Step) (before after : List Job) → All (λ j. is_none (job_with j.id before) ≡ false) after
+    → All (λ h. is_plain h ≡ true) (changes what before after)
 plain_changes what before after old = search (rules, all_of_append, all_of_parts, plain_change_or_removal, none_kept)
 
 none_at : (low next : ℕ) (jobs : List Job) → AreIdsWithin low jobs next → job_with next jobs ≡ None
@@ -73,13 +82,17 @@ none_at low next (j ∷ jobs) h =
     rw other (none_at (suc j.id) next jobs h.1)
 
 -- the fate of a job that a command changed
-changed_fate : (what : Step) (before after : List Job) (f : Job → Job) (id : ℕ) (o : Option Job) → job_with id before ≡ o → job_with id after ≡ option_map f o → ((j : Job) → Contains before j → Becomes what j (f j)) → Fate id (changes what before after) o (option_map f o)
+changed_fate : (what : Step) (before after : List Job) (f : Job → Job) (id : ℕ) (o : Option Job) → job_with id before ≡ o
+    → job_with id after ≡ option_map f o → ((j : Job) → Contains before j → Becomes what j (f j))
+    → Fate id (changes what before after) o (option_map f o)
 changed_fate what before after f id None e g becomes = refl
 changed_fate what before after f id (Some j) e g becomes =
     let found = found_job id before j e in
     let b = becomes j found.1 in
     let here : job_with j.id after ≡ Some (f j) = subst (λ n. job_with n after ≡ Some (f j)) (sym found.0) g in
-    let disturbed : list_any (disturbs j.id) (change what j.id j.state (f j).state) ≡ true → list_any (disturbs id) (changes what before after) ≡ true = grind (arith, common_steps, list_any-append, or_left, any_in_parts, list_any_with) in
+    let disturbed : list_any (disturbs j.id) (change what j.id j.state (f j).state) ≡ true
+    → list_any (disturbs id) (changes what before after) ≡ true =
+    grind (arith, common_steps, list_any-append, or_left, any_in_parts, list_any_with) in
     record {
       same = b.id;
       tube = b.tube;
@@ -94,21 +107,27 @@ changed_fate what before after f id (Some j) e g becomes =
       ];
     }
 
-removed_fate : (what : Step) (before after : List Job) (gone id : ℕ) (o : Option Job) → removed what gone ≡ deleted gone ∷ [] → job_with id before ≡ o → job_with id after ≡ cond (id == gone) None o → Fate id (changes what before after) o (cond (id == gone) None o)
+removed_fate : (what : Step) (before after : List Job) (gone id : ℕ) (o : Option Job) → removed what gone ≡ deleted gone ∷ []
+    → job_with id before ≡ o → job_with id after ≡ cond (id == gone) None o
+    → Fate id (changes what before after) o (cond (id == gone) None o)
 removed_fate what before after gone id o told e g =
     grind (arith, common_steps, cond_both, id, found_job, list_any-append, any_in_parts, list_any_with, eqb-true, or_left, eq-eqb)
 
 -- A command is a move: a quiet one, or a put.
-pub move_of_jobs : (what : Step) (m n : Machine) → AreIdsWithin 1 m.jobs m.next_id → JobsAfter what m.settings.max_jobs m.jobs m.next_id n.jobs n.next_id → Move m (changes what m.jobs n.jobs) n
+pub move_of_jobs : (what : Step) (m n : Machine) → AreIdsWithin 1 m.jobs m.next_id
+    → JobsAfter what m.settings.max_jobs m.jobs m.next_id n.jobs n.next_id → Move m (changes what m.jobs n.jobs) n
 move_of_jobs what m n ids (changed f after next same becomes) =
-    let lookup : (id : ℕ) → job_with id n.jobs ≡ option_map f (job_with id m.jobs) = λ id. ap (job_with id) after ∙ job_in_map f id m.jobs same in
+    let lookup : (id : ℕ) → job_with id n.jobs ≡ option_map f (job_with id m.jobs) =
+    λ id. ap (job_with id) after ∙ job_in_map f id m.jobs same in
     quiet (record {
       next = next;
       plain = plain_changes what m.jobs n.jobs
           (subst (All (λ j. is_none (job_with j.id m.jobs) ≡ false)) (sym after)
           (all_of_map (λ j. is_none (job_with j.id m.jobs) ≡ false) f m.jobs
-          (all_weaker (λ j. is_none (job_with j.id m.jobs) ≡ false) (λ j. is_none (job_with (f j).id m.jobs) ≡ false) m.jobs (λ j h. subst (λ id. is_none (job_with id m.jobs) ≡ false) (sym (same j)) h) (were_there m.jobs m.next_id ids))));
-      fates = λ id. subst (Fate id (changes what m.jobs n.jobs) (job_with id m.jobs)) (sym (lookup id)) (changed_fate what m.jobs n.jobs f id (job_with id m.jobs) refl (lookup id) becomes);
+          (all_weaker (λ j. is_none (job_with j.id m.jobs) ≡ false) (λ j. is_none (job_with (f j).id m.jobs) ≡ false) m.jobs
+          (λ j h. subst (λ id. is_none (job_with id m.jobs) ≡ false) (sym (same j)) h) (were_there m.jobs m.next_id ids))));
+      fates = λ id. subst (Fate id (changes what m.jobs n.jobs) (job_with id m.jobs)) (sym (lookup id))
+          (changed_fate what m.jobs n.jobs f id (job_with id m.jobs) refl (lookup id) becomes);
     })
 move_of_jobs what m n ids (removed_one gone told after next) =
     grind (arith, common_steps, job_in_rest, quiet, plain_changes, all_weaker, all_of_filter, were_there, removed_fate)
@@ -118,6 +137,7 @@ move_of_jobs what m n ids (added j after next is at_once free) =
     let found = job_found 1 m.next_id m.jobs k ids i in
     let less = found.1 in
     let other : (j.id == k.id) ≡ false = false_from_ne_true (j.id == k.id) (λ t. let at = eqb-true j.id k.id t in absurd (omega arith)) in
-    ap (λ o. change_or_removal what k o) (ap (job_with k.id) after ∙ job_in_more k.id m.jobs j other ∙ found.0) ∙ (grind (arith, common_steps, cases_Bool))) in
+    ap (λ o. change_or_removal what k o) (ap (job_with k.id) after ∙ job_in_more k.id m.jobs j other ∙ found.0)
+    ∙ (grind (arith, common_steps, cases_Bool))) in
     let new : filter (λ k. is_none (job_with k.id m.jobs)) n.jobs ≡ j ∷ [] = grind (arith, common_steps, last_kept, were_there, none_at) in
     putting (grind (arith, common_steps, none_of_parts))

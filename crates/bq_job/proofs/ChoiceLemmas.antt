@@ -1,6 +1,7 @@
 -- The first of those that pass a test: it is in the list, it passes, and no other that passes comes
 -- before it.
-use Rattle.std.proofs.Common.{◌||◌, ◌∙◌, ◌∷◌, ◌≡◌, ◌⊎◌, Bool, List, None, Option, Some, [], ℕ, ap, arith, false, inl, inr, refl, subst, sym, true}
+use Rattle.std.proofs.Common.{◌||◌, ◌∙◌, ◌∷◌, ◌≡◌, ◌⊎◌, Bool, List, None, Option, Some, []}
+use Rattle.std.proofs.Common.{ℕ, ap, arith, false, inl, inr, refl, subst, sym, true}
 use Rattle.std.proofs.{Common.◌==◌, lemmas.Bool.{and_parts, cases_Bool, Decides.nat_tests}}
 use Rattle.std.proofs.lemmas.{Grind.common_steps, List.Elements.{All-contains, All-from_recursion}}
 use Rattle.std.proofs.{lemmas.List.Folds.list_any-from_Any, Math.Bool.or_assoc}
@@ -22,57 +23,78 @@ IsNotAfter before None z = Unit {0}
 IsNotAfter before (Some b) z = before b z ≡ false
 
 -- Nothing in the list that passes comes before the chosen one, nor did the best one so far.
-fold_is_least : {X : Type 0} (passes : X → Bool) {before : X → X → Bool} (order : IsStrictWeakOrder before) (best : Option X) (xs : List X) (z : X) → fold (better_of passes before) best xs ≡ Some z → IsNotAfter before best z × AllByRecursion (λ y. passes y ≡ true → before y z ≡ false) xs
-fold_is_least passes {before = before} order best [] z h = (subst (λ b. IsNotAfter before b z) (sym h) (grind (arith, order.one_way, cases_Bool)), tt)
+fold_is_least : {X : Type 0} (passes : X → Bool) {before : X → X → Bool} (order : IsStrictWeakOrder before) (best : Option X) (xs : List X)
+    (z : X) → fold (better_of passes before) best xs ≡ Some z
+    → IsNotAfter before best z × AllByRecursion (λ y. passes y ≡ true → before y z ≡ false) xs
+fold_is_least passes {before = before} order best [] z h =
+    (subst (λ b. IsNotAfter before b z) (sym h) (grind (arith, order.one_way, cases_Bool)), tt)
 fold_is_least passes {before = before} order best (x ∷ xs) z h =
     grind (arith, common_steps, fold_is_least passes order (better_of passes before best x) xs z h)
 
 -- nothing that passes comes before the chosen one
-pub first_of_is_least : {X : Type 0} (passes : X → Bool) {before : X → X → Bool} (order : IsStrictWeakOrder before) (xs : List X) (z y : X) → first_of passes before xs ≡ Some z → Contains xs y → passes y ≡ true → before y z ≡ false
+pub first_of_is_least : {X : Type 0} (passes : X → Bool) {before : X → X → Bool} (order : IsStrictWeakOrder before) (xs : List X) (z y : X)
+    → first_of passes before xs ≡ Some z → Contains xs y → passes y ≡ true → before y z ≡ false
 first_of_is_least passes {before = before} order xs z y h i p =
     All-contains (λ y. passes y ≡ true → before y z ≡ false) xs y
     (All-from_recursion (λ y. passes y ≡ true → before y z ≡ false) xs ((fold_is_least passes order None xs z h).1)) i p
 
-fold_passes : {X : Type 0} (passes : X → Bool) (before : X → X → Bool) (best : Option X) (xs : List X) → IfSome best (λ b. passes b ≡ true) → IfSome (fold (better_of passes before) best xs) (λ b. passes b ≡ true)
+fold_passes : {X : Type 0} (passes : X → Bool) (before : X → X → Bool) (best : Option X) (xs : List X) → IfSome best (λ b. passes b ≡ true)
+    → IfSome (fold (better_of passes before) best xs) (λ b. passes b ≡ true)
 fold_passes passes before best [] h = h
-fold_passes passes before best (x ∷ xs) h = fold_passes passes before (better_of passes before best x) xs (grind (arith, common_steps, cases_Bool, and_parts))
+fold_passes passes before best (x ∷ xs) h =
+    fold_passes passes before (better_of passes before best x) xs (grind (arith, common_steps, cases_Bool, and_parts))
 
 -- the chosen one passes
-pub first_of_passes : {X : Type 0} (passes : X → Bool) (before : X → X → Bool) (xs : List X) (z : X) → first_of passes before xs ≡ Some z → passes z ≡ true
+pub first_of_passes : {X : Type 0} (passes : X → Bool) (before : X → X → Bool) (xs : List X) (z : X)
+    → first_of passes before xs ≡ Some z → passes z ≡ true
 first_of_passes passes before xs z h = rw h at (fold_passes passes before None xs tt)
 
-fold_contains : {X : Type 0} (passes : X → Bool) (before : X → X → Bool) (best : Option X) (xs : List X) (z : X) → fold (better_of passes before) best xs ≡ Some z → (best ≡ Some z) ⊎ Contains xs z
+fold_contains : {X : Type 0} (passes : X → Bool) (before : X → X → Bool) (best : Option X) (xs : List X) (z : X)
+    → fold (better_of passes before) best xs ≡ Some z → (best ≡ Some z) ⊎ Contains xs z
 fold_contains passes before best [] z h = inl h
 fold_contains passes before best (x ∷ xs) z h =
-    grind (arith, common_steps, contains_tail, cases_Bool, contains_head, fold_contains passes before (better_of passes before best x) xs z h)
+    grind (
+      arith,
+      common_steps,
+      contains_tail,
+      cases_Bool,
+      contains_head,
+      fold_contains passes before (better_of passes before best x) xs z h,
+    )
 
 -- the chosen one is in the list
-pub first_of_contains : {X : Type 0} (passes : X → Bool) (before : X → X → Bool) (xs : List X) (z : X) → first_of passes before xs ≡ Some z → Contains xs z
+pub first_of_contains : {X : Type 0} (passes : X → Bool) (before : X → X → Bool) (xs : List X) (z : X)
+    → first_of passes before xs ≡ Some z → Contains xs z
 first_of_contains passes before xs z h = elim (fold_contains passes before None xs z h) [ inl e ↦ absurd cc | inr i ↦ i ]
 
-fold_is_some : {X : Type 0} (passes : X → Bool) (before : X → X → Bool) (best : Option X) (xs : List X) → is_some (fold (better_of passes before) best xs) ≡ (is_some best || list_any passes xs)
+fold_is_some : {X : Type 0} (passes : X → Bool) (before : X → X → Bool) (best : Option X) (xs : List X)
+    → is_some (fold (better_of passes before) best xs) ≡ (is_some best || list_any passes xs)
 fold_is_some passes before None [] = refl
 fold_is_some passes before (Some b) [] = refl
 fold_is_some passes before best (x ∷ xs) =
     grind (arith, common_steps, or_assoc, fold_is_some passes before (better_of passes before best x) xs)
 
 -- An element is chosen if and only if one passes.
-pub first_of_is_some : {X : Type 0} (passes : X → Bool) (before : X → X → Bool) (xs : List X) → is_some (first_of passes before xs) ≡ list_any passes xs
+pub first_of_is_some : {X : Type 0} (passes : X → Bool) (before : X → X → Bool) (xs : List X)
+    → is_some (first_of passes before xs) ≡ list_any passes xs
 first_of_is_some passes before xs = fold_is_some passes before None xs
 
 -- if none is chosen, none passes
-pub first_of_none : {X : Type 0} (passes : X → Bool) (before : X → X → Bool) (xs : List X) → first_of passes before xs ≡ None → list_any passes xs ≡ false
+pub first_of_none : {X : Type 0} (passes : X → Bool) (before : X → X → Bool) (xs : List X) → first_of passes before xs ≡ None
+    → list_any passes xs ≡ false
 first_of_none passes before xs h = sym (first_of_is_some passes before xs) ∙ ap is_some h
 
 -- if none passes, none is chosen
-pub first_of_none_passes : {X : Type 0} (passes : X → Bool) (before : X → X → Bool) (xs : List X) → list_any passes xs ≡ false → first_of passes before xs ≡ None
+pub first_of_none_passes : {X : Type 0} (passes : X → Bool) (before : X → X → Bool) (xs : List X) → list_any passes xs ≡ false
+    → first_of passes before xs ≡ None
 first_of_none_passes passes before xs h = none_chosen (first_of passes before xs) (first_of_is_some passes before xs ∙ h)
   where
     none_chosen : {X : Type 0} (o : Option X) → is_some o ≡ false → o ≡ None
     none_chosen o e = grind (arith, common_steps)
 
 -- if one passes, one is chosen
-pub first_of_some : {X : Type 0} (passes : X → Bool) (before : X → X → Bool) (xs : List X) → list_any passes xs ≡ true → (z : X) × (first_of passes before xs ≡ Some z)
+pub first_of_some : {X : Type 0} (passes : X → Bool) (before : X → X → Bool) (xs : List X) → list_any passes xs ≡ true
+    → (z : X) × (first_of passes before xs ≡ Some z)
 first_of_some passes before xs h = one_chosen (first_of passes before xs) (first_of_is_some passes before xs ∙ h)
   where
     one_chosen : {X : Type 0} (o : Option X) → is_some o ≡ true → (z : X) × (o ≡ Some z)
@@ -80,18 +102,23 @@ first_of_some passes before xs h = one_chosen (first_of passes before xs) (first
 
 -- An element of the list that passes is the chosen one if none that passes comes before it and no
 -- other ties with it.
-pub first_of_is : {X : Type 0} (passes : X → Bool) {before : X → X → Bool} (order : IsStrictWeakOrder before) (xs : List X) (x : X) → Contains xs x → passes x ≡ true → ((y : X) → Contains xs y → passes y ≡ true → before y x ≡ false) → ((y : X) → Contains xs y → before x y ≡ false → before y x ≡ false → y ≡ x) → first_of passes before xs ≡ Some x
+pub first_of_is : {X : Type 0} (passes : X → Bool) {before : X → X → Bool} (order : IsStrictWeakOrder before) (xs : List X) (x : X)
+    → Contains xs x → passes x ≡ true → ((y : X) → Contains xs y → passes y ≡ true → before y x ≡ false)
+    → ((y : X) → Contains xs y → before x y ≡ false → before y x ≡ false → y ≡ x) → first_of passes before xs ≡ Some x
 first_of_is passes {before = before} order xs x i p least unique =
     let z = first_of_some passes before xs (list_any-from_Any passes xs (i.0, x, i.1, i.2, p)) in
     let c = first_of_contains passes before xs z.0 z.1 in
-    let e : z.0 ≡ x = unique z.0 c (first_of_is_least passes order xs z.0 x z.1 i p) (least z.0 c (first_of_passes passes before xs z.0 z.1)) in
+    let e : z.0 ≡ x = unique z.0 c (first_of_is_least passes order xs z.0 x z.1 i p)
+    (least z.0 c (first_of_passes passes before xs z.0 z.1)) in
     z.1 ∙ ap Some e
 
-fold_agrees : {X : Type 0} (p q : X → Bool) (before : X → X → Bool) (best : Option X) (xs : List X) → AllByRecursion (λ x. p x ≡ q x) xs → fold (better_of p before) best xs ≡ fold (better_of q before) best xs
+fold_agrees : {X : Type 0} (p q : X → Bool) (before : X → X → Bool) (best : Option X) (xs : List X) → AllByRecursion (λ x. p x ≡ q x) xs
+    → fold (better_of p before) best xs ≡ fold (better_of q before) best xs
 fold_agrees p q before best [] h = refl
 fold_agrees p q before best (x ∷ xs) h =
     grind (arith, common_steps, fold_agrees p q before (better_of q before best x) xs h.1)
 
 -- Two tests that agree on the list choose the same element.
-pub first_of_agrees : {X : Type 0} (p q : X → Bool) (before : X → X → Bool) (xs : List X) → AllByRecursion (λ x. p x ≡ q x) xs → first_of p before xs ≡ first_of q before xs
+pub first_of_agrees : {X : Type 0} (p q : X → Bool) (before : X → X → Bool) (xs : List X) → AllByRecursion (λ x. p x ≡ q x) xs
+    → first_of p before xs ≡ first_of q before xs
 first_of_agrees p q before xs h = fold_agrees p q before None xs h

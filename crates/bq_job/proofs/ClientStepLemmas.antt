@@ -1,5 +1,6 @@
 -- What a step gives to one client: to the client that takes it, and to every other one.
-use Rattle.std.proofs.Common.{ℕ, ◌≡◌, ◌<◌, ◌+◌, Bool, true, false, ◌&&◌, ◌||◌, List, [], ◌∷◌, ◌++◌, map, length, length-append, append_assoc, arith, refl, sym, ap, ◌∙◌, subst, inl, inr, Option, Some, None}
+use Rattle.std.proofs.Common.{ℕ, ◌≡◌, ◌<◌, ◌+◌, Bool, true, false, ◌&&◌, ◌||◌, List, [], ◌∷◌, ◌++◌, map}
+use Rattle.std.proofs.Common.{length, length-append, append_assoc, arith, refl, sym, ap, ◌∙◌, subst, inl, inr, Option, Some, None}
 use Rattle.std.proofs.lemmas.{Bool.{and_parts, both_ways, cases_Bool, cond_both}, Grind.common_steps}
 use Rattle.std.specs.{List.AllByRecursion as All, Prelude.{◌==◌, IsTrue}}
 use Rattle.bq_job.specs.machine.{Chain, Effect, GivenAnswer, IsStep, Machine.Machine, Memory, Outcome, SeatRecord}
@@ -12,7 +13,8 @@ use Rattle.bq_job.specs.{machine.{telling, with_end, with_seat}, promise.answers
 use Rattle.bq_job.specs.declared.answer.Answer.TheVariants as answers
 use Rattle.bq_job.specs.declared.step.Step.TheVariants as steps
 use Rattle.bq_job.proofs.ListLemmas.{all_always, all_at, all_both, all_pass, all_weaker, keys_of_map, list_any_not, none_pass}
-use Rattle.bq_job.proofs.OneClientLemmas.{Found, Passes, answers_append, changed, changed_none, changed_quiet, changed_some, connected_in, ended_in, finds, one_for, passes_serves, unclosed_append, waits_in}
+use Rattle.bq_job.proofs.OneClientLemmas.{Found, Passes, answers_append, changed, changed_none, changed_quiet, changed_some}
+use Rattle.bq_job.proofs.OneClientLemmas.{connected_in, ended_in, finds, one_for, passes_serves, unclosed_append, waits_in}
 use Rattle.bq_job.proofs.{ChoiceLemmas.first_of_none, DispatchLemmas.turn_of, KeptLemmas.is_open_wait}
 use Rattle.bq_job.proofs.{LawfulLemmas.{end_of, step_is_lawful}, ReplyLemmas.{replies_acted, replies_effect}}
 use Rattle.bq_job.proofs.ReplyLemmas.{stays_acted, told, told_elsewhere}
@@ -28,7 +30,8 @@ record Parts (client : ℕ) (first last : Machine) (seat : ℕ) (what : Step) (g
   goes : Passes client ((acted memory before seat what).machine).seats last.seats late
   given_is : given ≡ early ++ (addressed seat (acted memory before seat what).answer ++ late)
 
-parts_of : (client : ℕ) (first last : Machine) (at seat : ℕ) (what : Step) (outcome : Outcome) (given : List GivenAnswer) → IsStep first at seat what outcome given last → Parts client first last seat what given
+parts_of : (client : ℕ) (first last : Machine) (at seat : ℕ) (what : Step) (outcome : Outcome) (given : List GivenAnswer)
+    → IsStep first at seat what outcome given last → Parts client first last seat what given
 parts_of client first last at seat what outcome given s = record {
   memory = s.memory;
   before = s.before;
@@ -36,79 +39,104 @@ parts_of client first last at seat what outcome given s = record {
   late = s.handed_then ++ s.ended_then;
   comes = passes_serves client (forgetting (after_timers (at_moment at first))) s.handed s.ended s.before s.serves;
   possible = s.possible;
-  goes = subst (λ (n : Machine). Passes client n.seats last.seats (s.handed_then ++ s.ended_then)) s.acts (passes_serves client s.after s.handed_then s.ended_then last s.serves_then);
+  goes = subst (λ (n : Machine). Passes client n.seats last.seats (s.handed_then ++ s.ended_then)) s.acts
+      (passes_serves client s.after s.handed_then s.ended_then last s.serves_then);
   given_is = grind (arith, common_steps, append_assoc);
 }
 
 -- A command gives the client no answer, and the client waits and is connected as before.
-gets_quiet : (client : ℕ) (first last : Machine) (seat : ℕ) (what : Step) (given : List GivenAnswer) → Parts client first last seat what given → step_takes_memory what ≡ false → ((m : Machine) → (effect m seat what).answer ≡ None) → ((m : Machine) → waits_in client ((effect m seat what).machine).seats ≡ waits_in client m.seats) → ((m : Machine) → connected_in client ((effect m seat what).machine).seats ≡ connected_in client m.seats) → GetsWhatWaits first last client (answers_to client given)
+gets_quiet : (client : ℕ) (first last : Machine) (seat : ℕ) (what : Step) (given : List GivenAnswer)
+    → Parts client first last seat what given → step_takes_memory what ≡ false → ((m : Machine) → (effect m seat what).answer ≡ None)
+    → ((m : Machine) → waits_in client ((effect m seat what).machine).seats ≡ waits_in client m.seats)
+    → ((m : Machine) → connected_in client ((effect m seat what).machine).seats ≡ connected_in client m.seats)
+    → GetsWhatWaits first last client (answers_to client given)
 gets_quiet client first last seat what given p takes untold waits connects =
     grind (arith, common_steps, answers_append, unclosed_append)
 
 end_untold : (m : Machine) (o : Option SeatRecord) → (at_found end_effect m o).answer ≡ None
 end_untold m o = grind (arith, common_steps, cases_Bool, cond_both)
 
-end_waits : (client : ℕ) (m : Machine) (o : Option SeatRecord) → waits_in client ((at_found end_effect m o).machine).seats ≡ waits_in client m.seats
+end_waits : (client : ℕ) (m : Machine) (o : Option SeatRecord)
+    → waits_in client ((at_found end_effect m o).machine).seats ≡ waits_in client m.seats
 end_waits client m None = refl
 end_waits client m (Some s) =
-    cond_both s.connected (silent (with_seat s.number with_end m)) (silent m) (λ e. waits_in client (e.machine).seats ≡ waits_in client m.seats)
+    cond_both s.connected (silent (with_seat s.number with_end m)) (silent m)
+    (λ e. waits_in client (e.machine).seats ≡ waits_in client m.seats)
     (λ e. changed_quiet client s.number with_end is_waiting m.seats (λ t. refl) (λ t. refl)) (λ e. refl)
 
-end_connects : (client : ℕ) (m : Machine) (o : Option SeatRecord) → connected_in client ((at_found end_effect m o).machine).seats ≡ connected_in client m.seats
+end_connects : (client : ℕ) (m : Machine) (o : Option SeatRecord)
+    → connected_in client ((at_found end_effect m o).machine).seats ≡ connected_in client m.seats
 end_connects client m None = refl
 end_connects client m (Some s) =
-    cond_both s.connected (silent (with_seat s.number with_end m)) (silent m) (λ e. connected_in client (e.machine).seats ≡ connected_in client m.seats)
+    cond_both s.connected (silent (with_seat s.number with_end m)) (silent m)
+    (λ e. connected_in client (e.machine).seats ≡ connected_in client m.seats)
     (λ e. changed_quiet client s.number with_end (λ t. t.connected) m.seats (λ t. refl) (λ t. refl)) (λ e. refl)
 
 no_length : (xs : List Answer) → length xs ≡ 0 → xs ≡ []
 no_length xs h = grind (arith, common_steps, cases_Bool)
 
 -- the answers to the client that takes the step
-answers_of_parts : (seat : ℕ) (o : Option Answer) (early late given : List GivenAnswer) → given ≡ early ++ (addressed seat o ++ late) → answers_to seat given ≡ answers_to seat early ++ (told o ++ answers_to seat late)
+answers_of_parts : (seat : ℕ) (o : Option Answer) (early late given : List GivenAnswer) → given ≡ early ++ (addressed seat o ++ late)
+    → answers_to seat given ≡ answers_to seat early ++ (told o ++ answers_to seat late)
 answers_of_parts seat o early late given e = grind (arith, common_steps, answers_append)
 
 -- If no client is connected at the seat, none waits there.
-unconnected_waits_not : (seat : ℕ) (seats : List SeatRecord) → All (λ s. is_open_wait s ≡ true) seats → connected_in seat seats ≡ false → waits_in seat seats ≡ false
+unconnected_waits_not : (seat : ℕ) (seats : List SeatRecord) → All (λ s. is_open_wait s ≡ true) seats → connected_in seat seats ≡ false
+    → waits_in seat seats ≡ false
 unconnected_waits_not seat seats waits c =
     list_any_not (λ s. s.number == seat && is_waiting s) seats
-    (all_weaker (λ s. (is_open_wait s ≡ true) × ((s.number == seat && s.connected) ≡ false)) (λ s. (s.number == seat && is_waiting s) ≡ false) seats
+    (all_weaker (λ s. (is_open_wait s ≡ true) × ((s.number == seat && s.connected) ≡ false))
+    (λ s. (s.number == seat && is_waiting s) ≡ false) seats
     (λ s h. grind (arith, common_steps, cases_Bool))
-    (all_both (λ s. is_open_wait s ≡ true) (λ s. (s.number == seat && s.connected) ≡ false) seats waits (none_pass (λ s. s.number == seat && s.connected) seats c)))
+    (all_both (λ s. is_open_wait s ≡ true) (λ s. (s.number == seat && s.connected) ≡ false) seats waits
+    (none_pass (λ s. s.number == seat && s.connected) seats c)))
 
 -- the seat that the step is at, before the command's own effect
-found_before : (first last : Machine) (seat : ℕ) (what : Step) (given : List GivenAnswer) → IsLawful first → seat < first.settings.seats → (p : Parts seat first last seat what given) → Found seat (p.before).seats
+found_before : (first last : Machine) (seat : ℕ) (what : Step) (given : List GivenAnswer) → IsLawful first → seat < first.settings.seats
+    → (p : Parts seat first last seat what given) → Found seat (p.before).seats
 found_before first last seat what given h there p = finds first.settings.seats seat (p.before).seats (p.comes.numbers ∙ h.seats) there
 
 abbrev seated : SeatRecord → SeatRecord
 seated s = record (empty_seat s.number) { connected = true }
 
-gives_connect : (first last : Machine) (seat : ℕ) (given : List GivenAnswer) → IsLawful first → seat < first.settings.seats → Parts seat first last seat steps.Connect given → connected_in seat first.seats ≡ false → (answers_to seat given ≡ []) × (owing seat last ≡ 0) × (is_connected_at seat last ≡ true)
+gives_connect : (first last : Machine) (seat : ℕ) (given : List GivenAnswer) → IsLawful first → seat < first.settings.seats
+    → Parts seat first last seat steps.Connect given → connected_in seat first.seats ≡ false
+    → (answers_to seat given ≡ []) × (owing seat last ≡ 0) × (is_connected_at seat last ≡ true)
 gives_connect first last seat given h there p c =
     let m = p.before in
     let f = found_before first last seat steps.Connect given h there p in
     let s = f.client in
-    let waits_first : waits_in seat first.seats ≡ false = unconnected_waits_not seat first.seats (all_pass is_open_wait first.seats h.waits) c in
+    let waits_first : waits_in seat first.seats ≡ false =
+    unconnected_waits_not seat first.seats (all_pass is_open_wait first.seats h.waits) c in
     let begin : ((length (answers_to seat p.early)) ≡ 0) × ((waits_in seat m.seats) ≡ false) = grind (arith, common_steps, cases_Bool) in
     let gone : s.connected ≡ false = sym f.connected ∙ p.comes.connected ∙ c in
     let effect_is : effect m seat steps.Connect ≡ silent (after_connect m s.number) = grind (arith, common_steps) in
     let e : acted p.memory m seat steps.Connect ≡ silent (after_connect m s.number) =
     (grind (arith, common_steps, both_ways, and_parts)) ∙ effect_is in
-    let goes : Passes seat (changed s.number seated m.seats) last.seats p.late = subst (λ (x : Effect). Passes seat (x.machine).seats last.seats p.late) e p.goes in
+    let goes : Passes seat (changed s.number seated m.seats) last.seats p.late =
+    subst (λ (x : Effect). Passes seat (x.machine).seats last.seats p.late) e p.goes in
     let waits_after : waits_in seat (changed s.number seated m.seats) ≡ false =
-    subst (λ n. waits_in n (changed s.number seated m.seats) ≡ false) f.number (changed_none s.number seated is_waiting m.seats (λ t. refl)) in
+    subst (λ n. waits_in n (changed s.number seated m.seats) ≡ false) f.number
+    (changed_none s.number seated is_waiting m.seats (λ t. refl)) in
     let connected_after : connected_in seat (changed s.number seated m.seats) ≡ true =
-    subst (λ n. connected_in n (changed s.number seated m.seats) ≡ true) f.number (changed_some seated (λ t. t.connected) m.seats s f.there (λ t. refl) (λ t. refl)) in
+    subst (λ n. connected_in n (changed s.number seated m.seats) ≡ true) f.number
+    (changed_some seated (λ t. t.connected) m.seats s f.there (λ t. refl) (λ t. refl)) in
     grind (arith, common_steps, no_length, answers_of_parts)
 
-gives_answer : (first last : Machine) (seat : ℕ) (request : Request) (given : List GivenAnswer) → IsLawful first → seat < first.settings.seats → Parts seat first last seat (steps.Ask request) given → connected_in seat first.seats ≡ true → owing seat first ≡ 0 → GetsAnswer first last seat request (answers_to seat given)
+gives_answer : (first last : Machine) (seat : ℕ) (request : Request) (given : List GivenAnswer) → IsLawful first
+    → seat < first.settings.seats → Parts seat first last seat (steps.Ask request) given → connected_in seat first.seats ≡ true
+    → owing seat first ≡ 0 → GetsAnswer first last seat request (answers_to seat given)
 gives_answer first last seat request given h there p c none =
     let m = p.before in
     let f = found_before first last seat (steps.Ask request) given h there p in
     let begin : ((length (answers_to seat p.early)) ≡ 0) × ((waits_in seat m.seats) ≡ false) = grind (arith, common_steps, cases_Bool) in
-    let reply = replies_acted p.memory m seat request begin.1 p.possible (replies_effect m seat request f (p.comes.connected ∙ c) begin.1) in
+    let reply = replies_acted p.memory m seat request begin.1 p.possible
+    (replies_effect m seat request f (p.comes.connected ∙ c) begin.1) in
     grind (arith, common_steps, answers_of_parts, no_length, unclosed_append)
 
-gives_closed : (first last : Machine) (seat : ℕ) (given : List GivenAnswer) → IsLawful first → seat < first.settings.seats → Parts seat first last seat steps.Close given → connected_in seat first.seats ≡ true → GetsClosed first last seat (answers_to seat given)
+gives_closed : (first last : Machine) (seat : ℕ) (given : List GivenAnswer) → IsLawful first → seat < first.settings.seats
+    → Parts seat first last seat steps.Close given → connected_in seat first.seats ≡ true
+    → GetsClosed first last seat (answers_to seat given)
 gives_closed first last seat given h there p c =
     let m = p.before in
     let f = found_before first last seat steps.Close given h there p in
@@ -118,23 +146,29 @@ gives_closed first last seat given h there p c =
     let e : acted p.memory m seat steps.Close ≡ telling answers.Closed (after_close m s.number) =
     (grind (arith, common_steps, both_ways, and_parts)) ∙ effect_is in
     let emptied : SeatRecord → SeatRecord = λ s. empty_seat s.number in
-    let goes : Passes seat (changed s.number emptied m.seats) last.seats p.late = subst (λ (x : Effect). Passes seat (x.machine).seats last.seats p.late) e p.goes in
+    let goes : Passes seat (changed s.number emptied m.seats) last.seats p.late =
+    subst (λ (x : Effect). Passes seat (x.machine).seats last.seats p.late) e p.goes in
     let waits_after : waits_in seat (changed s.number emptied m.seats) ≡ false =
-    subst (λ n. waits_in n (changed s.number emptied m.seats) ≡ false) f.number (changed_none s.number emptied is_waiting m.seats (λ t. refl)) in
+    subst (λ n. waits_in n (changed s.number emptied m.seats) ≡ false) f.number
+    (changed_none s.number emptied is_waiting m.seats (λ t. refl)) in
     let connected_after : connected_in seat (changed s.number emptied m.seats) ≡ false =
-    subst (λ n. connected_in n (changed s.number emptied m.seats) ≡ false) f.number (changed_none s.number emptied (λ t. t.connected) m.seats (λ t. refl)) in
+    subst (λ n. connected_in n (changed s.number emptied m.seats) ≡ false) f.number
+    (changed_none s.number emptied (λ t. t.connected) m.seats (λ t. refl)) in
     grind (arith, common_steps, answers_of_parts, no_length)
 
 -- A tick at any seat gives to any client what it waits for.
-pub tick_gives_client : (first last : Machine) (at seat client : ℕ) (outcome : Outcome) (given : List GivenAnswer) → IsStep first at seat steps.Tick outcome given last → GetsWhatWaits first last client (answers_to client given)
+pub tick_gives_client : (first last : Machine) (at seat client : ℕ) (outcome : Outcome) (given : List GivenAnswer)
+    → IsStep first at seat steps.Tick outcome given last → GetsWhatWaits first last client (answers_to client given)
 tick_gives_client first last at seat client outcome given s =
-    gets_quiet client first last seat steps.Tick given (parts_of client first last at seat steps.Tick outcome given s) refl (λ m. refl) (λ m. refl) (λ m. refl)
+    gets_quiet client first last seat steps.Tick given (parts_of client first last at seat steps.Tick outcome given s) refl (λ m. refl)
+    (λ m. refl) (λ m. refl)
 
 over_by_end : (waits soon past ended : Bool) → ended ≡ true → (waits && (soon || (past || ended))) ≡ false → waits ≡ false
 over_by_end waits soon past ended e h = grind (arith, common_steps, cases_Bool)
 
 -- A client that sends no more does not wait: no wait would end after the step.
-gives_end : (first last : Machine) (seat : ℕ) (given : List GivenAnswer) → IsLawful first → IsLawful last → seat < first.settings.seats → Parts seat first last seat steps.End given → connected_in seat first.seats ≡ true → owing seat last ≡ 0
+gives_end : (first last : Machine) (seat : ℕ) (given : List GivenAnswer) → IsLawful first → IsLawful last → seat < first.settings.seats
+    → Parts seat first last seat steps.End given → connected_in seat first.seats ≡ true → owing seat last ≡ 0
 gives_end first last seat given h i there p c =
     let m = p.before in
     let f = found_before first last seat steps.End given h there p in
@@ -142,43 +176,58 @@ gives_end first last seat given h i there p c =
     let here : s.connected ≡ true = sym f.connected ∙ p.comes.connected ∙ c in
     let effect_is : effect m seat steps.End ≡ silent (with_seat s.number with_end m) = grind (arith, common_steps) in
     let e : acted p.memory m seat steps.End ≡ silent (with_seat s.number with_end m) = grind (arith, common_steps, both_ways, and_parts) in
-    let goes : Passes seat (changed s.number with_end m.seats) last.seats p.late = subst (λ (x : Effect). Passes seat (x.machine).seats last.seats p.late) e p.goes in
+    let goes : Passes seat (changed s.number with_end m.seats) last.seats p.late =
+    subst (λ (x : Effect). Passes seat (x.machine).seats last.seats p.late) e p.goes in
     let ended_after : ended_in seat (changed s.number with_end m.seats) ≡ true =
-    subst (λ n. ended_in n (changed s.number with_end m.seats) ≡ true) f.number (changed_some with_end (λ t. t.ended) m.seats s f.there (λ t. refl) (λ t. refl)) in
-    let same_numbers : map (λ t. t.number) (changed s.number with_end m.seats) ≡ map (λ t. t.number) m.seats = grind (arith, common_steps, keys_of_map, all_always, cond_both) in
+    subst (λ n. ended_in n (changed s.number with_end m.seats) ≡ true) f.number
+    (changed_some with_end (λ t. t.ended) m.seats s f.there (λ t. refl) (λ t. refl)) in
+    let same_numbers : map (λ t. t.number) (changed s.number with_end m.seats) ≡ map (λ t. t.number) m.seats =
+    grind (arith, common_steps, keys_of_map, all_always, cond_both) in
     let g = finds first.settings.seats seat last.seats (goes.numbers ∙ same_numbers ∙ p.comes.numbers ∙ h.seats) there in
     let r = g.client in
     let is_over : r.ended ≡ true = sym g.ended ∙ goes.ended ∙ ended_after in
     let ends_not : ends_waiting last r ≡ false =
-    all_at (λ t. ends_waiting last t ≡ false) last.seats r (none_pass (ends_waiting last) last.seats (first_of_none (ends_waiting last) is_wait_before last.seats i.wait_ends)) g.there in
+    all_at (λ t. ends_waiting last t ≡ false) last.seats r
+    (none_pass (ends_waiting last) last.seats (first_of_none (ends_waiting last) is_wait_before last.seats i.wait_ends)) g.there in
     ap one_for (g.waits ∙ over_by_end (is_waiting r) (is_deadline_soon last r) (is_until_over last.moment r.wait) r.ended is_over ends_not)
 
 -- What a step gives to the client at its seat.
-pub step_gives_client : (first last : Machine) (at seat : ℕ) (what : Step) (outcome : Outcome) (given : List GivenAnswer) → IsLawful first → seat < first.settings.seats → IsStep first at seat what outcome given last → GivesClient seat first what given last
-step_gives_client first last at seat steps.Connect outcome given h there s = λ c. gives_connect first last seat given h there (parts_of seat first last at seat steps.Connect outcome given s) c
+pub step_gives_client : (first last : Machine) (at seat : ℕ) (what : Step) (outcome : Outcome) (given : List GivenAnswer) → IsLawful first
+    → seat < first.settings.seats → IsStep first at seat what outcome given last → GivesClient seat first what given last
+step_gives_client first last at seat steps.Connect outcome given h there s =
+    λ c. gives_connect first last seat given h there (parts_of seat first last at seat steps.Connect outcome given s) c
 step_gives_client first last at seat (steps.Ask request) outcome given h there s =
-    λ c none. gives_answer first last seat request given h there (parts_of seat first last at seat (steps.Ask request) outcome given s) c none
-step_gives_client first last at seat steps.Close outcome given h there s = λ c. gives_closed first last seat given h there (parts_of seat first last at seat steps.Close outcome given s) c
+    λ c none. gives_answer first last seat request given h there
+    (parts_of seat first last at seat (steps.Ask request) outcome given s) c none
+step_gives_client first last at seat steps.Close outcome given h there s =
+    λ c. gives_closed first last seat given h there (parts_of seat first last at seat steps.Close outcome given s) c
 step_gives_client first last at seat steps.End outcome given h there s =
     let p = parts_of seat first last at seat steps.End outcome given s in (
       gets_quiet seat first last seat steps.End given p refl
-          (λ m. end_untold m (seat_with seat m.seats)) (λ m. end_waits seat m (seat_with seat m.seats)) (λ m. end_connects seat m (seat_with seat m.seats)),
+          (λ m. end_untold m (seat_with seat m.seats)) (λ m. end_waits seat m (seat_with seat m.seats))
+          (λ m. end_connects seat m (seat_with seat m.seats)),
       λ c. gives_end first last seat given h (step_is_lawful first last at seat steps.End outcome given h s) there p c,
     )
 step_gives_client first last at seat steps.Drain outcome given h there s =
-    gets_quiet seat first last seat steps.Drain given (parts_of seat first last at seat steps.Drain outcome given s) refl (λ m. refl) (λ m. refl) (λ m. refl)
+    gets_quiet seat first last seat steps.Drain given (parts_of seat first last at seat steps.Drain outcome given s) refl (λ m. refl)
+    (λ m. refl) (λ m. refl)
 step_gives_client first last at seat steps.Tick outcome given h there s = tick_gives_client first last at seat seat outcome given s
 step_gives_client first last at seat steps.Gone outcome given h there s =
-    gets_quiet seat first last seat steps.Gone given (parts_of seat first last at seat steps.Gone outcome given s) refl (λ m. refl) (λ m. refl) (λ m. refl)
+    gets_quiet seat first last seat steps.Gone given (parts_of seat first last at seat steps.Gone outcome given s) refl (λ m. refl)
+    (λ m. refl) (λ m. refl)
 
 -- A connected client makes a request, whether it waits or not.
-pub asks_at_most : (first last : Machine) (at seat : ℕ) (request : Request) (outcome : Outcome) (given : List GivenAnswer) → IsLawful first → seat < first.settings.seats → is_connected_at seat first ≡ true → IsStep first at seat (steps.Ask request) outcome given last → GetsAtMost first last seat request (answers_to seat given)
+pub asks_at_most : (first last : Machine) (at seat : ℕ) (request : Request) (outcome : Outcome) (given : List GivenAnswer) → IsLawful first
+    → seat < first.settings.seats → is_connected_at seat first ≡ true → IsStep first at seat (steps.Ask request) outcome given last
+    → GetsAtMost first last seat request (answers_to seat given)
 asks_at_most first last at seat request outcome given h there c step =
-    let p : Parts seat first last seat (steps.Ask request) given = parts_of seat first last at seat (steps.Ask request) outcome given step in
+    let p : Parts seat first last seat (steps.Ask request) given =
+    parts_of seat first last at seat (steps.Ask request) outcome given step in
     let m = p.before in
     let f = found_before first last seat (steps.Ask request) given h there p in
     let o = (acted p.memory m seat (steps.Ask request)).answer in
-    let all : answers_to seat given ≡ answers_to seat p.early ++ (told o ++ answers_to seat p.late) = answers_of_parts seat o p.early p.late given p.given_is in
+    let all : answers_to seat given ≡ answers_to seat p.early ++ (told o ++ answers_to seat p.late) =
+    answers_of_parts seat o p.early p.late given p.given_is in
     elim (cases_Bool (waits_in seat m.seats)) [
       | inl w ↦ grind (arith, common_steps, length-append, unclosed_append)
       | inr w ↦
@@ -188,17 +237,22 @@ asks_at_most first last at seat request outcome given h there c step =
     ]
 
 -- A step of another seat gives the client what it waits for, and nothing else.
-pub others_give : (first last : Machine) (at seat client : ℕ) (what : Step) (outcome : Outcome) (given : List GivenAnswer) → (seat == client) ≡ false → IsStep first at seat what outcome given last → GetsWhatWaits first last client (answers_to client given)
+pub others_give : (first last : Machine) (at seat client : ℕ) (what : Step) (outcome : Outcome) (given : List GivenAnswer)
+    → (seat == client) ≡ false → IsStep first at seat what outcome given last → GetsWhatWaits first last client (answers_to client given)
 others_give first last at seat client what outcome given other step =
     let p : Parts client first last seat what given = parts_of client first last at seat what outcome given step in
     grind (arith, common_steps, stays_acted, answers_append, told_elsewhere, unclosed_append)
 
 -- turns keep the settings
-chain_settings : (Turns : Machine → GivenAnswer → Machine → Type 0) (first : Machine) (given : List GivenAnswer) (last : Machine) → ((m : Machine) (g : GivenAnswer) (n : Machine) → Turns m g n → n.settings ≡ m.settings) → Chain Turns first given last → last.settings ≡ first.settings
+chain_settings : (Turns : Machine → GivenAnswer → Machine → Type 0) (first : Machine) (given : List GivenAnswer) (last : Machine)
+    → ((m : Machine) (g : GivenAnswer) (n : Machine) → Turns m g n → n.settings ≡ m.settings) → Chain Turns first given last
+    → last.settings ≡ first.settings
 chain_settings Turns first [] last each chain = ap (λ (n : Machine). n.settings) chain
 chain_settings Turns first (g ∷ given) last each chain = chain_settings Turns chain.0 given last each chain.2 ∙ each first g chain.0 chain.1
 
-pub step_settings : (first last : Machine) (at seat : ℕ) (what : Step) (outcome : Outcome) (given : List GivenAnswer) → IsStep first at seat what outcome given last → last.settings ≡ first.settings
+pub step_settings : (first last : Machine) (at seat : ℕ) (what : Step) (outcome : Outcome) (given : List GivenAnswer)
+    → IsStep first at seat what outcome given last → last.settings ≡ first.settings
 step_settings first last at seat what outcome given s =
-    (grind (arith, common_steps, chain_settings, end_of, turn_of)) ∙ ap (λ (n : Machine). n.settings) s.acts ∙ (stays_acted 0 s.memory s.before seat what).settings
+    (grind (arith, common_steps, chain_settings, end_of, turn_of)) ∙ ap (λ (n : Machine). n.settings) s.acts
+    ∙ (stays_acted 0 s.memory s.before seat what).settings
     ∙ (grind (arith, common_steps, chain_settings, end_of, turn_of))

@@ -8,15 +8,19 @@ use Rattle.bq_job.specs.machine.{Chain, DispatchTurn, Dispatches, EndsWaits, IsS
 use Rattle.bq_job.specs.machine.{after_hand_out, after_timers, at_moment, effect, ends_waiting, forgetting}
 use Rattle.bq_job.specs.machine.{has_refused_share, is_deadline_soon, is_job_before, is_timed_out, is_wait_before, is_waiting}
 use Rattle.bq_job.specs.machine.{is_waiting_for, may_have, next_end, next_job, next_seat, with_seat, without_wait}
-use Rattle.bq_job.specs.beside.Computed.{Served, ample, after_dispatch, after_serving, after_wait_ends, dispatched, ended_at, handed_out, handed_to, stepped, wait_ended, waiting_count}
+use Rattle.bq_job.specs.beside.Computed.{Served, ample, after_dispatch, after_serving, after_wait_ends, dispatched}
+use Rattle.bq_job.specs.beside.Computed.{ended_at, handed_out, handed_to, stepped, wait_ended, waiting_count}
 use Rattle.bq_job.proofs.ChoiceLemmas.{first_of_contains, first_of_none_passes, first_of_passes, first_of_some}
 use Rattle.bq_job.proofs.ListLemmas.{all_always, all_weaker, count_falls, count_none, list_any_not, list_any_with}
 
 -- One client fewer waits once this client's wait has ended.
-pub waiting_falls : (m : Machine) (s : SeatRecord) → Contains m.seats s → is_waiting s ≡ true → waiting_count (with_seat s.number without_wait m) < waiting_count m
+pub waiting_falls : (m : Machine) (s : SeatRecord) → Contains m.seats s → is_waiting s ≡ true
+    → waiting_count (with_seat s.number without_wait m) < waiting_count m
 waiting_falls m s i w = grind (arith, common_steps, count_falls, all_always, list_any_with)
 
-handed_out_turns : (rest : Machine → Served) (m : Machine) (o : Option Job) → ((n : Machine) → Chain DispatchTurn n (rest n).given (rest n).machine) → next_job m ≡ o → Chain DispatchTurn m (handed_out rest m o).given (handed_out rest m o).machine
+handed_out_turns : (rest : Machine → Served) (m : Machine) (o : Option Job)
+    → ((n : Machine) → Chain DispatchTurn n (rest n).given (rest n).machine) → next_job m ≡ o
+    → Chain DispatchTurn m (handed_out rest m o).given (handed_out rest m o).machine
 handed_out_turns rest m o goes e = grind (arith, common_steps, cases_Bool)
 
 -- Every computed turn of dispatch is a turn.
@@ -24,7 +28,8 @@ pub dispatched_turns : (turns : ℕ) (m : Machine) → Chain DispatchTurn m (dis
 dispatched_turns zero m = refl
 dispatched_turns (suc turns) m = handed_out_turns (λ next. dispatched turns next) m (next_job m) (λ n. dispatched_turns turns n) refl
 
-handed_out_shared : (rest : Machine → Served) (m : Machine) (o : Option Job) → ((n : Machine) → has_refused_share (rest n).given ≡ false) → has_refused_share (handed_out rest m o).given ≡ false
+handed_out_shared : (rest : Machine → Served) (m : Machine) (o : Option Job) → ((n : Machine) → has_refused_share (rest n).given ≡ false)
+    → has_refused_share (handed_out rest m o).given ≡ false
 handed_out_shared rest m o goes = grind (arith, common_steps, cases_Bool)
 
 pub dispatched_shared : (turns : ℕ) (m : Machine) → has_refused_share (dispatched turns m).given ≡ false
@@ -41,18 +46,23 @@ next_has_seat m j e =
     (first_of_passes (λ j. list_any (is_waiting_for m j) m.seats) is_job_before m.jobs j e)
 
 -- The next client is at a seat, waits and may have the job.
-pub next_seat_waits : (m : Machine) (j : Job) (s : SeatRecord) → next_seat m j ≡ Some s → Contains m.seats s × (is_waiting s ≡ true) × (may_have m s j ≡ true)
+pub next_seat_waits : (m : Machine) (j : Job) (s : SeatRecord) → next_seat m j ≡ Some s
+    → Contains m.seats s × (is_waiting s ≡ true) × (may_have m s j ≡ true)
 next_seat_waits m j s f =
     let parts = and_parts (is_waiting s) (may_have m s j) (first_of_passes (is_waiting_for m j) is_wait_before m.seats s f) in
     (first_of_contains (is_waiting_for m j) is_wait_before m.seats s f, parts.0, parts.1)
 
-handed_to_all : (rest : Machine → Served) (turns : ℕ) (m : Machine) (j : Job) (o : Option SeatRecord) → ((n : Machine) → waiting_count n ≤ turns → next_job (rest n).machine ≡ None) → waiting_count m ≤ suc turns → next_job m ≡ Some j → next_seat m j ≡ o → next_job (handed_to rest m j o).machine ≡ None
+handed_to_all : (rest : Machine → Served) (turns : ℕ) (m : Machine) (j : Job) (o : Option SeatRecord)
+    → ((n : Machine) → waiting_count n ≤ turns → next_job (rest n).machine ≡ None) → waiting_count m ≤ suc turns → next_job m ≡ Some j
+    → next_seat m j ≡ o → next_job (handed_to rest m j o).machine ≡ None
 handed_to_all rest turns m j None goes w e f = let h = next_has_seat m j e in absurd (let g = h.1 in cc)
 handed_to_all rest turns m j (Some s) goes w e f =
     let h = next_seat_waits m j s f in
     goes (after_hand_out m j s) (omega (arith, waiting_falls m s h.0 h.1))
 
-handed_out_all : (rest : Machine → Served) (turns : ℕ) (m : Machine) (o : Option Job) → ((n : Machine) → waiting_count n ≤ turns → next_job (rest n).machine ≡ None) → waiting_count m ≤ suc turns → next_job m ≡ o → next_job (handed_out rest m o).machine ≡ None
+handed_out_all : (rest : Machine → Served) (turns : ℕ) (m : Machine) (o : Option Job)
+    → ((n : Machine) → waiting_count n ≤ turns → next_job (rest n).machine ≡ None) → waiting_count m ≤ suc turns → next_job m ≡ o
+    → next_job (handed_out rest m o).machine ≡ None
 handed_out_all rest turns m None goes w e = e
 handed_out_all rest turns m (Some j) goes w e = handed_to_all rest turns m j (next_seat m j) goes w e refl
 
@@ -61,7 +71,9 @@ pub dispatched_all : (turns : ℕ) (m : Machine) → waiting_count m ≤ turns �
 dispatched_all zero m w = none_waits m w
 dispatched_all (suc turns) m w = handed_out_all (λ next. dispatched turns next) turns m (next_job m) (λ n. dispatched_all turns n) w refl
 
-ended_at_turns : (rest : Machine → Served) (m : Machine) (o : Option SeatRecord) → ((n : Machine) → Chain WaitEndTurn n (rest n).given (rest n).machine) → next_end m ≡ o → Chain WaitEndTurn m (ended_at rest m o).given (ended_at rest m o).machine
+ended_at_turns : (rest : Machine → Served) (m : Machine) (o : Option SeatRecord)
+    → ((n : Machine) → Chain WaitEndTurn n (rest n).given (rest n).machine) → next_end m ≡ o
+    → Chain WaitEndTurn m (ended_at rest m o).given (ended_at rest m o).machine
 ended_at_turns rest m None goes e = refl
 ended_at_turns rest m (Some s) goes e = (with_seat s.number without_wait m, (rw e (refl, refl)), goes (with_seat s.number without_wait m))
 
@@ -80,7 +92,9 @@ next_end_waits m s e = (
   (and_parts (is_waiting s) (is_deadline_soon m s || is_timed_out m s) (first_of_passes (ends_waiting m) is_wait_before m.seats s e)).0,
 )
 
-ended_at_all : (rest : Machine → Served) (turns : ℕ) (m : Machine) (o : Option SeatRecord) → ((n : Machine) → waiting_count n ≤ turns → next_end (rest n).machine ≡ None) → waiting_count m ≤ suc turns → next_end m ≡ o → next_end (ended_at rest m o).machine ≡ None
+ended_at_all : (rest : Machine → Served) (turns : ℕ) (m : Machine) (o : Option SeatRecord)
+    → ((n : Machine) → waiting_count n ≤ turns → next_end (rest n).machine ≡ None) → waiting_count m ≤ suc turns → next_end m ≡ o
+    → next_end (ended_at rest m o).machine ≡ None
 ended_at_all rest turns m None goes w e = e
 ended_at_all rest turns m (Some s) goes w e =
     let h = next_end_waits m s e in
@@ -97,11 +111,13 @@ computed_dispatches m = grind (arith, common_steps, dispatched_turns, dispatched
 pub computed_ends_waits : (m : Machine) → EndsWaits m (after_wait_ends m).given (after_wait_ends m).machine
 computed_ends_waits m = grind (arith, common_steps, wait_ended_turns, wait_ended_all)
 
-pub computed_serves : (m : Machine) → Serves m (after_dispatch m).given (after_wait_ends (after_dispatch m).machine).given (after_serving m).machine
+pub computed_serves : (m : Machine) → Serves m (after_dispatch m).given (after_wait_ends (after_dispatch m).machine).given
+    (after_serving m).machine
 computed_serves m = grind (arith, common_steps, computed_dispatches m, computed_ends_waits (after_dispatch m).machine)
 
 -- What is computed is a step.
-pub stepped_is_step : (m : Machine) (at seat : ℕ) (what : Step) → IsStep m at seat what ample (stepped m at seat what).given (stepped m at seat what).machine
+pub stepped_is_step : (m : Machine) (at seat : ℕ) (what : Step)
+    → IsStep m at seat what ample (stepped m at seat what).given (stepped m at seat what).machine
 stepped_is_step m at seat what =
     let begin : Machine = forgetting (after_timers (at_moment at m)) in
     let before : Machine = (after_serving begin).machine in

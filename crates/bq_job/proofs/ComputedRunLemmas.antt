@@ -7,7 +7,8 @@ use Rattle.bq_job.proofs.ComputedLemmas.{computed_dispatches, computed_ends_wait
 use Rattle.std.proofs.lemmas.Grind.{common_steps}
 use Rattle.std.proofs.Common.{arith}
 
-serves_so : (m : Machine) → Serves m (after_dispatch m).given (after_wait_ends (after_dispatch m).machine).given (after_wait_ends (after_dispatch m).machine).machine
+serves_so : (m : Machine) → Serves m (after_dispatch m).given (after_wait_ends (after_dispatch m).machine).given
+    (after_wait_ends (after_dispatch m).machine).machine
 serves_so m = grind (arith, common_steps, computed_dispatches m, computed_ends_waits (after_dispatch m).machine)
 
 transition_is_one : (m : Machine) (e : Entry) → IsTransition (transition m e)

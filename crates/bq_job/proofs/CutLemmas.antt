@@ -31,16 +31,19 @@ closes_unclosed (x ∷ xs) h = closes_unclosed xs h
 pub parts_close : (mosts : List ℕ) (given : List Answer) → AreParts mosts given → closes given ≡ length mosts
 parts_close [] given h = ap closes h
 parts_close (most ∷ mosts) given h =
-    ap closes h.4 ∙ (let a = closes_append h.0 (answers.Closed ∷ h.1) in let b = unclosed_closes h.0 h.2 in let c = parts_close mosts h.1 h.5 in omega arith)
+    ap closes h.4 ∙ (let a = closes_append h.0 (answers.Closed ∷ h.1) in let b = unclosed_closes h.0 h.2 in
+    let c = parts_close mosts h.1 h.5 in omega arith)
 
-pub lines_close : (size : ℕ) (lines : List LineOver) (own : List Step) (taken : List Answer) (h : AreLinesServed size lines own taken) → length (most_of_lines size lines own taken h) ≤ closes taken
+pub lines_close : (size : ℕ) (lines : List LineOver) (own : List Step) (taken : List Answer) (h : AreLinesServed size lines own taken)
+    → length (most_of_lines size lines own taken h) ≤ closes taken
 lines_close size [] own taken h = omega arith
 lines_close size (line ∷ lines) own taken h =
     grind (arith, common_steps, closes_append, lines_close size lines h.1 h.3 h.7)
 
 -- A list is cut at its first `Closed` in only one way. Splitting by kind of answer would need a
 -- case for each pair of kinds.
-pub same_cut : (xs ys later rest : List Answer) → has_closed xs ≡ false → has_closed ys ≡ false → xs ++ answers.Closed ∷ later ≡ ys ++ answers.Closed ∷ rest → (xs ≡ ys) × (later ≡ rest)
+pub same_cut : (xs ys later rest : List Answer) → has_closed xs ≡ false → has_closed ys ≡ false
+    → xs ++ answers.Closed ∷ later ≡ ys ++ answers.Closed ∷ rest → (xs ≡ ys) × (later ≡ rest)
 same_cut [] [] later rest h i e = (refl, (heads answers.Closed answers.Closed later rest e).1)
 same_cut [] (y ∷ ys) later rest h i e = absurd (grind (arith, common_steps))
 same_cut (x ∷ xs) [] later rest h i e = grind (arith, common_steps, heads)

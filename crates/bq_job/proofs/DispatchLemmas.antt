@@ -32,10 +32,12 @@ next_is_least m j s e f =
     }
 
 -- The RESERVED that a turn of dispatch gives is for the least job that the client may have.
-pub reserved_is_least : (m next : Machine) (seat id : ℕ) (body : List ℕ) → DispatchTurn m (seat, answers.Reserved id body) next → GetsLeast m seat id body
+pub reserved_is_least : (m next : Machine) (seat id : ℕ) (body : List ℕ) → DispatchTurn m (seat, answers.Reserved id body) next
+    → GetsLeast m seat id body
 reserved_is_least m next seat id body turn = of_hand_out (turn_of m (seat, answers.Reserved id body) next turn)
   where
-    of_given : (j : Job) (s : SeatRecord) → next_job m ≡ Some j → next_seat m j ≡ Some s → IsHandOut m j s (seat, answers.Reserved id body) next → GetsLeast m seat id body
+    of_given : (j : Job) (s : SeatRecord) → next_job m ≡ Some j → next_seat m j ≡ Some s
+        → IsHandOut m j s (seat, answers.Reserved id body) next → GetsLeast m seat id body
     of_given j s e f (inl h) =
         let at : seat ≡ s.number = ap (λ (g : GivenAnswer). g.0) h.0 in
         let same : answers.Reserved id body ≡ answers.Reserved j.id j.body = ap (λ (g : GivenAnswer). g.1) h.0 in

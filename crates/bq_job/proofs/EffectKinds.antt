@@ -50,16 +50,22 @@ pub data Kind (m : Machine) (s : SeatRecord) (request : Request) : Effect → Ty
   -- gives no answer and changes nothing
   passes : answers_wanted request ≡ 0 → Kind m s request (silent m)
   -- answers and changes nothing
-  tells : (answer : Answer) → answers_wanted request ≡ 1 → is_common (Some answer) ≡ true → is_closed_answer answer ≡ false → Kind m s request (telling answer m)
+  tells : (answer : Answer) → answers_wanted request ≡ 1 → is_common (Some answer) ≡ true → is_closed_answer answer ≡ false
+      → Kind m s request (telling answer m)
   -- lets the client wait for a job
   waits : (until : Option ℕ) → answers_wanted request ≡ 1 → is_waiting_request request ≡ true → Kind m s request (reserve_effect until m s)
   -- puts a job within the limit while the machine isn't draining
-  adds : (pri delay ttr : ℕ) (body : List ℕ) → answers_wanted request ≡ 1 → m.draining ≡ false → is_full m.settings.max_jobs m.jobs ≡ false → Kind m s request (telling (answers.Inserted m.next_id) (after_put m (new_job m s pri delay ttr body)))
+  adds : (pri delay ttr : ℕ) (body : List ℕ) → answers_wanted request ≡ 1 → m.draining ≡ false → is_full m.settings.max_jobs m.jobs ≡ false
+      → Kind m s request (telling (answers.Inserted m.next_id) (after_put m (new_job m s pri delay ttr body)))
   -- removes the job that the request names, which no client holds or the client that asks does
-  deletes : (id : ℕ) (j : Job) → request ≡ requests.Delete id → job_with id m.jobs ≡ Some j → is_free_for s j ≡ true → Kind m s request (telling answers.Deleted (after_delete m j))
+  deletes : (id : ℕ) (j : Job) → request ≡ requests.Delete id → job_with id m.jobs ≡ Some j → is_free_for s j ≡ true
+      → Kind m s request (telling answers.Deleted (after_delete m j))
   -- changes one job by its id, or several, and keeps their ids, tubes and bodies
-  changes_jobs : (answer : Answer) (f : Job → Job) (burials : ℕ) → SaysDone request answer → ChangesJobs m s request f burials → Kind m s request (telling answer (record m { jobs = map f m.jobs; burials = burials }))
+  changes_jobs : (answer : Answer) (f : Job → Job) (burials : ℕ) → SaysDone request answer → ChangesJobs m s request f burials
+      → Kind m s request (telling answer (record m { jobs = map f m.jobs; burials = burials }))
   -- changes the seat of the client that asks
-  changes_seat : (answer : Answer) (f : SeatRecord → SeatRecord) → SaysDone request answer → ChangesSeat s f → Kind m s request (telling answer (with_seat s.number f m))
+  changes_seat : (answer : Answer) (f : SeatRecord → SeatRecord) → SaysDone request answer → ChangesSeat s f
+      → Kind m s request (telling answer (with_seat s.number f m))
   -- pauses a tube
-  changes_tube : (tube : List ℕ) (seconds : ℕ) → answers_wanted request ≡ 1 → Kind m s request (telling answers.Paused (with_tube tube (with_pause seconds m.moment) m))
+  changes_tube : (tube : List ℕ) (seconds : ℕ) → answers_wanted request ≡ 1
+      → Kind m s request (telling answers.Paused (with_tube tube (with_pause seconds m.moment) m))

@@ -1,6 +1,7 @@
 -- What the seats did fits what the core did: the answers that a run gives a seat, line by line, are
 -- those that the seat took.
-use Rattle.std.proofs.Common.{◌≡◌, ℕ, ◌+◌, ◌≤◌, ◌<◌, Bool, true, false, ◌&&◌, not, List, [], ◌∷◌, ◌++◌, map, length, refl, sym, ap, ◌∙◌, arith, subst, inl, inr, ◌⊎◌, append_assoc, rules}
+use Rattle.std.proofs.Common.{◌≡◌, ℕ, ◌+◌, ◌≤◌, ◌<◌, Bool, true, false, ◌&&◌, not, List, [], ◌∷◌, ◌++◌}
+use Rattle.std.proofs.Common.{map, length, refl, sym, ap, ◌∙◌, arith, subst, inl, inr, ◌⊎◌, append_assoc, rules}
 use Rattle.std.proofs.lemmas.{Bool.{and_parts, both_ways, cases_Bool}, Grind.common_steps, List.length-append}
 use Rattle.std.specs.Prelude.{◌==◌}
 use Rattle.bq_job.specs.promise.{Entry, LineHeard, LineOver, MayTellEnd, Run, answered_count, answers_to, answers_wanted}
@@ -25,13 +26,15 @@ pub record Serves (t : ℕ) (m : Machine) : Type 0 where
   pub lawful : IsLawful m
   pub within : t < m.settings.seats
 
-serves_on : (t : ℕ) (m next : Machine) (at seat : ℕ) (what : Step) (outcome : Outcome) (given : List GivenAnswer) → Serves t m → IsStep m at seat what outcome given next → Serves t next
+serves_on : (t : ℕ) (m next : Machine) (at seat : ℕ) (what : Step) (outcome : Outcome) (given : List GivenAnswer) → Serves t m
+    → IsStep m at seat what outcome given next → Serves t next
 serves_on t m next at seat what outcome given s step = record {
   lawful = step_is_lawful m next at seat what outcome given s.lawful step;
   within = subst (λ (settings : Settings). t < settings.seats) (sym (step_settings m next at seat what outcome given step)) s.within;
 }
 
-elsewhere : (t : ℕ) (m next : Machine) (at seat : ℕ) (what : Step) (outcome : Outcome) (given : List GivenAnswer) → Serves t m → (not (is_tick what) && seat == t) ≡ false → IsStep m at seat what outcome given next → GetsWhatWaits m next t (answers_to t given)
+elsewhere : (t : ℕ) (m next : Machine) (at seat : ℕ) (what : Step) (outcome : Outcome) (given : List GivenAnswer) → Serves t m
+    → (not (is_tick what) && seat == t) ≡ false → IsStep m at seat what outcome given next → GetsWhatWaits m next t (answers_to t given)
 elsewhere t m next at seat steps.Tick outcome given s h step = tick_gives_client m next at seat t outcome given step
 elsewhere t m next at seat what outcome given s h step = search (rules, cases_Bool, others_give)
 
@@ -124,7 +127,8 @@ own_entry {t = t} {m = m} {e = e} o what is step = subst (λ (x : Step). IsStep 
 
 -- A connected line goes on to its end.
 pub line_ends : (t : ℕ) (m last : Machine) (history : List Entry) (given : List GivenAnswer) (ss more : List Step)
-    → Serves t m → is_connected_at t m ≡ true → are_within ss ≡ true → Run m history given last → steps_at t history ≡ ss ++ steps.Close ∷ more
+    → Serves t m → is_connected_at t m ≡ true → are_within ss ≡ true → Run m history given last
+    → steps_at t history ≡ ss ++ steps.Close ∷ more
     → LineEnds t (owing t m + wanted ss) more (answers_to t given) last
 line_ends t m last [] given [] more s c w r is = absurd cc
 line_ends t m last [] given (x ∷ ss) more s c w r is = absurd cc
@@ -153,7 +157,8 @@ line_ends t m last (e ∷ history) given ss more s c w r is =
         let is = heads e.what (steps.Ask request) (steps_at t history) (ss ++ steps.Close ∷ more) both in
         let g : GetsAtMost m o.next t request (answers_to t o.now) =
         asks_at_most m o.next e.moment t request o.outcome o.now s.lawful s.within c (own_entry o (steps.Ask request) is.0 step) in
-        let few : (length (answers_to t o.now)) + ((owing t o.next) + (wanted ss)) ≤ (owing t m) + ((answers_wanted request) + (wanted ss)) = omega arith in
+        let few : (length (answers_to t o.now)) + ((owing t o.next) + (wanted ss)) ≤ (owing t m) +
+        ((answers_wanted request) + (wanted ss)) = omega arith in
         let r' = behind ss g.connected w is.1 in
         ends_after (owing t m + wanted (steps.Ask request ∷ ss)) (answers_to t o.now) (answers_to t given) g.unclosed few o.all r'
     own o behind (steps.End ∷ ss) w both step =
@@ -247,9 +252,11 @@ nothing_behind t m last (e ∷ history) given s none r gone =
 abbrev pub AreParts : List ℕ → List Answer → Type 0
 AreParts [] given = given ≡ []
 AreParts (most ∷ mosts) given =
-    (part later : List Answer) × (has_closed part ≡ false) × (length part ≤ most) × (given ≡ part ++ answers.Closed ∷ later) × AreParts mosts later
+    (part later : List Answer) × (has_closed part ≡ false) × (length part ≤ most) × (given ≡ part ++ answers.Closed ∷ later)
+    × AreParts mosts later
 
-abbrev pub most_of_lines : (size : ℕ) (lines : List LineOver) (own : List Step) (taken : List Answer) → AreLinesServed size lines own taken → List ℕ
+abbrev pub most_of_lines : (size : ℕ) (lines : List LineOver) (own : List Step) (taken : List Answer)
+    → AreLinesServed size lines own taken → List ℕ
 most_of_lines size [] own taken h = []
 most_of_lines size (line ∷ lines) own taken h = answered_count h.4.line_owed.steps.asked ∷ most_of_lines size lines h.1 h.3 h.7
 
@@ -266,12 +273,15 @@ within_asked (r ∷ asked) told h = within_asked asked told h
 told_wants : (seen : LineHeard) (asked : List Request) (told : List Step) → MayTellEnd seen asked told → wanted told ≡ 0
 told_wants seen asked told h = grind (arith, common_steps, cases_Bool)
 
-line_wants : (seen : LineHeard) (asked : List Request) (told : List Step) → MayTellEnd seen asked told → wanted (map steps.Ask asked ++ told) ≡ answered_count asked
+line_wants : (seen : LineHeard) (asked : List Request) (told : List Step) → MayTellEnd seen asked told
+    → wanted (map steps.Ask asked ++ told) ≡ answered_count asked
 line_wants seen asked told e = omega (arith, wanted_append (map steps.Ask asked) told, told_wants seen asked told e)
 
-pub gives_parts : (t : ℕ) (size : ℕ) (lines : List LineOver) (own : List Step) (taken : List Answer) (h : AreLinesServed size lines own taken)
+pub gives_parts : (t : ℕ) (size : ℕ) (lines : List LineOver) (own : List Step) (taken : List Answer)
+    (h : AreLinesServed size lines own taken)
     → (m last : Machine) (history : List Entry) (given : List GivenAnswer) → Serves t m → is_connected_at t m ≡ false → owing t m ≡ 0
-    → (tail : List Step) → are_gone tail ≡ true → Run m history given last → steps_at t history ≡ own ++ tail → AreParts (most_of_lines size lines own taken h) (answers_to t given)
+    → (tail : List Step) → are_gone tail ≡ true → Run m history given last → steps_at t history ≡ own ++ tail
+    → AreParts (most_of_lines size lines own taken h) (answers_to t given)
 gives_parts t size [] own taken h m last history given s free none tail gone r is =
     nothing_behind t m last history given s none r (ap are_gone (is ∙ ap (λ (xs : List Step). xs ++ tail) h.0) ∙ gone)
 gives_parts t size (line ∷ lines) own taken h m last history given s free none tail gone r is =
@@ -280,7 +290,8 @@ gives_parts t size (line ∷ lines) own taken h m last history given s free none
     let more = h.1 ++ tail in
     let whole : own ++ tail ≡ steps.Connect ∷ (ss ++ steps.Close ∷ more) = grind (arith, common_steps) in
     let c = connects t m last history given (ss ++ steps.Close ∷ more) s free none r (is ∙ whole) in
-    let e = line_ends t c.first last c.history c.rest ss more c.serves c.connected (grind (arith, common_steps, cases_Bool, within_asked)) c.runs c.steps_are in
+    let e = line_ends t c.first last c.history c.rest ss more c.serves c.connected
+    (grind (arith, common_steps, cases_Bool, within_asked)) c.runs c.steps_are in
     let g = e.goes in
     let later = gives_parts t size lines h.1 h.3 h.7 g.first last g.history g.given g.serves g.free g.owes tail gone g.runs g.steps_are in (
       e.part,

@@ -6,7 +6,8 @@ use Rattle.bq_job.specs.machine.{Machine.Machine, Settings, new_machine}
 use Rattle.bq_job.proofs.AnswerPlaces.{none_after_drain, none_after_last_id, run_deletes, run_gives_least}
 use Rattle.bq_job.proofs.{KeptJobLemmas.{accepted_is_kept, held_by_one_always}, RunLawLemmas.{at_most_once, in_order}}
 
-jobs_served : (settings : Settings) (taken : List Transition) (last : Machine) → GoesBy (new_machine settings) taken last → AreJobsServed taken (happenings (parts_of_run taken))
+jobs_served : (settings : Settings) (taken : List Transition) (last : Machine) → GoesBy (new_machine settings) taken last
+    → AreJobsServed taken (happenings (parts_of_run taken))
 jobs_served settings taken last goes = let first : Machine = new_machine settings in
     record {
       least = λ t i. run_gives_least first taken last t goes i;
@@ -15,13 +16,16 @@ jobs_served settings taken last goes = let first : Machine = new_machine setting
       kept = λ early late p j is there gone. accepted_is_kept settings taken last early late p j goes is there gone;
       held = λ p i. held_by_one_always settings taken last p goes i;
       deleted = λ t seat i d. run_deletes first taken last t seat goes i d;
-      drained = λ early more t is drains. none_after_drain first early t more last (subst (λ (ts : List Transition). GoesBy first ts last) is goes) drains;
+      drained = λ early more t is drains. none_after_drain first early t more last
+          (subst (λ (ts : List Transition). GoesBy first ts last) is goes) drains;
       last_id_given = λ early more seat is. none_after_last_id first taken last early seat more goes is;
     }
 
-pub headline_holds : (settings : Settings) (doors : List (List LineOver)) (control : List ℕ) (failed : Bool) (readings : List (Option ℕ)) (last : Machine)
+pub headline_holds : (settings : Settings) (doors : List (List LineOver)) (control : List ℕ) (failed : Bool)
+    (readings : List (Option ℕ)) (last : Machine)
     → IsHistoryOf settings doors control failed readings last → HeadlineHolds settings doors control failed readings last
 headline_holds settings doors control failed readings last h = search (rules, jobs_served)
 
-pub line_headline_holds : (settings : Settings) (seat : ℕ) (line : LineOver) (readings : List (Option ℕ)) → IsHistoryOfLine settings seat line readings → LineHeadlineHolds settings seat line readings
+pub line_headline_holds : (settings : Settings) (seat : ℕ) (line : LineOver) (readings : List (Option ℕ))
+    → IsHistoryOfLine settings seat line readings → LineHeadlineHolds settings seat line readings
 line_headline_holds settings seat line readings h = grind (arith, common_steps, jobs_served)

@@ -1,5 +1,6 @@
 -- A computed run as part of a history, and the lines of a door with their steps.
-use Rattle.std.proofs.Common.{◌≡◌, ℕ, suc, Bool, true, false, List, [], ◌∷◌, ◌++◌, map, length, Option, ◌⊎◌, refl, ap, inl, arith, rules, subst}
+use Rattle.std.proofs.Common.{◌≡◌, ℕ, suc, Bool, true, false, List, [], ◌∷◌, ◌++◌}
+use Rattle.std.proofs.Common.{map, length, Option, ◌⊎◌, refl, ap, inl, arith, rules, subst}
 use Rattle.std.proofs.lemmas.{Bool.cases_Bool, Grind.common_steps}
 use Rattle.std.specs.List.{list_any}
 use Rattle.bq_job.specs.promise.{AreAllAnswered, AreDoorsOwed, AreLinesOwed, ArePickedFrom, AreSeatsUpTo, Entry, IsControlDone}
@@ -48,7 +49,8 @@ pub line_so : (line : LineOver) (read asked : List Request) (given : List Answer
     → IsLineOwed usual line (steps.Connect ∷ [] ++ map steps.Ask asked ++ [] ++ steps.Close ∷ []) given
 line_so line read asked given is_read over answered written =
     let reads = subst (λ (r : List Request × List ℕ). Reads usual line.seen.read r.0 r.1) is_read (reading-Reads usual line.seen.read) in
-    let s : IsStepsOfLine usual (heard line.seen) line.over (steps.Connect ∷ [] ++ map steps.Ask asked ++ [] ++ steps.Close ∷ []) = grind (arith, common_steps) in
+    let s : IsStepsOfLine usual (heard line.seen) line.over (steps.Connect ∷ [] ++ map steps.Ask asked ++ [] ++ steps.Close ∷ []) =
+    grind (arith, common_steps) in
     record { steps = s; answered = answered; written = written }
 
 -- one more line, in front of others

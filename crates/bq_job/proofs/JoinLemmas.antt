@@ -1,5 +1,6 @@
 -- What the seats did fits what the core did.
-use Rattle.std.proofs.Common.{Option, ◌≡◌, ℕ, suc, ◌+◌, ◌≤◌, ◌<◌, Bool, true, false, ◌&&◌, List, [], ◌∷◌, ◌++◌, map, length, refl, sym, ap, ◌∙◌, arith, subst, inl, inr, append-nil, append_assoc}
+use Rattle.std.proofs.Common.{Option, ◌≡◌, ℕ, suc, ◌+◌, ◌≤◌, ◌<◌, Bool, true, false, ◌&&◌, List, [], ◌∷◌}
+use Rattle.std.proofs.Common.{◌++◌, map, length, refl, sym, ap, ◌∙◌, arith, subst, inl, inr, append-nil, append_assoc}
 use Rattle.std.proofs.lemmas.{Bool.and_right, Grind.common_steps, List.length-append}
 use Rattle.std.specs.{List.list_any, Prelude.{◌==◌, IsTrue}}
 use Rattle.bq_job.specs.machine.{GivenAnswer, Machine.Machine, SeatRecord, Settings, empty_seat, has_closed, is_connected_at, is_waiting}
@@ -25,27 +26,35 @@ pub record IsDone (over : LineEnd) (asked : List Request) (given : List Answer) 
   pub written_is : IsWritten over asked given written
 
 -- the answer to the last reserve came too late to be written
-late_one : (asked : List Request) (own others : List Answer) (written : List ℕ) → IsTrue (ends_by_wait asked) → length own + 1 ≡ answered_count asked → length (own ++ others) ≤ answered_count asked → written ≡ answers_text own → IsDone ends.ReadFault asked (own ++ others) written
+late_one : (asked : List Request) (own others : List Answer) (written : List ℕ) → IsTrue (ends_by_wait asked)
+    → length own + 1 ≡ answered_count asked → length (own ++ others) ≤ answered_count asked → written ≡ answers_text own
+    → IsDone ends.ReadFault asked (own ++ others) written
 late_one asked own [] written waits h i w =
-    subst (λ (xs : List Answer). IsDone ends.ReadFault asked xs written) (sym (append-nil own)) (record { answered = inr (waits, h); written_is = inl w })
+    subst (λ (xs : List Answer). IsDone ends.ReadFault asked xs written) (sym (append-nil own))
+    (record { answered = inr (waits, h); written_is = inl w })
 late_one asked own (a ∷ []) written waits h i w = grind (arith, common_steps, length-append)
 late_one asked own (a ∷ b ∷ others) written waits h i w = absurd (omega (arith, length-append own (a ∷ b ∷ others)))
 
-is_done : (over : LineEnd) (asked : List Request) (own others : List Answer) (written : List ℕ) → AreAllAnswered over asked own → length (own ++ others) ≤ answered_count asked → IsWritten over asked own written → IsNoneUnwritten over own written → IsDone over asked (own ++ others) written
+is_done : (over : LineEnd) (asked : List Request) (own others : List Answer) (written : List ℕ) → AreAllAnswered over asked own
+    → length (own ++ others) ≤ answered_count asked → IsWritten over asked own written → IsNoneUnwritten over own written
+    → IsDone over asked (own ++ others) written
 is_done v1 asked own others written a i w none =
     grind (arith, common_steps, cases_Bool, nothing_after, late_one)
 
 -- A line that was given at most as many answers as it wanted is owed exactly those that it took and
 -- wrote.
-line_owed : (size : ℕ) (line : LineOver) (own : List Step) (got part : List Answer) (l : IsLineServed size line own got) → part ≡ l.own ++ l.others → length part ≤ answered_count l.line_owed.steps.asked → IsLineOwed size line own part
+line_owed : (size : ℕ) (line : LineOver) (own : List Step) (got part : List Answer) (l : IsLineServed size line own got)
+    → part ≡ l.own ++ l.others → length part ≤ answered_count l.line_owed.steps.asked → IsLineOwed size line own part
 line_owed size line own got part l is few =
-    let done = is_done line.over l.line_owed.steps.asked l.own l.others line.seen.written l.line_owed.answered (let e = ap length is in omega arith) l.line_owed.written l.none_unwritten in
+    let done = is_done line.over l.line_owed.steps.asked l.own l.others line.seen.written l.line_owed.answered
+    (let e = ap length is in omega arith) l.line_owed.written l.none_unwritten in
     let done' = subst (λ (xs : List Answer). IsDone line.over l.line_owed.steps.asked xs line.seen.written) (sym is) done in
     record { steps = l.line_owed.steps; answered = done'.answered; written = done'.written_is }
 
 -- Lines that took a first part of what they were given took all of it, and each is owed exactly
 -- that.
-pub lines_owed : (size : ℕ) (lines : List LineOver) (own : List Step) (taken waiting given : List Answer) (h : AreLinesServed size lines own taken)
+pub lines_owed : (size : ℕ) (lines : List LineOver) (own : List Step) (taken waiting given : List Answer)
+    (h : AreLinesServed size lines own taken)
     → AreParts (most_of_lines size lines own taken h) given → given ≡ taken ++ waiting → AreLinesOwed size lines own given × (waiting ≡ [])
 lines_owed size [] own taken waiting given h parts is = grind (arith, common_steps)
 lines_owed size (line ∷ lines) own taken waiting given h parts is =
@@ -53,7 +62,8 @@ lines_owed size (line ∷ lines) own taken waiting given h parts is =
     let count = parts_close (most_of_lines size (line ∷ lines) own taken h) given parts in
     let took : closes given ≡ closes taken + closes waiting = ap closes is ∙ closes_append taken waiting in
     let a : closes taken ≡ closes h.2 + closes h.3 = ap closes h.6 ∙ closes_append h.2 h.3 in
-    let b : closes h.2 ≡ closes l.own + closes (l.others ++ answers.Closed ∷ []) = ap closes l.taken_is ∙ closes_append l.own (l.others ++ answers.Closed ∷ []) in
+    let b : closes h.2 ≡ closes l.own + closes (l.others ++ answers.Closed ∷ []) =
+    ap closes l.taken_is ∙ closes_append l.own (l.others ++ answers.Closed ∷ []) in
     let c = closes_append l.others (answers.Closed ∷ []) in
     let d = lines_close size lines h.1 h.3 h.7 in
     let none : closes l.own ≡ 0 = omega arith in
@@ -64,10 +74,12 @@ lines_owed size (line ∷ lines) own taken waiting given h parts is =
     ((h.0, h.1, parts.0, parts.1, line_owed size line h.0 h.2 parts.0 l cut.0 parts.3, parts.2, h.5, parts.4, rest.0), rest.1)
   where
     shift : (xs ys zs : List Answer) → (xs ++ (ys ++ answers.Closed ∷ [])) ++ zs ≡ (xs ++ ys) ++ answers.Closed ∷ zs
-    shift xs ys zs = ap (λ (us : List Answer). us ++ zs) (sym (append_assoc xs ys (answers.Closed ∷ []))) ∙ append_assoc (xs ++ ys) (answers.Closed ∷ []) zs
+    shift xs ys zs = ap (λ (us : List Answer). us ++ zs) (sym (append_assoc xs ys (answers.Closed ∷ [])))
+        ∙ append_assoc (xs ++ ys) (answers.Closed ∷ []) zs
 
 -- In a new machine no seat is taken, and no client waits.
-none_such : (t : ℕ) (q : SeatRecord → Bool) (xs : List ℕ) → ((n : ℕ) → q (empty_seat n) ≡ false) → list_any (λ (s : SeatRecord). s.number == t && q s) (map empty_seat xs) ≡ false
+none_such : (t : ℕ) (q : SeatRecord → Bool) (xs : List ℕ) → ((n : ℕ) → q (empty_seat n) ≡ false)
+    → list_any (λ (s : SeatRecord). s.number == t && q s) (map empty_seat xs) ≡ false
 none_such t q [] h = refl
 none_such t q (n ∷ xs) h = rw (and_right (n == t) (q (empty_seat n)) (h n)) (none_such t q xs h)
 
@@ -78,53 +90,65 @@ starts_quiet : (t : ℕ) (settings : Settings) → owing t (new_machine settings
 starts_quiet t settings = let h = none_such t is_waiting (numbers 0 settings.seats) (λ n. refl) in rw h refl
 
 -- What the run gave the seat is what its lines are owed, and no answer is left.
-seat_owed : (settings : Settings) (size : ℕ) (t : ℕ) (lines : List LineOver) (own tail : List Step) (taken waiting : List Answer) (history : List Entry) (all : List GivenAnswer) (last : Machine)
-    → t < settings.seats → are_gone tail ≡ true → Run (new_machine settings) history all last → steps_at t history ≡ own ++ tail → answers_to t all ≡ taken ++ waiting → AreLinesServed size lines own taken
+seat_owed : (settings : Settings) (size : ℕ) (t : ℕ) (lines : List LineOver) (own tail : List Step) (taken waiting : List Answer)
+    (history : List Entry) (all : List GivenAnswer) (last : Machine)
+    → t < settings.seats → are_gone tail ≡ true → Run (new_machine settings) history all last → steps_at t history ≡ own ++ tail
+    → answers_to t all ≡ taken ++ waiting → AreLinesServed size lines own taken
     → AreLinesOwed size lines own (answers_to t all)
 seat_owed settings size t lines own tail taken waiting history all last within gone runs steps_are answers_are served =
     let serves : Serves t (new_machine settings) = record { lawful = new_is_lawful settings; within = within } in
-    let parts = gives_parts t size lines own taken served (new_machine settings) last history all serves (starts_free t settings) (starts_quiet t settings) tail gone runs steps_are in
+    let parts = gives_parts t size lines own taken served (new_machine settings) last history all serves (starts_free t settings)
+    (starts_quiet t settings) tail gone runs steps_are in
     (lines_owed size lines own taken waiting (answers_to t all) served parts answers_are).0
 
-pub doors_owed : (settings : Settings) (size : ℕ) (seat : ℕ) (doors : List (List LineOver)) (submitted : ℕ → List Step) (taken waiting : ℕ → List Answer) (history : List Entry) (all : List GivenAnswer) (last : Machine)
-    → seat + length doors ≤ settings.seats → Run (new_machine settings) history all last → AreTied size seat doors submitted taken waiting history all → AreDoorsOwed size seat doors history all
+pub doors_owed : (settings : Settings) (size : ℕ) (seat : ℕ) (doors : List (List LineOver)) (submitted : ℕ → List Step)
+    (taken waiting : ℕ → List Answer) (history : List Entry) (all : List GivenAnswer) (last : Machine)
+    → seat + length doors ≤ settings.seats → Run (new_machine settings) history all last
+    → AreTied size seat doors submitted taken waiting history all → AreDoorsOwed size seat doors history all
 doors_owed settings size seat [] submitted taken waiting history all last few runs tied = tt
 doors_owed settings size seat (lines ∷ doors) submitted taken waiting history all last few runs tied =
     let done = tied.2 in
     let steps_are = tied.0 ∙ done.submitted_is in (
       record {
         own = done.own;
-        of_lines = seat_owed settings size seat lines done.own (steps.Gone ∷ []) (taken seat) (waiting seat) history all last (omega arith) refl runs steps_are tied.1 done.of_lines;
+        of_lines = seat_owed settings size seat lines done.own (steps.Gone ∷ []) (taken seat) (waiting seat) history all last
+            (omega arith) refl runs steps_are tied.1 done.of_lines;
         taken_is = steps_are;
       },
       doors_owed settings size (suc seat) doors submitted taken waiting history all last (omega arith) runs tied.3,
     )
 
-pub joined : (settings : Settings) (doors : List (List LineOver)) (control : List ℕ) (failed : Bool) (readings : List (Option ℕ)) (history : List Entry) (given : List GivenAnswer) (last : Machine)
+pub joined : (settings : Settings) (doors : List (List LineOver)) (control : List ℕ) (failed : Bool) (readings : List (Option ℕ))
+    (history : List Entry) (given : List GivenAnswer) (last : Machine)
     → IsJoined settings doors control failed readings history given last → IsHistoryOf settings doors control failed readings last
 joined settings doors control failed readings history given last j = record {
   history = history;
   given = given;
   run = j.run;
   many = j.many;
-  of_doors = doors_owed settings settings.max_job_size 0 doors j.submitted j.taken j.waiting history given last (let a = j.many in omega arith) j.run.runs j.tied;
+  of_doors = doors_owed settings settings.max_job_size 0 doors j.submitted j.taken j.waiting history given last
+      (let a = j.many in omega arith) j.run.runs j.tied;
   of_control = j.control_tied ∙ j.control_done;
   of_nobody_else = j.of_nobody_else;
 }
 
-pub line_joined : (settings : Settings) (seat : ℕ) (line : LineOver) (readings : List (Option ℕ)) (history : List Entry) (given : List GivenAnswer) (last : Machine)
+pub line_joined : (settings : Settings) (seat : ℕ) (line : LineOver) (readings : List (Option ℕ)) (history : List Entry)
+    (given : List GivenAnswer) (last : Machine)
     → IsLineJoined settings seat line readings history given last → IsHistoryOfLine settings seat line readings
 line_joined settings seat line readings history given last j = record {
   history = history;
   given = given;
   last = last;
   run = j.run;
-  of_line = seat_owed settings settings.max_job_size seat (line ∷ []) (steps_at seat history) [] j.taken j.waiting history given last j.within refl j.run.runs (sym (append-nil (steps_at seat history))) j.answers_are j.served;
+  of_line = seat_owed settings settings.max_job_size seat (line ∷ [])
+      (steps_at seat history) [] j.taken j.waiting history given last j.within refl j.run.runs
+      (sym (append-nil (steps_at seat history))) j.answers_are j.served;
   of_nobody_else = j.of_nobody_else;
 }
 
 -- one more line has ended
-pub lines_more : (size : ℕ) (lines : List LineOver) (line : LineOver) (submitted more : List Step) (taken got : List Answer) → AreLinesServed size lines submitted taken → IsLineServed size line more got
+pub lines_more : (size : ℕ) (lines : List LineOver) (line : LineOver) (submitted more : List Step) (taken got : List Answer)
+    → AreLinesServed size lines submitted taken → IsLineServed size line more got
     → AreLinesServed size (lines ++ line ∷ []) (submitted ++ more) (taken ++ got)
 lines_more size [] line submitted more taken got h l = grind (arith, common_steps, append-nil)
 lines_more size (first ∷ lines) line submitted more taken got h l = (

@@ -19,27 +19,32 @@ pub record IsThere (j : Job) (m : Machine) : Type 0 where
   pub tube : job.tube ≡ j.tube
   pub body : job.body ≡ j.body
 
-there_after : (j : Job) (m n : Machine) (happened : List Happening) → Move m happened n → list_any (is_deletion j.id) happened ≡ false → IsThere j m → IsThere j n
+there_after : (j : Job) (m n : Machine) (happened : List Happening) → Move m happened n → list_any (is_deletion j.id) happened ≡ false
+    → IsThere j m → IsThere j n
 there_after j m n happened (quiet q) none h = grind (arith, common_steps)
 there_after j m n happened (putting p) none h =
     let less = h.below in
     record { job = h.job; found = put_lookup j.id m n happened p less ∙ h.found; below = omega arith; tube = h.tube; body = h.body }
 there_after j m n happened (handing g) none h =
-    let seen = handed_lookup j.id m n happened g ∙ ap (option_map (λ i. cond (i.id == g.job.id) (reserved_by m.moment g.seat i) i)) h.found in
+    let seen = handed_lookup j.id m n happened g
+    ∙ ap (option_map (λ i. cond (i.id == g.job.id) (reserved_by m.moment g.seat i) i)) h.found in
     grind (arith, common_steps, cond_both)
 
 -- present now, or put by a move to come
-there_or_to_come : (j : Job) (m n : Machine) (happened more : List Happening) → Move m happened n → list_any (is_deletion j.id) happened ≡ false → IsThere j m ⊎ Contains (happened ++ more) (put j) → IsThere j n ⊎ Contains more (put j)
+there_or_to_come : (j : Job) (m n : Machine) (happened more : List Happening) → Move m happened n
+    → list_any (is_deletion j.id) happened ≡ false → IsThere j m ⊎ Contains (happened ++ more) (put j) → IsThere j n ⊎ Contains more (put j)
 there_or_to_come j m n happened more move none (inl h) = inl (there_after j m n happened move none h)
 there_or_to_come j m n happened more (quiet q) none (inr i) = inr (put_behind j m n happened more (inl q) i)
 there_or_to_come j m n happened more (handing h) none (inr i) = inr (put_behind j m n happened more (inr h) i)
 there_or_to_come j m n happened more (putting p) none (inr i) = grind (arith, common_steps, put_now_or_behind, job_at_end)
 
-there_at_end : (j : Job) (m n : Machine) (parts : List Part) → Moves m parts n → list_any (is_deletion j.id) (happenings parts) ≡ false → IsThere j m ⊎ Contains (happenings parts) (put j) → IsThere j n
+there_at_end : (j : Job) (m n : Machine) (parts : List Part) → Moves m parts n → list_any (is_deletion j.id) (happenings parts) ≡ false
+    → IsThere j m ⊎ Contains (happenings parts) (put j) → IsThere j n
 there_at_end j m n [] moves none (inl h) = subst (IsThere j) (sym moves) h
 there_at_end j m n [] moves none (inr i) = absurd (let less = i.1 in omega arith)
 there_at_end j m n (p ∷ parts) moves none h =
-    let each = or_parts (list_any (is_deletion j.id) p.happened) (list_any (is_deletion j.id) (happenings parts)) (sym (list_any-append (is_deletion j.id) p.happened (happenings parts)) ∙ none) in
+    let each = or_parts (list_any (is_deletion j.id) p.happened) (list_any (is_deletion j.id) (happenings parts))
+    (sym (list_any-append (is_deletion j.id) p.happened (happenings parts)) ∙ none) in
     there_at_end j p.machine n parts moves.1 each.1 (there_or_to_come j m p.machine p.happened (happenings parts) moves.0 each.0 h)
 
 -- the parts up to and including this one
@@ -51,13 +56,17 @@ up_to : (m n : Machine) (early late : List Part) (p : Part) → ArePartsGone m (
 up_to m n [] late p h = record { gone = (h.0, refl); keeps = h.0.keeps }
 up_to m n (q ∷ early) late p h = let rest = up_to q.machine n early late p h.1 in record { gone = (h.0, rest.gone); keeps = rest.keeps }
 
-pub accepted_is_kept : (settings : Settings) (taken : List Transition) (last : Machine) (early late : List Part) (p : Part) (j : Job) → GoesBy (new_machine settings) taken last
-    → parts_of_run taken ≡ early ++ p ∷ late → Contains (happenings (early ++ p ∷ [])) (put j) → list_any (is_deletion j.id) (happenings (early ++ p ∷ [])) ≡ false → IsKept j p.machine
+pub accepted_is_kept : (settings : Settings) (taken : List Transition) (last : Machine) (early late : List Part) (p : Part) (j : Job)
+    → GoesBy (new_machine settings) taken last
+    → parts_of_run taken ≡ early ++ p ∷ late → Contains (happenings (early ++ p ∷ [])) (put j)
+    → list_any (is_deletion j.id) (happenings (early ++ p ∷ [])) ≡ false → IsKept j p.machine
 accepted_is_kept settings taken last early late p j goes split accepted none =
     let m = new_machine settings in
-    let u = up_to m last early late p (subst (λ parts. ArePartsGone m parts last) split (run_gone m taken last (new_is_lawful settings) goes)) in
+    let u = up_to m last early late p (subst (λ parts. ArePartsGone m parts last) split
+    (run_gone m taken last (new_is_lawful settings) goes)) in
     let g = parts_go m (early ++ p ∷ []) p.machine u.gone in
-    let t = there_at_end j m p.machine g.parts g.moves (subst (λ hs. list_any (is_deletion j.id) hs ≡ false) (sym g.told) none) (inr (subst (λ hs. Contains hs (put j)) (sym g.told) accepted)) in
+    let t = there_at_end j m p.machine g.parts g.moves (subst (λ hs. list_any (is_deletion j.id) hs ≡ false) (sym g.told) none)
+    (inr (subst (λ hs. Contains hs (put j)) (sym g.told) accepted)) in
     let found = found_job j.id p.machine.jobs t.job t.found in
     record {
       job = t.job;
@@ -66,7 +75,8 @@ accepted_is_kept settings taken last early late p j goes split accepted none =
       tube_is = t.tube;
       body_is = t.body;
       alone = λ k i e.
-          let both : Some k ≡ Some t.job = sym (job_found 1 p.machine.next_id p.machine.jobs k u.keeps.ids i).0 ∙ ap (λ id. job_with id p.machine.jobs) e ∙ t.found in
+          let both : Some k ≡ Some t.job = sym (job_found 1 p.machine.next_id p.machine.jobs k u.keeps.ids i).0
+          ∙ ap (λ id. job_with id p.machine.jobs) e ∙ t.found in
           (cc);
     }
 
@@ -79,7 +89,9 @@ part_keeps : (m n : Machine) (parts : List Part) → ArePartsGone m parts n → 
 part_keeps m n [] h = tt
 part_keeps m n (p ∷ parts) h = (h.0.keeps, part_keeps p.machine n parts h.1)
 
-pub held_by_one_always : (settings : Settings) (taken : List Transition) (last : Machine) (p : Part) → GoesBy (new_machine settings) taken last → Contains (parts_of_run taken) p → IsHeldByOne p.machine
+pub held_by_one_always : (settings : Settings) (taken : List Transition) (last : Machine) (p : Part)
+    → GoesBy (new_machine settings) taken last → Contains (parts_of_run taken) p → IsHeldByOne p.machine
 held_by_one_always settings taken last p goes i =
     let m = new_machine settings in
-    held_by_one p.machine (all_at (λ q. Keeps q.machine) (parts_of_run taken) p (part_keeps m last (parts_of_run taken) (run_gone m taken last (new_is_lawful settings) goes)) i)
+    held_by_one p.machine (all_at (λ q. Keeps q.machine) (parts_of_run taken) p
+    (part_keeps m last (parts_of_run taken) (run_gone m taken last (new_is_lawful settings) goes)) i)

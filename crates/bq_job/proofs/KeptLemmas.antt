@@ -1,11 +1,14 @@
 -- What every part of a step keeps, and the changes of jobs and of seats that keep it.
-use Rattle.std.proofs.Common.{ℕ, zero, suc, ◌≡◌, ◌≤◌, ◌+◌, Bool, true, false, ◌&&◌, ◌||◌, not, cond, List, [], ◌∷◌, ◌++◌, map, arith, refl, sym, ◌∙◌, subst, inl, inr, Some, rules}
-use Rattle.std.proofs.lemmas.Bool.{cases_Bool, and_parts, and_from, or_parts, or_left, or_right, or_cases, both_ways, cond_both, eqb-true, eqb-false, leb-false}
+use Rattle.std.proofs.Common.{ℕ, zero, suc, ◌≡◌, ◌≤◌, ◌+◌, Bool, true, false, ◌&&◌, ◌||◌, not, cond, List}
+use Rattle.std.proofs.Common.{[], ◌∷◌, ◌++◌, map, arith, refl, sym, ◌∙◌, subst, inl, inr, Some, rules}
+use Rattle.std.proofs.lemmas.Bool.{cases_Bool, and_parts, and_from, or_parts, or_left, or_right}
+use Rattle.std.proofs.lemmas.Bool.{or_cases, both_ways, cond_both, eqb-true, eqb-false, leb-false}
 use Rattle.std.proofs.lemmas.Grind.{common_steps}
 use Rattle.std.specs.{List.{AllByRecursion as All, list_any}, Prelude.{◌==◌, filter, find, nat_le}}
 use Rattle.bq_job.specs.machine.{Machine.Machine, SeatRecord, empty_seat, given_back, is_held_by, is_reserved, is_waiting}
 use Rattle.bq_job.specs.{beside.{AreIdsWithin, IsLawful}, machine.{last_id, numbers}, Types.{Job, JobState}}
-use Rattle.bq_job.proofs.ListLemmas.{all_always, all_both, all_of_append, all_of_filter, all_of_map, all_pass, all_weaker, keys_of_map, list_any_of_map}
+use Rattle.bq_job.proofs.ListLemmas.{all_always, all_both, all_of_append, all_of_filter, all_of_map}
+use Rattle.bq_job.proofs.ListLemmas.{all_pass, all_weaker, keys_of_map, list_any_of_map}
 
 -- The job's holder is connected.
 abbrev pub has_holder : List SeatRecord → Job → Bool
@@ -31,7 +34,8 @@ pub kept_of_lawful : (m : Machine) → IsLawful m → Keeps m
 kept_of_lawful m h = search (rules, all_pass)
 
 -- increasing ids through changes of the list
-pub ids_of_map : (f : Job → Job) (low next : ℕ) (jobs : List Job) → ((j : Job) → (f j).id ≡ j.id) → AreIdsWithin low jobs next → AreIdsWithin low (map f jobs) next
+pub ids_of_map : (f : Job → Job) (low next : ℕ) (jobs : List Job) → ((j : Job) → (f j).id ≡ j.id) → AreIdsWithin low jobs next
+    → AreIdsWithin low (map f jobs) next
 ids_of_map f low next [] same h = h
 ids_of_map f low next (j ∷ jobs) same h = grind (arith, common_steps, ids_of_map f (suc j.id) next jobs same h.1)
 
@@ -42,19 +46,31 @@ ids_from_below low high next (j ∷ jobs) less h = (omega (arith, h.0), h.1)
 pub ids_of_filter : (p : Job → Bool) (low next : ℕ) (jobs : List Job) → AreIdsWithin low jobs next → AreIdsWithin low (filter p jobs) next
 ids_of_filter p low next [] h = h
 ids_of_filter p low next (j ∷ jobs) h =
-    grind (arith, common_steps, cases_Bool, ids_from_below, ids_of_filter p (suc j.id) next jobs h.1, ids_of_filter p low next jobs (ids_from_below low (suc j.id) next jobs (omega (arith, h.0)) h.1))
+    grind (
+      arith,
+      common_steps,
+      cases_Bool,
+      ids_from_below,
+      ids_of_filter p (suc j.id) next jobs h.1,
+      ids_of_filter p low next jobs (ids_from_below low (suc j.id) next jobs (omega (arith, h.0)) h.1),
+    )
 
-pub ids_of_push : (low next : ℕ) (jobs : List Job) (j : Job) → j.id ≡ next → AreIdsWithin low jobs next → AreIdsWithin low (jobs ++ j ∷ []) (next + 1)
+pub ids_of_push : (low next : ℕ) (jobs : List Job) (j : Job) → j.id ≡ next → AreIdsWithin low jobs next
+    → AreIdsWithin low (jobs ++ j ∷ []) (next + 1)
 ids_of_push low next [] j e h = (omega arith, omega arith)
 ids_of_push low next (k ∷ jobs) j e h = (h.0, ids_of_push (suc k.id) next jobs j e h.1)
 
 -- Jobs change, each keeps its id, and every holder is connected.
-pub kept_of_jobs : {places next : ℕ} {jobs : List Job} {seats : List SeatRecord} {draining : Bool} (f : Job → Job) → Kept places jobs seats next draining → ((j : Job) → (f j).id ≡ j.id) → ((j : Job) → has_holder seats j ≡ true → has_holder seats (f j) ≡ true) → Kept places (map f jobs) seats next draining
+pub kept_of_jobs : {places next : ℕ} {jobs : List Job} {seats : List SeatRecord} {draining : Bool} (f : Job → Job)
+    → Kept places jobs seats next draining → ((j : Job) → (f j).id ≡ j.id)
+    → ((j : Job) → has_holder seats j ≡ true → has_holder seats (f j) ≡ true) → Kept places (map f jobs) seats next draining
 kept_of_jobs {next = next} {jobs = jobs} {seats = seats} f h same held =
     grind (arith, common_steps, ids_of_map, all_of_map, all_weaker)
 
 -- the same if the job of one id changes
-pub kept_of_job : {places next : ℕ} {jobs : List Job} {seats : List SeatRecord} {draining : Bool} (id : ℕ) (f : Job → Job) → Kept places jobs seats next draining → ((j : Job) → (f j).id ≡ j.id) → ((j : Job) → has_holder seats (f j) ≡ true) → Kept places (map (λ j. cond (j.id == id) (f j) j) jobs) seats next draining
+pub kept_of_job : {places next : ℕ} {jobs : List Job} {seats : List SeatRecord} {draining : Bool} (id : ℕ) (f : Job → Job)
+    → Kept places jobs seats next draining → ((j : Job) → (f j).id ≡ j.id) → ((j : Job) → has_holder seats (f j) ≡ true)
+    → Kept places (map (λ j. cond (j.id == id) (f j) j) jobs) seats next draining
 kept_of_job {seats = seats} id f h same held =
     kept_of_jobs (λ j. cond (j.id == id) (f j) j) h
     (λ j. cond_both (j.id == id) (f j) j (λ k. k.id ≡ j.id) (λ e. same j) (λ e. refl))
@@ -69,33 +85,41 @@ pub record IsMild (s t : SeatRecord) : Type 0 where
 pub mild_itself : (s : SeatRecord) → IsMild s s
 mild_itself s = record { number = refl; stays = λ h. h; waits = λ h. h }
 
-still_held : (f : SeatRecord → SeatRecord) (seats : List SeatRecord) (j : Job) → All (λ s. IsMild s (f s)) seats → has_holder seats j ≡ true → has_holder (map f seats) j ≡ true
+still_held : (f : SeatRecord → SeatRecord) (seats : List SeatRecord) (j : Job) → All (λ s. IsMild s (f s)) seats → has_holder seats j ≡ true
+    → has_holder (map f seats) j ≡ true
 still_held f seats j mild h =
     elim (or_cases (not (is_reserved j.state)) (list_any (λ s. s.connected && is_held_by s.number j) seats) h) [
       | inl e ↦ or_left (not (is_reserved j.state)) (list_any (λ s. s.connected && is_held_by s.number j) (map f seats)) e
       | inr e ↦
           or_right (not (is_reserved j.state)) (list_any (λ s. s.connected && is_held_by s.number j) (map f seats))
           (list_any_of_map (λ s. s.connected && is_held_by s.number j) (λ s. s.connected && is_held_by s.number j) f seats
-          (all_weaker (λ s. IsMild s (f s)) (λ s. (s.connected && is_held_by s.number j) ≡ true → ((f s).connected && is_held_by (f s).number j) ≡ true) seats
+          (all_weaker (λ s. IsMild s (f s)) (λ s. (s.connected && is_held_by s.number j) ≡ true
+          → ((f s).connected && is_held_by (f s).number j) ≡ true) seats
           (λ s c p. let parts = and_parts s.connected (is_held_by s.number j) p in
-          and_from (f s).connected (is_held_by (f s).number j) (c.stays parts.0) (subst (λ n. is_held_by n j ≡ true) (sym c.number) parts.1)) mild) e)
+          and_from (f s).connected (is_held_by (f s).number j) (c.stays parts.0)
+          (subst (λ n. is_held_by n j ≡ true) (sym c.number) parts.1)) mild) e)
     ]
 
 -- Seats change mildly.
-pub kept_of_seats : {places next : ℕ} {jobs : List Job} {seats : List SeatRecord} {draining : Bool} (f : SeatRecord → SeatRecord) → Kept places jobs seats next draining → All (λ s. IsMild s (f s)) seats → Kept places jobs (map f seats) next draining
+pub kept_of_seats : {places next : ℕ} {jobs : List Job} {seats : List SeatRecord} {draining : Bool} (f : SeatRecord → SeatRecord)
+    → Kept places jobs seats next draining → All (λ s. IsMild s (f s)) seats → Kept places jobs (map f seats) next draining
 kept_of_seats {jobs = jobs} {seats = seats} f h mild = record {
   ids = h.ids;
   accepts = h.accepts;
   fits = h.fits;
-  holders = all_weaker (λ j. has_holder seats j ≡ true) (λ j. has_holder (map f seats) j ≡ true) jobs (λ j. still_held f seats j mild) h.holders;
-  seated = keys_of_map (λ s. s.number) f seats (all_weaker (λ s. IsMild s (f s)) (λ s. (f s).number ≡ s.number) seats (λ s c. c.number) mild) ∙ h.seated;
+  holders = all_weaker (λ j. has_holder seats j ≡ true) (λ j. has_holder (map f seats) j ≡ true) jobs
+      (λ j. still_held f seats j mild) h.holders;
+  seated = keys_of_map (λ s. s.number) f seats
+      (all_weaker (λ s. IsMild s (f s)) (λ s. (f s).number ≡ s.number) seats (λ s c. c.number) mild) ∙ h.seated;
   waits = all_of_map (λ s. is_open_wait s ≡ true) f seats
       (all_weaker (λ s. IsMild s (f s) × (is_open_wait s ≡ true)) (λ s. is_open_wait (f s) ≡ true) seats (λ s c. c.0.waits c.1)
       (all_both (λ s. IsMild s (f s)) (λ s. is_open_wait s ≡ true) seats mild h.waits));
 }
 
 -- the same if the seat of one number changes
-pub kept_of_seat : {places next : ℕ} {jobs : List Job} {seats : List SeatRecord} {draining : Bool} (number : ℕ) (f : SeatRecord → SeatRecord) → Kept places jobs seats next draining → All (λ s. s.number ≡ number → IsMild s (f s)) seats → Kept places jobs (map (λ s. cond (s.number == number) (f s) s) seats) next draining
+pub kept_of_seat : {places next : ℕ} {jobs : List Job} {seats : List SeatRecord} {draining : Bool} (number : ℕ)
+    (f : SeatRecord → SeatRecord) → Kept places jobs seats next draining → All (λ s. s.number ≡ number → IsMild s (f s)) seats
+    → Kept places jobs (map (λ s. cond (s.number == number) (f s) s) seats) next draining
 kept_of_seat {seats = seats} number f h mild =
     kept_of_seats (λ s. cond (s.number == number) (f s) s) h
     (all_weaker (λ s. s.number ≡ number → IsMild s (f s)) (λ s. IsMild s (cond (s.number == number) (f s) s)) seats
@@ -109,7 +133,8 @@ numbers_above low (suc n) (s ∷ seats) e =
     grind (arith, common_steps, all_weaker, numbers_above (suc low) n seats)
 
 -- The seat that is found is the only one of its number.
-pub only_seat : (low n number : ℕ) (seats : List SeatRecord) (s : SeatRecord) → map (λ s. s.number) seats ≡ numbers low n → find (λ s. s.number == number) seats ≡ Some s → All (λ t. t.number ≡ number → t ≡ s) seats
+pub only_seat : (low n number : ℕ) (seats : List SeatRecord) (s : SeatRecord) → map (λ s. s.number) seats ≡ numbers low n
+    → find (λ s. s.number == number) seats ≡ Some s → All (λ t. t.number ≡ number → t ≡ s) seats
 only_seat low n number [] s e f = tt
 only_seat low zero number (t ∷ seats) s e f = absurd cc
 only_seat low (suc n) number (t ∷ seats) s e f =
@@ -118,8 +143,11 @@ only_seat low (suc n) number (t ∷ seats) s e f =
     elim (cases_Bool (t.number == number)) [
       | inl b ↦
           let found : Some t ≡ Some s = rw b at f in
-          let is : t.number ≡ number = eqb-true t.number number b in
-          (λ i. cc, all_weaker (λ u. suc low ≤ u.number) (λ u. u.number ≡ number → u ≡ s) seats (λ u h i. absurd (omega arith)) (numbers_above (suc low) n seats rest))
+          let is : t.number ≡ number = eqb-true t.number number b in (
+            λ i. cc,
+            all_weaker (λ u. suc low ≤ u.number) (λ u. u.number ≡ number → u ≡ s) seats (λ u h i. absurd (omega arith))
+                (numbers_above (suc low) n seats rest),
+          )
       | inr b ↦ (λ i. absurd (eqb-false t.number number b i), only_seat (suc low) n number seats s rest (rw b at f))
     ]
 
@@ -128,33 +156,44 @@ abbrev emptied : ℕ → SeatRecord → SeatRecord
 emptied seat s = cond (s.number == seat) (empty_seat s.number) s
 
 -- If the job's holder does not disconnect, it stays connected.
-holder_stays : (seat : ℕ) (j : Job) (s : SeatRecord) → is_held_by seat j ≡ false → (s.connected && is_held_by s.number j) ≡ true → ((emptied seat s).connected && is_held_by (emptied seat s).number j) ≡ true
+holder_stays : (seat : ℕ) (j : Job) (s : SeatRecord) → is_held_by seat j ≡ false → (s.connected && is_held_by s.number j) ≡ true
+    → ((emptied seat s).connected && is_held_by (emptied seat s).number j) ≡ true
 holder_stays seat j s e h = grind (arith, common_steps, cond_both, and_parts, both_ways, eqb-true)
 
-held_elsewhere : (seat : ℕ) (seats : List SeatRecord) (j : Job) → is_held_by seat j ≡ false → has_holder seats j ≡ true → has_holder (map (emptied seat) seats) j ≡ true
+held_elsewhere : (seat : ℕ) (seats : List SeatRecord) (j : Job) → is_held_by seat j ≡ false → has_holder seats j ≡ true
+    → has_holder (map (emptied seat) seats) j ≡ true
 held_elsewhere seat seats j e h =
     elim (or_cases (not (is_reserved j.state)) (list_any (λ s. s.connected && is_held_by s.number j) seats) h) [
       | inl f ↦ or_left (not (is_reserved j.state)) (list_any (λ s. s.connected && is_held_by s.number j) (map (emptied seat) seats)) f
       | inr f ↦
           or_right (not (is_reserved j.state)) (list_any (λ s. s.connected && is_held_by s.number j) (map (emptied seat) seats))
           (list_any_of_map (λ s. s.connected && is_held_by s.number j) (λ s. s.connected && is_held_by s.number j) (emptied seat) seats
-          (all_always (λ s. (s.connected && is_held_by s.number j) ≡ true → ((emptied seat s).connected && is_held_by (emptied seat s).number j) ≡ true) seats
+          (all_always (λ s. (s.connected && is_held_by s.number j) ≡ true
+          → ((emptied seat s).connected && is_held_by (emptied seat s).number j) ≡ true) seats
           (λ s. holder_stays seat j s e)) f)
     ]
 
 -- A client disconnects: no client holds its jobs, and its seat is empty.
-pub kept_of_close : {places next : ℕ} {jobs : List Job} {seats : List SeatRecord} {draining : Bool} (state : JobState) (seat : ℕ) → is_reserved state ≡ false → Kept places jobs seats next draining → Kept places (map (given_back state seat) jobs) (map (λ s. cond (s.number == seat) (empty_seat s.number) s) seats) next draining
-kept_of_close {next = next} {jobs = jobs} {seats = seats} state seat free h = grind (arith, common_steps, ids_of_map, cond_both, all_of_map, all_weaker, held_elsewhere, keys_of_map, all_always)
+pub kept_of_close : {places next : ℕ} {jobs : List Job} {seats : List SeatRecord} {draining : Bool} (state : JobState) (seat : ℕ)
+    → is_reserved state ≡ false → Kept places jobs seats next draining
+    → Kept places (map (given_back state seat) jobs) (map (λ s. cond (s.number == seat) (empty_seat s.number) s) seats) next draining
+kept_of_close {next = next} {jobs = jobs} {seats = seats} state seat free h = grind
+    (arith, common_steps, ids_of_map, cond_both, all_of_map, all_weaker, held_elsewhere, keys_of_map, all_always)
 
 -- A job that no client holds is added.
-pub kept_of_push : {places next : ℕ} {jobs : List Job} {seats : List SeatRecord} {draining : Bool} (j : Job) → Kept places jobs seats next draining → draining ≡ false → j.id ≡ next → is_reserved j.state ≡ false → Kept places (jobs ++ j ∷ []) seats (next + 1) (draining || nat_le last_id next)
-kept_of_push {next = next} {jobs = jobs} {seats = seats} {draining = draining} j h opens is free = grind (arith, common_steps, ids_of_push, or_parts, leb-false, all_of_append)
+pub kept_of_push : {places next : ℕ} {jobs : List Job} {seats : List SeatRecord} {draining : Bool} (j : Job)
+    → Kept places jobs seats next draining → draining ≡ false → j.id ≡ next → is_reserved j.state ≡ false
+    → Kept places (jobs ++ j ∷ []) seats (next + 1) (draining || nat_le last_id next)
+kept_of_push {next = next} {jobs = jobs} {seats = seats} {draining = draining} j h opens is free = grind
+    (arith, common_steps, ids_of_push, or_parts, leb-false, all_of_append)
 
 -- Jobs are removed.
-pub kept_of_filter : {places next : ℕ} {jobs : List Job} {seats : List SeatRecord} {draining : Bool} (p : Job → Bool) → Kept places jobs seats next draining → Kept places (filter p jobs) seats next draining
+pub kept_of_filter : {places next : ℕ} {jobs : List Job} {seats : List SeatRecord} {draining : Bool} (p : Job → Bool)
+    → Kept places jobs seats next draining → Kept places (filter p jobs) seats next draining
 kept_of_filter {next = next} {jobs = jobs} {seats = seats} p h =
     grind (arith, common_steps, ids_of_filter, all_weaker, all_of_filter)
 
 -- Draining begins.
-pub kept_of_drain : {places next : ℕ} {jobs : List Job} {seats : List SeatRecord} {draining : Bool} → Kept places jobs seats next draining → Kept places jobs seats next true
+pub kept_of_drain : {places next : ℕ} {jobs : List Job} {seats : List SeatRecord} {draining : Bool} → Kept places jobs seats next draining
+    → Kept places jobs seats next true
 kept_of_drain h = record { ids = h.ids; accepts = λ e. absurd cc; fits = h.fits; holders = h.holders; seated = h.seated; waits = h.waits }

@@ -1,5 +1,6 @@
 -- A new machine is lawful and stays so after every step, and a step gives few answers.
-use Rattle.std.proofs.Common.{ℕ, zero, suc, ◌≡◌, ◌≤◌, ◌<◌, ◌+◌, true, false, ◌&&◌, not, cond, List, [], ◌∷◌, map, length, arith, refl, sym, ap, ◌∙◌, subst, inl, inr, Option, Some, None, rules}
+use Rattle.std.proofs.Common.{ℕ, zero, suc, ◌≡◌, ◌≤◌, ◌<◌, ◌+◌, true, false, ◌&&◌, not, cond, List, [], ◌∷◌}
+use Rattle.std.proofs.Common.{map, length, arith, refl, sym, ap, ◌∙◌, subst, inl, inr, Option, Some, None, rules}
 use Rattle.std.proofs.lemmas.{Bool.{cases_Bool, cond_both, eq-eqb, le-leb, or_left, or_right}, Grind.common_steps}
 use Rattle.std.proofs.lemmas.List.{length-map, Sums.count_by-le-length}
 use Rattle.std.specs.{Cmp.Lexicographic.bytes_decides, List.{Contains, list_all, list_any}, Prelude.◌==◌}
@@ -12,14 +13,17 @@ use Rattle.bq_job.specs.machine.{end_of_wait, forgetting, granted, growth_refuse
 use Rattle.bq_job.specs.{machine.{is_ready, is_tube}, reading.TubeName.is_same_name, Types.{Answer, Job, Step}}
 use Rattle.bq_job.specs.declared.job.JobState.TheVariants as states
 use Rattle.bq_job.proofs.KeptLemmas.{Keeps, has_holder, is_open_wait, kept_of_job, kept_of_jobs, kept_of_lawful, kept_of_seat, IsMild}
-use Rattle.bq_job.proofs.ListLemmas.{all_always, all_at, all_from_members, all_of_filter, all_of_map, all_weaker, find_in_filter, list_all_from, list_any_not, list_any_with, none_pass}
-use Rattle.bq_job.proofs.RecordLemmas.{Booked, booked_acted, booked_forgetting, booked_of_lawful, booked_served, booked_through, booked_timers}
+use Rattle.bq_job.proofs.ListLemmas.{all_always, all_at, all_from_members, all_of_filter, all_of_map, all_weaker}
+use Rattle.bq_job.proofs.ListLemmas.{find_in_filter, list_all_from, list_any_not, list_any_with, none_pass}
+use Rattle.bq_job.proofs.RecordLemmas.{Booked, booked_acted, booked_forgetting, booked_of_lawful}
+use Rattle.bq_job.proofs.RecordLemmas.{booked_served, booked_through, booked_timers}
 use Rattle.bq_job.proofs.{ActLemmas.{Leaves, answer_count, held_here, leaves_effect}, ChoiceLemmas.first_of_agrees}
 use Rattle.bq_job.proofs.{ChoiceLemmas.{first_of_none, first_of_none_passes}, ComputedLemmas.next_end_waits}
 use Rattle.bq_job.proofs.{ComputedLemmas.{next_seat_waits, waiting_falls}, DispatchLemmas.turn_of}
 
 -- what timers make of a job: ready, ready with one more timeout, or unchanged
-pub after_timers_is : (moment : ℕ) (j : Job) (P : Job → Type 0) → P (in_state states.Ready j) → P (record j { state = states.Ready; counts = with_timeout j.counts }) → P j → P (job_after_timers moment j)
+pub after_timers_is : (moment : ℕ) (j : Job) (P : Job → Type 0) → P (in_state states.Ready j)
+    → P (record j { state = states.Ready; counts = with_timeout j.counts }) → P j → P (job_after_timers moment j)
 after_timers_is moment j P due expired same = grind (arith, common_steps, cond_both)
 
 -- Timers keep the invariant.
@@ -34,7 +38,8 @@ kept_of_timers at m h =
 kept_without_wait : (number : ℕ) (m : Machine) → Keeps m → Keeps (with_seat number without_wait m)
 kept_without_wait number m h =
     kept_of_seat number without_wait h
-    (all_always (λ s. s.number ≡ number → IsMild s (without_wait s)) m.seats (λ s e. record { number = refl; stays = λ c. c; waits = λ w. refl }))
+    (all_always (λ s. s.number ≡ number → IsMild s (without_wait s)) m.seats
+    (λ s e. record { number = refl; stays = λ c. c; waits = λ w. refl }))
 
 -- A turn keeps the invariant, and one client fewer waits.
 pub record IsTurn (m n : Machine) : Type 0 where
@@ -45,13 +50,15 @@ pub record IsTurn (m n : Machine) : Type 0 where
 waits_connected : (m : Machine) (s : SeatRecord) → Keeps m → Contains m.seats s → is_waiting s ≡ true → s.connected ≡ true
 waits_connected m s h i w = rw w at (all_at (λ s. is_open_wait s ≡ true) m.seats s h.waits i)
 
-turn_of_hand_out : (m : Machine) (j : Job) (s : SeatRecord) (given : GivenAnswer) (next : Machine) → Keeps m → next_seat m j ≡ Some s → IsHandOut m j s given next → IsTurn m next
+turn_of_hand_out : (m : Machine) (j : Job) (s : SeatRecord) (given : GivenAnswer) (next : Machine) → Keeps m → next_seat m j ≡ Some s
+    → IsHandOut m j s given next → IsTurn m next
 turn_of_hand_out m j s given next h f (inl i) =
     let w = next_seat_waits m j s f in
     let c = waits_connected m s h w.0 w.1 in
     subst (IsTurn m) (sym i.1) (record {
       keeps = kept_without_wait s.number (with_job j.id (reserved_by m.moment s.number) m)
-          (kept_of_job j.id (reserved_by m.moment s.number) h (λ k. refl) (λ k. held_here m s (reserved_by m.moment s.number k) w.0 c (eq-eqb s.number s.number refl)));
+          (kept_of_job j.id (reserved_by m.moment s.number) h (λ k. refl)
+          (λ k. held_here m s (reserved_by m.moment s.number k) w.0 c (eq-eqb s.number s.number refl)));
       waiting = waiting_falls (with_job j.id (reserved_by m.moment s.number) m) s w.0 w.1;
     })
 turn_of_hand_out m j s given next h f (inr i) =
@@ -83,18 +90,26 @@ pub record AreTurns (first : Machine) (given : List GivenAnswer) (last : Machine
   pub keeps : Keeps last
   pub waiting : length given + waiting_count last ≤ waiting_count first
 
-turns_of_chain : (Turns : Machine → GivenAnswer → Machine → Type 0) (first : Machine) (given : List GivenAnswer) (last : Machine) → ((m : Machine) (g : GivenAnswer) (n : Machine) → Keeps m → Turns m g n → IsTurn m n) → Keeps first → Chain Turns first given last → AreTurns first given last
-turns_of_chain Turns first [] last each h chain = record { keeps = subst Keeps (sym chain) h; waiting = let e : waiting_count last ≡ waiting_count first = ap waiting_count chain in omega arith }
+turns_of_chain : (Turns : Machine → GivenAnswer → Machine → Type 0) (first : Machine) (given : List GivenAnswer) (last : Machine)
+    → ((m : Machine) (g : GivenAnswer) (n : Machine) → Keeps m → Turns m g n → IsTurn m n) → Keeps first → Chain Turns first given last
+    → AreTurns first given last
+turns_of_chain Turns first [] last each h chain =
+    record {
+      keeps = subst Keeps (sym chain) h;
+      waiting = let e : waiting_count last ≡ waiting_count first = ap waiting_count chain in omega arith;
+    }
 turns_of_chain Turns first (g ∷ given) last each h chain =
     grind (arith, common_steps, turns_of_chain Turns chain.0 given last each (each first g chain.0 h chain.1).keeps chain.2)
 
 -- Dispatch keeps the invariant, and gives at most as many answers as clients stop waiting.
-pub turns_of_dispatches : (first : Machine) (given : List GivenAnswer) (last : Machine) → Keeps first → Dispatches first given last → AreTurns first given last
+pub turns_of_dispatches : (first : Machine) (given : List GivenAnswer) (last : Machine) → Keeps first → Dispatches first given last
+    → AreTurns first given last
 turns_of_dispatches first given last h d =
     let t = turns_of_chain DispatchTurn first given d.end turn_of_dispatch h d.turns in
     subst (AreTurns first given) (sym d.forgets) (record { keeps = t.keeps; waiting = t.waiting })
 
-turns_of_ends : (first : Machine) (given : List GivenAnswer) (last : Machine) → Keeps first → EndsWaits first given last → AreTurns first given last
+turns_of_ends : (first : Machine) (given : List GivenAnswer) (last : Machine) → Keeps first → EndsWaits first given last
+    → AreTurns first given last
 turns_of_ends first given last h d =
     let t = turns_of_chain WaitEndTurn first given d.end turn_of_wait_end h d.turns in
     subst (AreTurns first given) (sym d.forgets) (record { keeps = t.keeps; waiting = t.waiting })
@@ -104,7 +119,8 @@ pub record HasServed (first : Machine) (handed ended : List GivenAnswer) (last :
   pub keeps : Keeps last
   pub waiting : length handed + length ended + waiting_count last ≤ waiting_count first
 
-pub served : (first : Machine) (handed ended : List GivenAnswer) (last : Machine) → Keeps first → Serves first handed ended last → HasServed first handed ended last
+pub served : (first : Machine) (handed ended : List GivenAnswer) (last : Machine) → Keeps first → Serves first handed ended last
+    → HasServed first handed ended last
 served first handed ended last h s =
     let d = turns_of_dispatches first handed s.between h s.dispatches in
     let e = turns_of_ends s.between ended last d.keeps s.ends_waits in
@@ -119,26 +135,33 @@ record_kept m j t i e =
 paused_as_before : (m : Machine) (j : Job) → Contains m.jobs j → is_paused j.tube (forgetting m) ≡ is_paused j.tube m
 paused_as_before m j i = grind (arith, common_steps, find_in_filter, all_always, record_kept)
 
-wanted_as_before : (m : Machine) (j : Job) → Contains m.jobs j → list_any (is_waiting_for (forgetting m) j) m.seats ≡ list_any (is_waiting_for m j) m.seats
-wanted_as_before m j i = ap (λ b. list_any (λ s. is_waiting s && (is_ready j && watches j.tube s && not b)) m.seats) (paused_as_before m j i)
+wanted_as_before : (m : Machine) (j : Job) → Contains m.jobs j
+    → list_any (is_waiting_for (forgetting m) j) m.seats ≡ list_any (is_waiting_for m j) m.seats
+wanted_as_before m j i = ap (λ b. list_any (λ s. is_waiting s && (is_ready j && watches j.tube s && not b)) m.seats)
+    (paused_as_before m j i)
 
 next_job_as_before : (m : Machine) → next_job (forgetting m) ≡ next_job m
 next_job_as_before m = search (rules, first_of_agrees, all_from_members, wanted_as_before)
 
 -- The end of a wait does not make a job available to a waiting client.
-still_unwanted : (number : ℕ) (m : Machine) (j : Job) → list_any (is_waiting_for m j) m.seats ≡ false → list_any (is_waiting_for (with_seat number without_wait m) j) (with_seat number without_wait m).seats ≡ false
+still_unwanted : (number : ℕ) (m : Machine) (j : Job) → list_any (is_waiting_for m j) m.seats ≡ false
+    → list_any (is_waiting_for (with_seat number without_wait m) j) (with_seat number without_wait m).seats ≡ false
 still_unwanted number m j h =
     list_any_not (is_waiting_for (with_seat number without_wait m) j) (with_seat number without_wait m).seats
-    (all_of_map (λ s. is_waiting_for (with_seat number without_wait m) j s ≡ false) (λ s. cond (s.number == number) (without_wait s) s) m.seats
-    (all_weaker (λ s. is_waiting_for m j s ≡ false) (λ s. is_waiting_for (with_seat number without_wait m) j (cond (s.number == number) (without_wait s) s) ≡ false) m.seats
-    (λ s i. cond_both (s.number == number) (without_wait s) s (λ t. is_waiting_for (with_seat number without_wait m) j t ≡ false) (λ e. refl) (λ e. i))
+    (all_of_map (λ s. is_waiting_for (with_seat number without_wait m) j s ≡ false)
+    (λ s. cond (s.number == number) (without_wait s) s) m.seats
+    (all_weaker (λ s. is_waiting_for m j s ≡ false)
+    (λ s. is_waiting_for (with_seat number without_wait m) j (cond (s.number == number) (without_wait s) s) ≡ false) m.seats
+    (λ s i. cond_both (s.number == number) (without_wait s) s (λ t. is_waiting_for (with_seat number without_wait m) j t ≡ false)
+    (λ e. refl) (λ e. i))
     (none_pass (is_waiting_for m j) m.seats h)))
 
 still_dispatched : (number : ℕ) (m : Machine) → next_job m ≡ None → next_job (with_seat number without_wait m) ≡ None
 still_dispatched number m h =
     search (rules, first_of_none_passes, list_any_not, all_weaker, still_unwanted, none_pass, first_of_none)
 
-dispatched_through_ends : (first : Machine) (given : List GivenAnswer) (last : Machine) → next_job first ≡ None → Chain WaitEndTurn first given last → next_job last ≡ None
+dispatched_through_ends : (first : Machine) (given : List GivenAnswer) (last : Machine) → next_job first ≡ None
+    → Chain WaitEndTurn first given last → next_job last ≡ None
 dispatched_through_ends first [] last h chain = ap next_job chain ∙ h
 dispatched_through_ends first (g ∷ given) last h chain =
     let e = end_of first g chain.0 chain.1 in
@@ -170,7 +193,8 @@ lawful_when_done m h b jobs ends = record {
 }
 
 -- After dispatch and the ends of waits the machine is lawful.
-pub lawful_when_served : (first : Machine) (handed ended : List GivenAnswer) (last : Machine) → Keeps first → Booked first → Serves first handed ended last → IsLawful last
+pub lawful_when_served : (first : Machine) (handed ended : List GivenAnswer) (last : Machine) → Keeps first → Booked first
+    → Serves first handed ended last → IsLawful last
 lawful_when_served first handed ended last h b s =
     let d = s.dispatches in
     let e = s.ends_waits in
@@ -186,13 +210,17 @@ leaves_acted growth_refused m seat what h = record { keeps = h; waiting = omega 
 leaves_acted share_refused m seat what h = record { keeps = h; waiting = omega arith }
 
 -- A step leads from a lawful machine to a lawful one.
-pub step_is_lawful : (first last : Machine) (at seat : ℕ) (what : Step) (outcome : Outcome) (given : List GivenAnswer) → IsLawful first → IsStep first at seat what outcome given last → IsLawful last
+pub step_is_lawful : (first last : Machine) (at seat : ℕ) (what : Step) (outcome : Outcome) (given : List GivenAnswer) → IsLawful first
+    → IsStep first at seat what outcome given last → IsLawful last
 step_is_lawful first last at seat what outcome given h s =
-    let before = served (forgetting (after_timers (at_moment at first))) s.handed s.ended s.before (kept_of_timers at first (kept_of_lawful first h)) s.serves in
+    let before = served (forgetting (after_timers (at_moment at first))) s.handed s.ended s.before
+    (kept_of_timers at first (kept_of_lawful first h)) s.serves in
     let act = leaves_acted s.memory s.before seat what before.keeps in
-    let books = booked_through (forgetting (after_timers (at_moment at first))) s.handed s.ended s.before (booked_timers at first (booked_of_lawful first h)) s.serves in
+    let books = booked_through (forgetting (after_timers (at_moment at first))) s.handed s.ended s.before
+    (booked_timers at first (booked_of_lawful first h)) s.serves in
     lawful_when_served s.after s.handed_then s.ended_then last (subst Keeps (sym s.acts) act.keeps)
-    (subst Booked (sym s.acts) (booked_forgetting (acted s.memory s.before seat what).machine (booked_acted s.memory s.before seat what books))) s.serves_then
+    (subst Booked (sym s.acts) (booked_forgetting (acted s.memory s.before seat what).machine
+    (booked_acted s.memory s.before seat what books))) s.serves_then
 
 numbered : (low n : ℕ) → map (λ s. s.number) (map empty_seat (numbers low n)) ≡ numbers low n
 numbered low zero = refl
@@ -216,7 +244,8 @@ pub seats_many : (m : Machine) → Keeps m → length m.seats ≡ m.settings.sea
 seats_many m h = sym (length-map m.seats (λ s. s.number)) ∙ ap length h.seated ∙ length_numbers 0 m.settings.seats
 
 -- A step gives at most one more answer than there are seats.
-pub few_answers : (first last : Machine) (at seat : ℕ) (what : Step) (outcome : Outcome) (given : List GivenAnswer) → IsLawful first → IsStep first at seat what outcome given last → length given ≤ first.settings.seats + 1
+pub few_answers : (first last : Machine) (at seat : ℕ) (what : Step) (outcome : Outcome) (given : List GivenAnswer) → IsLawful first
+    → IsStep first at seat what outcome given last → length given ≤ first.settings.seats + 1
 few_answers first last at seat what outcome given h s =
     let k = kept_of_lawful first h in
     let begin = forgetting (after_timers (at_moment at first)) in

@@ -22,7 +22,11 @@ record AddsNone (m n : Machine) : Type 0 where
   fewer : length n.jobs ≤ length m.jobs
 
 adds_none : (m n l : Machine) → n ≡ l → l.settings ≡ m.settings → length l.jobs ≡ length m.jobs → AddsNone m n
-adds_none m n l e same jobs = record { same = ap (λ (k : Machine). k.settings) e ∙ same; fewer = let many : length n.jobs ≡ length m.jobs = ap (λ (k : Machine). length k.jobs) e ∙ jobs in omega arith }
+adds_none m n l e same jobs = record {
+  same = ap (λ (k : Machine). k.settings) e
+      ∙ same;
+  fewer = let many : length n.jobs ≡ length m.jobs = ap (λ (k : Machine). length k.jobs) e ∙ jobs in omega arith;
+}
 
 then_adds_none : (m k n : Machine) → AddsNone m k → AddsNone k n → AddsNone m n
 then_adds_none m k n a b = record { same = b.same ∙ a.same; fewer = let x = a.fewer in let y = b.fewer in omega arith }
@@ -31,9 +35,11 @@ within_then : (settings : Settings) (m n : Machine) → IsWithin settings m → 
 within_then settings m n w a = record { chosen = a.same ∙ w.chosen; few = λ most e. let x = w.few most e in let y = a.fewer in omega arith }
 
 -- one turn after another
-by_turns : (Turns : Machine → GivenAnswer → Machine → Type 0) (first : Machine) (given : List GivenAnswer) (last : Machine) → ((m : Machine) (g : GivenAnswer) (n : Machine) → Turns m g n → AddsNone m n) → Chain Turns first given last → AddsNone first last
+by_turns : (Turns : Machine → GivenAnswer → Machine → Type 0) (first : Machine) (given : List GivenAnswer) (last : Machine)
+    → ((m : Machine) (g : GivenAnswer) (n : Machine) → Turns m g n → AddsNone m n) → Chain Turns first given last → AddsNone first last
 by_turns Turns first [] last each chain = adds_none first last first chain refl refl
-by_turns Turns first (g ∷ given) last each chain = then_adds_none first chain.0 last (each first g chain.0 chain.1) (by_turns Turns chain.0 given last each chain.2)
+by_turns Turns first (g ∷ given) last each chain =
+    then_adds_none first chain.0 last (each first g chain.0 chain.1) (by_turns Turns chain.0 given last each chain.2)
 
 by_dispatch : (m : Machine) (given : List GivenAnswer) (n : Machine) → Dispatches m given n → AddsNone m n
 by_dispatch m given n d = grind (arith, common_steps, then_adds_none, by_turns, turn_of, adds_none)
@@ -42,12 +48,14 @@ by_ends : (m : Machine) (given : List GivenAnswer) (n : Machine) → EndsWaits m
 by_ends m given n w = grind (arith, common_steps, then_adds_none, by_turns, adds_none, end_of)
 
 -- A command adds a job only within the limit.
-by_command : (settings : Settings) (what : Step) (m n : Machine) → n.settings ≡ m.settings → After what m n → IsWithin settings m → IsWithin settings n
+by_command : (settings : Settings) (what : Step) (m n : Machine) → n.settings ≡ m.settings → After what m n → IsWithin settings m
+    → IsWithin settings n
 by_command settings what m n same v6 w =
     grind (arith, common_steps, cases_Bool, within_then, length-map, filter_no_longer)
 
 -- the parts of a step
-within_parts : (settings : Settings) (t : Transition) → Keeps t.first → IsTransition t → IsWithin settings t.first → All (λ p. IsWithin settings p.machine) (parts_in t) × IsWithin settings t.last
+within_parts : (settings : Settings) (t : Transition) → Keeps t.first → IsTransition t → IsWithin settings t.first
+    → All (λ p. IsWithin settings p.machine) (parts_in t) × IsWithin settings t.last
 within_parts settings t keeps is w =
     let s = is.step in
     let m = t.first in
@@ -58,22 +66,33 @@ within_parts settings t keeps is w =
     let w0 = within_then settings m timed w (grind (arith, common_steps, adds_none, length-map)) in
     let w1 = within_then settings timed s.serves.between w0 (by_dispatch timed s.handed s.serves.between s.serves.dispatches) in
     let w2 = within_then settings s.serves.between s.before w1 (by_ends s.serves.between s.ended s.before s.serves.ends_waits) in
-    let a = by_command settings t.entry.what s.before done (stays_acted 0 s.memory s.before t.entry.seat t.entry.what).settings (after_acted s.memory s.before t.entry.seat t.entry.what k2.ids) w2 in
+    let a = by_command settings t.entry.what s.before done (stays_acted 0 s.memory s.before t.entry.seat t.entry.what).settings
+    (after_acted s.memory s.before t.entry.seat t.entry.what k2.ids) w2 in
     let w3 = within_then settings done s.after a (adds_none done s.after (forgetting done) s.acts refl refl) in
-    let w4 = within_then settings s.after s.serves_then.between w3 (by_dispatch s.after s.handed_then s.serves_then.between s.serves_then.dispatches) in
-    let w5 = within_then settings s.serves_then.between t.last w4 (by_ends s.serves_then.between s.ended_then t.last s.serves_then.ends_waits) in
-    (subst (λ (ps : Parts). All (λ p. IsWithin settings p.machine) (parts_in (record t { parts = ps }))) (sym is.parts_are) (w0, (w1, (w2, (w3, (w4, (w5, tt)))))), w5)
+    let w4 = within_then settings s.after s.serves_then.between w3
+    (by_dispatch s.after s.handed_then s.serves_then.between s.serves_then.dispatches) in
+    let w5 = within_then settings s.serves_then.between t.last w4
+    (by_ends s.serves_then.between s.ended_then t.last s.serves_then.ends_waits) in (
+      subst (λ (ps : Parts). All (λ p. IsWithin settings p.machine) (parts_in (record t { parts = ps }))) (sym is.parts_are)
+          (w0, (w1, (w2, (w3, (w4, (w5, tt)))))),
+      w5,
+    )
 
 -- the parts of a run
-within_run : (settings : Settings) (first : Machine) (taken : List Transition) (last : Machine) → IsLawful first → GoesBy first taken last → IsWithin settings first → All (λ p. IsWithin settings p.machine) (parts_of_run taken)
+within_run : (settings : Settings) (first : Machine) (taken : List Transition) (last : Machine) → IsLawful first → GoesBy first taken last
+    → IsWithin settings first → All (λ p. IsWithin settings p.machine) (parts_of_run taken)
 within_run settings first [] last lawful goes w = tt
 within_run settings first (t ∷ taken) last lawful goes w =
     let here : IsLawful t.first = subst IsLawful (sym goes.0) lawful in
     let now = within_parts settings t (kept_of_lawful t.first here) goes.1 (subst (IsWithin settings) (sym goes.0) w) in
     let lawful_then = step_is_lawful t.first t.last t.entry.moment t.entry.seat t.entry.what t.outcome t.given here goes.1.step in
-    all_of_append (λ p. IsWithin settings p.machine) (parts_in t) (parts_of_run taken) now.0 (within_run settings t.last taken last lawful_then goes.2 now.1)
+    all_of_append (λ p. IsWithin settings p.machine) (parts_in t) (parts_of_run taken) now.0
+    (within_run settings t.last taken last lawful_then goes.2 now.1)
 
-pub few_always : (settings : Settings) (taken : List Transition) (last : Machine) (p : Part) (most : ℕ) → GoesBy (new_machine settings) taken last → Contains (parts_of_run taken) p → settings.max_jobs ≡ Some most → length p.machine.jobs ≤ most
+pub few_always : (settings : Settings) (taken : List Transition) (last : Machine) (p : Part) (most : ℕ)
+    → GoesBy (new_machine settings) taken last → Contains (parts_of_run taken) p → settings.max_jobs ≡ Some most
+    → length p.machine.jobs ≤ most
 few_always settings taken last p most goes i e =
     let none : IsWithin settings (new_machine settings) = record { chosen = refl; few = λ n f. omega arith } in
-    (all_at (λ (q : Part). IsWithin settings q.machine) (parts_of_run taken) p (within_run settings (new_machine settings) taken last (new_is_lawful settings) goes none) i).few most e
+    (all_at (λ (q : Part). IsWithin settings q.machine) (parts_of_run taken) p
+    (within_run settings (new_machine settings) taken last (new_is_lawful settings) goes none) i).few most e

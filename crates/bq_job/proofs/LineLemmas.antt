@@ -1,5 +1,6 @@
 -- The first line of a text, and of the text with more bytes after it.
-use Rattle.std.proofs.Common.{◌≡◌, ℕ, Bool, true, false, List, [], ◌∷◌, ◌++◌, Option, Some, ◌⊎◌, inl, inr, ap, arith, option_map, if◌then◌else◌, rules}
+use Rattle.std.proofs.Common.{◌≡◌, ℕ, Bool, true, false, List, [], ◌∷◌, ◌++◌, Option}
+use Rattle.std.proofs.Common.{Some, ◌⊎◌, inl, inr, ap, arith, option_map, if◌then◌else◌, rules}
 use Rattle.std.proofs.lemmas.{Bool.{cases_Bool, Decides.nat_tests}, Grind.common_steps}
 use Rattle.bq_job.specs.reading.Line.{first_line, onto_line, are_line_end}
 
@@ -10,7 +11,8 @@ pub first_line_cases : (t : Bool) (a : ℕ) (bytes : List ℕ) (later : Option (
 first_line_cases t a bytes later l e = grind (arith, common_steps, cases_Bool)
 
 -- a text with more bytes after it has the same first line
-pub first_line-append : (text more : List ℕ) (l : List ℕ × List ℕ) → first_line text ≡ Some l → first_line (text ++ more) ≡ Some (l.0, l.1 ++ more)
+pub first_line-append : (text more : List ℕ) (l : List ℕ × List ℕ) → first_line text ≡ Some l
+    → first_line (text ++ more) ≡ Some (l.0, l.1 ++ more)
 first_line-append [] more l e = cc
 first_line-append (a ∷ []) more l e = cc
 first_line-append (a ∷ b ∷ bytes) more l e =
@@ -29,7 +31,8 @@ first_line_is (a ∷ b ∷ bytes) l e =
       | inr h ↦ rw (← h.3) (ap (λ bs. a ∷ bs) (first_line_is (b ∷ bytes) h.0 h.2))
     ]
   where
-    line_here : (a b : ℕ) (bytes : List ℕ) (l : List ℕ × List ℕ) → are_line_end a b ≡ true → ([], bytes) ≡ l → (a ∷ b ∷ bytes) ≡ l.0 ++ 13 ∷ 10 ∷ l.1
+    line_here : (a b : ℕ) (bytes : List ℕ) (l : List ℕ × List ℕ) → are_line_end a b ≡ true → ([], bytes) ≡ l
+        → (a ∷ b ∷ bytes) ≡ l.0 ++ 13 ∷ 10 ∷ l.1
     line_here a b bytes l t e = rw (← e) (grind (arith, nat_tests))
 
 -- a byte in front of a line and its rest
@@ -38,11 +41,13 @@ first_line-onto : (a b : ℕ) (bytes after other line : List ℕ) → are_line_e
 first_line-onto a b bytes after other line f e ih = search (rules, cases_Bool, common_steps)
 
 -- the first line is the same, whatever comes after its CR LF
-pub first_line_again : (text other : List ℕ) (l : List ℕ × List ℕ) → first_line text ≡ Some l → first_line (l.0 ++ 13 ∷ 10 ∷ other) ≡ Some (l.0, other)
+pub first_line_again : (text other : List ℕ) (l : List ℕ × List ℕ) → first_line text ≡ Some l
+    → first_line (l.0 ++ 13 ∷ 10 ∷ other) ≡ Some (l.0, other)
 first_line_again [] other l e = cc
 first_line_again (a ∷ []) other l e = cc
 first_line_again (a ∷ b ∷ bytes) other l e =
     elim (first_line_cases (are_line_end a b) a bytes (first_line (b ∷ bytes)) l e) [
       | inl h ↦ rw (← h.1)
-      | inr h ↦ rw (← h.3) (first_line-onto a b bytes h.0.1 other h.0.0 h.1 (first_line_is (b ∷ bytes) h.0 h.2) (first_line_again (b ∷ bytes) other h.0 h.2))
+      | inr h ↦ rw (← h.3) (first_line-onto a b bytes h.0.1 other h.0.0 h.1 (first_line_is (b ∷ bytes) h.0 h.2)
+          (first_line_again (b ∷ bytes) other h.0 h.2))
     ]

@@ -1,7 +1,10 @@
 -- Facts about lists of any elements: tests, changes of each element, counts.
-use Rattle.std.proofs.Common.{◌≡◌, ◌≤◌, ◌<◌, ◌+◌, Bool, true, false, ◌&&◌, not, cond, List, [], ◌∷◌, ◌++◌, map, arith, refl, ap, ◌∙◌, subst, inl, inr}
-use Rattle.std.proofs.lemmas.Bool.{cases_Bool, and_parts, and_from, or_parts, or_from, or_left, or_right, or_cases, both_ways, false_from_ne_true}
-use Rattle.std.proofs.lemmas.List.Elements.{All-from_recursion, recursion_from_All, All-contains, All-contains_itself, Contains-append_right}
+use Rattle.std.proofs.Common.{◌≡◌, ◌≤◌, ◌<◌, ◌+◌, Bool, true, false, ◌&&◌, not, cond, List}
+use Rattle.std.proofs.Common.{[], ◌∷◌, ◌++◌, map, arith, refl, ap, ◌∙◌, subst, inl, inr}
+use Rattle.std.proofs.lemmas.Bool.{cases_Bool, and_parts, and_from, or_parts, or_from}
+use Rattle.std.proofs.lemmas.Bool.{or_left, or_right, or_cases, both_ways, false_from_ne_true}
+use Rattle.std.proofs.lemmas.List.Elements.{All-from_recursion, recursion_from_All, All-contains}
+use Rattle.std.proofs.lemmas.List.Elements.{All-contains_itself, Contains-append_right}
 use Rattle.std.proofs.{Common.{Some, count_by, filter, find, flat_map, length}, lemmas.Grind.common_steps}
 use Rattle.std.proofs.lemmas.List.{Concat.flat_map-cons, Folds.list_any-from_Any, Sums.sum_by-cons}
 use Rattle.std.specs.List.{AllByRecursion as All, Contains, list_any, list_all}
@@ -52,7 +55,8 @@ all_of_append P (x ∷ xs) ys h i = (h.0, all_of_append P xs ys h.1 i)
 -- what is kept by a filter passes, and what held of all holds of it
 pub all_of_filter : {X : Type 0} (P : X → Type 0) (p : X → Bool) (xs : List X) → All P xs → All (λ x. P x × (p x ≡ true)) (filter p xs)
 all_of_filter P p [] h = tt
-all_of_filter P p (x ∷ xs) h = elim (cases_Bool (p x)) [ inl e ↦ rw e ((h.0, e), all_of_filter P p xs h.1) | inr e ↦ rw e (all_of_filter P p xs h.1) ]
+all_of_filter P p (x ∷ xs) h = elim (cases_Bool (p x))
+    [ inl e ↦ rw e ((h.0, e), all_of_filter P p xs h.1) | inr e ↦ rw e (all_of_filter P p xs h.1) ]
 
 -- a test of all elements, and a test of any
 pub all_pass : {X : Type 0} (p : X → Bool) (xs : List X) → list_all p xs ≡ true → All (λ x. p x ≡ true) xs
@@ -76,7 +80,8 @@ pub list_any_with : {X : Type 0} (p : X → Bool) (xs : List X) (x : X) → Cont
 list_any_with p xs x i h = list_any-from_Any p xs (i.0, x, i.1, i.2, h)
 
 -- If an element passed the first test, its change passes the second.
-pub list_any_of_map : {X Y : Type 0} (p : X → Bool) (q : Y → Bool) (f : X → Y) (xs : List X) → All (λ x. p x ≡ true → q (f x) ≡ true) xs → list_any p xs ≡ true → list_any q (map f xs) ≡ true
+pub list_any_of_map : {X Y : Type 0} (p : X → Bool) (q : Y → Bool) (f : X → Y) (xs : List X) → All (λ x. p x ≡ true → q (f x) ≡ true) xs
+    → list_any p xs ≡ true → list_any q (map f xs) ≡ true
 list_any_of_map p q f [] w h = h
 list_any_of_map p q f (x ∷ xs) w h =
     grind (arith, common_steps, or_cases, or_left, or_right, list_any_of_map p q f xs)
@@ -93,12 +98,14 @@ pub one_or_none : (b c : Bool) → (c ≡ true → b ≡ true) → cond c 1 0 �
 one_or_none b c w = grind (arith, common_steps, cases_Bool)
 
 -- If the change makes no element pass, the count does not grow.
-pub count_of_map : {X : Type 0} (p : X → Bool) (f : X → X) (xs : List X) → All (λ x. p (f x) ≡ true → p x ≡ true) xs → count_by p (map f xs) ≤ count_by p xs
+pub count_of_map : {X : Type 0} (p : X → Bool) (f : X → X) (xs : List X) → All (λ x. p (f x) ≡ true → p x ≡ true) xs
+    → count_by p (map f xs) ≤ count_by p xs
 count_of_map p f [] w = omega arith
 count_of_map p f (x ∷ xs) w = grind (arith, common_steps, count_cons, one_or_none, count_of_map p f xs w.1)
 
 -- It falls if an element no longer passes.
-pub count_falls : {X : Type 0} (p : X → Bool) (f : X → X) (xs : List X) → All (λ x. p (f x) ≡ true → p x ≡ true) xs → list_any (λ x. p x && not (p (f x))) xs ≡ true → count_by p (map f xs) < count_by p xs
+pub count_falls : {X : Type 0} (p : X → Bool) (f : X → X) (xs : List X) → All (λ x. p (f x) ≡ true → p x ≡ true) xs
+    → list_any (λ x. p x && not (p (f x))) xs ≡ true → count_by p (map f xs) < count_by p xs
 count_falls p f [] w h = absurd cc
 count_falls p f (x ∷ xs) w h =
     grind (arith, common_steps, count_cons, or_cases, count_of_map, one_or_none, count_falls p f xs)
@@ -150,4 +157,5 @@ all_parts P (x ∷ xs) ys h = let rest = all_parts P xs ys h.1 in ((h.0, rest.0)
 -- what holds of all joined lists holds of each of them
 pub all_of_flat_map : {X Y : Type 0} (P : Y → Type 0) (f : X → List Y) (xs : List X) → All P (flat_map f xs) → All (λ x. All P (f x)) xs
 all_of_flat_map P f [] h = tt
-all_of_flat_map P f (x ∷ xs) h = let parts = all_parts P (f x) (flat_map f xs) (subst (All P) (flat_map-cons f x xs) h) in (parts.0, all_of_flat_map P f xs parts.1)
+all_of_flat_map P f (x ∷ xs) h = let parts = all_parts P (f x) (flat_map f xs) (subst (All P) (flat_map-cons f x xs) h) in
+    (parts.0, all_of_flat_map P f xs parts.1)

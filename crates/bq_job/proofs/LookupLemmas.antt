@@ -10,12 +10,14 @@ use Rattle.bq_job.proofs.ListLemmas.{all_at, found_passes, contains_head}
 pub found_job : (id : ℕ) (jobs : List Job) (j : Job) → job_with id jobs ≡ Some j → (j.id ≡ id) × Contains jobs j
 found_job id jobs j e = let f = found_passes (λ k. k.id == id) jobs j e in (eqb-true j.id id f.0, f.1)
 
-pub job_in_map : (f : Job → Job) (id : ℕ) (jobs : List Job) → ((j : Job) → (f j).id ≡ j.id) → job_with id (map f jobs) ≡ option_map f (job_with id jobs)
+pub job_in_map : (f : Job → Job) (id : ℕ) (jobs : List Job) → ((j : Job) → (f j).id ≡ j.id)
+    → job_with id (map f jobs) ≡ option_map f (job_with id jobs)
 job_in_map f id [] same = refl
 job_in_map f id (j ∷ jobs) same = grind (arith, common_steps, cases_Bool, job_in_map f id jobs same)
 
 -- each job of the list is found by its id
-pub job_found : (low next : ℕ) (jobs : List Job) (j : Job) → AreIdsWithin low jobs next → Contains jobs j → (job_with j.id jobs ≡ Some j) × (j.id < next)
+pub job_found : (low next : ℕ) (jobs : List Job) (j : Job) → AreIdsWithin low jobs next → Contains jobs j
+    → (job_with j.id jobs ≡ Some j) × (j.id < next)
 job_found low next jobs j h i = all_at (λ k. (job_with k.id jobs ≡ Some k) × (k.id < next)) jobs j (all_found low next jobs h) i
   where
     up : (low next : ℕ) (jobs : List Job) → AreIdsWithin low jobs next → low ≤ next
@@ -30,19 +32,24 @@ job_found low next jobs j h i = all_at (λ k. (job_with k.id jobs ≡ Some k) ×
         higher high low [] less h = tt
         higher high low (j ∷ jobs) less h = let a = h.0 in (omega arith, higher high low jobs less h.1)
 
-    behind : (j : Job) (jobs all : List Job) (next : ℕ) → All (λ k. suc j.id ≤ k.id) all → All (λ k. (job_with k.id jobs ≡ Some k) × (k.id < next)) all → All (λ k. (job_with k.id (j ∷ jobs) ≡ Some k) × (k.id < next)) all
+    behind : (j : Job) (jobs all : List Job) (next : ℕ) → All (λ k. suc j.id ≤ k.id) all
+        → All (λ k. (job_with k.id jobs ≡ Some k) × (k.id < next)) all → All (λ k. (job_with k.id (j ∷ jobs) ≡ Some k) × (k.id < next)) all
     behind j jobs [] next a h = tt
     behind j jobs (k ∷ all) next a h =
         grind (arith, common_steps, false_from_ne_true, eqb-true, behind j jobs all next a.1 h.1)
 
-    all_found : (low next : ℕ) (jobs : List Job) → AreIdsWithin low jobs next → All (λ k. (job_with k.id jobs ≡ Some k) × (k.id < next)) jobs
+    all_found : (low next : ℕ) (jobs : List Job) → AreIdsWithin low jobs next
+        → All (λ k. (job_with k.id jobs ≡ Some k) × (k.id < next)) jobs
     all_found low next [] h = tt
     all_found low next (j ∷ jobs) h =
-        let rest = up (suc j.id) next jobs h.1 in
-        ((rw (eq-eqb j.id j.id refl) refl, omega arith), behind j jobs jobs next (above (suc j.id) next jobs h.1) (all_found (suc j.id) next jobs h.1))
+        let rest = up (suc j.id) next jobs h.1 in (
+          (rw (eq-eqb j.id j.id refl) refl, omega arith),
+          behind j jobs jobs next (above (suc j.id) next jobs h.1) (all_found (suc j.id) next jobs h.1),
+        )
 
 -- the jobs except those with one id
-pub job_in_rest : (removed id : ℕ) (jobs : List Job) → job_with id (filter (λ k. not (k.id == removed)) jobs) ≡ cond (id == removed) None (job_with id jobs)
+pub job_in_rest : (removed id : ℕ) (jobs : List Job)
+    → job_with id (filter (λ k. not (k.id == removed)) jobs) ≡ cond (id == removed) None (job_with id jobs)
 job_in_rest removed id [] = elim (cases_Bool (id == removed)) [ inl e ↦ rw e refl | inr e ↦ rw e refl ]
 job_in_rest removed id (j ∷ jobs) =
     search (rules, cases_Bool, false_from_ne_true, eqb-true, both_ways, eq-eqb, job_in_rest removed id jobs)

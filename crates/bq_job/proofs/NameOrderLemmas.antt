@@ -1,5 +1,6 @@
 -- Names in byte order, and the listed tubes.
-use Rattle.std.proofs.Common.{◌++◌, ◌||◌, ◌∙◌, ◌∷◌, ◌≡◌, Bool, List, [], ℕ, ap, append-nil, append_assoc, arith, false, map, refl, rules, sym, true}
+use Rattle.std.proofs.Common.{◌++◌, ◌||◌, ◌∙◌, ◌∷◌, ◌≡◌, Bool, List, [], ℕ, ap}
+use Rattle.std.proofs.Common.{append-nil, append_assoc, arith, false, map, refl, rules, sym, true}
 use Rattle.std.proofs.lemmas.{Bool.{and_parts, cases_Bool}, Cmp.nat_list_cmp_total, Grind.common_steps}
 use Rattle.std.proofs.{lemmas.Map.Lookups.exact_bytes, Math.Bool.or-false}
 use Rattle.std.specs.{Cmp.Lexicographic.slice_cmp, List.{AllByRecursion as All, list_any}, Prelude.{flat_map, fold}}
@@ -12,7 +13,8 @@ is_Less : (r : Ordering) → is_lt r ≡ true → r ≡ Less
 is_Less r e = grind (arith, common_steps, cases_Bool)
 
 -- a name that neither equals another nor comes before it comes after it
-comes_after : (a b : List ℕ) (r : Ordering) → slice_cmp nat_cmp a b ≡ r → is_same_name a b ≡ false → is_name_before a b ≡ false → is_name_before b a ≡ true
+comes_after : (a b : List ℕ) (r : Ordering) → slice_cmp nat_cmp a b ≡ r → is_same_name a b ≡ false → is_name_before a b ≡ false
+    → is_name_before b a ≡ true
 comes_after a b r e same before = search (rules, cases_Bool, exact_bytes, nat_list_cmp_total)
 
 pub after : (a b : List ℕ) → is_same_name a b ≡ false → is_name_before a b ≡ false → is_name_before b a ≡ true
@@ -28,7 +30,8 @@ pub not_same : (a b : List ℕ) (same : Bool) → is_same_name b a ≡ same → 
 not_same a b same e h = search (rules, cases_Bool, not_before)
 
 -- a name inserted after one that comes before it
-in_order_behind : (p n : List ℕ) (names : List (List ℕ)) → is_name_before p n ≡ true → is_in_order (p ∷ names) ≡ true → is_in_order (p ∷ with_name names n) ≡ true
+in_order_behind : (p n : List ℕ) (names : List (List ℕ)) → is_name_before p n ≡ true → is_in_order (p ∷ names) ≡ true
+    → is_in_order (p ∷ with_name names n) ≡ true
 in_order_behind p n [] b h = rw b refl
 in_order_behind p n (o ∷ names) b h = grind (arith, common_steps, and_parts, after, in_order_behind o n names)
 
@@ -54,7 +57,8 @@ first_of_order o [] h = tt
 first_of_order o (x ∷ names) h =
     grind (arith, common_steps, and_parts, all_weaker, before_trans, first_of_order x names)
 
-pub in_order_from : (o : List ℕ) (names : List (List ℕ)) → All (λ n. is_name_before o n ≡ true) names → is_in_order names ≡ true → is_in_order (o ∷ names) ≡ true
+pub in_order_from : (o : List ℕ) (names : List (List ℕ)) → All (λ n. is_name_before o n ≡ true) names → is_in_order names ≡ true
+    → is_in_order (o ∷ names) ≡ true
 in_order_from o names first h = grind (arith, common_steps, cases_Bool)
 
 -- a name that comes after all others is inserted at the end
@@ -73,7 +77,8 @@ any_with : (p : List ℕ → Bool) (n : List ℕ) (names : List (List ℕ)) → 
 any_with p n [] = refl
 any_with p n (o ∷ names) = search (rules, any_with p n names)
 
-any_fold : (p : List ℕ → Bool) (names so_far : List (List ℕ)) → list_any p (fold with_name so_far names) ≡ (list_any p so_far || list_any p names)
+any_fold : (p : List ℕ → Bool) (names so_far : List (List ℕ))
+    → list_any p (fold with_name so_far names) ≡ (list_any p so_far || list_any p names)
 any_fold p [] so_far = sym (or-false (list_any p so_far))
 any_fold p (n ∷ names) so_far = grind (arith, common_steps, any_with, any_fold p names (with_name so_far n))
 
@@ -84,7 +89,8 @@ any-jobs p (j ∷ jobs) = ap (λ b. p j.tube || b) (any-jobs p jobs)
 seated : (name : List ℕ) (s : SeatRecord) → list_any (is_same_name name) (seated_tubes s) ≡ is_seated_at name s
 seated name s = grind (arith, common_steps)
 
-any-seats : (name : List ℕ) (seats : List SeatRecord) → list_any (is_same_name name) (flat_map seated_tubes seats) ≡ list_any (is_seated_at name) seats
+any-seats : (name : List ℕ) (seats : List SeatRecord)
+    → list_any (is_same_name name) (flat_map seated_tubes seats) ≡ list_any (is_seated_at name) seats
 any-seats name [] = refl
 any-seats name (s ∷ seats) = grind (arith, common_steps, seated, any-seats name seats)
 

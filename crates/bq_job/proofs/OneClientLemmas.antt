@@ -1,6 +1,7 @@
 -- What the parts of a step give to one client: turns of dispatch and ends of waits give it the
 -- answer that it waits for; the command's own effect gives it an answer or makes it wait.
-use Rattle.std.proofs.Common.{ℕ, zero, suc, ◌≡◌, ◌≤◌, ◌<◌, ◌+◌, Bool, true, false, ◌&&◌, cond, List, [], ◌∷◌, ◌++◌, map, length, arith, refl, sym, ap, ◌∙◌, subst, inl, inr, Some}
+use Rattle.std.proofs.Common.{ℕ, zero, suc, ◌≡◌, ◌≤◌, ◌<◌, ◌+◌, Bool, true, false, ◌&&◌, cond, List, []}
+use Rattle.std.proofs.Common.{◌∷◌, ◌++◌, map, length, arith, refl, sym, ap, ◌∙◌, subst, inl, inr, Some}
 use Rattle.std.proofs.lemmas.Bool.{and_from, and_right, cases_Bool, cond_both, eq-eqb, eqb-false, eqb-true, or_from}
 use Rattle.std.proofs.lemmas.{Grind.common_steps, List.Folds.list_any-append}
 use Rattle.std.specs.{List.{AllByRecursion as All, Contains, list_any}, Prelude.◌==◌}
@@ -8,7 +9,8 @@ use Rattle.bq_job.specs.machine.{Chain, DispatchTurn, GivenAnswer, IsHandOut, Ma
 use Rattle.bq_job.specs.machine.{has_closed, is_closed_answer, is_deadline_soon, is_waiting, next_seat, numbers, seat_with, without_wait}
 use Rattle.bq_job.specs.{promise.answers_to, Types.{Answer, Job}}
 use Rattle.bq_job.specs.declared.answer.Answer.TheVariants as answers
-use Rattle.bq_job.proofs.ListLemmas.{all_always, all_of_map, all_weaker, found_passes, keys_of_map, list_any_not, list_any_of_map, list_any_with}
+use Rattle.bq_job.proofs.ListLemmas.{all_always, all_of_map, all_weaker, found_passes}
+use Rattle.bq_job.proofs.ListLemmas.{keys_of_map, list_any_not, list_any_of_map, list_any_with}
 use Rattle.bq_job.proofs.{ComputedLemmas.{next_end_waits, next_seat_waits}, DispatchLemmas.turn_of}
 use Rattle.bq_job.proofs.{KeptLemmas.only_seat, LawfulLemmas.end_of}
 
@@ -44,7 +46,8 @@ answers_append seat (g ∷ xs) ys = grind (arith, common_steps, cases_Bool, answ
 pub unclosed_append : (xs ys : List Answer) → has_closed xs ≡ false → has_closed ys ≡ false → has_closed (xs ++ ys) ≡ false
 unclosed_append xs ys h i = list_any-append is_closed_answer xs ys ∙ or_from (has_closed xs) (has_closed ys) h i
 
-passes_then : (seat : ℕ) (first next last : List SeatRecord) (xs ys : List GivenAnswer) → Passes seat first next xs → Passes seat next last ys → Passes seat first last (xs ++ ys)
+passes_then : (seat : ℕ) (first next last : List SeatRecord) (xs ys : List GivenAnswer) → Passes seat first next xs
+    → Passes seat next last ys → Passes seat first last (xs ++ ys)
 passes_then seat first next last xs ys h i = grind (arith, common_steps, answers_append, unclosed_append)
 
 -- tests that agree on each element and its change
@@ -67,7 +70,8 @@ unwaited_itself seat seats =
     (λ e. rw e refl))))
 
 -- another client's wait has ended
-unwaited_another : (seat number : ℕ) (seats : List SeatRecord) → (number == seat) ≡ false → waits_in seat (map (unwaited number) seats) ≡ waits_in seat seats
+unwaited_another : (seat number : ℕ) (seats : List SeatRecord) → (number == seat) ≡ false
+    → waits_in seat (map (unwaited number) seats) ≡ waits_in seat seats
 unwaited_another seat number seats other = grind (arith, common_steps, any_of_map, cond_both, eqb-true)
 
 unwaited_ended : (seat number : ℕ) (seats : List SeatRecord) → ended_in seat (map (unwaited number) seats) ≡ ended_in seat seats
@@ -77,17 +81,35 @@ unwaited_numbers : (number : ℕ) (seats : List SeatRecord) → map (λ s. s.num
 unwaited_numbers number seats = grind (arith, common_steps, keys_of_map, all_always, cond_both)
 
 -- A waiting client is answered, and no longer waits.
-passes_turn : (seat : ℕ) (seats : List SeatRecord) (s : SeatRecord) (answer : Answer) → Contains seats s → is_waiting s ≡ true → is_closed_answer answer ≡ false → Passes seat seats (map (unwaited s.number) seats) ((s.number, answer) ∷ [])
+passes_turn : (seat : ℕ) (seats : List SeatRecord) (s : SeatRecord) (answer : Answer) → Contains seats s → is_waiting s ≡ true
+    → is_closed_answer answer ≡ false → Passes seat seats (map (unwaited s.number) seats) ((s.number, answer) ∷ [])
 passes_turn seat seats s answer there waits stays =
-    grind (arith, common_steps, cases_Bool, eqb-true, list_any_with, and_from, unwaited_itself, any_of_map, cond_both, unwaited_ended, unwaited_numbers, unwaited_another)
+    grind (
+      arith,
+      common_steps,
+      cases_Bool,
+      eqb-true,
+      list_any_with,
+      and_from,
+      unwaited_itself,
+      any_of_map,
+      cond_both,
+      unwaited_ended,
+      unwaited_numbers,
+      unwaited_another,
+    )
 
 -- the same if the turn is known by equations
-passes_turn_to : (seat : ℕ) (m next : Machine) (s : SeatRecord) (answer : Answer) (given : GivenAnswer) → Contains m.seats s → is_waiting s ≡ true → is_closed_answer answer ≡ false → given ≡ (s.number, answer) → next.seats ≡ map (unwaited s.number) m.seats → Passes seat m.seats next.seats (given ∷ [])
+passes_turn_to : (seat : ℕ) (m next : Machine) (s : SeatRecord) (answer : Answer) (given : GivenAnswer) → Contains m.seats s
+    → is_waiting s ≡ true → is_closed_answer answer ≡ false → given ≡ (s.number, answer) → next.seats ≡ map (unwaited s.number) m.seats
+    → Passes seat m.seats next.seats (given ∷ [])
 passes_turn_to seat m next s answer given there waits stays told is =
     subst (λ seats. Passes seat m.seats seats (given ∷ [])) (sym is)
-    (subst (λ (g : GivenAnswer). Passes seat m.seats (map (unwaited s.number) m.seats) (g ∷ [])) (sym told) (passes_turn seat m.seats s answer there waits stays))
+    (subst (λ (g : GivenAnswer). Passes seat m.seats (map (unwaited s.number) m.seats) (g ∷ [])) (sym told)
+    (passes_turn seat m.seats s answer there waits stays))
 
-passes_hand_out : (seat : ℕ) (m : Machine) (j : Job) (s : SeatRecord) (given : GivenAnswer) (next : Machine) → next_seat m j ≡ Some s → IsHandOut m j s given next → Passes seat m.seats next.seats (given ∷ [])
+passes_hand_out : (seat : ℕ) (m : Machine) (j : Job) (s : SeatRecord) (given : GivenAnswer) (next : Machine) → next_seat m j ≡ Some s
+    → IsHandOut m j s given next → Passes seat m.seats next.seats (given ∷ [])
 passes_hand_out seat m j s given next f (inl i) =
     let w = next_seat_waits m j s f in
     passes_turn_to seat m next s (answers.Reserved j.id j.body) given w.0 w.1 refl i.0 (ap (λ (n : Machine). n.seats) i.1)
@@ -95,26 +117,34 @@ passes_hand_out seat m j s given next f (inr i) =
     let w = next_seat_waits m j s f in
     passes_turn_to seat m next s answers.OutOfMemory given w.0 w.1 refl i.0 (ap (λ (n : Machine). n.seats) i.1)
 
-passes_dispatch : (seat : ℕ) (m : Machine) (given : GivenAnswer) (next : Machine) → DispatchTurn m given next → Passes seat m.seats next.seats (given ∷ [])
+passes_dispatch : (seat : ℕ) (m : Machine) (given : GivenAnswer) (next : Machine) → DispatchTurn m given next
+    → Passes seat m.seats next.seats (given ∷ [])
 passes_dispatch seat m given next turn =
     let t = turn_of m given next turn in passes_hand_out seat m t.job t.client given next t.client_is t.hands
 
-passes_wait_end : (seat : ℕ) (m : Machine) (given : GivenAnswer) (next : Machine) → WaitEndTurn m given next → Passes seat m.seats next.seats (given ∷ [])
+passes_wait_end : (seat : ℕ) (m : Machine) (given : GivenAnswer) (next : Machine) → WaitEndTurn m given next
+    → Passes seat m.seats next.seats (given ∷ [])
 passes_wait_end seat m given next turn =
     let e = end_of m given next turn in
     let w = next_end_waits m e.client e.client_is in
     passes_turn_to seat m next e.client (end_of_wait m e.client) given w.0 w.1
-    (cond_both (is_deadline_soon m e.client) answers.DeadlineSoon answers.TimedOut (λ a. is_closed_answer a ≡ false) (λ d. refl) (λ d. refl)) e.given_is
+    (cond_both (is_deadline_soon m e.client) answers.DeadlineSoon answers.TimedOut (λ a. is_closed_answer a ≡ false) (λ d. refl)
+    (λ d. refl)) e.given_is
     (ap (λ (n : Machine). n.seats) e.next_is)
 
 -- turns one after another
-passes_chain : (Turns : Machine → GivenAnswer → Machine → Type 0) (seat : ℕ) (first : Machine) (given : List GivenAnswer) (last : Machine) → ((m : Machine) (g : GivenAnswer) (n : Machine) → Turns m g n → Passes seat m.seats n.seats (g ∷ [])) → Chain Turns first given last → Passes seat first.seats last.seats given
-passes_chain Turns seat first [] last each chain = subst (λ (n : Machine). Passes seat first.seats n.seats []) (sym chain) (passes_itself seat first.seats)
+passes_chain : (Turns : Machine → GivenAnswer → Machine → Type 0) (seat : ℕ) (first : Machine) (given : List GivenAnswer) (last : Machine)
+    → ((m : Machine) (g : GivenAnswer) (n : Machine) → Turns m g n → Passes seat m.seats n.seats (g ∷ [])) → Chain Turns first given last
+    → Passes seat first.seats last.seats given
+passes_chain Turns seat first [] last each chain =
+    subst (λ (n : Machine). Passes seat first.seats n.seats []) (sym chain) (passes_itself seat first.seats)
 passes_chain Turns seat first (g ∷ given) last each chain =
-    passes_then seat first.seats (chain.0).seats last.seats (g ∷ []) given (each first g chain.0 chain.1) (passes_chain Turns seat chain.0 given last each chain.2)
+    passes_then seat first.seats (chain.0).seats last.seats (g ∷ []) given (each first g chain.0 chain.1)
+    (passes_chain Turns seat chain.0 given last each chain.2)
 
 -- dispatch and the ends of waits
-pub passes_serves : (seat : ℕ) (first : Machine) (handed ended : List GivenAnswer) (last : Machine) → Serves first handed ended last → Passes seat first.seats last.seats (handed ++ ended)
+pub passes_serves : (seat : ℕ) (first : Machine) (handed ended : List GivenAnswer) (last : Machine) → Serves first handed ended last
+    → Passes seat first.seats last.seats (handed ++ ended)
 passes_serves seat first handed ended last s =
     let d = s.dispatches in
     let e = s.ends_waits in
@@ -133,12 +163,14 @@ pub record Found (seat : ℕ) (seats : List SeatRecord) : Type 0 where
   pub ended : ended_in seat seats ≡ client.ended
 
 -- A test of the client at the seat is a test of its record.
-found_any : (seat : ℕ) (seats : List SeatRecord) (s : SeatRecord) (p : SeatRecord → Bool) → s.number ≡ seat → Contains seats s → All (λ t. t.number ≡ seat → t ≡ s) seats → list_any (λ t. t.number == seat && p t) seats ≡ p s
+found_any : (seat : ℕ) (seats : List SeatRecord) (s : SeatRecord) (p : SeatRecord → Bool) → s.number ≡ seat → Contains seats s
+    → All (λ t. t.number ≡ seat → t ≡ s) seats → list_any (λ t. t.number == seat && p t) seats ≡ p s
 found_any seat seats s p is there alone =
     grind (arith, common_steps, cases_Bool, list_any_with, and_from, eq-eqb, list_any_not, all_weaker, and_right, eqb-true)
 
 -- If there are enough seats, one is found.
-finds_seat : (low n seat : ℕ) (seats : List SeatRecord) → map (λ s. s.number) seats ≡ numbers low n → low ≤ seat → seat < low + n → (s : SeatRecord) × (seat_with seat seats ≡ Some s)
+finds_seat : (low n seat : ℕ) (seats : List SeatRecord) → map (λ s. s.number) seats ≡ numbers low n → low ≤ seat → seat < low + n
+    → (s : SeatRecord) × (seat_with seat seats ≡ Some s)
 finds_seat low zero seat seats e from below = absurd (omega arith)
 finds_seat low (suc n) seat [] e from below = absurd cc
 finds_seat low (suc n) seat (s ∷ seats) e from below =
@@ -173,7 +205,8 @@ abbrev pub changed : ℕ → (SeatRecord → SeatRecord) → List SeatRecord →
 changed number f seats = map (λ s. cond (s.number == number) (f s) s) seats
 
 -- The changed seat fails a test that every change fails.
-pub changed_none : (number : ℕ) (f : SeatRecord → SeatRecord) (q : SeatRecord → Bool) (seats : List SeatRecord) → ((s : SeatRecord) → q (f s) ≡ false) → list_any (λ s. s.number == number && q s) (changed number f seats) ≡ false
+pub changed_none : (number : ℕ) (f : SeatRecord → SeatRecord) (q : SeatRecord → Bool) (seats : List SeatRecord)
+    → ((s : SeatRecord) → q (f s) ≡ false) → list_any (λ s. s.number == number && q s) (changed number f seats) ≡ false
 changed_none number f q seats fails =
     list_any_not (λ s. s.number == number && q s) (changed number f seats)
     (all_of_map (λ s. (s.number == number && q s) ≡ false) (λ s. cond (s.number == number) (f s) s) seats
@@ -183,17 +216,24 @@ changed_none number f q seats fails =
     (λ e. rw e refl))))
 
 -- The changed seat passes a test that every change passes.
-pub changed_some : (f : SeatRecord → SeatRecord) (q : SeatRecord → Bool) (seats : List SeatRecord) (s : SeatRecord) → Contains seats s → ((s : SeatRecord) → (f s).number ≡ s.number) → ((s : SeatRecord) → q (f s) ≡ true) → list_any (λ t. t.number == s.number && q t) (changed s.number f seats) ≡ true
+pub changed_some : (f : SeatRecord → SeatRecord) (q : SeatRecord → Bool) (seats : List SeatRecord) (s : SeatRecord) → Contains seats s
+    → ((s : SeatRecord) → (f s).number ≡ s.number) → ((s : SeatRecord) → q (f s) ≡ true)
+    → list_any (λ t. t.number == s.number && q t) (changed s.number f seats) ≡ true
 changed_some f q seats s there same passes =
     list_any_of_map (λ t. t.number == s.number) (λ t. t.number == s.number && q t) (λ t. cond (t.number == s.number) (f t) t) seats
-    (all_always (λ t. (t.number == s.number) ≡ true → ((cond (t.number == s.number) (f t) t).number == s.number && q (cond (t.number == s.number) (f t) t)) ≡ true) seats
+    (all_always (λ t. (t.number == s.number) ≡ true
+    → ((cond (t.number == s.number) (f t) t).number == s.number && q (cond (t.number == s.number) (f t) t)) ≡ true) seats
     (λ t e. rw e (and_from ((f t).number == s.number) (q (f t)) (rw (same t) e) (passes t))))
     (list_any_with (λ t. t.number == s.number) seats s there (eq-eqb s.number s.number refl))
 
 -- A change that keeps the number and the result of a test keeps the test's result at every seat.
-pub changed_quiet : (seat number : ℕ) (f : SeatRecord → SeatRecord) (q : SeatRecord → Bool) (seats : List SeatRecord) → ((s : SeatRecord) → (f s).number ≡ s.number) → ((s : SeatRecord) → q (f s) ≡ q s) → list_any (λ s. s.number == seat && q s) (changed number f seats) ≡ list_any (λ s. s.number == seat && q s) seats
+pub changed_quiet : (seat number : ℕ) (f : SeatRecord → SeatRecord) (q : SeatRecord → Bool) (seats : List SeatRecord)
+    → ((s : SeatRecord) → (f s).number ≡ s.number) → ((s : SeatRecord) → q (f s) ≡ q s)
+    → list_any (λ s. s.number == seat && q s) (changed number f seats) ≡ list_any (λ s. s.number == seat && q s) seats
 changed_quiet seat number f q seats same as_before = grind (arith, common_steps, any_of_map, cond_both)
 
 -- A change of another seat keeps the test's result at this one.
-pub changed_elsewhere : (client number : ℕ) (f : SeatRecord → SeatRecord) (q : SeatRecord → Bool) (seats : List SeatRecord) → (number == client) ≡ false → ((s : SeatRecord) → (f s).number ≡ s.number) → list_any (λ s. s.number == client && q s) (changed number f seats) ≡ list_any (λ s. s.number == client && q s) seats
+pub changed_elsewhere : (client number : ℕ) (f : SeatRecord → SeatRecord) (q : SeatRecord → Bool) (seats : List SeatRecord)
+    → (number == client) ≡ false → ((s : SeatRecord) → (f s).number ≡ s.number)
+    → list_any (λ s. s.number == client && q s) (changed number f seats) ≡ list_any (λ s. s.number == client && q s) seats
 changed_elsewhere client number f q seats other same = grind (arith, common_steps, any_of_map, cond_both, eqb-true)

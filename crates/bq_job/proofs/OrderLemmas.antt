@@ -1,5 +1,6 @@
 -- Undisturbed jobs of one tube and priority are handed out in the order of their puts.
-use Rattle.std.proofs.Common.{ℕ, ◌≡◌, ◌≤◌, ◌<◌, Bool, true, false, ◌||◌, cond, List, [], ◌∷◌, ◌++◌, arith, refl, sym, ap, ◌∙◌, subst, inl, inr, ◌⊎◌, Some}
+use Rattle.std.proofs.Common.{ℕ, ◌≡◌, ◌≤◌, ◌<◌, Bool, true, false, ◌||◌, cond, List, [], ◌∷◌}
+use Rattle.std.proofs.Common.{◌++◌, arith, refl, sym, ap, ◌∙◌, subst, inl, inr, ◌⊎◌, Some}
 use Rattle.std.proofs.lemmas.Bool.{both_ways, cases_Bool, eq-eqb, eqb-true, or_from, or_parts}
 use Rattle.std.proofs.lemmas.{Grind.common_steps, List.{Elements.Contains-append_cases, Folds.list_any-append}}
 use Rattle.std.specs.{List.{AllByRecursion as All, Contains, list_any}, Prelude.{◌==◌, option_map}}
@@ -10,7 +11,8 @@ use Rattle.bq_job.proofs.{ListLemmas.all_at, LookupLemmas.{found_job, job_at_end
 use Rattle.bq_job.proofs.SpentLemmas.{none_handed, none_more, put_lookup, spent_after, still_parts}
 
 -- A part in which neither of two things happens does not change their order.
-comes_behind : (one other : Happening → Bool) (happened more : List Happening) → list_any one happened ≡ false → list_any other happened ≡ false → comes_first one other (happened ++ more) ≡ comes_first one other more
+comes_behind : (one other : Happening → Bool) (happened more : List Happening) → list_any one happened ≡ false
+    → list_any other happened ≡ false → comes_first one other (happened ++ more) ≡ comes_first one other more
 comes_behind one other [] more h i = refl
 comes_behind one other (x ∷ happened) more h i =
     grind (arith, common_steps, or_parts, comes_behind one other happened more)
@@ -20,14 +22,16 @@ plain_puts_none id [] plain = refl
 plain_puts_none id (h ∷ happened) plain = grind (arith, common_steps, or_from, plain_puts_none id happened plain.1)
 
 -- a put that comes later, after a move without a put
-pub put_behind : (j : Job) (m n : Machine) (happened more : List Happening) → IsQuiet m happened n ⊎ IsHandOutMove m happened n → Contains (happened ++ more) (put j) → Contains more (put j)
+pub put_behind : (j : Job) (m n : Machine) (happened more : List Happening) → IsQuiet m happened n ⊎ IsHandOutMove m happened n
+    → Contains (happened ++ more) (put j) → Contains more (put j)
 put_behind j m n happened more move h = elim (Contains-append_cases happened more (put j) h) [ inl e ↦ absurd (of_move move e) | inr e ↦ e ]
   where
     of_move : IsQuiet m happened n ⊎ IsHandOutMove m happened n → Contains happened (put j) → ⊥
     of_move h i = grind (arith, common_steps, all_at)
 
 -- a put now, or later
-pub put_now_or_behind : (j : Job) (m n : Machine) (happened more : List Happening) (p : IsPutMove m happened n) → Contains (happened ++ more) (put j) → (p.job ≡ j) ⊎ Contains more (put j)
+pub put_now_or_behind : (j : Job) (m n : Machine) (happened more : List Happening) (p : IsPutMove m happened n)
+    → Contains (happened ++ more) (put j) → (p.job ≡ j) ⊎ Contains more (put j)
 put_now_or_behind j m n happened more p h = grind (arith, common_steps)
 
 -- A job that is put later gets an id that has not been given out yet.
@@ -37,16 +41,22 @@ put_above j m n (p ∷ parts) moves i =
     grind (arith, common_steps, quiet, put_behind, handing, putting, put_now_or_behind, put_above j p.machine n parts moves.1)
 
 -- Of two jobs, the one that is put first has no larger id.
-pub ids_in_order : (id : ℕ) (b : Job) (m n : Machine) (parts : List Part) → Moves m parts n → comes_first (is_put id) (is_put b.id) (happenings parts) ≡ true → Contains (happenings parts) (put b) → id ≤ b.id
+pub ids_in_order : (id : ℕ) (b : Job) (m n : Machine) (parts : List Part) → Moves m parts n
+    → comes_first (is_put id) (is_put b.id) (happenings parts) ≡ true → Contains (happenings parts) (put b) → id ≤ b.id
 ids_in_order id b m n [] moves first i = absurd cc
 ids_in_order id b m n (p ∷ parts) moves first i = at_move (ids_in_order id b p.machine n parts moves.1) moves.0
   where
-    later : (comes_first (is_put id) (is_put b.id) (happenings parts) ≡ true → Contains (happenings parts) (put b) → id ≤ b.id) → list_any (is_put id) p.happened ≡ false → list_any (is_put b.id) p.happened ≡ false → Contains (happenings parts) (put b) → id ≤ b.id
+    later : (comes_first (is_put id) (is_put b.id) (happenings parts) ≡ true → Contains (happenings parts) (put b) → id ≤ b.id)
+        → list_any (is_put id) p.happened ≡ false → list_any (is_put b.id) p.happened ≡ false
+        → Contains (happenings parts) (put b) → id ≤ b.id
     later go h j k = go (sym (comes_behind (is_put id) (is_put b.id) p.happened (happenings parts) h j) ∙ first) k
 
-    at_move : (comes_first (is_put id) (is_put b.id) (happenings parts) ≡ true → Contains (happenings parts) (put b) → id ≤ b.id) → Move m p.happened p.machine → id ≤ b.id
-    at_move go (quiet q) = later go (plain_puts_none id p.happened q.plain) (plain_puts_none b.id p.happened q.plain) (put_behind b m p.machine p.happened (happenings parts) (inl q) i)
-    at_move go (handing h) = later go (ap (list_any (is_put id)) h.happened_is) (ap (list_any (is_put b.id)) h.happened_is) (put_behind b m p.machine p.happened (happenings parts) (inr h) i)
+    at_move : (comes_first (is_put id) (is_put b.id) (happenings parts) ≡ true → Contains (happenings parts) (put b) → id ≤ b.id)
+        → Move m p.happened p.machine → id ≤ b.id
+    at_move go (quiet q) = later go (plain_puts_none id p.happened q.plain) (plain_puts_none b.id p.happened q.plain)
+        (put_behind b m p.machine p.happened (happenings parts) (inl q) i)
+    at_move go (handing h) = later go (ap (list_any (is_put id)) h.happened_is) (ap (list_any (is_put b.id)) h.happened_is)
+        (put_behind b m p.machine p.happened (happenings parts) (inr h) i)
     at_move go (putting q) =
         elim (cases_Bool (q.job.id == id)) [
           | inl e ↦
@@ -71,16 +81,26 @@ pub data Stands (j : Job) (m : Machine) (more : List Happening) : Type 0 where
   waits : IsReadyAs j m → Stands j m more
   unborn : m.next_id ≤ j.id → Contains more (put j) → Stands j m more
 
-ready_mapped : (j : Job) (m n : Machine) (more : List Happening) (r : IsReadyAs j m) (id moment seat : ℕ) → n.next_id ≡ m.next_id → job_with j.id n.jobs ≡ Some (cond (r.job.id == id) (reserved_by moment seat r.job) r.job) → Stands j n more
+ready_mapped : (j : Job) (m n : Machine) (more : List Happening) (r : IsReadyAs j m) (id moment seat : ℕ) → n.next_id ≡ m.next_id
+    → job_with j.id n.jobs ≡ Some (cond (r.job.id == id) (reserved_by moment seat r.job) r.job) → Stands j n more
 ready_mapped j m n more r id moment seat next e = grind (arith, common_steps, cases_Bool)
 
 -- where it is after a move
-stands_after : (j : Job) (m n k : Machine) (happened : List Happening) (parts : List Part) → Move m happened n → Moves n parts k → j.delay ≡ 0 → list_any (disturbs j.id) happened ≡ false → Stands j m (happened ++ happenings parts) → Stands j n (happenings parts)
+stands_after : (j : Job) (m n k : Machine) (happened : List Happening) (parts : List Part) → Move m happened n → Moves n parts k
+    → j.delay ≡ 0 → list_any (disturbs j.id) happened ≡ false → Stands j m (happened ++ happenings parts) → Stands j n (happenings parts)
 stands_after j m n k happened parts move moves now still (spent s) = spent (spent_after j.id m n happened move still s)
 stands_after j m n k happened parts (quiet q) moves now still (waits r) = grind (arith, common_steps)
 stands_after j m n k happened parts (putting p) moves now still (waits r) =
     let less = r.below in
-    waits (record { job = r.job; there = put_lookup j.id m n happened p less ∙ r.there; below = omega arith; ready = r.ready; pri = r.pri; tube = r.tube })
+    waits (record {
+      job = r.job;
+      there = put_lookup j.id m n happened p less
+          ∙ r.there;
+      below = omega arith;
+      ready = r.ready;
+      pri = r.pri;
+      tube = r.tube;
+    })
 stands_after j m n k happened parts (handing h) moves now still (waits r) =
     ready_mapped j m n (happenings parts) r h.job.id m.moment h.seat h.next
     (handed_lookup j.id m n happened h ∙ ap (option_map (λ i. cond (i.id == h.job.id) (reserved_by m.moment h.seat i) i)) r.there)
@@ -95,7 +115,8 @@ stands_after j m n k happened parts (putting p) moves now still (unborn above i)
     ]
 
 -- of two such jobs, the first is handed out first
-pub handed_in_order : (a b : Job) (m n : Machine) (parts : List Part) → Moves m parts n → a.delay ≡ 0 → b.delay ≡ 0 → a.pri ≡ b.pri → a.tube ≡ b.tube → a.id < b.id
+pub handed_in_order : (a b : Job) (m n : Machine) (parts : List Part) → Moves m parts n → a.delay ≡ 0 → b.delay ≡ 0 → a.pri ≡ b.pri
+    → a.tube ≡ b.tube → a.id < b.id
     → list_any (disturbs a.id) (happenings parts) ≡ false → list_any (disturbs b.id) (happenings parts) ≡ false
     → Stands a m (happenings parts) → Stands b m (happenings parts)
     → list_any (is_hand_out a.id) (happenings parts) ≡ true → list_any (is_hand_out b.id) (happenings parts) ≡ true
@@ -103,36 +124,48 @@ pub handed_in_order : (a b : Job) (m n : Machine) (parts : List Part) → Moves 
 handed_in_order a b m n [] moves now_a now_b pri tube less still_a still_b at_a at_b out_a out_b = absurd cc
 handed_in_order a b m n (p ∷ parts) moves now_a now_b pri tube less still_a still_b at_a at_b out_a out_b =
     at_move
-    (handed_in_order a b p.machine n parts moves.1 now_a now_b pri tube less (still_parts a.id p.happened (happenings parts) still_a).1 (still_parts b.id p.happened (happenings parts) still_b).1)
+    (handed_in_order a b p.machine n parts moves.1 now_a now_b pri tube less (still_parts a.id p.happened (happenings parts) still_a).1
+    (still_parts b.id p.happened (happenings parts) still_b).1)
     moves.0
   where
-    later : (Stands a p.machine (happenings parts) → Stands b p.machine (happenings parts) → list_any (is_hand_out a.id) (happenings parts) ≡ true → list_any (is_hand_out b.id) (happenings parts) ≡ true → comes_first (is_hand_out a.id) (is_hand_out b.id) (happenings parts) ≡ true)
-        → list_any (is_hand_out a.id) p.happened ≡ false → list_any (is_hand_out b.id) p.happened ≡ false → comes_first (is_hand_out a.id) (is_hand_out b.id) (p.happened ++ happenings parts) ≡ true
+    later : (Stands a p.machine (happenings parts) → Stands b p.machine (happenings parts)
+        → list_any (is_hand_out a.id) (happenings parts) ≡ true → list_any (is_hand_out b.id) (happenings parts) ≡ true
+        → comes_first (is_hand_out a.id) (is_hand_out b.id) (happenings parts) ≡ true)
+        → list_any (is_hand_out a.id) p.happened ≡ false → list_any (is_hand_out b.id) p.happened ≡ false
+        → comes_first (is_hand_out a.id) (is_hand_out b.id) (p.happened ++ happenings parts) ≡ true
     later go h i =
         let ja = still_parts a.id p.happened (happenings parts) still_a in
         let jb = still_parts b.id p.happened (happenings parts) still_b in
         let oa : list_any (is_hand_out a.id) (happenings parts) ≡ true = behind (is_hand_out a.id) h out_a in
         let ob : list_any (is_hand_out b.id) (happenings parts) ≡ true = behind (is_hand_out b.id) i out_b in
         comes_behind (is_hand_out a.id) (is_hand_out b.id) p.happened (happenings parts) h i
-        ∙ go (stands_after a m p.machine n p.happened parts moves.0 moves.1 now_a ja.0 at_a) (stands_after b m p.machine n p.happened parts moves.0 moves.1 now_b jb.0 at_b) oa ob
+        ∙ go (stands_after a m p.machine n p.happened parts moves.0 moves.1 now_a ja.0 at_a)
+        (stands_after b m p.machine n p.happened parts moves.0 moves.1 now_b jb.0 at_b) oa ob
       where
-        behind : (f : Happening → Bool) → list_any f p.happened ≡ false → list_any f (p.happened ++ happenings parts) ≡ true → list_any f (happenings parts) ≡ true
-        behind f none all = let both : (list_any f p.happened || list_any f (happenings parts)) ≡ true = sym (list_any-append f p.happened (happenings parts)) ∙ all in rw none at both
+        behind : (f : Happening → Bool) → list_any f p.happened ≡ false → list_any f (p.happened ++ happenings parts) ≡ true
+            → list_any f (happenings parts) ≡ true
+        behind f none all = let both : (list_any f p.happened || list_any f (happenings parts)) ≡ true = sym
+            (list_any-append f p.happened (happenings parts)) ∙ all in rw none at both
 
     of_second : (h : IsHandOutMove m p.happened p.machine) → h.job.id ≡ b.id → Stands a m (p.happened ++ happenings parts) → ⊥
-    of_second h is (spent s) = both_ways (list_any (is_hand_out a.id) (p.happened ++ happenings parts)) (none_more a.id m n (p ∷ parts) moves still_a s) out_a
+    of_second h is (spent s) = both_ways (list_any (is_hand_out a.id) (p.happened ++ happenings parts))
+        (none_more a.id m n (p ∷ parts) moves still_a s) out_a
     of_second h is (waits r) = grind (arith, common_steps, cases_Bool, found_job, both_ways)
     of_second h is (unborn above i) = let below = h.below in omega arith
 
-    at_move : (Stands a p.machine (happenings parts) → Stands b p.machine (happenings parts) → list_any (is_hand_out a.id) (happenings parts) ≡ true → list_any (is_hand_out b.id) (happenings parts) ≡ true → comes_first (is_hand_out a.id) (is_hand_out b.id) (happenings parts) ≡ true)
+    at_move : (Stands a p.machine (happenings parts) → Stands b p.machine (happenings parts)
+        → list_any (is_hand_out a.id) (happenings parts) ≡ true → list_any (is_hand_out b.id) (happenings parts) ≡ true
+        → comes_first (is_hand_out a.id) (is_hand_out b.id) (happenings parts) ≡ true)
         → Move m p.happened p.machine → comes_first (is_hand_out a.id) (is_hand_out b.id) (p.happened ++ happenings parts) ≡ true
     at_move go (quiet q) = later go (none_handed a.id p.happened q.plain) (none_handed b.id p.happened q.plain)
     at_move go (putting q) = later go (ap (list_any (is_hand_out a.id)) q.happened_is) (ap (list_any (is_hand_out b.id)) q.happened_is)
     at_move go (handing h) =
         elim (cases_Bool (h.job.id == a.id)) [
-          | inl e ↦ subst (λ hs. comes_first (is_hand_out a.id) (is_hand_out b.id) (hs ++ happenings parts) ≡ true) (sym h.happened_is) (rw e refl)
+          | inl e ↦ subst (λ hs. comes_first (is_hand_out a.id) (is_hand_out b.id) (hs ++ happenings parts) ≡ true)
+              (sym h.happened_is) (rw e refl)
           | inr e ↦ elim (cases_Bool (h.job.id == b.id)) [
             | inl f ↦ absurd (of_second h (eqb-true h.job.id b.id f) at_a)
-            | inr f ↦ later go (ap (list_any (is_hand_out a.id)) h.happened_is ∙ rw e refl) (ap (list_any (is_hand_out b.id)) h.happened_is ∙ rw f refl)
+            | inr f ↦ later go (ap (list_any (is_hand_out a.id)) h.happened_is ∙ rw e refl)
+                (ap (list_any (is_hand_out b.id)) h.happened_is ∙ rw f refl)
           ]
         ]

@@ -16,7 +16,8 @@ IsSame g h n o = (g ≡ h) × (n ≡ o)
 same_some : {A : Type 0} (o : Option A) (x y : A) → o ≡ Some x → o ≡ Some y → x ≡ y
 same_some o x y e f = cc
 
-dispatch_one : (m : Machine) (g h : GivenAnswer) (n o : Machine) → is_out_of_memory g.1 ≡ false → is_out_of_memory h.1 ≡ false → DispatchTurn m g n → DispatchTurn m h o → IsSame g h n o
+dispatch_one : (m : Machine) (g h : GivenAnswer) (n o : Machine) → is_out_of_memory g.1 ≡ false → is_out_of_memory h.1 ≡ false
+    → DispatchTurn m g n → DispatchTurn m h o → IsSame g h n o
 dispatch_one m g h n o e f a b = grind (arith, common_steps, turn_of, same_some)
 
 wait_end_one : (m : Machine) (g h : GivenAnswer) (n o : Machine) → WaitEndTurn m g n → WaitEndTurn m h o → IsSame g h n o
@@ -32,7 +33,8 @@ no_wait_end m g n e turn = let t = end_of m g n turn in let k = t.client_is in a
 module _ (Turns : Machine → GivenAnswer → Machine → Type 0) (fine : GivenAnswer → Bool) (Done : Machine → Type 0)
     (one : (m : Machine) (g h : GivenAnswer) (n o : Machine) → fine g ≡ false → fine h ≡ false → Turns m g n → Turns m h o → IsSame g h n o)
     (none : (m : Machine) (g : GivenAnswer) (n : Machine) → Done m → Turns m g n → ⊥) where
-  chain_one : (first : Machine) (xs ys : List GivenAnswer) (last end : Machine) → list_any fine xs ≡ false → list_any fine ys ≡ false → Done last → Done end → Chain Turns first xs last → Chain Turns first ys end → (xs ≡ ys) × (last ≡ end)
+  chain_one : (first : Machine) (xs ys : List GivenAnswer) (last end : Machine) → list_any fine xs ≡ false → list_any fine ys ≡ false
+      → Done last → Done end → Chain Turns first xs last → Chain Turns first ys end → (xs ≡ ys) × (last ≡ end)
   chain_one first [] [] last end e f d c a b = (refl, a ∙ sym b)
   chain_one first [] (y ∷ ys) last end e f d c a b = absurd (none first y b.0 (subst Done a d) b.1)
   chain_one first (x ∷ xs) [] last end e f d c a b = absurd (none first x a.0 (subst Done b c) a.1)
@@ -49,28 +51,44 @@ record AreSame (handed ended other_handed other_ended : List GivenAnswer) (last 
   ended_same : ended ≡ other_ended
   last_same : last ≡ other
 
-serves_one : (first : Machine) (xs ys zs ws : List GivenAnswer) (last other : Machine) → has_refused_share xs ≡ false → has_refused_share zs ≡ false → Serves first xs ys last → Serves first zs ws other → AreSame xs ys zs ws last other
+serves_one : (first : Machine) (xs ys zs ws : List GivenAnswer) (last other : Machine) → has_refused_share xs ≡ false
+    → has_refused_share zs ≡ false → Serves first xs ys last → Serves first zs ws other → AreSame xs ys zs ws last other
 serves_one first xs ys zs ws last other e f a b =
-    let d = chain_one DispatchTurn (λ g. is_out_of_memory g.1) (λ m. next_job m ≡ None) dispatch_one no_dispatch first xs zs a.dispatches.end b.dispatches.end e f a.dispatches.done b.dispatches.done a.dispatches.turns b.dispatches.turns in
+    let d = chain_one DispatchTurn (λ g. is_out_of_memory g.1)
+    (λ m. next_job m ≡ None) dispatch_one no_dispatch first xs zs a.dispatches.end b.dispatches.end e f a.dispatches.done
+    b.dispatches.done a.dispatches.turns b.dispatches.turns in
     let between : a.between ≡ b.between = a.dispatches.forgets ∙ ap forgetting d.1 ∙ sym b.dispatches.forgets in
-    let turns : Chain WaitEndTurn a.between ws b.ends_waits.end = subst (λ (m : Machine). Chain WaitEndTurn m ws b.ends_waits.end) (sym between) b.ends_waits.turns in
-    let w = chain_one WaitEndTurn (λ g. false) (λ m. next_end m ≡ None) (λ m g h n o x y. wait_end_one m g h n o) no_wait_end a.between ys ws a.ends_waits.end b.ends_waits.end (none_fails ys) (none_fails ws) a.ends_waits.done b.ends_waits.done a.ends_waits.turns turns in
+    let turns : Chain WaitEndTurn a.between ws b.ends_waits.end =
+    subst (λ (m : Machine). Chain WaitEndTurn m ws b.ends_waits.end) (sym between) b.ends_waits.turns in
+    let w = chain_one WaitEndTurn (λ g. false) (λ m. next_end m ≡ None)
+    (λ m g h n o x y. wait_end_one m g h n o) no_wait_end a.between ys ws a.ends_waits.end b.ends_waits.end (none_fails ys)
+    (none_fails ws) a.ends_waits.done b.ends_waits.done a.ends_waits.turns turns in
     record { handed_same = d.0; ended_same = w.0; last_same = a.ends_waits.forgets ∙ ap forgetting w.1 ∙ sym b.ends_waits.forgets }
 
-pub one_result : (first last other : Machine) (at seat : ℕ) (what : Step) (outcome : Outcome) (given others : List GivenAnswer) → outcome.unshared ≡ false → IsStep first at seat what outcome given last → IsStep first at seat what outcome others other → (given ≡ others) × (last ≡ other)
+pub one_result : (first last other : Machine) (at seat : ℕ) (what : Step) (outcome : Outcome) (given others : List GivenAnswer)
+    → outcome.unshared ≡ false → IsStep first at seat what outcome given last → IsStep first at seat what outcome others other
+    → (given ≡ others) × (last ≡ other)
 one_result first last other at seat what outcome given others shared a b =
     let p = parts_of_sharing a.memory a.handed a.handed_then (sym a.unshared ∙ shared) in
     let q = parts_of_sharing b.memory b.handed b.handed_then (sym b.unshared ∙ shared) in
     let memory : a.memory ≡ b.memory = grind (arith, common_steps) in
-    let one = serves_one (forgetting (after_timers (at_moment at first))) a.handed a.ended b.handed b.ended a.before b.before p.1 q.1 a.serves b.serves in
-    let act : acted a.memory a.before seat what ≡ acted b.memory b.before seat what = ap (λ x. acted x a.before seat what) memory ∙ ap (λ (m : Machine). acted b.memory m seat what) one.last_same in
+    let one = serves_one (forgetting (after_timers (at_moment at first))) a.handed a.ended b.handed b.ended a.before b.before p.1 q.1
+    a.serves b.serves in
+    let act : acted a.memory a.before seat what ≡ acted b.memory b.before seat what =
+    ap (λ x. acted x a.before seat what) memory ∙ ap (λ (m : Machine). acted b.memory m seat what) one.last_same in
     let after : a.after ≡ b.after = a.acts ∙ ap (λ (e : Effect). forgetting e.machine) act ∙ sym b.acts in
-    let two = serves_one a.after a.handed_then a.ended_then b.handed_then b.ended_then last other p.2 q.2 a.serves_then (subst (λ (m : Machine). Serves m b.handed_then b.ended_then other) (sym after) b.serves_then) in
+    let two = serves_one a.after a.handed_then a.ended_then b.handed_then b.ended_then last other p.2 q.2 a.serves_then
+    (subst (λ (m : Machine). Serves m b.handed_then b.ended_then other) (sym after) b.serves_then) in
     (a.answers_are ∙ rw (one.handed_same, one.ended_same, act, two.handed_same, two.ended_same) refl ∙ sym b.answers_are, two.last_same)
   where
-    parts_of_sharing : (memory : Memory) (handed handed_then : List GivenAnswer) → (is_share_refused memory || has_refused_share handed || has_refused_share handed_then) ≡ false → (is_share_refused memory ≡ false) × (has_refused_share handed ≡ false) × (has_refused_share handed_then ≡ false)
+    parts_of_sharing : (memory : Memory) (handed handed_then : List GivenAnswer)
+        → (is_share_refused memory || has_refused_share handed || has_refused_share handed_then) ≡ false
+        → (is_share_refused memory ≡ false) × (has_refused_share handed ≡ false) × (has_refused_share handed_then ≡ false)
     parts_of_sharing memory handed handed_then e = grind (arith, common_steps, or_parts)
 
-pub computed_result : (first last : Machine) (at seat : ℕ) (what : Step) (given : List GivenAnswer) → IsStep first at seat what ample given last → (given ≡ (stepped first at seat what).given) × (last ≡ (stepped first at seat what).machine)
+pub computed_result : (first last : Machine) (at seat : ℕ) (what : Step) (given : List GivenAnswer)
+    → IsStep first at seat what ample given last
+    → (given ≡ (stepped first at seat what).given) × (last ≡ (stepped first at seat what).machine)
 computed_result first last at seat what given s =
-    one_result first last (stepped first at seat what).machine at seat what ample given (stepped first at seat what).given refl s (stepped_is_step first at seat what)
+    one_result first last (stepped first at seat what).machine at seat what ample given (stepped first at seat what).given refl s
+    (stepped_is_step first at seat what)

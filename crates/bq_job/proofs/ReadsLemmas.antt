@@ -1,5 +1,6 @@
 -- Every text has one reading.
-use Rattle.std.proofs.Common.{◌≡◌, ℕ, zero, suc, ◌≤◌, Bool, true, false, List, [], ◌∷◌, ◌++◌, Option, Some, None, ◌⊎◌, inl, inr, refl, sym, ap, ◌∙◌, arith, length, length-append, append_assoc, IsTrue, not, ◌&&◌}
+use Rattle.std.proofs.Common.{◌≡◌, ℕ, zero, suc, ◌≤◌, Bool, true, false, List, [], ◌∷◌, ◌++◌, Option, Some, None}
+use Rattle.std.proofs.Common.{◌⊎◌, inl, inr, refl, sym, ap, ◌∙◌, arith, length, length-append, append_assoc, IsTrue, not, ◌&&◌}
 use Rattle.std.proofs.lemmas.{Bool.cases_Bool, Grind.common_steps}
 use Rattle.bq_job.specs.reading.Reading.{Reads, AreUnits, IsUnit, BeginsNoUnit, is_quit, quits_last, ends_by_quit}
 use Rattle.bq_job.specs.beside.{AreSameRequests, IsSameRequest, first_unit, onto_reading, reading, reading_within}
@@ -9,7 +10,8 @@ use Rattle.bq_job.proofs.UnitLemmas.{first_unit-append, first_unit-unit, no_firs
 none_read : (n : ℕ) (size : ℕ) (text : List ℕ) → first_unit size text ≡ None → reading_within (suc n) size text ≡ ([], text)
 none_read n size text e = rw (e, reading_within) refl
 
-quit_read : (n : ℕ) (size : ℕ) (text after : List ℕ) (r : Request) → first_unit size text ≡ Some (r, after) → is_quit r ≡ true → reading_within (suc n) size text ≡ (r ∷ [], after)
+quit_read : (n : ℕ) (size : ℕ) (text after : List ℕ) (r : Request) → first_unit size text ≡ Some (r, after) → is_quit r ≡ true
+    → reading_within (suc n) size text ≡ (r ∷ [], after)
 quit_read n size text after r e q = rw (e, q, reading_within) refl
 
 more_read : (n : ℕ) (size : ℕ) (text after : List ℕ) (r : Request) → first_unit size text ≡ Some (r, after) → is_quit r ≡ false
@@ -17,7 +19,8 @@ more_read : (n : ℕ) (size : ℕ) (text after : List ℕ) (r : Request) → fir
 more_read n size text after r e q = rw (e, q, reading_within) refl
 
 -- a reading of a quit
-pub Reads-quit : (size : ℕ) (text unit after : List ℕ) (r : Request) → text ≡ unit ++ after → IsUnit size unit r → is_quit r ≡ true → Reads size text (r ∷ []) after
+pub Reads-quit : (size : ℕ) (text unit after : List ℕ) (r : Request) → text ≡ unit ++ after → IsUnit size unit r → is_quit r ≡ true
+    → Reads size text (r ∷ []) after
 Reads-quit size text unit after r is u q = grind (arith, common_steps)
 
 -- a unit in front of a text that is read
@@ -31,14 +34,23 @@ Reads-onto size text unit after rest r requests is u q more = record {
   ended = go requests more.ended;
 }
   where
-    no_quit : (r : Request) (requests : List Request) → is_quit r ≡ false → IsTrue (quits_last requests) → IsTrue (quits_last (r ∷ requests))
+    no_quit : (r : Request) (requests : List Request) → is_quit r ≡ false → IsTrue (quits_last requests)
+        → IsTrue (quits_last (r ∷ requests))
     no_quit r requests q last = grind (arith, common_steps)
 
-    go : (requests : List Request) → IsTrue (ends_by_quit requests) ⊎ BeginsNoUnit size rest → IsTrue (ends_by_quit (r ∷ requests)) ⊎ BeginsNoUnit size rest
+    go : (requests : List Request) → IsTrue (ends_by_quit requests) ⊎ BeginsNoUnit size rest
+        → IsTrue (ends_by_quit (r ∷ requests)) ⊎ BeginsNoUnit size rest
     go requests e = grind (arith, common_steps)
 
-reading_within-Reads : (n : ℕ) (size : ℕ) (text : List ℕ) → length text ≤ n → Reads size text (reading_within n size text).0 (reading_within n size text).1
-reading_within-Reads zero size [] short = record { units = []; text_is = refl; are_units = refl; last_quits = refl; ended = inr (no_first_unit size [] refl) }
+reading_within-Reads : (n : ℕ) (size : ℕ) (text : List ℕ) → length text ≤ n
+    → Reads size text (reading_within n size text).0 (reading_within n size text).1
+reading_within-Reads zero size [] short = record {
+  units = [];
+  text_is = refl;
+  are_units = refl;
+  last_quits = refl;
+  ended = inr (no_first_unit size [] refl);
+}
 reading_within-Reads zero size (b ∷ text) short = absurd (grind (arith, common_steps))
 reading_within-Reads (suc n) size text short = go (reading_within-Reads n size) (first_unit size text) refl
   where
@@ -52,11 +64,14 @@ reading_within-Reads (suc n) size text short = go (reading_within-Reads n size) 
         let unit = first_unit-unit size text after r e in
         let shorter : length after ≤ n = omega (arith, length-append unit.0 after, ap length unit.1) in
         rw (more_read n size text after r e q)
-        (Reads-onto size text unit.0 after (reading_within n size after).1 r (reading_within n size after).0 unit.1 unit.2 q (next after shorter))
+        (Reads-onto size text unit.0 after (reading_within n size after).1 r (reading_within n size after).0 unit.1 unit.2 q
+        (next after shorter))
 
     go : ((after : List ℕ) → length after ≤ n → Reads size after (reading_within n size after).0 (reading_within n size after).1)
-        → (o : Option (Request × List ℕ)) → first_unit size text ≡ o → Reads size text (reading_within (suc n) size text).0 (reading_within (suc n) size text).1
-    go next None e = rw (none_read n size text e) (record { units = []; text_is = refl; are_units = refl; last_quits = refl; ended = inr (no_first_unit size text e) })
+        → (o : Option (Request × List ℕ)) → first_unit size text ≡ o
+        → Reads size text (reading_within (suc n) size text).0 (reading_within (suc n) size text).1
+    go next None e = rw (none_read n size text e)
+        (record { units = []; text_is = refl; are_units = refl; last_quits = refl; ended = inr (no_first_unit size text e) })
     go next (Some (r, after)) e = read_on next after r e (is_quit r) refl
 
 pub reading-Reads : (size : ℕ) (text : List ℕ) → Reads size text (reading size text).0 (reading size text).1
@@ -66,7 +81,8 @@ reading-Reads size text = reading_within-Reads (length text) size text (omega ar
 pub ruleset computed_readings = (reading-Reads)
 
 quits_later : (r s : Request) (rs : List Request) → IsTrue (quits_last (r ∷ s ∷ rs)) → IsTrue (quits_last (s ∷ rs))
-quits_later r s rs h = (elim (is_quit r) as (λ t. (not t && quits_last (s ∷ rs)) ≡ true → quits_last (s ∷ rs) ≡ true) [ true ↦ λ e. cc | false ↦ λ e. e ]) h
+quits_later r s rs h = (elim (is_quit r) as
+    (λ t. (not t && quits_last (s ∷ rs)) ≡ true → quits_last (s ∷ rs) ≡ true) [ true ↦ λ e. cc | false ↦ λ e. e ]) h
 
 abbrev IsEnded : ℕ → List Request → List ℕ → Type 0
 IsEnded size requests rest = IsTrue (ends_by_quit requests) ⊎ BeginsNoUnit size rest
@@ -76,7 +92,8 @@ first_same : (size : ℕ) (r s : Request) (rs ss : List Request) (u v rest other
     → (a : AreUnits size u (r ∷ rs)) (b : AreUnits size v (s ∷ ss)) → (a.1 ++ rest ≡ b.1 ++ other) × IsSameRequest r s
 first_same size r s rs ss u v rest other e a b =
     let whole : a.0 ++ (a.1 ++ rest) ≡ b.0 ++ (b.1 ++ other) = grind (arith, common_steps, append_assoc) in
-    let one = first_unit-append size a.0 (a.1 ++ rest) r a.3 in let two = first_unit-append size b.0 (b.1 ++ other) s b.3 in grind (arith, common_steps, some_pair)
+    let one = first_unit-append size a.0 (a.1 ++ rest) r a.3 in let two = first_unit-append size b.0 (b.1 ++ other) s b.3 in
+    grind (arith, common_steps, some_pair)
 
 units_unique : (size : ℕ) (firsts seconds : List Request) (u v rest other : List ℕ) → u ++ rest ≡ v ++ other
     → AreUnits size u firsts → AreUnits size v seconds → IsTrue (quits_last firsts) → IsTrue (quits_last seconds)
@@ -114,4 +131,5 @@ units_unique size (r ∷ r2 ∷ rs) (s ∷ s2 ∷ ss) u v rest other e a b fq sq
 pub Reads-unique : (size : ℕ) (text : List ℕ) (firsts seconds : List Request) (rest other : List ℕ)
     → Reads size text firsts rest → Reads size text seconds other → (rest ≡ other) × AreSameRequests firsts seconds
 Reads-unique size text firsts seconds rest other a b =
-    units_unique size firsts seconds a.units b.units rest other (sym a.text_is ∙ b.text_is) a.are_units b.are_units a.last_quits b.last_quits a.ended b.ended
+    units_unique size firsts seconds a.units b.units rest other
+    (sym a.text_is ∙ b.text_is) a.are_units b.are_units a.last_quits b.last_quits a.ended b.ended

@@ -38,10 +38,12 @@ abbrev in_order : List TubeRecord → Bool
 in_order tubes = is_in_order (map (λ t. t.name) tubes)
 
 first_record : (t : TubeRecord) (tubes : List TubeRecord) → in_order (t ∷ tubes) ≡ true → IsFirst t.name tubes
-first_record t tubes h = all_before_map (λ n. is_name_before t.name n ≡ true) (λ u. u.name) tubes (first_of_order t.name (map (λ u. u.name) tubes) h)
+first_record t tubes h = all_before_map (λ n. is_name_before t.name n ≡ true) (λ u. u.name) tubes
+    (first_of_order t.name (map (λ u. u.name) tubes) h)
 
 with_first : (t : TubeRecord) (tubes : List TubeRecord) → IsFirst t.name tubes → in_order tubes ≡ true → in_order (t ∷ tubes) ≡ true
-with_first t tubes first h = in_order_from t.name (map (λ u. u.name) tubes) (all_of_map (λ n. is_name_before t.name n ≡ true) (λ u. u.name) tubes first) h
+with_first t tubes first h = in_order_from t.name (map (λ u. u.name) tubes)
+    (all_of_map (λ n. is_name_before t.name n ≡ true) (λ u. u.name) tubes first) h
 
 rest_records : (t : TubeRecord) (tubes : List TubeRecord) → in_order (t ∷ tubes) ≡ true → in_order tubes ≡ true
 rest_records t tubes h = rest_in_order t.name (map (λ u. u.name) tubes) h
@@ -50,20 +52,33 @@ rest_records t tubes h = rest_in_order t.name (map (λ u. u.name) tubes) h
 ordered_filter : (p : TubeRecord → Bool) (tubes : List TubeRecord) → in_order tubes ≡ true → in_order (filter p tubes) ≡ true
 ordered_filter p [] h = refl
 ordered_filter p (t ∷ tubes) h =
-    grind (arith, common_steps, rest_records, cases_Bool, with_first, all_weaker, all_of_filter, first_record, ordered_filter p tubes (rest_records t tubes h))
+    grind (
+      arith,
+      common_steps,
+      rest_records,
+      cases_Bool,
+      with_first,
+      all_weaker,
+      all_of_filter,
+      first_record,
+      ordered_filter p tubes (rest_records t tubes h),
+    )
 
 -- a record is inserted in order
-first_with : (name : List ℕ) (t : TubeRecord) (tubes : List TubeRecord) → is_name_before name t.name ≡ true → IsFirst name tubes → IsFirst name (with_record t tubes)
+first_with : (name : List ℕ) (t : TubeRecord) (tubes : List TubeRecord) → is_name_before name t.name ≡ true → IsFirst name tubes
+    → IsFirst name (with_record t tubes)
 first_with name t [] b h = (b, tt)
 first_with name t (u ∷ tubes) b h = grind (arith, common_steps, cond_both, first_with name t tubes b h.1)
 
 ordered_with : (t : TubeRecord) (tubes : List TubeRecord) → in_order tubes ≡ true → in_order (with_record t tubes) ≡ true
 ordered_with t [] h = refl
 ordered_with t (u ∷ tubes) h =
-    cond_both (is_same_name t.name u.name) (t ∷ tubes) (cond (is_name_before t.name u.name) (t ∷ u ∷ tubes) (u ∷ with_record t tubes)) (λ xs. in_order xs ≡ true)
+    cond_both (is_same_name t.name u.name) (t ∷ tubes) (cond (is_name_before t.name u.name) (t ∷ u ∷ tubes) (u ∷ with_record t tubes))
+    (λ xs. in_order xs ≡ true)
     (λ e. subst (λ n. is_in_order (n ∷ map (λ v. v.name) tubes) ≡ true) (sym ((bytes_decides t.name u.name).0 e)) h)
     (λ e. cond_both (is_name_before t.name u.name) (t ∷ u ∷ tubes) (u ∷ with_record t tubes) (λ xs. in_order xs ≡ true) (λ f. rw f h)
-    (λ f. with_first u (with_record t tubes) (first_with u.name t tubes (after t.name u.name e f) (first_record u tubes h)) (ordered_with t tubes (rest_records u tubes h))))
+    (λ f. with_first u (with_record t tubes) (first_with u.name t tubes (after t.name u.name e f) (first_record u tubes h))
+    (ordered_with t tubes (rest_records u tubes h))))
 
 -- the parts of a step
 pub booked_forgetting : (m : Machine) → Booked m → Booked (forgetting m)
@@ -73,7 +88,8 @@ pub booked_timers : (at : ℕ) (m : Machine) → Booked m → Booked (forgetting
 booked_timers at m h = search (rules, booked_forgetting, min-le_right, keys_of_map, all_always)
 
 -- the seat of one number changes
-booked_seat : (number : ℕ) (f : SeatRecord → SeatRecord) (m : Machine) → Booked m → ((s : SeatRecord) → watches_once s ≡ true → watches_once (f s) ≡ true) → Booked (with_seat number f m)
+booked_seat : (number : ℕ) (f : SeatRecord → SeatRecord) (m : Machine) → Booked m
+    → ((s : SeatRecord) → watches_once s ≡ true → watches_once (f s) ≡ true) → Booked (with_seat number f m)
 booked_seat number f m h well = grind (arith, common_steps, all_of_map, all_weaker, cond_both)
 
 booked_dispatch : (m : Machine) (given : GivenAnswer) (next : Machine) → Booked m → DispatchTurn m given next → Booked next
@@ -82,23 +98,30 @@ booked_dispatch m given next h turn = grind (arith, common_steps, cases_Bool, bo
 booked_wait_end : (m : Machine) (given : GivenAnswer) (next : Machine) → Booked m → WaitEndTurn m given next → Booked next
 booked_wait_end m given next h turn = grind (arith, common_steps, booked_seat)
 
-booked_chain : (Turns : Machine → GivenAnswer → Machine → Type 0) (first : Machine) (given : List GivenAnswer) (last : Machine) → ((m : Machine) (g : GivenAnswer) (n : Machine) → Booked m → Turns m g n → Booked n) → Booked first → Chain Turns first given last → Booked last
+booked_chain : (Turns : Machine → GivenAnswer → Machine → Type 0) (first : Machine) (given : List GivenAnswer) (last : Machine)
+    → ((m : Machine) (g : GivenAnswer) (n : Machine) → Booked m → Turns m g n → Booked n) → Booked first
+    → Chain Turns first given last → Booked last
 booked_chain Turns first [] last each h chain = subst Booked (sym chain) h
 booked_chain Turns first (g ∷ given) last each h chain = booked_chain Turns chain.0 given last each (each first g chain.0 h chain.1) chain.2
 
 -- before forgetting once more
-pub booked_served : (first : Machine) (handed ended : List GivenAnswer) (last : Machine) → Booked first → (s : Serves first handed ended last) → Booked s.ends_waits.end
+pub booked_served : (first : Machine) (handed ended : List GivenAnswer) (last : Machine) → Booked first
+    → (s : Serves first handed ended last) → Booked s.ends_waits.end
 booked_served first handed ended last h s =
     let d = s.dispatches in
     let e = s.ends_waits in
     let dispatched = booked_chain DispatchTurn first handed d.end booked_dispatch h d.turns in
-    booked_chain WaitEndTurn s.between ended e.end booked_wait_end (subst Booked (sym d.forgets) (booked_forgetting d.end dispatched)) e.turns
+    booked_chain WaitEndTurn s.between ended e.end booked_wait_end
+    (subst Booked (sym d.forgets) (booked_forgetting d.end dispatched)) e.turns
 
-pub booked_through : (first : Machine) (handed ended : List GivenAnswer) (last : Machine) → Booked first → (s : Serves first handed ended last) → Booked last
-booked_through first handed ended last h s = subst Booked (sym s.ends_waits.forgets) (booked_forgetting s.ends_waits.end (booked_served first handed ended last h s))
+pub booked_through : (first : Machine) (handed ended : List GivenAnswer) (last : Machine) → Booked first
+    → (s : Serves first handed ended last) → Booked last
+booked_through first handed ended last h s =
+    subst Booked (sym s.ends_waits.forgets) (booked_forgetting s.ends_waits.end (booked_served first handed ended last h s))
 
 -- every kind of command
-booked_kind : (request : Request) (m : Machine) (s : SeatRecord) {e : Effect} → Kind m s request e → Booked m → watches_once s ≡ true → Booked e.machine
+booked_kind : (request : Request) (m : Machine) (s : SeatRecord) {e : Effect} → Kind m s request e → Booked m
+    → watches_once s ≡ true → Booked e.machine
 booked_kind request m s k h w =
     grind (arith, common_steps, cases_Bool, ordered_with, booked_seat)
 
@@ -110,7 +133,8 @@ pub booked_acted : (memory : Memory) (m : Machine) (seat : ℕ) (what : Step) �
 booked_acted memory m seat what h = each_acted m seat (λ what e. Booked e.machine) (record {
   nothing = λ what. h;
   connects = λ s is. grind (arith, common_steps, booked_seat);
-  asks = λ request s is c w. booked_kind request m s (kind_of request m s) h (all_at (λ t. watches_once t ≡ true) m.seats s h.watched is.there);
+  asks = λ request s is c w. booked_kind request m s (kind_of request m s) h
+      (all_at (λ t. watches_once t ≡ true) m.seats s h.watched is.there);
   ends = λ s is. booked_seat s.number with_end m h (λ t i. i);
   closes = λ s is. booked_close m s.number h;
   drains = h;

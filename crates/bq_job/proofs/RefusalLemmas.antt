@@ -30,17 +30,23 @@ honest_acted memory m seat what = each_acted m seat (λ what e. Honest m e) (rec
   connects = λ s is. unanswered m _;
   asks = λ request s is c w. honest_kind request m s (kind_of request m s);
   ends = λ s is. unanswered m _;
-  closes = λ s is. (λ a e r. absurd (let same : answers.Closed ≡ a = (cc) in both_ways (is_refusal a) (subst (λ x. is_refusal x ≡ false) same refl) r));
+  closes =
+      λ s is. (λ a e r. absurd (let same : answers.Closed ≡ a = (cc) in
+      both_ways (is_refusal a) (subst (λ x. is_refusal x ≡ false) same refl) r));
   drains = unanswered m _;
 }) (λ what. unchanged m answers.OutOfMemory) memory what
 
 -- No client is served after it, because all were served before it.
-pub refused_is_tick : (first last : Machine) (at seat : ℕ) (what : Step) (outcome : Outcome) (given : List GivenAnswer) (answer : Answer) → IsLawful first → (step : IsStep first at seat what outcome given last) → (acted step.memory step.before seat what).answer ≡ Some answer → IsTrue (is_refusal answer) → ChangesNothing (parts_of step) seat what answer given last
+pub refused_is_tick : (first last : Machine) (at seat : ℕ) (what : Step) (outcome : Outcome) (given : List GivenAnswer) (answer : Answer)
+    → IsLawful first → (step : IsStep first at seat what outcome given last)
+    → (acted step.memory step.before seat what).answer ≡ Some answer → IsTrue (is_refusal answer)
+    → ChangesNothing (parts_of step) seat what answer given last
 refused_is_tick first last at seat what outcome given answer h s e r =
     let before = lawful_when_served (forgetting (after_timers (at_moment at first))) s.handed s.ended s.before
     (kept_of_timers at first (kept_of_lawful first h)) (booked_timers at first (booked_of_lawful first h)) s.serves in
     let same = honest_acted s.memory s.before seat what answer e r in
     let kept = forgets_nothing s.before before.tubes in
     let after : s.after ≡ s.before = s.acts ∙ ap forgetting same ∙ kept in
-    let quiet = serves_nobody s.before s.handed_then s.ended_then last before.dispatched before.wait_ends kept (subst (λ (m : Machine). Serves m s.handed_then s.ended_then last) after s.serves_then) in
+    let quiet = serves_nobody s.before s.handed_then s.ended_then last before.dispatched before.wait_ends kept
+    (subst (λ (m : Machine). Serves m s.handed_then s.ended_then last) after s.serves_then) in
     grind (arith, common_steps, append-nil)

@@ -10,11 +10,13 @@ pub replay_none : (settings : Settings) → Replay settings [] [] (new_machine s
 replay_none settings = record { taken = []; goes = refl; history_is = refl; outcomes_are = refl; given_is = refl }
 
 -- the steps of a run, and one more step
-goes_more : (first next last : Machine) (taken : List Transition) (t : Transition) → GoesBy first taken next → t.first ≡ next → IsTransition t → last ≡ t.last → GoesBy first (taken ++ t ∷ []) last
+goes_more : (first next last : Machine) (taken : List Transition) (t : Transition) → GoesBy first taken next → t.first ≡ next
+    → IsTransition t → last ≡ t.last → GoesBy first (taken ++ t ∷ []) last
 goes_more first next last [] t goes starts is ends = (starts ∙ goes, is, ends)
 goes_more first next last (u ∷ taken) t goes starts is ends = (goes.0, goes.1, goes_more u.last next last taken t goes.2 starts is ends)
 
-pub replay_more : (settings : Settings) (journal : List JournalEntry) (entry : JournalEntry) (given more : List GivenAnswer) (next last : Machine)
+pub replay_more : (settings : Settings) (journal : List JournalEntry) (entry : JournalEntry) (given more : List GivenAnswer)
+    (next last : Machine)
     → Replay settings journal given next → IsStep next entry.moment entry.seat entry.step (outcome_of entry) more last
     → Replay settings (journal ++ entry ∷ []) (given ++ more) last
 replay_more settings journal entry given more next last r step =
@@ -56,8 +58,12 @@ one_run first last other (entry ∷ journal) (t ∷ taken) (u ∷ others) g h o 
     let step : IsStep first entry.moment entry.seat entry.step (outcome_of entry) t.given t.last = grind (arith, common_steps) in
     let step' : IsStep first entry.moment entry.seat entry.step (outcome_of entry) u.given u.last = grind (arith, common_steps) in
     let one = one_result first t.last u.last entry.moment entry.seat entry.step (outcome_of entry) t.given u.given refl step step' in
-    let rest = one_run t.last last other journal taken others g.2 a.1 b.1 (subst (λ (m : Machine). GoesBy m others other) (sym one.1) g'.2) a'.1 b'.1 in
-    (ap (λ (xs : List GivenAnswer). xs ++ flat_map (λ (v : Transition). v.given) taken) one.0 ∙ ap (λ (xs : List GivenAnswer). u.given ++ xs) rest.0, rest.1)
+    let rest = one_run t.last last other journal taken others g.2 a.1 b.1
+    (subst (λ (m : Machine). GoesBy m others other) (sym one.1) g'.2) a'.1 b'.1 in (
+      ap (λ (xs : List GivenAnswer). xs ++ flat_map (λ (v : Transition). v.given) taken) one.0
+          ∙ ap (λ (xs : List GivenAnswer). u.given ++ xs) rest.0,
+      rest.1,
+    )
 
 pub one_replay : (settings : Settings) (journal : List JournalEntry) (given others : List GivenAnswer) (last other : Machine)
     → Replay settings journal given last → Replay settings journal others other → (given ≡ others) × (last ≡ other)

@@ -1,5 +1,6 @@
 -- A job that is held or gone is not handed out again as long as nothing disturbs it.
-use Rattle.std.proofs.Common.{ℕ, ◌≡◌, ◌≤◌, ◌<◌, ◌+◌, true, false, cond, List, [], ◌∷◌, ◌++◌, arith, refl, sym, ap, ◌∙◌, subst, inl, inr, Option, Some, None}
+use Rattle.std.proofs.Common.{ℕ, ◌≡◌, ◌≤◌, ◌<◌, ◌+◌, true, false, cond, List, [], ◌∷◌, ◌++◌}
+use Rattle.std.proofs.Common.{arith, refl, sym, ap, ◌∙◌, subst, inl, inr, Option, Some, None}
 use Rattle.std.proofs.lemmas.Bool.{cases_Bool, or_parts, or_from, both_ways, cond_both, eqb-true, eq-eqb, false_from_ne_true}
 use Rattle.std.proofs.lemmas.{Grind.common_steps, List.{Folds.list_any-append, Sums.sum_by-append}}
 use Rattle.std.specs.{List.{AllByRecursion as All, list_any}, Prelude.{◌==◌, count_by, option_map}}
@@ -22,17 +23,21 @@ plain_hands_none id h e = grind (arith, common_steps, cases_Bool)
 
 pub none_handed : (id : ℕ) (happened : List Happening) → All (λ h. is_plain h ≡ true) happened → list_any (is_hand_out id) happened ≡ false
 none_handed id [] plain = refl
-none_handed id (h ∷ happened) plain = or_from (is_hand_out id h) (list_any (is_hand_out id) happened) (plain_hands_none id h plain.0) (none_handed id happened plain.1)
+none_handed id (h ∷ happened) plain = or_from (is_hand_out id h) (list_any (is_hand_out id) happened) (plain_hands_none id h plain.0)
+    (none_handed id happened plain.1)
 
 -- lookup after a hand-out
-pub handed_lookup : (id : ℕ) (m n : Machine) (happened : List Happening) (h : IsHandOutMove m happened n) → job_with id n.jobs ≡ option_map (λ j. cond (j.id == h.job.id) (reserved_by m.moment h.seat j) j) (job_with id m.jobs)
+pub handed_lookup : (id : ℕ) (m n : Machine) (happened : List Happening) (h : IsHandOutMove m happened n)
+    → job_with id n.jobs ≡ option_map (λ j. cond (j.id == h.job.id) (reserved_by m.moment h.seat j) j) (job_with id m.jobs)
 handed_lookup id m n happened h = grind (arith, common_steps, job_in_map, cond_both)
 
 -- lookup of another id after a put
-pub put_lookup : (id : ℕ) (m n : Machine) (happened : List Happening) (h : IsPutMove m happened n) → id < m.next_id → job_with id n.jobs ≡ job_with id m.jobs
+pub put_lookup : (id : ℕ) (m n : Machine) (happened : List Happening) (h : IsPutMove m happened n) → id < m.next_id
+    → job_with id n.jobs ≡ job_with id m.jobs
 put_lookup id m n happened h less = grind (arith, common_steps, job_in_more, false_from_ne_true, eqb-true)
 
-pub spent_after : (id : ℕ) (m n : Machine) (happened : List Happening) → Move m happened n → list_any (disturbs id) happened ≡ false → IsSpent id m → IsSpent id n
+pub spent_after : (id : ℕ) (m n : Machine) (happened : List Happening) → Move m happened n → list_any (disturbs id) happened ≡ false
+    → IsSpent id m → IsSpent id n
 spent_after id m n happened (quiet q) still spent = grind (arith, common_steps)
 spent_after id m n happened (putting p) still spent =
     let less = spent.0 in
@@ -40,7 +45,8 @@ spent_after id m n happened (putting p) still spent =
 spent_after id m n happened (handing h) still spent =
     (omega arith, subst IsNotFree (sym (handed_lookup id m n happened h)) (grind (arith, common_steps, cases_Bool, cond_both)))
 
-pub spent_not_handed : (id : ℕ) (m n : Machine) (happened : List Happening) → Move m happened n → IsSpent id m → list_any (is_hand_out id) happened ≡ false
+pub spent_not_handed : (id : ℕ) (m n : Machine) (happened : List Happening) → Move m happened n → IsSpent id m
+    → list_any (is_hand_out id) happened ≡ false
 spent_not_handed id m n happened (quiet q) spent = none_handed id happened q.plain
 spent_not_handed id m n happened (putting p) spent = ap (list_any (is_hand_out id)) p.happened_is
 spent_not_handed id m n happened (handing h) spent = grind (arith, common_steps, or_from, false_from_ne_true, eqb-true)
@@ -49,21 +55,26 @@ spent_not_handed id m n happened (handing h) spent = grind (arith, common_steps,
 pub spent_by_hand_out : (m n : Machine) (happened : List Happening) (h : IsHandOutMove m happened n) → IsSpent h.job.id n
 spent_by_hand_out m n happened h = (
   omega arith,
-  subst IsNotFree (sym (handed_lookup h.job.id m n happened h ∙ ap (option_map (λ j. cond (j.id == h.job.id) (reserved_by m.moment h.seat j) j)) h.there))
+  subst IsNotFree (sym (handed_lookup h.job.id m n happened h
+      ∙ ap (option_map (λ j. cond (j.id == h.job.id) (reserved_by m.moment h.seat j) j)) h.there))
       (cond_both (h.job.id == h.job.id) (reserved_by m.moment h.seat h.job) h.job (λ k. is_reserved k.state ≡ true) (λ e. refl)
       (λ e. absurd (both_ways (h.job.id == h.job.id) e (eq-eqb h.job.id h.job.id refl)))),
 )
 
 -- Neither the happenings of a move nor those of the rest disturb the job.
-pub still_parts : (id : ℕ) (happened more : List Happening) → list_any (disturbs id) (happened ++ more) ≡ false → (list_any (disturbs id) happened ≡ false) × (list_any (disturbs id) more ≡ false)
-still_parts id happened more h = or_parts (list_any (disturbs id) happened) (list_any (disturbs id) more) (sym (list_any-append (disturbs id) happened more) ∙ h)
+pub still_parts : (id : ℕ) (happened more : List Happening) → list_any (disturbs id) (happened ++ more) ≡ false
+    → (list_any (disturbs id) happened ≡ false) × (list_any (disturbs id) more ≡ false)
+still_parts id happened more h = or_parts (list_any (disturbs id) happened) (list_any (disturbs id) more)
+    (sym (list_any-append (disturbs id) happened more) ∙ h)
 
-pub none_more : (id : ℕ) (m n : Machine) (parts : List Part) → Moves m parts n → list_any (disturbs id) (happenings parts) ≡ false → IsSpent id m → list_any (is_hand_out id) (happenings parts) ≡ false
+pub none_more : (id : ℕ) (m n : Machine) (parts : List Part) → Moves m parts n → list_any (disturbs id) (happenings parts) ≡ false
+    → IsSpent id m → list_any (is_hand_out id) (happenings parts) ≡ false
 none_more id m n [] moves still spent = refl
 none_more id m n (p ∷ parts) moves still spent =
     let each = still_parts id p.happened (happenings parts) still in
     list_any-append (is_hand_out id) p.happened (happenings parts)
-    ∙ or_from (list_any (is_hand_out id) p.happened) (list_any (is_hand_out id) (happenings parts)) (spent_not_handed id m p.machine p.happened moves.0 spent)
+    ∙ or_from (list_any (is_hand_out id) p.happened) (list_any (is_hand_out id) (happenings parts))
+    (spent_not_handed id m p.machine p.happened moves.0 spent)
     (none_more id p.machine n parts moves.1 each.1 (spent_after id m p.machine p.happened moves.0 each.0 spent))
 
 none_counted : (id : ℕ) (happened : List Happening) → list_any (is_hand_out id) happened ≡ false → count_by (is_hand_out id) happened ≡ 0
@@ -71,24 +82,30 @@ none_counted id [] h = refl
 none_counted id (x ∷ happened) h = grind (arith, common_steps, or_parts, count_cons, none_counted id happened)
 
 -- A job that nothing disturbs is handed out at most once.
-pub handed_once : (id : ℕ) (m n : Machine) (parts : List Part) → Moves m parts n → list_any (disturbs id) (happenings parts) ≡ false → count_by (is_hand_out id) (happenings parts) ≤ 1
+pub handed_once : (id : ℕ) (m n : Machine) (parts : List Part) → Moves m parts n → list_any (disturbs id) (happenings parts) ≡ false
+    → count_by (is_hand_out id) (happenings parts) ≤ 1
 handed_once id m n [] moves still = omega arith
 handed_once id m n (p ∷ parts) moves still =
     let each = still_parts id p.happened (happenings parts) still in
     at_move moves.0 each.0 each.1 (handed_once id p.machine n parts moves.1 each.1)
   where
-    later : list_any (is_hand_out id) p.happened ≡ false → count_by (is_hand_out id) (happenings parts) ≤ 1 → count_by (is_hand_out id) (p.happened ++ happenings parts) ≤ 1
-    later none rest = let a = sum_by-append (λ h. cond (is_hand_out id h) 1 0) p.happened (happenings parts) in let b = none_counted id p.happened none in omega arith
+    later : list_any (is_hand_out id) p.happened ≡ false → count_by (is_hand_out id) (happenings parts) ≤ 1
+        → count_by (is_hand_out id) (p.happened ++ happenings parts) ≤ 1
+    later none rest = let a = sum_by-append (λ h. cond (is_hand_out id h) 1 0) p.happened (happenings parts) in
+        let b = none_counted id p.happened none in omega arith
 
-    at_move : Move m p.happened p.machine → list_any (disturbs id) p.happened ≡ false → list_any (disturbs id) (happenings parts) ≡ false → count_by (is_hand_out id) (happenings parts) ≤ 1 → count_by (is_hand_out id) (p.happened ++ happenings parts) ≤ 1
+    at_move : Move m p.happened p.machine → list_any (disturbs id) p.happened ≡ false → list_any (disturbs id) (happenings parts) ≡ false
+        → count_by (is_hand_out id) (happenings parts) ≤ 1 → count_by (is_hand_out id) (p.happened ++ happenings parts) ≤ 1
     at_move (quiet q) still more rest = later (none_handed id p.happened q.plain) rest
     at_move (putting q) still more rest = later (ap (list_any (is_hand_out id)) q.happened_is) rest
     at_move (handing h) still more rest =
         elim (cases_Bool (h.job.id == id)) [
           | inl e ↦
-              let spent : IsSpent id p.machine = subst (λ i. IsSpent i p.machine) (eqb-true h.job.id id e) (spent_by_hand_out m p.machine p.happened h) in
+              let spent : IsSpent id p.machine = subst (λ i. IsSpent i p.machine) (eqb-true h.job.id id e)
+              (spent_by_hand_out m p.machine p.happened h) in
               let none = none_counted id (happenings parts) (none_more id p.machine n parts moves.1 more spent) in
-              let one : count_by (is_hand_out id) p.happened ≡ 1 = ap (count_by (is_hand_out id)) h.happened_is ∙ count_cons (is_hand_out id) (handed_out h.job.id) [] ∙ rw e refl in
+              let one : count_by (is_hand_out id) p.happened ≡ 1 =
+              ap (count_by (is_hand_out id)) h.happened_is ∙ count_cons (is_hand_out id) (handed_out h.job.id) [] ∙ rw e refl in
               let a = sum_by-append (λ h. cond (is_hand_out id h) 1 0) p.happened (happenings parts) in
               omega arith
           | inr e ↦ later (ap (list_any (is_hand_out id)) h.happened_is ∙ rw e refl) rest

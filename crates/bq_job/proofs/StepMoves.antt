@@ -1,5 +1,6 @@
 -- Each part of a step, as moves: timers, turns of dispatch, ends of waits, and the command's own effect.
-use Rattle.std.proofs.Common.{◌&&◌, ◌++◌, ◌∷◌, ◌≡◌, List, None, Option, Some, [], ℕ, ap, append-nil, arith, cond, false, inl, inr, map, not, refl, subst, sym, true}
+use Rattle.std.proofs.Common.{◌&&◌, ◌++◌, ◌∷◌, ◌≡◌, List, None, Option, Some, [], ℕ, ap, append-nil}
+use Rattle.std.proofs.Common.{arith, cond, false, inl, inr, map, not, refl, subst, sym, true}
 use Rattle.std.proofs.lemmas.Bool.{cases_Bool, and_parts, and_from, or_left, or_right, both_ways, cond_both, eq-eqb}
 use Rattle.std.proofs.lemmas.Grind.{common_steps}
 use Rattle.std.specs.{List.{AllByRecursion as All, list_any}, Prelude.{◌==◌, filter, option_map}}
@@ -25,7 +26,11 @@ goes_nowhere : (m : Machine) → Goes m [] m
 goes_nowhere m = record { parts = []; moves = refl; told = refl }
 
 pub goes_one : (m : Machine) (happened : List Happening) (n : Machine) → Move m happened n → Goes m happened n
-goes_one m happened n move = record { parts = record { happened = happened; machine = n } ∷ []; moves = (move, refl); told = append-nil happened }
+goes_one m happened n move = record {
+  parts = record { happened = happened; machine = n } ∷ [];
+  moves = (move, refl);
+  told = append-nil happened;
+}
 
 pub goes_then : (m k n : Machine) (xs ys : List Happening) → Goes m xs k → Goes k ys n → Goes m (xs ++ ys) n
 goes_then m k n xs ys h i = grind (arith, common_steps, moves_append)
@@ -33,17 +38,26 @@ goes_then m k n xs ys h i = grind (arith, common_steps, moves_append)
 -- Nothing happens to jobs.
 still_move : (m n : Machine) → n.jobs ≡ m.jobs → n.next_id ≡ m.next_id → Move m [] n
 still_move m n jobs next =
-    quiet (record { next = next; plain = tt; fates = λ id. subst (λ l. Fate id [] (job_with id m.jobs) (job_with id l)) (sym jobs) (grind (arith, common_steps, cases_Bool)) })
+    quiet (record {
+      next = next;
+      plain = tt;
+      fates = λ id.
+          subst (λ l. Fate id [] (job_with id m.jobs) (job_with id l)) (sym jobs) (grind (arith, common_steps, cases_Bool));
+    })
 
 -- timers
 plain_expirations : (moment : ℕ) (jobs : List Job) → All (λ h. is_plain h ≡ true) (expirations moment jobs)
-plain_expirations moment jobs = all_of_map (λ h. is_plain h ≡ true) (λ (j : Job). expired j.id) (filter (λ j. is_expired moment j.state) jobs) (all_always (λ (j : Job). is_plain (expired j.id) ≡ true) (filter (λ j. is_expired moment j.state) jobs) (λ j. refl))
+plain_expirations moment jobs = all_of_map (λ h. is_plain h ≡ true) (λ (j : Job). expired j.id)
+    (filter (λ j. is_expired moment j.state) jobs)
+    (all_always (λ (j : Job). is_plain (expired j.id) ≡ true) (filter (λ j. is_expired moment j.state) jobs) (λ j. refl))
 
-told_to_expire : (moment id : ℕ) (jobs : List Job) → list_any (λ j. is_expired moment j.state && j.id == id) jobs ≡ true → list_any (disturbs id) (expirations moment jobs) ≡ true
+told_to_expire : (moment id : ℕ) (jobs : List Job) → list_any (λ j. is_expired moment j.state && j.id == id) jobs ≡ true
+    → list_any (disturbs id) (expirations moment jobs) ≡ true
 told_to_expire moment id [] h = absurd cc
 told_to_expire moment id (j ∷ jobs) h = grind (arith, common_steps, cases_Bool, or_left, or_right, told_to_expire moment id jobs)
 
-timed_fate : (moment id : ℕ) (jobs : List Job) (o : Option Job) → job_with id jobs ≡ o → Fate id (expirations moment jobs) o (option_map (job_after_timers moment) o)
+timed_fate : (moment id : ℕ) (jobs : List Job) (o : Option Job) → job_with id jobs ≡ o
+    → Fate id (expirations moment jobs) o (option_map (job_after_timers moment) o)
 timed_fate moment id jobs None e = refl
 timed_fate moment id jobs (Some j) e = record {
   same = after_timers_is moment j (λ k. k.id ≡ j.id) refl refl refl;
@@ -55,14 +69,17 @@ timed_fate moment id jobs (Some j) e = record {
       elim (cases_Bool (is_expired moment j.state)) [
         | inl f ↦
             let found = found_job id jobs j e in
-            let told = told_to_expire moment id jobs (list_any_with (λ k. is_expired moment k.state && k.id == id) jobs j found.1 (and_from (is_expired moment j.state) (j.id == id) f (eq-eqb j.id id found.0))) in
+            let told = told_to_expire moment id jobs
+            (list_any_with (λ k. is_expired moment k.state && k.id == id) jobs j found.1
+            (and_from (is_expired moment j.state) (j.id == id) f (eq-eqb j.id id found.0))) in
             absurd (both_ways (list_any (disturbs id) (expirations moment jobs)) still told)
         | inr f ↦ rw (due, f) h
       ];
 }
 
 -- one turn of dispatch
-hand_out_move : (m n : Machine) (j : Job) (s : SeatRecord) (given : GivenAnswer) → Ids m → next_job m ≡ Some j → next_seat m j ≡ Some s → IsHandOut m j s given n → Move m (hand_out given.1) n × Ids n
+hand_out_move : (m n : Machine) (j : Job) (s : SeatRecord) (given : GivenAnswer) → Ids m → next_job m ≡ Some j → next_seat m j ≡ Some s
+    → IsHandOut m j s given n → Move m (hand_out given.1) n × Ids n
 hand_out_move m n j s given ids e f (inl h) =
     let least = next_is_least m j s e f in
     let found = job_found 1 m.next_id m.jobs j ids least.kept in
@@ -76,20 +93,25 @@ hand_out_move m n j s given ids e f (inl h) =
         jobs = jobs;
         there = found.0;
         below = found.1;
-        ready = (and_parts (is_ready j) (watches j.tube s) (and_parts (is_ready j && watches j.tube s) (not (is_paused j.tube m)) least.allowed).0).0;
+        ready = (and_parts (is_ready j) (watches j.tube s)
+            (and_parts (is_ready j && watches j.tube s) (not (is_paused j.tube m)) least.allowed).0).0;
         least = λ k i ready tube. least.least k i (grind (arith, common_steps, and_parts, and_from));
       }),
-      subst (λ l. AreIdsWithin 1 l n.next_id) (sym jobs) (subst (AreIdsWithin 1 (map (λ k. cond (k.id == j.id) (reserved_by m.moment s.number k) k) m.jobs)) (sym next)
-          (ids_of_map (λ k. cond (k.id == j.id) (reserved_by m.moment s.number k) k) 1 m.next_id m.jobs (λ k. cond_both (k.id == j.id) (reserved_by m.moment s.number k) k (λ l. l.id ≡ k.id) (λ e. refl) (λ e. refl)) ids)),
+      subst (λ l. AreIdsWithin 1 l n.next_id) (sym jobs)
+          (subst (AreIdsWithin 1 (map (λ k. cond (k.id == j.id) (reserved_by m.moment s.number k) k) m.jobs)) (sym next)
+          (ids_of_map (λ k. cond (k.id == j.id) (reserved_by m.moment s.number k) k) 1 m.next_id m.jobs
+          (λ k. cond_both (k.id == j.id) (reserved_by m.moment s.number k) k (λ l. l.id ≡ k.id) (λ e. refl) (λ e. refl)) ids)),
     )
 hand_out_move m n j s given ids e f (inr h) = grind (arith, common_steps, still_move)
 
-pub goes_by_turns : (m : Machine) (given : List GivenAnswer) (n : Machine) → Ids m → Chain DispatchTurn m given n → Goes m (hand_outs given) n
+pub goes_by_turns : (m : Machine) (given : List GivenAnswer) (n : Machine) → Ids m → Chain DispatchTurn m given n
+    → Goes m (hand_outs given) n
 goes_by_turns m [] n ids chain = subst (λ l. Goes m [] l) (sym chain) (goes_nowhere m)
 goes_by_turns m (g ∷ given) n ids chain =
     let t = turn_of m g chain.0 chain.1 in
     let one = hand_out_move m chain.0 t.job t.client g ids t.job_is t.client_is t.hands in
-    goes_then m chain.0 n (hand_out g.1) (hand_outs given) (goes_one m (hand_out g.1) chain.0 one.0) (goes_by_turns chain.0 given n one.1 chain.2)
+    goes_then m chain.0 n (hand_out g.1) (hand_outs given) (goes_one m (hand_out g.1) chain.0 one.0)
+    (goes_by_turns chain.0 given n one.1 chain.2)
 
 goes_by_dispatch : (m : Machine) (given : List GivenAnswer) (n : Machine) → Ids m → Dispatches m given n → Goes m (hand_outs given) n
 goes_by_dispatch m given n ids d =
@@ -98,7 +120,8 @@ goes_by_dispatch m given n ids d =
     (goes_one d.end [] n (still_move d.end n (ap (λ (l : Machine). l.jobs) d.forgets) (ap (λ (l : Machine). l.next_id) d.forgets))))
 
 -- the ends of waits
-same_jobs : (m : Machine) (given : List GivenAnswer) (n : Machine) → Chain WaitEndTurn m given n → (n.jobs ≡ m.jobs) × (n.next_id ≡ m.next_id)
+same_jobs : (m : Machine) (given : List GivenAnswer) (n : Machine) → Chain WaitEndTurn m given n
+    → (n.jobs ≡ m.jobs) × (n.next_id ≡ m.next_id)
 same_jobs m [] n chain = (ap (λ (l : Machine). l.jobs) chain, ap (λ (l : Machine). l.next_id) chain)
 same_jobs m (g ∷ given) n chain = grind (arith, common_steps, end_of, same_jobs chain.0 given n chain.2)
 
@@ -111,7 +134,8 @@ abbrev pub ArePartsGone : Machine → List Part → Machine → Type 0
 ArePartsGone m [] n = n ≡ m
 ArePartsGone m (p ∷ parts) n = PartGoes m p × ArePartsGone p.machine parts n
 
-pub gone_then : (m k n : Machine) (parts more : List Part) → ArePartsGone m parts k → ArePartsGone k more n → ArePartsGone m (parts ++ more) n
+pub gone_then : (m k n : Machine) (parts more : List Part) → ArePartsGone m parts k → ArePartsGone k more n
+    → ArePartsGone m (parts ++ more) n
 gone_then m k n [] more h i = subst (λ l. ArePartsGone l more n) h i
 gone_then m k n (p ∷ parts) more h i = (h.0, gone_then p.machine k n parts more h.1 i)
 
@@ -129,7 +153,8 @@ parts_gone t keeps is =
     let k5 = (served s.after s.handed_then s.ended_then t.last k3 s.serves_then).keeps in
     let acts : Move s.before (changes t.entry.what s.before.jobs s.after.jobs) s.after =
     subst (λ (l : Machine). Move s.before (changes t.entry.what s.before.jobs l.jobs) l) (sym s.acts)
-    (move_of_jobs t.entry.what s.before (forgetting (acted s.memory s.before t.entry.seat t.entry.what).machine) k2.ids (after_acted s.memory s.before t.entry.seat t.entry.what k2.ids)) in
+    (move_of_jobs t.entry.what s.before (forgetting (acted s.memory s.before t.entry.seat t.entry.what).machine) k2.ids
+    (after_acted s.memory s.before t.entry.seat t.entry.what k2.ids)) in
     let of_step : ArePartsGone m (parts_in (record t { parts = parts_of s })) t.last = (
       record { goes = grind (arith, common_steps, job_in_map, after_timers_is, goes_one, plain_expirations, timed_fate); keeps = k0 },
       (
@@ -152,13 +177,15 @@ parts_gone t keeps is =
     subst (λ (ps : Parts). ArePartsGone m (parts_in (record t { parts = ps })) t.last) (sym is.parts_are) of_step
 
 -- the parts of a run
-pub run_gone : (first : Machine) (taken : List Transition) (last : Machine) → IsLawful first → GoesBy first taken last → ArePartsGone first (parts_of_run taken) last
+pub run_gone : (first : Machine) (taken : List Transition) (last : Machine) → IsLawful first → GoesBy first taken last
+    → ArePartsGone first (parts_of_run taken) last
 run_gone first [] last lawful goes = goes
 run_gone first (t ∷ taken) last lawful goes =
     let here : IsLawful t.first = subst IsLawful (sym goes.0) lawful in
     let then = step_is_lawful t.first t.last t.entry.moment t.entry.seat t.entry.what t.outcome t.given here goes.1.step in
     subst (λ m. ArePartsGone m (parts_in t ++ parts_of_run taken) last) goes.0
-    (gone_then t.first t.last last (parts_in t) (parts_of_run taken) (parts_gone t (kept_of_lawful t.first here) goes.1) (run_gone t.last taken last then goes.2))
+    (gone_then t.first t.last last (parts_in t) (parts_of_run taken) (parts_gone t (kept_of_lawful t.first here) goes.1)
+    (run_gone t.last taken last then goes.2))
 
 -- all parts together
 pub parts_go : (m : Machine) (parts : List Part) (n : Machine) → ArePartsGone m parts n → Goes m (happenings parts) n

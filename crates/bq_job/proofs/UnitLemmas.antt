@@ -1,5 +1,6 @@
 -- The first unit of a text, and units that begin texts.
-use Rattle.std.proofs.Common.{◌≡◌, ℕ, ◌<◌, List, [], ◌∷◌, ◌++◌, Option, Some, None, ◌⊎◌, inl, refl, sym, ap, arith, length, MatchOption, length-append, append_assoc}
+use Rattle.std.proofs.Common.{◌≡◌, ℕ, ◌<◌, List, [], ◌∷◌, ◌++◌, Option, Some, None}
+use Rattle.std.proofs.Common.{◌⊎◌, inl, refl, sym, ap, arith, length, MatchOption, length-append, append_assoc}
 use Rattle.std.proofs.lemmas.{Bool.Decides.nat_tests, Grind.common_steps}
 use Rattle.bq_job.specs.beside.{IsRefusedMemory, first_unit, put_request, unit_after, unit_of_line}
 use Rattle.bq_job.specs.{declared.request.Request.Request, reading.{Line.first_line, LineRead.{LineRead, PutLine}}}
@@ -16,7 +17,8 @@ IsComputed r q = (r ≡ q) ⊎ IsRefusedMemory r q
 pub some_pair : {A B : Type 0} (x y : A × B) → Some x ≡ Some y → (x.0 ≡ y.0) × (x.1 ≡ y.1)
 some_pair x y e = let h : x ≡ y = cc in (ap (λ z. z.0) h, ap (λ z. z.1) h)
 
-put_request-computed : (size : ℕ) (put : PutLine) (bytes : List ℕ) (r : Request) → IsPutRequest size put bytes r → IsComputed r (put_request size put bytes)
+put_request-computed : (size : ℕ) (put : PutLine) (bytes : List ℕ) (r : Request) → IsPutRequest size put bytes r
+    → IsComputed r (put_request size put bytes)
 put_request-computed size put bytes r h = grind (arith, common_steps)
 
 pub unit_after-append : (size : ℕ) (read : LineRead) (after more : List ℕ) (r : Request) → IsUnitAfter size read after r
@@ -44,10 +46,12 @@ pub first_unit-unit : (size : ℕ) (text rest : List ℕ) (r : Request) → firs
     → (first : List ℕ) × (text ≡ first ++ rest) × IsUnit size first r × (0 < length first)
 first_unit-unit size text rest r e = go (first_line text) refl e
   where
-    from_line : (l : List ℕ × List ℕ) (taken : List ℕ) → first_line text ≡ Some l → l.1 ≡ taken ++ rest → IsUnitAfter size (read_line l.0) taken r
+    from_line : (l : List ℕ × List ℕ) (taken : List ℕ) → first_line text ≡ Some l → l.1 ≡ taken ++ rest
+        → IsUnitAfter size (read_line l.0) taken r
         → (first : List ℕ) × (text ≡ first ++ rest) × IsUnit size first r × (0 < length first)
     from_line l taken is more unit =
-        let whole : text ≡ (l.0 ++ 13 ∷ 10 ∷ taken) ++ rest = rw (first_line_is text l is, more) (sym (append_assoc l.0 (13 ∷ 10 ∷ taken) rest)) in
+        let whole : text ≡ (l.0 ++ 13 ∷ 10 ∷ taken) ++ rest =
+        rw (first_line_is text l is, more) (sym (append_assoc l.0 (13 ∷ 10 ∷ taken) rest)) in
         let some : 0 < length (l.0 ++ 13 ∷ 10 ∷ taken) = rw length-append (grind (arith, common_steps)) in
         (l.0 ++ 13 ∷ 10 ∷ taken, whole, rw (first_line_again text taken l is) unit, some)
 

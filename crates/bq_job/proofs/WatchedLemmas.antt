@@ -8,9 +8,11 @@ use Rattle.bq_job.specs.reading.TubeName.{is_same_name}
 use Rattle.bq_job.proofs.ListLemmas.{all_of_filter, all_weaker, list_any_not, none_pass}
 
 pub same_other : (a b : List ℕ) → is_same_name a b ≡ false → is_same_name b a ≡ false
-same_other a b e = false_from_ne_true (is_same_name b a) (λ t. both_ways (is_same_name a b) e ((bytes_decides a b).1 (sym ((bytes_decides b a).0 t))))
+same_other a b e = false_from_ne_true (is_same_name b a)
+    (λ t. both_ways (is_same_name a b) e ((bytes_decides a b).1 (sym ((bytes_decides b a).0 t))))
 
-pub none_twice_behind : (tube : List ℕ) (names : List (List ℕ)) → list_any (is_same_name tube) names ≡ false → none_twice names ≡ true → none_twice (names ++ tube ∷ []) ≡ true
+pub none_twice_behind : (tube : List ℕ) (names : List (List ℕ)) → list_any (is_same_name tube) names ≡ false → none_twice names ≡ true
+    → none_twice (names ++ tube ∷ []) ≡ true
 none_twice_behind tube [] e h = refl
 none_twice_behind tube (name ∷ names) e h =
     grind (arith, common_steps, or_parts, and_parts, list_any-append, or_from, not-true, same_other, none_twice_behind tube names)
@@ -21,4 +23,15 @@ watched_still tube s h = grind (arith, common_steps, and_parts, cond_both, and_f
 pub none_twice_filter : (p : List ℕ → Bool) (names : List (List ℕ)) → none_twice names ≡ true → none_twice (filter p names) ≡ true
 none_twice_filter p [] h = refl
 none_twice_filter p (name ∷ names) h =
-    grind (arith, common_steps, and_parts, list_any_not, all_weaker, all_of_filter, none_pass, not-true, cases_Bool, none_twice_filter p names)
+    grind (
+      arith,
+      common_steps,
+      and_parts,
+      list_any_not,
+      all_weaker,
+      all_of_filter,
+      none_pass,
+      not-true,
+      cases_Bool,
+      none_twice_filter p names,
+    )

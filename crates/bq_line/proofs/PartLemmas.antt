@@ -1,5 +1,6 @@
 -- Parts of a line in memory that are done.
-use Rattle.std.proofs.Common.{◌≡◌, ◌<◌, ◌≤◌, ℕ, ◌+◌, ◌-◌, zero, suc, Bool, true, false, ◌||◌, ◌==◌, IfSome, min, List, [], ◌∷◌, ◌++◌, refl, sym, ap, arith, append_assoc, length, take, drop, take-add, get_or, slice_get, nat_le}
+use Rattle.std.proofs.Common.{◌≡◌, ◌<◌, ◌≤◌, ℕ, ◌+◌, ◌-◌, zero, suc, Bool, true, false, ◌||◌, ◌==◌, IfSome, min, List}
+use Rattle.std.proofs.Common.{[], ◌∷◌, ◌++◌, refl, sym, ap, arith, append_assoc, length, take, drop, take-add, get_or, slice_get, nat_le}
 use Rattle.std.proofs.lemmas.Bool.Decides.{nat_tests}
 use Rattle.std.proofs.lemmas.Option.{slice_get_read}
 use Rattle.std.proofs.lemmas.Grind.{common_steps}
@@ -49,7 +50,8 @@ read_given all place offset next from n part bytes given same lt is bytes_are gi
     rw (read_more all next from n part lt is, bytes_are, same, given_is, whole) refl
 
 -- a part without bytes is skipped
-pub passed_fault : (all : List Part) (place offset : ℕ) (part : Part) → place < length all → part ≡ get_or all place part → part ≡ parts.Fault
+pub passed_fault : (all : List Part) (place offset : ℕ) (part : Part) → place < length all → part ≡ get_or all place part
+    → part ≡ parts.Fault
     → bytes_up_to all (suc place) zero ≡ bytes_up_to all place offset
 passed_fault [] place offset part lt is fault = absurd (omega arith)
 passed_fault (first ∷ more) zero offset part lt is fault =
@@ -78,7 +80,8 @@ some_given all place from written n room part bytes is_open lt is part_is some n
 pub open_past : (all : List Part) (place offset written : ℕ) → length all ≤ place → open_place all place offset written ≡ place
 open_past all place offset written past = let none : drop place all ≡ [] = grind (arith, common_steps) in rw none (omega arith)
 
-drop_at : (all : List Part) (place : ℕ) (part : Part) → place < length all → part ≡ get_or all place part → drop place all ≡ part ∷ drop (suc place) all
+drop_at : (all : List Part) (place : ℕ) (part : Part) → place < length all → part ≡ get_or all place part
+    → drop place all ≡ part ∷ drop (suc place) all
 drop_at [] place part lt is = absurd (omega arith)
 drop_at (first ∷ more) zero part lt is = ap (λ p. p ∷ more) (sym is)
 drop_at (first ∷ more) (suc place) part lt is = drop_at more place part (omega arith) is

@@ -1,5 +1,6 @@
 -- One more reading of a script.
-use Rattle.std.proofs.Common.{◌≡◌, ◌<◌, ◌≤◌, ℕ, ◌+◌, inl, inr, zero, suc, add-one, List, [], ◌∷◌, ◌++◌, Option, Some, None, refl, ap, arith, append_assoc, length, length-drop, take, drop, take-add, replicate}
+use Rattle.std.proofs.Common.{◌≡◌, ◌<◌, ◌≤◌, ℕ, ◌+◌, inl, inr, zero, suc, add-one, List, [], ◌∷◌, ◌++◌}
+use Rattle.std.proofs.Common.{Option, Some, None, refl, ap, arith, append_assoc, length, length-drop, take, drop, take-add, replicate}
 use Rattle.std.proofs.lemmas.Grind.{common_steps}
 use Rattle.std.proofs.lemmas.Option.{get_or_from_slice_get, slice_get_within}
 use Rattle.std.proofs.Math.Seq.{drop-cons, drop-drop}
@@ -19,7 +20,8 @@ repeated : {A : Type 0} (n : ℕ) (x : A) → replicate (n + 1) x ≡ replicate 
 repeated n x = rw (add-one n) (repeated_suc n x)
 
 pub read_next : (first old new : ScriptPlace) (readings : List (Option ℕ)) (r : Option ℕ) → IsRead first readings old
-    → old.place < length old.script → slice_get old.script old.place ≡ Some r → new.script ≡ old.script → new.place ≡ old.place + 1 → IsRead first (readings ++ r ∷ []) new
+    → old.place < length old.script → slice_get old.script old.place ≡ Some r → new.script ≡ old.script → new.place ≡ old.place + 1
+    → IsRead first (readings ++ r ∷ []) new
 read_next first old new readings r read lt is script place =
     let none_again : read.again ≡ 0 = elim read.at_end [ inl none ↦ none | inr le ↦ absurd (omega arith) ] in
     let le : suc old.place ≤ length old.script = omega arith in
@@ -32,7 +34,8 @@ read_next first old new readings r read lt is script place =
       place_is = let at = read.place_is in omega arith;
       readings_are =
           let here : take 1 (drop read.count (drop first.place first.script)) ≡ r ∷ [] =
-          rw (drop-drop read.count first.place first.script) (rw (← read.script_is, ← read.place_is) (one_more old.script old.place r is)) in
+          rw (drop-drop read.count first.place first.script)
+          (rw (← read.script_is, ← read.place_is) (one_more old.script old.place r is)) in
           rw (take-add read.count 1 (drop first.place first.script), here, read.readings_are, none_again) (grind (arith, common_steps));
       at_end = inl refl;
     }

@@ -1,5 +1,6 @@
 -- What calls of a stream mean for a line over it.
-use Rattle.std.proofs.Common.{◌≡◌, ◌<◌, ◌==◌, ◌||◌, ℕ, Bool, true, false, List, [], ◌∷◌, ◌++◌, Option, Some, None, IfSome, Result, Ok, Err, length, take, refl, sym, ap, ◌∙◌, append-nil, arith, subst, if◌then◌else◌}
+use Rattle.std.proofs.Common.{◌≡◌, ◌<◌, ◌==◌, ◌||◌, ℕ, Bool, true, false, List, [], ◌∷◌, ◌++◌, Option, Some, None}
+use Rattle.std.proofs.Common.{IfSome, Result, Ok, Err, length, take, refl, sym, ap, ◌∙◌, append-nil, arith, subst, if◌then◌else◌}
 use Rattle.std.proofs.KnownBytes.{Appends-kept, Appends-trans, Consumes-kept, Consumes-trans, Consumes-whole}
 use Rattle.std.proofs.lemmas.Bool.Decides.{nat_tests}
 use Rattle.std.proofs.lemmas.List.{append_cancel_left}
@@ -34,14 +35,16 @@ read_bytes : (first old new : StreamSeen) (line : LineSeen) (n : ℕ) (buf : Lis
     → Consumes old.left new.left (take n buf) × (n ≡ 0 → 0 < length buf → IsAtEnd new.left) → Keeps old.held new.held
     → LiesOver first line old → LiesOver first (record line { read = line.read ++ take n buf; ended = line.ended || n == 0 }) new
 read_bytes first old new line n buf room gave apart over =
-    let whole : Consumes first.left new.left (line.read ++ take n buf) = Consumes-trans first.left old.left new.left line.read (take n buf) over.read gave.0 in
+    let whole : Consumes first.left new.left (line.read ++ take n buf) =
+    Consumes-trans first.left old.left new.left line.read (take n buf) over.read gave.0 in
     record {
       read = whole;
       written = Appends-kept first.held old.held new.held line.written over.written apart;
       ended = by_either line.ended (n == 0) (IfSome first.left (λ all. all ≡ line.read ++ take n buf))
           (λ is. still_all first.left old.left new.left line.read (take n buf) over.read gave.0 (over.ended is))
           (λ is. let none : n ≡ 0 = grind (arith, nat_tests) in
-          Consumes-whole first.left new.left (line.read ++ take n buf) (λ all. all ≡ line.read ++ take n buf) whole (gave.1 none room) refl);
+          Consumes-whole first.left new.left (line.read ++ take n buf) (λ all. all ≡ line.read ++ take n buf) whole
+          (gave.1 none room) refl);
     }
 
 -- A call that moved no bytes.
@@ -50,7 +53,8 @@ nothing_moved : (first old new : StreamSeen) (line later : LineSeen) → Keeps o
 nothing_moved first old new line later left held read written ended over =
     record {
       read = subst (Consumes first.left new.left) (sym read) (Consumes-kept first.left old.left new.left line.read over.read left);
-      written = subst (Appends first.held new.held) (sym written) (Appends-kept first.held old.held new.held line.written over.written held);
+      written = subst (Appends first.held new.held) (sym written)
+          (Appends-kept first.held old.held new.held line.written over.written held);
       ended = λ is. subst (λ bytes. IfSome first.left (λ all. all ≡ bytes)) (sym read) (over.ended (sym ended ∙ is));
     }
 
@@ -64,7 +68,8 @@ failed_on first old new line e kept apart over = failed (is_nothing_yet (error_k
     failed false = nothing_moved first old new line (with_line_fault faults.Read line) kept apart refl refl refl over
 
 read_on : (first old new : StreamSeen) (line : LineSeen) (result : Result ℕ Error) (buf : List ℕ) → 0 < length buf
-    → ReadConsumes old.left new.left result buf → Keeps old.held new.held → LiesOver first line old → LiesOver first (after_read result buf line) new
+    → ReadConsumes old.left new.left result buf → Keeps old.held new.held → LiesOver first line old
+    → LiesOver first (after_read result buf line) new
 read_on first old new line (Ok n) buf room gave apart over = read_bytes first old new line n buf room gave apart over
 read_on first old new line (Err e) buf room gave apart over = failed_on first old new line e gave apart over
 
@@ -79,7 +84,8 @@ read_more first old new line bytes all all_is gave apart over =
     })
 
 -- what holds of a line and its stream, under equal names
-noted_so : (first gave new : StreamSeen) (noted later : LineSeen) → later ≡ noted → new ≡ gave → LiesOver first noted gave → LiesOver first later new
+noted_so : (first gave new : StreamSeen) (noted later : LineSeen) → later ≡ noted → new ≡ gave → LiesOver first noted gave
+    → LiesOver first later new
 noted_so first gave new noted later is stays over =
     subst (LiesOver first later) (sym stays) (subst (λ seen. LiesOver first seen gave) (sym is) over)
 
@@ -92,7 +98,8 @@ read_noted first old gave new line later result buf room length_is some took apa
     (read_on first old gave line result buf (subst (λ n. 0 < n) (sym length_is) some) took apart over)
 
 -- The line recorded that a read of its stream failed.
-pub failed_noted : (first old gave new : StreamSeen) (line later : LineSeen) (e : Error) → Keeps old.left gave.left → Keeps old.held gave.held
+pub failed_noted : (first old gave new : StreamSeen) (line later : LineSeen) (e : Error) → Keeps old.left gave.left
+    → Keeps old.held gave.held
     → later ≡ after_fill (Err e) line → new ≡ gave → LiesOver first line old → LiesOver first later new
 failed_noted first old gave new line later e kept apart noted stays over =
     noted_so first gave new (after_fill (Err e) line) later noted stays (failed_on first old gave line e kept apart over)
@@ -107,7 +114,8 @@ refused_on first old new line e kept apart over = refused (is_nothing_yet (error
     refused false = nothing_moved first old new line (with_line_fault faults.Write line) kept apart refl refl refl over
 
 -- The line recorded that a write to its stream failed.
-pub refused_noted : (first old gave new : StreamSeen) (line later : LineSeen) (e : Error) → Keeps old.left gave.left → Keeps old.held gave.held
+pub refused_noted : (first old gave new : StreamSeen) (line later : LineSeen) (e : Error) → Keeps old.left gave.left
+    → Keeps old.held gave.held
     → later ≡ after_write (Err e) [] line → new ≡ gave → LiesOver first line old → LiesOver first later new
 refused_noted first old gave new line later e kept apart noted stays over =
     noted_so first gave new (after_write (Err e) [] line) later noted stays (refused_on first old gave line e kept apart over)
@@ -124,15 +132,19 @@ prepend_kept came (Some xs) None kept = absurd kept
 prepend_kept came (Some xs) (Some ys) kept = ap (λ l. came ++ l) kept
 
 -- The line recorded a write.
-pub wrote_noted : (first old new : StreamSeen) (line later : LineSeen) (result : Result ℕ Error) (buf : List ℕ) → Keeps old.left new.left → WriteAppends old.held new.held result buf
+pub wrote_noted : (first old new : StreamSeen) (line later : LineSeen) (result : Result ℕ Error) (buf : List ℕ) → Keeps old.left new.left
+    → WriteAppends old.held new.held result buf
     → later ≡ after_write result buf line → LiesOver first line old → LiesOver first later new
-wrote_noted first old new line later (Err e) buf kept held noted over = refused_noted first old new new line later e kept held noted refl over
+wrote_noted first old new line later (Err e) buf kept held noted over =
+    refused_noted first old new new line later e kept held noted refl over
 wrote_noted first old new line later (Ok n) buf kept held noted over = subst (λ l. LiesOver first l new) (sym noted) (took (n == 0) refl)
   where
-    took : (none : Bool) → (n == 0) ≡ none → LiesOver first (if none then with_line_fault faults.Write line else record line { written = line.written ++ take n buf }) new
+    took : (none : Bool) → (n == 0) ≡ none → LiesOver first
+        (if none then with_line_fault faults.Write line else record line { written = line.written ++ take n buf }) new
     took true e =
         let none : n ≡ 0 = grind (arith, nat_tests) in
-        nothing_moved first old new line (with_line_fault faults.Write line) kept (none_held old.held new.held buf n none held) refl refl refl over
+        nothing_moved first old new line (with_line_fault faults.Write line) kept
+        (none_held old.held new.held buf n none held) refl refl refl over
     took false e = record {
       read = Consumes-kept first.left old.left new.left line.read over.read kept;
       written = Appends-trans first.held old.held new.held line.written (take n buf) over.written held;

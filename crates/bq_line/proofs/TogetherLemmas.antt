@@ -1,5 +1,6 @@
 -- First parts of texts that are written together.
-use Rattle.std.proofs.Common.{◌≡◌, ℕ, ◌+◌, ◌-◌, ◌≤◌, Bool, true, false, nat_lt, List, ◌++◌, length, take, refl, sym, ap, ◌∙◌, arith, append_assoc, append-nil}
+use Rattle.std.proofs.Common.{◌≡◌, ℕ, ◌+◌, ◌-◌, ◌≤◌, Bool, true, false, nat_lt, List}
+use Rattle.std.proofs.Common.{◌++◌, length, take, refl, sym, ap, ◌∙◌, arith, append_assoc, append-nil}
 use Rattle.std.proofs.lemmas.Bool.Decides.{nat_tests}
 use Rattle.std.proofs.lemmas.Grind.{common_steps}
 use Rattle.std.proofs.lemmas.List.{take-append-le, take_all}
@@ -17,11 +18,13 @@ taken_of_two n xs ys = by (nat_lt n (length xs)) refl
     by false h =
         let beyond : length xs ≤ n = grind (arith, nat_tests, h) in
         let parts : n ≡ length xs + (n - length xs) = omega (arith, beyond) in
-        ap (λ m. take m (xs ++ ys)) parts ∙ take-append-add xs ys (n - length xs) ∙ ap (λ l. l ++ take (n - length xs) ys) (sym (take_all n xs beyond))
+        ap (λ m. take m (xs ++ ys)) parts ∙ take-append-add xs ys (n - length xs)
+        ∙ ap (λ l. l ++ take (n - length xs) ys) (sym (take_all n xs beyond))
 
 -- of three texts, after what was there
 pub taken_together : (old first second third : List ℕ) (n : ℕ)
-    → ((old ++ take n first) ++ take (n - length first) second) ++ take ((n - length first) - length second) third ≡ old ++ take n (first ++ second ++ third)
+    → ((old ++ take n first) ++ take (n - length first) second) ++ take ((n - length first) - length second) third ≡ old
+    ++ take n (first ++ second ++ third)
 taken_together old first second third n =
     let m : ℕ = n - length first in
     let two = taken_of_two m second third in

@@ -1,6 +1,7 @@
 -- The rings of the core's end, when one is used.
 use Rattle.std.specs.Prelude.{◌↔◌, IsTrue}
-use Rattle.std.proofs.Common.{◌≡◌, ℕ, Bool, true, false, not, refl, zero, suc, ◌+◌, ◌<◌, ◌≤◌, Global, None, Some, is_some, slice_get, true≢false, List, [], ◌∷◌, ◌++◌, map, length, get_or, set, sym, ap, ◌∙◌, subst, arith}
+use Rattle.std.proofs.Common.{◌≡◌, ℕ, Bool, true, false, not, refl, zero, suc, ◌+◌, ◌<◌, ◌≤◌, Global, None, Some, is_some}
+use Rattle.std.proofs.Common.{slice_get, true≢false, List, [], ◌∷◌, ◌++◌, map, length, get_or, set, sym, ap, ◌∙◌, subst, arith}
 use Rattle.std.proofs.lemmas.List.{get_or-map, get_or-set_same, length-map, length-set, map-set, set-get_or}
 use Rattle.std.specs.List.{AllByRecursion as All}
 use Rattle.std.specs.Vec.{with_item}
@@ -14,7 +15,8 @@ use Rattle.bq_link.specs.Inside.{core_state, ring_of}
 
 -- an element's image stays
 same_image : {X Y : Type 0} (f : X → Y) (xs : List X) (n : ℕ) (d x : X) → f x ≡ f (get_or xs n d) → map f (set xs n x) ≡ map f xs
-same_image f xs n d x same = map-set f xs n x ∙ ap (set (map f xs) n) same ∙ sym (map-set f xs n (get_or xs n d)) ∙ ap (map f) (set-get_or xs n d)
+same_image f xs n d x same = map-set f xs n x ∙ ap (set (map f xs) n) same ∙ sym (map-set f xs n (get_or xs n d))
+    ∙ ap (map f) (set-get_or xs n d)
 
 -- the image of an element that was written
 image_at : {X Y : Type 0} (f : X → Y) (xs : List X) (n : ℕ) (x : X) (e : Y) → n < length xs → get_or (map f (set xs n x)) n e ≡ f x
@@ -44,7 +46,8 @@ with_ring c k p = record { pass = c.pass; rings = with_item c.rings k p }
 length_rings : (c : CoreFields) → length (core_state c).rings ≡ length c.rings.items
 length_rings c = length-map c.rings.items (λ (r : Ring). ring_of r)
 
-pub within_of : (c : CoreFields) (old : CoreState) (k number : ℕ) → core_state c ≡ old → k ≡ number → number < length old.rings → k < length c.rings.items
+pub within_of : (c : CoreFields) (old : CoreState) (k number : ℕ) → core_state c ≡ old → k ≡ number → number < length old.rings
+    → k < length c.rings.items
 within_of c old k number is at within =
     let count : length old.rings ≡ length c.rings.items = ap (λ (s : CoreState). length s.rings) (sym is) ∙ length_rings c in
     subst (λ (n : ℕ × ℕ). n.0 < n.1) (λ i. (sym at i, count i)) within
@@ -60,7 +63,8 @@ found_within (y ∷ ys) (suc n) x e = let rest = found_within ys n x e in omega 
 
 -- a ring that was checked twice
 pub looked_twice : (a b c : Ring) → SameProducer a b → SameProducer b c → SameProducer a c
-looked_twice a b c first second = ((second.0.0 ∙ first.0.0, second.0.1 ∙ first.0.1, second.0.2 ∙ first.0.2, second.0.3 ∙ first.0.3), second.1 ∙ first.1)
+looked_twice a b c first second =
+    ((second.0.0 ∙ first.0.0, second.0.1 ∙ first.0.1, second.0.2 ∙ first.0.2, second.0.3 ∙ first.0.3), second.1 ∙ first.1)
 
 -- whether a ring is full, as its end reports
 pub some_room : (free room : ℕ) (full : Bool) → (IsTrue full ↔ (free ≡ 0)) → room ≡ free → not full ≡ true → 0 < room
@@ -72,15 +76,18 @@ no_room free true tells e = tells.0 refl
 no_room free false tells e = absurd cc
 
 -- a place of a ring that isn't free holds a waiting answer
-pub free_or_waiting : (first free sent places received waiting : ℕ) → first + sent ≡ places + received → received + waiting ≡ sent → first ≤ free → places ≤ free + waiting
+pub free_or_waiting : (first free sent places received waiting : ℕ) → first + sent ≡ places + received → received + waiting ≡ sent
+    → first ≤ free → places ≤ free + waiting
 free_or_waiting first free sent places received waiting all parts less = omega arith
 
-module _ (c : CoreFields) (old : CoreState) (k number : ℕ) (d p : Ring) (is : core_state c ≡ old) (at : k ≡ number) (here : d ≡ get_or c.rings.items k d) where
+module _ (c : CoreFields) (old : CoreState) (k number : ℕ) (d p : Ring) (is : core_state c ≡ old) (at : k ≡ number)
+    (here : d ≡ get_or c.rings.items k d) where
   same_ring : SameProducer d p → ring_of p ≡ ring_of (get_or c.rings.items k d)
   same_ring same = (λ i. record { words = same.0.0 i; slots = same.0.1 i; names = same.0.2 i }) ∙ ap (λ (r : Ring). ring_of r) here
 
   -- something was sent
-  pub changed : SameProducer d p → (xs : List Answer) → sent p ≡ xs → core_state (with_ring c k p) ≡ record old { sent = set old.sent number xs; room = set old.room number (known_free p) }
+  pub changed : SameProducer d p → (xs : List Answer) → sent p ≡ xs
+      → core_state (with_ring c k p) ≡ record old { sent = set old.sent number xs; room = set old.room number (known_free p) }
   changed same xs e i = record {
     intake = (is i).intake;
     rings = (same_image (λ (r : Ring). ring_of r) c.rings.items k d p (same_ring same) ∙ ap (λ (s : CoreState). s.rings) is) i;
@@ -91,27 +98,35 @@ module _ (c : CoreFields) (old : CoreState) (k number : ℕ) (d p : Ring) (is : 
   }
 
   -- nothing was sent
-  pub unsent : SameProducer d p → sent p ≡ sent d → (n : ℕ) → known_free p ≡ n → core_state (with_ring c k p) ≡ record old { room = set old.room number n }
+  pub unsent : SameProducer d p → sent p ≡ sent d → (n : ℕ) → known_free p ≡ n
+      → core_state (with_ring c k p) ≡ record old { room = set old.room number n }
   unsent same e n free i = record {
     intake = (is i).intake;
     rings = (same_image (λ (r : Ring). ring_of r) c.rings.items k d p (same_ring same) ∙ ap (λ (s : CoreState). s.rings) is) i;
     taken = (is i).taken;
     told = (is i).told;
-    sent = (same_image (λ (r : Ring). sent r) c.rings.items k d p (e ∙ ap (λ (r : Ring). sent r) here) ∙ ap (λ (s : CoreState). s.sent) is) i;
+    sent = (same_image (λ (r : Ring). sent r) c.rings.items k d p (e ∙ ap (λ (r : Ring). sent r) here)
+        ∙ ap (λ (s : CoreState). s.sent) is) i;
     room = (map-set (λ (r : Ring). known_free r) c.rings.items k p ∙ (λ j. set (is j).room (at j) (free j))) i;
   }
 
   pub room_now : k < length c.rings.items → room_for (core_state (with_ring c k p)) number ≡ known_free p
-  room_now within = ap (λ n. get_or (map (λ (r : Ring). known_free r) (set c.rings.items k p)) n 0) (sym at) ∙ image_at (λ (r : Ring). known_free r) c.rings.items k p 0 within
+  room_now within = ap (λ n. get_or (map (λ (r : Ring). known_free r) (set c.rings.items k p)) n 0) (sym at)
+      ∙ image_at (λ (r : Ring). known_free r) c.rings.items k p 0 within
 
   pub sent_now : k < length c.rings.items → sent_to (core_state (with_ring c k p)) number ≡ sent p
-  sent_now within = ap (λ n. get_or (map (λ (r : Ring). sent r) (set c.rings.items k p)) n []) (sym at) ∙ image_at (λ (r : Ring). sent r) c.rings.items k p [] within
+  sent_now within = ap (λ n. get_or (map (λ (r : Ring). sent r) (set c.rings.items k p)) n []) (sym at)
+      ∙ image_at (λ (r : Ring). sent r) c.rings.items k p [] within
 
   pub room_was : k < length c.rings.items → room_for old number ≡ known_free d
-  room_was within = (λ i. get_or (sym is i).room (sym at i) 0) ∙ get_or-map (λ (r : Ring). known_free r) c.rings.items k d 0 within ∙ ap (λ (r : Ring). known_free r) (sym here)
+  room_was within = (λ i. get_or (sym is i).room (sym at i) 0) ∙ get_or-map (λ (r : Ring). known_free r) c.rings.items k d 0 within
+      ∙ ap (λ (r : Ring). known_free r) (sym here)
 
   pub sent_was : k < length c.rings.items → sent_to old number ≡ sent d
-  sent_was within = (λ i. get_or (sym is i).sent (sym at i) []) ∙ get_or-map (λ (r : Ring). sent r) c.rings.items k d [] within ∙ ap (λ (r : Ring). sent r) (sym here)
+  sent_was within = (λ i. get_or (sym is i).sent (sym at i) []) ∙ get_or-map (λ (r : Ring). sent r) c.rings.items k d [] within
+      ∙ ap (λ (r : Ring). sent r) (sym here)
 
-  pub places_of : All (λ (r : Ring). producer_capacity r ≡ ring_places) c.rings.items → k < length c.rings.items → producer_capacity d ≡ ring_places
-  places_of all within = ap (λ (r : Ring). producer_capacity r) here ∙ all_at (λ (r : Ring). producer_capacity r ≡ ring_places) c.rings.items k d all within
+  pub places_of : All (λ (r : Ring). producer_capacity r ≡ ring_places) c.rings.items → k < length c.rings.items
+      → producer_capacity d ≡ ring_places
+  places_of all within = ap (λ (r : Ring). producer_capacity r) here
+      ∙ all_at (λ (r : Ring). producer_capacity r ≡ ring_places) c.rings.items k d all within

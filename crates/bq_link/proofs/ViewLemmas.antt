@@ -1,5 +1,6 @@
 -- Lists of views, and the passes that numbers are given to.
-use Rattle.std.proofs.Common.{◌≡◌, ◌≢◌, ℕ, zero, suc, ◌⊎◌, inl, inr, ⊎_elim, Bool, true, false, true≢false, List, [], ◌∷◌, ◌++◌, Option, Some, None, cond, length, set, refl, sym, ap, ◌∙◌, subst, eq-eqb, ne_eqb, eqb}
+use Rattle.std.proofs.Common.{◌≡◌, ◌≢◌, ℕ, zero, suc, ◌⊎◌, inl, inr, ⊎_elim, Bool, true, false, true≢false, List, [], ◌∷◌}
+use Rattle.std.proofs.Common.{◌++◌, Option, Some, None, cond, length, set, refl, sym, ap, ◌∙◌, subst, eq-eqb, ne_eqb, eqb}
 use mathlib.Core.Option.{some, some-ne-none, some-injective}
 use lib.ListN.{get_elem?}
 use Rattle.crossbeam_queue.proofs.Lists.{at_set}
@@ -9,11 +10,14 @@ abbrev pub Each : (ℕ → View → Type 0) → List View → Type 0
 Each F views = (pass : ℕ) (v : View) → get_elem? views pass ≡ some v → F pass v
 
 -- one view is changed
-pub each_set : (F : ℕ → View → Type 0) (views : List View) (pass : ℕ) (w : View) → F pass w → ((j : ℕ) (u : View) → j ≢ pass → get_elem? views j ≡ some u → F j u) → Each F (set views pass w)
-each_set F views pass w mine others j u e = ⊎_elim (λ (x : (j ≡ pass) × (w ≡ u)). subst (λ (y : ℕ × View). F y.0 y.1) (λ i. (sym x.0 i, x.1 i)) mine)
+pub each_set : (F : ℕ → View → Type 0) (views : List View) (pass : ℕ) (w : View) → F pass w
+    → ((j : ℕ) (u : View) → j ≢ pass → get_elem? views j ≡ some u → F j u) → Each F (set views pass w)
+each_set F views pass w mine others j u e =
+    ⊎_elim (λ (x : (j ≡ pass) × (w ≡ u)). subst (λ (y : ℕ × View). F y.0 y.1) (λ i. (sym x.0 i, x.1 i)) mine)
     (λ (x : (j ≢ pass) × (get_elem? views j ≡ some u)). others j u x.0 x.1) (at_set views pass j w u e)
 
-at_new : (views : List View) (v u : View) (j : ℕ) → get_elem? (views ++ v ∷ []) j ≡ some u → (get_elem? views j ≡ some u) ⊎ ((j ≡ length views) × (v ≡ u))
+at_new : (views : List View) (v u : View) (j : ℕ) → get_elem? (views ++ v ∷ []) j ≡ some u
+    → (get_elem? views j ≡ some u) ⊎ ((j ≡ length views) × (v ≡ u))
 at_new [] v u zero e = inr (refl, some-injective v u e)
 at_new [] v u (suc j) e = absurd (some-ne-none u (sym e))
 at_new (x ∷ xs) v u zero e = inl e

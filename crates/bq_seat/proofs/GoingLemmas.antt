@@ -47,22 +47,28 @@ after_asking m next taken request = record m { reader = next; kept = drop taken 
 
 asking_quit : (m : SeatMachine) (next : ReaderState) (n : ℕ) → m.end_told ≡ false → next.max_job_size ≡ m.reader.max_job_size
     → ((text : List ℕ) → Stands m.reader text → HandsRequest next text m.kept n requests.Quit)
-    → (p : Past) → IsOpen m.reader m.kept m.end_told 0 p → AgreesWith (after_asking m next n requests.Quit) (with_action (actions.Submit (steps.Ask requests.Quit)) p)
+    → (p : Past) → IsOpen m.reader m.kept m.end_told 0 p
+    → AgreesWith (after_asking m next n requests.Quit) (with_action (actions.Submit (steps.Ask requests.Quit)) p)
 asking_quit m next n untold same fed p line =
     let o : IsOpen m.reader m.kept false 0 p = open_at m.reader m.kept m.kept m.end_told false 0 p refl untold line in
     quits m.reader next m.kept n p o same (fed o.read.begun o.read.stands).unit
 
-asking : (m : SeatMachine) (next : ReaderState) (n : ℕ) (q : Request) → is_quit q ≡ false → m.end_told ≡ false → next.max_job_size ≡ m.reader.max_job_size
+asking : (m : SeatMachine) (next : ReaderState) (n : ℕ) (q : Request) → is_quit q ≡ false → m.end_told ≡ false
+    → next.max_job_size ≡ m.reader.max_job_size
     → ((text : List ℕ) → Stands m.reader text → HandsRequest next text m.kept n q) → (p : Past) → IsOpen m.reader m.kept m.end_told 0 p
     → StandsInStage (stages.Asking (is_waiting_request q)) next (drop n m.kept) m.end_told (with_action (actions.Submit (steps.Ask q)) p)
 asking m next n q not_quit untold same fed p line =
     let o : IsOpen m.reader m.kept false 0 p = open_at m.reader m.kept m.kept m.end_told false 0 p refl untold line in
     let out = fed o.read.begun o.read.stands in
-    let empty : Stands next [] = rw not_quit at out.next in
-    (waiting_at next (drop n m.kept) false m.end_told (is_waiting_request q) _ (sym untold) (asks m.reader next m.kept n q p o same out.unit empty not_quit), untold)
+    let empty : Stands next [] = rw not_quit at out.next in (
+      waiting_at next (drop n m.kept) false m.end_told (is_waiting_request q) _ (sym untold)
+          (asks m.reader next m.kept n q p o same out.unit empty not_quit),
+      untold,
+    )
 
 -- the reader has returned a request, and it is submitted
-pub goes_asking : (m : SeatMachine) (next : ReaderState) (n : ℕ) (q : Request) → m.end_told ≡ false → next.max_job_size ≡ m.reader.max_job_size
+pub goes_asking : (m : SeatMachine) (next : ReaderState) (n : ℕ) (q : Request) → m.end_told ≡ false
+    → next.max_job_size ≡ m.reader.max_job_size
     → ((text : List ℕ) → Stands m.reader text → HandsRequest next text m.kept n q)
     → GoesOn m (actions.Submit (steps.Ask q)) (after_asking m next n q)
 goes_asking m next n requests.Quit untold same fed = record {
@@ -84,7 +90,8 @@ pub goes_handed : (m : SeatMachine) (next : ReaderState) (n : ℕ) (q : Request)
     → IfSome found (λ request. (text : List ℕ) → Stands m.reader text → HandsRequest next text piece n request)
     → GoesOn m (actions.Submit (steps.Ask q)) (record m { reader = next; kept = kept; stage = asking_stage q })
 goes_handed m next n q piece kept found untold same piece_is kept_is found_is fed =
-    let P : Option Request → Type 0 = λ f. IfSome f (λ request. (text : List ℕ) → Stands m.reader text → HandsRequest next text piece n request) in
+    let P : Option Request → Type 0 = λ f. IfSome f
+    (λ request. (text : List ℕ) → Stands m.reader text → HandsRequest next text piece n request) in
     let Q : List ℕ → Type 0 = λ x. (text : List ℕ) → Stands m.reader text → HandsRequest next text x n q in
     let R : List ℕ → Type 0 = λ k. GoesOn m (actions.Submit (steps.Ask q)) (record m { reader = next; kept = k; stage = asking_stage q }) in
     let handed : (text : List ℕ) → Stands m.reader text → HandsRequest next text piece n q = subst P found_is fed in

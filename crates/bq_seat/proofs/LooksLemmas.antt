@@ -1,5 +1,6 @@
 -- What the steps and the mail of a line imply for the machine's next action.
-use Rattle.std.proofs.Common.{◌≡◌, ℕ, suc, ◌+◌, ◌<◌, Bool, true, false, ◌&&◌, ◌==◌, not, List, [], ◌∷◌, ◌++◌, Some, map, length, refl, sym, ap, ◌∙◌, arith, subst, append-nil}
+use Rattle.std.proofs.Common.{◌≡◌, ℕ, suc, ◌+◌, ◌<◌, Bool, true, false, ◌&&◌, ◌==◌, not, List, []}
+use Rattle.std.proofs.Common.{◌∷◌, ◌++◌, Some, map, length, refl, sym, ap, ◌∙◌, arith, subst, append-nil}
 use Rattle.std.proofs.lemmas.Bool.Decides.{nat_tests}
 use Rattle.bq_job.specs.declared.request.Request.{Request}
 use Rattle.bq_job.specs.declared.request.Request.TheVariants as requests
@@ -24,7 +25,8 @@ last_step-append (a ∷ []) step = refl
 last_step-append (a ∷ b ∷ taken) step = last_step-append (b ∷ taken) step
 
 -- after the connect
-pub behind_connect : (p : Past) (action : Action) → p.steps ≡ steps.Connect ∷ [] → GoesFurther action → LooksBehindStep (last_step p.steps) action
+pub behind_connect : (p : Past) (action : Action) → p.steps ≡ steps.Connect ∷ [] → GoesFurther action
+    → LooksBehindStep (last_step p.steps) action
 behind_connect p action is g = rw is g
 
 -- after a quit
@@ -41,25 +43,31 @@ last_no_quit : (before : List Request) (last : Request) → has_quit (before ++ 
 last_no_quit [] last e = (neither (is_quit last) false e).0
 last_no_quit (r ∷ before) last e = last_no_quit before last (neither (is_quit r) (has_quit (before ++ last ∷ [])) e).1
 
-behind_asked : (asked : List Request) (taken : List Step) → taken ≡ steps.Connect ∷ map steps.Ask asked → 0 < length asked → has_quit asked ≡ false → LooksBehindStep (last_step taken) actions.PollMail
+behind_asked : (asked : List Request) (taken : List Step) → taken ≡ steps.Connect ∷ map steps.Ask asked → 0 < length asked
+    → has_quit asked ≡ false → LooksBehindStep (last_step taken) actions.PollMail
 behind_asked [] taken is some none = absurd (omega arith)
 behind_asked (r ∷ asked) taken is some none =
     let ends = ends_by r asked in
     let whole : taken ≡ (steps.Connect ∷ map steps.Ask ends.before) ++ steps.Ask ends.last ∷ [] =
     is ∙ ap (λ rs. steps.Connect ∷ map steps.Ask rs) ends.is ∙ ap (λ xs. steps.Connect ∷ xs) (asks_last ends.before ends.last) in
     let last = ap last_step whole ∙ last_step-append (steps.Connect ∷ map steps.Ask ends.before) (steps.Ask ends.last) in
-    subst (λ s. LooksBehindStep s actions.PollMail) (sym last) (no_quit_behind ends.last (last_no_quit ends.before ends.last (ap has_quit (sym ends.is) ∙ none)))
+    subst (λ s. LooksBehindStep s actions.PollMail) (sym last)
+    (no_quit_behind ends.last (last_no_quit ends.before ends.last (ap has_quit (sym ends.is) ∙ none)))
 
 -- after a request that wants an answer
-pub behind_request : (r : ReaderState) (kept : List ℕ) (told : Bool) (p : Past) → IsOpen r kept told 1 p → told ≡ false → LooksBehindStep (last_step p.steps) actions.PollMail
+pub behind_request : (r : ReaderState) (kept : List ℕ) (told : Bool) (p : Past) → IsOpen r kept told 1 p → told ≡ false
+    → LooksBehindStep (last_step p.steps) actions.PollMail
 behind_request r kept told p o untold =
-    behind_asked o.asked p.steps (o.stepped.steps_are ∙ ap (λ t. (steps.Connect ∷ map steps.Ask o.asked) ++ end_if t) untold ∙ append-nil (steps.Connect ∷ map steps.Ask o.asked))
+    behind_asked o.asked p.steps (o.stepped.steps_are ∙ ap (λ t. (steps.Connect ∷ map steps.Ask o.asked) ++ end_if t) untold
+    ∙ append-nil (steps.Connect ∷ map steps.Ask o.asked))
     (let all = o.handed.answered in omega arith) o.stepped.no_quit
 
 -- after the end was submitted
-pub behind_end : (r : ReaderState) (kept : List ℕ) (told : Bool) (p : Past) → IsOpen r kept told 1 p → told ≡ true → LooksBehindStep (last_step p.steps) actions.PollMail
+pub behind_end : (r : ReaderState) (kept : List ℕ) (told : Bool) (p : Past) → IsOpen r kept told 1 p → told ≡ true
+    → LooksBehindStep (last_step p.steps) actions.PollMail
 behind_end r kept told p o was_told =
-    let is = ap last_step (o.stepped.steps_are ∙ ap (λ t. (steps.Connect ∷ map steps.Ask o.asked) ++ end_if t) was_told) ∙ last_step-append (steps.Connect ∷ map steps.Ask o.asked) steps.End in
+    let is = ap last_step (o.stepped.steps_are ∙ ap (λ t. (steps.Connect ∷ map steps.Ask o.asked) ++ end_if t) was_told)
+    ∙ last_step-append (steps.Connect ∷ map steps.Ask o.asked) steps.End in
     subst (λ s. LooksBehindStep s actions.PollMail) (sym is) refl
 
 -- after the close
@@ -73,7 +81,8 @@ no_ends : (told : Bool) → wanted (end_if told) ≡ 0
 no_ends true = refl
 no_ends false = refl
 
-pub wanted_open : (r : ReaderState) (kept : List ℕ) (told : Bool) (out : ℕ) (p : Past) → IsOpen r kept told out p → wanted p.steps ≡ length p.mail + out
+pub wanted_open : (r : ReaderState) (kept : List ℕ) (told : Bool) (out : ℕ) (p : Past) → IsOpen r kept told out p
+    → wanted p.steps ≡ length p.mail + out
 wanted_open r kept told out p o =
     let same = ap wanted o.stepped.steps_are in
     let joined = wanted_joined (map steps.Ask o.asked) (end_if told) in
@@ -103,7 +112,8 @@ asked_in-ends [] false = refl
 asked_in-ends (r ∷ asked) told = ap (λ rs. r ∷ rs) (asked_in-ends asked told)
 
 -- whether the line is read while an answer is outstanding
-pub read_on_is : (r : ReaderState) (kept : List ℕ) (told waits : Bool) (p : Past) → IsWaiting r kept told waits p → is_read_on kept p ≡ (waits && not told && (length kept == 0))
+pub read_on_is : (r : ReaderState) (kept : List ℕ) (told waits : Bool) (p : Past) → IsWaiting r kept told waits p
+    → is_read_on kept p ≡ (waits && not told && (length kept == 0))
 read_on_is r [] told waits p w =
     let o = w.0 in
     let may_wait = ap (λ s. ends_by_wait (asked_in s)) o.stepped.steps_are ∙ ap ends_by_wait (asked_in-ends o.asked told) ∙ w.1 in

@@ -1,5 +1,6 @@
 -- The moves of a seat machine, stage by stage.
-use Rattle.std.proofs.Common.{◌≡◌, ℕ, Bool, true, false, not, ◌&&◌, ◌==◌, List, [], ◌∷◌, inl, inr, refl, sym, ap, subst, ◌∙◌, length, if◌then◌else◌, arith, Bor, MatchBool}
+use Rattle.std.proofs.Common.{◌≡◌, ℕ, Bool, true, false, not, ◌&&◌, ◌==◌, List, [], ◌∷◌, inl}
+use Rattle.std.proofs.Common.{inr, refl, sym, ap, subst, ◌∙◌, length, if◌then◌else◌, arith, Bor, MatchBool}
 use Rattle.std.proofs.lemmas.Bool.Decides.{nat_tests}
 use Rattle.bq_job.specs.beside.ComputedReading.{reading}
 use Rattle.bq_job.specs.declared.answer.Answer.{Answer}
@@ -21,26 +22,33 @@ use Rattle.bq_seat.specs.declared.machine.SeatMachine.{SeatMachine}
 use Rattle.bq_seat.specs.declared.machine.Stage.{Stage}
 use Rattle.bq_seat.specs.declared.machine.Stage.TheVariants as stages
 use Rattle.bq_job.proofs.ReadsLemmas.{reading-Reads}
-use Rattle.bq_seat.proofs.LooksLemmas.{answered_all, behind_close, behind_connect, behind_end, behind_quit, behind_request, one_unanswered, read_on_is}
-use Rattle.bq_seat.proofs.OpenLemmas.{answered, ends_line, handed_in, handed_in_waiting, opened, read_fails, served_now, still_closing, tells_end, write_fails}
+use Rattle.bq_seat.proofs.LooksLemmas.{answered_all, behind_close, behind_connect, behind_end}
+use Rattle.bq_seat.proofs.LooksLemmas.{behind_quit, behind_request, one_unanswered, read_on_is}
+use Rattle.bq_seat.proofs.OpenLemmas.{answered, ends_line, handed_in, handed_in_waiting, opened}
+use Rattle.bq_seat.proofs.OpenLemmas.{read_fails, served_now, still_closing, tells_end, write_fails}
 
 -- the same move, under equal names for its action and the machine after it
-pub by_result : (old new same : SeatMachine) (event : Event) (action other : Action) → action ≡ other → new ≡ same → IsStagedMove old event other same → IsStagedMove old event action new
+pub by_result : (old new same : SeatMachine) (event : Event) (action other : Action) → action ≡ other → new ≡ same
+    → IsStagedMove old event other same → IsStagedMove old event action new
 by_result old new same event action other e f m =
     let P : Action → Type 0 = λ a. IsStagedMove old event a same in
     let Q : SeatMachine → Type 0 = λ x. IsStagedMove old event action x in
     subst Q (sym f) (subst P (sym e) m)
 
 -- the move of a machine that is in this stage
-pub from_stage : (old new : SeatMachine) (event : Event) (action : Action) (s : Stage) → old.stage ≡ s → IsStagedMove (in_stage s old) event action new → IsStagedMove old event action new
+pub from_stage : (old new : SeatMachine) (event : Event) (action : Action) (s : Stage) → old.stage ≡ s
+    → IsStagedMove (in_stage s old) event action new → IsStagedMove old event action new
 from_stage old new event action s e m = let P : Stage → Type 0 = λ t. IsStagedMove (in_stage t old) event action new in subst P (sym e) m
 
 -- the same if the machine stays as it was
-pub stays_in : (old : SeatMachine) (event : Event) (action : Action) (s : Stage) → old.stage ≡ s → IsStagedMove (in_stage s old) event action (in_stage s old) → IsStagedMove old event action old
-stays_in old event action s e m = let P : Stage → Type 0 = λ t. IsStagedMove (in_stage t old) event action (in_stage t old) in subst P (sym e) m
+pub stays_in : (old : SeatMachine) (event : Event) (action : Action) (s : Stage) → old.stage ≡ s
+    → IsStagedMove (in_stage s old) event action (in_stage s old) → IsStagedMove old event action old
+stays_in old event action s e m = let P : Stage
+    → Type 0 = λ t. IsStagedMove (in_stage t old) event action (in_stage t old) in subst P (sym e) m
 
 -- the end of input while the line is read and no answer is outstanding
-pub end_in_reading : (m : SeatMachine) → IsStagedMove (in_stage stages.Reading m) events.EndOfInput (actions.Submit steps.Close) (in_stage (stages.Closing ends.EndOfInput) m)
+pub end_in_reading : (m : SeatMachine) → IsStagedMove (in_stage stages.Reading m) events.EndOfInput (actions.Submit steps.Close)
+    (in_stage (stages.Closing ends.EndOfInput) m)
 end_in_reading m = record {
   stray = refl;
   unchanged = λ e. cc;
@@ -54,7 +62,8 @@ end_in_reading m = record {
 
 -- the end of input while a reserve waits
 pub end_in_reading_on : (m : SeatMachine)
-    → IsStagedMove (in_stage stages.ReadingOn m) events.EndOfInput (actions.Submit steps.End) (record m { stage = stages.TellingEnd; end_told = true })
+    → IsStagedMove (in_stage stages.ReadingOn m) events.EndOfInput (actions.Submit steps.End)
+    (record m { stage = stages.TellingEnd; end_told = true })
 end_in_reading_on m = record {
   stray = refl;
   unchanged = λ e. cc;
@@ -63,11 +72,13 @@ end_in_reading_on m = record {
   opened = tt;
   past = λ p h. (tells_end m.reader m.kept m.end_told p h.0 h.1 h.2, refl);
   over = tt;
-  looks = λ e p h. ap (λ b. actions.Submit (if b then steps.End else steps.Close)) (sym (one_unanswered m.reader m.kept m.end_told p h.0.0));
+  looks = λ e p h. ap (λ b. actions.Submit (if b then steps.End else steps.Close))
+      (sym (one_unanswered m.reader m.kept m.end_told p h.0.0));
 }
 
 -- a request was submitted, and its answer is awaited
-pub submitted_asking : (m : SeatMachine) (waits : Bool) → IsStagedMove (in_stage (stages.Asking waits) m) events.Submitted actions.PollMail (in_stage (stages.Polling waits) m)
+pub submitted_asking : (m : SeatMachine) (waits : Bool)
+    → IsStagedMove (in_stage (stages.Asking waits) m) events.Submitted actions.PollMail (in_stage (stages.Polling waits) m)
 submitted_asking m waits = record {
   stray = refl;
   unchanged = λ e. cc;
@@ -79,7 +90,8 @@ submitted_asking m waits = record {
   looks = λ e p h. behind_request m.reader m.kept m.end_told p h.0.0 h.1;
 }
 
-pub submitted_end : (m : SeatMachine) → IsStagedMove (in_stage stages.TellingEnd m) events.Submitted actions.PollMail (in_stage (stages.Polling true) m)
+pub submitted_end : (m : SeatMachine) → IsStagedMove (in_stage stages.TellingEnd m) events.Submitted actions.PollMail
+    (in_stage (stages.Polling true) m)
 submitted_end m = record {
   stray = refl;
   unchanged = λ e. cc;
@@ -92,7 +104,8 @@ submitted_end m = record {
 }
 
 -- there was nothing to read while a reserve waits
-pub nothing_in_reading_on : (m : SeatMachine) → IsStagedMove (in_stage stages.ReadingOn m) events.NothingYet actions.PollMail (in_stage (stages.Polling true) m)
+pub nothing_in_reading_on : (m : SeatMachine)
+    → IsStagedMove (in_stage stages.ReadingOn m) events.NothingYet actions.PollMail (in_stage (stages.Polling true) m)
 nothing_in_reading_on m = record {
   stray = refl;
   unchanged = λ e. cc;
@@ -106,7 +119,8 @@ nothing_in_reading_on m = record {
 
 -- the action without mail, while an answer is outstanding
 looks_in_polling : (m : SeatMachine) (waits : Bool) (p : Past) → StandsInStage (stages.Polling waits) m.reader m.kept m.end_told p
-    → (if not p.closing && is_read_on m.kept p then actions.Read else actions.PollMail) ≡ (if reads_on waits m then actions.Read else actions.PollMail)
+    → (if not p.closing && is_read_on m.kept p then actions.Read else actions.PollMail) ≡
+    (if reads_on waits m then actions.Read else actions.PollMail)
 looks_in_polling m waits p h =
     ap (λ b. if not b && is_read_on m.kept p then actions.Read else actions.PollMail) h.0.stepped.closing_is
     ∙ ap (λ b. if b then actions.Read else actions.PollMail) (read_on_is m.reader m.kept m.end_told waits p h)
@@ -125,7 +139,8 @@ reads_on_in_polling m waits w untold none on = record {
   looks = λ e p h. sym (looks_in_polling m waits p h ∙ ap (λ b. if b then actions.Read else actions.PollMail) on);
 }
 
-waits_in_polling : (m : SeatMachine) (waits : Bool) → reads_on waits m ≡ false → IsStagedMove (in_stage (stages.Polling waits) m) events.NothingYet actions.PollMail (in_stage (stages.Polling waits) m)
+waits_in_polling : (m : SeatMachine) (waits : Bool) → reads_on waits m ≡ false
+    → IsStagedMove (in_stage (stages.Polling waits) m) events.NothingYet actions.PollMail (in_stage (stages.Polling waits) m)
 waits_in_polling m waits on = record {
   stray = refl;
   unchanged = λ e. cc;
@@ -141,7 +156,8 @@ none_kept : (kept : List ℕ) → (length kept == 0) ≡ true → kept ≡ []
 none_kept [] e = refl
 none_kept (b ∷ kept) e = absurd (grind (arith, nat_tests))
 
-all_three : (waits told : Bool) (kept : List ℕ) → (waits && not told && (length kept == 0)) ≡ true → (waits ≡ true) × (told ≡ false) × (kept ≡ [])
+all_three : (waits told : Bool) (kept : List ℕ) → (waits && not told && (length kept == 0)) ≡ true
+    → (waits ≡ true) × (told ≡ false) × (kept ≡ [])
 all_three true false kept e = (refl, refl, none_kept kept e)
 all_three true true kept e = cc
 all_three false told kept e = cc
@@ -149,11 +165,13 @@ all_three false told kept e = cc
 pub nothing_in_polling : (m : SeatMachine) (waits on : Bool) → m.stage ≡ stages.Polling waits → reads_on waits m ≡ on
     → IsStagedMove m events.NothingYet (if on then actions.Read else actions.PollMail) (if on then in_stage stages.ReadingOn m else m)
 nothing_in_polling m waits true s e =
-    let f = all_three waits m.end_told m.kept e in from_stage m _ events.NothingYet actions.Read (stages.Polling waits) s (reads_on_in_polling m waits f.0 f.1 f.2 e)
+    let f = all_three waits m.end_told m.kept e in
+    from_stage m _ events.NothingYet actions.Read (stages.Polling waits) s (reads_on_in_polling m waits f.0 f.1 f.2 e)
 nothing_in_polling m waits false s e = stays_in m events.NothingYet actions.PollMail (stages.Polling waits) s (waits_in_polling m waits e)
 
 -- a read fails
-pub fault_in_reading : (m : SeatMachine) → IsStagedMove (in_stage stages.Reading m) events.ReadFault (actions.Submit steps.Close) (in_stage (stages.Closing ends.ReadFault) m)
+pub fault_in_reading : (m : SeatMachine) → IsStagedMove (in_stage stages.Reading m) events.ReadFault (actions.Submit steps.Close)
+    (in_stage (stages.Closing ends.ReadFault) m)
 fault_in_reading m = record {
   stray = refl;
   unchanged = λ e. cc;
@@ -165,7 +183,8 @@ fault_in_reading m = record {
   looks = λ e p h. refl;
 }
 
-pub fault_in_reading_on : (m : SeatMachine) → IsStagedMove (in_stage stages.ReadingOn m) events.ReadFault (actions.Submit steps.Close) (in_stage (stages.Closing ends.ReadFault) m)
+pub fault_in_reading_on : (m : SeatMachine)
+    → IsStagedMove (in_stage stages.ReadingOn m) events.ReadFault (actions.Submit steps.Close) (in_stage (stages.Closing ends.ReadFault) m)
 fault_in_reading_on m = record {
   stray = refl;
   unchanged = λ e. cc;
@@ -186,14 +205,16 @@ fault_in_writing m = record {
   awaits = λ e. refl;
   limit = refl;
   opened = tt;
-  past = λ p h. write_fails m.reader m.kept m.end_told p h.0 h.1 (λ text. ((reading m.reader.max_job_size text).0, (reading m.reader.max_job_size text).1, reading-Reads m.reader.max_job_size text));
+  past = λ p h. write_fails m.reader m.kept m.end_told p h.0 h.1
+      (λ text. ((reading m.reader.max_job_size text).0, (reading m.reader.max_job_size text).1, reading-Reads m.reader.max_job_size text));
   over = tt;
   looks = λ e p h. refl;
 }
 
 -- a line is opened
 pub opens : (m : SeatMachine) (next : ReaderState) (kept : List ℕ) → Stands next [] → next.max_job_size ≡ m.reader.max_job_size → kept ≡ []
-    → IsStagedMove (in_stage stages.Between m) events.Opened (actions.Submit steps.Connect) (record { reader = next; kept = kept; stage = stages.Connecting; end_told = false })
+    → IsStagedMove (in_stage stages.Between m) events.Opened (actions.Submit steps.Connect)
+    (record { reader = next; kept = kept; stage = stages.Connecting; end_told = false })
 opens m next kept stands same none =
     let P : List ℕ → Type 0 = λ k. StandsInStage stages.Connecting next k false first_past in
     let begun : StandsInStage stages.Connecting next kept false first_past = subst P (sym none) (opened next stands) in
@@ -209,7 +230,8 @@ opens m next kept stands same none =
     }
 
 -- an action with which the machine continues is not stray, and does not end the line
-going_past : (event : Event) (action : Action) (p : Past) → GoesFurther action → past_after event action p ≡ with_action action (with_event event p)
+going_past : (event : Event) (action : Action) (p : Past) → GoesFurther action
+    → past_after event action p ≡ with_action action (with_event event p)
 going_past event (actions.Submit step) p e = refl
 going_past event actions.Read p e = refl
 going_past event actions.PollMail p e = absurd e
@@ -234,14 +256,16 @@ going_not_over (actions.LineOver end) P e = absurd e
 going_not_over actions.Stray P e = tt
 
 -- No answer is outstanding after the event, and the machine continues after it.
-pub goes_on_behind : (old mid new : SeatMachine) (event : Event) (action : Action) (stage : Stage) → old.stage ≡ stage → answers event (awaited_at stage) ≡ true
+pub goes_on_behind : (old mid new : SeatMachine) (event : Event) (action : Action) (stage : Stage) → old.stage ≡ stage
+    → answers event (awaited_at stage) ≡ true
     → (OpensLine event action new) → mid.reader.max_job_size ≡ old.reader.max_job_size
     → ((p : Past) → StandsInStage stage old.reader old.kept old.end_told p → IsOpen mid.reader mid.kept mid.end_told 0 (with_event event p))
     → ((p : Past) → StandsInStage stage old.reader old.kept old.end_told p → LooksOn (awaited_at stage) old.kept event p action)
     → GoesOn mid action new → IsStagedMove old event action new
 goes_on_behind old mid new event action stage is awaits opened same opens_at looks g =
     let not_stray = going_not_stray action g.further in
-    let at : (p : Past) → AgreesWith old p → StandsInStage stage old.reader old.kept old.end_told p = λ p h. subst (λ t. StandsInStage t old.reader old.kept old.end_told p) is h in
+    let at : (p : Past) → AgreesWith old p → StandsInStage stage old.reader old.kept old.end_told p =
+    λ p h. subst (λ t. StandsInStage t old.reader old.kept old.end_told p) is h in
     record {
       stray = not_stray ∙ sym (ap (λ t. not (answers event (awaited_at t))) is ∙ ap not awaits);
       unchanged = λ e. cc;
@@ -254,26 +278,32 @@ goes_on_behind old mid new event action stage is awaits opened same opens_at loo
     }
 
 -- bytes come while the line is read and no answer is outstanding
-pub bytes_in_reading : (m mid new : SeatMachine) (bytes : Bor (List ℕ)) (action : Action) → m.stage ≡ stages.Reading → mid ≡ record m { kept = bytes.now } → GoesOn mid action new
+pub bytes_in_reading : (m mid new : SeatMachine) (bytes : Bor (List ℕ)) (action : Action) → m.stage ≡ stages.Reading
+    → mid ≡ record m { kept = bytes.now } → GoesOn mid action new
     → IsStagedMove m (events.Bytes bytes) action new
 bytes_in_reading m mid new bytes action s kept g =
     let Q : (p : Past) → SeatMachine → Type 0 = λ p x. IsOpen x.reader x.kept x.end_told 0 (with_event (events.Bytes bytes) p) in
     goes_on_behind m mid new (events.Bytes bytes) action stages.Reading s refl tt (ap (λ x. x.reader.max_job_size) kept)
     (λ p h. subst (Q p) (sym kept) (handed_in m.reader m.kept m.end_told 0 p bytes.now h.0 h.1 h.2))
-    (λ p h. subst (λ b. MatchBool b (action ≡ actions.PollMail) (GoesFurther action)) (sym (answered_all m.reader m.kept m.end_told p h.0)) g.further)
+    (λ p h. subst (λ b. MatchBool b (action ≡ actions.PollMail) (GoesFurther action))
+    (sym (answered_all m.reader m.kept m.end_told p h.0)) g.further)
     g
 
 -- the connect was submitted
-pub submitted_connect : (m new : SeatMachine) (action : Action) → m.stage ≡ stages.Connecting → GoesOn m action new → IsStagedMove m events.Submitted action new
+pub submitted_connect : (m new : SeatMachine) (action : Action) → m.stage ≡ stages.Connecting → GoesOn m action new
+    → IsStagedMove m events.Submitted action new
 submitted_connect m new action s g =
-    goes_on_behind m m new events.Submitted action stages.Connecting s refl tt refl (λ p h. h.0) (λ p h. behind_connect p action h.2 g.further) g
+    goes_on_behind m m new events.Submitted action stages.Connecting s refl tt refl (λ p h. h.0)
+    (λ p h. behind_connect p action h.2 g.further) g
 
 -- an answer was written
-pub wrote : (m new : SeatMachine) (action : Action) → m.stage ≡ stages.Writing → GoesOn m action new → IsStagedMove m events.WriteDone action new
+pub wrote : (m new : SeatMachine) (action : Action) → m.stage ≡ stages.Writing → GoesOn m action new
+    → IsStagedMove m events.WriteDone action new
 wrote m new action s g = goes_on_behind m m new events.WriteDone action stages.Writing s refl tt refl (λ p h. h.0) (λ p h. g.further) g
 
 -- there was nothing to read, and no answer is outstanding
-pub nothing_in_reading : (m : SeatMachine) → IsStagedMove (in_stage stages.Reading m) events.NothingYet actions.Read (in_stage stages.Reading m)
+pub nothing_in_reading : (m : SeatMachine)
+    → IsStagedMove (in_stage stages.Reading m) events.NothingYet actions.Read (in_stage stages.Reading m)
 nothing_in_reading m = record {
   stray = refl;
   unchanged = λ e. cc;
@@ -286,7 +316,8 @@ nothing_in_reading m = record {
 }
 
 -- no mail has come since the close
-pub nothing_in_leaving : (m : SeatMachine) (end : LineEnd) → IsStagedMove (in_stage (stages.Leaving end) m) events.NothingYet actions.PollMail (in_stage (stages.Leaving end) m)
+pub nothing_in_leaving : (m : SeatMachine) (end : LineEnd)
+    → IsStagedMove (in_stage (stages.Leaving end) m) events.NothingYet actions.PollMail (in_stage (stages.Leaving end) m)
 nothing_in_leaving m end = record {
   stray = refl;
   unchanged = λ e. cc;
@@ -299,7 +330,8 @@ nothing_in_leaving m end = record {
 }
 
 -- a quit was submitted
-pub submitted_quit : (m : SeatMachine) → IsStagedMove (in_stage stages.AskingQuit m) events.Submitted (actions.Submit steps.Close) (in_stage (stages.Closing ends.Quit) m)
+pub submitted_quit : (m : SeatMachine) → IsStagedMove (in_stage stages.AskingQuit m) events.Submitted (actions.Submit steps.Close)
+    (in_stage (stages.Closing ends.Quit) m)
 submitted_quit m = record {
   stray = refl;
   unchanged = λ e. cc;
@@ -312,7 +344,8 @@ submitted_quit m = record {
 }
 
 -- the close was submitted
-pub submitted_close : (m : SeatMachine) (end : LineEnd) → IsStagedMove (in_stage (stages.Closing end) m) events.Submitted actions.PollMail (in_stage (stages.Leaving end) m)
+pub submitted_close : (m : SeatMachine) (end : LineEnd)
+    → IsStagedMove (in_stage (stages.Closing end) m) events.Submitted actions.PollMail (in_stage (stages.Leaving end) m)
 submitted_close m end = record {
   stray = refl;
   unchanged = λ e. cc;
@@ -325,7 +358,8 @@ submitted_close m end = record {
 }
 
 -- the outstanding answer came
-pub mail_in_polling : (m : SeatMachine) (waits : Bool) (answer : Answer) → IsStagedMove (in_stage (stages.Polling waits) m) (events.Mail answer) (actions.Write answer) (in_stage stages.Writing m)
+pub mail_in_polling : (m : SeatMachine) (waits : Bool) (answer : Answer)
+    → IsStagedMove (in_stage (stages.Polling waits) m) (events.Mail answer) (actions.Write answer) (in_stage stages.Writing m)
 mail_in_polling m waits answer = record {
   stray = refl;
   unchanged = λ e. cc;
@@ -334,14 +368,17 @@ mail_in_polling m waits answer = record {
   opened = tt;
   past = λ p h. answered m.reader m.kept m.end_told waits p answer h;
   over = tt;
-  looks = λ e p h. subst (λ b. MatchBool b (MatchBool (is_closed_answer answer) ⊥ (actions.Write answer ≡ actions.PollMail)) (actions.Write answer ≡ actions.Write answer)) (sym h.0.stepped.closing_is) refl;
+  looks = λ e p h. subst (λ b. MatchBool b (MatchBool (is_closed_answer answer) ⊥ (actions.Write answer ≡ actions.PollMail))
+      (actions.Write answer ≡ actions.Write answer)) (sym h.0.stepped.closing_is) refl;
 }
 
 -- bytes come while a reserve waits
 pub bytes_in_reading_on : (m : SeatMachine) (kept : List ℕ) (bytes : Bor (List ℕ)) → kept ≡ bytes.now
-    → IsStagedMove (in_stage stages.ReadingOn m) (events.Bytes bytes) actions.PollMail (record m { kept = kept; stage = stages.Polling true })
+    → IsStagedMove (in_stage stages.ReadingOn m) (events.Bytes bytes) actions.PollMail
+    (record m { kept = kept; stage = stages.Polling true })
 bytes_in_reading_on m kept bytes e =
-    let P : List ℕ → Type 0 = λ k. IsStagedMove (in_stage stages.ReadingOn m) (events.Bytes bytes) actions.PollMail (record m { kept = k; stage = stages.Polling true }) in
+    let P : List ℕ → Type 0 = λ k. IsStagedMove (in_stage stages.ReadingOn m) (events.Bytes bytes) actions.PollMail
+    (record m { kept = k; stage = stages.Polling true }) in
     subst P (sym e) (record {
       stray = refl;
       unchanged = λ f. cc;
@@ -350,7 +387,8 @@ bytes_in_reading_on m kept bytes e =
       opened = tt;
       past = λ p h. handed_in_waiting m.reader m.kept m.end_told true p bytes.now h.0 h.1 h.2;
       over = tt;
-      looks = λ f p h. subst (λ b. MatchBool b (actions.PollMail ≡ actions.PollMail) ⊥) (sym (one_unanswered m.reader m.kept m.end_told p h.0.0)) refl;
+      looks = λ f p h. subst (λ b. MatchBool b (actions.PollMail ≡ actions.PollMail) ⊥)
+          (sym (one_unanswered m.reader m.kept m.end_told p h.0.0)) refl;
     })
 
 -- an answer comes after the close: the close's own answer ends the line
@@ -364,7 +402,8 @@ ends_by_closed m end answer own = record {
   opened = tt;
   past = λ p h. (end, served_now m.reader.max_job_size end p answer own h);
   over = λ p h. served_now m.reader.max_job_size end p answer own h;
-  looks = λ e p h. subst (λ b. MatchBool b (MatchBool (is_closed_answer answer) (Unit {0}) (actions.LineOver end ≡ actions.PollMail)) (actions.LineOver end ≡ actions.Write answer)) (sym h.closing_is)
+  looks = λ e p h. subst (λ b. MatchBool b (MatchBool (is_closed_answer answer) (Unit {0}) (actions.LineOver end ≡ actions.PollMail))
+      (actions.LineOver end ≡ actions.Write answer)) (sym h.closing_is)
       (subst (λ b. MatchBool b (Unit {0}) (actions.LineOver end ≡ actions.PollMail)) (sym own) tt);
 }
 
@@ -378,11 +417,16 @@ stays_leaving m end answer other = record {
   opened = tt;
   past = λ p h. still_closing m.reader.max_job_size end p answer other h;
   over = tt;
-  looks = λ e p h. subst (λ b. MatchBool b (MatchBool (is_closed_answer answer) ⊥ (actions.PollMail ≡ actions.PollMail)) (actions.PollMail ≡ actions.Write answer)) (sym h.closing_is)
+  looks = λ e p h. subst (λ b. MatchBool b (MatchBool (is_closed_answer answer) ⊥ (actions.PollMail ≡ actions.PollMail))
+      (actions.PollMail ≡ actions.Write answer)) (sym h.closing_is)
       (subst (λ b. MatchBool b ⊥ (actions.PollMail ≡ actions.PollMail)) (sym other) refl);
 }
 
-pub mail_in_leaving : (m : SeatMachine) (end : LineEnd) (answer : Answer) (own : Bool) → m.stage ≡ stages.Leaving end → is_closed_answer answer ≡ own
-    → IsStagedMove m (events.Mail answer) (if own then actions.LineOver end else actions.PollMail) (if own then in_stage stages.Between m else m)
-mail_in_leaving m end answer true s e = from_stage m _ (events.Mail answer) (actions.LineOver end) (stages.Leaving end) s (ends_by_closed m end answer e)
-mail_in_leaving m end answer false s e = stays_in m (events.Mail answer) actions.PollMail (stages.Leaving end) s (stays_leaving m end answer e)
+pub mail_in_leaving : (m : SeatMachine) (end : LineEnd) (answer : Answer) (own : Bool) → m.stage ≡ stages.Leaving end
+    → is_closed_answer answer ≡ own
+    → IsStagedMove m (events.Mail answer) (if own then actions.LineOver end else actions.PollMail)
+    (if own then in_stage stages.Between m else m)
+mail_in_leaving m end answer true s e = from_stage m _ (events.Mail answer) (actions.LineOver end) (stages.Leaving end) s
+    (ends_by_closed m end answer e)
+mail_in_leaving m end answer false s e = stays_in m (events.Mail answer) actions.PollMail (stages.Leaving end) s
+    (stays_leaving m end answer e)

@@ -1,5 +1,7 @@
 -- What happens to a line that is open.
-use Rattle.std.proofs.Common.{◌≡◌, ℕ, ◌<◌, Bool, true, false, ◌||◌, if◌then◌else◌, is_some, List, [], ◌∷◌, ◌++◌, ◌⊎◌, inl, inr, Option, Some, None, refl, sym, ap, subst, ◌∙◌, append_assoc, append-nil, map, length, arith, length-append, take, drop, take-append-drop}
+use Rattle.std.proofs.Common.{◌≡◌, ℕ, ◌<◌, Bool, true, false, ◌||◌, if◌then◌else◌, is_some, List, []}
+use Rattle.std.proofs.Common.{◌∷◌, ◌++◌, ◌⊎◌, inl, inr, Option, Some, None, refl, sym, ap}
+use Rattle.std.proofs.Common.{subst, ◌∙◌, append_assoc, append-nil, map, length, arith, length-append, take, drop, take-append-drop}
 use Rattle.std.proofs.Math.Bool.{or-true}
 use Rattle.bq_job.specs.declared.answer.Answer.{Answer}
 use Rattle.bq_job.specs.declared.answer.Answer.TheVariants.{Closed}
@@ -21,8 +23,10 @@ use Rattle.bq_wire.specs.Standing.{Stands}
 use Rattle.bq_wire.specs.declared.reader.ReaderState.{ReaderState}
 use Rattle.bq_seat.specs.declared.machine.Action.TheVariants as actions
 use Rattle.bq_seat.specs.declared.machine.Stage.TheVariants as stages
-use Rattle.bq_seat.proofs.ReadingLemmas.{BeginsNoUnit-[], AreUnits-append, one_unit, Reads-after, Reads-begun, Reads-quit, ends_by_quit-append, neither}
-use Rattle.bq_seat.proofs.StepLemmas.{answered_count-asked, answered_count-quit, ends_by_wait-asked, has_quit-asked, map-asked, no_quit_last, some_asked}
+use Rattle.bq_seat.proofs.ReadingLemmas.{BeginsNoUnit-[], AreUnits-append, one_unit, Reads-after}
+use Rattle.bq_seat.proofs.ReadingLemmas.{Reads-begun, Reads-quit, ends_by_quit-append, neither}
+use Rattle.bq_seat.proofs.StepLemmas.{answered_count-asked, answered_count-quit, ends_by_wait-asked, has_quit-asked}
+use Rattle.bq_seat.proofs.StepLemmas.{map-asked, no_quit_last, some_asked}
 
 -- a line is opened
 pub opened : (r : ReaderState) → Stands r [] → StandsInStage stages.Connecting r [] false first_past
@@ -56,7 +60,8 @@ opened r h = (
 )
 
 -- bytes come while none are kept
-pub handed_in : (r : ReaderState) (kept : List ℕ) (told : Bool) (out : ℕ) (p : Past) (more : List ℕ) → IsOpen r kept told out p → kept ≡ [] → told ≡ false
+pub handed_in : (r : ReaderState) (kept : List ℕ) (told : Bool) (out : ℕ) (p : Past) (more : List ℕ) → IsOpen r kept told out p
+    → kept ≡ [] → told ≡ false
     → IsOpen r more told out (record p { bytes = p.bytes ++ more })
 handed_in r kept told out p more o none untold = record {
   asked = o.asked;
@@ -66,7 +71,8 @@ handed_in r kept told out p more o none untold = record {
     stands = o.read.stands;
     no_unit = o.read.no_unit;
     are_units = o.read.are_units;
-    bytes_are = ap (λ x. x ++ more) (o.read.bytes_are ∙ ap (λ k. o.read.units ++ (o.read.begun ++ k)) none ∙ ap (λ x. o.read.units ++ x) (append-nil o.read.begun))
+    bytes_are = ap (λ x. x ++ more) (o.read.bytes_are ∙ ap (λ k. o.read.units ++ (o.read.begun ++ k)) none
+        ∙ ap (λ x. o.read.units ++ x) (append-nil o.read.begun))
         ∙ append_assoc o.read.units o.read.begun more;
   };
   stepped = record {
@@ -79,13 +85,15 @@ handed_in r kept told out p more o none untold = record {
   handed = o.handed;
 }
 
-pub handed_in_waiting : (r : ReaderState) (kept : List ℕ) (told waits : Bool) (p : Past) (more : List ℕ) → IsWaiting r kept told waits p → kept ≡ [] → told ≡ false
+pub handed_in_waiting : (r : ReaderState) (kept : List ℕ) (told waits : Bool) (p : Past) (more : List ℕ) → IsWaiting r kept told waits p
+    → kept ≡ [] → told ≡ false
     → IsWaiting r more told waits (record p { bytes = p.bytes ++ more })
 unfolding handed_in
 handed_in_waiting r kept told waits p more w none untold = (handed_in r kept told 1 p more w.0 none untold, w.1)
 
 -- the reader reads as before
-same_units : (r next : ReaderState) (units : List ℕ) (asked : List Request) → next.max_job_size ≡ r.max_job_size → AreUnits r.max_job_size units asked → AreUnits next.max_job_size units asked
+same_units : (r next : ReaderState) (units : List ℕ) (asked : List Request) → next.max_job_size ≡ r.max_job_size
+    → AreUnits r.max_job_size units asked → AreUnits next.max_job_size units asked
 same_units r next units asked same u = let P : ℕ → Type 0 = λ x. AreUnits x units asked in subst P (sym same) u
 
 -- the reader has taken all kept bytes, and they contain no complete request
@@ -113,7 +121,11 @@ read_on r next kept p o same h none = record {
 
 -- the bytes that were read, up to the end of a request
 split_bytes : (units begun kept : List ℕ) (n : ℕ) → units ++ (begun ++ kept) ≡ (units ++ (begun ++ take n kept)) ++ drop n kept
-split_bytes units begun kept n = rw (append_assoc units (begun ++ take n kept) (drop n kept), append_assoc begun (take n kept) (drop n kept), take-append-drop n kept) refl
+split_bytes units begun kept n = rw (
+  append_assoc units (begun ++ take n kept) (drop n kept),
+  append_assoc begun (take n kept) (drop n kept),
+  take-append-drop n kept,
+) refl
 
 -- the steps of an open line if this request is submitted
 asked_steps : (r : ReaderState) (kept : List ℕ) (p : Past) (o : IsOpen r kept false 0 p) (q : Request)
@@ -134,7 +146,8 @@ asks r next kept n q p o same unit h not_quit = (
       begun = [];
       stands = h;
       no_unit = BeginsNoUnit-[] next.max_job_size;
-      are_units = AreUnits-append next.max_job_size o.read.units o.asked (o.read.begun ++ take n kept) (q ∷ []) (same_units r next o.read.units o.asked same o.read.are_units)
+      are_units = AreUnits-append next.max_job_size o.read.units o.asked (o.read.begun ++ take n kept) (q ∷ [])
+          (same_units r next o.read.units o.asked same o.read.are_units)
           (one_unit next.max_job_size (o.read.begun ++ take n kept) q unit);
       bytes_are = o.read.bytes_are ∙ split_bytes o.read.units o.read.begun kept n;
     };
@@ -171,8 +184,10 @@ quits r next kept n p o same unit =
             rest = drop n kept;
             asked = o.asked ++ requests.Quit ∷ [];
             end_steps = [];
-            reads = Reads-after next.max_job_size p.bytes o.read.units (unit_text ++ drop n kept) (drop n kept) o.asked (requests.Quit ∷ []) bytes_are
-                (same_units r next o.read.units o.asked same o.read.are_units) o.stepped.no_quit (Reads-quit next.max_job_size unit_text (drop n kept) requests.Quit unit refl);
+            reads = Reads-after next.max_job_size p.bytes o.read.units (unit_text ++ drop n kept) (drop n kept) o.asked
+                (requests.Quit ∷ []) bytes_are
+                (same_units r next o.read.units o.asked same o.read.are_units) o.stepped.no_quit
+                (Reads-quit next.max_job_size unit_text (drop n kept) requests.Quit unit refl);
             is_over = (refl, ends_by_quit-append o.asked (requests.Quit ∷ []) refl);
             ends = inl refl;
             steps_are = ap (λ x. x ++ steps.Close ∷ []) (asked_steps r kept p o requests.Quit ∙ sym (append-nil _));
@@ -202,17 +217,20 @@ closed_steps r kept told out p o = ap (λ x. x ++ steps.Close ∷ []) o.stepped.
 all_read : (r : ReaderState) (kept : List ℕ) (told : Bool) (out : ℕ) (p : Past) (o : IsOpen r kept told out p) → kept ≡ []
     → Reads r.max_job_size p.bytes o.asked o.read.begun
 all_read r kept told out p o none =
-    Reads-begun r.max_job_size p.bytes o.read.units o.read.begun o.asked (o.read.bytes_are ∙ ap (λ k. o.read.units ++ (o.read.begun ++ k)) none ∙ ap (λ b. o.read.units ++ b) (append-nil o.read.begun))
+    Reads-begun r.max_job_size p.bytes o.read.units o.read.begun o.asked
+    (o.read.bytes_are ∙ ap (λ k. o.read.units ++ (o.read.begun ++ k)) none ∙ ap (λ b. o.read.units ++ b) (append-nil o.read.begun))
     o.read.are_units o.stepped.no_quit o.read.no_unit
 
 -- the end is submitted only after a reserve, and only if the line's input has ended
 told_well : (bytes written : List ℕ) (ended : Bool) (fault : Option LineFault) (asked : List Request) (told : Bool)
-    → (told ≡ true → (ends_by_wait asked ≡ true) × (ended ≡ true)) → MayTellEnd (record { read = bytes; ended = ended; fault = fault }) asked (end_if told)
+    → (told ≡ true → (ends_by_wait asked ≡ true) × (ended ≡ true))
+    → MayTellEnd (record { read = bytes; ended = ended; fault = fault }) asked (end_if told)
 told_well bytes written ended fault asked true h = inr (refl, (h refl).0, (h refl).1)
 told_well bytes written ended fault asked false h = inl refl
 
 -- a line is closed at the end of its input
-served_at_end : (r : ReaderState) (kept : List ℕ) (told ended : Bool) (p : Past) → IsOpen r kept told 0 p → kept ≡ [] → ended ≡ true → (written : List ℕ)
+served_at_end : (r : ReaderState) (kept : List ℕ) (told ended : Bool) (p : Past) → IsOpen r kept told 0 p → kept ≡ [] → ended ≡ true
+    → (written : List ℕ)
     → IsServedToClose r.max_job_size written ends.EndOfInput (with_action (actions.Submit steps.Close) (record p { ended = ended }))
 served_at_end r kept told ended p o none e written = record {
   line = record {
@@ -232,13 +250,15 @@ served_at_end r kept told ended p o none e written = record {
 }
 
 -- The line is closed, and no mail has come since.
-closed : (size : ℕ) (end : LineEnd) (p : Past) → p.late_mail ≡ [] → ((written : List ℕ) → IsServedToClose size written end (with_action (actions.Submit steps.Close) p))
+closed : (size : ℕ) (end : LineEnd) (p : Past) → p.late_mail ≡ []
+    → ((written : List ℕ) → IsServedToClose size written end (with_action (actions.Submit steps.Close) p))
     → IsClosing size end (with_action (actions.Submit steps.Close) p)
 closed size end p none served = record { served = served; closing_is = or-true p.closing; unclosed = ap has_closed none }
 
 pub ends_line : (r : ReaderState) (kept : List ℕ) (told ended : Bool) (p : Past) → IsOpen r kept told 0 p → kept ≡ [] → ended ≡ true
     → IsClosing r.max_job_size ends.EndOfInput (with_action (actions.Submit steps.Close) (record p { ended = ended }))
-ends_line r kept told ended p o none e = closed r.max_job_size ends.EndOfInput (record p { ended = ended }) o.handed.late_is (served_at_end r kept told ended p o none e)
+ends_line r kept told ended p o none e = closed r.max_job_size ends.EndOfInput (record p { ended = ended }) o.handed.late_is
+    (served_at_end r kept told ended p o none e)
 
 -- the first fault of a past without one
 first_fault : (p : Past) (fault : LineFault) → p.fault ≡ None
@@ -285,7 +305,8 @@ pub read_fails : (r : ReaderState) (kept : List ℕ) (told : Bool) (out : ℕ) (
     → ((out ≡ 0) ⊎ ((out ≡ 1) × (ends_by_wait o.asked ≡ true)))
     → IsClosing r.max_job_size ends.ReadFault (with_action (actions.Submit steps.Close) (with_fault faults.Read p))
 read_fails r kept told out p o none answers =
-    closed r.max_job_size ends.ReadFault (with_fault faults.Read p) (late_after_fault faults.Read p ∙ o.handed.late_is) (served_at_read_fault r kept told out p o none answers)
+    closed r.max_job_size ends.ReadFault (with_fault faults.Read p) (late_after_fault faults.Read p ∙ o.handed.late_is)
+    (served_at_read_fault r kept told out p o none answers)
 
 -- a line is closed after a write fault
 served_at_write_fault : (r : ReaderState) (kept : List ℕ) (told : Bool) (p : Past) → IsOpen r kept told 0 p → 0 < length p.written
@@ -301,9 +322,11 @@ served_at_write_fault r kept told p o some_written all written =
         rest = more.1;
         asked = o.asked;
         end_steps = end_if told;
-        reads = Reads-after r.max_job_size p.bytes o.read.units (o.read.begun ++ kept) more.1 o.asked more.0 o.read.bytes_are o.read.are_units o.stepped.no_quit more.2;
+        reads = Reads-after r.max_job_size p.bytes o.read.units
+            (o.read.begun ++ kept) more.1 o.asked more.0 o.read.bytes_are o.read.are_units o.stepped.no_quit more.2;
         is_over = (more.0, refl, some_asked o.asked some, no_quit_last o.asked o.stepped.no_quit, refl);
-        ends = told_well p.bytes written p.ended (Some faults.Write) o.asked told (λ t. ((o.stepped.told_well t).0, o.stepped.ended_is ∙ t));
+        ends = told_well p.bytes written p.ended (Some faults.Write) o.asked told
+            (λ t. ((o.stepped.told_well t).0, o.stepped.ended_is ∙ t));
         steps_are = closed_steps r kept told 0 p o;
       };
       handed_out = o.handed.written_is;
@@ -316,7 +339,8 @@ pub write_fails : (r : ReaderState) (kept : List ℕ) (told : Bool) (p : Past) �
     → ((text : List ℕ) → (requests : List Request) × (rest : List ℕ) × Reads r.max_job_size text requests rest)
     → IsClosing r.max_job_size ends.WriteFault (with_action (actions.Submit steps.Close) (with_fault faults.Write p))
 write_fails r kept told p o some_written all =
-    closed r.max_job_size ends.WriteFault (with_fault faults.Write p) (late_after_fault faults.Write p ∙ o.handed.late_is) (served_at_write_fault r kept told p o some_written all)
+    closed r.max_job_size ends.WriteFault (with_fault faults.Write p) (late_after_fault faults.Write p ∙ o.handed.late_is)
+    (served_at_write_fault r kept told p o some_written all)
 
 -- mail before the close
 early_mail : (p : Past) (a : Answer) → p.closing ≡ false → with_mail a p ≡ record p { mail = p.mail ++ a ∷ [] }
@@ -354,15 +378,25 @@ still_broken ends.EndOfInput p mail h = tt
 still_broken ends.ReadFault p mail h = tt
 still_broken ends.WriteFault p mail h = h
 
-served_still : (size : ℕ) (end : LineEnd) (p : Past) (mail : List Answer) (written : List ℕ) → IsServedToClose size written end p → IsServedToClose size written end (record p { late_mail = mail })
-served_still size end p mail written s = record { line = s.line; handed_out = s.handed_out; answered = s.answered; broken = still_broken end p mail s.broken; fault = s.fault }
+served_still : (size : ℕ) (end : LineEnd) (p : Past) (mail : List Answer) (written : List ℕ) → IsServedToClose size written end p
+    → IsServedToClose size written end (record p { late_mail = mail })
+served_still size end p mail written s = record {
+  line = s.line;
+  handed_out = s.handed_out;
+  answered = s.answered;
+  broken = still_broken end p mail s.broken;
+  fault = s.fault;
+}
 
-has_closed-append : (late : List Answer) (a : Answer) → has_closed late ≡ false → is_closed_answer a ≡ false → has_closed (late ++ a ∷ []) ≡ false
+has_closed-append : (late : List Answer) (a : Answer) → has_closed late ≡ false → is_closed_answer a ≡ false
+    → has_closed (late ++ a ∷ []) ≡ false
 has_closed-append [] a none e = rw e refl
-has_closed-append (b ∷ late) a none e = let both = neither (is_closed_answer b) (has_closed late) none in rw both.0 (has_closed-append late a both.1 e)
+has_closed-append (b ∷ late) a none e = let both = neither (is_closed_answer b) (has_closed late) none in
+    rw both.0 (has_closed-append late a both.1 e)
 
 -- other mail after the close
-pub still_closing : (size : ℕ) (end : LineEnd) (p : Past) (a : Answer) → is_closed_answer a ≡ false → IsClosing size end p → IsClosing size end (with_mail a p)
+pub still_closing : (size : ℕ) (end : LineEnd) (p : Past) (a : Answer) → is_closed_answer a ≡ false → IsClosing size end p
+    → IsClosing size end (with_mail a p)
 still_closing size end p a other c =
     let P : Past → Type 0 = λ q. IsClosing size end q in
     subst P (sym (late_mail p a c.closing_is)) (record {
@@ -376,7 +410,8 @@ closed_itself Closed e = refl
 closed_itself _ e = cc
 
 -- the close's own answer
-pub served_now : (size : ℕ) (end : LineEnd) (p : Past) (a : Answer) → is_closed_answer a ≡ true → IsClosing size end p → (written : List ℕ) → IsServed size written end (with_mail a p)
+pub served_now : (size : ℕ) (end : LineEnd) (p : Past) (a : Answer) → is_closed_answer a ≡ true → IsClosing size end p → (written : List ℕ)
+    → IsServed size written end (with_mail a p)
 served_now size end p a own c written =
     let P : Past → Type 0 = λ q. IsServed size written end q in
     subst P (sym (late_mail p a c.closing_is)) (record {
@@ -411,5 +446,6 @@ open_at r kept other told same out p e f o =
     let Q : Bool → Type 0 = λ t. IsOpen r other t out p in
     subst Q f (subst P e o)
 
-pub waiting_at : (r : ReaderState) (kept : List ℕ) (told same waits : Bool) (p : Past) → told ≡ same → IsWaiting r kept told waits p → IsWaiting r kept same waits p
+pub waiting_at : (r : ReaderState) (kept : List ℕ) (told same waits : Bool) (p : Past) → told ≡ same → IsWaiting r kept told waits p
+    → IsWaiting r kept same waits p
 waiting_at r kept told same waits p e w = let P : Bool → Type 0 = λ t. IsWaiting r kept t waits p in subst P e w

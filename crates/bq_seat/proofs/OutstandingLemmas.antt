@@ -11,13 +11,17 @@ use Rattle.bq_seat.specs.declared.machine.Stage.{Stage}
 use Rattle.bq_seat.specs.declared.machine.Stage.TheVariants as stages
 
 -- an open line whose end of input was not submitted
-many_steps : (reader : ReaderState) (kept : List ℕ) (told : Bool) (outstanding : ℕ) (p : Past) → told ≡ false → IsOpen reader kept told outstanding p → length p.steps ≡ length p.mail + (outstanding + 1)
+many_steps : (reader : ReaderState) (kept : List ℕ) (told : Bool) (outstanding : ℕ) (p : Past) → told ≡ false
+    → IsOpen reader kept told outstanding p → length p.steps ≡ length p.mail + (outstanding + 1)
 many_steps reader kept told outstanding p none o =
-    let steps_are : p.steps ≡ steps.Connect ∷ map steps.Ask o.asked = o.stepped.steps_are ∙ ap (λ (t : Bool). (steps.Connect ∷ map steps.Ask o.asked) ++ end_if t) none ∙ append-nil (steps.Connect ∷ map steps.Ask o.asked) in
+    let steps_are : p.steps ≡ steps.Connect ∷ map steps.Ask o.asked =
+    o.stepped.steps_are ∙ ap (λ (t : Bool). (steps.Connect ∷ map steps.Ask o.asked) ++ end_if t) none
+    ∙ append-nil (steps.Connect ∷ map steps.Ask o.asked) in
     let many : length p.steps ≡ length (map steps.Ask o.asked) + 1 = omega (arith, ap length steps_are) in
     omega (arith, many, length-map o.asked steps.Ask, o.handed.answered)
 
-in_stage_reads : (stage : Stage) (reader : ReaderState) (kept : List ℕ) (told : Bool) (p : Past) → (stage ≡ stages.ReadingOn → ⊥) → awaited_at stage ≡ Awaited.AReading
+in_stage_reads : (stage : Stage) (reader : ReaderState) (kept : List ℕ) (told : Bool) (p : Past) → (stage ≡ stages.ReadingOn → ⊥)
+    → awaited_at stage ≡ Awaited.AReading
     → StandsInStage stage reader kept told p → length p.steps ≡ length p.mail + 1
 in_stage_reads stages.Reading reader kept told p other reads s = many_steps reader kept told 0 p s.2 s.0
 in_stage_reads stages.ReadingOn reader kept told p other reads s = absurd (other refl)
@@ -35,7 +39,8 @@ pub reads_alone : (m : SeatMachine) → (m.stage ≡ stages.ReadingOn → ⊥) �
 unfolding StandsFor
 reads_alone m other reads p s = in_stage_reads m.stage m.reader m.kept m.end_told p other reads s.0
 
-reads_on_in : (stage : Stage) (reader : ReaderState) (kept : List ℕ) (told : Bool) (p : Past) → stage ≡ stages.ReadingOn → StandsInStage stage reader kept told p → length p.steps ≡ length p.mail + 2
+reads_on_in : (stage : Stage) (reader : ReaderState) (kept : List ℕ) (told : Bool) (p : Past) → stage ≡ stages.ReadingOn
+    → StandsInStage stage reader kept told p → length p.steps ≡ length p.mail + 2
 reads_on_in stages.ReadingOn reader kept told p is s = many_steps reader kept told 1 p s.2 s.0.0
 reads_on_in stages.Reading reader kept told p is s = absurd cc
 reads_on_in stages.Between reader kept told p is s = absurd cc

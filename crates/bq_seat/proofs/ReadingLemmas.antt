@@ -1,5 +1,6 @@
 -- Readings that continue after submitted requests.
-use Rattle.std.proofs.Common.{◌≡◌, ℕ, Bool, true, false, ◌||◌, List, [], ◌∷◌, ◌++◌, ◌⊎◌, inl, inr, refl, sym, ap, ◌∙◌, append_assoc, append-nil, IsTrue}
+use Rattle.std.proofs.Common.{◌≡◌, ℕ, Bool, true, false, ◌||◌, List, [], ◌∷◌, ◌++◌}
+use Rattle.std.proofs.Common.{◌⊎◌, inl, inr, refl, sym, ap, ◌∙◌, append_assoc, append-nil, IsTrue}
 use Rattle.bq_job.specs.reading.Reading.{Reads, AreUnits, IsUnit, BeginsNoUnit, is_quit, quits_last, ends_by_quit}
 use Rattle.bq_job.specs.declared.request.Request.{Request}
 use Rattle.bq_seat.specs.SeatStands.{has_quit}
@@ -23,11 +24,13 @@ AreUnits-append size units (r ∷ asked) more next u h =
 pub one_unit : (size : ℕ) (unit : List ℕ) (r : Request) → IsUnit size unit r → AreUnits size unit (r ∷ [])
 one_unit size unit r h = (unit, [], sym (append-nil unit), h, refl)
 
-quits_last-onto : (r : Request) (requests : List Request) → is_quit r ≡ false → IsTrue (quits_last requests) → IsTrue (quits_last (r ∷ requests))
+quits_last-onto : (r : Request) (requests : List Request) → is_quit r ≡ false → IsTrue (quits_last requests)
+    → IsTrue (quits_last (r ∷ requests))
 quits_last-onto r [] q last = refl
 quits_last-onto r (next ∷ requests) q last = rw q last
 
-pub quits_last-append : (asked next : List Request) → has_quit asked ≡ false → IsTrue (quits_last next) → IsTrue (quits_last (asked ++ next))
+pub quits_last-append : (asked next : List Request) → has_quit asked ≡ false → IsTrue (quits_last next)
+    → IsTrue (quits_last (asked ++ next))
 quits_last-append [] next q last = last
 quits_last-append (r ∷ asked) next q last =
     let both = neither (is_quit r) (has_quit asked) q in quits_last-onto r (asked ++ next) both.0 (quits_last-append asked next both.1 last)
@@ -46,7 +49,8 @@ ended-append asked next R (inr h) = inr h
 
 -- submitted requests, none of them quit, and then a reading of what comes after them
 pub Reads-after : (size : ℕ) (text units after rest : List ℕ) (asked next : List Request)
-    → text ≡ units ++ after → AreUnits size units asked → has_quit asked ≡ false → Reads size after next rest → Reads size text (asked ++ next) rest
+    → text ≡ units ++ after → AreUnits size units asked → has_quit asked ≡ false → Reads size after next rest
+    → Reads size text (asked ++ next) rest
 Reads-after size text units after rest asked next is u q more = record {
   units = units ++ more.units;
   text_is = rw (is, more.text_is) (sym (append_assoc units more.units rest));
@@ -71,7 +75,8 @@ Reads-begun size text units begun asked is u q none = record {
     go (r ∷ asked) q = let both = neither (is_quit r) (has_quit asked) q in quits_last-onto r asked both.0 (go asked both.1)
 
 -- a reading that ends with a quit, whatever comes after it
-pub Reads-quit : (size : ℕ) (unit after : List ℕ) (r : Request) → IsUnit size unit r → is_quit r ≡ true → Reads size (unit ++ after) (r ∷ []) after
+pub Reads-quit : (size : ℕ) (unit after : List ℕ) (r : Request) → IsUnit size unit r → is_quit r ≡ true
+    → Reads size (unit ++ after) (r ∷ []) after
 Reads-quit size unit after r u q = record {
   units = unit;
   text_is = refl;

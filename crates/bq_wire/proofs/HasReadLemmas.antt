@@ -1,5 +1,7 @@
 -- What consecutive calls read.
-use Rattle.std.proofs.Common.{◌≡◌, ◌<◌, ◌≤◌, ℕ, ◌+◌, Bool, true, false, MatchBool, List, [], ◌∷◌, ◌++◌, ◌⊎◌, inl, inr, Option, Some, None, refl, ◌∙◌, ap, arith, length, append_assoc, append-nil, take, drop, get_or, add-one, take-append-drop, ◌-◌, IsTrue, option_to_list}
+use Rattle.std.proofs.Common.{◌≡◌, ◌<◌, ◌≤◌, ℕ, ◌+◌, Bool, true, false, MatchBool, List, [], ◌∷◌}
+use Rattle.std.proofs.Common.{◌++◌, ◌⊎◌, inl, inr, Option, Some, None, refl, ◌∙◌, ap, arith, length}
+use Rattle.std.proofs.Common.{append_assoc, append-nil, take, drop, get_or, add-one, take-append-drop, ◌-◌, IsTrue, option_to_list}
 use Rattle.std.proofs.lemmas.Grind.{common_steps}
 use Rattle.std.proofs.lemmas.List.{drop_all}
 use Rattle.std.proofs.Math.Seq.{take-length, take-suc}
@@ -18,7 +20,8 @@ use Rattle.bq_wire.proofs.ReaderLemmas.{Stands-no_unit}
 
 -- a call that returns no request
 HasRead-waits : (old new : ReaderState) (piece taken : List ℕ) (count : ℕ) (requests : List Request) → new.max_job_size ≡ old.max_job_size
-    → (read : HasRead old taken requests) → ends_by_quit requests ≡ false → Waits new read.rest piece count → HasRead new (taken ++ take count piece) requests
+    → (read : HasRead old taken requests) → ends_by_quit requests ≡ false → Waits new read.rest piece count
+    → HasRead new (taken ++ take count piece) requests
 HasRead-waits old new piece taken count requests same read no_quit waits =
     let all : take count piece ≡ piece = rw waits.all (take-length piece) in
     record {
@@ -31,8 +34,10 @@ HasRead-waits old new piece taken count requests same read no_quit waits =
     }
 
 -- a call that returns a request
-HasRead-hands_out : (old new : ReaderState) (piece taken : List ℕ) (count : ℕ) (requests : List Request) (r : Request) → new.max_job_size ≡ old.max_job_size
-    → (read : HasRead old taken requests) → ends_by_quit requests ≡ false → HandsRequest new read.rest piece count r → HasRead new (taken ++ take count piece) (requests ++ r ∷ [])
+HasRead-hands_out : (old new : ReaderState) (piece taken : List ℕ) (count : ℕ) (requests : List Request) (r : Request)
+    → new.max_job_size ≡ old.max_job_size
+    → (read : HasRead old taken requests) → ends_by_quit requests ≡ false → HandsRequest new read.rest piece count r
+    → HasRead new (taken ++ take count piece) (requests ++ r ∷ [])
 HasRead-hands_out old new piece taken count requests r same read no_quit out = record {
   units = read.units ++ (read.rest ++ take count piece);
   rest = [];
@@ -43,13 +48,15 @@ HasRead-hands_out old new piece taken count requests r same read no_quit out = r
 }
   where
     go : (t : Bool) → is_quit r ≡ t → MatchBool t (new.place ≡ Over) (Stands new [])
-        → (IsTrue (ends_by_quit (requests ++ r ∷ [])) × (new.place ≡ Over) × ◌≡◌ {A = List ℕ} [] []) ⊎ ((ends_by_quit (requests ++ r ∷ []) ≡ false) × Stands new [])
+        → (IsTrue (ends_by_quit (requests ++ r ∷ [])) × (new.place ≡ Over) × ◌≡◌ {A = List ℕ} [] [])
+        ⊎ ((ends_by_quit (requests ++ r ∷ []) ≡ false) × Stands new [])
     go true q next = inl (rw (ends_by_quit-append requests r) q, next, refl)
     go false q next = inr (rw (ends_by_quit-append requests r) q, next)
 
 -- a call
 pub reads_on : (old new : ReaderState) (piece : List ℕ) (count : ℕ) (request : Option Request) → new.max_job_size ≡ old.max_job_size
-    → Feeds (Stands old) new piece count request → (old.place ≡ Over → (count ≡ 0) × (request ≡ None) × (new ≡ old)) → ReadsOn old new piece count request
+    → Feeds (Stands old) new piece count request → (old.place ≡ Over → (count ≡ 0) × (request ≡ None) × (new ≡ old))
+    → ReadsOn old new piece count request
 reads_on old new piece count request same feeds over taken requests read = go read.goes_on
   where
     fed : ends_by_quit requests ≡ false → (r : Option Request) → FeedsText new read.rest piece count r
@@ -66,7 +73,8 @@ reads_on old new piece count request same feeds over taken requests read = go re
     go (inr h) = fed h.0 request (feeds read.rest h.1)
 
 -- what was read is a reading of the bytes taken
-pub HasRead-Reads : (s : ReaderState) (taken : List ℕ) (requests : List Request) (read : HasRead s taken requests) → Reads s.max_job_size taken requests read.rest
+pub HasRead-Reads : (s : ReaderState) (taken : List ℕ) (requests : List Request) (read : HasRead s taken requests)
+    → Reads s.max_job_size taken requests read.rest
 HasRead-Reads s taken requests read = record {
   units = read.units;
   text_is = read.taken_is;
@@ -80,11 +88,13 @@ HasRead-Reads s taken requests read = record {
     go (inl h) = inl h.0
     go (inr h) = inr (Stands-no_unit s s.place read.rest h.1)
 
-pub was_read : (s : ReaderState) (taken : List ℕ) (requests : List Request) → HasRead s taken requests → (rest : List ℕ) × Reads s.max_job_size taken requests rest
+pub was_read : (s : ReaderState) (taken : List ℕ) (requests : List Request) → HasRead s taken requests
+    → (rest : List ℕ) × Reads s.max_job_size taken requests rest
 was_read s taken requests read = (read.rest, HasRead-Reads s taken requests read)
 
 -- any bytes may follow a quit
-pub Reads-more : (s : ReaderState) (taken more : List ℕ) (requests : List Request) (read : HasRead s taken requests) → IsTrue (ends_by_quit requests)
+pub Reads-more : (s : ReaderState) (taken more : List ℕ) (requests : List Request) (read : HasRead s taken requests)
+    → IsTrue (ends_by_quit requests)
     → Reads s.max_job_size (taken ++ more) requests (read.rest ++ more)
 Reads-more s taken more requests read quit = record {
   units = read.units;
@@ -103,9 +113,11 @@ read_further old new taken piece from count requests r read reads =
     (reads (taken ++ take from piece) requests read)
 
 -- no request from the rest of a piece
-pub read_to_end : (old new : ReaderState) (taken piece : List ℕ) (from count : ℕ) (requests : List Request) (request : Option Request) → request ≡ None → from ≤ length piece
+pub read_to_end : (old new : ReaderState) (taken piece : List ℕ) (from count : ℕ) (requests : List Request) (request : Option Request)
+    → request ≡ None → from ≤ length piece
     → HasRead old (taken ++ take from piece) requests → ReadsOn old new (take (length piece - from) (drop from piece)) count request
-    → ((text : List ℕ) → Stands old text → Waits new text (take (length piece - from) (drop from piece)) count) → (old.place ≡ Over → new ≡ old)
+    → ((text : List ℕ) → Stands old text → Waits new text (take (length piece - from) (drop from piece)) count)
+    → (old.place ≡ Over → new ≡ old)
     → HasReadText new (taken ++ piece) requests
 read_to_end old new taken piece from count requests request none within read reads waits over = record {
   taken = (taken ++ take from piece) ++ take count rest;
@@ -124,7 +136,13 @@ read_to_end old new taken piece from count requests request none within read rea
     whole : taken ++ piece ≡ ((taken ++ take from piece) ++ take count rest) ++ drop count rest
     whole =
         let all : rest ≡ drop from piece = grind (arith, common_steps) in
-        rw (append_assoc (taken ++ take from piece) (take count rest) (drop count rest), take-append-drop count rest, all, append_assoc taken (take from piece) (drop from piece), take-append-drop from piece)
+        rw (
+          append_assoc (taken ++ take from piece) (take count rest) (drop count rest),
+          take-append-drop count rest,
+          all,
+          append_assoc taken (take from piece) (drop from piece),
+          take-append-drop from piece,
+        )
 
     go : (IsTrue (ends_by_quit requests) × (old.place ≡ Over) × (read.rest ≡ [])) ⊎ ((ends_by_quit requests ≡ false) × Stands old read.rest)
         → (drop count rest ≡ []) ⊎ (new.place ≡ Over)
@@ -154,7 +172,8 @@ read_piece old new text piece before after was reads over = go was.all
     go (inr e) = let h = over e in rw (h.0, h.1) (same e)
 
 -- the text that was offered has been read
-pub HasReadText-Reads : (s : ReaderState) (text : List ℕ) (requests : List Request) → HasReadText s text requests → (rest : List ℕ) × Reads s.max_job_size text requests rest
+pub HasReadText-Reads : (s : ReaderState) (text : List ℕ) (requests : List Request) → HasReadText s text requests
+    → (rest : List ℕ) × Reads s.max_job_size text requests rest
 HasReadText-Reads s text requests read = go read.all read.read.goes_on
   where
     nowhere : (place : ReaderPlace) (rest : List ℕ) → place ≡ Over → StandsAt s place rest → ⊥
@@ -163,14 +182,16 @@ HasReadText-Reads s text requests read = go read.all read.read.goes_on
     nowhere (InBody body) rest e stands = cc
     nowhere Over rest e stands = stands
 
-    go : (read.more ≡ []) ⊎ (s.place ≡ Over) → (IsTrue (ends_by_quit requests) × (s.place ≡ Over) × (read.read.rest ≡ [])) ⊎ ((ends_by_quit requests ≡ false) × Stands s read.read.rest)
+    go : (read.more ≡ []) ⊎ (s.place ≡ Over) → (IsTrue (ends_by_quit requests) × (s.place ≡ Over) × (read.read.rest ≡ []))
+        ⊎ ((ends_by_quit requests ≡ false) × Stands s read.read.rest)
         → (rest : List ℕ) × Reads s.max_job_size text requests rest
     go (inl e) on = (read.read.rest, rw (read.text_is, e, append-nil) (HasRead-Reads s read.taken requests read.read))
     go (inr e) (inl quit) = (read.read.rest ++ read.more, rw read.text_is (Reads-more s read.taken read.more requests read.read quit.0))
     go (inr e) (inr on) = absurd (nowhere s.place read.read.rest e on.1)
 
 -- no request comes after a quit
-pub over_gives_none : (was now : ReaderState) (request : Option Request) (r : Request) → was.place ≡ Over → now ≡ was → request ≡ Some r → (now.place ≡ Over → request ≡ None) → ⊥
+pub over_gives_none : (was now : ReaderState) (request : Option Request) (r : Request) → was.place ≡ Over → now ≡ was → request ≡ Some r
+    → (now.place ≡ Over → request ≡ None) → ⊥
 over_gives_none was now request r e same some over =
     let still : now.place ≡ Over = ap (λ s. s.place) same ∙ e in
     let none : request ≡ None = over still in
@@ -184,4 +205,5 @@ read_of m s text requests e read = rw (← e) (HasReadText-Reads s text requests
 -- the pieces so far, and one more
 pub flat_map_more : {X : Type 0} (f : X → List ℕ) (xs : List X) (i : ℕ) (x : X) → i < length xs → x ≡ get_or xs i x
     → flat_map f (take (i + 1) xs) ≡ flat_map f (take i xs) ++ f x
-flat_map_more f xs i x low is = rw (add-one, take-suc xs i x low, flat_map-append f (take i xs) (get_or xs i x ∷ []), ← is) (ap (λ bs. flat_map f (take i xs) ++ bs) (append-nil (f x)))
+flat_map_more f xs i x low is = rw (add-one, take-suc xs i x low, flat_map-append f (take i xs) (get_or xs i x ∷ []), ← is)
+    (ap (λ bs. flat_map f (take i xs) ++ bs) (append-nil (f x)))

@@ -1,5 +1,7 @@
 -- Where lines end.
-use Rattle.std.proofs.Common.{◌≡◌, ◌<◌, ◌≤◌, ℕ, ◌+◌, ◌-◌, zero, suc, Bool, true, false, ◌&&◌, ◌==◌, List, [], ◌∷◌, ◌++◌, ◌⊎◌, inl, inr, Option, Some, None, add-one, refl, sym, ap, arith, length, length-append, take, drop, get_or, MatchOption, option_map, if◌then◌else◌}
+use Rattle.std.proofs.Common.{◌≡◌, ◌<◌, ◌≤◌, ℕ, ◌+◌, ◌-◌, zero, suc, Bool, true, false, ◌&&◌}
+use Rattle.std.proofs.Common.{◌==◌, List, [], ◌∷◌, ◌++◌, ◌⊎◌, inl, inr, Option, Some, None, add-one}
+use Rattle.std.proofs.Common.{refl, sym, ap, arith, length, length-append, take, drop, get_or, MatchOption, option_map, if◌then◌else◌}
 use Rattle.std.proofs.Math.Bool.{and-false, and-true}
 use Rattle.std.proofs.lemmas.Bool.Decides.{nat_tests}
 use Rattle.std.proofs.lemmas.Grind.{common_steps}
@@ -14,7 +16,8 @@ option_map-same f g same None = refl
 option_map-same f g same (Some n) = ap Some (same n)
 
 -- without an LF, no line ends
-pub line_end_none : (c : Bool) (bytes : List ℕ) → ((k : ℕ) → k < length bytes → (get_or bytes k 0 == 10) ≡ true → ⊥) → line_end_after c bytes ≡ None
+pub line_end_none : (c : Bool) (bytes : List ℕ) → ((k : ℕ) → k < length bytes → (get_or bytes k 0 == 10) ≡ true → ⊥)
+    → line_end_after c bytes ≡ None
 line_end_none c [] none = refl
 line_end_none c (b ∷ bytes) none =
     let not_here : (b == 10) ≡ false = grind (arith, nat_tests, none 0) in
@@ -23,14 +26,17 @@ line_end_none c (b ∷ bytes) none =
 
 -- one byte further
 one_more : (t : Bool) (k : ℕ) (o : Option ℕ)
-    → option_map suc (if t then Some (suc k) else option_map (λ n. suc k + n) o) ≡ (if t then Some (suc (suc k)) else option_map (λ n. suc (suc k) + n) o)
+    → option_map suc (if t then Some (suc k) else option_map (λ n. suc k + n) o) ≡
+    (if t then Some (suc (suc k)) else option_map (λ n. suc (suc k) + n) o)
 one_more true k o = refl
 one_more false k None = refl
 one_more false k (Some n) = ap Some (omega arith)
 
 -- the first LF ends a line if it follows a CR; otherwise the search continues after it
-pub line_end_at : (c : Bool) (bytes : List ℕ) (k : ℕ) → k < length bytes → (get_or bytes k 0 == 10) ≡ true → ((j : ℕ) → j < k → (get_or bytes j 0 == 10) ≡ true → ⊥)
-    → line_end_after c bytes ≡ (if last_is_cr c (take k bytes) then Some (suc k) else option_map (λ n. suc k + n) (line_end_after false (drop (suc k) bytes)))
+pub line_end_at : (c : Bool) (bytes : List ℕ) (k : ℕ) → k < length bytes → (get_or bytes k 0 == 10) ≡ true
+    → ((j : ℕ) → j < k → (get_or bytes j 0 == 10) ≡ true → ⊥)
+    → line_end_after c bytes ≡ (if last_is_cr c (take k bytes) then Some (suc k) else option_map (λ n. suc k + n)
+    (line_end_after false (drop (suc k) bytes)))
 line_end_at c [] k low here before = absurd (omega arith)
 line_end_at c (b ∷ bytes) zero low here before =
     let no_cr : (b == 13) ≡ false = grind (arith, nat_tests) in
@@ -43,9 +49,14 @@ line_end_at c (b ∷ bytes) (suc k) low here before =
 -- the first line feed, as the code searches for it
 pub first_feed : (c : Bool) (bytes : List ℕ) (r : Option ℕ) → IsFirstByte (is_byte 10) bytes r
     → MatchOption r (line_end_after c bytes ≡ None) (λ k. (k < length bytes)
-    × (line_end_after c bytes ≡ (if last_is_cr c (take k bytes) then Some (k + 1) else later_by (k + 1) (line_end_after false (drop (k + 1) bytes)))))
+    ×
+    (line_end_after c bytes ≡ (if last_is_cr c (take k bytes) then Some (k + 1) else later_by (k + 1)
+    (line_end_after false (drop (k + 1) bytes)))))
 first_feed c bytes None none = line_end_none c bytes (λ k low. none k (omega arith) low)
-first_feed c bytes (Some k) found = (found.0.high, rw add-one (line_end_at c bytes k found.0.high found.1 (λ j less. found.0.before j (omega arith) less)))
+first_feed c bytes (Some k) found = (
+  found.0.high,
+  rw add-one (line_end_at c bytes k found.0.high found.1 (λ j less. found.0.before j (omega arith) less)),
+)
 
 pub last_is_cr_last : (c : Bool) (bytes : List ℕ) → 0 < length bytes → last_is_cr c bytes ≡ (get_or bytes (length bytes - 1) 0 == 13)
 last_is_cr_last c [] some = absurd (omega arith)
@@ -153,7 +164,8 @@ no_line_end text none = go (line_end_after false text) refl
     go (Some n) e = let some = first_line_end text n e in cc
 
 -- no line ends in the text, nor in the bytes after it
-pub goes_on : (text piece : List ℕ) → first_line text ≡ None → line_end_after (last_is_cr false text) piece ≡ None → first_line (text ++ piece) ≡ None
+pub goes_on : (text piece : List ℕ) → first_line text ≡ None → line_end_after (last_is_cr false text) piece ≡ None
+    → first_line (text ++ piece) ≡ None
 goes_on text piece none more = first_line_none (text ++ piece) (rw (line_end-append false text piece (no_line_end text none), more))
 
 -- the line that ends in the bytes after the text
@@ -173,7 +185,8 @@ ends_there text piece e none here =
         → take (length text + e - 2) (text ++ take e piece) ≡ take (length (text ++ take (e - 1) piece) - 1) (text ++ take (e - 1) piece)
     line_bytes text piece e some within =
         let front : take (e - 1) (take e piece) ≡ take (e - 1) piece = take-take (e - 1) e piece (omega arith) in
-        let whole : take (length text + (e - 1)) (text ++ take e piece) ≡ text ++ take (e - 1) piece = rw (take-append-add text (take e piece) (e - 1), front) in
+        let whole : take (length text + (e - 1)) (text ++ take e piece) ≡ text ++ take (e - 1) piece =
+        rw (take-append-add text (take e piece) (e - 1), front) in
         let long : length (text ++ take (e - 1) piece) - 1 ≡ length text + e - 2 =
         omega (arith, length-append text (take (e - 1) piece), length-take-le (e - 1) piece (omega arith)) in
         rw (long, ← whole) (sym (take-take (length text + e - 2) (length text + (e - 1)) (text ++ take e piece) (omega arith)))

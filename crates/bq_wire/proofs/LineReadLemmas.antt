@@ -11,18 +11,21 @@ pub same_some : {A : Type 0} (a b : A) → Some a ≡ Some b → a ≡ b
 same_some a b e = cc
 
 -- what was read, if the words fit the command
-read_own : (place : Option Request) (read : LineRead) (words : Option spec.LineRead) → option_map (λ (r : LineRead). asked_by r place) (Some read) ≡ option_map Some words
+read_own : (place : Option Request) (read : LineRead) (words : Option spec.LineRead)
+    → option_map (λ (r : LineRead). asked_by r place) (Some read) ≡ option_map Some words
     → asked_by read place ≡ Some (unwrap_or words spec.bad_format)
 read_own place read None e = absurd cc
 read_own place read (Some asked) e = same_some (asked_by read place) (Some asked) e
 
-pub read_so : (place : Option Request) (read : LineRead) (command : Option Command) (more : List (List ℕ)) → AsksFor command more (Some read) place
+pub read_so : (place : Option Request) (read : LineRead) (command : Option Command) (more : List (List ℕ))
+    → AsksFor command more (Some read) place
     → asked_by read place ≡ Some (spec.read_command command more)
 read_so place read None more e = same_some (asked_by read place) (Some spec.unknown_command) e
 read_so place read (Some command) more e = read_own place read (spec.read_words command more) e
 
 -- the words do not fit the command
-none_own : (place : Option Request) (words : Option spec.LineRead) → option_map (λ (r : LineRead). asked_by r place) None ≡ option_map Some words
+none_own : (place : Option Request) (words : Option spec.LineRead)
+    → option_map (λ (r : LineRead). asked_by r place) None ≡ option_map Some words
     → unwrap_or words spec.bad_format ≡ spec.bad_format
 none_own place None e = refl
 none_own place (Some asked) e = absurd cc

@@ -1,5 +1,6 @@
 -- The number that a word denotes.
-use Rattle.std.proofs.Common.{◌≡◌, ◌<◌, ◌≤◌, ℕ, ◌^◌, suc, true, List, [], ◌∷◌, Some, None, sym, arith, length, drop, drop-cons, get_or, fold}
+use Rattle.std.proofs.Common.{◌≡◌, ◌<◌, ◌≤◌, ℕ, ◌^◌, suc, true, List, [], ◌∷◌}
+use Rattle.std.proofs.Common.{Some, None, sym, arith, length, drop, drop-cons, get_or, fold}
 use Rattle.std.proofs.lemmas.Bool.Decides.{nat_tests}
 use Rattle.std.proofs.lemmas.Grind.{common_steps}
 use Rattle.std.specs.List.{list_all}
@@ -13,7 +14,8 @@ with_digits_le (b ∷ bytes) n = omega (arith, with_digits_le bytes (with_digit 
 pub job_id_great : (word : List ℕ) → 2 ^ 64 ≤ value_of_digits word → job_id word ≡ None
 job_id_great word e = grind (arith, nat_tests)
 
-pub job_id_is : (word : List ℕ) → 0 < length word → list_all is_digit word ≡ true → value_of_digits word < 2 ^ 64 → job_id word ≡ Some (value_of_digits word)
+pub job_id_is : (word : List ℕ) → 0 < length word → list_all is_digit word ≡ true → value_of_digits word < 2 ^ 64
+    → job_id word ≡ Some (value_of_digits word)
 job_id_is word some digits small = grind (arith, nat_tests)
 
 -- a job id that is small enough is a number

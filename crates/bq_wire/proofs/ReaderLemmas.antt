@@ -1,5 +1,7 @@
 -- What a reader represents as bytes arrive.
-use Rattle.std.proofs.Common.{◌≡◌, ◌<◌, ◌≤◌, ℕ, ◌+◌, ◌-◌, zero, suc, Bool, true, false, List, [], ◌∷◌, ◌++◌, ◌⊎◌, inl, inr, Option, Some, None, refl, sym, ◌∙◌, ap, arith, length, length-append, append_assoc, append-nil, take, drop, take-add, take-append-drop, MatchBool, nat_lt, nat_le, if◌then◌else◌}
+use Rattle.std.proofs.Common.{◌≡◌, ◌<◌, ◌≤◌, ℕ, ◌+◌, ◌-◌, zero, suc, Bool, true, false, List, [], ◌∷◌, ◌++◌, ◌⊎◌, inl, inr, Option, Some}
+use Rattle.std.proofs.Common.{None, refl, sym, ◌∙◌, ap, arith, length, length-append, append_assoc, append-nil, take, drop, take-add}
+use Rattle.std.proofs.Common.{take-append-drop, MatchBool, nat_lt, nat_le, if◌then◌else◌}
 use Rattle.std.proofs.lemmas.Bool.Decides.{nat_tests}
 use Rattle.std.proofs.lemmas.List.{length-take-le}
 use Rattle.bq_job.specs.reading.Line.{first_line}
@@ -17,7 +19,8 @@ use Rattle.bq_job.proofs.UnitLemmas.{no_first_unit}
 use Rattle.bq_wire.specs.Asked.{put_line_of}
 use Rattle.bq_wire.specs.LineEnds.{line_end_after, last_is_cr}
 use Rattle.bq_wire.specs.PutBodies.{IsBodySoFar, TakesBytes}
-use Rattle.bq_wire.specs.Standing.{Stands, StandsAt, IsPutBegun, EndsLineAsking, Waits, HandsRequest, FeedsText, length_beside_cr, but_last, Keeps}
+use Rattle.bq_wire.specs.Standing.{Stands, StandsAt, IsPutBegun, EndsLineAsking, Waits}
+use Rattle.bq_wire.specs.Standing.{HandsRequest, FeedsText, length_beside_cr, but_last, Keeps}
 use Rattle.bq_wire.specs.declared.put_body.PutBody.{PutBody}
 use Rattle.bq_wire.specs.declared.reader.ReaderPlace.{ReaderPlace}
 use Rattle.bq_wire.specs.declared.reader.ReaderPlace.TheVariants.{InLine, InLongLine, InBody, Over}
@@ -43,24 +46,28 @@ Stands-no_unit s (InBody body) text stands = begun_no_unit s.max_job_size body t
 Stands-no_unit s Over text stands = absurd stands
 
 -- Waits, from what the reader represents
-pub waits_by : (s : ReaderState) (text piece : List ℕ) (taken : ℕ) → taken ≡ length piece → Stands s (text ++ piece) → Waits s text piece taken
+pub waits_by : (s : ReaderState) (text piece : List ℕ) (taken : ℕ) → taken ≡ length piece → Stands s (text ++ piece)
+    → Waits s text piece taken
 waits_by s text piece taken all stands = record { all = all; none = Stands-no_unit s s.place (text ++ piece) stands; stands = stands }
 
 -- the request of a put is no quit
 pub put_no_quit : (m : ℕ) (put : line_read.PutLine) (bytes : List ℕ) (r : Request) → IsPutRequest m put bytes r → is_quit r ≡ false
 put_no_quit m put bytes r h = go (nat_lt m put.bytes) h
   where
-    body : (t : Bool) → is_quit (if t then requests.Put put.pri put.delay put.ttr (take put.bytes bytes) else requests.Refused refusals.ExpectedCrlf) ≡ false
+    body : (t : Bool) → is_quit (if t then requests.Put put.pri put.delay put.ttr
+        (take put.bytes bytes) else requests.Refused refusals.ExpectedCrlf) ≡ false
     body true = refl
     body false = refl
 
-    go : (t : Bool) → MatchBool t (r ≡ requests.Refused refusals.JobTooBig) ((r ≡ requests.Refused refusals.OutOfMemory) ⊎ (r ≡ put_with_body put bytes)) → is_quit r ≡ false
+    go : (t : Bool) → MatchBool t (r ≡ requests.Refused refusals.JobTooBig)
+        ((r ≡ requests.Refused refusals.OutOfMemory) ⊎ (r ≡ put_with_body put bytes)) → is_quit r ≡ false
     go true h = ap is_quit h
     go false (inl e) = ap is_quit e
     go false (inr e) = ap is_quit e ∙ body (is_same_name (drop put.bytes bytes) line_end)
 
 -- more of a put's body arrived
-pub begun_more : (old new : PutBody) (text bytes : List ℕ) → IsPutBegun old text → new.put ≡ old.put → TakesBytes old new bytes → new.taken < new.put.bytes + 2
+pub begun_more : (old new : PutBody) (text bytes : List ℕ) → IsPutBegun old text → new.put ≡ old.put → TakesBytes old new bytes
+    → new.taken < new.put.bytes + 2
     → IsPutBegun new (text ++ bytes)
 begun_more old new text bytes begun put takes less =
     let so_far = takes begun.after begun.so_far in
@@ -74,13 +81,15 @@ begun_more old new text bytes begun put takes less =
     }
 
 -- all of a put arrived
-pub begun_whole : (m : ℕ) (old new : PutBody) (text bytes : List ℕ) (r : Request) → IsPutBegun old text → new.put ≡ old.put → TakesBytes old new bytes
+pub begun_whole : (m : ℕ) (old new : PutBody) (text bytes : List ℕ) (r : Request) → IsPutBegun old text → new.put ≡ old.put
+    → TakesBytes old new bytes
     → new.taken ≡ new.put.bytes + 2 → ((after : List ℕ) → IsBodySoFar new after → IsPutRequest m (put_line_of new.put) after r)
     → IsUnit m (text ++ bytes) r × (is_quit r ≡ false)
 begun_whole m old new text bytes r begun put takes whole request =
     let so_far = takes begun.after begun.so_far in
     let is = request (begun.after ++ bytes) so_far in
-    let line : first_line (text ++ bytes) ≡ Some (begun.line, begun.after ++ bytes) = first_line-append text bytes (begun.line, begun.after) begun.first_line_is in
+    let line : first_line (text ++ bytes) ≡ Some (begun.line, begun.after ++ bytes) =
+    first_line-append text bytes (begun.line, begun.after) begun.first_line_is in
     let read : line_read.read_line begun.line ≡ line_read.PutWaits (put_line_of new.put) = rw put begun.read_is in
     let long : length (begun.after ++ bytes) ≡ new.put.bytes + 2 = sym so_far.taken_is ∙ whole in
     (rw (line, read) (long, is), put_no_quit m (put_line_of new.put) (begun.after ++ bytes) r is)
@@ -90,7 +99,8 @@ pub line_unit : (m : ℕ) (text bytes : List ℕ) (r : Request) → EndsLineAski
 line_unit m text bytes r line = rw (line.first_line_is, line.read_is) (refl, refl)
 
 -- the line of a put begins it
-pub line_begins : (body : PutBody) (text bytes : List ℕ) (asked : line_read.LineRead) → EndsLineAsking asked bytes text → asked ≡ line_read.PutWaits (put_line_of body.put)
+pub line_begins : (body : PutBody) (text bytes : List ℕ) (asked : line_read.LineRead) → EndsLineAsking asked bytes text
+    → asked ≡ line_read.PutWaits (put_line_of body.put)
     → IsBodySoFar body [] → IsPutBegun body (text ++ bytes)
 line_begins body text bytes asked line is so_far = record {
   line = line.line;
@@ -102,7 +112,8 @@ line_begins body text bytes asked line is so_far = record {
 }
 
 -- what was fed after the first bytes of a piece
-pub feeds_behind : (new : ReaderState) (text piece rest : List ℕ) (end taken : ℕ) (r : Option Request) → end ≤ length piece → rest ≡ drop end piece
+pub feeds_behind : (new : ReaderState) (text piece rest : List ℕ) (end taken : ℕ) (r : Option Request) → end ≤ length piece
+    → rest ≡ drop end piece
     → FeedsText new (text ++ take end piece) rest taken r → FeedsText new text piece (end + taken) r
 feeds_behind new text piece rest end taken r within is fed = go r fed
   where
@@ -114,7 +125,15 @@ feeds_behind new text piece rest end taken r within is fed = go r fed
 
     go : (r : Option Request) → FeedsText new (text ++ take end piece) rest taken r → FeedsText new text piece (end + taken) r
     go None fed = record {
-      all = omega (arith, fed.all, ap length whole, length-append text piece, length-append (text ++ take end piece) rest, length-append text (take end piece), length-take-le end piece within);
+      all = omega (
+        arith,
+        fed.all,
+        ap length whole,
+        length-append text piece,
+        length-append (text ++ take end piece) rest,
+        length-append text (take end piece),
+        length-take-le end piece within,
+      );
       none = rw whole at fed.none;
       stands = rw whole at fed.stands;
     }
@@ -132,7 +151,8 @@ long_more text (b ∷ piece) long = go (last_is_cr false text) (last_is_cr false
     go false false long = omega (arith, length-append text (b ∷ piece))
 
 -- a line that is too long is BAD_FORMAT when it ends
-pub long_line_read : (text piece : List ℕ) (e : ℕ) → first_line text ≡ None → longest_line < length_beside_cr text → line_end_after (last_is_cr false text) piece ≡ Some e
+pub long_line_read : (text piece : List ℕ) (e : ℕ) → first_line text ≡ None → longest_line < length_beside_cr text
+    → line_end_after (last_is_cr false text) piece ≡ Some e
     → EndsLineAsking line_read.bad_format (take e piece) text
 long_line_read text piece e none long here =
     record { line = but_last (text ++ take (e - 1) piece); first_line_is = ends_there text piece e none here; read_is = read }
@@ -143,7 +163,8 @@ long_line_read text piece e none long here =
     length_is : length (text ++ take (e - 1) piece) ≡ length text + (e - 1)
     length_is = omega (arith, length-append text (take (e - 1) piece), length-take-le (e - 1) piece (omega (arith, within.1)))
 
-    line_length : (t : Bool) → last_is_cr false text ≡ t → longest_line < length text - (if t then 1 else 0) → longest_line < length text + (e - 1) - 1
+    line_length : (t : Bool) → last_is_cr false text ≡ t → longest_line < length text - (if t then 1 else 0)
+        → longest_line < length text + (e - 1) - 1
     line_length true is long = omega (arith, within.0)
     line_length false is long = go e refl
       where
@@ -154,7 +175,8 @@ long_line_read text piece e none long here =
 
     too_long : nat_lt longest_line (length (but_last (text ++ take (e - 1) piece))) ≡ true
     too_long =
-        let count : length (but_last (text ++ take (e - 1) piece)) ≡ length text + (e - 1) - 1 = rw (← length_is) (length-take-le (length (text ++ take (e - 1) piece) - 1) (text ++ take (e - 1) piece) (omega arith)) in
+        let count : length (but_last (text ++ take (e - 1) piece)) ≡ length text + (e - 1) - 1 =
+        rw (← length_is) (length-take-le (length (text ++ take (e - 1) piece) - 1) (text ++ take (e - 1) piece) (omega arith)) in
         grind (arith, nat_tests, line_length (last_is_cr false text) refl long)
 
     read : line_read.read_line (but_last (text ++ take (e - 1) piece)) ≡ line_read.bad_format
@@ -198,14 +220,16 @@ kept_line old text piece e asked is none here read = record {
 }
 
 -- what represents a line that is too long and goes on
-pub long_stands : (m : ℕ) (kept text piece : List ℕ) (last after_cr : Bool) → kept ≡ [] → first_line text ≡ None → last_is_cr false text ≡ after_cr
+pub long_stands : (m : ℕ) (kept text piece : List ℕ) (last after_cr : Bool) → kept ≡ [] → first_line text ≡ None
+    → last_is_cr false text ≡ after_cr
     → longest_line < length_beside_cr text → line_end_after after_cr piece ≡ None → last ≡ last_is_cr after_cr piece
     → StandsAt (record { max_job_size = m; kept = kept; place = InLongLine last }) (InLongLine last) (text ++ piece)
 long_stands m kept text piece last after_cr nothing none cr long more last_is =
     (nothing, goes_on text piece none (rw cr more), rw (last_is_cr-append false text piece, cr) (sym last_is), long_more text piece long)
 
 -- a line that ends has at least one byte before its LF
-pub some_byte : (old piece : List ℕ) (e : ℕ) → line_end_after (last_is_cr false old) piece ≡ Some e → 0 < length old + length (take (e - 1) piece)
+pub some_byte : (old piece : List ℕ) (e : ℕ) → line_end_after (last_is_cr false old) piece ≡ Some e
+    → 0 < length old + length (take (e - 1) piece)
 some_byte old piece zero here = absurd (omega (arith, (line_end_within (last_is_cr false old) piece 0 here).0))
 some_byte [] piece (suc zero) here = let cr : false ≡ true = line_end_one false piece here in cc
 some_byte (b ∷ old) piece (suc zero) here = omega arith

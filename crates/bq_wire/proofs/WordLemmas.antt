@@ -1,5 +1,6 @@
 -- The first word of a line.
-use Rattle.std.proofs.Common.{◌≡◌, ◌<◌, ℕ, ◌+◌, ◌-◌, zero, suc, true, false, List, [], ◌∷◌, Option, Some, None, add-one, refl, arith, length, take, drop, get_or, MatchOption, ◌==◌}
+use Rattle.std.proofs.Common.{◌≡◌, ◌<◌, ℕ, ◌+◌, ◌-◌, zero, suc, true, false, List, [], ◌∷◌}
+use Rattle.std.proofs.Common.{Option, Some, None, add-one, refl, arith, length, take, drop, get_or, MatchOption, ◌==◌}
 use Rattle.std.proofs.lemmas.Bool.Decides.{nat_tests}
 use Rattle.std.proofs.lemmas.Grind.{common_steps}
 use Rattle.bq_job.specs.reading.Words.{words}
@@ -14,13 +15,15 @@ one_word (b ∷ line) none =
     rw (not_here, later)
 
 -- the first word ends at the first space
-word_before : (line : List ℕ) (k : ℕ) → k < length line → (get_or line k 0 == 32) ≡ true → ((j : ℕ) → j < k → (get_or line j 0 == 32) ≡ true → ⊥)
+word_before : (line : List ℕ) (k : ℕ) → k < length line → (get_or line k 0 == 32) ≡ true
+    → ((j : ℕ) → j < k → (get_or line j 0 == 32) ≡ true → ⊥)
     → words line ≡ take k line ∷ words (drop (suc k) line)
 word_before [] k low here before = absurd (omega arith)
 word_before (b ∷ line) zero low here before = rw here
 word_before (b ∷ line) (suc k) low here before =
     let not_here : (b == 32) ≡ false = grind (arith, nat_tests, before 0) in
-    let later : words line ≡ take k line ∷ words (drop (suc k) line) = word_before line k (omega arith) here (λ j less. before (suc j) (omega arith)) in
+    let later : words line ≡ take k line ∷ words (drop (suc k) line) =
+    word_before line k (omega arith) here (λ j less. before (suc j) (omega arith)) in
     rw (not_here, later)
 
 -- as the code splits them

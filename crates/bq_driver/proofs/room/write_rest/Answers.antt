@@ -5,13 +5,15 @@ use Rattle.bq_driver.proofs.room.write_rest.Goals as goal
 
 pub returns-then-count-eq0-clause-text : goal.returns-then-count-eq0-clause-text
 returns-then-count-eq0-clause-text g c = λ first e.
-    breaks_off first _ _ _ _ (take_begins c.loop-done.done c.args.bytes.now) (c.loop-done.invariant.seen first e) (rw c.if-count-eq0.true at c.in-Ok.ensures.seen)
+    breaks_off first _ _ _ _ (take_begins c.loop-done.done c.args.bytes.now) (c.loop-done.invariant.seen first e)
+    (rw c.if-count-eq0.true at c.in-Ok.ensures.seen)
 
 pub loop-done-preserved : goal.loop-done-preserved
 loop-done-preserved g c =
     let some : (c.in-Ok.count == 0) ≡ false = grind (arith, nat_tests, c.if-count-eq0.false) in
     record {
-      seen = λ first e. written_on first _ _ c.args.bytes.now _ c.loop-done.done c.in-Ok.count (c.loop-done.invariant.seen first e) refl (rw some at c.in-Ok.ensures.seen);
+      seen = λ first e. written_on first _ _ c.args.bytes.now _ c.loop-done.done c.in-Ok.count (c.loop-done.invariant.seen first e) refl
+          (rw some at c.in-Ok.ensures.seen);
       stays = λ first over. c.in-Ok.ensures.stays first (c.loop-done.invariant.stays first over);
     }
 

@@ -6,7 +6,8 @@ use Rattle.bq_driver.proofs.room.write_rest.Given as goal
 
 abbrev pub invariant-loop-done : goal.invariant-loop-done
 invariant-loop-done g l = record {
-  seen : (first : LineSeen) → g.L.Line.seen l.fn.line ≡ with_begun l.bytes l.fn.sent first → g.L.Line.seen l.line ≡ with_begun l.bytes l.done first;
+  seen : (first : LineSeen) → g.L.Line.seen l.fn.line ≡ with_begun l.bytes l.fn.sent first
+      → g.L.Line.seen l.line ≡ with_begun l.bytes l.done first;
   stays : StaysOver g.L.Line.lies_over l.fn.line l.line;
 }
 

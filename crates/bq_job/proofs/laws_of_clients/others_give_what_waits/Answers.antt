@@ -9,4 +9,5 @@ differs a b other = elim (cases_Bool (a == b)) [
 ]
 
 pub returns : goal.returns
-returns c first last at seat client what outcome given other step = others_give first last at seat client what outcome given (differs seat client other) step
+returns c first last at seat client what outcome given other step =
+    others_give first last at seat client what outcome given (differs seat client other) step

@@ -11,7 +11,8 @@ loop-number-preserved g c =
     record {
       intake = ap (λ k. k.intake) made.core ∙ so_far.intake;
       core = core_more _ c.loop-number.core _ seat.ring made.core so_far.core;
-      seats = subst (AreNewSeats c.next_end.new.self) (sym c.push_reserved.ensures.items) (seats_more _ c.loop-number.core _ seat c.loop-number.seats.items made.core made.seat (search rules) so_far.core so_far.seats);
+      seats = subst (AreNewSeats c.next_end.new.self) (sym c.push_reserved.ensures.items)
+          (seats_more _ c.loop-number.core _ seat c.loop-number.seats.items made.core made.seat (search rules) so_far.core so_far.seats);
       many = omega arith;
       room = omega arith;
     }

@@ -7,7 +7,8 @@ abbrev pub invariant-loop-request : goal.invariant-loop-request
 invariant-loop-request l = record {
   within : l.from ≤ length l.piece;
   limit : l.reader.max_job_size ≡ l.fn.reader.max_job_size;
-  reads : (taken : List ℕ) → HasRead l.fn.reader taken l.fn.requests.items → HasRead l.reader (taken ++ take l.from l.piece) l.requests.items;
+  reads : (taken : List ℕ) → HasRead l.fn.reader taken l.fn.requests.items
+      → HasRead l.reader (taken ++ take l.from l.piece) l.requests.items;
   over : l.fn.reader.place ≡ Over → (l.reader ≡ l.fn.reader) × (l.requests.items ≡ l.fn.requests.items);
 }
 

@@ -9,9 +9,11 @@ pub returns-then-is_whole-clause-feeds : goal.returns-then-is_whole-clause-feeds
 returns-then-is_whole-clause-feeds c = λ text stands.
     let taken = c.take-taken in
     let all : taken.new.self.taken ≡ taken.new.self.put.bytes + 2 = grind (arith, nat_tests) in
-    let whole = begun_whole c.args.state.now.max_job_size c.args.body taken.new.self text (take taken.result c.args.piece.now) c.into_request.result
+    let whole = begun_whole c.args.state.now.max_job_size c.args.body taken.new.self text
+    (take taken.result c.args.piece.now) c.into_request.result
     stands.1 taken.ensures.put taken.ensures.takes all c.into_request.ensures.request in
-    hands_out c.args.state.now.max_job_size c.args.state.now.kept text c.args.piece.now taken.result c.into_request.result stands.0 whole.0 whole.1
+    hands_out c.args.state.now.max_job_size c.args.state.now.kept text c.args.piece.now taken.result c.into_request.result
+    stands.0 whole.0 whole.1
 
 pub returns-else-is_whole-clause-feeds : goal.returns-else-is_whole-clause-feeds
 returns-else-is_whole-clause-feeds c = λ text stands.
@@ -20,4 +22,5 @@ returns-else-is_whole-clause-feeds c = λ text stands.
     let all : taken.result ≡ length c.args.piece.now = taken.ensures.all less in
     let piece : take taken.result c.args.piece.now ≡ c.args.piece.now = rw all (take-length c.args.piece.now) in
     let takes : TakesBytes c.args.body taken.new.self c.args.piece.now = rw piece at taken.ensures.takes in
-    waits_by _ text c.args.piece.now taken.result all (stands.0, begun_more c.args.body taken.new.self text c.args.piece.now stands.1 taken.ensures.put takes less)
+    waits_by _ text c.args.piece.now taken.result all
+    (stands.0, begun_more c.args.body taken.new.self text c.args.piece.now stands.1 taken.ensures.put takes less)

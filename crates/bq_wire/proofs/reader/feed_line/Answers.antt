@@ -8,7 +8,8 @@ returns-in-None-clause-feeds c = λ text stands.
     let more : line_end_after (last_is_cr false c.args.state.now.kept) c.args.piece.now ≡ None =
     rw (← c.as_slice.ensures, ← c.ends_in_cr.ensures) (sym c.in-None.ensures.value) in
     waits_by _ text c.args.piece.now (length c.args.piece.now) refl
-    (kept_stands c.args.state.now.max_job_size c.args.state.now.kept c.keep.new.kept c.keep.result text c.args.piece.now stands.0 stands.1 more c.keep.ensures)
+    (kept_stands c.args.state.now.max_job_size c.args.state.now.kept c.keep.new.kept c.keep.result text c.args.piece.now stands.0 stands.1
+    more c.keep.ensures)
 
 pub whole_line-read-requires : goal.whole_line-read-requires
 whole_line-read-requires c =

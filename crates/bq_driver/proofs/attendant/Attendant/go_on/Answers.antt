@@ -9,7 +9,8 @@ use Rattle.bq_driver.proofs.attendant.Attendant.go_on.Goals as goal
 pub returns-in-Between-clause-went : goal.returns-in-Between-clause-went
 returns-in-Between-clause-went g c =
     let at = door_seen g.D.Door.is_out g.D.Door.is_at_end g.D.Door.lines_over in
-    from_place g.K.Link.went c.args.link.now c.args.link.now g.L.Line.seen c.args.self.now.machine c.open_line.new.machine c.args.self.now.place places.Between c.open_line.result (at c.args.door.now) (at c.open_line.new.door)
+    from_place g.K.Link.went c.args.link.now c.args.link.now g.L.Line.seen c.args.self.now.machine c.open_line.new.machine
+    c.args.self.now.place places.Between c.open_line.result (at c.args.door.now) (at c.open_line.new.door)
     c.in-Between.is ([], [], inr (refl, refl, refl), c.open_line.ensures.went)
 
 pub returns-in-LineOver-clause-went : goal.returns-in-LineOver-clause-went
@@ -18,7 +19,9 @@ returns-in-LineOver-clause-went g c =
     let m = c.args.self.now.machine in
     let over : c.args.self.now.place ≡ places.On c.in-On.line (actions.LineOver c.in-LineOver.end) c.in-On.sent =
     let first = c.in-On.is in let second = c.in-LineOver.is in cc in
-    from_place g.K.Link.went c.args.link.now c.args.link.now g.L.Line.seen m m c.args.self.now.place (places.On c.in-On.line (actions.LineOver c.in-LineOver.end) c.in-On.sent) c.shut_line.new.place (at c.args.door.now) (at c.shut_line.new.door)
+    from_place g.K.Link.went c.args.link.now c.args.link.now g.L.Line.seen m m c.args.self.now.place
+    (places.On c.in-On.line (actions.LineOver c.in-LineOver.end) c.in-On.sent) c.shut_line.new.place (at c.args.door.now)
+    (at c.shut_line.new.door)
     over ([], [], inr (refl, refl, refl), c.shut_line.ensures.went m)
 
 pub returns-in_default-clause-went : goal.returns-in_default-clause-went
@@ -27,7 +30,8 @@ returns-in_default-clause-went g c =
     let new = c.carry_out.new in
     let h = c.carry_out.ensures.carried in
     let t = tends_acted g.K.Link.went _ _ g.L.Line.seen _ _ c.in-On.line new.line _ _ c.in-On.sent new.sent h.0 h.1 h.2 h.3 in
-    from_place g.K.Link.went c.args.link.now new.link g.L.Line.seen c.args.self.now.machine new.machine c.args.self.now.place (places.On c.in-On.line c.in-On.action c.in-On.sent)
+    from_place g.K.Link.went c.args.link.now new.link g.L.Line.seen c.args.self.now.machine new.machine c.args.self.now.place
+    (places.On c.in-On.line c.in-On.action c.in-On.sent)
     (places.On new.line new.action new.sent) at at c.in-On.is (h.0, h.1, t.0, t.1 at)
 
 pub returns-in-Done-clause-went : goal.returns-in-Done-clause-went

@@ -10,7 +10,8 @@ loop-at-preserved c = record {
       let step = passed _ _ c.loop-at.from c.args.written c.index-parts-at.result c.loop-at-test.true c.index-parts-at.is (search rules) in
       rw (add-one c.loop-at.at, step) c.loop-at.invariant.same;
   on =
-      let step = open_next _ _ c.loop-at.from c.args.written c.index-parts-at.result c.loop-at-test.true c.index-parts-at.is (search rules) in
+      let step = open_next _ _ c.loop-at.from c.args.written c.index-parts-at.result c.loop-at-test.true
+      c.index-parts-at.is (search rules) in
       rw (add-one c.loop-at.at) (step ∙ c.loop-at.invariant.on);
 }
 
@@ -23,7 +24,8 @@ returns-after-loop-at-clause-open c = rw (slice_get_past _ _ c.loop-at-test.fals
 
 pub returns-else-is_over-clause-place : goal.returns-else-is_over-clause-place
 returns-else-is_over-clause-place c =
-    sym (open_here _ _ c.loop-at.from c.args.written c.index-parts-at.result c.loop-at-test.true c.index-parts-at.is (search rules)) ∙ c.loop-at.invariant.on
+    sym (open_here _ _ c.loop-at.from c.args.written c.index-parts-at.result c.loop-at-test.true c.index-parts-at.is (search rules))
+    ∙ c.loop-at.invariant.on
 
 pub returns-after-loop-at-clause-place : goal.returns-after-loop-at-clause-place
 returns-after-loop-at-clause-place c = sym (open_past _ _ c.loop-at.from c.args.written (omega arith)) ∙ c.loop-at.invariant.on

@@ -25,7 +25,13 @@ returns-clause-waits g c =
     let seen = c.learn_as.ensures.rule in
     let joined = c.absorb.ensures.rule in
     let pass = c.replace-pass.ensures.value in
-    let number = ap (λ v. v.number) joined ∙ ap (λ (p : Pass (ℕ × Step) View). (view p).number) pass ∙ c.seat.invariant.number ∙ ap (λ s. s.number) c.seat.view_is in
+    let number = ap (λ v. v.number) joined ∙ ap (λ (p : Pass (ℕ × Step) View). (view p).number) pass ∙ c.seat.invariant.number
+    ∙ ap (λ s. s.number) c.seat.view_is in
     let taken = ap (λ v. v.taken) joined ∙ ap (λ v. v.taken) c.another-blank.ensures.rule.0 ∙ ap (λ s. s.taken) c.self.view_is in
-    let submitted = ap (λ v. v.submitted) joined ∙ ap (λ (p : Pass (ℕ × Step) View). (view p).submitted) pass ∙ ap (λ s. s.submitted) c.seat.view_is in
-    (seen.0, subst (λ l. g.J.Record.was l seen.0) taken seen.1.0, of_parts c.args.seat.now.number c.args.self.now.taken seen.0 _ ((λ i. steps_of (sym number i) (sym taken i ++ seen.0)) ∙ seen.1.1 ∙ submitted))
+    let submitted = ap (λ v. v.submitted) joined ∙ ap (λ (p : Pass (ℕ × Step) View). (view p).submitted) pass
+    ∙ ap (λ s. s.submitted) c.seat.view_is in (
+      seen.0,
+      subst (λ l. g.J.Record.was l seen.0) taken seen.1.0,
+      of_parts c.args.seat.now.number c.args.self.now.taken seen.0 _
+          ((λ i. steps_of (sym number i) (sym taken i ++ seen.0)) ∙ seen.1.1 ∙ submitted),
+    )

@@ -11,7 +11,8 @@ returns-clause-room c e =
 pub returns-clause-full : goal.returns-clause-full
 returns-clause-full c e =
     let looked = c.is_full.ensures.looked in
-    unsent c.self.inside _ _ _ _ c.is_full.new.self c.self.view_is c.from.ensures c.index_mut.ensures.value looked.0 looked.1 0 (no_room _ _ c.is_full.ensures.value e)
+    unsent c.self.inside _ _ _ _ c.is_full.new.self c.self.view_is c.from.ensures c.index_mut.ensures.value looked.0 looked.1 0
+    (no_room _ _ c.is_full.ensures.value e)
 
 pub returns-clause-rest : goal.returns-clause-rest
 returns-clause-rest c =

@@ -20,9 +20,11 @@ returns-clause-room c =
     let first = c.slots_beside.ensures in
     let second = c.slots_beside-2.ensures in
     let mail = c.slots_beside-2.new.self in
-    let parts = ap (λ l. length l + length mail.end.ahead) (sym second.looked.1) ∙ sym (length-append mail.end.past mail.end.ahead) ∙ ap length (second.fifo ∙ second.producer.1) in
+    let parts = ap (λ l. length l + length mail.end.ahead) (sym second.looked.1) ∙ sym (length-append mail.end.past mail.end.ahead)
+    ∙ ap length (second.fifo ∙ second.producer.1) in
     subst (λ (x : ℕ × (ℕ × ℕ)). x.0 ≤ x.1.0 + x.1.1) (λ i. ((first.looked.0.1 ∙ places) i, (sym now i, sym second.value i)))
-    (free_or_waiting _ _ _ _ _ _ (ap (λ n. n + length c.slots_beside.new.self.end.past) (sym first.value) ∙ first.all_free) parts second.producer.2)
+    (free_or_waiting _ _ _ _ _ _ (ap (λ n. n + length c.slots_beside.new.self.end.past) (sym first.value) ∙ first.all_free)
+    parts second.producer.2)
 
 pub returns-clause-core : goal.returns-clause-core
 returns-clause-core c =
@@ -32,4 +34,6 @@ returns-clause-core c =
     let now = room_now c.self.inside _ _ _ _ c.slots_beside-2.new.producer c.self.view_is number ring within in
     let first = c.slots_beside.ensures.looked in
     let second = c.slots_beside-2.ensures.producer in
-    unsent c.self.inside _ _ _ _ c.slots_beside-2.new.producer c.self.view_is number ring (looked_twice c.index_mut-ring.result.now c.slots_beside.new.self c.slots_beside-2.new.producer first.0 second.0) (second.1 ∙ first.1) _ (sym now)
+    unsent c.self.inside _ _ _ _ c.slots_beside-2.new.producer c.self.view_is number ring
+    (looked_twice c.index_mut-ring.result.now c.slots_beside.new.self c.slots_beside-2.new.producer first.0 second.0)
+    (second.1 ∙ first.1) _ (sym now)

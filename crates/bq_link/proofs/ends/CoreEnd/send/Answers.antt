@@ -16,8 +16,12 @@ returns-clause-sent c =
       | in-Ok w ↦
           let told = w.in-Ok.ensures in
           rw w.result-is (
-          changed c.self.inside old _ _ _ c.push.new.self c.self.view_is c.from.ensures c.index_mut.ensures.value told.ring _ (told.ok.0 ∙ ap (λ l. l ++ c.args.answer ∷ []) (sym was))
-          ∙ ap (λ n. record old { sent = set old.sent c.args.seat (sent_to old c.args.seat ++ c.args.answer ∷ []); room = set old.room c.args.seat n }) (sym now)
+          changed c.self.inside old _ _ _ c.push.new.self c.self.view_is c.from.ensures c.index_mut.ensures.value told.ring _
+          (told.ok.0 ∙ ap (λ l. l ++ c.args.answer ∷ []) (sym was))
+          ∙ ap (λ n. record old {
+            sent = set old.sent c.args.seat (sent_to old c.args.seat ++ c.args.answer ∷ []);
+            room = set old.room c.args.seat n;
+          }) (sym now)
           )
       | in-Err-Full w ↦ rw w.result-is tt
     ]
@@ -36,7 +40,8 @@ returns-clause-unchanged c = elim c.match-push.branch [
   | in-Ok w ↦ rw w.result-is tt
   | in-Err-Full w ↦
       let told = w.in-Err-Full.ensures in
-      rw w.result-is (unsent c.self.inside _ _ _ _ c.push.new.self c.self.view_is c.from.ensures c.index_mut.ensures.value told.ring told.full.1 0 told.full.2)
+      rw w.result-is (unsent c.self.inside _ _ _ _ c.push.new.self c.self.view_is c.from.ensures c.index_mut.ensures.value told.ring
+      told.full.1 0 told.full.2)
 ]
 
 pub returns-clause-room : goal.returns-clause-room

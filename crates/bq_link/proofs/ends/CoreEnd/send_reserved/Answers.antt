@@ -10,8 +10,12 @@ returns-clause-sent c =
     let now = room_now c.self.inside _ _ _ _ c.push_reserved.new.self c.self.view_is c.from.ensures c.index_mut.ensures.value within in
     let was = sent_was c.self.inside _ _ _ _ c.push_reserved.new.self c.self.view_is c.from.ensures c.index_mut.ensures.value within in
     let told = c.push_reserved.ensures in
-    changed c.self.inside old _ _ _ c.push_reserved.new.self c.self.view_is c.from.ensures c.index_mut.ensures.value told.ring _ (told.sent.0 ∙ ap (λ l. l ++ c.args.answer ∷ []) (sym was))
-    ∙ ap (λ n. record old { sent = set old.sent c.args.seat (sent_to old c.args.seat ++ c.args.answer ∷ []); room = set old.room c.args.seat n }) (sym now)
+    changed c.self.inside old _ _ _ c.push_reserved.new.self c.self.view_is c.from.ensures c.index_mut.ensures.value told.ring _
+    (told.sent.0 ∙ ap (λ l. l ++ c.args.answer ∷ []) (sym was))
+    ∙ ap (λ n. record old {
+      sent = set old.sent c.args.seat (sent_to old c.args.seat ++ c.args.answer ∷ []);
+      room = set old.room c.args.seat n;
+    }) (sym now)
 
 pub returns-clause-to : goal.returns-clause-to
 returns-clause-to c =

@@ -9,4 +9,5 @@ returns-in-Reading c = moves.bytes_in_reading c.args.self.now _ _ c.args.bytes _
 pub returns-in-ReadingOn : goal.returns-in-ReadingOn
 returns-in-ReadingOn c =
     moves.by_result _ _ _ _ _ _ c.poll.ensures.action c.poll.ensures.after
-    (moves.from_stage _ _ _ _ stages.ReadingOn c.in-ReadingOn.is (moves.bytes_in_reading_on c.args.self.now _ c.args.bytes c.replace.ensures))
+    (moves.from_stage _ _ _ _ stages.ReadingOn c.in-ReadingOn.is
+    (moves.bytes_in_reading_on c.args.self.now _ c.args.bytes c.replace.ensures))

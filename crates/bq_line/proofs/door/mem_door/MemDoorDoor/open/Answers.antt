@@ -29,8 +29,10 @@ invariant_of-self c =
           let all = rw c.requires.inside at door.all in
           let one = ap length c.in-Some.ensures.items in
           let put_in = door.put_in.lines.value.items in
-          let next = last_but_one (length put_in - length door.coming.items) put_in c.pop_front.new.self.items c.in-Some.line (sym door.last ∙ c.in-Some.ensures.items) in
-          let same : suc (length put_in - length door.coming.items) ≡ length put_in - length c.pop_front.new.self.items = omega (arith, all, one) in
+          let next = last_but_one (length put_in - length door.coming.items) put_in c.pop_front.new.self.items c.in-Some.line
+          (sym door.last ∙ c.in-Some.ensures.items) in
+          let same : suc (length put_in - length door.coming.items) ≡ length put_in - length c.pop_front.new.self.items =
+          omega (arith, all, one) in
           next ∙ ap (λ n. drop n put_in) same;
       end = λ at_end. let more = c.requires.more in cc;
     }

@@ -6,6 +6,8 @@ use Rattle.bq_line.proofs.line.io_line.BufferedLineLine.write.Goals as goal
 pub returns-clause-stays : goal.returns-clause-stays
 returns-clause-stays g c first over =
     let came = c.args.self.now.came in
-    let of : g.row.S.Denot → StreamSeen = λ s. record { left = prepend_known came (g.S.Duplex.remaining s); held = g.S.Duplex.contents s } in
-    wrote_noted first (of c.args.self.now.line.stream) (of c.write.new.self.stream) _ _ c.write.result c.args.buf.now (prepend_kept came _ _ c.write.ensures.apart) c.write.ensures.stream
+    let of : g.row.S.Denot → StreamSeen = λ s.
+    record { left = prepend_known came (g.S.Duplex.remaining s); held = g.S.Duplex.contents s } in
+    wrote_noted first (of c.args.self.now.line.stream) (of c.write.new.self.stream) _ _ c.write.result c.args.buf.now
+    (prepend_kept came _ _ c.write.ensures.apart) c.write.ensures.stream
     c.write.ensures.seen over

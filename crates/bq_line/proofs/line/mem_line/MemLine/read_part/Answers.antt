@@ -16,7 +16,8 @@ returns-in-Some-Bytes-clause-seen c =
     let count = rw c.deref-in-Some-Bytes.ensures.value at c.copy_first-count.ensures.count in
     let lt = found.3.0 in
     let bytes_are : part_bytes c.in-Some-Bytes.field-0.now ≡ c.in-Some-Bytes.bytes.items = rw c.in-Some-Bytes.field-0-is refl in
-    let some = some_given _ _ _ _ _ _ _ c.in-Some-Bytes.bytes.items c.requires.open lt found.1 (rw c.in-Some-Bytes.field-0-is refl) c.requires.some count in
+    let some = some_given _ _ _ _ _ _ _ c.in-Some-Bytes.bytes.items c.requires.open lt found.1
+    (rw c.in-Some-Bytes.field-0-is refl) c.requires.some count in
     same_seen _ _ (still_open c.args.self.now.ended _ some) refl (read_given _ _ _ _ _ _ _ _ _ refl lt found.1 bytes_are copied) refl
 
 pub returns-in-Some-Fault-clause-seen : goal.returns-in-Some-Fault-clause-seen
@@ -33,4 +34,5 @@ returns-in-Some-Bytes-clause-answered c =
     let part = c.in-Some-Bytes.field-0.now in
     let here : slice_get c.args.self.now.parts.items c.args.self.now.place ≡ Some part = slice_get_read _ _ _ _ refl found.3.0 found.1 in
     let is : part ≡ parts.Bytes c.in-Some-Bytes.bytes = c.in-Some-Bytes.field-0-is in
-    rw (here, is) (some_given _ _ _ _ _ _ _ c.in-Some-Bytes.bytes.items c.requires.open found.3.0 found.1 (rw is refl) c.requires.some count)
+    rw (here, is) (some_given _ _ _ _ _ _ _ c.in-Some-Bytes.bytes.items c.requires.open found.3.0 found.1
+    (rw is refl) c.requires.some count)
