@@ -8,19 +8,19 @@ fail() {
     exit "$1"
 }
 
-[[ $# -le 1 && ${1:-.} != -* ]] || fail 2 "at most one word, the folder that the package goes to"
+[[ $# -le 1 && ${1:-.} != -* ]] || fail 2 "at most one word: the folder for the package"
 [[ -d ${1:-.} ]] || fail 2 "no folder $1"
 to=$(realpath "${1:-.}")
 cd "$(dirname "$0")/.."
 for program in bqd bq; do
-    [[ -x crates/$program/out/$program ]] || fail 1 "$program isn't built: run tools/build $program first"
+    [[ -x crates/$program/out/$program ]] || fail 1 "$program is not built: run tools/build $program first"
 done
 for command in strip dpkg-shlibdeps dpkg-gencontrol dpkg-deb; do
-    command -v "$command" >/dev/null || fail 1 "$command is wanted: it comes with Debian's dpkg-dev and binutils"
+    command -v "$command" >/dev/null || fail 1 "$command is missing: it is in Debian's dpkg-dev and binutils"
 done
 version=$(crates/bqd/out/bqd --version | awk '{print $2}')
 told=$(dpkg-parsechangelog --file packaging/changelog --show-field Version)
-[[ $version = "$told" ]] || fail 1 "bqd says it is $version, and packaging/changelog begins with $told"
+[[ $version = "$told" ]] || fail 1 "bqd says it is $version, but packaging/changelog begins with $told"
 
 room=$(mktemp -d)
 trap 'rm -rf "$room"' EXIT
