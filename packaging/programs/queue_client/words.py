@@ -58,4 +58,4 @@ def whole(least, most=LARGEST_NUMBER):
 def timeout(parser):
     """Adds the option for the time within which an answer has to arrive."""
     parser.add_argument("--timeout", metavar="SECONDS", type=seconds(0.1, 3600), default=5.0,
-                        help="how long an answer may take, 0.1 to 3600; 5 unless chosen")
+                        help="how long an answer may take, 0.1 to 3600; default 5")
