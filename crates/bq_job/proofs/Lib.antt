@@ -21,6 +21,7 @@ pub mod LineLemmas
 pub mod ListLemmas
 pub mod LookupLemmas
 pub mod NameOrderLemmas
+pub mod NameWords
 pub mod NextDueLemmas
 pub mod OneClientLemmas
 pub mod ClientStepLemmas

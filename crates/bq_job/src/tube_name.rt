@@ -1,6 +1,9 @@
-ghost use Rattle.std.specs.Prelude.{◌≡◌, ◌↔◌, IsSome, IfSome, IsTrue, ◌≤◌, length};
+ghost use Rattle.std.specs.Prelude.{◌≡◌, ◌↔◌, IsSome, IfSome, IsTrue, ◌≤◌, ◌<◌, ◌%◌, ℕ, drop, length, get_or};
 ghost use Rattle.bq_job.specs.reading.TubeName.{is_tube_name, name_byte, is_same_name, begins_name, filled_up};
 ghost use Rattle.std.specs.List.{list_all};
+ghost use Rattle.std.specs.Cmp.Lexicographic.{slice_cmp};
+ghost use Rattle.std.specs.Ordering.{nat_cmp};
+ghost use Rattle.std.specs.Int.{from_be_bytes, w64};
 
 use std::alloc::AllocError;
 use std::cmp::Ordering;
@@ -122,6 +125,66 @@ fn filled(bytes: &[u8]) -> [u8; LONGEST_NAME]
     copy
 }
 
+// Returns `len`, rounded up to a multiple of eight.
+fn whole_words(len: u8) -> usize
+    requires { len ≤ 200 }
+    ensures enough { len ≤ result }
+    ensures fits { result ≤ 200 }
+    ensures whole { result % 8 ≡ 0 }
+{
+    (usize::from(len) + 7) / 8 * 8
+}
+
+// Returns eight bytes as one number, big end first.
+fn word_of(bytes: [u8; 8]) -> u64
+    ensures word { result ≡ from_be_bytes w64 bytes }
+    ensures bytes { (i : ℕ) → get_or bytes i 0 < 256 }
+{
+    u64::from_be_bytes(bytes)
+}
+
+// Returns the bytes after the first eight.
+fn after_word(bytes: &[u8]) -> &[u8]
+    requires { 8 ≤ length bytes.now }
+    ensures { result.now ≡ drop 8 bytes.now }
+{
+    &bytes[8..]
+}
+
+// Compares two slices of one length, which is a multiple of eight, byte by byte, as `Ord` of slices does. Eight bytes at
+// a time are compared as one number.
+fn cmp_words(bytes: &[u8], others: &[u8]) -> Ordering
+    requires whole { length bytes.now % 8 ≡ 0 }
+    requires alike { length bytes.now ≡ length others.now }
+    ensures { result ≡ slice_cmp nat_cmp bytes.now others.now }
+{
+    match bytes {
+        [a, b, c, d, e, f, g, h, ..] => match others {
+            [i, j, k, l, m, n, o, p, ..] => {
+                let word = word_of([*a, *b, *c, *d, *e, *f, *g, *h]);
+                let other = word_of([*i, *j, *k, *l, *m, *n, *o, *p]);
+                if word == other {
+                    cmp_words(after_word(bytes), after_word(others))
+                } else {
+                    word.cmp(&other)
+                }
+            }
+            _ => Ordering::Equal,
+        },
+        _ => Ordering::Equal,
+    }
+}
+
+// Compares two names as far as either goes. It is out of line, so that a look-up that needs the first eight bytes alone
+// has these in its own code.
+#[inline(never)]
+fn cmp_whole(name: &TubeName, other: &TubeName) -> Ordering
+    ensures { result ≡ slice_cmp nat_cmp name.now other.now }
+{
+    let end = whole_words(name.len.max(other.len));
+    cmp_words(&name.bytes[..end], &other.bytes[..end])
+}
+
 impl PartialEq for TubeName {
     ghost use Rattle.std.specs.Cmp as Cmp;
     ghost use Rattle.std.specs.Cmp.Lexicographic.{nat_list_eq_equiv};
@@ -171,6 +234,12 @@ impl Ord for TubeName {
     ghost matches_eq = { texts_ties };
 
     fn cmp(&self, other: &TubeName) -> Ordering {
-        self.as_slice().cmp(other.as_slice())
+        let (a, b) = (&self.bytes, &other.bytes);
+        let word = word_of([a[0], a[1], a[2], a[3], a[4], a[5], a[6], a[7]]);
+        let other_word = word_of([b[0], b[1], b[2], b[3], b[4], b[5], b[6], b[7]]);
+        if word == other_word {
+            return cmp_whole(self, other);
+        }
+        word.cmp(&other_word)
     }
 }

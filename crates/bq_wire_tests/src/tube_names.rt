@@ -29,7 +29,21 @@ fn tube_names(rt: HostRuntime) -> Result<(), Fail> {
     Ok(())
 }
 
-const IN_ORDER: &[(&str, &str)] = &[("a", "b"), ("B", "a"), ("ab", "b"), ("a", "ab")];
+// Names that differ before, in and after their eighth byte, and by their length alone.
+const IN_ORDER: &[(&str, &str)] = &[
+    ("a", "b"),
+    ("B", "a"),
+    ("ab", "b"),
+    ("a", "ab"),
+    ("ab", "ba"),
+    ("worker-", "worker-1"),
+    ("worker-1", "worker-2"),
+    ("worker-1", "worker-10"),
+    ("worker-10", "worker-2"),
+    ("worker-10", "worker-11"),
+    ("reports.daily.16", "reports.daily.17"),
+    ("reports.daily.16", "reports.daily.16+"),
+];
 
 fn expect_order(rt: &impl Abort, first: &str, second: &str) -> Result<(), Fail> {
     let first = TubeName::new(first.as_bytes()).ok_or("no name")?;

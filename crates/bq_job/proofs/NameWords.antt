@@ -1,0 +1,201 @@
+-- The order of names, eight bytes at a time.
+use Rattle.std.proofs.Common.{◌++◌, ◌+◌, ◌*◌, ◌-◌, ◌%◌, ◌<◌, ◌≤◌, ◌^◌, ◌∙◌, ◌∷◌, ◌≡◌, ◌&&◌, Bool, List, [], ℕ, drop, get_or, zero, suc, ap, arith, false, inl, inr, length, refl, replicate, subst, sym, take, true}
+use Rattle.std.specs.Prelude.{nat_le}
+use Rattle.std.proofs.lemmas.{Bool.{cases_order, Decides.nat_tests}, List.take-replicate, Nat.mul-le}
+use Rattle.std.proofs.Math.Seq.{take-append-add}
+use Rattle.std.specs.Cmp.Lexicographic.{slice_cmp}
+use Rattle.std.specs.Int.{from_be_bytes, w64}
+use Rattle.std.specs.List.{list_all}
+use Rattle.std.specs.Ordering.{nat_cmp, ordering_then}
+use Rattle.std.specs.declared.cmp.Ordering.{Ordering, TheVariants.{Less, Equal, Greater}}
+use Rattle.bq_job.specs.reading.TubeName.{begins_name, filled_up, is_tube_name, name_byte}
+
+less_is : (a b : ℕ) → a < b → nat_cmp a b ≡ Less
+less_is a b h = grind (arith, nat_tests)
+
+more_is : (a b : ℕ) → b < a → nat_cmp a b ≡ Greater
+more_is a b h = grind (arith, nat_tests)
+
+same_is : (a : ℕ) → nat_cmp a a ≡ Equal
+same_is a = grind (arith, nat_tests)
+
+-- the same number added to both
+both_more : (k x y : ℕ) → nat_cmp (k + x) (k + y) ≡ nat_cmp x y
+both_more k x y = elim (cases_order x y) [
+  | inl e ↦ subst (λ z. nat_cmp (k + x) (k + z) ≡ nat_cmp x z) e (same_is (k + x) ∙ sym (same_is x))
+  | inr o ↦ elim o [
+    | inl below ↦ less_is (k + x) (k + y) (omega arith) ∙ sym (less_is x y below)
+    | inr above ↦ more_is (k + x) (k + y) (omega arith) ∙ sym (more_is x y above)
+  ]
+]
+
+one_more_times : (a b p : ℕ) → a < b → a * p + p ≤ b * p
+one_more_times a b p h = let m = mul-le (a + 1) p b p (omega arith) (omega arith) in let d : (a + 1) * p ≡ a * p + p = grind arith in omega (arith, m, d)
+
+-- of two numbers the digit that counts most decides, and where that is equal the rest
+digit : (p a b x y : ℕ) → x < p → y < p → nat_cmp (a * p + x) (b * p + y) ≡ ordering_then (nat_cmp a b) (nat_cmp x y)
+digit p a b x y small others = elim (cases_order a b) [
+  | inl e ↦ subst (λ c. nat_cmp (a * p + x) (c * p + y) ≡ ordering_then (nat_cmp a c) (nat_cmp x y)) e (both_more (a * p) x y ∙ rw (same_is a) refl)
+  | inr o ↦ elim o [
+    | inl below ↦ rw (less_is a b below) (less_is (a * p + x) (b * p + y) (let m = one_more_times a b p below in omega (arith, m)))
+    | inr above ↦ rw (more_is a b above) (more_is (a * p + x) (b * p + y) (let m = one_more_times b a p above in omega (arith, m)))
+  ]
+]
+
+-- eight digits, one after another
+abbrev worth_of : ℕ → ℕ → ℕ → ℕ → ℕ → ℕ → ℕ → ℕ → ℕ
+worth_of a b c d e f g h =
+    a * 72057594037927936 + (b * 281474976710656 + (c * 1099511627776 + (d * 4294967296 + (e * 16777216 + (f * 65536 + (g * 256 + h))))))
+
+word_is : (a b c d e f g h : ℕ) → from_be_bytes w64 (a ∷ b ∷ c ∷ d ∷ e ∷ f ∷ g ∷ h ∷ []) ≡ worth_of a b c d e f g h
+word_is a b c d e f g h = omega arith
+
+digits : (a b c d e f g h i j k l m n o p : ℕ) → a < 256 → b < 256 → c < 256 → d < 256 → e < 256 → f < 256 → g < 256 → h < 256 → i < 256 → j < 256 → k < 256 → l < 256 → m < 256 → n < 256 → o < 256 → p < 256
+    → nat_cmp (worth_of a b c d e f g h) (worth_of i j k l m n o p) ≡ slice_cmp nat_cmp (a ∷ b ∷ c ∷ d ∷ e ∷ f ∷ g ∷ h ∷ []) (i ∷ j ∷ k ∷ l ∷ m ∷ n ∷ o ∷ p ∷ [])
+digits a b c d e f g h i j k l m n o p sa sb sc sd se sf sg sh si sj sk sl sm sn so sp =
+    digit 72057594037927936 a i _ _ (omega arith) (omega arith)
+    ∙ ap (ordering_then (nat_cmp a i)) (digit 281474976710656 b j _ _ (omega arith) (omega arith)
+    ∙ ap (ordering_then (nat_cmp b j)) (digit 1099511627776 c k _ _ (omega arith) (omega arith)
+    ∙ ap (ordering_then (nat_cmp c k)) (digit 4294967296 d l _ _ (omega arith) (omega arith)
+    ∙ ap (ordering_then (nat_cmp d l)) (digit 16777216 e m _ _ (omega arith) (omega arith)
+    ∙ ap (ordering_then (nat_cmp e m)) (digit 65536 f n _ _ (omega arith) (omega arith)
+    ∙ ap (ordering_then (nat_cmp f n)) (digit 256 g o h p (omega arith) (omega arith)
+    ∙ ap (ordering_then (nat_cmp g o)) (last (nat_cmp h p))))))))
+  where
+    last : (r : Ordering) → r ≡ ordering_then r Equal
+    last Less = refl
+    last Equal = refl
+    last Greater = refl
+
+then_assoc : (p q r : Ordering) → ordering_then p (ordering_then q r) ≡ ordering_then (ordering_then p q) r
+then_assoc Less q r = refl
+then_assoc Equal q r = refl
+then_assoc Greater q r = refl
+
+-- two lists that begin with as many elements
+seam : (xs ys rest others : List ℕ) → length xs ≡ length ys → slice_cmp nat_cmp (xs ++ rest) (ys ++ others) ≡ ordering_then (slice_cmp nat_cmp xs ys) (slice_cmp nat_cmp rest others)
+seam [] [] rest others e = refl
+seam [] (y ∷ ys) rest others e = absurd (omega arith)
+seam (x ∷ xs) [] rest others e = absurd (omega arith)
+seam (x ∷ xs) (y ∷ ys) rest others e = ap (ordering_then (nat_cmp x y)) (seam xs ys rest others (omega arith)) ∙ then_assoc (nat_cmp x y) (slice_cmp nat_cmp xs ys) (slice_cmp nat_cmp rest others)
+
+-- the order of two lists, by their first eight bytes as numbers, and where these are equal by the rest
+by_words : (a b c d e f g h i j k l m n o p : ℕ) (rest others : List ℕ) → a < 256 → b < 256 → c < 256 → d < 256 → e < 256 → f < 256 → g < 256 → h < 256 → i < 256 → j < 256 → k < 256 → l < 256 → m < 256 → n < 256 → o < 256 → p < 256
+    → slice_cmp nat_cmp (a ∷ b ∷ c ∷ d ∷ e ∷ f ∷ g ∷ h ∷ rest) (i ∷ j ∷ k ∷ l ∷ m ∷ n ∷ o ∷ p ∷ others)
+    ≡ ordering_then (nat_cmp (from_be_bytes w64 (a ∷ b ∷ c ∷ d ∷ e ∷ f ∷ g ∷ h ∷ [])) (from_be_bytes w64 (i ∷ j ∷ k ∷ l ∷ m ∷ n ∷ o ∷ p ∷ []))) (slice_cmp nat_cmp rest others)
+by_words a b c d e f g h i j k l m n o p rest others sa sb sc sd se sf sg sh si sj sk sl sm sn so sp =
+    seam (a ∷ b ∷ c ∷ d ∷ e ∷ f ∷ g ∷ h ∷ []) (i ∷ j ∷ k ∷ l ∷ m ∷ n ∷ o ∷ p ∷ []) rest others refl
+    ∙ ap (λ r. ordering_then r (slice_cmp nat_cmp rest others)) (
+    sym (digits a b c d e f g h i j k l m n o p sa sb sc sd se sf sg sh si sj sk sl sm sn so sp)
+    ∙ ap (λ w. nat_cmp w (worth_of i j k l m n o p)) (sym (word_is a b c d e f g h))
+    ∙ ap (nat_cmp (from_be_bytes w64 (a ∷ b ∷ c ∷ d ∷ e ∷ f ∷ g ∷ h ∷ []))) (sym (word_is i j k l m n o p))
+    )
+
+words_same : (w v : ℕ) (o : Ordering) → w ≡ v → ordering_then (nat_cmp w v) o ≡ o
+words_same w v o e = ap (λ r. ordering_then r o) (ap (nat_cmp w) (sym e) ∙ same_is w)
+
+words_differ : (w v : ℕ) (o : Ordering) → (w ≡ v → ⊥) → ordering_then (nat_cmp w v) o ≡ nat_cmp w v
+words_differ w v o apart = elim (cases_order w v) [
+  | inl e ↦ absurd (apart e)
+  | inr o ↦ elim o [
+    | inl below ↦ rw (less_is w v below) refl
+    | inr above ↦ rw (more_is w v above) refl
+  ]
+]
+
+-- the first eight bytes of a list, and the rest
+front_8 : (xs : List ℕ) → 8 ≤ length xs → xs ≡ get_or xs 0 0 ∷ get_or xs 1 0 ∷ get_or xs 2 0 ∷ get_or xs 3 0 ∷ get_or xs 4 0 ∷ get_or xs 5 0 ∷ get_or xs 6 0 ∷ get_or xs 7 0 ∷ drop 8 xs
+front_8 [] e = absurd (omega arith)
+front_8 (a ∷ []) e = absurd (omega arith)
+front_8 (a ∷ b ∷ []) e = absurd (omega arith)
+front_8 (a ∷ b ∷ c ∷ []) e = absurd (omega arith)
+front_8 (a ∷ b ∷ c ∷ d ∷ []) e = absurd (omega arith)
+front_8 (a ∷ b ∷ c ∷ d ∷ f ∷ []) e = absurd (omega arith)
+front_8 (a ∷ b ∷ c ∷ d ∷ f ∷ g ∷ []) e = absurd (omega arith)
+front_8 (a ∷ b ∷ c ∷ d ∷ f ∷ g ∷ h ∷ []) e = absurd (omega arith)
+front_8 (a ∷ b ∷ c ∷ d ∷ f ∷ g ∷ h ∷ i ∷ rest) e = refl
+
+abbrev front_of : List ℕ → List ℕ
+front_of xs = get_or xs 0 0 ∷ get_or xs 1 0 ∷ get_or xs 2 0 ∷ get_or xs 3 0 ∷ get_or xs 4 0 ∷ get_or xs 5 0 ∷ get_or xs 6 0 ∷ get_or xs 7 0 ∷ []
+
+abbrev word_of : List ℕ → ℕ
+word_of xs = from_be_bytes w64 (front_of xs)
+
+module _ (xs ys : List ℕ) (long : 8 ≤ length xs) (other_long : 8 ≤ length ys) (small : (i : ℕ) → get_or (front_of xs) i 0 < 256) (other_small : (i : ℕ) → get_or (front_of ys) i 0 < 256) where
+  split : slice_cmp nat_cmp xs ys ≡ ordering_then (nat_cmp (word_of xs) (word_of ys)) (slice_cmp nat_cmp (drop 8 xs) (drop 8 ys))
+  split =
+      ap (λ zs. slice_cmp nat_cmp zs ys) (front_8 xs long)
+      ∙ ap (slice_cmp nat_cmp (get_or xs 0 0 ∷ get_or xs 1 0 ∷ get_or xs 2 0 ∷ get_or xs 3 0 ∷ get_or xs 4 0 ∷ get_or xs 5 0 ∷ get_or xs 6 0 ∷ get_or xs 7 0 ∷ drop 8 xs)) (front_8 ys other_long)
+      ∙ by_words (get_or xs 0 0) (get_or xs 1 0) (get_or xs 2 0) (get_or xs 3 0) (get_or xs 4 0) (get_or xs 5 0) (get_or xs 6 0) (get_or xs 7 0)
+      (get_or ys 0 0) (get_or ys 1 0) (get_or ys 2 0) (get_or ys 3 0) (get_or ys 4 0) (get_or ys 5 0) (get_or ys 6 0) (get_or ys 7 0) (drop 8 xs) (drop 8 ys)
+      (small 0) (small 1) (small 2) (small 3) (small 4) (small 5) (small 6) (small 7)
+      (other_small 0) (other_small 1) (other_small 2) (other_small 3) (other_small 4) (other_small 5) (other_small 6) (other_small 7)
+
+  module _ (w v : ℕ) (r : Ordering) (word : w ≡ word_of xs) (other : v ≡ word_of ys) where
+    words : slice_cmp nat_cmp xs ys ≡ ordering_then (nat_cmp w v) (slice_cmp nat_cmp (drop 8 xs) (drop 8 ys))
+    words = split ∙ ap (λ (o : Ordering). ordering_then o (slice_cmp nat_cmp (drop 8 xs) (drop 8 ys))) (ap (λ i. nat_cmp i (word_of ys)) (sym word) ∙ ap (nat_cmp w) (sym other))
+
+    -- where the words are equal the rest decides,
+    pub rest_decides : w ≡ v → (more others : List ℕ) → more ≡ drop 8 xs → others ≡ drop 8 ys → r ≡ slice_cmp nat_cmp more others → r ≡ slice_cmp nat_cmp xs ys
+    rest_decides same more others after other_after rest =
+        rest ∙ ap (λ zs. slice_cmp nat_cmp zs others) after ∙ ap (slice_cmp nat_cmp (drop 8 xs)) other_after ∙ sym (words_same w v (slice_cmp nat_cmp (drop 8 xs) (drop 8 ys)) same) ∙ sym words
+
+    -- and otherwise they do
+    pub words_decide : (w ≡ v → ⊥) → r ≡ nat_cmp w v → r ≡ slice_cmp nat_cmp xs ys
+    words_decide apart is = is ∙ sym (words_differ w v (slice_cmp nat_cmp (drop 8 xs) (drop 8 ys)) apart) ∙ sym words
+
+-- No bytes are left.
+pub none_left : (xs ys : List ℕ) → length xs < 8 → length xs % 8 ≡ 0 → length xs ≡ length ys → Equal ≡ slice_cmp nat_cmp xs ys
+none_left [] [] few whole alike = refl
+none_left [] (y ∷ ys) few whole alike = absurd (omega arith)
+none_left (x ∷ xs) ys few whole alike = absurd (omega arith)
+
+-- Zeros behind two names leave their order as it is, since no byte of a name is 0.
+zeros : (n : ℕ) → slice_cmp nat_cmp (replicate n 0) (replicate n 0) ≡ Equal
+zeros zero = refl
+zeros (suc n) = zeros n
+
+byte_pos : (b : ℕ) → name_byte b ≡ true → 0 < b
+byte_pos zero e = absurd cc
+byte_pos (suc b) e = omega arith
+
+both : (p q : Bool) → (p && q) ≡ true → (p ≡ true) × (q ≡ true)
+both true q e = (refl, e)
+both false q e = absurd cc
+
+padded : (m n : ℕ) (a b : List ℕ) → length a + m ≡ length b + n → list_all name_byte a ≡ true → list_all name_byte b ≡ true → slice_cmp nat_cmp (a ++ replicate m 0) (b ++ replicate n 0) ≡ slice_cmp nat_cmp a b
+padded m n [] [] e p q = let same : m ≡ n = omega arith in ap (λ k. slice_cmp nat_cmp (replicate m 0) (replicate k 0)) (sym same) ∙ zeros m
+padded zero n [] (y ∷ b) e p q = absurd (omega arith)
+padded (suc m) n [] (y ∷ b) e p q = rw (less_is 0 y (byte_pos y ((both (name_byte y) (list_all name_byte b) q).0))) refl
+padded m zero (x ∷ a) [] e p q = absurd (omega arith)
+padded m (suc n) (x ∷ a) [] e p q = rw (more_is x 0 (byte_pos x ((both (name_byte x) (list_all name_byte a) p).0))) refl
+padded m n (x ∷ a) (y ∷ b) e p q = ap (ordering_then (nat_cmp x y)) (padded m n a b (omega arith) ((both (name_byte x) (list_all name_byte a) p).1) ((both (name_byte y) (list_all name_byte b) q).1))
+
+-- the front of the array of a name
+front_is : (name : List ℕ) (k : ℕ) → length name ≤ k → k ≤ 200 → take k (filled_up name) ≡ name ++ replicate (k - length name) 0
+front_is name k long fits =
+    ap (λ i. take i (filled_up name)) (let whole : k ≡ length name + (k - length name) = omega arith in whole)
+    ∙ take-append-add name (replicate (200 - length name) 0) (k - length name)
+    ∙ ap (λ r. name ++ r) (take-replicate (k - length name) (200 - length name) 0 (omega arith))
+
+bytes_of : (name : List ℕ) → is_tube_name name ≡ true → list_all name_byte name ≡ true
+bytes_of name is =
+    (both (begins_name name && nat_le (length name) 200) (list_all name_byte name) is).1
+
+-- The arrays of two names are in the order of the names,
+pub wholes_compare : (a b bytes others : List ℕ) → bytes ≡ filled_up a → others ≡ filled_up b → is_tube_name a ≡ true → is_tube_name b ≡ true → length a ≤ 200 → length b ≤ 200
+    → slice_cmp nat_cmp bytes others ≡ slice_cmp nat_cmp a b
+wholes_compare a b bytes others is other_is named other_named long other_long =
+    ap (λ xs. slice_cmp nat_cmp xs others) is
+    ∙ ap (slice_cmp nat_cmp (filled_up a)) other_is
+    ∙ padded (200 - length a) (200 - length b) a b (omega arith) (bytes_of a named) (bytes_of b other_named)
+
+-- and so are their fronts, as far as both names go.
+pub fronts_compare : (a b bytes others : List ℕ) (k : ℕ) → bytes ≡ filled_up a → others ≡ filled_up b → is_tube_name a ≡ true → is_tube_name b ≡ true → length a ≤ k → length b ≤ k → k ≤ 200
+    → slice_cmp nat_cmp (take k bytes) (take k others) ≡ slice_cmp nat_cmp a b
+fronts_compare a b bytes others k is other_is named other_named long other_long fits =
+    ap (λ xs. slice_cmp nat_cmp (take k xs) (take k others)) is
+    ∙ ap (λ ys. slice_cmp nat_cmp (take k (filled_up a)) (take k ys)) other_is
+    ∙ ap (λ xs. slice_cmp nat_cmp xs (take k (filled_up b))) (front_is a k long fits)
+    ∙ ap (λ ys. slice_cmp nat_cmp (a ++ replicate (k - length a) 0) ys) (front_is b k other_long fits)
+    ∙ padded (k - length a) (k - length b) a b (omega arith) (bytes_of a named) (bytes_of b other_named)
