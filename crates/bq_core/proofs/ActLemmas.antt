@@ -1,4 +1,4 @@
--- What each event at a seat does, where its seat is known.
+-- What each event at a seat does, if its seat is known.
 use Rattle.std.proofs.Common.{◌++◌, ◌+◌, ◌==◌, ◌∙◌, ◌∷◌, ◌≡◌, if◌then◌else◌, Bool, List, None, Option, Some, [], ℕ, ap, append-nil, arith, false, filter, is_some, length, map, nat_le, not, refl, set, slice_get, suc}
 use Rattle.std.proofs.{Common.{sym, true, zero}, lemmas.{Bool.{and_parts, cases_Bool, eqb-true}, Grind.common_steps}, Math.Bool.or-false}
 use Rattle.std.specs.List.{list_any}
@@ -33,11 +33,11 @@ closed_connected m seat there = grind (arith, common_steps, number_found)
 pub reserve_job_done : (m : Machine) (s : SeatRecord) (seat id : ℕ) (j : Job) → s.number ≡ seat → job_with id m.jobs ≡ Some j → is_reserved j.state ≡ false → reserve_job_effect id m s ≡ telling (answers.Reserved id j.body) (with_job id (reserved_by m.moment seat) m)
 reserve_job_done m s seat id j at found free = grind (arith, common_steps, found_id)
 
--- what a put comes to that is accepted
+-- the outcome of an accepted put
 pub put_done : (m : Machine) (s : SeatRecord) (pri delay ttr : ℕ) (body tube : List ℕ) (j : Job) → s.used ≡ tube → m.draining ≡ false → is_full m.settings.max_jobs m.jobs ≡ false → j ≡ new_job m s pri delay ttr body → put_effect pri delay ttr body m s ≡ telling (answers.Inserted m.next_id) (record (with_tube tube with_put m) { jobs = m.jobs ++ j ∷ []; next_id = m.next_id + 1; puts = raised m.puts; draining = nat_le last_id m.next_id })
 put_done m s pri delay ttr body tube j used accepts free is = rw (accepts, free, is, used) refl
 
--- a tube that is watched already
+-- a tube that is already watched
 same_set : {A : Type 0} (xs : List A) (i : ℕ) (x : A) → slice_get xs i ≡ Some x → set xs i x ≡ xs
 same_set [] i x h = refl
 same_set (y ∷ xs) zero x h = let e : y ≡ x = cc in ap (λ z. z ∷ xs) (sym e)
@@ -56,7 +56,7 @@ watched_now m s seat tube found h =
     let at : s.number ≡ seat = number_found seat m.seats s found in
     rw (h, at) refl
 
--- a tube that isn't watched any more
+-- a tube that is no longer watched
 pub none_left : {A : Type 0} (p : A → Bool) (xs : List A) → list_any p xs ≡ false → filter p xs ≡ []
 none_left p [] h = refl
 none_left p (x ∷ xs) h = grind (arith, common_steps, cases_Bool, none_left p xs)
@@ -67,7 +67,7 @@ not_ignored m s tube h = rw (none_left (λ name. not (is_same_name tube name)) s
 pub ignored_now : (m : Machine) (s : SeatRecord) (seat : ℕ) (tube : List ℕ) → seat_with seat m.seats ≡ Some s → list_any (λ name. not (is_same_name tube name)) s.watched ≡ true → ignore_effect tube m s ≡ telling (answers.Watching (length (filter (λ name. not (is_same_name tube name)) s.watched))) (with_seat seat (watching (filter (λ name. not (is_same_name tube name)) s.watched)) m)
 ignored_now m s seat tube found h = grind (arith, common_steps, some_left, number_found)
 
--- the client who asks
+-- the client that asks
 pub record Asks (m : Machine) (seat : ℕ) (request : Request) : Type 0 where
   pub asker : SeatRecord
   pub found : seat_with seat m.seats ≡ Some asker
@@ -76,7 +76,7 @@ pub record Asks (m : Machine) (seat : ℕ) (request : Request) : Type 0 where
 asks_at : (m : Machine) (seat : ℕ) (request : Request) (o : Option SeatRecord) → seat_with seat m.seats ≡ o → is_asking o ≡ true → Asks m seat request
 asks_at m seat request v4 e asking = grind (arith, common_steps, cases_Bool)
 
--- who asks is connected
+-- the client that asks is connected
 pub asker_connected : (seat : ℕ) (seats : List SeatRecord) (s : SeatRecord) → seat_with seat seats ≡ Some s → is_asking (seat_with seat seats) ≡ true → s.connected ≡ true
 asker_connected seat seats s found asking = grind (arith, common_steps, and_parts)
 
@@ -96,7 +96,7 @@ some_there o h = grind (arith, common_steps)
 pub none_there : (o : Option Job) → false ≡ is_some o → o ≡ None
 none_there o h = grind (arith, common_steps)
 
--- A request of a client that may ask comes to what it is answered.
+-- The outcome of a request from a client that may make one is its answer.
 pub asked_so : (m next : Machine) (seat : ℕ) (what : Step) (request : Request) (reply : Reply) (told : Answer) → what ≡ steps.Ask request → true ≡ is_asking (seat_with seat m.seats)
     → ((s : SeatRecord) → seat_with seat m.seats ≡ Some s → Replies (takes_memory request) m (asked request m s) reply told next) → Replies (step_takes_memory what) m (effect m seat what) reply told next
 asked_so m next seat what request reply told is asking answered =

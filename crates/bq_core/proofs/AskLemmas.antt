@@ -1,4 +1,4 @@
--- Searches add up.
+-- Sums of searches.
 use Rattle.std.proofs.Common.{◌*◌, ◌+◌, ◌<◌, ◌≡◌, ◌≤◌, List, ℕ, ap, arith, get_or, length, max, refl, subst, sym, take}
 use Rattle.std.proofs.{lemmas.{Grind.common_steps, List.Sums.sum_by_more, Nat.mul-le}, Math.Nat.add-mul}
 use Rattle.std.specs.List.{sum_by}
@@ -9,12 +9,12 @@ use Rattle.bq_jobs.proofs.Counting.{digits_rise}
 use Rattle.bq_state.specs.Asking.{Asks, AsksAsChanged, AsksWithin, search_among}
 use Rattle.bq_state.proofs.{DueLemmas.warnings_walked, WaitingLemmas.turns_counted, WarningLemmas.{none_due, one_due, one_waits}}
 
--- among more jobs a search takes no less
+-- among more jobs, a search takes at least as many comparisons
 pub search_grows : (i j : ℕ) → i ≤ j → search_among i ≤ search_among j
 unfolding binary_digits
 search_grows i j l = omega (arith, digits_rise (2 * i + 2) (2 * j + 2) (2 * i + 2) (2 * j + 2) (omega arith) (omega arith))
 
--- nothing is asked
+-- no search
 pub asks_none : (k : Kept) → Asks 0 k k
 asks_none k = record { many = refl; stays = omega arith; rise = omega arith }
 
@@ -22,21 +22,22 @@ asks_none k = record { many = refl; stays = omega arith; rise = omega arith }
 pub asks_then : {n k : ℕ} {first between last : Kept} → Asks n first between → Asks k between last → Asks (n + k) first last
 asks_then {n = n} {k = k} {first = first} {between = between} {last = last} a b = grind (arith, common_steps, add-mul)
 
--- a turn of a loop that asks once for each element that passes
+-- a turn of a loop with one search for each element that passes
 pub asks_summed : {A : Type 0} (f : A → ℕ) (xs : List A) (i : ℕ) (d : A) {first between last : Kept} → i < length xs → Asks (sum_by f (take i xs)) first between → Asks (f (get_or xs i d)) between last → Asks (sum_by f (take (i + 1) xs)) first last
 asks_summed f xs i d {first = first} {last = last} fits a b = subst (λ n. Asks n first last) (sym (sum_by_more f xs i d fits)) (asks_then a b)
 
--- so many searches are no more than more of them
+-- this many searches are no more than more of them
 pub asks_more : {n : ℕ} (k : ℕ) {old new : Kept} → n ≤ k → Asks n old new → Asks k old new
 asks_more {n = n} k {old = old} l a = grind (arith, common_steps, mul-le)
 
--- whom a warning is due, and what is asked for it, by a name that an attribute can cite
+-- the client for which a warning is due, and the searches for it, under a name that an attribute
+-- can cite
 pub ruleset warnings_asked = (common_steps, asks_more, turns_counted, warnings_walked, none_due, one_due, one_waits)
 
 pub within : {n : ℕ} (k : ℕ) {old new : Kept} → n ≤ k → Asks n old new → AsksWithin k old new
 within {n = n} k {old = old} {new = new} l a = grind (arith, common_steps, mul-le, search_grows)
 
--- what is asked before the one search that adds a job or takes one out
+-- the searches before the one that adds or removes a job
 pub asked_before : (n k : ℕ) {old between new : Kept} → n + k ≤ 10 → Asks n old between → ComparesAtMost k between new → AsksAsChanged old new
 asked_before n k {old = old} {between = between} {new = new} few a b =
     let s = search_among (length old.jobs) in

@@ -1,4 +1,4 @@
--- What the parts of a step ask, in terms of the machine.
+-- The searches of the parts of a step, in terms of the machine.
 use Rattle.std.proofs.Common.{◌&&◌, ◌*◌, ◌+◌, ◌-◌, ◌<◌, ◌==◌, ◌∙◌, ◌∷◌, ◌≡◌, ◌≤◌, if◌then◌else◌, Bool, List, Some, [], ℕ, ap, arith, false, length, map, not, suc, true}
 use Rattle.std.proofs.{lemmas.{Bool.and_parts, Grind.common_steps, List.{length-append, Sums.sum_by-cons}, Nat.mul-le}, Math.Nat.suc-mul}
 use Rattle.std.specs.{List.{AllByRecursion as All, list_any, sum_by}, Prelude.{count_by, option_map}}
@@ -11,12 +11,12 @@ use Rattle.bq_jobs.proofs.Changes.{all_found}
 use Rattle.bq_state.specs.{Cost.waited_tubes, declared.job_store.JobKind.JobKind, JobKinds.is_of}
 use Rattle.bq_core.specs.{Kicking.all_kicked, Turns.Gives}
 
--- where each change makes it no more, a sum is no more
+-- if no change increases an element, the sum does not grow
 pub sum_falls : {X : Type 0} (f : X → ℕ) (g : X → X) → ((x : X) → f (g x) ≤ f x) → (xs : List X) → sum_by f (map g xs) ≤ sum_by f xs
 sum_falls f g less [] = omega arith
 sum_falls f g less (x ∷ xs) = omega (arith, sum_by-cons f (g x) (map g xs), sum_by-cons f x xs, less x, sum_falls f g less xs)
 
--- what is counted of seats falls as waits end
+-- counts over seats decrease as waits end
 module _ (f : SeatRecord → ℕ) (less : (s : SeatRecord) → f (without_wait s) ≤ f s) where
   stops : (m : Machine) (number : ℕ) → sum_by f (with_seat number without_wait m).seats ≤ sum_by f m.seats
   stops m number = sum_falls f (λ s. if s.number == number then without_wait s else s) (λ s. grind (arith, common_steps)) m.seats
@@ -41,7 +41,7 @@ waited_less s = omega arith
 pub entries_less : (seat : ℕ) (s : SeatRecord) → tubes_watched seat (without_wait s) ≤ tubes_watched seat s
 entries_less seat s = grind (arith, common_steps)
 
--- a turn that takes a waiting client away gives an answer
+-- a turn in which a waiting client stops waiting gives an answer
 pub one_longer : (Turn : Machine → GivenAnswer → Machine → Type 0) (refused : List GivenAnswer → Bool) (first last : Machine) (old new : Outbox) → Gives Turn refused first last old new → waiting_count last < waiting_count first → length old.given < length new.given
 one_longer Turn refused first last old new gives falls = grind (arith, common_steps, length-append)
 
@@ -51,11 +51,11 @@ no_shorter Turn refused first last old new gives = let long = ap length gives.ad
 pub given_length : (Turn : Machine → GivenAnswer → Machine → Type 0) (refused : List GivenAnswer → Bool) (first last : Machine) (old new : Outbox) → (gives : Gives Turn refused first last old new) → length new.given - length old.given ≡ length gives.given
 given_length Turn refused first last old new gives = let long = ap length gives.added ∙ length-append old.given gives.given in omega arith
 
--- one more turn, with no more tubes watched
+-- one more turn, with no more watched tubes
 pub one_more_turn : (n more w v : ℕ) → n < more → v ≤ w → n * (w + 9) + (v + 9) ≤ more * (w + 9)
 one_more_turn n more w v l u = omega (arith, mul-le (suc n) (w + 9) more (w + 9) (omega arith) (omega arith), suc-mul n (w + 9))
 
--- where all jobs are changed by their ids, those that pass and become others are counted
+-- if all jobs are changed by id, those that pass and become different are counted
 module _ (f : Job → Job) (keeps : (j : Job) → (f j).id ≡ j.id) (q : Job → Bool) (other : (j : Job) → q j ≡ true → is_same_job j (f j) ≡ false) where
   counted_among : (new jobs : List Job) → All (λ j. job_with j.id new ≡ Some (f j)) jobs → count_by q jobs ≤ count_by (λ j. is_gone_or_changed j (job_with j.id new)) jobs
   counted_among new [] all = omega arith
@@ -70,7 +70,7 @@ module _ (f : Job → Job) (keeps : (j : Job) → (f j).id ≡ j.id) (q : Job �
       each [] all = tt
       each (k ∷ ks) all = (job_in_map f k.id jobs keeps ∙ ap (option_map f) all.0, each ks all.1)
 
--- the jobs that a client gives back are changed
+-- the jobs that a client loses are changed
 pub given_back_changed : (state : JobState) (seat low next : ℕ) (jobs : List Job) → is_reserved state ≡ false → AreIdsWithin low jobs next → count_by (is_held_by seat) jobs ≤ changed_jobs jobs (map (given_back state seat) jobs)
 given_back_changed state seat low next jobs free ids = changed_of (given_back state seat) keeps (is_held_by seat) other low next jobs ids
   where

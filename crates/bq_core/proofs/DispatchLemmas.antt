@@ -30,7 +30,7 @@ module _ (next : ℕ) (jobs : List Job) (ids : AreIdsWithin 1 jobs next) where
   from_first x y z a b = grind (arith, nat_tests)
 
   module _ (p q : Job → Bool) where
-    -- of two that are chosen by one test each, the better one is chosen by both
+    -- of the best ones by two tests, the better one is the best by both
     first_better : (x y : Job) → first_of p is_job_before jobs ≡ Some x → first_of q is_job_before jobs ≡ Some y → (b : Bool) → is_job_before y x ≡ b → first_of (λ j. p j || q j) is_job_before jobs ≡ (if b then Some y else Some x)
     first_better x y e f true h =
         let order = pair_order (λ (j : Job). j.pri) (λ (j : Job). j.id) in
@@ -128,7 +128,7 @@ module _ (next : ℕ) (jobs : List Job) (ids : AreIdsWithin 1 jobs next) where
 pub id_of_best : (o : Option Job) → option_map (λ (r : ℕ × ℕ). r.1) (option_map (ranked (λ j. j.pri)) o) ≡ option_map (λ j. j.id) o
 id_of_best o = grind (arith, common_steps)
 
--- who waits at the tube of the next job waits for that job
+-- a client that waits for jobs of the next job's tube waits for that job
 pub waits_alike : (m : Machine) (j : Job) → next_job m ≡ Some j → (s : SeatRecord) → waits_at j.tube s ≡ is_waiting_for m j s
 waits_alike m j e s =
     let wanted = first_of_passes (λ j. list_any (is_waiting_for m j) m.seats) is_job_before m.jobs j e in
@@ -148,7 +148,7 @@ waits_alike m j e s =
       | inr more ↦ may_go seats more
     ]
 
--- who gets the next job waits at its tube, and has waited longest of those
+-- the client that gets the next job waits for jobs of its tube, and has waited longest among those
 pub seat_at_tube : (m : Machine) (j : Job) → next_job m ≡ Some j → first_of (waits_at j.tube) is_wait_before m.seats ≡ next_seat m j
 seat_at_tube m j e = grind (arith, common_steps, first_of_agrees, all_always, waits_alike)
 
@@ -158,7 +158,7 @@ some_at_tube m j e =
     let seat = next_has_seat m j e in
     sym (first_of_is_some (waits_at j.tube) is_wait_before m.seats) ∙ ap is_some (seat_at_tube m j e ∙ seat.1)
 
--- and it is known to be one that may have it
+-- it is known to be one that may have the job
 pub takers_known : (m : Machine) (stir : Stir) (j : Job) → next_job m ≡ Some j → AreKnown stir m.jobs m.seats m.tubes → All (λ s. waits_at j.tube s ≡ true → may_get stir j.tube s.number ≡ true) m.seats
 takers_known m stir j e known =
     grind (
@@ -171,7 +171,7 @@ takers_known m stir j e known =
       first_of_contains (λ j. list_any (is_waiting_for m j) m.seats) is_job_before m.jobs j e,
     )
 
--- where one client alone may have jobs, it is the first that waits at the tube
+-- if only one client may have jobs, it is the first one that waits for jobs of the tube
 pub taker_known : (asker : ℕ) (stir : Stir) (tube : List ℕ) (seats : List SeatRecord) → stir ≡ Client asker → list_any (waits_at tube) seats ≡ true
     → All (λ s. waits_at tube s ≡ true → may_get stir tube s.number ≡ true) seats → Some asker ≡ option_map (λ (s : SeatRecord). s.number) (first_of (waits_at tube) is_wait_before seats)
 taker_known asker stir tube seats is some known =
@@ -180,7 +180,7 @@ taker_known asker stir tube seats is some known =
     let at : (s.0.number == asker) ≡ true = subst (λ f. may_get f tube s.0.number ≡ true) is may in
     ap Some (sym (eqb-true s.0.number asker at)) ∙ sym (ap (option_map (λ (t : SeatRecord). t.number)) s.1)
 
--- the job of this id is the next one
+-- the job with this id is the next one
 pub next_is : (m : Machine) (id : ℕ) (x : Job) → AreIdsWithin 1 m.jobs m.next_id → Some id ≡ option_map (λ j. j.id) (next_job m) → job_with id m.jobs ≡ Some x → next_job m ≡ Some x
 next_is m id x ids first found =
     let one = chosen (λ j. list_any (is_waiting_for m j) m.seats) is_job_before 1 m.next_id m.jobs id ids first in

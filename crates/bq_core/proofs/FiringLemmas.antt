@@ -1,4 +1,4 @@
--- Timers of jobs fire one after another, and jobs are given back one after another.
+-- Timers of jobs fire one after another, and jobs are released one after another.
 use Rattle.std.proofs.Common.{◌&&◌, ◌+◌, ◌-◌, ◌<◌, ◌==◌, ◌||◌, ◌∙◌, ◌∷◌, ◌≡◌, ◌≤◌, if◌then◌else◌, Bool, List, None, Option, Some, [], ℕ, ap, arith, false, inl, inr, is_some, map, min, refl, suc, sym, true}
 use Rattle.std.proofs.lemmas.{Bool.{cases_Bool, eqb-true, Decides.nat_tests}, Grind.common_steps}
 use Rattle.std.specs.{List.{AllByRecursion as All, list_any}, Prelude.{count_by, nat_le, option_map}}
@@ -14,12 +14,12 @@ use Rattle.bq_state.specs.EndingWaits.{has_waited, is_lease_short, is_soon}
 use Rattle.bq_core.specs.Firing.{ExpiresOne, IsOne, after_giving_back, after_job_timers, is_ripe}
 use Rattle.bq_core.proofs.KickLemmas.{one_of_id}
 
--- changing one job and then all is changing all, where the second change makes up for the first
+-- changing one job and then all is changing all, if the second change subsumes the first
 absorbed : (f g : Job → Job) (id : ℕ) (jobs : List Job) → All (λ k. (k.id == id) ≡ true → f (g k) ≡ f k) jobs → map f (map (λ k. if k.id == id then g k else k) jobs) ≡ map f jobs
 absorbed f g id [] all = refl
 absorbed f g id (k ∷ jobs) all = grind (arith, common_steps, absorbed f g id jobs all.1)
 
--- one job less passes, once the one of this id is changed
+-- one job fewer passes after the one with this id has changed
 pub one_fewer : (p : Job → Bool) (g : Job → Job) (id low next : ℕ) (jobs : List Job) (j : Job) → AreIdsWithin low jobs next → job_with id jobs ≡ Some j → p j ≡ true → p (g j) ≡ false → count_by p (map (λ k. if k.id == id then g k else k) jobs) + 1 ≡ count_by p jobs
 one_fewer p g id low next [] j ids found was is = absurd cc
 one_fewer p g id low next (k ∷ jobs) j ids found was is =
@@ -29,7 +29,7 @@ as_many : (p : Job → Bool) (g : Job → Job) (id : ℕ) (jobs : List Job) → 
 as_many p g id [] all = refl
 as_many p g id (k ∷ jobs) all = grind (arith, common_steps, count_cons, as_many p g id jobs all.1)
 
--- what a job becomes whose timer has come
+-- what becomes of a job whose timer is due
 ripened : (moment : ℕ) (j : Job) → is_due moment j.state ≡ true → job_after_timers moment j ≡ in_state states.Ready j
 ripened moment j h = rw h refl
 
@@ -64,7 +64,7 @@ fewer_due m id ids one = grind (arith, common_steps, one_fewer)
 pub fewer_expired : (m : Machine) (id : ℕ) → AreIdsWithin 1 m.jobs m.next_id → IsOne (λ j. is_expired m.moment j.state) m.jobs id → count_by (is_ripe m.moment) (with_job id (job_after_timers m.moment) m).jobs < count_by (is_ripe m.moment) m.jobs
 fewer_expired m id ids one = grind (arith, common_steps, one_fewer)
 
--- no timer has come
+-- no timer is due
 pub none_fires : (m : Machine) → list_any (λ j. is_due m.moment j.state) m.jobs ≡ false → list_any (λ j. is_expired m.moment j.state) m.jobs ≡ false → record m { timeouts = grown 0 m.timeouts } ≡ after_job_timers m
 none_fires m due over =
     let f = job_after_timers m.moment in
@@ -78,7 +78,7 @@ none_fires m due over =
     stays [] a b = tt
     stays (j ∷ jobs) a b = (rw (a.0, b.0) refl, stays jobs a.1 b.1)
 
--- the first job by a number: what is known of it
+-- the first job by a number, and what is known of it
 pub record Chosen (p : Job → Bool) (before : Job → Job → Bool) (jobs : List Job) (id : ℕ) : Type 0 where
   pub job : Job
   pub first : first_of p before jobs ≡ Some job
@@ -101,7 +101,7 @@ chosen p before low next jobs id ids e = go (first_of p before jobs) refl e
           passes_is = first_of_passes p before jobs j f;
         }
 
--- the first by a number, told with that number
+-- the first job by a number, with that number
 pub record ChosenAt (p : Job → Bool) (number : Job → ℕ) (jobs : List Job) (at id : ℕ) : Type 0 where
   pub chosen_is : Chosen p (λ a b. is_pair_before (number a) a.id (number b) b.id) jobs id
   pub at_is : at ≡ number chosen_is.job
@@ -130,7 +130,7 @@ ending_is : (moment seat : ℕ) (s : JobState) → is_ending_lease moment seat s
 ending_is moment seat s = grind (arith, common_steps)
 
 module _ (p : Job → Bool) (number : Job → ℕ) (q : ℕ → Job → Bool) (q_is : (t : ℕ) (j : Job) → q t j ≡ (p j && nat_le (number j) t)) (low next : ℕ) (jobs : List Job) (ids : AreIdsWithin low jobs next) where
-  -- the first one is before the moment
+  -- the first one is due by this moment
   pub first_past : (t at id : ℕ) → Some (at, id) ≡ option_map (ranked number) (first_of p (λ a b. is_pair_before (number a) a.id (number b) b.id) jobs) → at ≤ t → IsOne (q t) jobs id
   first_past t at id e past =
       let c = chosen_at p number low next jobs at id ids e in
@@ -138,17 +138,17 @@ module _ (p : Job → Bool) (number : Job → ℕ) (q : ℕ → Job → Bool) (q
       let past_it : nat_le (number j) t ≡ true = let n = c.at_is in grind (arith, nat_tests) in
       record { job = j; found = c.chosen_is.found; passes_is = q_is t j ∙ rw (c.chosen_is.passes_is, past_it) refl }
 
-  -- the first one is after the moment
+  -- the first one is due after this moment
   pub none_past : (t at id : ℕ) → Some (at, id) ≡ option_map (ranked number) (first_of p (λ a b. is_pair_before (number a) a.id (number b) b.id) jobs) → t < at → list_any (q t) jobs ≡ false
   none_past t at id e later =
       let c = chosen_at p number low next jobs at id ids e in
       grind (arith, common_steps, list_any_not, all_weaker, cases_Bool, nat_tests)
 
-  -- there is none of the kind
+  -- there is no job of the kind
   pub none_such : (t : ℕ) → list_any p jobs ≡ false → list_any (q t) jobs ≡ false
   none_such t none = list_any_not (q t) jobs (all_weaker (λ k. p k ≡ false) (λ k. q t k ≡ false) jobs (λ k fail. q_is t k ∙ rw fail refl) (none_pass p jobs none))
 
-  -- there is none at all
+  -- there is none
   pub none_there : (t : ℕ) → None ≡ option_map (ranked number) (first_of p (λ a b. is_pair_before (number a) a.id (number b) b.id) jobs) → list_any (q t) jobs ≡ false
   none_there t e =
       let none = none_pass p jobs (first_of_none p (λ a b. is_pair_before (number a) a.id (number b) b.id) jobs (no_rank (first_of p (λ a b. is_pair_before (number a) a.id (number b) b.id) jobs) e)) in
@@ -157,7 +157,7 @@ module _ (p : Job → Bool) (number : Job → ℕ) (q : ℕ → Job → Bool) (q
       no_rank : (o : Option Job) → None ≡ option_map (ranked number) o → o ≡ None
       no_rank o h = grind (arith, common_steps)
 
--- where none passes, there is no first one
+-- if none passes, there is no first one
 none_first : (p : Job → Bool) (before : Job → Job → Bool) (number : Job → ℕ) (jobs : List Job) → list_any p jobs ≡ false
     → None ≡ option_map number (first_of p before jobs)
 none_first p before number jobs none = at (first_of p before jobs) (first_of_is_some p before jobs ∙ none)
@@ -209,7 +209,7 @@ endings_told : (seat moment : ℕ) (jobs : List Job) → list_any (λ j. is_endi
 endings_told seat moment [] = refl
 endings_told seat moment (j ∷ jobs) = rw (ending_is moment seat j.state, endings_told seat moment jobs) refl
 
--- The first of some leases tells whether one of them ends within a second.
+-- The first of some leases decides whether any of these ends within a second.
 soon_first : (p : Job → Bool) (moment : ℕ) (jobs : List Job) (found : Option (ℕ × ℕ)) → found ≡ option_map (ranked (λ j. deadline_of j.state)) (first_of p is_lease_before jobs)
     → is_soon moment found ≡ list_any (λ j. p j && nat_le (deadline_of j.state) (moment + 1000)) jobs
 soon_first p moment jobs found is = ap (is_soon moment) is ∙ go (first_of p is_lease_before jobs) refl
@@ -240,11 +240,11 @@ pub some_warned : (moment : ℕ) (jobs : List Job) (found : Option (ℕ × ℕ))
     → soon ≡ list_any (is_lease_short moment) jobs
 some_warned moment jobs found soon told is = told ∙ soon_first (λ j. is_reserved j.state) moment jobs found is
 
--- nobody waits: no wait ends
+-- no client waits: no wait ends
 pub nobody_ends : (m : Machine) → list_any is_waiting m.seats ≡ false → next_end m ≡ None
 nobody_ends m h = first_of_none_passes (ends_waiting m) is_wait_before m.seats (list_any_not (ends_waiting m) m.seats (all_weaker (λ s. is_waiting s ≡ false) (λ s. ends_waiting m s ≡ false) m.seats (λ s none. rw none refl) (none_pass is_waiting m.seats h)))
 
--- no wait is over, and no time to run ends soon
+-- no wait has timed out, and no time to run ends soon
 pub none_ends : (m : Machine) → list_any (has_waited m.moment) m.seats ≡ false → list_any (is_lease_short m.moment) m.jobs ≡ false → next_end m ≡ None
 none_ends m waited short =
     first_of_none_passes (ends_waiting m) is_wait_before m.seats (list_any_not (ends_waiting m) m.seats (all_weaker (λ s. has_waited m.moment s ≡ false) (λ s. ends_waiting m s ≡ false) m.seats (λ s none. go s (is_waiting s) none) (none_pass (has_waited m.moment) m.seats waited)))

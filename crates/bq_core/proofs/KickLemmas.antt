@@ -1,4 +1,4 @@
--- Kicking the first job of a kind again and again kicks the first ones in their order.
+-- Kicking the first job of a kind repeatedly kicks the first ones in order.
 use Rattle.std.proofs.Common.{◌&&◌, ◌+◌, ◌<◌, ◌==◌, ◌∙◌, ◌∷◌, ◌≡◌, if◌then◌else◌, Bool, List, None, Option, Some, [], ℕ, ap, arith, eq-eqb, false, filter, inl, inr, length, map, not, refl, suc, sym, take, true}
 use Rattle.std.proofs.lemmas.{Bool.{and_from, cases_Bool, eqb-true, ne_eqb, Decides.nat_tests}, Grind.common_steps}
 use Rattle.std.specs.{List.{AllByRecursion as All, Contains, list_any}, Prelude.option_map}
@@ -13,7 +13,7 @@ use Rattle.bq_state.proofs.TubeLemmas.{some_left}
 use Rattle.bq_core.specs.Kicking.{KicksFirst, all_kicked, jobs_of}
 use Rattle.bq_core.proofs.ActLemmas.{none_left}
 
--- a job is the only one of its id
+-- a job is the only one with its id
 pub one_of_id : (id low next : ℕ) (jobs : List Job) (j : Job) → AreIdsWithin low jobs next → job_with id jobs ≡ Some j → All (λ x. (x.id == id) ≡ true → x ≡ j) jobs
 one_of_id id low next [] j h found = tt
 one_of_id id low next (y ∷ jobs) j h found = elim (cases_Bool (y.id == id)) [
@@ -31,12 +31,12 @@ one_of_id id low next (y ∷ jobs) j h found = elim (cases_Bool (y.id == id)) [
     others [] all = tt
     others (x ∷ js) all = (λ e. absurd (let f : false ≡ true = sym all.0 ∙ e in cc), others js all.1)
 
--- What comes before all others stands first.
+-- What comes before all others is at the head.
 at_head : (before : Job → Job → Bool) (j : Job) (ks : List Job) → All (λ y. before y j ≡ false) ks → put_in_order before j ks ≡ j ∷ ks
 at_head before j [] all = refl
 at_head before j (k ∷ ks) all = rw all.0 refl
 
--- what is known of each job beside the first one
+-- what is known of each job other than the first one
 record Beside (before : Job → Job → Bool) (j x : Job) : Type 0 where
   not_before : before x j ≡ false
   after : (x.id == j.id) ≡ false → before j x ≡ true
@@ -50,7 +50,7 @@ all_not_before : (before : Job → Job → Bool) (j : Job) (js : List Job) → A
 all_not_before before j [] all = tt
 all_not_before before j (x ∷ js) all = (all.0.not_before, all_not_before before j js all.1)
 
--- the first one stands at the head of the order of all
+-- the first one is at the head of the ordered list
 first_ordered : (before : Job → Job → Bool) (j : Job) (low next : ℕ) (js : List Job) → AreIdsWithin low js next → All (Beside before j) js → list_any (λ x. x.id == j.id) js ≡ true → in_order before js ≡ j ∷ in_order before (filter (λ x. not (x.id == j.id)) js)
 first_ordered before j low next [] ids all here = absurd cc
 first_ordered before j low next (x ∷ js) ids all here = elim (cases_Bool (x.id == j.id)) [
@@ -64,12 +64,12 @@ first_ordered before j low next (x ∷ js) ids all here = elim (cases_Bool (x.id
       rw (other, rest, all.0.after other) refl
 ]
 
--- what is kicked is of the kind no longer
+-- a kicked job is no longer of the kind
 kicked_are_out : (p : Job → Bool) (id : ℕ) → ((k : Job) → p (kicked k) ≡ false) → (js : List Job) → filter p (map (λ k. if k.id == id then kicked k else k) js) ≡ filter (λ k. not (k.id == id)) (filter p js)
 kicked_are_out p id out [] = refl
 kicked_are_out p id out (x ∷ js) = grind (arith, common_steps, kicked_are_out p id out js)
 
--- those that are left are others
+-- the remaining jobs are others
 left_are_others : (p : Job → Bool) (id : ℕ) → ((k : Job) → p (kicked k) ≡ false) → (js : List Job) → All (λ x. (x.id == id) ≡ false) (filter p (map (λ k. if k.id == id then kicked k else k) js))
 left_are_others p id out [] = tt
 left_are_others p id out (x ∷ js) = grind (arith, common_steps, left_are_others p id out js)
@@ -107,7 +107,7 @@ some_there : (q : Job → Bool) (js : List Job) (x : Job) → Contains js x → 
 some_there q js x here pass =
     some_there_at q x.id js (list_any_with (λ y. (y.id == x.id) && q y) js x here (and_from (x.id == x.id) (q x) (eq-eqb x.id x.id refl) pass))
 
--- one of them is kicked, the first one
+-- the first one is kicked
 pub kicks_first : (kind : JobKind) (tube : List ℕ) (low next : ℕ) (jobs : List Job) (j : Job) → ((k : Job) → is_of kind tube (kicked k) ≡ false) → AreIdsWithin low jobs next → first_of (is_of kind tube) (is_before_of kind) jobs ≡ Some j → KicksFirst kind tube jobs (map (λ k. if k.id == j.id then kicked k else k) jobs)
 kicks_first kind tube low next jobs j out ids first =
     let p = is_of kind tube in
@@ -140,7 +140,7 @@ pub kickable_buried : (tube : List ℕ) (jobs : List Job) (id : ℕ) → Some id
 kickable_buried tube jobs id first =
     grind (arith, common_steps, cases_Bool, first_of_is_some (is_buried_in tube) is_buried_before jobs, some_buried, some_left)
 
--- no id, no job
+-- without an id there is no job
 pub no_id : (o : Option Job) → None ≡ option_map (λ j. j.id) o → o ≡ None
 no_id o e = grind (arith, common_steps)
 

@@ -1,4 +1,4 @@
--- What a walk over those that wait finds for them.
+-- What a walk over the waiting clients finds for them.
 use Rattle.std.proofs.{Common.{◌∙◌, ◌∷◌, ◌≡◌, List, None, Option, [], ℕ, ap, arith, refl, subst, sym}, lemmas.Grind.common_steps}
 use Rattle.std.specs.{List.sum_by, Prelude.fold}
 use Rattle.bq_job.specs.{declared.job.Job.Job, machine.{SeatRecord, TubeRecord}}
@@ -10,7 +10,7 @@ use Rattle.bq_state.proofs.{SeatPlaces.place_is_seat, WalkLemmas.{chosen, chosen
 ranks_swap : (b x y : Option (ℕ × ℕ)) → better_rank (better_rank b x) y ≡ better_rank (better_rank b y) x
 ranks_swap b x y = grind (arith, common_steps, chosen, chosen_twice, pair_order)
 
--- folds of which it is the same which comes first
+-- folds in which the order of elements does not matter
 one_later : {A B : Type 0} (g : B → A → B) → ((b : B) (x y : A) → g (g b x) y ≡ g (g b y) x) → (b : B) (y : A) (xs : List A) → fold g (g b y) xs ≡ g (fold g b xs) y
 one_later g swap b y [] = refl
 one_later g swap b y (x ∷ xs) = ap (λ c. fold g c xs) (swap b y x) ∙ one_later g swap (g b x) y xs

@@ -1,4 +1,4 @@
--- The next job, where it is known what may be had.
+-- The next job, if it is known which jobs may be had.
 use Rattle.std.proofs.Common.{◌&&◌, ◌==◌, ◌||◌, ◌∙◌, ◌∷◌, ◌≡◌, ◌≤◌, Bool, List, None, Option, Some, [], ℕ, ap, arith, false, length, not, refl, subst, sym, true}
 use Rattle.std.proofs.lemmas.{Bool.{and_parts, cases_Bool, eqb-true, or_cases, Decides.nat_tests}, Grind.common_steps}
 use Rattle.std.proofs.lemmas.List.Sums.{sum_by-cons}
@@ -11,11 +11,11 @@ use Rattle.bq_state.specs.declared.known.Stir.TheVariants.{Client, Tube}
 use Rattle.bq_state.specs.{Cost.waited_tubes, Crowds.is_waiter, Offers.{next_rank, these}, SeatChanges.AreNumbered, Stirs.{AreKnown, IsKnown}}
 use Rattle.bq_state.proofs.{StirLemmas.parts_of, TubeLemmas.same_name, WarningLemmas.none_found}
 
--- the next one is the first of those that pass, where these are the ones that are waited for
+-- the next job is the first of those that pass, if these are the ones for which a client waits
 pub rank_agrees : (m : Machine) (p : Job → Bool) → All (λ j. list_any (is_waiting_for m j) m.seats ≡ p j) m.jobs → next_rank m ≡ option_map (ranked (λ j. j.pri)) (first_of p is_job_before m.jobs)
 rank_agrees m p same = ap (option_map (ranked (λ j. j.pri))) (first_of_agrees (λ j. list_any (is_waiting_for m j) m.seats) p is_job_before m.jobs same)
 
--- of one client
+-- for one client
 pub client_waits : (m : Machine) (seat : ℕ) (o : Option SeatRecord) → AreNumbered m.seats → seat_with seat m.seats ≡ o → AreKnown (Client seat) m.jobs m.seats m.tubes
     → All (λ j. list_any (is_waiting_for m j) m.seats ≡ list_any (is_waiting_for m j) (these o)) m.jobs
 client_waits m seat None numbered found known =
@@ -48,7 +48,7 @@ some_passes p [] h = absurd cc
 some_passes p (s ∷ seats) h =
     grind (arith, common_steps, or_cases, contains_head, contains_tail, some_passes p seats)
 
--- of one tube
+-- for one tube
 pub tube_waits : (m : Machine) (name : List ℕ) (w : Bool) → list_any (is_waiter name) m.seats ≡ w → AreKnown (Tube name) m.jobs m.seats m.tubes
     → All (λ j. list_any (is_waiting_for m j) m.seats ≡ (w && (is_ready_in name j && not (is_paused name m)))) m.jobs
 tube_waits m name w waits known =
@@ -89,7 +89,7 @@ tube_waits m name w waits known =
         list_any_not (is_waiting_for m j) m.seats
         (all_from_members (λ t. is_waiting_for m j t ≡ false) m.seats (λ t c. unwanted j e t c (all_at (IsKnown (Tube name) m.tubes j) m.seats t all c) (is_waiting_for m j t) refl))
 
--- the tubes that one client watches are some of all
+-- the tubes that one client watches are among all watched tubes
 entries_within : (f : SeatRecord → ℕ) (seats : List SeatRecord) → All (λ s. f s ≤ sum_by f seats) seats
 entries_within f [] = tt
 entries_within f (s ∷ seats) = grind (arith, common_steps, sum_by-cons, all_weaker, entries_within f seats)

@@ -1,4 +1,4 @@
--- A core may go to another thread. It is said step by step, since one search through all its
+-- A core may be sent to another thread. Stated step by step, since one search through all its
 -- shelves would be too long.
 use Rattle.std.proofs.Crossing as Crossing
 use Rattle.bq_index.proofs.tree.Node.TheLaws.TheKnot as TheKnot

@@ -1,4 +1,4 @@
--- What a whole step asks of the shelves, out of its parts.
+-- The searches of a whole step, from its parts.
 use Rattle.std.proofs.{Common.{◌*◌, ◌+◌, ◌∙◌, ◌≡◌, ◌≤◌, List, None, [], ℕ, ap, arith, cond, false, length, max, subst, sym}, lemmas.Nat.mul-le, Math.Nat.add-mul}
 use Rattle.std.proofs.lemmas.Grind.{common_steps}
 use Rattle.std.specs.List.{sum_by}
@@ -25,7 +25,7 @@ serves_asking first between last old middle new d dispatched w ended none a b =
       asks = asks_more _ (omega (arith, turns, d.taken)) (asks_then a b);
     }
 
--- what is counted of seats falls as jobs are handed out and waits end
+-- counts over seats decrease as jobs are handed out and waits end
 serve_falls : (f : SeatRecord → ℕ) → ((s : SeatRecord) → f (without_wait s) ≤ f s) → (first : Machine) (handed ended : List GivenAnswer) (last : Machine) → Serves first handed ended last → sum_by f last.seats ≤ sum_by f first.seats
 serve_falls f less first handed ended last s =
     let d = s.dispatches in
@@ -34,12 +34,12 @@ serve_falls f less first handed ended last s =
     let after = ap (λ (m : Machine). sum_by f m.seats) e.forgets in
     omega (arith, handed_stop f less first handed d.end d.turns, ended_stop f less s.between ended e.end e.turns, between, after)
 
--- The parts of a step ask no more than its changes allow.
+-- The parts of a step make no more searches than its changes allow.
 bounded : (t h c g q w v x y : ℕ) → w ≤ q → v ≤ q → x ≤ q → y ≤ q + 1
     → (10 * t + 2) + (h * (w + 9) + w + v + 1) + (9 * c + 10) + (g * (x + 9) + x + y + 1) ≤ (t + h + g + c + 8) * (q + 16)
 bounded t h c g q w v x y a b d e = grind (arith, common_steps, mul-le, add-mul)
 
--- four parts, each of which asks among no more jobs than there are at most
+-- four parts, each of which searches among at most the largest number of jobs
 summed : (first fired before left last : Kept) (n k c g most : ℕ) → Asks n first fired → Asks k fired before → AsksAsChanged before left → Asks g left last
     → n + k + (9 * changed_jobs before.jobs left.jobs + 10) + g ≤ most → last.comparisons ≤ first.comparisons + most * search_among (max (length first.jobs) (length last.jobs))
 summed first fired before left last n k c g most a b d e few =

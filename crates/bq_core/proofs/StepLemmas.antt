@@ -1,4 +1,4 @@
--- A whole step out of its parts.
+-- A whole step from its parts.
 use Rattle.std.proofs.Common.{◌++◌, ◌+◌, ◌<◌, ◌||◌, ◌∙◌, ◌∷◌, ◌≡◌, if◌then◌else◌, Bool, List, None, [], ℕ, ap, arith, false, inl, inr, length, map, refl, subst, sym}
 use Rattle.std.proofs.{Common.map-id, lemmas.{Bool.Decides.nat_tests, Grind.common_steps, List.length-append}}
 use Rattle.std.proofs.{lemmas.List.Sums.count_by-le-length, Math.Bool.or-false}
@@ -25,7 +25,7 @@ agree_any p f same (x ∷ xs) = rw (same x, agree_any p f same xs) refl
 none_gone_after : (m n : Machine) → SameTubes m n → NoneIsGone m → NoneIsGone n
 none_gone_after m n same h = grind (arith, common_steps, list_all_agree)
 
--- changes of jobs that leave them in their tubes, and of seats that leave them at theirs
+-- changes of jobs that keep their tubes, and of seats that keep theirs
 changed_alike : (m : Machine) (f : Job → Job) (g : SeatRecord → SeatRecord) → ((j : Job) → (f j).tube ≡ j.tube) → ((name : List ℕ) (s : SeatRecord) → is_seated_at name (g s) ≡ is_seated_at name s) → (name : List ℕ) → is_tube name (record m { jobs = map f m.jobs; seats = map g m.seats }) ≡ is_tube name m
 changed_alike m f g in_tube at name = grind (arith, common_steps, agree_any)
 
@@ -101,7 +101,7 @@ serves_into first between last old middle new d dispatched w ended none =
 pub begins : (first fired : CoreParts) (at : ℕ) → IsLawful (machine_of first) → machine_of fired ≡ after_timers (at_moment at (machine_of first)) → forgetting (after_timers (at_moment at (machine_of first))) ≡ machine_of fired
 begins first fired at lawful fires = forgets_nothing (after_timers (at_moment at (machine_of first))) (timers_alike at (machine_of first) lawful.tubes) ∙ sym fires
 
--- at the beginning of a step there is room for an answer to each waiting client, and one more
+-- at the beginning of a step there is room for an answer to each waiting client, and for one more
 pub first_room : (first fired : CoreParts) (at : ℕ) (begun : Outbox) → IsLawful (machine_of first) → machine_of fired ≡ after_timers (at_moment at (machine_of first)) → begun.given ≡ [] → first.config.seats < begun.most → HasRoom 1 (machine_of fired) begun
 first_room first fired at begun lawful fires empty h =
     grind (
@@ -112,11 +112,11 @@ first_room first fired at begun lawful fires empty h =
       count_by-le-length is_waiting (machine_of first).seats,
     )
 
--- room for one answer more than there are waiting clients is room for those
+-- room for one more answer than there are waiting clients is enough for those
 pub less_room : (m : Machine) (o : Outbox) → HasRoom 1 m o → HasRoom 0 m o
 less_room m o h = omega arith
 
--- the parts of a step up to and with the command's own effect
+-- the parts of a step up to and including the command's own effect
 pub record Begun (first : CoreParts) (at seat : ℕ) (what : Step) (begun between asked : Outbox) (acted_state left : CoreParts) : Type 0 where
   pub fired : CoreParts
   pub served_state : CoreParts

@@ -7,20 +7,20 @@ use Rattle.bq_jobs.specs.Seen.{but_for_tube}
 use Rattle.bq_jobs.proofs.Changes.{found_id}
 use Rattle.bq_state.specs.Names.{names_of}
 
--- A text that is known tells the same of each machine that fits.
+-- A known text is the same for each matching machine.
 pub told_of : {T E M : Type 0} (r : Result T E) (x : T) (Fits : M → Type 0) (f : M → T)
     → IfOk r (λ t. t ≡ x) → ((m : M) → Fits m → x ≡ f m) → IfOk r (λ t. (m : M) → Fits m → t ≡ f m)
 told_of r x Fits f is same = grind (arith, common_steps)
 
--- a line of a number that is known
+-- a line with a known number
 pub with_number : (key : List ℕ) (p : KeyValue) (n k : ℕ) → p ≡ (key, decimal n) → n ≡ k → p ≡ key_number key k
 with_number key p n k line is = line ∙ ap (key_number key) is
 
--- a line of a word that is known
+-- a line with a known word
 pub with_word : (key : List ℕ) (p : KeyValue) (word known : List ℕ) → p ≡ (key, word) → word ≡ known → p ≡ (key, known)
 with_word key p word known line is = line ∙ ap (λ w. let pair : KeyValue = (key, w) in pair) is
 
--- The record that is found by an id is of the job that has it.
+-- The record found by an id belongs to the job with that id.
 pub id_of_row : (id : ℕ) (row : Job) (jobs : List Job) → Some (but_for_tube row) ≡ option_map but_for_tube (job_with id jobs) → id ≡ row.id
 id_of_row id row jobs same = grind (arith, common_steps, found_id)
 
@@ -28,7 +28,7 @@ lines_of : (names : List (Bor (List ℕ))) → flat_map (λ (name : Bor (List �
 lines_of [] = refl
 lines_of (name ∷ names) = ap (λ more. name_line name.now ++ more) (lines_of names)
 
--- Names in order are listed as they are.
+-- Names in order are listed unchanged.
 pub names_told : (names : List (Bor (List ℕ))) (r : Result (List ℕ) NoMemory) → is_in_order (names_of names) ≡ true → IfOk r (λ text. text ≡ codes "---\n" ++ flat_map (λ (name : Bor (List ℕ)). name_line name.now) names)
     → IfOk r (λ text. text ≡ name_list (names_of names))
 names_told names (Ok text) order is = is ∙ ap (λ lines. codes "---\n" ++ lines) (lines_of names ∙ ap (flat_map name_line) (sym (stays_fold (names_of names) [] order)))

@@ -1,4 +1,4 @@
--- A turn of dispatch or of the ends of waits, and chains of them.
+-- A turn of dispatch or of the ends of waits, and chains of turns.
 use Rattle.std.proofs.Common.{◌++◌, ◌<◌, ◌||◌, ◌∙◌, ◌∷◌, ◌≡◌, Bool, List, None, Some, [], ℕ, ap, append-nil, arith, false, get_or, length, refl, slice_get, subst, sym, true}
 use Rattle.std.proofs.{lemmas.{Grind.common_steps, List.length-append, Option.slice_get_read}, Math.Bool.{or-false, or-true}}
 use Rattle.std.proofs.lemmas.Result.{IfOk-weaker}
@@ -12,7 +12,7 @@ use Rattle.bq_steps.specs.Outbox.{Outbox}
 use Rattle.bq_state.specs.{CoreParts.machine_of, declared.core_parts.CoreParts.CoreParts}
 use Rattle.bq_core.specs.{HandOuts.{AddsHandOut, HandsOut}, Turns.{Gives, HasRoom, none_refused}, WaitEnds.AddsWaitEnd}
 
--- a hand-out takes the client away, whether the share was given or not
+-- a hand-out makes the client stop waiting, whether the reference was given or not
 hand_out_falls : (m : Machine) (j : Job) (s : SeatRecord) (g : GivenAnswer) (next : Machine) → Contains m.seats s → is_waiting s ≡ true → IsHandOut m j s g next → waiting_count next < waiting_count m
 hand_out_falls m j s g next here waits h = grind (arith, common_steps, waiting_falls)
 
@@ -31,7 +31,7 @@ one_turn m next old new j s job seat here waits adds =
       taken = omega (arith, hand_out_falls m j s g next here waits adds.hand_out);
     }
 
--- nobody waits: there is no next job
+-- no client waits: there is no next job
 unwanted_at : (m : Machine) (s : SeatRecord) (seats : List SeatRecord) (j : Job) (b : Bool) → is_waiting s ≡ b → (list_any is_waiting seats ≡ false → list_any (is_waiting_for m j) seats ≡ false) → list_any is_waiting (s ∷ seats) ≡ false → list_any (is_waiting_for m j) (s ∷ seats) ≡ false
 unwanted_at m s seats j b e rest h = grind (arith, common_steps)
 
@@ -46,16 +46,16 @@ none_wanted m (j ∷ jobs) h = rw (unwanted m m.seats j h) (none_wanted m jobs h
 pub no_next_job : (m : Machine) → list_any is_waiting m.seats ≡ false → next_job m ≡ None
 no_next_job m h = first_of_none_passes (λ j. list_any (is_waiting_for m j) m.seats) is_job_before m.jobs (none_wanted m m.jobs h)
 
--- what is told of a value that was had
+-- what holds of a value that was returned
 pub if_ok : (r : Result (List ℕ) NoMemory) (x : List ℕ) (P : List ℕ → Type 0) → r ≡ Ok x → IfOk r P → P x
 if_ok r x P e p = subst (λ z. IfOk z P) e p
 
--- the job of this id is the next one
+-- the job with this id is the next one
 module _ (st : CoreParts) (id : ℕ) (job_is : Some id ≡ option_map (λ j. j.id) (next_job (machine_of st))) where
   the_job : (j : Job) × (next_job (machine_of st) ≡ Some j) × (id ≡ j.id)
   the_job = grind (arith, common_steps)
 
-  -- and some client waits for it: the one at the seat of this number
+  -- a client waits for it: the one at the seat with this number
   module _ (number : ℕ) (seat_is : (j : Job) → next_job (machine_of st) ≡ Some j → Some number ≡ option_map (λ s. s.number) (next_seat (machine_of st) j)) where
     the_seat : (s : SeatRecord) × (next_seat (machine_of st) the_job.0 ≡ Some s) × (number ≡ s.number)
     the_seat = grind (arith, common_steps, the_job)
@@ -92,7 +92,7 @@ gives_nothing Turn refused none m o = grind (arith, common_steps, append-nil, or
 pub gives_joined : (Turn : Machine → GivenAnswer → Machine → Type 0) (refused : List GivenAnswer → Bool) → ((xs ys : List GivenAnswer) → refused (xs ++ ys) ≡ (refused xs || refused ys)) → (first middle last : Machine) (old between new : Outbox) → Gives Turn refused first middle old between → Gives Turn refused middle last between new → Gives Turn refused first last old new
 gives_joined Turn refused joined first middle last old between new a b = grind (arith, common_steps, chain_joined, length-append)
 
--- turns that take a waiting client away for each answer leave the room that there was
+-- turns in which a waiting client stops waiting for each answer keep the room that there was
 pub room_kept : (Turn : Machine → GivenAnswer → Machine → Type 0) (refused : List GivenAnswer → Bool) (more : ℕ) (first last : Machine) (old new : Outbox) → Gives Turn refused first last old new → HasRoom more first old → HasRoom more last new
 room_kept Turn refused more first last old new gives room = grind (arith, common_steps, length-append)
 
@@ -100,7 +100,7 @@ room_kept Turn refused more first last old new gives room = grind (arith, common
 pub one_end : (m next : Machine) (old new : Outbox) (s : SeatRecord) → next_end m ≡ Some s → Contains m.seats s → is_waiting s ≡ true → AddsWaitEnd m s old new next → Gives WaitEndTurn none_refused m next old new
 one_end m next old new s is here waits adds = grind (arith, common_steps, or-false, waiting_falls)
 
--- what was read at a place
+-- what was read at an index
 pub same_read : {A : Type 0} (xs : List A) (i : ℕ) (x y : A) → i < length xs → y ≡ get_or xs i y → slice_get xs i ≡ Some x → y ≡ x
 same_read xs i x y there read is = let here = slice_get_read xs (length xs) i y refl there read in cc
 

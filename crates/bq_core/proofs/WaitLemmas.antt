@@ -16,7 +16,7 @@ use Rattle.bq_state.proofs.PartsLemmas.{seat_read, some_at}
 use Rattle.bq_core.specs.{Turns.{Gives, none_refused}, WaitEnds.LooksAt}
 use Rattle.bq_core.proofs.TurnLemmas.{gives_nothing, one_end}
 
--- what a waiting client is told, by its first lease and its timeout
+-- the answer to a waiting client, by its first lease and its timeout
 pub told_soon : (m : Machine) (s : SeatRecord) → is_deadline_soon m s ≡ true → Some answers.DeadlineSoon ≡ told_at_end m s
 told_soon m s h = rw h refl
 
@@ -26,21 +26,21 @@ told_over m s h i = rw (h, i) refl
 pub told_none : (m : Machine) (s : SeatRecord) → is_deadline_soon m s ≡ false → is_timed_out m s ≡ false → None ≡ told_at_end m s
 told_none m s h i = rw (h, i) refl
 
--- who is told something is told how its wait ends, and nobody else's wait ends
+-- a client that would be answered now is one whose wait ends now, with that answer
 pub told_is : (m : Machine) (s : SeatRecord) (answer : Answer) → is_waiting s ≡ true → Some answer ≡ told_at_end m s → (ends_waiting m s ≡ true) × (answer ≡ end_of_wait m s)
 told_is m s answer waits told = grind (arith, common_steps)
 
 pub told_nothing : (m : Machine) (s : SeatRecord) → None ≡ told_at_end m s → ends_waiting m s ≡ false
 told_nothing m s told = grind (arith, common_steps)
 
--- nobody was looked at
+-- no client was checked
 pub none_looked_at : (m : Machine) → AreLookedAt m None
 none_looked_at m = all_always (λ s. ends_waiting m s ≡ true → true ≡ true) m.seats (λ s h. refl)
 
 pub all_left : (m : Machine) → left_after None m ≤ waiting_count m
 all_left m = grind (arith, common_steps, count_cons)
 
--- nobody is left: no wait ends
+-- no client is left: no wait ends
 pub none_left : (m : Machine) (last : Option (ℕ × ℕ)) → AreLookedAt m last → None ≡ first_of (waits_after last) is_wait_before m.seats → next_end m ≡ None
 none_left m last looked none =
     first_of_none_passes (ends_waiting m) is_wait_before m.seats (list_any_not (ends_waiting m) m.seats
@@ -53,7 +53,8 @@ none_left m last looked none =
     go [] a b = tt
     go (s ∷ seats) a b = (one (is_waiting s) (is_deadline_soon m s || is_timed_out m s) (is_after last s) a.0 b.0, go seats a.1 b.1)
 
--- fewer pass, where each change lets nobody pass that didn't, and one no longer
+-- the count falls if each change makes no element pass that did not, and one element no longer
+-- passes
 no_more : (p q : SeatRecord → Bool) (f : SeatRecord → SeatRecord) (xs : List SeatRecord) → All (λ x. q (f x) ≡ true → p x ≡ true) xs → count_by q (map f xs) ≤ count_by p xs
 no_more p q f [] w = omega arith
 no_more p q f (x ∷ xs) w = rw (count_cons q (f x) (map f xs), count_cons p x xs) (omega (arith, one_or_none (p x) (q (f x)) w.0, no_more p q f xs w.1))
@@ -66,7 +67,7 @@ fewer p q f (x ∷ xs) w h = grind (arith, common_steps, count_cons, no_more, fe
 pair_alone : (a i : ℕ) → is_pair_before a i a i ≡ false
 pair_alone a i = grind (arith, nat_tests)
 
--- the next one that is looked at
+-- the next client that is checked
 module _ (st : CoreParts) (last : Option (ℕ × ℕ)) (looked : AreLookedAt (machine_of st) last) (k : ℕ) (there : k < length st.seats.items) (found : slice_get st.seats.items k ≡ first_of (waits_after last) is_wait_before st.seats.items) where
   pub s : SeatRecord
   s = (some_at st.seats.items k there).0
@@ -93,7 +94,7 @@ module _ (st : CoreParts) (last : Option (ℕ × ℕ)) (looked : AreLookedAt (ma
   only : All (λ t. t.number ≡ k → t ≡ s) st.seats.items
   only = only_seat 0 (length st.seats.items) k st.seats.items s st.sound.numbered (seat_read st.seats.items k s st.sound.numbered here)
 
-  -- whose wait ends now is still to be looked at
+  -- a client whose wait ends now is still to be checked
   is_left : (t : SeatRecord) → Contains st.seats.items t → ends_waiting (machine_of st) t ≡ true → waits_after last t ≡ true
   is_left t c e = grind (arith, common_steps, and_parts, all_at)
 

@@ -1,4 +1,4 @@
--- The tubes that the clients watch who wait, as commands change the seats.
+-- The tubes that waiting clients watch, as commands change the seats.
 use Rattle.std.proofs.{Common.{◌∙◌, ◌∷◌, ◌≡◌, ◌≤◌, List, [], ℕ, arith, false, length, map, subst, true}, lemmas.{Bool.eqb-true, Grind.common_steps, List.Sums.sum_by-cons}}
 use Rattle.std.specs.{List.{AllByRecursion as All, sum_by}, Prelude.count_by}
 use Rattle.bq_job.specs.declared.{request.Request.Request, step.Step.Step}
@@ -20,11 +20,11 @@ sum_of_map f g h (x ∷ xs) all = omega (arith, sum_by-cons f (h x) (map h xs), 
 one_seat : (number : ℕ) (s : SeatRecord) → waited_tubes s ≤ tubes_watched number s
 one_seat number s = grind (arith, common_steps)
 
--- who waits is among those that wait or sit at the seat
+-- a waiting client is among those that wait or are at the seat
 pub waited_few : (number : ℕ) (m : Machine) → waited m ≤ watched_tubes number m
 waited_few number m = sum_no_more waited_tubes (tubes_watched number) m.seats (all_always (λ s. waited_tubes s ≤ tubes_watched number s) m.seats (one_seat number))
 
--- a change of one seat that lets no more be waited for than was watched there
+-- a change of one seat after which no more tubes are waited for than were watched there
 with_seat_few : (number : ℕ) (f : SeatRecord → SeatRecord) (m : Machine) → All (λ s. s.number ≡ number → waited_tubes (f s) ≤ length s.watched) m.seats → waited (with_seat number f m) ≤ watched_tubes number m
 with_seat_few number f m less = grind (arith, common_steps, sum_of_map, all_weaker, eqb-true)
 
@@ -39,7 +39,8 @@ alone_at : (m : Machine) (seat : ℕ) (s : SeatRecord) → map (λ s. s.number) 
 alone_at m seat s seated is =
     all_weaker (λ t. t.number ≡ seat → t ≡ s) (λ t. t.number ≡ s.number → t ≡ s) m.seats (λ t only i. only (i ∙ is.number)) (only_seat 0 m.settings.seats seat m.seats s seated is.found)
 
--- After the command's own effect, who waits is one that waited before it or the one that asked.
+-- After the command's own effect, a waiting client is one that waited before it or the one that
+-- asked.
 pub acted_few : (memory : Memory) (m : Machine) (seat : ℕ) (what : Step) → map (λ s. s.number) m.seats ≡ numbers 0 m.settings.seats → waited (acted memory m seat what).machine ≤ watched_tubes seat m
 acted_few memory m seat what seated = each_acted m seat (λ what e. waited e.machine ≤ watched_tubes seat m) (record {
   nothing = λ what. waited_few seat m;

@@ -5,15 +5,15 @@ use Rattle.bq_job.specs.machine.{Effect, Memory, acted, addressed, is_growth_ref
 use Rattle.bq_steps.specs.Outbox.{Outbox}
 use Rattle.bq_core.specs.declared.acts.Reply.{Reply, TheVariants.{LeftOut, Silent, Told, Unshared}}
 
--- What a request came to: it had this effect, with the answer that was told, or it takes memory and was left out because a growth was
--- refused, or it would show a body, of which one more owner was refused.
+-- The outcome of a request. It had this effect, with this answer; or it allocates and was skipped
+-- because an allocation failed; or it would show a body, to which a reference was refused.
 abbrev pub Replies : Bool → Machine → Effect → Reply → Answer → Machine → Type 0
 Replies takes m e Silent told next = e ≡ record { machine = next; answer = None }
 Replies takes m e Told told next = e ≡ record { machine = next; answer = Some told }
 Replies takes m e LeftOut told next = (next ≡ m) × IsTrue (takes && may_be_left_out e.answer)
 Replies takes m e Unshared told next = (next ≡ m) × IsTrue (shares_body e.answer)
 
--- The command's own effect was carried out, and its answer added.
+-- The command's own effect was carried out, and its answer appended.
 pub record Acts (m : Machine) (seat : ℕ) (what : Step) (old new : Outbox) (last : Machine) : Type 0 where
   pub memory : Memory
   pub possible : IsTrue (is_possible memory m seat what)

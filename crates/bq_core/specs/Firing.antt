@@ -4,7 +4,7 @@ use Rattle.bq_job.specs.declared.job.{Job.Job, JobState.JobState}
 use Rattle.bq_job.specs.machine.{given_back, grown, is_due, is_expired, job_after_timers, job_with, tube_after_timers, with_job, Machine.Machine}
 use Rattle.bq_state.specs.{CoreParts.machine_of, declared.core_parts.CoreParts.CoreParts}
 
--- the machine once all timers of jobs have fired
+-- the machine after all timers of jobs have fired
 abbrev pub after_job_timers : Machine → Machine
 after_job_timers m = record m {
   jobs = map (job_after_timers m.moment) m.jobs;
@@ -15,7 +15,7 @@ after_job_timers m = record m {
 abbrev pub HaveFired : CoreParts → CoreParts → Type 0
 HaveFired old new = machine_of new ≡ after_job_timers (machine_of old)
 
--- a timer of the job has come
+-- a timer of the job is due
 abbrev pub is_ripe : ℕ → Job → Bool
 is_ripe moment j = is_due moment j.state || is_expired moment j.state
 
@@ -23,25 +23,25 @@ is_ripe moment j = is_due moment j.state || is_expired moment j.state
 abbrev pub is_some_due : Machine → Bool
 is_some_due m = list_any (λ j. is_due m.moment j.state) m.jobs
 
--- the time to run of some reserved job is over
+-- the time to run of some reserved job has expired
 abbrev pub is_some_expired : Machine → Bool
 is_some_expired m = list_any (λ j. is_expired m.moment j.state) m.jobs
 
--- the machine once pauses have ended
+-- the machine after pauses have ended
 abbrev pub with_pauses_ended : Machine → Machine
 with_pauses_ended m = record m { tubes = map (tube_after_timers m.moment) m.tubes }
 
--- the machine once the client at the seat has given back all that it holds, which then stands so
+-- the machine after all jobs that the client at the seat holds were brought into this state
 abbrev pub after_giving_back : JobState → ℕ → Machine → Machine
 after_giving_back state seat m = record m { jobs = map (given_back state seat) m.jobs }
 
--- There is a job of this id, and it passes.
+-- There is a job with this id, and it passes.
 pub record IsOne (passes : Job → Bool) (jobs : List Job) (id : ℕ) : Type 0 where
   pub job : Job
   pub found : job_with id jobs ≡ Some job
   pub passes_is : IsTrue (passes job)
 
--- One reservation ended, whose time to run was over.
+-- One reservation ended, because its time to run had expired.
 pub record ExpiresOne (old new : Machine) : Type 0 where
   pub id : ℕ
   pub one : IsOne (λ j. is_expired old.moment j.state) old.jobs id

@@ -1,10 +1,10 @@
--- The numbers that statistics tell are those of the machine.
+-- The numbers in statistics are those of the machine.
 use Rattle.std.specs.Prelude.{◌≡◌, List, ℕ, count_by, length}
 use Rattle.bq_job.specs.machine.{is_waiting, jobs_in, tube_record, tubes, using_count, waiting_clients_of, watching_count, Machine.Machine}
 use Rattle.bq_state.specs.Tallies.{tally_of}
 use Rattle.bq_core.specs.declared.texts.statistics.{ServerNumbers.ServerNumbers, TubeNumbers.TubeNumbers}
 
--- the numbers of the tube of this name
+-- the numbers of the tube with this name
 pub record AreOfTube (n : TubeNumbers) (name : List ℕ) (m : Machine) : Type 0 where
   pub jobs : n.jobs ≡ tally_of (jobs_in name m)
   pub puts : n.puts ≡ (tube_record name m).puts

@@ -1,4 +1,4 @@
--- What commands come to, between the states before and after.
+-- The outcomes of commands, between the states before and after.
 use Rattle.std.specs.Prelude.{◌≡◌, Bool, Option, ℕ}
 use Rattle.bq_job.specs.declared.answer.Answer.{Answer}
 use Rattle.bq_job.specs.machine.{Effect, SeatRecord, reserve_effect, showing, silent, telling, Machine.Machine}
@@ -6,19 +6,19 @@ use Rattle.bq_state.specs.declared.{core_parts.CoreParts.CoreParts, job_store.Jo
 use Rattle.bq_state.specs.{CoreParts.{AtSeat, machine_of}, JobKinds.first_of_kind}
 use Rattle.bq_core.specs.{Acting.Replies, declared.acts.Reply.Reply}
 
--- a request came to this reply
+-- a request had this outcome
 abbrev pub RepliesBy : Bool → (Machine → Effect) → CoreParts → Reply → Answer → CoreParts → Type 0
 RepliesBy takes effect old reply told new = Replies takes (machine_of old) (effect (machine_of old)) reply told (machine_of new)
 
--- a request of the client at this seat, of whose record this is so
+-- a request of the client at this seat, for whose record this holds
 abbrev pub RepliesAt : ℕ → Bool → (Machine → SeatRecord → Effect) → CoreParts → Reply → Answer → CoreParts → Type 0
 RepliesAt seat takes effect old reply told new = AtSeat seat old (λ s. RepliesBy takes (λ m. effect m s) old reply told new)
 
--- the same of any record of this number
+-- the same for any record with this number
 abbrev pub RepliesTo : ℕ → Bool → (Machine → SeatRecord → Effect) → CoreParts → Reply → Answer → CoreParts → Type 0
 RepliesTo seat takes effect old reply told new = (s : SeatRecord) → s.number ≡ seat → RepliesBy takes (λ m. effect m s) old reply told new
 
--- and where the request is always answered
+-- the same if the request is always answered
 abbrev pub AnswersTo : ℕ → (Machine → SeatRecord → Effect) → CoreParts → Answer → CoreParts → Type 0
 AnswersTo seat effect old answer new =
     (s : SeatRecord) → s.number ≡ seat → effect (machine_of old) s ≡ telling answer (machine_of new)

@@ -1,4 +1,4 @@
--- Dispatch, and then the ends of waits, with their answers added.
+-- Dispatch, and then the ends of waits, with their answers appended.
 use Rattle.std.specs.{List.list_all, Prelude.{◌*◌, ◌++◌, ◌+◌, ◌||◌, ◌≡◌, IsTrue, List, None, Option, ℕ, length}}
 use Rattle.bq_job.specs.declared.step.Step.{Step}
 use Rattle.bq_job.specs.{beside.waiting_count, machine.{GivenAnswer, Serves, has_refused_share, is_tube, Machine.Machine}}
@@ -7,11 +7,11 @@ use Rattle.bq_steps.specs.{Cost.IsStepWithin, Outbox.{Outbox, outcome_of}}
 use Rattle.bq_state.specs.{Asking.Asks, CoreParts.machine_of, Cost.waited, declared.core_parts.CoreParts.CoreParts}
 use Rattle.bq_core.specs.Turns.{HasRoom}
 
--- there was no next one, and nothing happened
+-- there was no next turn, and nothing happened
 abbrev pub IsLastTurn : {A : Type 0} → Option A → CoreParts → CoreParts → Outbox → Outbox → Type 0
 IsLastTurn next old new outs more = (next ≡ None) × (machine_of new ≡ machine_of old) × (more ≡ outs)
 
--- The machine keeps nothing of tubes that are gone.
+-- The machine keeps no records of tubes that do not exist.
 abbrev pub NoneIsGone : Machine → Type 0
 NoneIsGone m = IsTrue (list_all (λ t. is_tube t.name m) m.tubes)
 
@@ -26,8 +26,9 @@ pub record ServesInto (first : Machine) (old new : Outbox) (last : Machine) : Ty
   pub tubes : NoneIsGone last
   pub room : (more : ℕ) → HasRoom more first old → HasRoom more last new
 
--- The same, and how often the jobs were asked: for each job that was handed out as often as the waiting clients
--- watch tubes, and nine times more; once as often as they watch tubes, and once for each of them.
+-- The same, and how many searches it took: for each job that was handed out, one for each tube that
+-- waiting clients watch, and nine more; besides, one for each tube that they watch, and one for
+-- each of them.
 pub record ServesAsking (first : Machine) (old new : Outbox) (last : Machine) (before after : Kept) : Type 0 where
   pub serves : ServesInto first old new last
   pub asks : Asks (length serves.handed * (waited first + 9) + waited first + waiting_count first + 1) before after

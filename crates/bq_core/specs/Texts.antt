@@ -3,7 +3,7 @@ use Rattle.std.specs.Prelude.{◌^◌, ◌≡◌, ◌≤◌, List, None, Option,
 use Rattle.bq_job.specs.{declared.job.Job.Job, machine.{job_statistics, Machine.Machine}}
 use Rattle.bq_core.specs.declared.texts.key_value.Value.{Value, TheVariants.{Number, Word}}
 
--- a text that is being written: the bytes so far, and how many more there is room for
+-- a text that is being written: the bytes so far, and for how many more there is room
 pub record TextSoFar : Type 0 where
   pub bytes : List ℕ
   pub room : ℕ
@@ -12,7 +12,7 @@ abbrev pub value_text : Value → List ℕ
 value_text (Number n) = decimal n
 value_text (Word word) = word.now
 
--- The bytes are so many, or more than a number of 64 bits can tell.
+-- The bytes have this length, or one of 2^64 or more.
 abbrev pub IsSizeOf : List ℕ → Option ℕ → Type 0
 IsSizeOf bytes None = 2 ^ 64 ≤ length bytes
 IsSizeOf bytes (Some size) = size ≡ length bytes

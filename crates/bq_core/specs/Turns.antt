@@ -1,10 +1,11 @@
--- What dispatch and the ends of waits add to the answers.
+-- What dispatch and the ends of waits append to the answers.
 use Rattle.std.specs.Prelude.{◌++◌, ◌+◌, ◌||◌, ◌≡◌, ◌≤◌, Bool, List, ℕ, false, length}
 use Rattle.bq_job.specs.{beside.waiting_count, machine.{Chain, GivenAnswer, Machine.Machine}}
 use Rattle.bq_steps.specs.Outbox.{Outbox}
 
--- Turns of this kind led from the first machine to the last, and their answers were added. What they mean
--- for the mark of refused shares is told by refused. Each took a waiting client away.
+-- Turns of this kind led from the first machine to the last, and their answers were appended.
+-- `refused` says what they mean for the mark of refused references. Each made a waiting client stop
+-- waiting.
 pub record Gives (Turn : Machine → GivenAnswer → Machine → Type 0) (refused : List GivenAnswer → Bool)
     (first last : Machine) (old new : Outbox) : Type 0 where
   pub given : List GivenAnswer
@@ -15,10 +16,10 @@ pub record Gives (Turn : Machine → GivenAnswer → Machine → Type 0) (refuse
   pub unshared : new.unshared ≡ (old.unshared || refused given)
   pub taken : waiting_count last + length given ≤ waiting_count first
 
--- the ends of waits refuse no share
+-- the ends of waits refuse no reference
 abbrev pub none_refused : List GivenAnswer → Bool
 none_refused given = false
 
--- there is room for an answer to each waiting client, and for so many more
+-- there is room for an answer to each waiting client, and for `more` besides
 abbrev pub HasRoom : ℕ → Machine → Outbox → Type 0
 HasRoom more m outs = waiting_count m + length outs.given + more ≤ outs.most

@@ -4,7 +4,7 @@ use Rattle.bq_job.specs.declared.answer.Answer.{Answer}
 use Rattle.bq_job.specs.machine.{SeatRecord, end_of_wait, ends_waiting, is_waiting, with_seat, without_wait, Machine.Machine}
 use Rattle.bq_steps.specs.Outbox.{Outbox}
 
--- the wait of this client ended, and it was told so
+-- the wait of this client ended, and it was answered
 pub record AddsWaitEnd (m : Machine) (s : SeatRecord) (old new : Outbox) (last : Machine) : Type 0 where
   pub ended : last ≡ with_seat s.number without_wait m
   pub added : new ≡ record old { given = old.given ++ (s.number, end_of_wait m s) ∷ [] }
@@ -19,12 +19,12 @@ pub record IsAsBefore (m : Machine) (old new : Outbox) (last : Machine) : Type 0
   pub machine : last ≡ m
   pub outs : new ≡ old
 
--- what becomes of a waiting client that is looked at
+-- what happens to a waiting client that is checked
 pub record IsLookedAt (m : Machine) (s : SeatRecord) (old new : Outbox) (last : Machine) : Type 0 where
   pub ends : ends_waiting m s ≡ true → AddsWaitEnd m s old new last
   pub stays : ends_waiting m s ≡ false → IsAsBefore m old new last
 
--- the client at place k, if it waits, was looked at
+-- the client at place k was checked, if it waits
 abbrev pub LooksAt : Machine → ℕ → Outbox → Outbox → Machine → Type 0
 LooksAt m k old new last =
     (s : SeatRecord) → slice_get m.seats k ≡ Some s → is_waiting s ≡ true → IsLookedAt m s old new last

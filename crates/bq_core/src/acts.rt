@@ -1,4 +1,4 @@
-//! The command's own effect, by its kind, and its answer.
+//! The command's own effect, by kind, and its answer.
 ghost use Rattle.std.specs.Prelude.{◌≡◌, true};
 ghost use Rattle.bq_job.specs.machine.Asked.{asked, effect, refusal_answer as answer_of_refusal};
 ghost use Rattle.bq_job.specs.machine.Changes.{seat_with};
@@ -68,9 +68,9 @@ fn refusal_answer(why: Refusal) -> Answer
     }
 }
 
-// Carries a request out that an open seat may ask. A call fills all the room of its large values with zeros before it
-// begins, whichever way it goes. So commands that need a name or a job as a value of their own are never written out here
-// (`inline(never)`).
+// Carries out a request that a connected client may make. A call initializes the room for all its
+// large values before it begins, whichever branch it takes. So commands that need a name or a job
+// by value are kept in functions of their own (`inline(never)`).
 fn answer(
     state: &mut CoreParts,
     alloc: Global,
@@ -186,7 +186,7 @@ fn reply_to(
     }
 }
 
-/// Carries out the command's own effect, and adds its answer.
+/// Carries out the command's own effect, and appends its answer.
 #[tactic(auto, using(crate::proofs::ActLemmas::acts_silent, crate::proofs::ActLemmas::acts_told))]
 pub(crate) fn act(state: &mut CoreParts, alloc: Global, seat: Seat, what: &Step, outs: &mut Outs)
     requires room { HasRoom 1 (machine_of state.old) outs.old }
@@ -209,14 +209,14 @@ pub(crate) fn act(state: &mut CoreParts, alloc: Global, seat: Seat, what: &Step,
     }
 }
 
-/// What a request comes to. An answer that is told lies in the place that went along: it can hold a
-/// tube's name, so it isn't moved on the way.
+/// The outcome of a request. An answer is written to the `told` argument, because it may contain a
+/// tube's name, which would have to be copied.
 #[derive(Clone, Copy)]
 pub(crate) enum Reply {
     Silent,
     Told,
-    /// A growth was refused, and nothing was changed.
+    /// An allocation failed, and nothing was changed.
     LeftOut,
-    /// One more owner of a body was refused, and nothing was changed.
+    /// A reference to a body was refused, and nothing was changed.
     Unshared,
 }

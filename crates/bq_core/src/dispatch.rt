@@ -1,4 +1,4 @@
-//! Ready jobs go to the clients that wait for them.
+//! Hands ready jobs out to the clients that wait for them.
 ghost use Rattle.std.specs.Prelude.{◌≡◌, ◌<◌, ◌+◌, ◌++◌, ◌∷◌, [], None, Some, true, false, IfSome, IfOk};
 ghost use Rattle.std.specs.Prelude.{fold, if◌then◌else◌, is_some, length};
 ghost use Rattle.std.specs.List.{AllByRecursion, list_any, sum_by};
@@ -31,10 +31,10 @@ use bq_state::tubes::Tubes;
 use bq_state::{changes, seats};
 use bq_steps::Outs;
 
-/// A ready job, by its priority and its id.
+/// A ready job, as its priority and its id.
 type Offer = (u64, JobId);
 
-// Of two ready jobs, the one that goes first.
+// Returns the one of two ready jobs that goes first.
 fn better(best: Option<Offer>, other: Option<Offer>) -> Option<Offer>
     ensures { result ≡ better_rank best other }
 {
@@ -51,7 +51,7 @@ fn better(best: Option<Offer>, other: Option<Offer>) -> Option<Offer>
     }
 }
 
-// The most urgent ready job of the tube, unless it is paused.
+// Returns the most urgent ready job in the tube, unless the tube is paused.
 fn offer_of(jobs: &mut NumberedJobs, tubes: &Tubes, tube: &TubeName) -> Option<Offer>
     ensures offer { result ≡ offered jobs.old.jobs tubes.now.entries tube.now }
     ensures same { jobs.new ≡ record jobs.old { comparisons = jobs.new.comparisons } }
@@ -64,7 +64,7 @@ fn offer_of(jobs: &mut NumberedJobs, tubes: &Tubes, tube: &TubeName) -> Option<O
     }
 }
 
-// The best of this job and those that the tubes of these names offer.
+// Returns the best of this job and those that the tubes with these names offer.
 fn best_among(
     jobs: &mut NumberedJobs,
     tubes: &Tubes,
@@ -82,7 +82,7 @@ fn best_among(
     best
 }
 
-// The best of this job and those that the client waits for.
+// Returns the best of this job and those that the client waits for.
 fn best_for(
     jobs: &mut NumberedJobs,
     tubes: &Tubes,
@@ -100,7 +100,8 @@ fn best_for(
     }
 }
 
-// The most urgent ready job of the tube, unless it is paused or nobody waits at it.
+// Returns the most urgent ready job in the tube, unless the tube is paused or no client waits for
+// its jobs.
 fn offer_to(jobs: &mut NumberedJobs, tubes: &Tubes, tube: &TubeName) -> Option<Offer>
     ensures offer { result
         ≡ (if is_waited_at tube.now tubes.now
@@ -115,7 +116,8 @@ fn offer_to(jobs: &mut NumberedJobs, tubes: &Tubes, tube: &TubeName) -> Option<O
     }
 }
 
-// The best of this job and those that the client at this seat waits for, if there is one.
+// Returns the best of this job and those that the client at this seat waits for, if there is a
+// client.
 #[tactic(auto, using(crate::proofs::AskLemmas::asks_more, crate::proofs::AskLemmas::asks_none))]
 fn best_of_client(
     jobs: &mut NumberedJobs,
@@ -137,7 +139,7 @@ fn best_of_client(
     }
 }
 
-// The best of the jobs that the clients of these turns wait for.
+// Returns the best of the jobs that the clients of these turns wait for.
 #[tactic(auto, using(crate::proofs::AskLemmas::asks_summed, bq_state::proofs::LoopLemmas::folded_beside))]
 fn best_of_turns(
     jobs: &mut NumberedJobs,
@@ -158,7 +160,7 @@ fn best_of_turns(
     best
 }
 
-// The best of the jobs that waiting clients may have. Only who waits is looked at.
+// Returns the best of the jobs that waiting clients may have. Only waiting clients are checked.
 #[tactic(auto, using(crate::proofs::OfferLemmas::asks_walked, crate::proofs::OfferLemmas::offers_walked))]
 fn best_offer(
     jobs: &mut NumberedJobs,
@@ -175,7 +177,7 @@ fn best_offer(
     best_of_turns(jobs, tubes, seats, turns)
 }
 
-// The job that is handed out next. Only what may be had is looked at.
+// Returns the job that is handed out next. Only jobs that may have become available are checked.
 fn next_offer(state: &mut CoreParts) -> Option<Offer>
     ensures next { result ≡ next_rank (machine_of state.old) }
     ensures kept { Looks (waited (machine_of state.old)) state.old state.new }
@@ -199,7 +201,7 @@ fn next_offer(state: &mut CoreParts) -> Option<Offer>
     }
 }
 
-// The id of the job that is handed out next.
+// Returns the id of the job that is handed out next.
 #[tactic(auto, using(crate::proofs::DispatchLemmas::id_of_best))]
 fn next_job(state: &mut CoreParts) -> Option<JobId>
     ensures id { result ≡ option_map (λ j. j.id) (next_job (machine_of state.old)) }
@@ -211,8 +213,9 @@ fn next_job(state: &mut CoreParts) -> Option<JobId>
     }
 }
 
-// The client that has waited longest at the tube of the next job, and one more owner of the job's body, unless it is
-// refused. It is out of line, since it makes room for the tube's name.
+// Returns the client that has waited longest for jobs of the next job's tube, and another reference
+// to the job's body, unless that is refused. Not inlined, because it reserves room for the tube's
+// name.
 #[inline(never)]
 fn pick_at_tube(state: &mut CoreParts, id: JobId) -> Option<(Seat, Result<Body, NoMemory>)>
     requires next { Some id ≡ option_map (λ j. j.id) (next_job (machine_of state.old)) }
@@ -226,8 +229,9 @@ fn pick_at_tube(state: &mut CoreParts, id: JobId) -> Option<(Seat, Result<Body, 
     Some((seat, shared))
 }
 
-// The client that gets the next job, and one more owner of the job's body, unless it is refused. Where one client alone
-// may have any job, it is that one, and neither the others nor the job's tube are looked at.
+// Returns the client that gets the next job, and another reference to the job's body, unless that
+// is refused. If only one client may have any job, it is that one, and neither the other clients
+// nor the job's tube are checked.
 fn pick(state: &mut CoreParts, id: JobId) -> Option<(Seat, Result<Body, NoMemory>)>
     requires next { Some id ≡ option_map (λ j. j.id) (next_job (machine_of state.old)) }
     ensures some { is_some result ≡ true }
@@ -245,7 +249,7 @@ fn pick(state: &mut CoreParts, id: JobId) -> Option<(Seat, Result<Body, NoMemory
     }
 }
 
-// The client at the seat gets the job, with this share of its body.
+// The client at the seat gets the job, with this reference to its body.
 fn give(state: &mut CoreParts, outs: &mut Outs, number: Seat, id: JobId, body: Body)
     requires room { length outs.old.given < outs.old.most }
     ensures after { machine_of state.new ≡ handed_to number id (machine_of state.old) }
@@ -254,13 +258,13 @@ fn give(state: &mut CoreParts, outs: &mut Outs, number: Seat, id: JobId, body: B
     ensures asks { Asks 8 state.old.jobs state.new.jobs }
 {
     let change = JobChange::HandOut(number, state.moment);
-    // Nobody comes to hold a job while waiting.
+    // First, because no client holds a job while it waits.
     changes::change_seat(state, number, &SeatChange::StopWaiting);
     changes::change_job(state, id, &change);
     outs.push(number, Answer::Reserved(id, body));
 }
 
-// One more owner of the body was refused: the client is told so, and waits no longer.
+// A reference to the body was refused: the client is answered OUT_OF_MEMORY, and no longer waits.
 fn refuse(state: &mut CoreParts, outs: &mut Outs, number: Seat)
     requires room { length outs.old.given < outs.old.most }
     ensures after { machine_of state.new ≡ with_seat number without_wait (machine_of state.old) }
@@ -277,7 +281,7 @@ fn refuse(state: &mut CoreParts, outs: &mut Outs, number: Seat)
     outs.push(number, Answer::OutOfMemory);
 }
 
-// The job of this id goes to the client at the seat, unless the share of its body was refused.
+// Hands the job out to the client at the seat, unless the reference to its body was refused.
 #[tactic(auto, using(crate::proofs::TurnLemmas::shared_given, crate::proofs::TurnLemmas::refused_given))]
 fn hand_out(
     state: &mut CoreParts,
@@ -323,9 +327,9 @@ fn turn(state: &mut CoreParts, outs: &mut Outs) -> bool
     true
 }
 
-// While some waiting client may have a ready job, the least of them goes to the client that has
-// waited longest. It is out of line: it makes room for a name, which a call fills, and mostly nobody may
-// have a job.
+// While a waiting client may have a ready job, hands the least such job out to the client that has
+// waited longest. Not inlined, because it reserves and initializes room for a name, and usually no
+// client may have a job.
 #[inline(never)]
 fn dispatch_all(state: &mut CoreParts, outs: &mut Outs)
     requires room { HasRoom 0 (machine_of state.old) outs.old }
@@ -338,8 +342,8 @@ fn dispatch_all(state: &mut CoreParts, outs: &mut Outs)
     while turn(state, outs) {}
 }
 
-/// While some waiting client may have a ready job, the least of them goes to the client that has
-/// waited longest. Where it is known that nobody may have one, none is looked for.
+/// While a waiting client may have a ready job, hands the least such job out to the client that has
+/// waited longest. If it is known that no client may have one, nothing is searched.
 #[tactic(auto, using(crate::proofs::IdleLemmas::is_sound, crate::proofs::IdleLemmas::none_next, crate::proofs::TurnLemmas::gives_nothing))]
 pub(crate) fn dispatch(state: &mut CoreParts, outs: &mut Outs)
     requires room { HasRoom 0 (machine_of state.old) outs.old }

@@ -22,10 +22,11 @@ use bq_state::seats::SeatChange;
 use bq_state::{changes, job_store, seats};
 use std::alloc::Global;
 
-// The last id that is given: with it the core begins to drain, so that the next id always fits.
+// The last id that is given out. The put that gets it makes the core drain, so the next id always
+// fits.
 const LAST_ID: JobId = u64::MAX - 1;
 
-/// A new job, as its client wants it, but for its body.
+/// A new job, as its client wants it, without its body.
 #[derive(Clone, Copy)]
 pub(crate) struct NewJob {
     pub(crate) pri: Pri,
@@ -33,14 +34,14 @@ pub(crate) struct NewJob {
     pub(crate) ttr: u32,
 }
 
-/// What a released job gets.
+/// The new values of a released job.
 #[derive(Clone, Copy)]
 pub(crate) struct NewTurn {
     pub(crate) pri: Pri,
     pub(crate) delay: u32,
 }
 
-// The job that a put makes; its time to run is at least a second.
+// Returns the job that a put makes; its time to run is at least one second.
 fn new_job(state: &CoreParts, tube: &TubeName, new: NewJob, body: Body) -> Job
     ensures { (s : SeatRecord) → s.used ≡ tube.now
         → result ≡ job_of_put (machine_of state.now) s new.pri new.delay new.ttr body }
@@ -58,7 +59,7 @@ fn new_job(state: &CoreParts, tube: &TubeName, new: NewJob, body: Body) -> Job
     }
 }
 
-// An id is given.
+// Gives an id out.
 #[tactic(auto, using(bq_state::proofs::PartsLemmas::sound_given))]
 fn count_put(state: &mut CoreParts)
     requires accepts { state.old.draining ≡ false }
@@ -71,7 +72,7 @@ fn count_put(state: &mut CoreParts)
     state.puts = state.puts.saturating_add(1);
 }
 
-// Whether there are as many jobs as there may be.
+// Returns true if the job limit is reached.
 fn is_full(state: &CoreParts) -> bool
     ensures { result ≡ is_full_of state.now.config.max_jobs (machine_of state.now).jobs }
 {
@@ -81,9 +82,8 @@ fn is_full(state: &CoreParts) -> bool
     }
 }
 
-/// Puts a job. The boxes that it needs are had before any change, and where there are as many jobs
-/// as there may be, none is asked for. The job is one more owner of the body, which its client's
-/// step has still.
+/// Puts a job. The boxes that it needs are allocated before any change; if the job limit is
+/// reached, nothing is allocated. The job shares the body with the client's step.
 #[inline(never)]
 pub(crate) fn put(
     state: &mut CoreParts,
@@ -138,7 +138,7 @@ pub(crate) fn reserve(state: &mut CoreParts, seat: Seat, until: Option<Moment>)
     changes::change_seat(state, seat, &change);
 }
 
-/// The client waits, for so many seconds at most.
+/// The client waits for at most this many seconds.
 pub(crate) fn reserve_until(state: &mut CoreParts, seat: Seat, seconds: u32)
     requires asks { is_asking (seat_with seat state.old.seats.items) ≡ true }
     ensures reply { Waits seat (Some (later_by state.old.moment seconds)) state.old state.new }
@@ -148,7 +148,7 @@ pub(crate) fn reserve_until(state: &mut CoreParts, seat: Seat, seconds: u32)
     reserve(state, seat, Some(until));
 }
 
-/// Reserves a job that nobody holds, in whatever tube.
+/// Reserves a job that no client holds, in any tube.
 pub(crate) fn reserve_job(state: &mut CoreParts, seat: Seat, id: JobId, told: &mut Answer) -> Reply
     ensures reply { RepliesTo seat false
         (reserve_job_effect id) state.old result told.new state.new }
@@ -171,7 +171,7 @@ pub(crate) fn reserve_job(state: &mut CoreParts, seat: Seat, id: JobId, told: &m
     Reply::Told
 }
 
-/// Takes out a job that nobody holds, or that the client holds itself.
+/// Removes a job that no client holds, or that this client holds.
 #[inline(never)]
 pub(crate) fn delete(state: &mut CoreParts, seat: Seat, id: JobId, told: &mut Answer)
     ensures reply { AnswersTo seat (delete_effect id) state.old told.new state.new }
@@ -188,7 +188,7 @@ pub(crate) fn delete(state: &mut CoreParts, seat: Seat, id: JobId, told: &mut An
     *told = Answer::Deleted;
 }
 
-/// Gives a job back that the client holds.
+/// Releases a job that the client holds.
 pub(crate) fn release(
     state: &mut CoreParts,
     seat: Seat,
@@ -209,7 +209,7 @@ pub(crate) fn release(
     *told = Answer::Released;
 }
 
-/// Puts a job aside that the client holds.
+/// Buries a job that the client holds.
 pub(crate) fn bury(state: &mut CoreParts, seat: Seat, id: JobId, pri: Pri, told: &mut Answer)
     ensures reply { AnswersTo seat (bury_effect id pri) state.old told.new state.new }
     ensures asks { AsksAsChanged state.old.jobs state.new.jobs }
@@ -224,7 +224,7 @@ pub(crate) fn bury(state: &mut CoreParts, seat: Seat, id: JobId, pri: Pri, told:
     *told = Answer::Buried;
 }
 
-/// The time to run of a job that the client holds begins anew.
+/// Restarts the time to run of a job that the client holds.
 pub(crate) fn touch(state: &mut CoreParts, seat: Seat, id: JobId, told: &mut Answer)
     ensures reply { AnswersTo seat (touch_effect id) state.old told.new state.new }
     ensures asks { AsksAsChanged state.old.jobs state.new.jobs }
@@ -238,7 +238,7 @@ pub(crate) fn touch(state: &mut CoreParts, seat: Seat, id: JobId, told: &mut Ans
     *told = Answer::Touched;
 }
 
-/// A buried or delayed job becomes ready.
+/// Makes a buried or delayed job ready.
 pub(crate) fn kick_job(state: &mut CoreParts, id: JobId, told: &mut Answer)
     ensures reply { (s : SeatRecord)
         → kick_job_effect id (machine_of state.old) s ≡ telling told.new (machine_of state.new) }

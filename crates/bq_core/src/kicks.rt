@@ -16,8 +16,8 @@ use bq_state::core_parts::CoreParts;
 use bq_state::job_store::{JobChange, JobKind};
 use bq_state::{changes, seats};
 
-// Which jobs of a tube a kick makes ready: the buried ones, or where there are none, the delayed
-// ones.
+// Returns which jobs of a tube a kick makes ready: the buried ones or, if there are none, the
+// delayed ones.
 #[tactic(auto, using(crate::proofs::KickLemmas::kickable_buried, crate::proofs::KickLemmas::kickable_delayed))]
 fn kind_to_kick(jobs: &mut NumberedJobs, tube: &TubeName) -> JobKind
     ensures order { jobs_of result tube.now jobs.old.jobs ≡ kickable tube.now jobs.old.jobs }
@@ -31,7 +31,7 @@ fn kind_to_kick(jobs: &mut NumberedJobs, tube: &TubeName) -> JobKind
     }
 }
 
-// Kicks the first job of this kind, if there is one.
+// Kicks the first job of this kind. Returns false if there is none.
 fn kick_first(state: &mut CoreParts, kind: JobKind, tube: &TubeName) -> bool
     requires out { (k : Job) → is_of kind tube.now (kicked k) ≡ false }
     ensures none { result ≡ false → (jobs_of kind tube.now state.old.jobs.jobs ≡ [])
@@ -51,7 +51,7 @@ fn kick_first(state: &mut CoreParts, kind: JobKind, tube: &TubeName) -> bool
     true
 }
 
-// Kicks the first jobs of this kind, so many at most. Tells how many there were.
+// Kicks at most `bound` jobs of this kind, in order, and returns how many.
 fn kick_some(state: &mut CoreParts, kind: JobKind, tube: &TubeName, bound: u32) -> u64
     requires out { (k : Job) → is_of kind tube.now (kicked k) ≡ false }
     ensures kicked { machine_of state.new
@@ -71,7 +71,7 @@ fn kick_some(state: &mut CoreParts, kind: JobKind, tube: &TubeName, bound: u32) 
     u64::from(bound)
 }
 
-// Kicks jobs of the tube, so many at most. Tells how many there were.
+// Kicks at most `bound` jobs of the tube, and returns how many.
 fn kick_in(state: &mut CoreParts, tube: &TubeName, bound: u32) -> u64
     ensures kicked { machine_of state.new
         ≡ after_kick (take bound (kickable tube.now (machine_of state.old).jobs))
@@ -85,7 +85,7 @@ fn kick_in(state: &mut CoreParts, tube: &TubeName, bound: u32) -> u64
     kick_some(state, kind, tube, bound)
 }
 
-/// Kicks jobs of the tube that the client uses, so many at most.
+/// Kicks at most `bound` jobs of the tube that the client uses.
 #[tactic(auto, using(crate::proofs::AskLemmas::within))]
 pub(crate) fn kick(state: &mut CoreParts, seat: Seat, bound: u32, told: &mut Answer) -> Reply
     ensures reply { RepliesAt seat false (kick_effect bound) state.old result told.new state.new }

@@ -1,7 +1,7 @@
 //! The core of the work queue: it takes one step after another, and each of them is a step of the
 //! one-list machine that `bq_job` defines.
 //!
-//! What it keeps, and how that is changed, stands in `bq_state`. Here is decided what happens when.
+//! `bq_state` contains its state and the operations on it. This crate decides what happens when.
 #![tactic(auto)]
 
 pub use bq_steps::{Config, CoreFault, Outs};

@@ -19,7 +19,8 @@ use bq_state::tubes::TubeEntry;
 use bq_state::{changes, name_lists, seats};
 use std::alloc::Global;
 
-// The text of the job of this id, unless its memory is refused; None where there is no job.
+// Returns the text of the job with this id, or `NoMemory` if its allocation fails; None if there is
+// no job.
 #[tactic(auto, using(crate::proofs::TextLemmas::id_of_row))]
 fn text_of_job(
     jobs: &mut NumberedJobs,
@@ -39,7 +40,7 @@ fn text_of_job(
     }
 }
 
-/// Tells of the job of this id.
+/// Answers with the statistics of the job with this id.
 pub(crate) fn stats_job(state: &mut CoreParts, alloc: Global, id: JobId, told: &mut Answer) -> Reply
     ensures reply { RepliesBy true (stats_job_effect id) state.old result told.new state.new }
     ensures asks { AsksAsChanged state.old.jobs state.new.jobs }
@@ -57,7 +58,7 @@ pub(crate) fn stats_job(state: &mut CoreParts, alloc: Global, id: JobId, told: &
     }
 }
 
-// What is told of the tube of this name.
+// Returns the statistics of the tube with this name.
 #[tactic(auto, using(bq_state::proofs::NameLemmas::lent_or, bq_state::proofs::NameLemmas::record_of_entry))]
 fn tube_numbers(state: &CoreParts, tube: &TubeName) -> TubeNumbers
     ensures { AreOfTube result tube.now (machine_of state.now) }
@@ -78,7 +79,7 @@ fn tube_numbers(state: &CoreParts, tube: &TubeName) -> TubeNumbers
     }
 }
 
-/// Tells of a tube that exists.
+/// Answers with the statistics of a tube, if it exists.
 pub(crate) fn stats_tube(
     state: &CoreParts,
     alloc: Global,
@@ -100,7 +101,7 @@ pub(crate) fn stats_tube(
     }
 }
 
-// What is told of the server.
+// Returns the statistics of the server.
 fn server_numbers(state: &CoreParts) -> ServerNumbers
     ensures { AreOfServer result (machine_of state.now) }
 {
@@ -117,7 +118,7 @@ fn server_numbers(state: &CoreParts) -> ServerNumbers
     }
 }
 
-/// Tells of the server.
+/// Answers with the statistics of the server.
 pub(crate) fn stats(state: &CoreParts, alloc: Global, told: &mut Answer) -> Reply
     ensures { RepliesBy true stats_effect state.now result told.new state.now }
 {
@@ -130,7 +131,7 @@ pub(crate) fn stats(state: &CoreParts, alloc: Global, told: &mut Answer) -> Repl
     }
 }
 
-/// Lists the tubes that exist.
+/// Answers with the list of the existing tubes.
 pub(crate) fn list_tubes(state: &CoreParts, alloc: Global, told: &mut Answer) -> Reply
     ensures { RepliesBy true list_tubes_effect state.now result told.new state.now }
 {
@@ -146,7 +147,7 @@ pub(crate) fn list_tubes(state: &CoreParts, alloc: Global, told: &mut Answer) ->
     }
 }
 
-/// Lists the tubes that the client watches.
+/// Answers with the list of the tubes that the client watches.
 #[tactic(auto, using(bq_job::proofs::NameOrderLemmas::in_order_fold, bq_state::proofs::NameLemmas::list_of_order))]
 pub(crate) fn list_tubes_watched(
     state: &CoreParts,

@@ -1,4 +1,4 @@
-//! The core, and the parts of a step in their order.
+//! The core, and the parts of a step in order.
 ghost use Rattle.std.specs.Prelude.{◌≡◌, ◌<◌, ◌↔◌, ◌&&◌, not, IsTrue, IfOk, IsErrOf};
 ghost use Rattle.bq_job.specs.beside.Lawful.{IsLawful};
 ghost use Rattle.bq_job.specs.machine.Machine.{new_machine};
@@ -21,7 +21,7 @@ use bq_steps::{Config, CoreFault, Outs, QueueCore};
 use std::alloc::Global;
 use std::marker::Model;
 
-/// The core: it stands for the one-list machine, and takes its steps.
+/// The core: it represents the one-list machine and takes its steps.
 #[derive(Drop)]
 pub struct Core {
     parts: CoreParts,
@@ -39,7 +39,7 @@ impl Model for Core {
     ghost invariant = { λ c. IsLawful (machine_of c.parts) };
 }
 
-// Jobs are dispatched, and then waits end.
+// Dispatches jobs, and then ends waits.
 fn serve(state: &mut CoreParts, outs: &mut Outs)
     requires tubes { NoneIsGone (machine_of state.old) }
     requires room { HasRoom 0 (machine_of state.old) outs.old }
@@ -50,7 +50,7 @@ fn serve(state: &mut CoreParts, outs: &mut Outs)
     waits::end_waits(state, outs);
 }
 
-// One step.
+// Takes one step.
 fn take_step(
     state: &mut CoreParts,
     alloc: Global,
@@ -99,7 +99,8 @@ fn is_job_limit(most: Option<u32>) -> bool
 }
 
 impl Core {
-    /// A core with no jobs and all seats free.
+    /// Returns a core with no jobs and with all seats free. Returns the first setting that is out
+    /// of range, or `NoMemory` if an allocation fails.
     #[tactic(auto, using(bq_job::proofs::LawfulLemmas::new_is_lawful))]
     pub fn new(alloc: Global, config: Config) -> Result<Core, CoreFault>
         ensures made { IfOk result
@@ -137,8 +138,8 @@ impl Core {
         })
     }
 
-    /// Takes a step: what happens at a seat, at a moment in milliseconds. `outs` then holds the
-    /// answers in their order. Any moment, seat and step is accepted.
+    /// Takes a step: what happens at a seat, at a moment in milliseconds. Afterwards `outs` holds
+    /// the answers in order. Any moment, seat and step is accepted.
     pub fn step(&mut self, alloc: Global, at: Moment, seat: Seat, what: Step, outs: &mut Outs)
         requires room { self.old.machine.settings.seats < outs.old.most }
         ensures step { IsStep self.old.machine at seat what
@@ -154,8 +155,8 @@ impl Core {
         self.step_in_place(alloc, at, seat, &what, outs);
     }
 
-    /// The same as `step`, with the step left where it lies: it may hold a tube's name, and isn't
-    /// moved on the way.
+    /// Does the same as `step` with a step passed by reference: it may contain a tube's name, which
+    /// would have to be copied.
     pub fn step_in_place(
         &mut self,
         alloc: Global,
@@ -178,16 +179,16 @@ impl Core {
         take_step(&mut self.parts, alloc, at, seat, what, outs);
     }
 
-    /// The comparisons of keys among the jobs so far. The count stops at 2^64 - 1.
+    /// Returns how many keys of its jobs it has compared so far. The count stops at 2^64 - 1.
     pub fn comparisons(&self) -> u64
         ensures { result ≡ self.now.comparisons }
     {
         self.parts.jobs.comparisons()
     }
 
-    /// The least moment at which something happens by itself: a delay, a time to run or a pause
-    /// ends, a client gives up, or is told that a time to run ends soon. A tick below it changes
-    /// the moment alone.
+    /// Returns the earliest moment, in milliseconds, at which something happens by itself: a delay,
+    /// a time to run or a pause ends, a wait times out, or a waiting client gets DEADLINE_SOON. A
+    /// tick before that moment changes nothing but the moment.
     pub fn next_due(&mut self) -> Option<Moment>
         ensures due { result ≡ next_due self.old.machine }
         ensures same { self.new.machine ≡ self.old.machine }

@@ -1,4 +1,5 @@
-//! The YAML texts of statistics and lists. Each is made in one growth, whose size is known before.
+//! The YAML texts of statistics and lists. Each is made with one allocation, whose size is computed
+//! first.
 pub(crate) use names::names_text;
 pub(crate) use statistics::{ServerNumbers, TubeNumbers, job_text, server_text, tube_text};
 

@@ -1,4 +1,5 @@
-//! Timers that are due fire, jobs are given back, and when something happens by itself next.
+//! Fires due timers, makes jobs of closed connections ready again, and finds when something happens
+//! by itself next.
 ghost use Rattle.std.specs.Prelude.{◌≡◌, ◌<◌, ◌+◌, ◌*◌, true, false, IfSome, None, if◌then◌else◌};
 ghost use Rattle.std.specs.Prelude.{count_by, fold, length};
 ghost use Rattle.std.specs.List.{list_any};
@@ -32,7 +33,7 @@ use bq_state::known::{FirstEnd, Stir, Warns, earlier_of, first_to_give_up, is_ov
 use bq_state::seats::{SeatRecord, Turn};
 use bq_state::{changes, job_store, seats};
 
-// The delayed job that is due first, if its moment has come. Where none is delayed, none is looked for.
+// Returns the first delayed job that is due. If no job is delayed, nothing is searched.
 #[tactic(auto, using(bq_state::proofs::PartsLemmas::compared_sound))]
 fn first_ripe(state: &mut CoreParts) -> Option<JobId>
     ensures found { IfSome result
@@ -48,7 +49,8 @@ fn first_ripe(state: &mut CoreParts) -> Option<JobId>
     if due <= state.moment { Some(id) } else { None }
 }
 
-// The job whose time to run is over first, if that moment has come. Where nobody holds one, none is looked for.
+// Returns the first job whose time to run has expired. If no client holds a job, nothing is
+// searched.
 #[tactic(auto, using(bq_state::proofs::PartsLemmas::compared_sound))]
 fn first_expired(state: &mut CoreParts) -> Option<JobId>
     ensures found { IfSome result
@@ -68,7 +70,7 @@ fn first_expired(state: &mut CoreParts) -> Option<JobId>
     }
 }
 
-// One delayed job becomes ready, if one is due.
+// Makes one delayed job ready, if one is due.
 fn ripen(state: &mut CoreParts) -> bool
     ensures done { result ≡ false → is_some_due (machine_of state.old) ≡ false }
     ensures same { result ≡ false → machine_of state.new ≡ machine_of state.old }
@@ -86,7 +88,7 @@ fn ripen(state: &mut CoreParts) -> bool
     true
 }
 
-// One reservation ends, if its time to run is over.
+// Ends one reservation, if its time to run has expired.
 fn expire_first(state: &mut CoreParts) -> bool
     ensures none { result ≡ false → (is_some_expired (machine_of state.old) ≡ false)
         × (machine_of state.new ≡ machine_of state.old) }
@@ -101,14 +103,14 @@ fn expire_first(state: &mut CoreParts) -> bool
     true
 }
 
-// How often something happened, that did or did not.
+// Returns 1 if something happened, otherwise 0.
 fn times(happened: bool) -> u64
     ensures { result ≡ (if happened then 1 else 0) }
 {
     if happened { 1 } else { 0 }
 }
 
-// One reservation ends, if its time to run is over, and is counted.
+// Ends and counts one reservation, if its time to run has expired.
 fn expire(state: &mut CoreParts) -> bool
     ensures done { result ≡ false → is_some_due (machine_of state.old) ≡ false
         → HaveFired state.old state.new }
@@ -124,7 +126,7 @@ fn expire(state: &mut CoreParts) -> bool
     expired
 }
 
-// One timer of a job fires, if one has come.
+// Fires one timer of a job, if one is due.
 fn fire_one(state: &mut CoreParts) -> bool
     ensures done { result ≡ false → HaveFired state.old state.new }
     ensures same { result ≡ false → (machine_of state.new).jobs ≡ (machine_of state.old).jobs }
@@ -137,7 +139,7 @@ fn fire_one(state: &mut CoreParts) -> bool
     ripen(state) || expire(state)
 }
 
-// The timers of jobs fire.
+// Fires all due timers of jobs.
 fn fire_jobs(state: &mut CoreParts)
     ensures after { HaveFired state.old state.new }
     ensures asks { Asks
@@ -146,7 +148,7 @@ fn fire_jobs(state: &mut CoreParts)
     while fire_one(state) {}
 }
 
-// Pauses end. Where none does, no tube is looked at.
+// Ends pauses. If none ends, no tube is checked.
 fn end_pauses(state: &mut CoreParts)
     ensures after { machine_of state.new ≡ with_pauses_ended (machine_of state.old) }
     ensures jobs { state.new.jobs ≡ state.old.jobs }
@@ -159,7 +161,7 @@ fn end_pauses(state: &mut CoreParts)
     state.known.stir = Stir::Any;
 }
 
-/// Timers that are due fire.
+/// Fires all due timers.
 pub(crate) fn fire(state: &mut CoreParts)
     ensures after { machine_of state.new ≡ after_timers (machine_of state.old) }
     ensures asks { Asks
@@ -169,14 +171,14 @@ pub(crate) fn fire(state: &mut CoreParts)
     end_pauses(state);
 }
 
-/// Where a job stands whose client is gone.
+/// Returns the state of a job whose holder has disconnected.
 pub(crate) fn state_once_left(state: &CoreParts) -> JobState
     ensures { result ≡ state_once_left (machine_of state.now) }
 {
     job_store::delayed_by(state.config.requeue_delay, state.moment)
 }
 
-// The client at the seat gives one job back, if it holds one. The job then stands so.
+// Brings one job that the client at the seat holds into this state, if there is one.
 fn give_back_one(state: &mut CoreParts, seat: Seat, becomes: JobState) -> bool
     requires free { is_reserved becomes ≡ false }
     ensures done { result ≡ false
@@ -194,7 +196,7 @@ fn give_back_one(state: &mut CoreParts, seat: Seat, becomes: JobState) -> bool
     true
 }
 
-/// The client at the seat gives back the jobs that it holds. They then stand so.
+/// Brings all jobs that the client at the seat holds into this state.
 #[tactic(auto, using(crate::proofs::AskLemmas::asks_more, crate::proofs::AskLemmas::asks_none, crate::proofs::AskLemmas::asks_then))]
 pub(crate) fn give_back_all(state: &mut CoreParts, seat: Seat, becomes: JobState)
     requires free { is_reserved becomes ≡ false }
@@ -214,7 +216,7 @@ fn moment_of(found: Option<(Moment, JobId)>) -> Option<Moment>
     }
 }
 
-// When the client, if it waits, is told that the time to run of a job that it holds ends soon.
+// Returns when a waiting client gets DEADLINE_SOON for a job that it holds.
 fn warning_due(jobs: &mut NumberedJobs, client: &SeatRecord) -> Option<Moment>
     ensures due { result ≡ warning_due jobs.old.jobs client.now }
     ensures same { jobs.new ≡ record jobs.old { comparisons = jobs.new.comparisons } }
@@ -229,7 +231,7 @@ fn warning_due(jobs: &mut NumberedJobs, client: &SeatRecord) -> Option<Moment>
     }
 }
 
-// The same of the client at a seat, if there is one.
+// Does the same for the client at a seat, if there is one.
 fn warning_due_at(jobs: &mut NumberedJobs, client: Option<&SeatRecord>) -> Option<Moment>
     ensures due { result ≡ warning_due_at jobs.old.jobs (option_copied client.entry) }
     ensures same { jobs.new ≡ record jobs.old { comparisons = jobs.new.comparisons } }
@@ -242,7 +244,8 @@ fn warning_due_at(jobs: &mut NumberedJobs, client: Option<&SeatRecord>) -> Optio
     }
 }
 
-// The earlier of this moment and of when the client of this turn is told so.
+// Returns the earlier of this moment and the one at which the client of this turn gets
+// DEADLINE_SOON.
 fn with_warning_of(
     best: Option<Moment>,
     jobs: &mut NumberedJobs,
@@ -259,7 +262,7 @@ fn with_warning_of(
     }
 }
 
-// When the first of the clients that have these turns is told so.
+// Returns when the first of the clients with these turns gets DEADLINE_SOON.
 #[tactic(auto, using(crate::proofs::AskLemmas::asks_then, bq_state::proofs::LoopLemmas::folded_beside))]
 fn first_warning(jobs: &mut NumberedJobs, seats: &[SeatRecord], turns: &[Turn]) -> Option<Moment>
     ensures due { result
@@ -274,8 +277,8 @@ fn first_warning(jobs: &mut NumberedJobs, seats: &[SeatRecord], turns: &[Turn]) 
     best
 }
 
-// When the first of the clients that wait is told so. Only who may hold a job is looked at, and
-// where that is more than one, who waits.
+// Returns when the first waiting client gets DEADLINE_SOON. Only clients that may hold a job are
+// checked or, if that is more than one, only waiting ones.
 #[tactic(auto, using(crate::proofs::AskLemmas::warnings_asked))]
 fn warnings_due(
     jobs: &mut NumberedJobs,
@@ -297,7 +300,7 @@ fn warnings_due(
     }
 }
 
-// When the first delay ends. Where no job is delayed, none is looked for.
+// Returns when the first delay ends. If no job is delayed, nothing is searched.
 #[tactic(auto, using(crate::proofs::FiringLemmas::no_first_due))]
 fn first_due(jobs: &mut NumberedJobs, has_delayed: bool) -> Option<Moment>
     requires { has_delayed ≡ list_any (λ j. is_delayed j.state) jobs.old.jobs }
@@ -312,7 +315,7 @@ fn first_due(jobs: &mut NumberedJobs, has_delayed: bool) -> Option<Moment>
     moment_of(jobs.next_due())
 }
 
-// When the first time to run ends. Where nobody holds a job, none is looked for.
+// Returns when the first time to run ends. If no client holds a job, nothing is searched.
 #[tactic(auto, using(crate::proofs::FiringLemmas::no_first_deadline))]
 fn first_deadline(jobs: &mut NumberedJobs, has_lease: bool) -> Option<Moment>
     requires { has_lease ≡ list_any (λ j. is_reserved j.state) jobs.old.jobs }
@@ -327,7 +330,7 @@ fn first_deadline(jobs: &mut NumberedJobs, has_lease: bool) -> Option<Moment>
     moment_of(jobs.next_deadline())
 }
 
-// When something is due of a job, but for the warnings.
+// Returns when a timer of a job is due, not counting DEADLINE_SOON.
 fn jobs_due(jobs: &mut NumberedJobs, has_delayed: bool, has_lease: bool) -> Option<Moment>
     requires delayed { has_delayed ≡ list_any (λ j. is_delayed j.state) jobs.old.jobs }
     requires lease { has_lease ≡ list_any (λ j. is_reserved j.state) jobs.old.jobs }
@@ -340,7 +343,7 @@ fn jobs_due(jobs: &mut NumberedJobs, has_delayed: bool, has_lease: bool) -> Opti
     earlier_of(due, deadline)
 }
 
-// When the first of the clients that wait gives up. Where it is known, no seat is looked at.
+// Returns when the first wait times out. If that is known, no seat is checked.
 fn seats_due(first: &FirstEnd, seats: &[SeatRecord], turns: &[Turn]) -> Option<Moment>
     requires known { AreTimeouts first.now seats.now }
     requires numbered { AreNumbered seats.now }
@@ -353,7 +356,7 @@ fn seats_due(first: &FirstEnd, seats: &[SeatRecord], turns: &[Turn]) -> Option<M
     }
 }
 
-/// The least moment at which something happens by itself, if there is any.
+/// Returns the earliest moment at which something happens by itself, if there is any.
 pub(crate) fn next_due(state: &mut CoreParts) -> Option<Moment>
     ensures due { result ≡ next_due_of (machine_of state.old) }
     ensures same { machine_of state.new ≡ machine_of state.old }

@@ -19,8 +19,8 @@ use bq_state::tubes::TubeChange;
 use bq_state::{changes, job_store, seats};
 use std::alloc::Global;
 
-/// The client's jobs go into this tube from now on. The growth that a new tube needs comes before
-/// any change.
+/// The client's jobs go into this tube from now on. The allocations for a new tube come before any
+/// change.
 #[inline(never)]
 pub(crate) fn use_tube(
     state: &mut CoreParts,
@@ -40,7 +40,7 @@ pub(crate) fn use_tube(
     Reply::Told
 }
 
-/// Tells which tube the client's jobs go into.
+/// Answers with the tube that the client's jobs go into.
 #[inline(never)]
 pub(crate) fn list_tube_used(state: &CoreParts, seat: Seat, told: &mut Answer) -> Reply
     ensures { RepliesAt seat false
@@ -55,7 +55,7 @@ pub(crate) fn list_tube_used(state: &CoreParts, seat: Seat, told: &mut Answer) -
     }
 }
 
-/// The client watches this tube too. The growth that it needs comes before any change.
+/// The client also watches this tube. The allocations that it needs come before any change.
 #[inline(never)]
 pub(crate) fn watch(
     state: &mut CoreParts,
@@ -84,7 +84,7 @@ pub(crate) fn watch(
     }
 }
 
-/// The client watches this tube no longer, unless it watches no other.
+/// The client no longer watches this tube, unless it is the only one.
 #[inline(never)]
 pub(crate) fn ignore(state: &mut CoreParts, seat: Seat, tube: &TubeName, told: &mut Answer) -> Reply
     ensures reply { RepliesAt seat false
@@ -103,7 +103,7 @@ pub(crate) fn ignore(state: &mut CoreParts, seat: Seat, tube: &TubeName, told: &
     Reply::Told
 }
 
-/// Pauses a tube that exists.
+/// Pauses a tube, if it exists.
 #[tactic(auto, using(bq_state::proofs::PartsLemmas::tube_has_entry))]
 pub(crate) fn pause(state: &mut CoreParts, tube: &TubeName, seconds: u32, told: &mut Answer)
     ensures reply { pause_effect tube.now seconds (machine_of state.old)
@@ -119,7 +119,7 @@ pub(crate) fn pause(state: &mut CoreParts, tube: &TubeName, seconds: u32, told: 
     *told = Answer::Paused;
 }
 
-// Shows the job of this id.
+// Shows the job with this id.
 #[tactic(auto, using(crate::proofs::ToldLemmas::shown_so))]
 fn show(state: &mut CoreParts, id: JobId, told: &mut Answer) -> Reply
     ensures reply { RepliesBy false (peek_effect id) state.old result told.new state.new }
@@ -138,7 +138,7 @@ fn show(state: &mut CoreParts, id: JobId, told: &mut Answer) -> Reply
     }
 }
 
-/// Shows the job of this id.
+/// Shows the job with this id.
 pub(crate) fn peek(state: &mut CoreParts, id: JobId, told: &mut Answer) -> Reply
     ensures reply { RepliesBy false (peek_effect id) state.old result told.new state.new }
     ensures asks { AsksAsChanged state.old.jobs state.new.jobs }
@@ -146,7 +146,7 @@ pub(crate) fn peek(state: &mut CoreParts, id: JobId, told: &mut Answer) -> Reply
     show(state, id, told)
 }
 
-// The id of the first job of this kind in the tube that the client uses.
+// Returns the id of the first job of this kind in the tube that the client uses.
 fn first_used(state: &mut CoreParts, seat: Seat, kind: JobKind) -> Option<JobId>
     ensures id { AtSeat seat state.old
         (λ s. result ≡ option_map (λ j. j.id) (first_of_kind kind s.used state.old.jobs.jobs)) }

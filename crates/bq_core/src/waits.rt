@@ -1,4 +1,4 @@
-//! How waits end: by a timeout, or where a time to run ends soon.
+//! Ends waits: because of a timeout, or because a time to run ends soon.
 ghost use Rattle.std.specs.Prelude.{◌≡◌, ◌<◌, ◌+◌, None, Some, true, false, length, slice_get, IfSome, if◌then◌else◌};
 ghost use Rattle.std.specs.List.{list_any};
 ghost use Rattle.bq_job.specs.beside.Computed.{waiting_count};
@@ -25,7 +25,7 @@ use bq_state::seats::{SeatChange, Turn};
 use bq_state::{changes, seats};
 use bq_steps::Outs;
 
-// Whether the moment that was found, if one was, comes within a second.
+// Returns true if a moment was found and comes within a second.
 fn is_soon(found: Option<(Moment, JobId)>, moment: Moment) -> bool
     ensures { result ≡ is_soon moment found }
 {
@@ -35,7 +35,7 @@ fn is_soon(found: Option<(Moment, JobId)>, moment: Moment) -> bool
     }
 }
 
-// Whether the client at the seat holds a job whose time to run ends within a second.
+// Returns true if the client at the seat holds a job whose time to run ends within a second.
 fn is_deadline_soon(jobs: &mut NumberedJobs, seat: Seat, moment: Moment) -> bool
     ensures soon { result ≡ list_any (λ j. is_ending_lease moment seat j.state) jobs.old.jobs }
     ensures same { jobs.new ≡ record jobs.old { comparisons = jobs.new.comparisons } }
@@ -44,7 +44,7 @@ fn is_deadline_soon(jobs: &mut NumberedJobs, seat: Seat, moment: Moment) -> bool
     is_soon(jobs.next_deadline_of(seat), moment)
 }
 
-// Whether the time to run of some reserved job ends within a second.
+// Returns true if the time to run of some reserved job ends within a second.
 #[tactic(auto, using(crate::proofs::FiringLemmas::some_warned))]
 fn is_some_deadline_soon(jobs: &mut NumberedJobs, moment: Moment) -> bool
     ensures soon { result ≡ list_any (is_lease_short moment) jobs.old.jobs }
@@ -54,8 +54,8 @@ fn is_some_deadline_soon(jobs: &mut NumberedJobs, moment: Moment) -> bool
     is_soon(jobs.next_deadline(), moment)
 }
 
-// What the client at place k, which waits, is told if its wait ends now. Its first lease is asked
-// for once.
+// Returns the answer to the waiting client at place k if its wait ends now. Its first lease is
+// looked up once.
 fn told_at_end(state: &mut CoreParts, k: usize) -> Option<Answer>
     requires seat { k < length state.old.seats.items }
     ensures told { (s : SeatRecord) → slice_get (machine_of state.old).seats k ≡ Some s
@@ -73,7 +73,7 @@ fn told_at_end(state: &mut CoreParts, k: usize) -> Option<Answer>
     }
 }
 
-// The wait of the client at place k ends with this answer.
+// Ends the wait of the client at place k with this answer.
 fn end_wait(state: &mut CoreParts, outs: &mut Outs, k: usize, answer: Answer)
     requires seat { k < length state.old.seats.items }
     requires room { length outs.old.given < outs.old.most }
@@ -86,7 +86,7 @@ fn end_wait(state: &mut CoreParts, outs: &mut Outs, k: usize, answer: Answer)
     outs.push(number, answer);
 }
 
-// The wait of the client at place k, which waits, ends if it does now.
+// Ends the wait of the waiting client at place k if it ends now.
 fn look_at(state: &mut CoreParts, outs: &mut Outs, k: usize)
     requires seat { k < length state.old.seats.items }
     requires room { length outs.old.given < outs.old.most }
@@ -99,7 +99,8 @@ fn look_at(state: &mut CoreParts, outs: &mut Outs, k: usize)
     }
 }
 
-// The place of the client that has waited longest of those whose turn comes after the last one.
+// Returns the place of the client that has waited longest among those whose turn comes after
+// `last`.
 fn next_waiting(state: &CoreParts, last: Option<Turn>) -> Option<usize>
     ensures bound { IfSome result (λ k. k < length state.now.seats.items) }
     ensures least { item_at state.now.seats.items result
@@ -111,7 +112,7 @@ fn next_waiting(state: &CoreParts, last: Option<Turn>) -> Option<usize>
     }
 }
 
-// Looks at the next waiting client after the last one that was looked at, if there is one.
+// Checks the next waiting client after `last`. Returns false if there is none.
 fn turn(state: &mut CoreParts, outs: &mut Outs, last: &mut Option<Turn>) -> bool
     requires looked { AreLookedAt (machine_of state.old) last.old }
     requires room { HasRoom 0 (machine_of state.old) outs.old }
@@ -133,8 +134,8 @@ fn turn(state: &mut CoreParts, outs: &mut Outs, last: &mut Option<Turn>) -> bool
     true
 }
 
-// The waits that end now end, where there may be some. Each waiting client is looked at once, in
-// the order of tickets.
+// Ends the waits that end now, if there may be some. Each waiting client is checked once, in the
+// order of tickets.
 fn end_all(state: &mut CoreParts, outs: &mut Outs)
     requires room { HasRoom 0 (machine_of state.old) outs.old }
     ensures given { Gives WaitEndTurn none_refused
@@ -146,7 +147,7 @@ fn end_all(state: &mut CoreParts, outs: &mut Outs)
     while turn(state, outs, &mut last) {}
 }
 
-// Whether some wait is over by its timeout, or because its client sends no more.
+// Returns true if some wait has timed out, or its client sends no more.
 #[tactic(auto, using(bq_state::proofs::FirstEndLemmas::over_known))]
 fn is_some_wait_over(state: &mut CoreParts) -> bool
     ensures over { result ≡ list_any (has_waited state.old.moment) state.old.seats.items }
@@ -164,8 +165,8 @@ fn is_some_wait_over(state: &mut CoreParts) -> bool
     }
 }
 
-// Whether some wait may end now: a time to run ends within a second, or a timeout has come. Where
-// nobody waits, no shelf is asked.
+// Returns true if some wait may end now: a time to run ends within a second, or a wait has timed
+// out. If no client waits, no shelf is searched.
 fn may_end(state: &mut CoreParts) -> bool
     ensures none { result ≡ false → next_end (machine_of state.old) ≡ None }
     ensures some { result ≡ may_end (machine_of state.old) }
@@ -181,7 +182,7 @@ fn may_end(state: &mut CoreParts) -> bool
     is_some_deadline_soon(&mut state.jobs, state.moment)
 }
 
-/// The waits that end now end, the longest one first.
+/// Ends the waits that end now, the longest one first.
 #[tactic(auto, using(crate::proofs::TurnLemmas::gives_nothing))]
 pub(crate) fn end_waits(state: &mut CoreParts, outs: &mut Outs)
     requires room { HasRoom 0 (machine_of state.old) outs.old }

@@ -5,7 +5,7 @@ use itoa::Buffer;
 use std::alloc::Global;
 use std::marker::Model;
 
-/// A text that is being written. All its memory is given when it is made.
+/// A text that is being written. `new` allocates everything that it needs.
 #[derive(Drop)]
 pub(crate) struct TextBuilder {
     bytes: Vec<u8, Global>,
@@ -22,7 +22,8 @@ impl Model for TextBuilder {
 }
 
 impl TextBuilder {
-    /// An empty text with room for so many bytes, which are asked for at once.
+    /// Returns an empty text with room for `size` bytes. Returns `NoMemory` if that allocation
+    /// fails.
     pub(crate) fn new(alloc: Global, size: usize) -> Result<TextBuilder, NoMemory>
         ensures empty { IfOk result (λ b. b.bytes ≡ []) }
         ensures room { IfOk result (λ b. b.room ≡ size) }
@@ -33,7 +34,7 @@ impl TextBuilder {
         }
     }
 
-    /// Writes these bytes. It takes no memory.
+    /// Appends these bytes. It allocates nothing.
     pub(crate) fn push(&mut self, bytes: &[u8])
         requires { length bytes.now ≤ self.old.room }
         ensures bytes { self.new.bytes ≡ self.old.bytes ++ bytes.now }
@@ -42,7 +43,7 @@ impl TextBuilder {
         let _fits = self.bytes.extend_from_slice(bytes);
     }
 
-    /// Writes a number. It takes no memory.
+    /// Appends a number. It allocates nothing.
     pub(crate) fn push_number(&mut self, n: u64)
         requires { length (decimal n) ≤ self.old.room }
         ensures bytes { self.new.bytes ≡ self.old.bytes ++ decimal n }
@@ -52,7 +53,7 @@ impl TextBuilder {
         self.push(digits.format(n).as_bytes());
     }
 
-    /// The text of the bytes so far. It takes no memory.
+    /// Returns the text of the bytes so far. It allocates nothing.
     pub(crate) fn finish(self) -> Text
         ensures { result ≡ self.bytes }
     {
@@ -60,7 +61,7 @@ impl TextBuilder {
     }
 }
 
-/// How many digits a number has.
+/// Returns the number of decimal digits of a number.
 pub(crate) fn digit_count(n: u64) -> usize
     ensures { result ≡ length (decimal n) }
 {

@@ -8,7 +8,7 @@ use bq_job::{NoMemory, Text};
 use std::alloc::Global;
 use std::marker::Model;
 
-/// What stands behind a key.
+/// The value of a key.
 #[derive(Clone, Copy)]
 pub(crate) enum Value<'a> {
     Number(u64),
@@ -94,7 +94,7 @@ pub(crate) fn word<'a>(key: &'a [u8], word: &'a [u8]) -> KeyValue<'a>
     }
 }
 
-/// The text of these lines. Where its memory is refused there is none.
+/// Returns the text of these lines, or `NoMemory` if its allocation fails.
 pub(crate) fn statistics_text(alloc: Global, pairs: &[KeyValue<'_>]) -> Result<Text, NoMemory>
     ensures { IfOk result (λ text. text ≡ statistics_text pairs.now) }
 {

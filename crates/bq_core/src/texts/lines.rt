@@ -1,4 +1,4 @@
-//! Texts that go on in lines.
+//! Texts that consist of lines.
 ghost use Rattle.std.specs.Prelude.{◌≡◌, ◌+◌, ◌≤◌, ◌++◌, List, ℕ, codes, flat_map, length, IfOk};
 ghost use Rattle.bq_core.specs.Texts.{IsSizeOf};
 
@@ -6,26 +6,26 @@ use super::builder::TextBuilder;
 use bq_job::{NoMemory, Text};
 use std::alloc::Global;
 
-/// How a text begins.
+/// The beginning of each text.
 const START: &[u8] = b"---\n";
 
-/// What has a line in a text.
+/// Something that has a line in a text.
 pub(crate) trait Line {
     /// The line, with its end.
     ghost line: { Self → List ℕ };
 
-    /// How many bytes the line has; `None` above 2^64 - 1.
+    /// Returns the length of the line in bytes; `None` above 2^64 - 1.
     fn size(&self) -> Option<usize>
         ensures { IsSizeOf (line self.now) result };
 
-    /// Writes the line.
+    /// Appends the line.
     fn write(&self, text: &mut TextBuilder)
         requires { length (line self.now) ≤ text.old.room }
         ensures bytes { text.new.bytes ≡ text.old.bytes ++ line self.now }
         ensures room { text.old.room ≤ text.new.room + length (line self.now) };
 }
 
-// How many bytes the text of these lines has.
+// Returns the length of the text of these lines, in bytes.
 fn size_of<L: Line>(lines: &[L]) -> Option<usize>
     ensures { IsSizeOf (codes "---\n" ++ flat_map L.line lines.now) result }
 {
@@ -36,7 +36,7 @@ fn size_of<L: Line>(lines: &[L]) -> Option<usize>
     Some(size)
 }
 
-// Writes these lines.
+// Appends these lines.
 fn write_all<L: Line>(lines: &[L], text: &mut TextBuilder)
     requires { length (flat_map L.line lines.now) ≤ text.old.room }
     ensures { text.new.bytes ≡ text.old.bytes ++ flat_map L.line lines.now }
@@ -46,7 +46,7 @@ fn write_all<L: Line>(lines: &[L], text: &mut TextBuilder)
     }
 }
 
-/// The text of these lines. Where its memory is refused there is none.
+/// Returns the text of these lines, or `NoMemory` if its allocation fails.
 pub(crate) fn text_of<L: Line>(alloc: Global, lines: &[L]) -> Result<Text, NoMemory>
     ensures { IfOk result (λ text. text ≡ codes "---\n" ++ flat_map L.line lines.now) }
 {

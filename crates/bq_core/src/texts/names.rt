@@ -25,7 +25,7 @@ impl<'a> Line for &'a [u8] {
     }
 }
 
-/// The list of these names, which stand in byte order. Where its memory is refused there is none.
+/// Returns the list of these names, which are in byte order, or `NoMemory` if its allocation fails.
 #[tactic(auto, using(crate::proofs::TextLemmas::names_told))]
 pub(crate) fn names_text(alloc: Global, names: &[&[u8]]) -> Result<Text, NoMemory>
     requires { IsTrue (is_in_order (names_of names.now)) }

@@ -12,7 +12,7 @@ use bq_state::known::Tally;
 use bq_state::tubes::Pausing;
 use std::alloc::Global;
 
-/// What is told of a tube.
+/// The statistics of a tube.
 #[derive(Clone, Copy)]
 pub(crate) struct TubeNumbers {
     pub(crate) jobs: Tally,
@@ -23,11 +23,11 @@ pub(crate) struct TubeNumbers {
     pub(crate) deletes: u64,
     pub(crate) pauses: u64,
     pub(crate) pause: Option<Pausing>,
-    /// The present moment.
+    /// The current moment.
     pub(crate) moment: Moment,
 }
 
-/// What is told of the server.
+/// The statistics of the server.
 #[derive(Clone, Copy)]
 pub(crate) struct ServerNumbers {
     pub(crate) jobs: Tally,
@@ -39,12 +39,12 @@ pub(crate) struct ServerNumbers {
     /// How many clients are connected.
     pub(crate) connected: u64,
     pub(crate) waiting: u64,
-    /// How many connections were opened since the start.
+    /// How many connections were opened since the server started.
     pub(crate) connections: u64,
     pub(crate) draining: bool,
 }
 
-// Whole seconds from one moment to a later one.
+// Returns whole seconds from one moment to a later one.
 fn seconds_between(earlier: Moment, later: Moment) -> u64
     ensures { result ≡ seconds_between earlier later }
 {
@@ -62,7 +62,7 @@ fn state_word(state: JobState) -> &'static [u8]
     }
 }
 
-// The seconds to the end of a delay or of a time to run, else 0.
+// Returns the seconds until a delay or a time to run ends, otherwise 0.
 fn time_left(moment: Moment, state: JobState) -> u64
     ensures { result ≡ time_left moment state }
 {
@@ -97,7 +97,7 @@ fn bool_word(value: bool) -> &'static [u8]
     if value { b"true" } else { b"false" }
 }
 
-/// The statistics of the job of a record with this id in a tube, at this moment.
+/// Returns the statistics of a job with this record, id and tube, at this moment.
 pub(crate) fn job_text(
     alloc: Global,
     id: JobId,
@@ -128,7 +128,7 @@ pub(crate) fn job_text(
     statistics_text(alloc, &lines)
 }
 
-/// The statistics of the tube of this name.
+/// Returns the statistics of the tube with this name.
 pub(crate) fn tube_text(
     alloc: Global,
     name: &TubeName,
@@ -160,7 +160,7 @@ pub(crate) fn tube_text(
     statistics_text(alloc, &lines)
 }
 
-/// The statistics of the server.
+/// Returns the statistics of the server.
 pub(crate) fn server_text(alloc: Global, numbers: &ServerNumbers) -> Result<Text, NoMemory>
     ensures { IfOk result
         (λ text. (m : Machine) → AreOfServer numbers.now m → text ≡ server_statistics m) }

@@ -1,4 +1,4 @@
--- what the turns so far gave, and how often they asked
+-- what the turns so far gave, and how many searches they made
 use Rattle.std.proofs.Common.{◌*◌, ◌+◌, ◌-◌, length}
 use Rattle.bq_job.specs.{beside.waiting_count, machine.{DispatchTurn, has_refused_share}}
 use Rattle.bq_state.specs.{Asking.Asks, CoreParts.machine_of, Cost.waited}

@@ -10,7 +10,7 @@ use Rattle.bq_core.proofs.{AskLemmas.asks_more, DispatchLemmas.{next_offer, offe
 use Rattle.bq_core.proofs.dispatch.next_offer.Goals as goal
 use Rattle.std.proofs.lemmas.Grind.{common_steps}
 
--- the tube's count tells whether somebody waits at it
+-- the tube's count decides whether a client waits for its jobs
 counted_there : (name : List ℕ) (st : CoreParts) → is_waited_at name st.tubes ≡ list_any (is_waiter name) st.seats.items
 counted_there name st = grind (arith, common_steps, crowd_there, some_pass)
 

@@ -1,4 +1,4 @@
--- Kicking so many of the first jobs is kicking those that are left of them.
+-- Kicking `bound` of the first jobs is kicking those of them that are left.
 use Rattle.std.proofs.Common.{◌*◌, ◌+◌, ◌≡◌, ◌≤◌, ℕ, count_by, length, take}
 use Rattle.bq_state.specs.{Asking.Asks, CoreParts.machine_of, JobKinds.is_of}
 use Rattle.bq_core.specs.Kicking.{all_kicked, jobs_of}

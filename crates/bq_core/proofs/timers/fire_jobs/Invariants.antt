@@ -1,4 +1,4 @@
--- what the turns so far left to fire, and how often they asked
+-- what the turns so far left to fire, and how many searches they made
 use Rattle.std.proofs.Common.{◌*◌, ◌-◌, ◌≡◌, ◌≤◌, count_by}
 use Rattle.bq_state.specs.{Asking.Asks, CoreParts.machine_of}
 use Rattle.bq_core.specs.Firing.{after_job_timers, is_ripe}

@@ -1,4 +1,4 @@
--- the least moment so far
+-- the earliest moment so far
 use Rattle.std.proofs.Common.{◌≡◌, None, fold, take}
 use Rattle.bq_state.specs.{Asking.Asks, Dues.with_warning_due, WaitingTurns.at_turn}
 use Rattle.bq_core.proofs.timers.first_warning.Given as goal

@@ -1,4 +1,4 @@
--- what the turns so far left to give back, and how often they asked
+-- what the turns so far left to do, and how many searches they made
 use Rattle.std.proofs.Common.{◌*◌, ◌-◌, ◌≡◌, ◌≤◌, count_by}
 use Rattle.bq_job.specs.machine.{is_held_by}
 use Rattle.bq_state.specs.{Asking.Asks, CoreParts.machine_of}

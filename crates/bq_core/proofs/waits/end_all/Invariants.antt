@@ -1,4 +1,4 @@
--- what the looks so far gave, and how often they asked
+-- what the checks so far gave, and how many searches they made
 use Rattle.std.proofs.Common.{◌-◌, ◌≤◌}
 use Rattle.bq_job.specs.{beside.waiting_count, machine.WaitEndTurn}
 use Rattle.bq_state.specs.{Asking.Asks, CoreParts.machine_of, EndingWaits.{AreLookedAt, left_after}}

@@ -1,4 +1,4 @@
--- The bytes so far, and those of the lines that are left, are the text's.
+-- The bytes so far and those of the remaining lines are the text's.
 use Rattle.std.proofs.Common.{◌++◌, ◌+◌, ◌≡◌, codes, drop, flat_map, length}
 use Rattle.bq_core.proofs.texts.lines.size_of.Given as goal
 

@@ -1,4 +1,5 @@
--- The bytes so far, and those of the lines that are left, are the text's; and there is room for these.
+-- The bytes so far and those of the remaining lines are the text's, and there is room for the
+-- latter.
 use Rattle.std.proofs.Common.{◌++◌, ◌≡◌, ◌≤◌, drop, flat_map, length}
 use Rattle.bq_core.proofs.texts.lines.write_all.Given as goal
 

@@ -1,4 +1,4 @@
--- The lines are those of the definition, at a machine of this moment.
+-- The lines are those of the definition, for a machine at this moment.
 use Rattle.std.proofs.Common.{◌∙◌, ◌∷◌, ◌≡◌, [], ap, sym}
 use Rattle.bq_job.specs.declared.job.Job.{Job}
 use Rattle.bq_job.specs.{machine.{job_statistics, seconds_between, state_word, time_left, Machine.Machine}, texts.Yaml.statistics_text}

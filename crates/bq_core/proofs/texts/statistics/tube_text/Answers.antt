@@ -1,4 +1,4 @@
--- The lines are those of the definition, at a machine whose numbers these are.
+-- The lines are those of the definition, for a machine with these numbers.
 use Rattle.std.proofs.Common.{◌∙◌, ◌∷◌, [], ap}
 use Rattle.bq_job.specs.{machine.{pause_seconds, pause_time_left, tube_statistics}, texts.Yaml.statistics_text}
 use Rattle.bq_core.specs.Numbers.{AreOfTube}
