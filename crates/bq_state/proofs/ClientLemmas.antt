@@ -1,4 +1,4 @@
--- Counts of seats, once one seat changes.
+-- Counts of seats after one seat changes.
 use Rattle.std.proofs.Common.{◌+◌, ◌<◌, ◌==◌, ◌∙◌, ◌∷◌, ◌≡◌, ◌≤◌, if◌then◌else◌, Bool, List, Some, [], ℕ, ap, arith, cond, filter, length, map, not, refl, set, slice_get, suc, sym}
 use Rattle.std.proofs.lemmas.{Bool.{cases_Bool, eqb-true, ne_eqb}, Grind.common_steps}
 use Rattle.std.proofs.lemmas.List.{length-map, Sums.count_by-le-length}
@@ -9,7 +9,7 @@ use Rattle.bq_state.specs.declared.seats.SeatChange.{SeatChange}
 use Rattle.bq_state.specs.{Clients.{clients_of, clients_with, clients_without, seat_passes}, SeatChanges.{AreNumbered, seat_changed, seat_changed_at}, Tallies.{count_with, count_without}}
 use Rattle.bq_state.proofs.{PartsLemmas.{changed_there, number_kept}, TallyLemmas.{with_is, without_is}}
 
--- all seats but that of the number
+-- all seats except the one with this number
 abbrev pub others : ℕ → List SeatRecord → List SeatRecord
 others n seats = filter (λ s. not (s.number == n)) seats
 
@@ -30,7 +30,7 @@ others_left n f keeps [] = refl
 others_left n f keeps (s ∷ seats) = grind (arith, others_left n f keeps seats)
 
 module _ (p : SeatRecord → Bool) where
-  -- those that pass are the seat of a number, if it does, and others
+  -- those that pass are the seat with a number, if it does, and others
   parted : (n low : ℕ) (seats : List SeatRecord) → map (λ s. s.number) seats ≡ numbers low (length seats)
       → cond (seat_passes p (seat_with n seats)) 1 0 + count_by p (others n seats) ≡ count_by p seats
   parted n low [] h = refl
@@ -52,12 +52,12 @@ module _ (p : SeatRecord → Bool) where
       let many = length-map seats g in
       ap (count_with (seat_passes p (seat_with n new))) was ∙ with_is (seat_passes p (seat_with n new)) rest (omega (arith, is, few, many, fits)) ∙ is
 
-  -- where a change makes no difference, the count stays
+  -- if a change makes no difference, the count stays
   pub count_stays : (f : SeatRecord → SeatRecord) → ((s : SeatRecord) → p (f s) ≡ p s) → (seats : List SeatRecord) → count_by p (map f seats) ≡ count_by p seats
   count_stays f same [] = refl
   count_stays f same (s ∷ seats) = grind (arith, count_cons, count_stays f same seats)
 
-  -- one is counted where there is one
+  -- one is counted if there is one
   pub some_pass : (seats : List SeatRecord) → nat_lt 0 (count_by p seats) ≡ list_any p seats
   some_pass [] = refl
   some_pass (s ∷ seats) = grind (arith, common_steps, some_pass seats)

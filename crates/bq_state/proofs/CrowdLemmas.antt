@@ -23,7 +23,7 @@ pub map_same : {A B : Type 0} (u v : A → B) (xs : List A) → ((x : A) → u x
 map_same u v [] same = refl
 map_same u v (x ∷ xs) same = λ i. same x i ∷ map_same u v xs same i
 
--- A share of nothing changes no counts.
+-- An empty share changes no counts.
 pub none_recounted : (moving : Moving) (share : Share) → is_none share ≡ true → (c : Crowd) → recounted moving share c ≡ c
 none_recounted moving share h c = grind (arith)
 
@@ -36,7 +36,7 @@ pub all_same : (names : List (List ℕ)) (f : Crowd → Crowd) → ((c : Crowd) 
 all_same [] f same es cs = refl
 all_same (n ∷ ns) f same es cs = ap (λ ds. crowds_at_all ns f es ds) (beside_same n f same es cs) ∙ all_same ns f same es cs
 
--- What a seat counts for at the tube of this name, of what is asked for.
+-- The share of a seat at the tube with this name, restricted to `what`.
 abbrev pub share_at : Share → SeatRecord → List ℕ → Share
 share_at what s name = record {
   using = is_same_name name s.used && (what.using && s.connected);
@@ -76,7 +76,7 @@ module _ (f : Crowd → Crowd) where
       pick (is_same_name n t.name) (list_any (is_same_name t.name) ns) (g t) (none_else n ns once t.name)
       ∙ ap (λ b. if b || list_any (is_same_name t.name) ns then f (g t) else g t) (same_turned n t.name))
 
--- What a seat counts for comes and goes where its tubes stand.
+-- The shares of a seat are added and removed at its tubes.
 combine : (moving : Moving) (a b x y w : Bool) (c : Crowd)
     → (if a then recounted moving (record { using = false; watching = y; waiting = w }) (if b then recounted moving (record { using = x; watching = false; waiting = false }) c else c)
     else (if b then recounted moving (record { using = x; watching = false; waiting = false }) c else c))
@@ -117,7 +117,7 @@ module _ (n : ℕ) (what : SeatChange) (s : SeatRecord) (seats : List SeatRecord
       ∙ all_recounted Comes (touched what) (seat_changed what s) g es order once'
       ∙ map_same _ _ es (λ t. crowd_moved t.name)
 
--- where there is no seat of the number, none is changed
+-- if there is no seat with this number, none is changed
 pub none_changed : (n : ℕ) (f : SeatRecord → SeatRecord) (seats : List SeatRecord) → seat_with n seats ≡ None → map (λ s. if s.number == n then f s else s) seats ≡ seats
 none_changed n f [] h = refl
 none_changed n f (s ∷ seats) h = grind (arith, common_steps, cases_Bool, none_changed n f seats)
@@ -145,7 +145,7 @@ crowds_moved n what crowds seats es h fits order may was = go (seat_with n seats
           seated = rw (changed_there seats n s (seat_changed what) h place) (all_set IsSeated seats n (seat_changed what s) was.seated now);
         }
 
--- A client is at the tube where one is counted as using or watching it.
+-- A client is at the tube if one is counted as using or watching it.
 any_of_both : (p q : SeatRecord → Bool) (seats : List SeatRecord) → list_any p seats || list_any q seats ≡ list_any (λ s. p s || q s) seats
 any_of_both p q [] = refl
 any_of_both p q (s ∷ seats) = grind (arith, any_of_both p q seats)
@@ -153,6 +153,6 @@ any_of_both p q (s ∷ seats) = grind (arith, any_of_both p q seats)
 pub has_seats_of : (seats : List SeatRecord) (name : List ℕ) → has_seats (crowd_of seats name) ≡ list_any (is_seated_at name) seats
 has_seats_of seats name = grind (arith, some_pass, any_of_both (is_user name) (is_watcher name) seats)
 
--- who asks is connected
+-- a client that may make a request is connected
 pub asking_is_connected : (o : Option SeatRecord) → is_asking o ≡ true → is_connected o ≡ true
 asking_is_connected o h = grind (arith)

@@ -1,4 +1,4 @@
--- The counts of the clients at tubes stand at the places of their entries.
+-- The client counts of tubes are parallel to their entries.
 use Rattle.std.proofs.{Common.{◌&&◌, ◌||◌, ◌∙◌, ◌∷◌, ◌≡◌, Bool, List, [], ℕ, ap, false, inl, inr, map, refl, sym, true}, lemmas.{Bool.cases_Bool, List.{drop-map, map-append, take-map}}}
 use Rattle.std.proofs.{Common.arith, lemmas.Grind.common_steps}
 use Rattle.std.specs.{List.{AllByRecursion as All, insert, list_any, prefix_len}, Prelude.{count_by, nat_lt}}
@@ -40,7 +40,7 @@ module _ (name : List ℕ) (es : List TubeRecord) (missing : has_entry name es �
   pub nobody_there : (seats : List SeatRecord) → All (HasTubes es) seats → All IsSeated seats → crowd_of seats name ≡ no_crowd
   nobody_there seats has is = grind (arith, none_of, count_all_not)
 
--- what stands beside the entries, once one comes
+-- the list parallel to the entries, when one is added
 inserted_beside : {A : Type 0} (f : TubeRecord → A) (es : List TubeRecord) (n : ℕ) (x : TubeRecord) → insert (map f es) n (f x) ≡ map f (insert es n x)
 inserted_beside f es n x = grind (arith, take-map, drop-map, map-append)
 
@@ -62,7 +62,7 @@ crowds_of_provided name crowds seats es has was = record { each = ap (crowds_pro
           provided_new name es e,
         )
 
--- an entry changes but for its name
+-- an entry changes, but not its name
 pub crowds_kept : (f : TubeRecord → TubeRecord) → ((t : TubeRecord) → (f t).name ≡ t.name) → (crowds : List Crowd) (seats : List SeatRecord) (es : List TubeRecord)
     → AreCrowds crowds seats es → AreCrowds crowds seats (map f es)
 crowds_kept f same crowds seats es was = record { each = was.each ∙ stay es; seated = was.seated }
@@ -71,7 +71,7 @@ crowds_kept f same crowds seats es was = record { each = was.each ∙ stay es; s
     stay [] = refl
     stay (t ∷ es) = λ i. crowd_of seats (sym (same t) i) ∷ stay es i
 
--- The counts that stand at a name are those of its clients.
+-- The counts found under a name are those of its clients.
 pub named_crowd : (name : List ℕ) (g : List ℕ → Crowd) (es : List TubeRecord) → has_entry name es ≡ true → crowd_at name es (map (λ t. g t.name) es) ≡ g name
 named_crowd name g [] h = absurd cc
 named_crowd name g (t ∷ es) h =
@@ -92,18 +92,18 @@ crowd_there name crowds seats es has was = ap (crowd_at name es) was.each ∙ go
     go true e = named_crowd name (crowd_of seats) es e
     go false e = crowd_missing name seats es e ∙ sym (nobody_there name es e seats has was.seated)
 
--- Who waits at a tube is counted.
+-- A client that waits for jobs of a tube is counted.
 pub waiters_counted : (name : List ℕ) (clients : Clients) (crowds : List Crowd) (seats : List SeatRecord) (entries : List TubeRecord) → All (HasTubes entries) seats → AreCrowds crowds seats entries → clients ≡ clients_of seats
     → (nat_lt 0 clients.waiting && nat_lt 0 (crowd_at name entries crowds).waiting) ≡ list_any (is_waiter name) seats
 waiters_counted name clients crowds seats entries of_seats are is =
     grind (arith, crowd_there, some_pass, list_any_not, all_weaker, none_pass)
 
--- Whether a tube has jobs is told by the count of them.
+-- The count of a tube's jobs decides whether it has jobs.
 pub jobs_there : (name : List ℕ) (tallies : List Tally) (jobs : List Job) (es : List TubeRecord) → All (λ j. has_entry j.tube es ≡ true) jobs
     → tallies ≡ tallies_of jobs es → has_jobs (tally_at name es tallies) ≡ list_any (λ j. is_same_name name j.tube) jobs
 jobs_there name tallies jobs es of_jobs counted = ap has_jobs (ap (tally_at name es) counted ∙ tally_there name jobs es of_jobs) ∙ has_jobs_in name jobs
 
--- Whether a tube exists is told by its counts.
+-- The counts of a tube decide whether it exists.
 pub exists_by_counts : (jobs : List Job) (seats : List SeatRecord) (name : List ℕ) (some seated : Bool) → some ≡ list_any (λ j. is_same_name name j.tube) jobs → seated ≡ list_any (is_seated_at name) seats
     → is_tube_by some seated name ≡ is_tube_of jobs seats name
 exists_by_counts jobs seats name some seated e f = λ i. is_tube_by (e i) (f i) name
@@ -113,7 +113,7 @@ pub tube_there : (name : List ℕ) (tallies : List Tally) (crowds : List Crowd) 
     → is_tube_by (has_jobs (tally_at name es tallies)) (has_seats (crowd_at name es crowds)) name ≡ is_tube_of jobs seats name
 tube_there name tallies crowds jobs seats es entries counted was = grind (arith, jobs_there, crowd_there, has_seats_of)
 
--- at the start nobody is there
+-- at first there are no clients
 pub first_crowds : (ns : List ℕ) → AreCrowds (no_crowd ∷ []) (map empty_seat ns) (fresh_tube default_tube ∷ [])
 first_crowds ns = record { each = (λ i. sym (nobody_counted (crowd_of (map empty_seat ns) default_tube) (none (is_user default_tube) (λ n. refl) ns, (none (is_watcher default_tube) (λ n. refl) ns, none (is_waiter default_tube) (λ n. refl) ns))) i ∷ []); seated = all_seated ns }
   where

@@ -1,4 +1,4 @@
--- The next due moment, out of those of jobs, tubes and seats.
+-- The next due moment, from those of jobs, tubes and seats.
 use Rattle.std.proofs.{Common.{◌&&◌, ◌++◌, ◌-◌, ◌==◌, ◌||◌, ◌∙◌, ◌∷◌, ◌≡◌, ◌≤◌, if◌then◌else◌, Bool, List, None, Option, Some, [], ℕ, ap, arith, false, inl, inr, not, refl, sym, true}, lemmas.Bool.{cases_Bool, Decides.nat_tests}}
 use Rattle.std.proofs.lemmas.Grind.{common_steps}
 use Rattle.std.specs.{List.{AllByRecursion as All, Contains, list_all, list_any}, Prelude.{flat_map, fold, is_some, nat_lt, option_map}}
@@ -17,15 +17,15 @@ use Rattle.bq_job.proofs.ListLemmas.{list_any_not}
 dues_swap : (b x y : Option ℕ) → earlier_of_both (earlier_of_both b x) y ≡ earlier_of_both (earlier_of_both b y) x
 dues_swap b x y = grind (arith)
 
--- nobody waits who sends no more
+-- every waiting client can still send
 pub all_there : (seats : List SeatRecord) → false ≡ list_any is_gone_in_wait seats → All IsThere seats
 all_there seats none = none_pass is_gone_in_wait seats (sym none)
 
--- A client holds a job where there is a lease of it that ends first.
+-- A client holds a job if one of its leases ends first.
 pub held_some : (seat : ℕ) (jobs : List Job) → is_some (option_map (ranked (λ j. deadline_of j.state)) (first_of (is_held_by seat) is_lease_before jobs)) ≡ list_any (is_held_by seat) jobs
 held_some seat jobs = grind (arith, first_of_is_some (is_held_by seat) is_lease_before jobs)
 
--- No client does where nobody holds one.
+-- If no client holds a job, this one does not.
 pub none_held : (seat : ℕ) (jobs : List Job) → list_any (λ j. is_reserved j.state) jobs ≡ false → list_any (is_held_by seat) jobs ≡ false
 none_held seat jobs none =
     list_any_not (is_held_by seat) jobs (all_weaker (λ j. is_reserved j.state ≡ false) (λ j. is_held_by seat j ≡ false) jobs (λ j. free j.state) (none_pass (λ j. is_reserved j.state) jobs none))
@@ -36,7 +36,7 @@ none_held seat jobs none =
     free (states.Reserved holder deadline) e = absurd cc
     free (states.Buried number) e = refl
 
--- A walk over those that wait finds the first who gives up, and the first who is told of its deadline.
+-- A walk over the waiting clients finds the first timeout, and the first DEADLINE_SOON.
 pub ends_walked : (seats : List SeatRecord) → AreNumbered seats → fold (at_turn with_seat_due seats) None (turns_of seats) ≡ fold with_seat_due None seats
 ends_walked seats h = grind (arith, walked)
 

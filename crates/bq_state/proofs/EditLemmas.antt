@@ -9,7 +9,7 @@ use Rattle.bq_job.specs.machine.{TubeRecord}
 use Rattle.bq_state.proofs.PartsLemmas.{name_kept_at}
 use Rattle.bq_state.proofs.NamedLemmas.{change_kept, edit_change, edit_crowd, edit_same_crowds, edit_same_records, edit_same_tallies, edit_tally, in_order, kept_alike}
 
--- Where the records stay, so do the ends of their pauses.
+-- If the records stay the same, so do the ends of their pauses.
 pub ends_stay : (name : List ℕ) (f : KeptTube → KeptTube) (es last : List Named) (ends : CatalogSeen PauseEnd (Unit {0})) → last ≡ edited_at name f es
     → ((n : List ℕ) (t : KeptTube) → record_of n (f t) ≡ record_of n t) → AreEnds (map record_at es) ends → AreEnds (map record_at last) ends
 ends_stay name f es last ends is same h = subst (λ ts. AreEnds ts ends) (sym (ap (map record_at) is ∙ edit_same_records name f same es)) h
@@ -43,7 +43,7 @@ records_change name what es last k is seen order =
     (ap (map tally_kept) is ∙ edit_same_tallies name (kept_changed what) (λ t. refl) es ∙ ap (λ (k : KeptTubes). k.tallies) seen)
     (ap (map crowd_kept) is ∙ edit_same_crowds name (kept_changed what) (λ t. refl) es ∙ ap (λ (k : KeptTubes). k.crowds) seen)
 
--- The counts of a tube are found by its name.
+-- The counts of a tube are found under its name.
 same_tallies_at : (f : TubeRecord → TubeRecord) → ((t : TubeRecord) → (f t).name ≡ t.name) → (name : List ℕ) (g : Tally → Tally) (ts : List TubeRecord) (tallies : List Tally)
     → tallies_at name g (map f ts) tallies ≡ tallies_at name g ts tallies
 same_tallies_at f keeps name g [] tallies = refl

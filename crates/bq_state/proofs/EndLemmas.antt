@@ -47,7 +47,7 @@ least_end x ends s q h = elim (cases_Bool (is_eq (end_cmp q x.0))) [
     first_of_both : (a b : Bool) → (a && b) ≡ true → a ≡ true
     first_of_both a b h = grind (arith, common_steps)
 
--- None is kept, where no tube is paused.
+-- If no tube is paused, no end is kept.
 pub same_moment : (n : ℕ) → (n == n) ≡ true
 same_moment n = grind (arith, nat_tests)
 
@@ -117,11 +117,11 @@ hit_of e (t ∷ ts) h = grind (arith, common_steps, cases_Bool, or-true, hit_of 
 first_there : (x : PauseEnd × Unit {0}) (ends : Ends) → has_end x.0 (x ∷ ends) ≡ true
 first_there x ends = ap (λ b. is_some (cond b (Some x.1) (found_end x.0 ends))) ((grind (arith, ties)) ∙ (λ i. (same_moment x.0.until i) && (same_itself x.0.name i)))
 
--- The first end that has come is one of them, and has come.
+-- The first due end is one of the ends, and is due.
 pub one_over : (moment : ℕ) (e : PauseEnd) (ends : Ends) → Some e ≡ if_over moment (first_end ends) → (has_end e ends ≡ true) × (nat_le e.until moment ≡ true)
 one_over moment e ends h = grind (arith, first_there)
 
--- Where none has come, no pause is over.
+-- If none is due, no pause has ended.
 pub none_over_yet : (moment : ℕ) (o : Option PauseEnd) → None ≡ if_over moment o → is_end_over moment (option_map (λ e. e.until) o) ≡ false
 none_over_yet moment o h = grind (arith, common_steps)
 

@@ -139,7 +139,7 @@ module _ (name : List ℕ) (from to : Option PauseRecord) (old new : List TubeRe
           let e : record { until = q.until; name = name } ≡ q = ap (λ n. record { until = q.until; name = n }) same in
           ap (λ x. has_end x (with_end (end_of name to) left)) (sym e) ∙ own_at q.until to refl ∙ sym (m.is q.until) ∙ ap (λ x. is_end_in x new) e
 
--- The tube of one name alone is looked at.
+-- Only the tube with one name is checked.
 not_both : (b : Bool) → (b && false) ≡ false
 not_both b = grind (arith, common_steps)
 
@@ -231,7 +231,7 @@ module _ (name : List ℕ) where
   pub ends_provided : (ts : List TubeRecord) (ends last : CatalogSeen PauseEnd (Unit {0})) → AreEnds ts ends → has_entry name ts ≡ false → last.entries ≡ ends.entries → length ts + 1 ≤ length last.entries + last.spare → AreEnds (with_record (fresh_tube name) ts) last
   ends_provided ts ends last h none same room = grind (arith, fresh_ends, fresh_count)
 
--- Where no pause changes, the ends stay.
+-- If no pause changes, the ends stay the same.
 module _ (f : TubeRecord → TubeRecord) (named : (t : TubeRecord) → (f t).name ≡ t.name) (paused : (t : TubeRecord) → (f t).pause ≡ t.pause) where
   same_ends : (e : PauseEnd) (ts : List TubeRecord) → is_end_in e (map f ts) ≡ is_end_in e ts
   same_ends e [] = refl
@@ -270,7 +270,7 @@ count_stays name what es last ends paused order e h = edit_stays name (kept_chan
 pub one_box : (name : List ℕ) (p : Option PauseRecord) (e : Option PauseEnd) → e ≡ end_of name p → cond (is_some e) 1 0 ≡ one_if p
 one_box name p e is = grind (arith, common_steps)
 
--- A pause that is over ends.
+-- A pause that is due ends.
 module _ (moment : ℕ) (name : List ℕ) where
   abbrev after : TubeRecord → TubeRecord
   after = tube_after_timers moment
@@ -292,7 +292,7 @@ own_end name u v3 h = grind (arith, common_steps, cases_Bool, eqb-true)
 over_ends : (moment u : ℕ) (p : Option PauseRecord) → ends_at u p ≡ true → nat_le u moment ≡ true → pause_after_timers moment p ≡ None
 over_ends moment u p h come = grind (arith)
 
--- the first one, which has come
+-- the first one, which is due
 module _ (moment : ℕ) (e : PauseEnd) (es last : List Named) (ends : CatalogSeen PauseEnd (Unit {0})) (h : AreEnds (map record_at es) ends) (order : AreInOrder (map record_at es))
     (come : Some e ≡ if_over moment (first_end ends.entries)) (edit : last ≡ edited e.name (ended moment) (lookup (is_named_at e.name) es) es) where
   ends_then : ends_at e.until (pause_at e.name (map record_at es)) ≡ true

@@ -1,4 +1,5 @@
--- Entries whose tubes are gone are dropped from the catalog of the tubes; the others are counted and listed.
+-- Entries of tubes that no longer exist are dropped from the catalog; the others are counted and
+-- listed.
 use Rattle.std.proofs.Common.{◌++◌, ◌+◌, ◌∙◌, ◌∷◌, ◌≡◌, ◌≤◌, if◌then◌else◌, Bool, List, None, Option, Some, [], ℕ, ap, append_assoc, arith, false, inl, inr, length, map, not, refl, sym, true}
 use Rattle.std.proofs.lemmas.{Bool.cases_Bool, Grind.common_steps, List.append-nil}
 use Rattle.std.specs.{Borrow.Bor, Cmp.Lexicographic.{nat_list_cmp_total, slice_cmp}, declared.cmp.Ordering.{Ordering, TheVariants.{Equal, Greater, Less}}, List.{AllByRecursion as All, Sorted.IsStrictlySortedBy}}
@@ -34,7 +35,7 @@ module _ (jobs : List Job) (seats : List SeatRecord) where
   if_tallied true test es h = remove_tallied test es h
   if_tallied false test es h = h
 
-  -- A tube exists by its counts where it does by the jobs.
+  -- By its counts a tube exists if and only if it does by the jobs and seats.
   alive_is : (x : Named) → IsTallied jobs seats x → is_alive_at x ≡ is_tube_of jobs seats x.0
   alive_is x h = exists_by_counts jobs seats x.0 _ _ (ap has_jobs h.0 ∙ has_jobs_in x.0 jobs) (ap has_seats h.1 ∙ has_seats_of seats x.0)
 
@@ -70,7 +71,7 @@ module _ (jobs : List Job) (seats : List SeatRecord) where
           → (fold (seen_by (λ (s : HowMany) (name : List ℕ) (t : KeptTube). record { count = with_alive s.count name t })) (record { count = with_alive n x.0 x.1 }) es).count ≡ n + length (names_alive jobs seats (map record_at (x ∷ es)))
       go b e more = grind (arith, alive_is)
 
-  -- The entry of one name is dropped, where its tube is gone.
+  -- The entry with one name is dropped if its tube no longer exists.
   module _ (name : List ℕ) where
     abbrev left : Bool → List Named → List Named
     left b es = if b then remove_entry (is_named_at name) es else es
@@ -102,7 +103,7 @@ pub none_before : (es : List Named) → AllLeftBefore None es
 none_before [] = tt
 none_before (x ∷ es) = ((λ h. absurd (let g : true ≡ false = h in cc)), none_before es)
 
--- Where none is found any more, none is left.
+-- If no further entry is found, none is left.
 pub none_gone : (from : Option (List ℕ)) (es : List Named) → find (is_gone_from from) es ≡ None → AllLeftBefore from es → filter (is_alive_at) es ≡ es
 none_gone from [] h all = refl
 none_gone from (x ∷ es) h all = grind (arith, common_steps, none_gone from es)

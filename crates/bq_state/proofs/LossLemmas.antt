@@ -1,4 +1,4 @@
--- Which entries may be of tubes that are gone, as jobs and seats change.
+-- Which entries may be of tubes that have gone, as jobs and seats change.
 use Rattle.std.proofs.Common.{◌++◌, ◌||◌, ◌∙◌, ◌∷◌, ◌≡◌, ◌≤◌, ◌⊎◌, if◌then◌else◌, Bool, List, Option, Some, [], ℕ, ap, arith, false, inl, inr, length, map, not, refl, set, slice_get, suc, sym, true, zero}
 use Rattle.std.proofs.lemmas.{Bool.{cases_Bool, eqb-true, or_cases, or_left, or_right}, Grind.common_steps}
 use Rattle.std.specs.{List.{AllByRecursion as All, list_any}, Prelude.filter}
@@ -165,7 +165,7 @@ pub alive_renamed : (f : TubeRecord → TubeRecord) → ((t : TubeRecord) → (f
 alive_renamed f keeps loss jobs seats [] all = tt
 alive_renamed f keeps loss jobs seats (t ∷ entries) all = (ap (is_accounted loss jobs seats) (keeps t) ∙ all.0, alive_renamed f keeps loss jobs seats entries all.1)
 
--- Where nothing may be gone, all is kept,
+-- If no tube may have gone, all entries are kept.
 pub alive_or : (b : Bool) → (b || false) ≡ true → b ≡ true
 alive_or b h = grind (arith, common_steps)
 
@@ -173,7 +173,7 @@ pub all_kept_alive : (jobs : List Job) (seats : List SeatRecord) (entries : List
 all_kept_alive jobs seats [] all = refl
 all_kept_alive jobs seats (t ∷ entries) all = rw (alive_or (is_tube_of jobs seats t.name) all.0) (ap (λ ts. t ∷ ts) (all_kept_alive jobs seats entries all.1))
 
--- and where one may be, all the others are.
+-- If one tube may have gone, all other entries are kept.
 pub alive_but : (b c : Bool) → (b || c) ≡ true → c ≡ false → (b || false) ≡ true
 alive_but b c h e = grind (arith, common_steps)
 
@@ -191,7 +191,7 @@ pub alive_forgotten : (jobs : List Job) (seats : List SeatRecord) (entries : Lis
 alive_forgotten jobs seats [] = tt
 alive_forgotten jobs seats (t ∷ entries) = grind (arith, alive_forgotten jobs seats entries)
 
--- where as many are left, all are
+-- if equally many are left, all are
 pub as_many_left : {A : Type 0} (p : A → Bool) (xs : List A) → length xs ≤ length (filter p xs) → filter p xs ≡ xs
 as_many_left p [] h = refl
 as_many_left {A = A} p (x ∷ xs) h = go (p x) h (filter_no_longer p xs) (as_many_left p xs)

@@ -15,7 +15,7 @@ none_listed : (name : List ℕ) (names : List (List ℕ)) → All (λ n. is_name
 none_listed name [] all = refl
 none_listed name (n ∷ names) all = rw (before_differs name n all.0) (none_listed name names all.1)
 
--- what is among names in order is the first, or comes behind it
+-- an element of ordered names is the first, or comes after it
 first_or_later : (name first : List ℕ) (names : List (List ℕ)) → All (λ n. is_name_before first n ≡ true) names → list_any (is_same_name name) (first ∷ names) ≡ true
     → (name ≡ first) ⊎ (is_name_before first name ≡ true)
 first_or_later name first names all h =
@@ -34,7 +34,7 @@ first_or_later name first names all h =
 first_is : (x y : List ℕ) → (x ≡ y) ⊎ (is_name_before y x ≡ true) → (y ≡ x) ⊎ (is_name_before x y ≡ true) → x ≡ y
 first_is x y h other = grind (arith, not_before)
 
--- Names in order are told by which names are among them.
+-- Two ordered lists with the same elements are equal.
 pub same_order : (xs ys : List (List ℕ)) → is_in_order xs ≡ true → is_in_order ys ≡ true
     → ((name : List ℕ) → list_any (is_same_name name) xs ≡ list_any (is_same_name name) ys) → xs ≡ ys
 same_order [] [] h k same = refl
@@ -93,7 +93,7 @@ among p name (t ∷ entries) = go (is_same_name name t.name) (p t.name) refl ref
 pub tubes_in_order : (m : Machine) → is_in_order (tubes m) ≡ true
 tubes_in_order m = in_order_fold (default_tube ∷ map (λ j. j.tube) m.jobs ++ flat_map seated_tubes m.seats) [] refl
 
--- What has an entry and exists are the tubes.
+-- The tubes are those that have an entry and exist.
 pub alive_are_tubes : (m : Machine) (entries : List TubeRecord) → AreEntries m.jobs m.seats entries → names_alive m.jobs m.seats entries ≡ tubes m
 alive_are_tubes m entries e =
     same_order (names_alive m.jobs m.seats entries) (tubes m)
@@ -158,6 +158,6 @@ when_ok r a b h = rw h refl
 pub lent_or : {A B : Type 0} (f : A → B) (o : Option (Bor A)) (other : Bor A) (x : Option B) → option_map (λ b. f b.now) o ≡ x → f (unwrap_or o other).now ≡ unwrap_or x (f other.now)
 lent_or f o other x h = grind (arith, common_steps)
 
--- Names in order are listed as they are.
+-- Names in order are listed unchanged.
 pub list_of_order : (names : List (List ℕ)) → name_list (in_name_order names) ≡ name_list names
 list_of_order names = ap (λ ns. codes "---\n" ++ flat_map name_line ns) (stays_fold (in_name_order names) [] (in_order_fold names [] refl))

@@ -1,4 +1,4 @@
--- What lies in the catalog of the tubes: entries found by their names.
+-- The contents of the catalog of tubes: entries found by name.
 use Rattle.std.proofs.{Common.{◌&&◌, ◌+◌, ◌||◌, ◌∙◌, ◌∷◌, ◌≡◌, if◌then◌else◌, Bool, List, Option, Some, [], ℕ, ap, arith, cond, false, inl, inr, is_some, map, refl, suc, sym, true}, lemmas.Bool.cases_Bool}
 use Rattle.std.proofs.lemmas.{Bool.or_parts, Grind.common_steps}
 use Rattle.std.specs.{Borrow.Bor, BTreeMap.insert_entry, Cmp.Lexicographic.{nat_list_cmp_total, slice_cmp, texts_ties}, declared.cmp.Ordering.{Ordering, TheVariants.{Equal, Greater, Less}}}
@@ -44,7 +44,7 @@ module _ (name : List ℕ) where
   found_any [] = refl
   found_any (x ∷ es) = grind (arith, at, found_any es)
 
-  -- by which it is told whether the tube is paused,
+  -- It decides whether the tube is paused.
   pub found_pause : (es : List Named) → AreInOrder (map record_at es) → is_paused_by (lookup (is_named_at name) es) ≡ list_any (λ t. is_same_name name t.name && is_some t.pause) (map record_at es)
   found_pause [] order = refl
   found_pause (x ∷ es) order = elim (cases_Bool (is_same_name name x.0)) [
@@ -63,7 +63,7 @@ module _ (name : List ℕ) where
       no_pause (t ∷ ts) h =
           grind (arith, common_steps, cases_Bool, or_parts, no_pause ts (or_parts (is_same_name name t.name) (has_entry name ts) h).1)
 
-  -- and how many jobs it has.
+  -- It contains the counts of the tube's jobs.
   pub found_tally : (es : List Named) → tally_by (lookup (is_named_at name) es) ≡ tally_at name (map record_at es) (map tally_kept es)
   found_tally [] = refl
   found_tally (x ∷ es) = grind (arith, at, found_tally es)

@@ -1,4 +1,4 @@
--- What changes of the state keep.
+-- What changes of the state leave unchanged.
 use Rattle.std.proofs.Common.{◌++◌, ◌+◌, ◌<◌, ◌==◌, ◌^◌, ◌||◌, ◌∙◌, ◌∷◌, ◌≡◌, ◌≤◌, if◌then◌else◌, Bool, List, None, Some, [], ℕ, ap, arith, get_or, inl, inr, length, map, refl, set, slice_get, subst, suc, sym, true, zero}
 use Rattle.std.proofs.lemmas.{Bool.{and_parts, cases_Bool, eq-eqb, ne_eqb, or_cases}, List.length-map, Option.slice_get-get_or}
 use Rattle.std.proofs.lemmas.Grind.{common_steps}
@@ -73,7 +73,7 @@ pub no_job_changed : (id : ℕ) (f : Job → Job) (jobs : List Job) → job_with
 no_job_changed id f [] h = refl
 no_job_changed id f (k ∷ jobs) h = grind (arith, common_steps, cases_Bool, no_job_changed id f jobs)
 
--- Where jobs were only looked at, the state is still sound.
+-- If jobs were only searched, the state still satisfies its invariants.
 pub compared_sound : (st : CoreParts) (jobs : Kept) → jobs ≡ record st.jobs { comparisons = jobs.comparisons }
     → Soundness jobs.jobs st.seats.items st.tubes st.waiting st.known st.next_id st.draining
 compared_sound st jobs same = grind (arith, common_steps)
@@ -81,7 +81,7 @@ compared_sound st jobs same = grind (arith, common_steps)
 pub compared_numbered : (st : CoreParts) (jobs : Kept) → jobs ≡ record st.jobs { comparisons = jobs.comparisons } → HaveNumbers jobs.tubes st.tubes.entries
 compared_numbered st jobs same = subst (λ (k : Kept). HaveNumbers k.tubes st.tubes.entries) (sym same) st.numbered
 
--- or where an id was given.
+-- It also does if an id was given out.
 pub sound_given : (st : CoreParts) → Soundness st.jobs.jobs st.seats.items st.tubes st.waiting st.known (st.next_id + 1) (nat_le 18446744073709551614 st.next_id)
 sound_given st = grind (arith, ids_further)
 
@@ -297,4 +297,4 @@ pub some_at : {A : Type 0} (xs : List A) (i : ℕ) → i < length xs → (x : A)
 some_at [] i h = absurd (omega arith)
 some_at (x ∷ xs) i h = (get_or (x ∷ xs) i x, slice_get-get_or (x ∷ xs) i x h)
 
--- what is told of a value that was had
+-- what holds of a value that was returned

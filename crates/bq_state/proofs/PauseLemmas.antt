@@ -21,7 +21,7 @@ fresh_adds_none name (t ∷ entries) best h =
 pub end_provided : (name : List ℕ) (entries : List TubeRecord) → first_pause_end (provided name entries) ≡ first_pause_end entries
 end_provided name entries = grind (arith, fresh_adds_none)
 
--- Where the first end is yet to come, no pause is over.
+-- If the first end is not due yet, no pause is.
 all_to_come : (moment : ℕ) (best : Option ℕ) (entries : List TubeRecord) → is_end_over moment (fold with_tube_due best entries) ≡ false → (is_end_over moment best ≡ false) × (list_any (is_pause_over moment) entries ≡ false)
 all_to_come moment best [] h = (h, refl)
 all_to_come moment best (t ∷ entries) h =

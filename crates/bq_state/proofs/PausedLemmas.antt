@@ -1,4 +1,4 @@
--- Where no end of a pause is kept, no tube is paused.
+-- If no end of a pause is kept, no tube is paused.
 use Rattle.std.proofs.Common.{ap, map, ◌&&◌, ◌∷◌, ◌≡◌, List, [], length, ℕ, ◌∙◌, arith, count_by, false, is_some, refl, sym}
 use Rattle.std.proofs.lemmas.Grind.{common_steps}
 use Rattle.std.specs.List.{list_any}

@@ -38,17 +38,17 @@ module _ (chosen passes : Job → Bool) where
         let taken = count_taken (λ k. chosen k && passes k) low next id j jobs ids found in
         both_count (without id jobs) ∙ sym (rw e (omega arith)) ∙ taken ∙ sym (both_count jobs)
 
--- The counts of chosen jobs, once one of them comes,
+-- The counts of chosen jobs after a chosen job is added.
 pub tally_added : (chosen : Job → Bool) (j : Job) (jobs : List Job) → length (with_added j jobs) ≤ greatest → chosen j ≡ true
     → tally_of (filter chosen (with_added j jobs)) ≡ tally_with j (tally_of (filter chosen jobs))
 tally_added chosen j jobs fits e = grind (arith, some_added)
 
--- or another one comes,
+-- The same after another job is added.
 pub tally_stays_added : (chosen : Job → Bool) (j : Job) (jobs : List Job) → chosen j ≡ false
     → tally_of (filter chosen (with_added j jobs)) ≡ tally_of (filter chosen jobs)
 tally_stays_added chosen j jobs e = grind (arith, both_count, count_added)
 
--- one of them goes,
+-- The same after a chosen job is removed.
 pub tally_taken : (chosen : Job → Bool) (low next id : ℕ) (j : Job) (jobs : List Job) → AreIdsWithin low jobs next → job_with id jobs ≡ Some j
     → chosen j ≡ true → tally_of (filter chosen (without id jobs)) ≡ tally_without j (tally_of (filter chosen jobs))
 tally_taken chosen low next id j jobs ids found e = λ i. record {
@@ -59,7 +59,7 @@ tally_taken chosen low next id j jobs ids found e = λ i. record {
   buried = some_taken chosen (λ k. is_buried k.state) low next id j jobs ids found e i;
 }
 
--- or another one goes.
+-- The same after another job is removed.
 pub tally_stays_taken : (chosen : Job → Bool) (low next id : ℕ) (j : Job) (jobs : List Job) → AreIdsWithin low jobs next → job_with id jobs ≡ Some j
     → chosen j ≡ false → tally_of (filter chosen (without id jobs)) ≡ tally_of (filter chosen jobs)
 tally_stays_taken chosen low next id j jobs ids found e = λ i. record {

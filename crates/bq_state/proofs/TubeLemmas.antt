@@ -211,6 +211,7 @@ pub some_left : {A : Type 0} (p : A → Bool) (xs : List A) → list_any p xs �
 some_left p [] h = absurd cc
 some_left {A = A} p (x ∷ xs) h = grind (arith, common_steps, some_left p xs)
 
--- The place of the first that doesn't pass, or the end, where the search for it is told.
+-- The place of the first element that doesn't pass, or the end, from the result of the search for
+-- it.
 pub place_told : {A : Type 0} (p : A → Bool) (xs : List A) (o : Option ℕ) (r : ℕ) → r ≡ unwrap_or o (length xs) → o ≡ position (λ x. not (p x)) xs → r ≡ prefix_len p xs
 place_told p xs o r is found = is ∙ ap (λ k. unwrap_or k (length xs)) found ∙ place_read p xs

@@ -1,4 +1,4 @@
--- The turns of those that wait, once one seat changes.
+-- The turns of the waiting clients after one seat changes.
 use Rattle.std.proofs.Common.{◌+◌, ◌-◌, ◌<◌, ◌==◌, ◌∙◌, ◌∷◌, ◌≡◌, ◌≤◌, if◌then◌else◌, Bool, List, None, Option, Some, [], ℕ, ap, arith, cond, false, inl, inr, length, map, not, refl, set, slice_get, subst, suc, sym, true, zero}
 use Rattle.std.proofs.lemmas.{Bool.{cases_Bool, eq-eqb, eqb-true}, Grind.common_steps, List.length-map}
 use Rattle.std.specs.{Cmp.IsStrictWeakOrder, List.{AllByRecursion as All, insert, position, prefix_len, remove}, Prelude.count_by}

@@ -1,4 +1,5 @@
--- A walk over those that wait, in their turn, comes to the same as one over all seats.
+-- A walk over the waiting clients, in order of their turns, has the same result as one over all
+-- seats.
 use Rattle.std.proofs.Common.{◌<◌, ◌==◌, ◌∙◌, ◌∷◌, ◌≡◌, ◌≤◌, if◌then◌else◌, Bool, List, None, Option, Some, [], ℕ, ap, arith, false, length, map, refl, slice_get, suc, sym, true}
 use Rattle.std.proofs.lemmas.{Bool.{eq-eqb, ne_eqb}, List.Folds.find_at, Option.{slice_get_past, slice_get_within}}
 use Rattle.std.proofs.lemmas.Grind.{common_steps}
@@ -40,7 +41,7 @@ read_each seats h = all_from_members (λ s. slice_get seats s.number ≡ Some s)
 read_in_turn : (seats : List SeatRecord) → AreNumbered seats → All (λ s. slice_get seats s.number ≡ Some s) (in_turn seats)
 read_in_turn seats h = all_in_turn (λ s. slice_get seats s.number ≡ Some s) seats (all_weaker (λ s. slice_get seats s.number ≡ Some s) (λ s. is_waiting s ≡ true → slice_get seats s.number ≡ Some s) seats (λ s e _. e) (read_each seats h))
 
--- a fold in which it is the same what comes first
+-- a fold in which the order does not matter
 fold_placed : {A B : Type 0} (f : B → A → B) (before : A → A → Bool) (x : A) (ys : List A) → All (λ y. (b : B) → f (f b x) y ≡ f (f b y) x) ys → (b : B) → fold f b (placed before x ys) ≡ fold f (f b x) ys
 fold_placed f before x [] all b = refl
 fold_placed {A = A} {B = B} f before x (y ∷ ys) all b = grind (arith, common_steps, fold_placed f before x ys)
@@ -148,7 +149,7 @@ any_found : {A : Type 0} (q : A → Bool) (xs : List A) → list_any q xs ≡ is
 any_found q [] = refl
 any_found q (x ∷ xs) = grind (arith, any_found q xs)
 
--- One of the turns passes exactly where a client does.
+-- One of the turns passes if and only if a client does.
 pub any_turn : (p : SeatRecord → Bool) (seats : List SeatRecord) → AreNumbered seats → ((s : SeatRecord) → is_waiting s ≡ false → p s ≡ false) → list_any (passes_at p seats) (turns_of seats) ≡ list_any p seats
 any_turn p seats h waits =
     any_found (passes_at p seats) (turns_of seats)
@@ -162,7 +163,7 @@ any_turn p seats h waits =
 pub none_first : (o : Option SeatRecord) → None ≡ option_map turn_of o → None ≡ o
 none_first o h = grind (arith, common_steps)
 
--- Who was found stands at the place of its number.
+-- The client that was found is at the index of its number.
 pub first_read : (p : SeatRecord → Bool) (seats : List SeatRecord) → AreNumbered seats → (t : ℕ × ℕ) → Some t ≡ option_map turn_of (first_of p is_wait_before seats)
     → (slice_get seats t.1 ≡ first_of p is_wait_before seats) × (t.1 < length seats)
 first_read p seats h t is = go (first_of p is_wait_before seats) refl is

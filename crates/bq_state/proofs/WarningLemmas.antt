@@ -25,7 +25,7 @@ AtLeast warns more = (number : ℕ) → may_warn warns number ≡ true → may_w
 more_if : (b : Bool) (state : JobState) (warns : Warns) → AtLeast warns (if b then with_holder_of state warns else warns)
 more_if b state warns number h = grind (arith)
 
--- who holds a job in this state is known
+-- the holder of a job in this state is known
 known_of : (b : Bool) (state : JobState) (warns : Warns) (number : ℕ) → b ≡ true → is_holder number state ≡ true → may_warn (if b then with_holder_of state warns else warns) number ≡ true
 known_of b state warns number e h = grind (arith)
 
@@ -37,7 +37,7 @@ none_found number (t ∷ seats) h = go (t.number == number) refl h (none_found n
         → ((t.number == number) ≡ false) × All (λ u. (u.number == number) ≡ false) seats
     go b e h rest = grind (arith, common_steps)
 
--- who holds a job is at the seat of its state
+-- the holder of a job is at the seat in the job's state
 holder_found : (j : Job) (seats : List SeatRecord) (s : SeatRecord) → AreNumbered seats → Contains seats s → holds_in_wait j s ≡ true → has_waiting_holder j.state seats ≡ true
 holder_found j seats s numbered here h = go j.state (parts.1)
   where
@@ -76,7 +76,7 @@ warned_of_seat number what warns jobs seats holds known =
 pub warned_watching : (names : List (List ℕ)) (i : ℕ) (s : SeatRecord) (warns : Warns) (jobs : List Job) (seats : List SeatRecord) → slice_get seats i ≡ Some s → AreWarned warns jobs seats → AreWarned warns jobs (set seats i (watching names s))
 warned_watching names i s warns jobs seats here known = grind (arith, all_weaker, all_set, all_read)
 
--- where no warning is due, no client that waits holds a job
+-- if no warning is due, no waiting client holds a job
 all_none : {A : Type 0} (f : A → Option ℕ) (best : Option ℕ) (xs : List A) → fold (λ b x. earlier_of_both b (f x)) best xs ≡ None → (best ≡ None) × All (λ x. f x ≡ None) xs
 all_none f best [] h = (h, tt)
 all_none f best (x ∷ xs) h = grind (arith, all_none f (earlier_of_both best (f x)) xs h)

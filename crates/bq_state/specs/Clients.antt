@@ -6,7 +6,7 @@ use Rattle.bq_state.specs.{declared.known.Clients.Clients, Tallies.{count_with, 
 abbrev pub clients_of : List SeatRecord → Clients
 clients_of seats = record { connected = count_by (λ s. s.connected) seats; waiting = count_by is_waiting seats }
 
--- there is a seat, and it passes
+-- there is a seat, and it passes the test
 abbrev pub seat_passes : (SeatRecord → Bool) → Option SeatRecord → Bool
 seat_passes p None = false
 seat_passes p (Some s) = p s

@@ -1,4 +1,4 @@
--- The machine that a core stands for.
+-- The machine that a core represents.
 use Rattle.std.specs.{Global.Global, Prelude.{◌≡◌, Bool, List, Some, Vec, ℕ, count_by}}
 use Rattle.bq_job.specs.declared.{job.Job.Job, settings.Settings.Settings}
 use Rattle.bq_job.specs.machine.{SeatRecord, seat_with, watching, with_seat, Machine.Machine}
@@ -6,7 +6,7 @@ use Rattle.bq_jobs.specs.Kept.{Kept}
 use Rattle.bq_state.specs.declared.{core_parts.CoreParts.CoreParts, known.Known.Known}
 use Rattle.bq_state.specs.{KeptTubes.KeptTubes, TubeEntries.counted, WaitingTurns.WaitingTurns}
 
--- what a state holds beside the fact that it is sound
+-- the fields of a state, without its invariants
 pub record Held : Type 0 where
   pub config : Settings
   pub jobs : Kept
@@ -60,7 +60,7 @@ machine_held h = record {
 abbrev pub machine_of : CoreParts → Machine
 machine_of s = machine_held (held s)
 
--- It is the same but for the count of comparisons.
+-- The state is the same except for the comparison count.
 abbrev pub OnlyCompares : CoreParts → CoreParts → Type 0
 OnlyCompares old new = held new ≡ record (held old) { jobs = record old.jobs { comparisons = new.jobs.comparisons } }
 
@@ -68,7 +68,7 @@ OnlyCompares old new = held new ≡ record (held old) { jobs = record old.jobs {
 abbrev pub count_jobs : (Job → Bool) → CoreParts → ℕ
 count_jobs passes s = count_by passes s.jobs.jobs
 
--- this is so of the record of this seat, if there is one
+-- this holds for the record of this seat, if there is one
 abbrev pub AtSeat : ℕ → CoreParts → (SeatRecord → Type 0) → Type 0
 AtSeat seat state P = (s : SeatRecord) → seat_with seat (machine_of state).seats ≡ Some s → P s
 

@@ -1,4 +1,4 @@
--- How many tubes the clients watch that wait.
+-- How many tubes the waiting clients watch.
 use Rattle.std.specs.{List.sum_by, Prelude.{if◌then◌else◌, ℕ, length}}
 use Rattle.bq_job.specs.machine.{SeatRecord, is_waiting, Machine.Machine}
 
@@ -6,6 +6,6 @@ use Rattle.bq_job.specs.machine.{SeatRecord, is_waiting, Machine.Machine}
 abbrev pub waited_tubes : SeatRecord → ℕ
 waited_tubes s = if is_waiting s then length s.watched else 0
 
--- how many tubes the clients watch that wait
+-- how many tubes the waiting clients watch
 abbrev pub waited : Machine → ℕ
 waited m = sum_by waited_tubes m.seats

@@ -1,4 +1,4 @@
--- What is kept of tubes whose counts are those of jobs and of seats.
+-- Records of tubes whose counts are those of jobs and of seats.
 use Rattle.std.specs.Prelude.{◌≡◌, List, Option, ℕ, filter, map}
 use Rattle.bq_job.specs.{declared.job.Job.Job, machine.SeatRecord}
 use Rattle.bq_state.specs.declared.{known.{Loss.Loss, Tally.Tally}, tubes.entry.{Crowd.Crowd, Moving.Moving, Share.Share}}
@@ -10,20 +10,20 @@ use Rattle.bq_state.specs.declared.tubes.entry.TubeChange.TheVariants.{CountDele
 abbrev pub AreCounts : KeptTubes → List Job → List SeatRecord → Type 0
 AreCounts k jobs seats = (k.tallies ≡ tallies_of jobs k.entries) × (k.crowds ≡ crowds_of seats k.entries)
 
--- this is so of all jobs and seats of which the counts are
+-- this holds for all jobs and seats to which the counts belong
 abbrev pub IfCounted : KeptTubes → (List Job → List SeatRecord → Type 0) → Type 0
 IfCounted k P =
     (jobs : List Job) (seats : List SeatRecord)
     → k.tallies ≡ tallies_of jobs k.entries → k.crowds ≡ crowds_of seats k.entries → P jobs seats
 
--- Where it is known which entries may be of tubes that are gone, those of tubes that exist are left.
+-- If it is known which entries may be of tubes that have gone, those of existing tubes are kept.
 abbrev pub DropsGone : Loss → KeptTubes → KeptTubes → Type 0
 DropsGone loss old new =
     (jobs : List Job) (seats : List SeatRecord) → AreInOrder old.entries → AreAlive loss jobs seats old.entries
     → old.tallies ≡ tallies_of jobs old.entries → old.crowds ≡ crowds_of seats old.entries
     → new.entries ≡ filter (λ t. is_tube_of jobs seats t.name) old.entries
 
--- what is kept once a tube has an entry
+-- the records after a tube got an entry
 abbrev pub tubes_with : List ℕ → KeptTubes → KeptTubes
 tubes_with name k = record {
   entries = provided name k.entries;
@@ -31,18 +31,18 @@ tubes_with name k = record {
   crowds = crowds_provided name k.entries k.crowds;
 }
 
--- with the counts of the jobs of the tube of this name changed by f, and with those of its clients
+-- with f applied to the job counts of the tube with this name, or to its client counts
 abbrev pub with_tallies_at : List ℕ → (Tally → Tally) → KeptTubes → KeptTubes
 with_tallies_at name f k = record k { tallies = tallies_at name f k.entries k.tallies }
 
 abbrev pub with_crowds_at : List ℕ → (Crowd → Crowd) → KeptTubes → KeptTubes
 with_crowds_at name f k = record k { crowds = crowds_at name f k.entries k.crowds }
 
--- and with those of the clients of each of these tubes
+-- with f applied to the client counts of each of these tubes
 abbrev pub with_crowds_at_all : List (List ℕ) → (Crowd → Crowd) → KeptTubes → KeptTubes
 with_crowds_at_all names f k = record k { crowds = crowds_at_all names f k.entries k.crowds }
 
--- with a job more that was put, and with one less that was deleted
+-- with one more job, that was put, or one fewer, that was deleted
 abbrev pub with_job_put : Job → KeptTubes → KeptTubes
 with_job_put j k =
     let entries = map (tube_changed_at j.tube CountPut) k.entries in
@@ -53,6 +53,6 @@ with_job_deleted j k =
     let entries = map (tube_changed_at j.tube CountDelete) k.entries in
     record k { entries = entries; tallies = tallies_without j entries k.tallies }
 
--- once what a seat counts for, if there is this seat, comes or goes
+-- after the shares of a seat, if there is one, were added or removed
 abbrev pub recounted_for : Moving → Share → Option SeatRecord → KeptTubes → KeptTubes
 recounted_for moving what o k = record k { crowds = crowds_recounted_for moving what o k.entries k.crowds }

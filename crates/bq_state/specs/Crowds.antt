@@ -4,7 +4,7 @@ use Rattle.bq_job.specs.{beside.none_twice, machine.{SeatRecord, TubeRecord, is_
 use Rattle.bq_state.specs.declared.{seats.SeatChange.{SeatChange, TheVariants.{Clear, Connect, End, StopWaiting, Use, Wait}}, tubes.entry.{Crowd.Crowd, Moving.{Moving, TheVariants.{Comes, Goes}}, Share.Share}}
 use Rattle.bq_state.specs.{SeatStates.is_connected, Tallies.{count_with, count_without}, TubeEntries.has_entry}
 
--- an open seat uses the tube, or watches it, or a client waits at it
+-- a connected client uses the tube, watches it, or waits for its jobs
 abbrev pub is_user : List ℕ → SeatRecord → Bool
 is_user name s = s.connected && is_same_name name s.used
 
@@ -32,7 +32,7 @@ crowds_of seats entries = map (crowd_in seats) entries
 abbrev pub is_none : Share → Bool
 is_none share = not share.using && (not share.watching && not share.waiting)
 
--- the counts with a share
+-- the counts with a share added
 abbrev pub crowd_with : Share → Crowd → Crowd
 crowd_with share c = record {
   using = count_with share.using c.using;
@@ -40,7 +40,7 @@ crowd_with share c = record {
   waiting = count_with share.waiting c.waiting;
 }
 
--- the counts without a share
+-- the counts with a share removed
 abbrev pub crowd_without : Share → Crowd → Crowd
 crowd_without share c = record {
   using = count_without share.using c.using;
@@ -48,7 +48,7 @@ crowd_without share c = record {
   waiting = count_without share.waiting c.waiting;
 }
 
--- the counts, once a share comes or goes
+-- the counts after a share was added or removed
 abbrev pub recounted : Moving → Share → Crowd → Crowd
 recounted Comes share c = crowd_with share c
 recounted Goes share c = crowd_without share c
@@ -57,11 +57,11 @@ recounted Goes share c = crowd_without share c
 abbrev pub has_seats : Crowd → Bool
 has_seats c = nat_lt 0 c.using || nat_lt 0 c.watching
 
--- the counts of the default tube at the start, and of a tube that gets an entry
+-- the counts of the default tube at first, and of a tube that gets an entry
 abbrev pub no_crowd : Crowd
 no_crowd = record { using = 0; watching = 0; waiting = 0 }
 
--- what a change of a seat can touch
+-- which counts a change of a seat can affect
 abbrev pub touched : SeatChange → Share
 touched StopWaiting = record { using = false; watching = false; waiting = true }
 touched (Wait ticket until) = record { using = false; watching = false; waiting = true }
@@ -70,26 +70,26 @@ touched Clear = record { using = true; watching = true; waiting = true }
 touched End = record { using = false; watching = false; waiting = false }
 touched (Use tube) = record { using = true; watching = false; waiting = false }
 
--- who comes to wait is connected
+-- a client that begins to wait is connected
 abbrev pub may_wait : SeatChange → Option SeatRecord → Bool
 may_wait (Wait ticket until) o = is_connected o
 may_wait _ o = true
 
--- what of it the seat counts for at the tube that it uses, and at those that it watches
+-- the shares of a seat at the tube that it uses, and at those that it watches, restricted to `what`
 abbrev pub share_as_user : Share → SeatRecord → Share
 share_as_user what s = record { using = what.using && s.connected; watching = false; waiting = false }
 
 abbrev pub share_as_watcher : Share → SeatRecord → Share
 share_as_watcher what s = record { using = false; watching = what.watching && s.connected; waiting = what.waiting && is_waiting s }
 
--- what a seat counts for at a tube more that it watches, and at one that it may watch
+-- the share of a seat at one more tube that it watches, and at a tube that it may watch
 abbrev pub share_of_watcher : SeatRecord → Share
 share_of_watcher s = record { using = false; watching = s.connected; waiting = is_waiting s }
 
 abbrev pub share_of_watching : List ℕ → SeatRecord → Share
 share_of_watching name s = record { using = false; watching = is_watcher name s; waiting = is_waiter name s }
 
--- the counts beside the entries, changed by f at the first entry of this name
+-- the list of counts, parallel to the entries, with f applied at the first entry of this name
 abbrev pub crowds_at : List ℕ → (Crowd → Crowd) → List TubeRecord → List Crowd → List Crowd
 crowds_at name f [] crowds = crowds
 crowds_at name f (t ∷ entries) [] = []
@@ -100,7 +100,7 @@ crowds_at name f (t ∷ entries) (crowd ∷ crowds) =
 abbrev pub crowds_at_all : List (List ℕ) → (Crowd → Crowd) → List TubeRecord → List Crowd → List Crowd
 crowds_at_all names f entries crowds = fold (λ some name. crowds_at name f entries some) crowds names
 
--- the counts, once what a seat counts for comes or goes
+-- the counts after the shares of a seat were added or removed
 abbrev pub crowds_recounted : Moving → Share → SeatRecord → List TubeRecord → List Crowd → List Crowd
 crowds_recounted moving what s entries crowds =
     let as_user = crowds_at s.used (recounted moving (share_as_user what s)) entries crowds in
@@ -122,7 +122,7 @@ abbrev pub crowds_provided : List ℕ → List TubeRecord → List Crowd → Lis
 crowds_provided name entries crowds =
     if has_entry name entries then crowds else insert crowds (prefix_len (λ t. is_name_before t.name name) entries) no_crowd
 
--- Who waits is connected, and watches no tube twice.
+-- A waiting client is connected, and watches no tube twice.
 pub record IsSeated (s : SeatRecord) : Type 0 where
   pub waits : is_waiting s ≡ true → s.connected ≡ true
   pub once : none_twice s.watched ≡ true

@@ -1,4 +1,4 @@
--- The least of moments, where there are any.
+-- The earliest of moments, if there are any.
 use Rattle.std.specs.{Option.option_map, Prelude.{◌-◌, if◌then◌else◌, Bool, List, None, Option, Some, ℕ, false, fold, length, nat_le, nat_lt}}
 use Rattle.bq_job.specs.declared.job.Job.{Job}
 use Rattle.bq_job.specs.{beside.{dues_of_pause, dues_of_wait, earlier, earliest}, machine.{SeatRecord, TubeRecord, due_of, first_of, is_delayed, is_due_before, is_held_by, is_reserved, is_waiting}}
@@ -9,17 +9,17 @@ abbrev pub earlier_of_both : Option ℕ → Option ℕ → Option ℕ
 earlier_of_both None other = other
 earlier_of_both (Some due) other = Some (earlier due other)
 
--- a second before the first of the deadlines of the jobs that a waiting client holds
+-- one second before the first deadline of the jobs that a waiting client holds
 abbrev pub warning_due : List Job → SeatRecord → Option ℕ
 warning_due jobs s =
     if is_waiting s then option_map (λ j. deadline_of j.state - 1000) (first_of (is_held_by s.number) is_lease_before jobs) else None
 
--- the same of the client at a seat, if there is one
+-- the same for the client at a seat, if there is one
 abbrev pub warning_due_at : List Job → Option SeatRecord → Option ℕ
 warning_due_at jobs None = None
 warning_due_at jobs (Some s) = warning_due jobs s
 
--- the least so far, once this seat or this tube is looked at
+-- the earliest so far, including this seat or this tube
 abbrev pub with_warning_due : List Job → Option ℕ → SeatRecord → Option ℕ
 with_warning_due jobs best s = earlier_of_both best (warning_due jobs s)
 
@@ -30,17 +30,17 @@ with_tube_due best t = earlier_of_both best (earliest (dues_of_pause t.pause))
 abbrev pub first_pause_end : List TubeRecord → Option ℕ
 first_pause_end entries = fold with_tube_due None entries
 
--- and after a change, where that was it before: only a pause may change it
+-- the same after a change, given its value before: only a pause may change it
 abbrev pub pause_end_after : List TubeRecord → TubeChange → Option ℕ → Option ℕ
 pause_end_after entries CountPut last = last
 pause_end_after entries CountDelete last = last
 pause_end_after entries (Pause seconds moment) last = first_pause_end entries
 
--- and once entries were dropped, where that was it before
+-- the same after entries were dropped, given its value before
 abbrev pub pause_end_left : List TubeRecord → ℕ → Option ℕ → Option ℕ
 pause_end_left entries were last = if nat_lt (length entries) were then first_pause_end entries else last
 
--- a pause that ends then, if there is one, is over
+-- there is a pause that ends then, and it is due
 abbrev pub is_end_over : ℕ → Option ℕ → Bool
 is_end_over moment None = false
 is_end_over moment (Some end) = nat_le end moment
@@ -55,6 +55,6 @@ timers_due jobs =
     (option_map (λ j. due_of j.state) (first_of (λ j. is_delayed j.state) is_due_before jobs))
     (option_map (λ j. deadline_of j.state) (first_of (λ j. is_reserved j.state) is_lease_before jobs))
 
--- one of them, or what comes a second before it
+-- the earliest of these, or one second before it
 abbrev pub jobs_due : List Job → List SeatRecord → Option ℕ
 jobs_due jobs seats = earlier_of_both (timers_due jobs) (fold (with_warning_due jobs) None seats)

@@ -11,21 +11,22 @@ use Rattle.bq_jobs.specs.Leases.{deadline_of}
 abbrev pub is_lease_short : ℕ → Job → Bool
 is_lease_short moment j = is_reserved j.state && nat_le (deadline_of j.state) (moment + 1000)
 
--- the moment that was found, if one was, comes within a second
+-- a moment was found, and comes within a second
 abbrev pub is_soon : ℕ → Option (ℕ × ℕ) → Bool
 is_soon moment None = false
 is_soon moment (Some rank) = nat_le (rank.0 - 1000) moment
 
--- a client whose wait is over by its timeout, or because the client sends no more
+-- a client whose wait has timed out, or which sends no more
 abbrev pub has_waited : ℕ → SeatRecord → Bool
 has_waited moment s = is_waiting s && is_timed_out_at moment s
 
--- somebody waits, and some wait is over or some time to run ends within a second: a wait may end now
+-- a wait may end now: a client waits, and some wait has timed out or some time to run ends within a
+-- second
 abbrev pub may_end : Machine → Bool
 may_end m =
     list_any is_waiting m.seats && (list_any (has_waited m.moment) m.seats || list_any (is_lease_short m.moment) m.jobs)
 
--- the client's turn among those that wait: by its ticket, and then by its seat
+-- the client's turn among the waiting clients: by its ticket, then by its seat
 abbrev pub turn_of : SeatRecord → ℕ × ℕ
 turn_of s = (ticket_of s.wait, s.number)
 
@@ -41,11 +42,11 @@ waits_after last s = is_waiting s && is_after last s
 abbrev pub left_after : Option (ℕ × ℕ) → Machine → ℕ
 left_after last m = count_by (waits_after last) m.seats
 
--- All waiting clients up to this turn were looked at: whose wait ends now comes after it.
+-- All waiting clients up to this turn were checked: a client whose wait ends now comes after it.
 abbrev pub AreLookedAt : Machine → Option (ℕ × ℕ) → Type 0
 AreLookedAt m last = AllByRecursion (λ s. ends_waiting m s ≡ true → is_after last s ≡ true) m.seats
 
--- what a waiting client is told if its wait ends now
+-- the answer to a waiting client if its wait ends now
 abbrev pub told_at_end : Machine → SeatRecord → Option Answer
 told_at_end m s =
     if is_deadline_soon m s then Some answers.DeadlineSoon else (if is_timed_out m s then Some answers.TimedOut else None)

@@ -1,10 +1,10 @@
--- When the first wait of a client is over by its timeout.
+-- When the first wait times out.
 use Rattle.std.specs.{List.AllByRecursion, Prelude.{◌&&◌, ◌≡◌, if◌then◌else◌, Bool, List, None, Option, Some, ℕ, false, fold, is_some, not, true}}
 use Rattle.bq_job.specs.{beside.{dues_of_wait, earliest}, machine.{SeatRecord, is_waiting}}
 use Rattle.bq_state.specs.declared.{known.FirstEnd.{FirstEnd, TheVariants.{Known, Unknown}}, seats.SeatChange.{SeatChange, TheVariants.{Clear, Connect, End, StopWaiting, Use, Wait}}}
 use Rattle.bq_state.specs.Dues.{with_seat_due}
 
--- when the client gives up, if it waits
+-- when the client's wait times out, if it waits
 abbrev pub gives_up_at : SeatRecord → Option ℕ
 gives_up_at s = earliest (dues_of_wait s.wait)
 
@@ -15,12 +15,12 @@ is_gone_in_wait s = is_waiting s && s.ended
 abbrev pub IsThere : SeatRecord → Type 0
 IsThere s = is_gone_in_wait s ≡ false
 
--- What is known of the first end is so.
+-- What is known of the first end is true.
 abbrev pub AreTimeouts : FirstEnd → List SeatRecord → Type 0
 AreTimeouts Unknown seats = Unit {0}
 AreTimeouts (Known first) seats = (fold with_seat_due None seats ≡ first) × AllByRecursion IsThere seats
 
--- the change leaves when the client gives up
+-- the change does not affect when the client's wait times out
 abbrev pub keeps_end : SeatChange → SeatRecord → Bool
 keeps_end StopWaiting s = not (is_some (gives_up_at s))
 keeps_end (Wait ticket until) s = not (is_some until) && not (is_some (gives_up_at s)) && not s.ended

@@ -1,4 +1,4 @@
--- What happens to a job.
+-- Changes of a job.
 use Rattle.std.specs.Prelude.{◌||◌, if◌then◌else◌, Bool, None, Option, Some, ℕ, false, not}
 use Rattle.bq_job.specs.declared.job.Job.{Job}
 use Rattle.bq_job.specs.declared.job.JobState.TheVariants as states
@@ -20,7 +20,7 @@ passes (FreeFor seat) j = not (is_reserved j.state) || is_held_by seat j
 passes Free j = not (is_reserved j.state)
 passes Kickable j = is_buried j.state || is_delayed j.state
 
--- there is a job, and it passes
+-- there is a job, and it passes the test
 abbrev pub is_passed_by : (Job → Bool) → Option Job → Bool
 is_passed_by passes None = false
 is_passed_by passes (Some j) = passes j
@@ -30,7 +30,7 @@ abbrev pub ttr_held_by : ℕ → Option Job → Option ℕ
 ttr_held_by seat None = None
 ttr_held_by seat (Some j) = if is_held_by seat j then Some j.ttr else None
 
--- the machine once the job, if there is one, was deleted
+-- the machine after the job, if there is one, was deleted
 abbrev pub once_deleted : Option Job → Machine → Machine
 once_deleted None m = m
 once_deleted (Some j) m = after_delete m j

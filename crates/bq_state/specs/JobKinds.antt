@@ -1,4 +1,4 @@
--- The first job of a kind: by its priority, its due moment or its burial number, and then by its id.
+-- The first job of a kind: by its priority, its due moment or its burial number, then by its id.
 use Rattle.std.specs.Prelude.{Bool, List, Option, ℕ}
 use Rattle.bq_job.specs.declared.job.Job.{Job}
 use Rattle.bq_job.specs.machine.{burial_of, due_of, first_of, is_buried_in, is_delayed_in, is_pair_before, is_ready_in}

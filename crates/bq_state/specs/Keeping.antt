@@ -1,8 +1,8 @@
--- What calls keep of a state.
+-- What calls leave unchanged.
 use Rattle.std.specs.Prelude.{ℕ}
 use Rattle.bq_state.specs.{Asking.Asks, CoreParts.OnlyCompares, declared.core_parts.CoreParts.CoreParts}
 
--- Jobs were looked at, by no more comparisons than in n searches, and nothing was changed.
+-- Jobs were searched, with at most `n` searches, and nothing was changed.
 pub record Looks (n : ℕ) (old new : CoreParts) : Type 0 where
   pub same : OnlyCompares old new
   pub asks : Asks n old.jobs new.jobs

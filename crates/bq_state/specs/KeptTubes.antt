@@ -1,4 +1,4 @@
--- What is kept of the tubes that have an entry.
+-- The records of the tubes that have an entry.
 use Rattle.std.specs.{Borrow.Bor, BTreeMap.is_at, Cmp.Lexicographic.slice_cmp, Map.{lookup, remove_entry, set_value}, Ordering.{is_gt, nat_cmp}}
 use Rattle.std.specs.Prelude.{◌&&◌, ◌++◌, ◌∷◌, if◌then◌else◌, Bool, List, None, Option, Some, [], ℕ, false, is_some, map, not, true}
 use Rattle.bq_job.specs.declared.job.Job.{Job}
@@ -7,17 +7,17 @@ use Rattle.bq_jobs.specs.declared.row.Moved.{Moved}
 use Rattle.bq_state.specs.declared.{known.Tally.Tally, tubes.entry.{Crowd.Crowd, Moving.Moving, Share.Share, TubeChange.{TubeChange, TheVariants.{CountDelete, CountPut}}}}
 use Rattle.bq_state.specs.{Crowds.{has_seats, no_crowd, recounted}, Tallies.{has_jobs, tally_moved, tally_of, tally_with, tally_without}, TubeEntries.{is_tube_by, tube_changed}}
 
--- the entries, and at the same places the counts of the tubes' jobs and of their clients
+-- the entries and, parallel to them, the counts of the tubes' jobs and of their clients
 pub record KeptTubes : Type 0 where
   pub entries : List TubeRecord
   pub tallies : List Tally
   pub crowds : List Crowd
 
--- the default tube alone, without a job and a client
+-- only the default tube, without jobs and clients
 abbrev pub first_tubes : KeptTubes
 first_tubes = record { entries = fresh_tube default_tube ∷ []; tallies = tally_of [] ∷ []; crowds = no_crowd ∷ [] }
 
--- what is kept of a tube beside its name
+-- what is kept of a tube besides its name
 pub record KeptTube : Type 0 where
   pub pause : Option Pause
   pub puts : ℕ
@@ -26,11 +26,11 @@ pub record KeptTube : Type 0 where
   pub tally : Tally
   pub crowd : Crowd
 
--- an entry, by the name that it is found by
+-- an entry with its name
 abbrev pub Named : Type 0
 Named = List ℕ × KeptTube
 
--- the record of a tube of which this is kept
+-- the record of a tube
 abbrev pub record_of : List ℕ → KeptTube → TubeRecord
 record_of name t = record { name = name; pause = t.pause; puts = t.puts; deletes = t.deletes; pauses = t.pauses }
 
@@ -46,51 +46,51 @@ crowd_kept e = e.1.crowd
 abbrev pub tubes_kept : List Named → KeptTubes
 tubes_kept es = record { entries = map record_at es; tallies = map tally_kept es; crowds = map crowd_kept es }
 
--- where nothing happened yet
+-- the entry of a tube to which nothing has happened
 abbrev pub fresh_entry : KeptTube
 fresh_entry = record { pause = None; puts = 0; deletes = 0; pauses = 0; tally = tally_of []; crowd = no_crowd }
 
--- what is kept once this happened to a tube
+-- the entry after this happened to the tube
 abbrev pub kept_after : TubeRecord → KeptTube → KeptTube
 kept_after r t = record { pause = r.pause; puts = r.puts; deletes = r.deletes; pauses = r.pauses; tally = t.tally; crowd = t.crowd }
 
 abbrev pub kept_changed : TubeChange → KeptTube → KeptTube
 kept_changed what t = kept_after (tube_changed what (record_of [] t)) t
 
--- with a job more that was put, and with one less that was deleted
+-- with one more job, that was put, or one fewer, that was deleted
 abbrev pub kept_with : Job → KeptTube → KeptTube
 kept_with j t = record (kept_changed CountPut t) { tally = tally_with j t.tally }
 
 abbrev pub kept_without : Job → KeptTube → KeptTube
 kept_without j t = record (kept_changed CountDelete t) { tally = tally_without j t.tally }
 
--- with a job that stands otherwise
+-- with a job whose state changed
 abbrev pub kept_moved : Moved → KeptTube → KeptTube
 kept_moved m t = record t { tally = tally_moved m t.tally }
 
--- with a share of a seat more, or without it
+-- with a seat's share added or removed
 abbrev pub kept_recounted : Moving → Share → KeptTube → KeptTube
 kept_recounted moving share t = record t { crowd = recounted moving share t.crowd }
 
--- the test of names that a look-up of this one makes
+-- the test of names in a lookup of this one
 abbrev pub is_named_at : List ℕ → List ℕ → Bool
 is_named_at name = is_at (slice_cmp nat_cmp name)
 
--- the entries with the one that is found changed by f
+-- the entries with f applied to the one that was found
 abbrev pub edited : List ℕ → (KeptTube → KeptTube) → Option KeptTube → List Named → List Named
 edited name f None es = es
 edited name f (Some t) es = set_value (is_named_at name) es (f t)
 
--- the entries with the one of this name, if there is one, changed by f
+-- the entries with f applied to the one with this name, if there is one
 abbrev pub edited_at : List ℕ → (KeptTube → KeptTube) → List Named → List Named
 edited_at name f es = edited name f (lookup (is_named_at name) es) es
 
--- whether a tube is paused, by its entry, if it has one
+-- whether a tube is paused, from its entry, if it has one
 abbrev pub is_paused_by : Option KeptTube → Bool
 is_paused_by None = false
 is_paused_by (Some t) = is_some t.pause
 
--- the counts, by its entry
+-- the counts, from its entry
 abbrev pub tally_by : Option KeptTube → Tally
 tally_by None = tally_of []
 tally_by (Some t) = t.tally
@@ -99,11 +99,11 @@ abbrev pub crowd_by : Option KeptTube → Crowd
 crowd_by None = no_crowd
 crowd_by (Some t) = t.crowd
 
--- the entry once its pause, if it is over, has ended
+-- the entry after its pause has ended, if it is due
 abbrev pub ended : ℕ → KeptTube → KeptTube
 ended moment t = record t { pause = pause_after_timers moment t.pause }
 
--- the records once the pauses that are over have ended
+-- the records after due pauses have ended
 abbrev pub records_ended : ℕ → List Named → List TubeRecord
 records_ended moment es = map (tube_after_timers moment) (map record_at es)
 
@@ -114,7 +114,7 @@ is_alive_with name t = is_tube_by (has_jobs t.tally) (has_seats t.crowd) name
 abbrev pub is_alive_at : Named → Bool
 is_alive_at e = is_alive_with e.0 e.1
 
--- one more, if the tube exists
+-- one more if the tube exists
 abbrev pub with_alive : ℕ → List ℕ → KeptTube → ℕ
 with_alive count name t = if is_alive_with name t then raised count else count
 
@@ -126,12 +126,12 @@ name_if_alive name t = if is_alive_with name t then name ∷ [] else []
 abbrev pub with_name_of : List (List ℕ) → Bor (List ℕ) × Bor KeptTube → List (List ℕ)
 with_name_of names e = names ++ name_if_alive e.0.now e.1.now
 
--- whether the tube of this entry, if there is one, is gone
+-- whether this entry, if there is one, is of a tube that no longer exists
 abbrev pub is_gone_by : List ℕ → Option KeptTube → Bool
 is_gone_by name None = false
 is_gone_by name (Some t) = not (is_alive_with name t)
 
--- without the entry of this name, where its tube is gone
+-- without the entry of this name, if its tube no longer exists
 abbrev pub without_gone : List ℕ → List Named → List Named
 without_gone name es = if is_gone_by name (lookup (is_named_at name) es) then remove_entry (is_named_at name) es else es
 
@@ -140,6 +140,6 @@ abbrev pub is_from : Option (List ℕ) → Named → Bool
 is_from None e = true
 is_from (Some name) e = not (is_gt (slice_cmp nat_cmp name e.0))
 
--- an entry from there on whose tube is gone
+-- an entry from there on whose tube no longer exists
 abbrev pub is_gone_from : Option (List ℕ) → Named → Bool
 is_gone_from from e = is_from from e && not (is_alive_at e)

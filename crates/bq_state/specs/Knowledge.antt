@@ -1,4 +1,4 @@
--- What is known without a search: that it is so, and how it follows a change.
+-- What is known without a search: that it is true, and how it changes.
 use Rattle.std.specs.Prelude.{◌≡◌, if◌then◌else◌, Bool, List, None, Option, [], ℕ}
 use Rattle.bq_job.specs.{declared.job.Job.Job, machine.{SeatRecord, TubeRecord}}
 use Rattle.bq_jobs.specs.declared.row.Moved.{Moved}
@@ -14,23 +14,23 @@ use Rattle.bq_state.specs.declared.known.Loss.TheVariants as losses
 use Rattle.bq_state.specs.declared.known.Stir.TheVariants as stirs
 use Rattle.bq_state.specs.declared.known.Warns.TheVariants as holders
 
--- What is known is so of these jobs, seats and tubes, and what is counted at the tubes is what there is.
+-- What is known is true of these jobs, seats and tubes, and the tubes' counts are correct.
 pub record IsSo (k : Known) (jobs : List Job) (seats : List SeatRecord) (tubes : KeptTubes) : Type 0 where
   pub counts : AreCounted k.tally tubes.tallies jobs tubes.entries
   pub clients : k.clients ≡ clients_of seats
   pub crowds : AreCrowds tubes.crowds seats tubes.entries
-  -- which entries may be of tubes that are gone
+  -- which entries may be of tubes that have gone
   pub alive : AreAlive k.loss jobs seats tubes.entries
   -- which jobs waiting clients may have
   pub stirs : AreKnown k.stir jobs seats (counted tubes.entries)
   -- which waiting clients may hold a job
   pub warnings : AreWarned k.warns jobs seats
-  -- when the first wait ends by its timeout
+  -- when the first wait times out
   pub timeouts : AreTimeouts k.first_end seats
   -- when the first pause ends
   pub pauses : k.pause_end ≡ first_pause_end tubes.entries
 
--- where there is nothing to know
+-- what is known if there is nothing
 abbrev pub nothing_known : Known
 nothing_known = record {
   tally = tally_of [];
@@ -42,7 +42,7 @@ nothing_known = record {
   pause_end = None;
 }
 
--- with one job more, that is wanted or not, and whose holder waits or not
+-- with one more job; whether it is wanted, and whether its holder waits, is given
 abbrev pub with_job : Job → Bool → Bool → Known → Known
 with_job j wanted waits k = record k {
   tally = tally_with j k.tally;
@@ -51,7 +51,7 @@ with_job j wanted waits k = record k {
   warns = if waits then with_holder_of j.state k.warns else k.warns;
 }
 
--- with one less
+-- with one job fewer
 abbrev pub without_job : Job → Known → Known
 without_job j k = record k { tally = tally_without j k.tally; loss = with_lost j.tube k.loss }
 
@@ -63,7 +63,7 @@ with_moved m wanted waits k = record k {
   warns = if waits then with_holder_of m.to.state k.warns else k.warns;
 }
 
--- once a seat, if there is one, is about to be changed
+-- when a seat, if there is one, is about to change
 abbrev pub with_left : Option SeatRecord → SeatChange → Share → KeptTubes → Known → Known
 with_left o what touched tubes k = record k {
   clients = clients_without o k.clients;
@@ -71,7 +71,7 @@ with_left o what touched tubes k = record k {
   loss = loss_of touched tubes o k.loss;
 }
 
--- and once it was
+-- after it has changed
 abbrev pub with_joined : Option SeatRecord → ℕ → SeatChange → Known → Known
 with_joined o number what k = record k {
   clients = clients_with o k.clients;
@@ -79,13 +79,13 @@ with_joined o number what k = record k {
   warns = warned_by_seat number what k.warns;
 }
 
--- once a tube was changed, and these are the entries
+-- after a tube was changed; these are the entries
 abbrev pub with_tube_changed : List ℕ → TubeChange → List TubeRecord → Known → Known
 with_tube_changed name what entries k = record k {
   stir = stirred_by_change name what k.stir;
   pause_end = pause_end_after entries what k.pause_end;
 }
 
--- once tubes that are gone were forgotten, and these are left of so many
+-- after entries of tubes that no longer exist were dropped; these are left
 abbrev pub with_forgotten : ℕ → List TubeRecord → Known → Known
 with_forgotten were entries k = record k { loss = losses.Nothing; pause_end = pause_end_left entries were k.pause_end }

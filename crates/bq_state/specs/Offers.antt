@@ -1,4 +1,4 @@
--- Of what waiting clients can have, the job that is handed out first, tube by tube.
+-- The job that is handed out first, of those that waiting clients may have, found tube by tube.
 use Rattle.std.specs.{List.list_any, Option.option_map, Prelude.{◌&&◌, ◌∷◌, if◌then◌else◌, Bool, List, None, Option, Some, [], ℕ, fold, is_some, nat_lt}}
 use Rattle.bq_job.specs.declared.job.Job.{Job}
 use Rattle.bq_job.specs.{machine.{SeatRecord, TubeRecord, first_of, is_job_before, is_pair_before, is_ready_in, is_waiting, next_job, Machine.Machine}, reading.TubeName.is_same_name}
@@ -8,7 +8,7 @@ use Rattle.bq_state.specs.{Crowds.crowd_at, KeptTubes.KeptTubes}
 abbrev pub earlier_of_ranks : ℕ × ℕ → ℕ × ℕ → Option (ℕ × ℕ)
 earlier_of_ranks best other = if is_pair_before other.0 other.1 best.0 best.1 then Some other else Some best
 
--- of two ready jobs, told by their priorities and ids, the one that goes first
+-- the one of two ready jobs, given by priority and id, that goes first
 abbrev pub better_rank : Option (ℕ × ℕ) → Option (ℕ × ℕ) → Option (ℕ × ℕ)
 better_rank None other = other
 better_rank (Some best) None = Some best
@@ -22,15 +22,15 @@ abbrev pub offered : List Job → List TubeRecord → List ℕ → Option (ℕ �
 offered jobs entries name =
     if is_paused_among entries name then None else option_map (ranked (λ j. j.pri)) (first_of (is_ready_in name) is_job_before jobs)
 
--- the best so far, once this tube is asked
+-- the best so far, including this tube
 abbrev pub with_offer : List Job → List TubeRecord → Option (ℕ × ℕ) → List ℕ → Option (ℕ × ℕ)
 with_offer jobs entries best name = better_rank best (offered jobs entries name)
 
--- the best so far, once the tubes that the client waits at are asked
+-- the best so far, including the tubes for whose jobs the client waits
 abbrev pub with_offers : List Job → List TubeRecord → Option (ℕ × ℕ) → SeatRecord → Option (ℕ × ℕ)
 with_offers jobs entries best s = if is_waiting s then fold (with_offer jobs entries) best s.watched else best
 
--- a client waits at the tube
+-- a client waits for jobs of the tube
 abbrev pub waits_at : List ℕ → SeatRecord → Bool
 waits_at tube s = is_waiting s && list_any (is_same_name tube) s.watched
 
@@ -38,11 +38,11 @@ waits_at tube s = is_waiting s && list_any (is_same_name tube) s.watched
 abbrev pub next_rank : Machine → Option (ℕ × ℕ)
 next_rank m = option_map (ranked (λ j. j.pri)) (next_job m)
 
--- this client alone, if there is one
+-- only this client, if there is one
 abbrev pub these : Option SeatRecord → List SeatRecord
 these None = []
 these (Some s) = s ∷ []
 
--- a client is counted that waits at the tube
+-- a client that waits for jobs of the tube is counted
 abbrev pub is_waited_at : List ℕ → KeptTubes → Bool
 is_waited_at name tubes = nat_lt 0 (crowd_at name tubes.entries tubes.crowds).waiting

@@ -1,4 +1,4 @@
--- The ends of the pauses of tubes, in their order.
+-- The ordered ends of the pauses of tubes.
 use Rattle.std.specs.BTreeMap.{insert_entry, is_at}
 use Rattle.std.specs.Cmp.{IsTotalOrder, nat_cmp_total, on_total, then_total, Lexicographic.{nat_list_cmp_total, slice_cmp}}
 use Rattle.std.specs.{declared.cmp.Ordering.Ordering, List.list_any, Map.{lookup, remove_entry}}
@@ -9,14 +9,14 @@ use Rattle.bq_job.specs.{machine.{Pause, TubeRecord}, reading.TubeName.is_same_n
 use Rattle.bq_index.specs.Catalog.{CatalogSeen}
 use Rattle.bq_state.specs.{declared.tubes.pauses.PauseEnd.PauseEnd, KeptTubes.{Named, record_at}}
 
--- by moment, and at one moment by name
+-- by moment, then by name
 abbrev pub end_cmp : PauseEnd → PauseEnd → Ordering
 end_cmp = then_cmp (on (λ e. e.until) nat_cmp) (on (λ e. e.name) (slice_cmp nat_cmp))
 
 pub end_total : IsTotalOrder end_cmp
 end_total = then_total (on_total (λ e. e.until) nat_cmp_total) (on_total (λ e. e.name) nat_list_cmp_total)
 
--- ends as a shelf has them
+-- ends as they are in a shelf
 abbrev pub Ends : Type 0
 Ends = List (PauseEnd × Unit {0})
 
@@ -31,12 +31,12 @@ abbrev pub first_end : Ends → Option PauseEnd
 first_end [] = None
 first_end (e ∷ ends) = Some e.0
 
--- if it has come
+-- the first one, if it is due
 abbrev pub if_over : ℕ → Option PauseEnd → Option PauseEnd
 if_over moment None = None
 if_over moment (Some e) = if nat_le e.until moment then Some e else None
 
--- with an end more, if there is one, and without it
+-- with one more end, if there is one, and without it
 abbrev pub with_end : Option PauseEnd → Ends → Ends
 with_end None ends = ends
 with_end (Some e) ends = insert_entry end_cmp ends e tt
@@ -54,11 +54,11 @@ abbrev pub pause_in : Option TubeRecord → Option Pause
 pause_in None = None
 pause_in (Some t) = t.pause
 
--- the pause of the tube of this name, by its entry
+-- the pause of the tube with this name, from its entry
 abbrev pub pause_at : List ℕ → List TubeRecord → Option Pause
 pause_at name entries = pause_in (find (λ t. is_same_name name t.name) entries)
 
--- the pause, if there is one, ends then
+-- there is a pause, and it ends then
 abbrev pub ends_at : ℕ → Option Pause → Bool
 ends_at moment None = false
 ends_at moment (Some pause) = pause.until == moment
@@ -77,7 +77,7 @@ is_paused t = is_some t.pause
 abbrev pub paused_count : List Named → ℕ
 paused_count es = count_by is_paused (map record_at es)
 
--- The ends of the pauses of these tubes are kept, and no others, and there is a box for that of each tube.
+-- The ends of exactly the pauses of these tubes are kept, and there is a box for that of each tube.
 pub record AreEnds (entries : List TubeRecord) (ends : CatalogSeen PauseEnd (Unit {0})) : Type 0 where
   pub known : (e : PauseEnd) → has_end e ends.entries ≡ is_end_in e entries
   pub counted : length ends.entries ≡ count_by is_paused entries

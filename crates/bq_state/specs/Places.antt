@@ -1,4 +1,4 @@
--- What stands at a place of a list.
+-- The element at an index of a list.
 use Rattle.std.specs.Prelude.{List, None, Option, Some, ℕ, slice_get}
 
 abbrev pub item_at : {A : Type 0} → List A → Option ℕ → Option A

@@ -1,8 +1,8 @@
--- Whether a seat is free, and whether its client can ask.
+-- Whether a seat is free, and whether its client may make a request.
 use Rattle.std.specs.Prelude.{◌&&◌, Bool, None, Option, Some, false, not}
 use Rattle.bq_job.specs.machine.{SeatRecord, is_waiting}
 
--- nobody is connected there
+-- no client is connected there
 abbrev pub is_free : Option SeatRecord → Bool
 is_free None = false
 is_free (Some s) = not s.connected
@@ -11,7 +11,7 @@ abbrev pub is_connected : Option SeatRecord → Bool
 is_connected None = false
 is_connected (Some s) = s.connected
 
--- the client there can ask
+-- the client there may make a request
 abbrev pub is_asking : Option SeatRecord → Bool
 is_asking None = false
 is_asking (Some s) = s.connected && not (is_waiting s)

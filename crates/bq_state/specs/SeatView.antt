@@ -1,4 +1,4 @@
--- What a seat is seen as.
+-- The value of a seat in contracts.
 use Rattle.bq_job.specs.machine.{SeatRecord}
 use Rattle.bq_state.specs.declared.seats.SeatRecord.TheInside.{Inside}
 

@@ -1,4 +1,4 @@
--- What a core's state has at each moment.
+-- The invariants of a core's state.
 use Rattle.std.proofs.Props.{props}
 use Rattle.std.specs.{Coded.{Unit-prop, le_prop, ×_prop}, Prelude.{◌∷◌, ◌≡◌, ◌≤◌, Bool, List, [], ℕ, false}}
 use Rattle.bq_job.specs.{beside.AreIdsWithin, declared.job.Job.Job, machine.{SeatRecord, TubeRecord, last_id}}
@@ -6,19 +6,20 @@ use Rattle.bq_state.specs.declared.known.{FirstEnd.FirstEnd, Known.Known}
 use Rattle.bq_state.specs.{FirstEnds.AreTimeouts, KeptTubes.KeptTubes, Knowledge.IsSo, SeatChanges.AreNumbered, TubeEntries.{AreEntries, AreInOrder}, WaitingTurns.{AreInTurn, WaitingTurns}}
 use Rattle.bq_state.specs.declared.known.FirstEnd.TheVariants as ends
 
--- The fields of a state agree with one another: these jobs, seats and tubes with what is kept beside them.
+-- The fields of a state agree with each other: the jobs, seats and tubes, and what is kept besides
+-- them.
 pub record Soundness (jobs : List Job) (seats : List SeatRecord) (tubes : KeptTubes) (turns : WaitingTurns) (k : Known)
     (next_id : ℕ) (draining : Bool) : Type 0 where
   pub entries : AreEntries jobs seats tubes.entries
   -- Seats are numbered in order.
   pub numbered : AreNumbered seats
-  -- Before the ids run out the machine drains.
+  -- The machine drains before the ids run out.
   pub next : draining ≡ false → next_id ≤ last_id
-  -- Each id was given once.
+  -- Each id was given out once.
   pub ids : AreIdsWithin 1 jobs next_id
-  -- Those that wait stand in their turn.
+  -- The waiting clients are in order of their turns.
   pub waiting : AreInTurn turns seats
-  -- What is known without a search is so.
+  -- What is known without a search is true.
   pub known : IsSo k jobs seats tubes
 
 AreInOrder-prop : (entries : List TubeRecord) → IsProp (AreInOrder entries)
@@ -33,7 +34,7 @@ AreTimeouts-prop : (first_end : FirstEnd) (seats : List SeatRecord) → IsProp (
 AreTimeouts-prop ends.Unknown seats = Unit-prop
 AreTimeouts-prop (ends.Known first) seats = Prim.hlevel props
 
--- There is one proof of it at most, so a field can hold it.
+-- It has at most one proof, so a field can hold it.
 pub Soundness-prop : (jobs : List Job) (seats : List SeatRecord) (tubes : KeptTubes) (turns : WaitingTurns) (k : Known)
     → (next_id : ℕ) (draining : Bool)
     → IsProp (Soundness jobs seats tubes turns k next_id draining)

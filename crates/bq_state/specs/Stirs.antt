@@ -1,4 +1,4 @@
--- Which jobs the clients that wait may have.
+-- Which jobs waiting clients may have.
 use Rattle.std.specs.{List.AllByRecursion, Prelude.{◌&&◌, ◌==◌, ◌≡◌, if◌then◌else◌, Bool, List, ℕ, false, find, is_some, not, true, unwrap_or}}
 use Rattle.bq_job.specs.declared.job.Job.{Job}
 use Rattle.bq_job.specs.{machine.{SeatRecord, TubeRecord, fresh_tube, is_ready, is_waiting, watches}, reading.TubeName.is_same_name}
@@ -22,7 +22,7 @@ with_stirred name (Tube stirred) = if is_same_name stirred name then Tube name e
 with_stirred name (Client asker) = Any
 with_stirred name Any = Any
 
--- those too for which the client at this seat waits
+-- also those for which the client at this seat waits
 abbrev pub with_asker : ℕ → Stir → Stir
 with_asker seat Nothing = Client seat
 with_asker seat _ = Any
@@ -30,17 +30,17 @@ with_asker seat _ = Any
 abbrev pub with_anything : Stir → Stir
 with_anything _ = Any
 
--- Of the changes of a seat, one lets a client wait,
+-- Of the changes of a seat, one lets a client wait.
 abbrev pub stirred_by_seat : ℕ → SeatChange → Stir → Stir
 stirred_by_seat seat (Wait ticket until) stir = with_asker seat stir
 stirred_by_seat seat _ stir = stir
 
--- and of those of a tube, one may end a pause.
+-- Of the changes of a tube, one may end a pause.
 abbrev pub stirred_by_change : List ℕ → TubeChange → Stir → Stir
 stirred_by_change name (Pause seconds moment) stir = if seconds == 0 then with_stirred name stir else stir
 stirred_by_change name _ stir = stir
 
--- the tube is paused, by the machine's records
+-- the tube is paused, according to the machine's records
 abbrev pub is_paused_by : List TubeRecord → List ℕ → Bool
 is_paused_by tubes name = is_some (unwrap_or (find (λ t. is_same_name name t.name) tubes) (fresh_tube name)).pause
 
@@ -51,6 +51,6 @@ is_wanted_by tubes j s = is_waiting s && (is_ready j && watches j.tube s && not 
 abbrev pub IsKnown : Stir → List TubeRecord → Job → SeatRecord → Type 0
 IsKnown stir tubes j s = is_wanted_by tubes j s ≡ true → may_get stir j.tube s.number ≡ true
 
--- Where a client waits for a job, it is known that it may have it.
+-- If a client waits for a job, it is known that it may have it.
 abbrev pub AreKnown : Stir → List Job → List SeatRecord → List TubeRecord → Type 0
 AreKnown stir jobs seats tubes = AllByRecursion (λ j. AllByRecursion (IsKnown stir tubes j) seats) jobs

@@ -16,17 +16,17 @@ tally_of jobs = record {
   buried = count_by (λ j. is_buried j.state) jobs;
 }
 
--- one more, if it is counted
+-- one more if it is counted
 abbrev pub count_with : Bool → ℕ → ℕ
 count_with true n = raised n
 count_with false n = n
 
--- one less, if it was counted
+-- one less if it was counted
 abbrev pub count_without : Bool → ℕ → ℕ
 count_without true n = n - 1
 count_without false n = n
 
--- the counts with those of a job that stands so
+-- the counts including a job in this state
 abbrev pub tally_entered : Standing → Tally → Tally
 tally_entered at t = record {
   urgent = count_with (is_ready_state at.state && nat_lt at.pri 1024) t.urgent;
@@ -36,7 +36,7 @@ tally_entered at t = record {
   buried = count_with (is_buried at.state) t.buried;
 }
 
--- the counts without those of a job that stood so
+-- the counts without a job in this state
 abbrev pub tally_left : Standing → Tally → Tally
 tally_left at t = record {
   urgent = count_without (is_ready_state at.state && nat_lt at.pri 1024) t.urgent;
@@ -46,11 +46,11 @@ tally_left at t = record {
   buried = count_without (is_buried at.state) t.buried;
 }
 
--- the counts once a job that stood so stands otherwise
+-- the counts after a job changed its state
 abbrev pub tally_moved : Moved → Tally → Tally
 tally_moved m t = tally_entered m.to (tally_left m.from t)
 
--- the counts with those of a job
+-- the counts including a job
 abbrev pub tally_with : Job → Tally → Tally
 tally_with j t = record {
   urgent = count_with (is_urgent j) t.urgent;
@@ -60,7 +60,7 @@ tally_with j t = record {
   buried = count_with (is_buried j.state) t.buried;
 }
 
--- the counts without those of a job
+-- the counts without a job
 abbrev pub tally_without : Job → Tally → Tally
 tally_without j t = record {
   urgent = count_without (is_urgent j) t.urgent;
@@ -77,7 +77,7 @@ tally_in jobs t = tally_of (filter (λ j. is_same_name t.name j.tube) jobs)
 abbrev pub tallies_of : List Job → List TubeRecord → List Tally
 tallies_of jobs entries = map (tally_in jobs) entries
 
--- the counts, changed by f at the first entry of this name
+-- the counts with f applied at the first entry of this name
 abbrev pub tallies_at : List ℕ → (Tally → Tally) → List TubeRecord → List Tally → List Tally
 tallies_at name f [] tallies = tallies
 tallies_at name f (t ∷ entries) [] = []
@@ -101,7 +101,7 @@ pub record AreCounted (tally : Tally) (tallies : List Tally) (jobs : List Job) (
   pub whole : tally ≡ tally_of jobs
   pub each : tallies ≡ tallies_of jobs entries
 
--- the counts with those of a tube that gets an entry
+-- the counts including a tube that gets an entry
 abbrev pub tallies_provided : List ℕ → List TubeRecord → List Tally → List Tally
 tallies_provided name entries tallies =
     if has_entry name entries then tallies else insert tallies (prefix_len (λ t. is_name_before t.name name) entries) (tally_of [])

@@ -1,4 +1,5 @@
--- What the core keeps of tubes: an entry for each that exists, so that nothing later wants memory.
+-- What the core keeps of tubes: an entry for each that exists, so that nothing later needs an
+-- allocation.
 use Rattle.std.specs.List.{AllByRecursion, list_any}
 use Rattle.std.specs.Prelude.{◌&&◌, ◌==◌, ◌||◌, ◌∷◌, ◌≡◌, if◌then◌else◌, Bool, List, None, Option, Some, [], ℕ, false, filter, map, nat_le, not, true}
 use Rattle.bq_job.specs.declared.job.Job.{Job}
@@ -7,7 +8,7 @@ use Rattle.bq_job.specs.machine.{with_delete, with_pause, with_put, with_record}
 use Rattle.bq_job.specs.reading.TubeName.{is_same_name}
 use Rattle.bq_state.specs.declared.tubes.entry.TubeChange.{TubeChange, TheVariants.{CountDelete, CountPut, Pause}}
 
--- something was counted in the tube: the machine has a record of it
+-- something was counted in the tube, so the machine has a record of it
 abbrev pub is_counted : TubeRecord → Bool
 is_counted t = not (t.puts == 0 && t.deletes == 0 && t.pauses == 0)
 
@@ -22,12 +23,12 @@ has_entry name entries = list_any (λ t. is_same_name name t.name) entries
 abbrev pub provided : List ℕ → List TubeRecord → List TubeRecord
 provided name entries = if has_entry name entries then entries else with_record (fresh_tube name) entries
 
--- The entries are in the order of their names, each name once.
+-- The entries are ordered by name, without duplicates.
 abbrev pub AreInOrder : List TubeRecord → Type 0
 AreInOrder [] = Unit {0}
 AreInOrder (t ∷ entries) = AllByRecursion (λ u. is_name_before t.name u.name ≡ true) entries × AreInOrder entries
 
--- Where nothing was counted, nothing is kept.
+-- If nothing was counted, nothing is kept.
 abbrev pub IsFreshUnlessCounted : TubeRecord → Type 0
 IsFreshUnlessCounted t = is_counted t ≡ false → t ≡ fresh_tube t.name
 
@@ -39,21 +40,22 @@ tube_changed (Pause seconds moment) t = with_pause seconds moment t
 abbrev pub tube_changed_at : List ℕ → TubeChange → TubeRecord → TubeRecord
 tube_changed_at name change t = if is_same_name name t.name then tube_changed change t else t
 
--- A tube exists where it is the default tube, or a job is in it, or an open seat uses or watches it.
+-- A tube exists if it is the default tube, contains a job, or is used or watched by a connected
+-- client.
 abbrev pub is_tube_by : Bool → Bool → List ℕ → Bool
 is_tube_by some seated name = is_same_name name default_tube || some || seated
 
--- A tube exists where it is the default tube, or one of these jobs is in it, or one of these seats uses or
--- watches it.
+-- A tube exists if it is the default tube, contains one of these jobs, or one of these seats uses
+-- or watches it.
 abbrev pub is_tube_of : List Job → List SeatRecord → List ℕ → Bool
 is_tube_of jobs seats name =
     is_same_name name default_tube || list_any (λ j. is_same_name name j.tube) jobs || list_any (is_seated_at name) seats
 
--- the names of the entries of tubes that exist, in their order
+-- the names of the entries of existing tubes, in order
 abbrev pub names_alive : List Job → List SeatRecord → List TubeRecord → List (List ℕ)
 names_alive jobs seats entries = map (λ t. t.name) (filter (λ t. is_tube_of jobs seats t.name) entries)
 
--- The tubes of an open seat have entries.
+-- The tubes of a connected client have entries.
 pub record HasTubes (entries : List TubeRecord) (s : SeatRecord) : Type 0 where
   pub used : s.connected ≡ true → has_entry s.used entries ≡ true
   pub watched : s.connected ≡ true → AllByRecursion (λ name. has_entry name entries ≡ true) s.watched
@@ -70,6 +72,6 @@ abbrev pub is_over : ℕ → Option PauseRecord → Bool
 is_over moment None = false
 is_over moment (Some pause) = nat_le pause.until moment
 
--- the tube's pause ends now, or has ended
+-- the tube's pause is due, or has ended
 abbrev pub is_pause_over : ℕ → TubeRecord → Bool
 is_pause_over moment t = is_over moment t.pause

@@ -1,4 +1,4 @@
--- Which tubes the jobs know by a number: those that have an entry, no others.
+-- Which tubes the jobs know by number: exactly those that have an entry.
 use Rattle.std.proofs.Props.{props}
 use Rattle.std.specs.{BTreeMap.is_at, Cmp.Lexicographic.slice_cmp, Map.lookup, Ordering.nat_cmp}
 use Rattle.std.specs.Prelude.{◌≡◌, List, ℕ, is_some}
@@ -9,6 +9,6 @@ abbrev pub HaveNumbers : List (List ℕ × ℕ) → List TubeRecord → Type 0
 HaveNumbers numbers entries =
     (name : List ℕ) → is_some (lookup (is_at (slice_cmp nat_cmp name)) numbers) ≡ has_entry name entries
 
--- There is one proof of it at most, so a field can hold it.
+-- It has at most one proof, so a field can hold it.
 pub HaveNumbers-prop : (numbers : List (List ℕ × ℕ)) (entries : List TubeRecord) → IsProp (HaveNumbers numbers entries)
 HaveNumbers-prop numbers entries = Prim.hlevel props

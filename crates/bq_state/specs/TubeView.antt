@@ -1,4 +1,4 @@
--- What an entry of a tube is seen as.
+-- The value of a tube's entry in contracts.
 use Rattle.bq_state.specs.{declared.tubes.entry.TubeEntry.TheInside.Inside, KeptTubes.KeptTube}
 
 abbrev pub kept_of : Inside → KeptTube

@@ -1,4 +1,4 @@
-//! How what a core holds is changed.
+//! Operations that change the state of a core.
 ghost use Rattle.std.specs.Prelude.{◌≡◌, ◌&&◌, ◌<◌, ◌≤◌, OnErr, [], None, true, false, length, map, nat_lt, if◌then◌else◌, IfSome, IfOk};
 ghost use Rattle.std.specs.List.{list_any};
 ghost use Rattle.bq_job.specs.beside.NameOrder.{is_in_order};
@@ -38,7 +38,8 @@ use bq_jobs::{Moved, NumberedJobs};
 use bq_steps::Config;
 use std::alloc::Global;
 
-/// Makes room for a job, where there is none.
+/// Makes room for a job if there is none. Returns `NoMemory` if an allocation fails; then nothing
+/// has changed.
 pub fn make_room(state: &mut CoreParts, alloc: Global) -> Result<(), NoMemory>
     ensures room { IfOk result (λ _. 0 < state.new.jobs.room) }
     ensures after { machine_of state.new ≡ machine_of state.old }
@@ -49,7 +50,7 @@ pub fn make_room(state: &mut CoreParts, alloc: Global) -> Result<(), NoMemory>
     state.jobs.reserve_one(alloc)
 }
 
-/// Puts a job in, where there is room for it, and counts that in its tube. Its id is one that was given, and its
+/// Adds a job, for which there is room, and counts it in its tube. Its id was given out, and its
 /// tube has an entry.
 pub fn add(state: &mut CoreParts, job: Job)
     requires room { 0 < state.old.jobs.room }
@@ -67,8 +68,8 @@ pub fn add(state: &mut CoreParts, job: Job)
     state.jobs.add(job);
 }
 
-/// Takes the job of this id out, if there is one, and counts in its tube that it was deleted. Its room is kept, but for
-/// what nobody needs.
+/// Removes and returns the job with this id, if there is one, and counts the deletion in its tube.
+/// Its room is kept, unless there is plenty.
 pub fn take(state: &mut CoreParts, id: JobId) -> Option<Job>
     ensures job { result ≡ job_with id (machine_of state.old).jobs }
     ensures after { machine_of state.new ≡ once_deleted result (machine_of state.old) }
@@ -86,7 +87,8 @@ pub fn take(state: &mut CoreParts, id: JobId) -> Option<Job>
     Some(job)
 }
 
-// Whether the job is ready now, and somebody waits at its tube, by the counts that are kept.
+// Returns true if the job is now ready and the counts show a client that waits for jobs of its
+// tube.
 fn counts_waiter_of(clients: &Clients, tubes: &Tubes, moved: &Moved) -> bool
     ensures { result
         ≡ (is_ready_state moved.now.to.state
@@ -95,7 +97,7 @@ fn counts_waiter_of(clients: &Clients, tubes: &Tubes, moved: &Moved) -> bool
     matches!(moved.to.state, JobState::Ready) && tubes.has_waiter_at(clients, &moved.tube)
 }
 
-/// Changes the job of this id, if there is one.
+/// Changes the job with this id, if there is one.
 pub fn change_job(state: &mut CoreParts, id: JobId, what: &JobChange)
     ensures after { machine_of state.new ≡ with_job id (changed what.now) (machine_of state.old) }
     ensures asks { Asks 8 state.old.jobs state.new.jobs }
@@ -109,7 +111,7 @@ pub fn change_job(state: &mut CoreParts, id: JobId, what: &JobChange)
     state.tubes.move_job(&moved);
 }
 
-/// Changes the seat of this number. A tube that it uses then has an entry already.
+/// Changes the seat with this number. If it starts to use a tube, that tube already has an entry.
 #[tactic(auto, using(crate::proofs::KnowledgeLemmas::kept_by_seat))]
 pub fn change_seat(state: &mut CoreParts, seat: Seat, what: &SeatChange)
     requires entry { has_tube_of what.now state.old.tubes.entries ≡ true }
@@ -131,7 +133,7 @@ pub fn change_seat(state: &mut CoreParts, seat: Seat, what: &SeatChange)
     state.known.join(client, seat, what);
 }
 
-/// Takes down whether the client at the seat, which is about to wait, holds a job.
+/// Records whether the client at the seat, which is about to wait, holds a job.
 pub fn note_leases(state: &mut CoreParts, seat: Seat)
     ensures known { state.new.known.warns
         ≡ (if list_any (is_held_by seat) state.old.jobs.jobs then with_holder seat state.old.known.warns else state.old.known.warns) }
@@ -145,7 +147,7 @@ pub fn note_leases(state: &mut CoreParts, seat: Seat)
     state.known.warns.warn_if(seat, holds);
 }
 
-/// Looks for when the first wait of a client is over by its timeout, where that isn't known.
+/// Finds when the first wait times out, if that isn't known.
 pub fn find_first_end(state: &mut CoreParts)
     ensures { held state.new
         ≡ record (held state.old) { known = record state.old.known { first_end = state.new.known.first_end } } }
@@ -155,7 +157,7 @@ pub fn find_first_end(state: &mut CoreParts)
     }
 }
 
-/// Changes what is kept of a tube that has an entry.
+/// Changes the record of a tube that has an entry.
 pub fn change_tube(state: &mut CoreParts, tube: &TubeName, what: TubeChange)
     requires entry { has_entry tube.now state.old.tubes.entries ≡ true }
     ensures after { machine_of state.new
@@ -166,8 +168,8 @@ pub fn change_tube(state: &mut CoreParts, tube: &TubeName, what: TubeChange)
     state.known.change_tube(tube, what, &state.tubes);
 }
 
-/// Sees to it that a tube has an entry, and a number. The growth that this needs comes before any
-/// change.
+/// Ensures that a tube has an entry and a number. The allocations for that come before any change.
+/// Returns `NoMemory` if one fails.
 pub fn provide_tube(state: &mut CoreParts, alloc: Global, tube: &TubeName) -> Result<(), NoMemory>
     ensures after { machine_of state.new ≡ machine_of state.old }
     ensures entry { IfOk result (λ _. has_entry tube.now state.new.tubes.entries ≡ true) }
@@ -191,8 +193,8 @@ pub fn provide_tube(state: &mut CoreParts, alloc: Global, tube: &TubeName) -> Re
     }
 }
 
-/// The client at the seat watches one more tube. The growths that this needs come before any
-/// change. Tells how many it watches then.
+/// The client at the seat watches one more tube. The allocations for that come before any change.
+/// Returns how many tubes it then watches.
 pub fn watch_tube(
     state: &mut CoreParts,
     alloc: Global,
@@ -223,8 +225,8 @@ pub fn watch_tube(
     }
 }
 
-/// The client at the seat watches a tube no longer, where another one is still watched. Tells how
-/// many it watches then.
+/// The client at the seat no longer watches a tube; it still watches another one. Returns how many
+/// tubes it then watches.
 pub fn ignore_tube(state: &mut CoreParts, seat: Seat, tube: &TubeName) -> u64
     requires other { AtSeat seat state.old (λ s. watches_other tube.now s ≡ true) }
     ensures count { AtSeat seat state.old (λ s. result ≡ length (fewer_watched tube.now s)) }
@@ -241,7 +243,7 @@ pub fn ignore_tube(state: &mut CoreParts, seat: Seat, tube: &TubeName) -> u64
     }
 }
 
-/// Whether the tube exists.
+/// Returns true if the tube exists.
 #[tactic(auto, using(crate::proofs::CrowdPlaces::tube_there))]
 pub fn is_tube(state: &CoreParts, tube: &TubeName) -> bool
     ensures { result
@@ -250,7 +252,8 @@ pub fn is_tube(state: &CoreParts, tube: &TubeName) -> bool
     state.tubes.is_tube(tube)
 }
 
-/// How many tubes exist: so many as there are entries, where none may be gone.
+/// Returns how many tubes exist. If no entry is of a tube that may have gone, that is the number of
+/// entries.
 pub fn tube_count(state: &CoreParts) -> u64
     ensures { result ≡ length (tubes (machine_of state.now)) }
 {
@@ -260,7 +263,7 @@ pub fn tube_count(state: &CoreParts) -> u64
     }
 }
 
-/// The names of the tubes that exist, in byte order. Their memory is asked for before.
+/// Returns the names of the tubes that exist, in byte order. Their memory is allocated first.
 pub fn tube_names<'a>(state: &'a CoreParts, alloc: Global) -> Result<Names<'a>, NoMemory>
     ensures names { IfOk result (λ names. names_of names.items ≡ tubes (machine_of state.now)) }
     ensures ordered { IfOk result (λ names. is_in_order (names_of names.items) ≡ true) }
@@ -268,7 +271,8 @@ pub fn tube_names<'a>(state: &'a CoreParts, alloc: Global) -> Result<Names<'a>, 
     state.tubes.names_alive(alloc)
 }
 
-/// Drops the entries and the numbers of tubes that are gone. It looks only at those that may be.
+/// Drops the entries and the numbers of tubes that no longer exist. Only tubes that may have gone
+/// are checked.
 pub fn forget_tubes(state: &mut CoreParts)
     ensures after { machine_of state.new ≡ forgetting (machine_of state.old) }
     ensures jobs { state.new.jobs ≡ record state.old.jobs { tubes = state.new.jobs.tubes } }
@@ -278,7 +282,7 @@ pub fn forget_tubes(state: &mut CoreParts)
     state.known.forget_tubes(entries, &state.tubes);
 }
 
-/// A moment below the last one counts as that one.
+/// Sets the current moment. A moment below the last one counts as the last one.
 pub fn raise_moment(state: &mut CoreParts, at: Moment)
     ensures after { machine_of state.new ≡ at_moment at (machine_of state.old) }
     ensures jobs { state.new.jobs ≡ state.old.jobs }
@@ -286,7 +290,7 @@ pub fn raise_moment(state: &mut CoreParts, at: Moment)
     state.moment = state.moment.max(at);
 }
 
-/// No jobs, and the default tube with a number.
+/// Returns an empty collection of jobs, in which the default tube has a number.
 pub fn no_jobs(alloc: Global) -> Result<NumberedJobs, NoMemory>
     ensures none { IfOk result (λ jobs. jobs.jobs ≡ []) }
     ensures comparisons { IfOk result (λ jobs. jobs.comparisons ≡ 0) }
@@ -297,7 +301,7 @@ pub fn no_jobs(alloc: Global) -> Result<NumberedJobs, NoMemory>
     Ok(jobs)
 }
 
-/// No jobs, and nobody at the seats.
+/// Returns a state without jobs and without clients.
 #[tactic(auto, using(crate::proofs::KnowledgeLemmas::known_at_first))]
 pub fn new_parts(
     config: Config,

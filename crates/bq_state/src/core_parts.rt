@@ -1,4 +1,4 @@
-//! What a core holds.
+//! The state of a core.
 ghost use Rattle.bq_state.specs.Soundness.{Soundness, Soundness-prop};
 ghost use Rattle.bq_state.specs.TubeNumbers.{HaveNumbers, HaveNumbers-prop};
 
@@ -13,14 +13,14 @@ use bq_jobs::NumberedJobs;
 use bq_steps::Config;
 use std::alloc::Global;
 
-/// What a core holds. That it is sound stands here once: what builds or changes a state has to keep
-/// it, and what reads one may use it.
+/// The state of a core. Its invariants are stated here, once: code that builds or changes a state
+/// has to keep them, and code that reads one may use them.
 #[derive(Drop)]
 pub struct CoreParts {
     pub config: Config,
     pub jobs: NumberedJobs,
     pub seats: Vec<SeatRecord, Global>,
-    /// The clients that wait, in their turn.
+    /// The waiting clients, in order of their turns.
     pub waiting: Waiting,
     /// What is kept of each tube that exists.
     pub tubes: Tubes,
@@ -57,7 +57,7 @@ impl CoreParts {
     ghost use Rattle.bq_state.specs.Warnings.{has_waiting_holder};
     ghost use Rattle.bq_state.specs.JobChanges.{is_passed_by, passes, ttr_held_by};
 
-    /// Whether there is a seat of this number, and nobody is connected there.
+    /// Returns true if there is a seat with this number and no client is connected to it.
     pub fn is_free(&self, seat: Seat) -> bool
         ensures { result ≡ is_free (seat_with seat self.now.seats.items) }
     {
@@ -67,7 +67,7 @@ impl CoreParts {
         }
     }
 
-    /// Whether somebody is connected at the seat.
+    /// Returns true if a client is connected at the seat.
     pub fn is_connected(&self, seat: Seat) -> bool
         ensures { result ≡ is_connected (seat_with seat self.now.seats.items) }
     {
@@ -77,7 +77,7 @@ impl CoreParts {
         }
     }
 
-    /// Whether the client at the seat can ask: it is connected, and doesn't wait.
+    /// Returns true if the client at the seat may make a request: it is connected and doesn't wait.
     pub fn is_asking(&self, seat: Seat) -> bool
         ensures { result ≡ is_asking (seat_with seat self.now.seats.items) }
     {
@@ -87,7 +87,7 @@ impl CoreParts {
         }
     }
 
-    /// Whether there is a job of this id, and it passes.
+    /// Returns true if there is a job with this id and it passes the test.
     #[tactic(auto, using(crate::proofs::PartsLemmas::compared_sound))]
     pub fn has_job(&mut self, id: JobId, test: JobTest) -> bool
         ensures has { result ≡ is_passed_by (passes test) (job_with id (machine_of self.old).jobs) }
@@ -96,7 +96,8 @@ impl CoreParts {
         job_store::has(&mut self.jobs, id, test)
     }
 
-    /// How long the client at the seat may hold the job of this id, in seconds, if it holds it.
+    /// Returns how long the client at the seat may hold the job with this id, in seconds, if it
+    /// holds it.
     #[tactic(auto, using(crate::proofs::PartsLemmas::compared_sound))]
     pub fn time_to_run(&mut self, id: JobId, seat: Seat) -> Option<u32>
         ensures ttr { result ≡ ttr_held_by seat (job_with id (machine_of self.old).jobs) }
@@ -105,8 +106,8 @@ impl CoreParts {
         job_store::time_to_run(&mut self.jobs, id, seat)
     }
 
-    /// One more owner of the body of the job of this id, unless it is refused; None where there is
-    /// no job.
+    /// Returns another reference to the body of the job with this id, unless that is refused; None
+    /// if there is no such job.
     #[tactic(auto, using(crate::proofs::PartsLemmas::compared_sound))]
     pub fn share(&mut self, id: JobId) -> Option<Result<Body, NoMemory>>
         ensures none { is_some result ≡ is_some (job_with id (machine_of self.old).jobs) }
@@ -117,7 +118,7 @@ impl CoreParts {
         job_store::share(&mut self.jobs, id)
     }
 
-    /// The id of the first job of this kind in this tube.
+    /// Returns the id of the first job of this kind in this tube.
     #[tactic(auto, using(crate::proofs::PartsLemmas::compared_sound))]
     pub fn first(&mut self, kind: JobKind, tube: &TubeName) -> Option<JobId>
         ensures id { result
@@ -127,7 +128,7 @@ impl CoreParts {
         job_store::first(&mut self.jobs, kind, tube)
     }
 
-    /// Whether some client holds a job.
+    /// Returns true if some client holds a job.
     #[tactic(auto, using(crate::proofs::TallyPlaces::some_reserved))]
     pub fn has_lease(&self) -> bool
         ensures { result ≡ list_any (λ j. is_reserved j.state) self.now.jobs.jobs }
@@ -135,7 +136,7 @@ impl CoreParts {
         self.known.tally.reserved > 0
     }
 
-    /// Whether some job is delayed.
+    /// Returns true if some job is delayed.
     #[tactic(auto, using(crate::proofs::TallyPlaces::some_delayed))]
     pub fn has_delayed(&self) -> bool
         ensures { result ≡ list_any (λ j. is_delayed j.state) self.now.jobs.jobs }
@@ -143,7 +144,8 @@ impl CoreParts {
         self.known.tally.delayed > 0
     }
 
-    /// Whether the client at the seat holds a job. Where nobody holds one, none is looked for.
+    /// Returns true if the client at the seat holds a job. If no client holds one, nothing is
+    /// searched.
     #[tactic(auto, using(crate::proofs::PartsLemmas::compared_sound, crate::proofs::DueLemmas::none_held))]
     pub(crate) fn holds_some(&mut self, seat: Seat) -> bool
         ensures holds { result ≡ list_any (is_held_by seat) self.old.jobs.jobs }
@@ -155,7 +157,7 @@ impl CoreParts {
         job_store::holds_some(&mut self.jobs, seat)
     }
 
-    /// Whether somebody waits.
+    /// Returns true if some client waits.
     #[tactic(auto, using(crate::proofs::ClientLemmas::some_pass))]
     pub fn has_waiter(&self) -> bool
         ensures { result ≡ list_any is_waiting self.now.seats.items }
@@ -163,7 +165,7 @@ impl CoreParts {
         self.known.clients.waiting > 0
     }
 
-    /// Whether somebody waits at the tube.
+    /// Returns true if some client waits for jobs of the tube.
     #[tactic(auto, using(crate::proofs::CrowdPlaces::waiters_counted))]
     pub(crate) fn has_waiter_at(&self, tube: &TubeName) -> bool
         ensures { result ≡ list_any (is_waiter tube.now) self.now.seats.items }
@@ -171,7 +173,7 @@ impl CoreParts {
         self.tubes.has_waiter_at(&self.known.clients, tube)
     }
 
-    /// How many jobs are in the tube.
+    /// Returns the counts of the jobs in the tube.
     #[tactic(auto, using(crate::proofs::TallyPlaces::tally_there))]
     pub fn tally_in(&self, tube: &TubeName) -> Tally
         ensures { result
@@ -180,7 +182,7 @@ impl CoreParts {
         self.tubes.tally_of(tube)
     }
 
-    /// How many clients are at the tube.
+    /// Returns the counts of the clients that use or watch the tube, or wait for its jobs.
     #[tactic(auto, using(crate::proofs::CrowdPlaces::crowd_there))]
     pub fn crowd_at(&self, tube: &TubeName) -> Crowd
         ensures { result ≡ crowd_of self.now.seats.items tube.now }
@@ -188,14 +190,14 @@ impl CoreParts {
         self.tubes.crowd_of(tube)
     }
 
-    /// Whether a job is in the tube.
+    /// Returns true if there is a job in the tube.
     pub(crate) fn has_job_in(&self, tube: &TubeName) -> bool
         ensures { result ≡ list_any (λ j. is_same_name tube.now j.tube) self.now.jobs.jobs }
     {
         self.tubes.has_jobs_in(tube)
     }
 
-    /// Whether the job is ready, and somebody waits at its tube.
+    /// Returns true if the job is ready and a client waits for jobs of its tube.
     pub(crate) fn is_wanted(&self, job: &Job) -> bool
         ensures { result
             ≡ (is_ready job.now && list_any (is_waiter job.now.tube) self.now.seats.items) }
@@ -203,7 +205,7 @@ impl CoreParts {
         job_store::is_ready(job) && self.has_waiter_at(&job.tube)
     }
 
-    /// Whether the client waits that holds the job, if one does.
+    /// Returns true if a client holds the job and waits.
     pub(crate) fn has_waiting_holder(&self, job: &Job) -> bool
         ensures { result ≡ has_waiting_holder job.now.state self.now.seats.items }
     {

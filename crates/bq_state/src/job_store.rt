@@ -1,4 +1,4 @@
-//! The jobs: a change of one, what a command asks of one, and the room for more.
+//! The jobs: changing one, testing one for a command, and room for more.
 ghost use Rattle.std.specs.Prelude.{◌≡◌, ◌<◌, ◌||◌, length, not, is_some, IfSome, IfOk};
 ghost use Rattle.std.specs.Option.{option_map};
 ghost use Rattle.bq_job.specs.machine.Changes.{is_ready, job_with};
@@ -18,19 +18,19 @@ ghost use Rattle.bq_state.specs.Room.{room_left};
 use bq_job::{Body, Job, JobId, JobState, Moment, NoMemory, Pri, Seat, TubeName};
 use bq_jobs::{JobEdit, NumberedJobs, Row};
 
-// Room for so many more jobs than there are is kept.
+// How much more room than there are jobs is kept.
 const ROOM_TO_SPARE: usize = 1000;
 
-/// What happens to a job.
+/// A change of a job.
 #[derive(Clone, Copy)]
 pub enum JobChange {
     /// Timers fire at this moment.
     FireTimers(Moment),
     /// It goes to the client at this seat, at this moment.
     HandOut(Seat, Moment),
-    /// The client that holds it is gone: it stands so from now on.
+    /// Its holder has disconnected: this is its state from now on.
     GiveBack(JobState),
-    /// It gets this priority and this delay, counted from this moment.
+    /// It gets this priority and this delay, in seconds from this moment.
     Release(Pri, u32, Moment),
     /// It is buried, with this burial number and this priority.
     Bury(u64, Pri),
@@ -40,7 +40,7 @@ pub enum JobChange {
     Kick,
 }
 
-/// The jobs of a tube that a client can choose the first of.
+/// The kinds of jobs of a tube whose first one a client can query.
 #[derive(Clone, Copy)]
 pub enum JobKind {
     Ready,
@@ -48,7 +48,7 @@ pub enum JobKind {
     Buried,
 }
 
-/// The moment so many seconds later, at most 2^64 - 1.
+/// Returns the moment `seconds` later, at most 2^64 - 1.
 pub fn later(moment: Moment, seconds: u32) -> Moment
     ensures { result ≡ later_by moment seconds }
 {
@@ -81,7 +81,7 @@ fn hand_out(job: &mut Row, seat: Seat, moment: Moment)
     job.counts.reserves = job.counts.reserves.saturating_add(1);
 }
 
-/// Whether the client at the seat holds the job.
+/// Returns true if the client at the seat holds the job.
 pub(crate) fn is_held_by(job: &Row, seat: Seat) -> bool
     ensures { result ≡ held_by seat job.now }
 {
@@ -91,14 +91,14 @@ pub(crate) fn is_held_by(job: &Row, seat: Seat) -> bool
     }
 }
 
-/// Whether the job is ready.
+/// Returns true if the job is ready.
 pub(crate) fn is_ready(job: &Job) -> bool
     ensures { result ≡ is_ready job.now }
 {
     matches!(job.state, JobState::Ready)
 }
 
-/// Whether the client at the seat holds a job.
+/// Returns true if the client at the seat holds a job.
 #[tactic(auto, using(crate::proofs::DueLemmas::held_some))]
 pub(crate) fn holds_some(jobs: &mut NumberedJobs, seat: Seat) -> bool
     ensures holds { result ≡ list_any (held_by seat) jobs.old.jobs }
@@ -108,28 +108,28 @@ pub(crate) fn holds_some(jobs: &mut NumberedJobs, seat: Seat) -> bool
     jobs.next_deadline_of(seat).is_some()
 }
 
-/// Whether some client holds the job.
+/// Returns true if some client holds the job.
 pub(crate) fn is_reserved(job: &Row) -> bool
     ensures { result ≡ is_reserved job.now.state }
 {
     matches!(job.state(), JobState::Reserved(_, _))
 }
 
-/// Whether nobody holds the job, or the client at the seat does.
+/// Returns true if no client holds the job, or the client at the seat does.
 pub(crate) fn is_free_for(job: &Row, seat: Seat) -> bool
     ensures { result ≡ (not (is_reserved job.now.state) || held_by seat job.now) }
 {
     !is_reserved(job) || is_held_by(job, seat)
 }
 
-/// Whether the job is buried or delayed.
+/// Returns true if the job is buried or delayed.
 pub(crate) fn is_kickable(job: &Row) -> bool
     ensures { result ≡ (is_buried job.now.state || is_delayed job.now.state) }
 {
     matches!(job.state(), JobState::Buried(_) | JobState::Delayed(_))
 }
 
-/// Ready, or delayed so many seconds from this moment on.
+/// Returns ready if there is no delay, otherwise delayed from this moment by `delay` seconds.
 pub fn delayed_by(delay: u32, moment: Moment) -> JobState
     ensures { result ≡ delayed_for delay moment }
 {
@@ -187,7 +187,7 @@ impl JobEdit for JobChange {
     }
 }
 
-/// The id of the first job of this kind in this tube.
+/// Returns the id of the first job of this kind in this tube.
 pub fn first(jobs: &mut NumberedJobs, kind: JobKind, tube: &TubeName) -> Option<JobId>
     ensures id { result ≡ option_map (λ j. j.id) (first_of_kind kind tube.now jobs.old.jobs) }
     ensures same { jobs.new ≡ record jobs.old { comparisons = jobs.new.comparisons } }
@@ -200,14 +200,14 @@ pub fn first(jobs: &mut NumberedJobs, kind: JobKind, tube: &TubeName) -> Option<
     }
 }
 
-/// What a command asks of a job.
+/// A test of a job for a command.
 #[derive(Clone, Copy)]
 pub enum JobTest {
     /// The client at this seat holds it.
     HeldBy(Seat),
-    /// Nobody holds it, or the client at this seat does.
+    /// No client holds it, or the client at this seat does.
     FreeFor(Seat),
-    /// Nobody holds it.
+    /// No client holds it.
     Free,
     /// It is buried or delayed.
     Kickable,
@@ -224,7 +224,7 @@ fn passes(job: &Row, test: JobTest) -> bool
     }
 }
 
-/// Whether there is a job of this id, and it passes.
+/// Returns true if there is a job with this id and it passes the test.
 pub(crate) fn has(jobs: &mut NumberedJobs, id: JobId, test: JobTest) -> bool
     ensures has { result ≡ is_passed_by (passes test) (job_with id jobs.old.jobs) }
     ensures same { jobs.new ≡ record jobs.old { comparisons = jobs.new.comparisons } }
@@ -236,7 +236,8 @@ pub(crate) fn has(jobs: &mut NumberedJobs, id: JobId, test: JobTest) -> bool
     }
 }
 
-/// How long the client at the seat may hold the job of this id, in seconds, if it holds it.
+/// Returns how long the client at the seat may hold the job with this id, in seconds, if it holds
+/// it.
 pub(crate) fn time_to_run(jobs: &mut NumberedJobs, id: JobId, seat: Seat) -> Option<u32>
     ensures ttr { result ≡ ttr_held_by seat (job_with id jobs.old.jobs) }
     ensures same { jobs.new ≡ record jobs.old { comparisons = jobs.new.comparisons } }
@@ -252,8 +253,8 @@ pub(crate) fn time_to_run(jobs: &mut NumberedJobs, id: JobId, seat: Seat) -> Opt
     }
 }
 
-/// One more owner of the body of the job of this id, unless it is refused; None where there is no
-/// job.
+/// Returns another reference to the body of the job with this id, unless that is refused; None if
+/// there is no such job.
 pub(crate) fn share(jobs: &mut NumberedJobs, id: JobId) -> Option<Result<Body, NoMemory>>
     ensures none { is_some result ≡ is_some (job_with id jobs.old.jobs) }
     ensures share { IfSome result (λ shared. IfOk shared (IsBodyOf (job_with id jobs.old.jobs))) }
@@ -263,7 +264,7 @@ pub(crate) fn share(jobs: &mut NumberedJobs, id: JobId) -> Option<Result<Body, N
     jobs.share_body(id)
 }
 
-// The room of one job goes back to the heap, where there is room for so many more than there are.
+// Returns the room of one job to the heap, if there is plenty.
 fn let_one_room_go(jobs: &mut NumberedJobs)
     ensures same { jobs.new ≡ record jobs.old { room = jobs.new.room } }
     ensures given { jobs.new.room ≡ room_left (length jobs.old.jobs) jobs.old.room }
@@ -274,7 +275,7 @@ fn let_one_room_go(jobs: &mut NumberedJobs)
     }
 }
 
-/// Room that nobody needs goes back to the heap: that of two jobs at a time, so that no step takes
+/// Returns unneeded room to the heap: at most that of two jobs at a time, so that no step takes
 /// long.
 pub(crate) fn let_room_go(jobs: &mut NumberedJobs)
     ensures same { jobs.new ≡ record jobs.old { room = jobs.new.room } }

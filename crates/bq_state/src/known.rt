@@ -1,5 +1,5 @@
 //! What is known of the jobs, the seats and the tubes without a search: how many there are, and
-//! where something may be found, so that only there it is looked for.
+//! where something may be found, so that only that place is searched.
 ghost use Rattle.std.specs.Option.{option_copied};
 ghost use Rattle.std.specs.Prelude.{◌≡◌, [], if◌then◌else◌, ◌∷◌, None, fold};
 ghost use Rattle.bq_state.specs.Clients.{clients_with, clients_without};
@@ -24,28 +24,29 @@ use crate::tubes::{Share, TubeChange, Tubes};
 use bq_job::{Job, JobState, Moment, Pri, Seat, TubeName};
 use bq_jobs::{Moved, Standing};
 
-/// What is known without a search. Each field follows from the jobs, the seats and the tubes, and
-/// is kept where these change: what it says of them is a clause of `specs/Knowledge.antt`.
+/// What is known without a search. Each field is determined by the jobs, the seats and the tubes,
+/// and is updated when these change; `specs/Knowledge.antt` states its meaning.
 #[derive(Clone, Copy)]
 pub struct Known {
     /// How many jobs are in each state.
     pub tally: Tally,
-    /// How many clients there are.
+    /// How many clients are connected, and how many wait.
     pub clients: Clients,
-    /// Which tubes may be gone whose entries are still there.
+    /// Which tubes with entries may have gone.
     pub loss: Loss,
-    /// Which jobs the clients that wait may have.
+    /// Which jobs waiting clients may have.
     pub stir: Stir,
-    /// Which clients that wait may hold a job, and so be told when its time to run ends soon.
+    /// Which waiting clients may hold a job, and so get DEADLINE_SOON when its time to run ends
+    /// soon.
     pub warns: Warns,
-    /// When the first wait of a client is over by its timeout.
+    /// When the first wait times out.
     pub first_end: FirstEnd,
     /// When the first pause of a tube ends.
     pub pause_end: Option<Moment>,
 }
 
 impl Known {
-    /// Where there are no jobs, nobody is at the seats, and no tube is paused.
+    /// Returns what is known if there are no jobs, no clients, and no pauses.
     pub(crate) fn nothing() -> Known
         ensures { result ≡ nothing_known }
     {
@@ -60,8 +61,8 @@ impl Known {
         }
     }
 
-    /// A job comes: whether it is ready while somebody waits at its tube, and whether its holder
-    /// waits, is told.
+    /// A job is added. `is_wanted` says whether it is ready and a client waits for jobs of its
+    /// tube; `waits` says whether its holder waits.
     pub(crate) fn add_job(&mut self, job: &Job, is_wanted: bool, waits: bool)
         ensures { self.new ≡ with_job job.now is_wanted waits self.old }
     {
@@ -71,7 +72,7 @@ impl Known {
         self.warns.warn_holder_if(job.state, waits);
     }
 
-    /// A job is gone.
+    /// A job is removed.
     pub(crate) fn remove_job(&mut self, job: &Job)
         ensures { self.new ≡ without_job job.now self.old }
     {
@@ -79,7 +80,7 @@ impl Known {
         self.loss.lose(&job.tube);
     }
 
-    /// A job is changed: the same is told of it as it is now.
+    /// A job is changed; the arguments describe it after the change.
     pub(crate) fn move_job(&mut self, moved: &Moved, is_wanted: bool, waits: bool)
         ensures { self.new ≡ with_moved moved.now is_wanted waits self.old }
     {
@@ -89,8 +90,8 @@ impl Known {
         self.warns.warn_holder_if(moved.to.state, waits);
     }
 
-    /// A seat, if there is one, is about to be changed, and counts no longer for what is touched at
-    /// its tubes.
+    /// A seat, if there is one, is about to change, and its tubes no longer count it for what the
+    /// change touches.
     pub(crate) fn leave(
         &mut self,
         client: Option<&SeatRecord>,
@@ -106,7 +107,7 @@ impl Known {
         self.loss.leave(tubes, client, touched);
     }
 
-    /// The seat of this number, if there is one, was changed.
+    /// The seat with this number, if there is one, was changed.
     pub(crate) fn join(&mut self, client: Option<&SeatRecord>, seat: Seat, what: &SeatChange)
         ensures { self.new ≡ with_joined (option_copied client.entry) seat what.now self.old }
     {
@@ -123,7 +124,7 @@ impl Known {
         self.pause_end = tubes.pause_end_after(what, self.pause_end);
     }
 
-    /// The entries of tubes that are gone were dropped, where there were so many.
+    /// The entries of tubes that no longer exist were dropped; before, there were `entries`.
     pub(crate) fn forget_tubes(&mut self, entries: usize, tubes: &Tubes)
         ensures { self.new ≡ with_forgotten entries tubes.now.entries self.old }
     {
@@ -135,8 +136,8 @@ impl Known {
 /// Ready jobs with a priority below this are urgent.
 const URGENT_BELOW: Pri = 1024;
 
-/// How many jobs are in each state. Urgent ones count as ready too. A count stops at 2^64 - 1,
-/// which no number of jobs comes to.
+/// How many jobs are in each state. Urgent jobs count as ready too. A count stops at 2^64 - 1, more
+/// than there can be jobs.
 #[derive(Clone, Copy, PartialEq, Eq)]
 pub struct Tally {
     pub urgent: u64,
@@ -147,7 +148,7 @@ pub struct Tally {
 }
 
 impl Tally {
-    /// Nothing is counted.
+    /// Counts of no jobs.
     pub(crate) fn none() -> Tally
         ensures { result ≡ tally_of [] }
     {
@@ -160,7 +161,7 @@ impl Tally {
         }
     }
 
-    /// Whether a job is counted.
+    /// Returns true if a job is counted.
     pub(crate) fn has_jobs(&self) -> bool
         ensures { result ≡ has_jobs self.now }
     {
@@ -174,14 +175,14 @@ impl Tally {
         self.enter(Standing::of(job));
     }
 
-    /// Counts a job no longer.
+    /// Stops counting a job.
     pub(crate) fn remove(&mut self, job: &Job)
         ensures { self.new ≡ tally_without job.now self.old }
     {
         self.leave(Standing::of(job));
     }
 
-    /// A job stands so.
+    /// Counts a job in this state.
     pub(crate) fn enter(&mut self, at: Standing)
         ensures { self.new ≡ tally_entered at self.old }
     {
@@ -198,7 +199,7 @@ impl Tally {
         }
     }
 
-    /// A job stands so no longer.
+    /// Stops counting a job in this state.
     pub(crate) fn leave(&mut self, at: Standing)
         ensures { self.new ≡ tally_left at self.old }
     {
@@ -216,8 +217,8 @@ impl Tally {
     }
 }
 
-/// How many clients are connected, and how many wait. A count stops at 2^64 - 1, which no number of
-/// seats comes to.
+/// How many clients are connected, and how many wait. A count stops at 2^64 - 1, more than there
+/// can be seats.
 #[derive(Clone, Copy, Default, PartialEq, Eq)]
 pub struct Clients {
     pub connected: u64,
@@ -225,7 +226,7 @@ pub struct Clients {
 }
 
 impl Clients {
-    /// Counts what is at a seat, if there is this seat.
+    /// Counts a seat, if there is one.
     pub(crate) fn add(&mut self, client: Option<&SeatRecord>)
         ensures { self.new ≡ clients_with (option_copied client.entry) self.old }
     {
@@ -240,7 +241,7 @@ impl Clients {
         }
     }
 
-    /// Counts it no longer.
+    /// Stops counting a seat, if there is one.
     pub(crate) fn remove(&mut self, client: Option<&SeatRecord>)
         ensures { self.new ≡ clients_without (option_copied client.entry) self.old }
     {
@@ -256,8 +257,8 @@ impl Clients {
     }
 }
 
-/// Which jobs the clients that wait may have: only those are looked for when jobs are handed out. A
-/// tube at which nobody waits stirs nothing.
+/// Which jobs waiting clients may have. Only these are searched when jobs are handed out. A tube
+/// for whose jobs no client waits does not count.
 #[derive(Clone, Copy)]
 pub enum Stir {
     /// None.
@@ -271,7 +272,7 @@ pub enum Stir {
 }
 
 impl Stir {
-    /// Whether nobody may have a job.
+    /// Returns true if no client may have a job.
     pub fn is_nothing(&self) -> bool
         ensures { result ≡ is_nothing self.now }
     {
@@ -296,7 +297,7 @@ impl Stir {
         };
     }
 
-    // The jobs may be had too for which the client at this seat waits.
+    // The jobs for which the client at this seat waits may be had too.
     fn stir_client(&mut self, seat: Seat)
         ensures { self.new ≡ with_asker seat self.old }
     {
@@ -306,7 +307,7 @@ impl Stir {
         };
     }
 
-    /// The jobs of this tube may be had too, if that is so.
+    /// The jobs of this tube may be had too, if `is_wanted`.
     pub(crate) fn stir_tube_if(&mut self, name: &TubeName, is_wanted: bool)
         ensures { self.new ≡ (if is_wanted then with_stirred name.now self.old else self.old) }
     {
@@ -315,7 +316,7 @@ impl Stir {
         }
     }
 
-    /// Any job may be had, if that is so.
+    /// Any job may be had, if `is_wanted`.
     pub(crate) fn stir_all_if(&mut self, is_wanted: bool)
         ensures { self.new ≡ (if is_wanted then with_anything self.old else self.old) }
     {
@@ -324,7 +325,7 @@ impl Stir {
         }
     }
 
-    /// What may be had once a seat is changed.
+    /// What may be had after a change of a seat.
     pub(crate) fn stir_seat(&mut self, seat: Seat, what: &SeatChange)
         ensures { self.new ≡ stirred_by_seat seat what.now self.old }
     {
@@ -334,7 +335,7 @@ impl Stir {
         }
     }
 
-    /// What may be had once a tube is changed: where its pause ends, its jobs too.
+    /// What may be had after a change of a tube: if its pause ends, its jobs too.
     pub(crate) fn stir_change(&mut self, name: &TubeName, what: TubeChange)
         ensures { self.new ≡ stirred_by_change name.now what self.old }
     {
@@ -345,8 +346,8 @@ impl Stir {
     }
 }
 
-/// Which clients may hold a job while they wait, and so be told when its time to run ends soon:
-/// only of those is it asked when that is.
+/// Which clients may hold a job while they wait, and so get DEADLINE_SOON when its time to run ends
+/// soon. Only these are checked for the next due moment.
 #[derive(Clone, Copy)]
 pub enum Warns {
     /// None.
@@ -358,7 +359,7 @@ pub enum Warns {
 }
 
 impl Warns {
-    // The client at this seat may hold one too.
+    // The client at this seat may hold a job too.
     fn warn(&mut self, seat: Seat)
         ensures { self.new ≡ with_holder seat self.old }
     {
@@ -373,7 +374,7 @@ impl Warns {
         };
     }
 
-    /// The client at this seat may hold one too, if that is so.
+    /// The client at this seat may hold a job too, if `holds`.
     pub(crate) fn warn_if(&mut self, seat: Seat, holds: bool)
         ensures { self.new ≡ (if holds then with_holder seat self.old else self.old) }
     {
@@ -382,7 +383,7 @@ impl Warns {
         }
     }
 
-    // Who holds a job in this state, if one does.
+    // Adds the holder of a job in this state, if there is one.
     fn warn_holder(&mut self, at: JobState)
         ensures { self.new ≡ with_holder_of at self.old }
     {
@@ -392,7 +393,7 @@ impl Warns {
         }
     }
 
-    /// Who holds a job in this state, if it waits.
+    /// Adds the holder of a job in this state, if it waits.
     pub(crate) fn warn_holder_if(&mut self, at: JobState, waits: bool)
         ensures { self.new ≡ (if waits then with_holder_of at self.old else self.old) }
     {
@@ -401,7 +402,7 @@ impl Warns {
         }
     }
 
-    // The client at this seat waits no longer.
+    // The client at this seat no longer waits.
     fn forget(&mut self, seat: Seat)
         ensures { self.new ≡ without_holder seat self.old }
     {
@@ -416,7 +417,7 @@ impl Warns {
         };
     }
 
-    /// What is known once a seat is changed.
+    /// What is known after a change of a seat.
     pub(crate) fn warn_seat(&mut self, seat: Seat, what: &SeatChange)
         ensures { self.new ≡ warned_by_seat seat what.now self.old }
     {
@@ -427,7 +428,7 @@ impl Warns {
         }
     }
 
-    /// What is known once it was asked when the first of them is told: where that is never, none
+    /// What is known after the first of their deadlines was queried: if there is none, none of them
     /// holds a job.
     pub fn settle(&mut self, is_due: bool)
         ensures { self.new ≡ warned_if_due is_due self.old }
@@ -438,7 +439,7 @@ impl Warns {
     }
 }
 
-/// Which tubes may be gone while their entries are still kept: only those are looked at when
+/// Which tubes may have gone while their entries are still kept. Only these are checked when
 /// entries are dropped.
 #[derive(Clone, Copy)]
 pub enum Loss {
@@ -451,7 +452,7 @@ pub enum Loss {
 }
 
 impl Loss {
-    /// This tube may be gone too.
+    /// This tube may have gone too.
     pub(crate) fn lose(&mut self, name: &TubeName)
         ensures { self.new ≡ with_lost name.now self.old }
     {
@@ -466,7 +467,7 @@ impl Loss {
         };
     }
 
-    /// This tube may be gone too, if that is so.
+    /// This tube may have gone too, if `may_be_gone`.
     pub(crate) fn lose_if(&mut self, name: &TubeName, may_be_gone: bool)
         ensures { self.new ≡ (if may_be_gone then with_lost name.now self.old else self.old) }
     {
@@ -489,7 +490,7 @@ impl Loss {
         }
     }
 
-    // The tube of this name may be gone, unless its counts tell that it exists.
+    // The tube with this name may have gone, unless its counts show that it exists.
     fn lose_unless_there(&mut self, tubes: &Tubes, name: &TubeName)
         ensures { self.new ≡ lost_unless (exists_in tubes.now name.now) name.now self.old }
     {
@@ -498,7 +499,7 @@ impl Loss {
         }
     }
 
-    // The same for each of these tubes.
+    // Does the same for each of these tubes.
     fn lose_all(&mut self, tubes: &Tubes, names: &[TubeName])
         ensures { self.new ≡ lost_all tubes.now names.now self.old }
     {
@@ -524,9 +525,8 @@ impl Loss {
         }
     }
 
-    /// Of the tubes that a seat uses and watches, those may be gone that don't exist by their
-    /// counts, in which it isn't counted any more: where it may be touched that it uses them, or
-    /// watches them.
+    /// Of the tubes that a seat uses and watches, if `what` affects either, those may have gone whose
+    /// counts, which no longer include the seat, do not show that they exist.
     pub(crate) fn leave(&mut self, tubes: &Tubes, client: Option<&SeatRecord>, what: Share)
         ensures { self.new ≡ loss_of what tubes.now (option_copied client.entry) self.old }
     {
@@ -538,7 +538,7 @@ impl Loss {
     }
 }
 
-/// The earlier of two moments, if there is one.
+/// Returns the earlier of two moments, if there is one.
 pub fn earlier_of(a: Option<Moment>, b: Option<Moment>) -> Option<Moment>
     ensures { result ≡ earlier_of_both a b }
 {
@@ -549,7 +549,7 @@ pub fn earlier_of(a: Option<Moment>, b: Option<Moment>) -> Option<Moment>
     }
 }
 
-/// Whether this moment, if there is one, has come.
+/// Returns true if there is a moment and it has come.
 pub fn is_over(end: Option<Moment>, moment: Moment) -> bool
     ensures { result ≡ is_end_over moment end }
 {
@@ -559,7 +559,7 @@ pub fn is_over(end: Option<Moment>, moment: Moment) -> bool
     }
 }
 
-// The earlier of this moment and of when the client of this turn gives up.
+// Returns the earlier of this moment and the one at which the wait of this turn's client times out.
 fn with_end_of(best: Option<Moment>, seats: &[SeatRecord], turn: Turn) -> Option<Moment>
     ensures { result ≡ at_turn with_seat_due seats.now best turn }
 {
@@ -569,7 +569,7 @@ fn with_end_of(best: Option<Moment>, seats: &[SeatRecord], turn: Turn) -> Option
     }
 }
 
-// When the first of the clients that have these turns gives up.
+// Returns when the first wait of the clients with these turns times out.
 fn first_end_among(seats: &[SeatRecord], turns: &[Turn]) -> Option<Moment>
     ensures { result ≡ fold (at_turn with_seat_due seats.now) None turns.now }
 {
@@ -578,7 +578,7 @@ fn first_end_among(seats: &[SeatRecord], turns: &[Turn]) -> Option<Moment>
         .fold(None, |best, turn| with_end_of(best, seats, *turn))
 }
 
-/// When the first of the clients that wait gives up. Only who waits is looked at.
+/// Returns when the first wait times out. Only waiting clients are checked.
 #[tactic(auto, using(crate::proofs::DueLemmas::ends_walked))]
 pub fn first_to_give_up(seats: &[SeatRecord], turns: &[Turn]) -> Option<Moment>
     requires numbered { AreNumbered seats.now }
@@ -588,16 +588,16 @@ pub fn first_to_give_up(seats: &[SeatRecord], turns: &[Turn]) -> Option<Moment>
     first_end_among(seats, turns)
 }
 
-/// When the first wait of a client is over by its timeout.
+/// When the first wait times out.
 #[derive(Clone, Copy)]
 pub enum FirstEnd {
-    /// Then, if ever. Nobody waits who sends no more.
+    /// At this moment, if ever; and every waiting client can still send.
     Known(Option<Moment>),
-    /// That has to be looked for.
+    /// It has to be searched.
     Unknown,
 }
 
-// Whether a change of a seat leaves it as it was.
+// Returns true if a change of a seat keeps it.
 fn keeps(client: &SeatRecord, what: &SeatChange) -> bool
     ensures { result ≡ keeps_end what.now client.now }
 {
@@ -614,7 +614,7 @@ fn keeps(client: &SeatRecord, what: &SeatChange) -> bool
 }
 
 impl FirstEnd {
-    /// What is known of it once a seat, as it stands yet, is changed.
+    /// What is known after a change of a seat; `client` is its record before.
     pub(crate) fn change(&mut self, client: Option<&SeatRecord>, what: &SeatChange)
         ensures { self.new ≡ end_after what.now (option_copied client.entry) self.old }
     {
@@ -626,7 +626,7 @@ impl FirstEnd {
         }
     }
 
-    /// What is known once it was looked for. Only who waits is looked at.
+    /// Finds it. Only waiting clients are checked.
     #[tactic(auto, using(crate::proofs::DueLemmas::all_there))]
     pub(crate) fn find(seats: &[SeatRecord], turns: &[Turn]) -> FirstEnd
         requires numbered { AreNumbered seats.now }

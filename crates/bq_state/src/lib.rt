@@ -1,8 +1,8 @@
-//! What a core keeps: the jobs, the seats, the tubes, and what is known of them without a search.
+//! The state of a core: the jobs, the seats, the tubes, and what is known of them without a search.
 //!
-//! A [`core_parts::CoreParts`] stands for the one-list machine that `bq_job` defines, and the
-//! contract of each change says what becomes of that machine. When what is changed, `bq_core`
-//! decides.
+//! A [`core_parts::CoreParts`] represents the one-list machine that `bq_job` defines, and the
+//! contract of each operation says how it changes that machine. `bq_core` decides when they are
+//! called.
 #![tactic(auto)]
 
 pub mod changes;

@@ -1,4 +1,4 @@
-//! Lists of names, each once, in byte order.
+//! Lists of names in byte order, without duplicates.
 ghost use Rattle.std.specs.Prelude.{◌≡◌, ◌<◌, ◌≤◌, ◌+◌, not, vec_len, IfOk};
 ghost use Rattle.std.specs.List.{position, prefix_len, slice_get};
 ghost use Rattle.std.specs.Vec.{vec_capacity};
@@ -9,7 +9,7 @@ ghost use Rattle.bq_state.specs.Names.{is_named, names_of};
 use bq_job::{NoMemory, TubeName};
 use std::alloc::Global;
 
-/// Names that stand elsewhere.
+/// References to names.
 pub type Names<'a> = Vec<&'a [u8], Global>;
 
 fn is_before(a: &[u8], b: &[u8]) -> bool
@@ -18,14 +18,14 @@ fn is_before(a: &[u8], b: &[u8]) -> bool
     a.cmp(b).is_lt()
 }
 
-// The place of the first name that doesn't come before this one.
+// Returns the place of the first name that doesn't come before this one.
 fn first_after(names: &[&[u8]], name: &[u8]) -> Option<usize>
     ensures { result ≡ position (λ other. not (is_name_before other.now name.now)) names.now }
 {
     names.iter().position(|other| !is_before(other, name))
 }
 
-// Where the name would stand.
+// Returns the place of the name, or where it would be inserted.
 #[tactic(auto, using(crate::proofs::TubeLemmas::place_told))]
 fn place_of(names: &[&[u8]], name: &[u8]) -> usize
     ensures { result ≡ prefix_len (λ other. is_name_before other.now name.now) names.now }
@@ -33,7 +33,7 @@ fn place_of(names: &[&[u8]], name: &[u8]) -> usize
     first_after(names, name).unwrap_or(names.len())
 }
 
-// Whether the name stands at place i.
+// Returns true if the name is at place i.
 fn is_at(names: &[&[u8]], i: usize, name: &[u8]) -> bool
     ensures { result ≡ is_named name.now (slice_get names.now i) }
 {
@@ -43,7 +43,7 @@ fn is_at(names: &[&[u8]], i: usize, name: &[u8]) -> bool
     }
 }
 
-// Adds a name at its place, unless it is there. It takes no memory.
+// Inserts a name in order, unless it is there. It allocates nothing.
 fn add<'a>(names: &mut Names<'a>, name: &'a [u8])
     requires { vec_len names.old < vec_capacity names.old }
     ensures names { names_of names.new.items ≡ with_name (names_of names.old.items) name.now }
@@ -56,7 +56,8 @@ fn add<'a>(names: &mut Names<'a>, name: &'a [u8])
     }
 }
 
-/// These names, each once, in byte order. Their memory is asked for before.
+/// Returns these names in byte order without duplicates, or `NoMemory` if the allocation for them
+/// fails.
 pub fn in_order<'a>(alloc: Global, tubes: &'a [TubeName]) -> Result<Names<'a>, NoMemory>
     ensures { IfOk result (λ names. names_of names.items ≡ in_name_order tubes.now) }
 {

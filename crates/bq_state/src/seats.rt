@@ -1,4 +1,4 @@
-//! The seats: what is known of each and of its client, and what happens there.
+//! The seats: what is known of each and of its client, and how that changes.
 ghost use Rattle.std.specs.Prelude.{◌≡◌, ◌<◌, true, map, length, IfOk, OnErr};
 ghost use Rattle.std.specs.List.{list_any, position};
 ghost use Rattle.std.specs.Option.{option_copied, option_map};
@@ -26,16 +26,16 @@ use bq_job::{JobState, Moment, NoMemory, Seat, TubeName};
 use std::alloc::Global;
 use std::marker::Model;
 
-/// What happens at a seat.
+/// A change of a seat.
 #[derive(Clone, Copy)]
 pub enum SeatChange {
-    /// The client waits no longer.
+    /// The client no longer waits.
     StopWaiting,
     /// The client waits, with this ticket, until this moment if there is one.
     Wait(u64, Option<Moment>),
-    /// A client comes.
+    /// A client connects.
     Connect,
-    /// The client is gone.
+    /// The client has disconnected.
     Clear,
     /// The client sends no more.
     End,
@@ -56,7 +56,7 @@ fn change(client: &mut SeatRecord, what: &SeatChange)
     }
 }
 
-/// Changes the seat of this number. No other is looked at.
+/// Changes the seat with this number. No other seat is accessed.
 pub(crate) fn change_at(seats: &mut Vec<SeatRecord, Global>, number: Seat, what: &SeatChange)
     requires { AreNumbered seats.old.items }
     ensures { seats.new.items ≡ map (seat_changed_at number what.now) seats.old.items }
@@ -66,7 +66,7 @@ pub(crate) fn change_at(seats: &mut Vec<SeatRecord, Global>, number: Seat, what:
     }
 }
 
-/// The client at the seat of this number watches one more tube. Tells how many it watches then.
+/// The client at the seat with this number watches one more tube. Returns how many it then watches.
 pub(crate) fn watch(
     seats: &mut Vec<SeatRecord, Global>,
     alloc: Global,
@@ -86,8 +86,8 @@ pub(crate) fn watch(
     Ok(client.watch_count() as u64)
 }
 
-/// The client at the seat of this number watches a tube no longer, where another one is still
-/// watched. Tells how many it watches then.
+/// The client at the seat with this number no longer watches a tube; it still watches another one.
+/// Returns how many it then watches.
 #[tactic(auto, using(std::proofs::lemmas::Grind::common_steps, std::proofs::lemmas::Option::slice_get_read))]
 pub(crate) fn ignore(seats: &mut Vec<SeatRecord, Global>, number: Seat, name: &TubeName) -> u64
     requires there { number < length seats.old.items }
@@ -102,7 +102,7 @@ pub(crate) fn ignore(seats: &mut Vec<SeatRecord, Global>, number: Seat, name: &T
     client.watch_count() as u64
 }
 
-/// The seat of this number. No other is looked at.
+/// Returns the seat with this number. No other seat is accessed.
 #[tactic(auto, using(crate::proofs::SeatPlaces::found_there))]
 pub fn find(seats: &[SeatRecord], number: Seat) -> Option<&SeatRecord>
     requires { AreNumbered seats.now }
@@ -111,7 +111,7 @@ pub fn find(seats: &[SeatRecord], number: Seat) -> Option<&SeatRecord>
     seats.get(usize::from(number))
 }
 
-/// Whether the client waits that holds a job in this state, if one does.
+/// Returns true if a job in this state has a holder that waits.
 pub(crate) fn holder_waits(seats: &[SeatRecord], at: JobState) -> bool
     requires { AreNumbered seats.now }
     ensures { result ≡ has_waiting_holder at seats.now }
@@ -122,7 +122,7 @@ pub(crate) fn holder_waits(seats: &[SeatRecord], at: JobState) -> bool
     }
 }
 
-// Whether the client at the seat, if there is one, waits.
+// Returns true if there is a client at the seat and it waits.
 fn is_waiting_at(seats: &[SeatRecord], seat: Seat) -> bool
     requires { AreNumbered seats.now }
     ensures { result ≡ is_waiting_there (seat_with seat seats.now) }
@@ -133,14 +133,14 @@ fn is_waiting_at(seats: &[SeatRecord], seat: Seat) -> bool
     }
 }
 
-// Whether the client waits at this tube.
+// Returns true if the client waits for jobs of this tube.
 fn waits_at(client: &SeatRecord, tube: &TubeName) -> bool
     ensures { result ≡ waits_at tube.now client.now }
 {
     client.is_waiting() && client.watches(tube)
 }
 
-// Whether the client of this turn waits at this tube.
+// Returns true if the client of this turn waits for jobs of this tube.
 fn waits_there(seats: &[SeatRecord], turn: Turn, tube: &TubeName) -> bool
     ensures { result ≡ passes_at (waits_at tube.now) seats.now turn }
 {
@@ -150,7 +150,7 @@ fn waits_there(seats: &[SeatRecord], turn: Turn, tube: &TubeName) -> bool
     }
 }
 
-// The place among the turns of the first client that waits at this tube.
+// Returns the place among the turns of the first client that waits for jobs of this tube.
 fn place_waiting(seats: &[SeatRecord], turns: &[Turn], tube: &TubeName) -> Option<usize>
     ensures { result ≡ position (passes_at (waits_at tube.now) seats.now) turns.now }
 {
@@ -159,8 +159,8 @@ fn place_waiting(seats: &[SeatRecord], turns: &[Turn], tube: &TubeName) -> Optio
         .position(|turn| waits_there(seats, *turn, tube))
 }
 
-/// The seat of the client that has waited longest of those that wait at this tube. Only who waits
-/// is looked at.
+/// Returns the seat of the client that has waited longest for jobs of this tube. Only waiting
+/// clients are checked.
 pub fn first_waiting(seats: &[SeatRecord], turns: &[Turn], tube: &TubeName) -> Option<Seat>
     requires numbered { AreNumbered seats.now }
     requires turns { turns.now ≡ turns_of seats.now }
@@ -188,7 +188,7 @@ fn has_waited_there(seats: &[SeatRecord], turn: Turn, moment: Moment) -> bool
     }
 }
 
-// Whether the wait of a client that has one of these turns is over.
+// Returns true if a wait of the clients with these turns has ended.
 fn is_some_turn_over(seats: &[SeatRecord], turns: &[Turn], moment: Moment) -> bool
     ensures { result ≡ list_any (passes_at (has_waited moment) seats.now) turns.now }
 {
@@ -197,8 +197,8 @@ fn is_some_turn_over(seats: &[SeatRecord], turns: &[Turn], moment: Moment) -> bo
         .any(|turn| has_waited_there(seats, *turn, moment))
 }
 
-/// Whether some wait is over by its timeout, or because its client sends no more. Only who waits is
-/// looked at.
+/// Returns true if some wait has timed out, or its client sends no more. Only waiting clients are
+/// checked.
 #[tactic(auto, using(crate::proofs::WalkLemmas::any_turn))]
 pub fn is_some_wait_over(seats: &[SeatRecord], turns: &[Turn], moment: Moment) -> bool
     requires numbered { AreNumbered seats.now }
@@ -223,14 +223,14 @@ fn is_gone_there(seats: &[SeatRecord], turn: Turn) -> bool
     }
 }
 
-// Whether a client that has one of these turns sends no more.
+// Returns true if a client with one of these turns sends no more.
 fn is_some_turn_gone(seats: &[SeatRecord], turns: &[Turn]) -> bool
     ensures { result ≡ list_any (passes_at is_gone_in_wait seats.now) turns.now }
 {
     turns.iter().any(|turn| is_gone_there(seats, *turn))
 }
 
-/// Whether some client waits that sends no more. Only who waits is looked at.
+/// Returns true if some waiting client sends no more. Only waiting clients are checked.
 #[tactic(auto, using(crate::proofs::WalkLemmas::any_turn))]
 pub(crate) fn is_some_waiter_gone(seats: &[SeatRecord], turns: &[Turn]) -> bool
     requires numbered { AreNumbered seats.now }
@@ -240,7 +240,7 @@ pub(crate) fn is_some_waiter_gone(seats: &[SeatRecord], turns: &[Turn]) -> bool
     is_some_turn_gone(seats, turns)
 }
 
-/// So many seats, with nobody there.
+/// Returns this many seats without clients. Returns `NoMemory` if an allocation fails.
 #[tactic(auto, using(crate::proofs::SeatPlaces::places_more))]
 pub fn free_seats(alloc: Global, count: u16) -> Result<Vec<SeatRecord, Global>, NoMemory>
     ensures { IfOk result (λ seats. seats.items ≡ map empty_seat (numbers 0 count)) }
@@ -257,7 +257,7 @@ pub fn free_seats(alloc: Global, count: u16) -> Result<Vec<SeatRecord, Global>, 
     Ok(seats)
 }
 
-/// The turn of a client among those that wait: its ticket and its seat.
+/// The turn of a waiting client: its ticket and its seat.
 pub type Turn = (u64, Seat);
 
 /// A client that waits for a job.
@@ -277,8 +277,8 @@ impl Model for Waiting {
     ghost inverse = { λ w. record { ticket = w.ticket; until = w.until } };
 }
 
-/// What is known of a seat and of the client there, if one is connected. Who comes uses and watches
-/// the default tube alone.
+/// What is known of a seat and of the client there, if one is connected. A client that connects
+/// uses and watches only the default tube.
 #[derive(Drop)]
 pub struct SeatRecord {
     number: Seat,
@@ -314,7 +314,7 @@ impl SeatRecord {
         })
     }
 
-    /// Its number.
+    /// Returns its number.
     pub fn number(&self) -> Seat
         ensures { result ≡ self.now.number }
     {
@@ -327,49 +327,49 @@ impl SeatRecord {
         self.connected
     }
 
-    /// The tube that the client's jobs go into.
+    /// Returns the tube that the client's jobs go into.
     pub fn used(&self) -> &TubeName
         ensures { result.now ≡ self.now.used }
     {
         &self.used
     }
 
-    /// How many tubes are watched.
+    /// Returns how many tubes the client watches.
     pub fn watch_count(&self) -> usize
         ensures { result ≡ length self.now.watched }
     {
         self.watched.len()
     }
 
-    /// The tubes that are watched, in the order in which they were watched.
+    /// Returns the tubes that the client watches, in the order in which it watched them.
     pub fn watched(&self) -> &[TubeName]
         ensures { result.now ≡ self.now.watched }
     {
         self.watched.as_slice()
     }
 
-    /// Whether this tube is watched.
+    /// Returns true if the client watches this tube.
     pub fn watches(&self, name: &TubeName) -> bool
         ensures { result ≡ watches name.now self.now }
     {
         self.watched.has(name)
     }
 
-    /// Whether another tube than this one is watched.
+    /// Returns true if the client watches another tube than this one.
     pub fn watches_other(&self, name: &TubeName) -> bool
         ensures { result ≡ watches_other name.now self.now }
     {
         self.watched.has_other(name)
     }
 
-    /// Whether the client waits.
+    /// Returns true if the client waits.
     pub fn is_waiting(&self) -> bool
         ensures { result ≡ is_waiting self.now }
     {
         self.wait.is_some()
     }
 
-    /// Whether the client sends no more.
+    /// Returns true if the client sends no more.
     pub(crate) fn has_ended(&self) -> bool
         ensures { result ≡ self.now.ended }
     {
@@ -385,7 +385,7 @@ impl SeatRecord {
         }
     }
 
-    /// When the client gives up waiting.
+    /// Returns when the client's wait times out.
     pub(crate) fn gives_up_at(&self) -> Option<Moment>
         ensures { result ≡ earliest (dues_of_wait self.now.wait) }
     {
@@ -395,15 +395,15 @@ impl SeatRecord {
         }
     }
 
-    /// The client's turn among those that wait.
+    /// Returns the client's turn among the waiting clients.
     pub fn turn(&self) -> Turn
         ensures { result ≡ turn_of self.now }
     {
         (self.ticket(), self.number)
     }
 
-    /// Whether a wait of this client would be over by its timeout, or because the client sends no
-    /// more.
+    /// Returns true if a wait of this client would have ended: it has timed out, or the client
+    /// sends no more.
     pub fn is_timed_out(&self, moment: Moment) -> bool
         ensures { result ≡ is_timed_out_at moment self.now }
     {
@@ -442,7 +442,7 @@ impl SeatRecord {
         self.used = *name;
     }
 
-    /// Watches one more tube.
+    /// The client watches one more tube.
     pub(crate) fn watch(&mut self, alloc: Global, name: &TubeName) -> Result<(), NoMemory>
         ensures watched { IfOk result
             (λ _. self.new ≡ watching (more_watched name.now self.old) self.old) }
@@ -451,7 +451,7 @@ impl SeatRecord {
         self.watched.add(alloc, *name)
     }
 
-    /// Watches a tube no longer, where another one is still watched.
+    /// The client no longer watches a tube; it still watches another one.
     pub(crate) fn ignore(&mut self, name: &TubeName)
         requires { watches_other name.now self.old ≡ true }
         ensures { self.new ≡ watching (fewer_watched name.now self.old) self.old }

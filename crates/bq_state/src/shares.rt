@@ -1,4 +1,4 @@
-//! What a seat counts for at the tubes that its client uses and watches.
+//! How a seat counts at the tubes that its client uses and watches.
 ghost use Rattle.std.specs.Prelude.{◌≡◌};
 ghost use Rattle.std.specs.Option.{option_copied};
 ghost use Rattle.bq_state.specs.Counting.{recounted_for, with_crowds_at, with_crowds_at_all};
@@ -9,7 +9,7 @@ use crate::seats::{SeatChange, SeatRecord};
 use crate::tubes::{Moving, Share, Tubes};
 use bq_job::TubeName;
 
-/// What a change of a seat can touch.
+/// Returns which counts a change of a seat can affect.
 pub(crate) fn touched(what: &SeatChange) -> Share
     ensures { result ≡ touched what.now }
 {
@@ -37,7 +37,7 @@ pub(crate) fn touched(what: &SeatChange) -> Share
     }
 }
 
-/// What a seat counts for at one more tube that its client watches.
+/// Returns how a seat counts at one more tube that its client watches.
 pub(crate) fn of_watcher(client: &SeatRecord) -> Share
     ensures { result ≡ share_of_watcher client.now }
 {
@@ -48,7 +48,7 @@ pub(crate) fn of_watcher(client: &SeatRecord) -> Share
     }
 }
 
-/// What a seat counts for at a tube, if its client watches it.
+/// Returns how a seat counts at a tube, if its client watches it.
 pub(crate) fn at(client: &SeatRecord, name: &TubeName) -> Share
     ensures { result ≡ share_of_watching name.now client.now }
 {
@@ -59,7 +59,7 @@ pub(crate) fn at(client: &SeatRecord, name: &TubeName) -> Share
     }
 }
 
-// Counts a share at a tube, or counts it no longer. Where it is none, the tube isn't looked for.
+// Adds a share to a tube's counts, or removes it. An empty share needs no search for the tube.
 #[tactic(auto, using(crate::proofs::CrowdLemmas::beside_same, crate::proofs::CrowdLemmas::none_recounted))]
 fn recount_at(tubes: &mut Tubes, name: &TubeName, moving: Moving, share: Share)
     ensures { tubes.new ≡ with_crowds_at name.now (recounted moving share) tubes.old }
@@ -69,7 +69,7 @@ fn recount_at(tubes: &mut Tubes, name: &TubeName, moving: Moving, share: Share)
     }
 }
 
-// Counts a share at each of these tubes, or counts it no longer.
+// Adds a share to the counts of each of these tubes, or removes it.
 #[tactic(auto, using(crate::proofs::LoopLemmas::folded_more))]
 fn recount_all(tubes: &mut Tubes, names: &[TubeName], moving: Moving, share: Share)
     ensures { tubes.new ≡ with_crowds_at_all names.now (recounted moving share) tubes.old }
@@ -79,7 +79,7 @@ fn recount_all(tubes: &mut Tubes, names: &[TubeName], moving: Moving, share: Sha
     }
 }
 
-// The same; where the share is none, no tube is looked for.
+// Does the same; an empty share needs no search.
 #[tactic(auto, using(crate::proofs::CrowdLemmas::all_same, crate::proofs::CrowdLemmas::none_recounted))]
 fn recount_watched(tubes: &mut Tubes, names: &[TubeName], moving: Moving, share: Share)
     ensures { tubes.new ≡ with_crowds_at_all names.now (recounted moving share) tubes.old }
@@ -89,7 +89,7 @@ fn recount_watched(tubes: &mut Tubes, names: &[TubeName], moving: Moving, share:
     }
 }
 
-// What a seat counts for at the tube that its client uses, of what is asked for.
+// Returns how a seat counts at the tube that its client uses, restricted to `what`.
 fn as_user(client: &SeatRecord, what: Share) -> Share
     ensures { result ≡ share_as_user what client.now }
 {
@@ -100,7 +100,7 @@ fn as_user(client: &SeatRecord, what: Share) -> Share
     }
 }
 
-// What it counts for at each tube that its client watches.
+// Returns how a seat counts at each tube that its client watches, restricted to `what`.
 fn as_watcher(client: &SeatRecord, what: Share) -> Share
     ensures { result ≡ share_as_watcher what client.now }
 {
@@ -111,7 +111,7 @@ fn as_watcher(client: &SeatRecord, what: Share) -> Share
     }
 }
 
-/// Counts what a seat counts for, of what is asked for, or counts it no longer.
+/// Adds a seat's shares to its tubes' counts, or removes them, restricted to `what`.
 #[tactic(auto, using(crate::proofs::NamedLemmas::kept_alike))]
 pub(crate) fn recount(tubes: &mut Tubes, client: Option<&SeatRecord>, moving: Moving, what: Share)
     ensures { tubes.new ≡ recounted_for moving what (option_copied client.entry) tubes.old }

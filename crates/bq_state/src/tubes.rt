@@ -36,12 +36,12 @@ mod entry;
 mod pauses;
 mod walks;
 
-/// An entry for each tube that exists, found by its name. They are in the order of the names'
-/// bytes.
+/// An entry for each tube that exists, found by name. The entries are in the byte order of the
+/// names.
 #[derive(Drop)]
 pub struct Tubes {
     kept: Catalog<TubeName, TubeEntry>,
-    // The ends of their pauses.
+    // The ends of the tubes' pauses.
     ends: PauseEnds,
 }
 
@@ -57,7 +57,7 @@ impl Model for Tubes {
     ghost invariant = { λ t. AreEnds (map record_at t.kept.entries) t.ends };
 }
 
-// Changes the tube of this name. Only where it is paused, ends are looked at.
+// Changes the tube with this name. The ends of pauses are accessed only if it is paused.
 fn change(
     kept: &mut Catalog<TubeName, TubeEntry>,
     ends: &mut PauseEnds,
@@ -76,7 +76,7 @@ fn change(
     }
 }
 
-// Makes room for one more entry, where there is none.
+// Makes room for one more entry, if there is none.
 fn reserve_box<K: Ord + Drop, V: Drop>(
     catalog: &mut Catalog<K, V>,
     alloc: Global,
@@ -93,7 +93,8 @@ fn reserve_box<K: Ord + Drop, V: Drop>(
 impl Tubes {
     ghost use Rattle.bq_state.specs.KeptTubes.{crowd_by, first_tubes, is_paused_by, record_of, tally_by, tubes_kept};
 
-    /// The default tube, which has no job and no client.
+    /// Returns the default tube, without jobs and clients. Returns `NoMemory` if an allocation
+    /// fails.
     pub fn new(alloc: Global) -> Result<Tubes, NoMemory>
         ensures { IfOk result (λ tubes. tubes ≡ first_tubes) }
     {
@@ -102,7 +103,7 @@ impl Tubes {
         Ok(tubes)
     }
 
-    // No tube at all.
+    // Returns no tubes at all.
     fn none() -> Tubes
         ensures { result ≡ tubes_kept [] }
     {
@@ -112,22 +113,22 @@ impl Tubes {
         }
     }
 
-    /// How many entries there are.
+    /// Returns the number of entries.
     pub(crate) fn len(&self) -> usize
         ensures { result ≡ length self.now.entries }
     {
         self.kept.len()
     }
 
-    /// Whether a tube has an entry.
+    /// Returns true if a tube has an entry.
     pub(crate) fn has(&self, name: &TubeName) -> bool
         ensures { result ≡ has_entry name.now self.now.entries }
     {
         self.kept.peek(name).is_some()
     }
 
-    /// Sees to it that a tube has an entry, and tells whether it is new. The growth that this needs
-    /// comes before any change.
+    /// Ensures that a tube has an entry, and returns true if it is new. The allocations for that
+    /// come before any change.
     pub(crate) fn provide(&mut self, alloc: Global, name: &TubeName) -> Result<bool, NoMemory>
         ensures told { IfOk result (λ is_new. is_new ≡ not (has_entry name.now self.old.entries)) }
         ensures after { self.new
@@ -142,7 +143,7 @@ impl Tubes {
         Ok(true)
     }
 
-    /// Changes the tube of this name.
+    /// Changes the tube with this name.
     #[tactic(auto, using(crate::proofs::EditLemmas::records_change))]
     pub(crate) fn change(&mut self, name: &TubeName, what: TubeChange)
         ensures { self.new
@@ -151,7 +152,7 @@ impl Tubes {
         change(&mut self.kept, &mut self.ends, name, what);
     }
 
-    /// Pauses that are over end.
+    /// Ends pauses that are due.
     #[tactic(auto, using(crate::proofs::NamedLemmas::kept_alike))]
     pub fn fire_timers(&mut self, moment: Moment)
         ensures { self.new
@@ -160,8 +161,8 @@ impl Tubes {
         pauses::end_all(&mut self.kept, &mut self.ends, moment);
     }
 
-    /// The entry of this name, which tells how many jobs and clients are there, and whether the
-    /// tube is paused.
+    /// Returns the entry with this name, which contains how many jobs and clients the tube has, and
+    /// whether it is paused.
     pub fn entry_of(&self, name: &TubeName) -> Option<&TubeEntry>
         ensures entry { option_map (λ t. record_of name.now t.now) result
             ≡ find (λ t. is_same_name name.now t.name) self.now.entries }
@@ -175,7 +176,7 @@ impl Tubes {
         self.kept.peek(name)
     }
 
-    /// Whether the tube of this name is paused. Where none is, it isn't looked for.
+    /// Returns true if the tube with this name is paused. If no tube is, nothing is searched.
     pub fn is_paused(&self, name: &TubeName) -> bool
         ensures { result
             ≡ list_any (λ t. is_same_name name.now t.name && is_some t.pause) self.now.entries }
@@ -189,21 +190,21 @@ impl Tubes {
         }
     }
 
-    /// Counts a job that was put, and that it was, in its tube.
+    /// Counts a new job in its tube.
     pub(crate) fn add_job(&mut self, job: &Job)
         ensures { self.new ≡ with_job_put job.now self.old }
     {
         entry::add_job(&mut self.kept, job);
     }
 
-    /// Counts a job that was deleted no longer, and that it was deleted, in its tube.
+    /// Stops counting a job in its tube, and counts its deletion.
     pub(crate) fn remove_job(&mut self, job: &Job)
         ensures { self.new ≡ with_job_deleted job.now self.old }
     {
         entry::remove_job(&mut self.kept, job);
     }
 
-    /// A job stands otherwise in its tube.
+    /// A job of the tube changed its state.
     #[tactic(auto, using(crate::proofs::EditLemmas::tallies_change))]
     pub(crate) fn move_job(&mut self, moved: &Moved)
         ensures { self.new ≡ with_tallies_at moved.now.tube (tally_moved moved.now) self.old }
@@ -211,7 +212,7 @@ impl Tubes {
         entry::move_job(&mut self.kept, moved);
     }
 
-    /// The counts of the tube of this name; none where it has no entry.
+    /// Returns the job counts of the tube with this name; none if it has no entry.
     pub(crate) fn tally_of(&self, name: &TubeName) -> Tally
         ensures { result ≡ tally_at name.now self.now.entries self.now.tallies }
     {
@@ -221,14 +222,14 @@ impl Tubes {
         }
     }
 
-    /// Whether a job is counted in the tube of this name.
+    /// Returns true if a job is counted in the tube with this name.
     pub(crate) fn has_jobs_in(&self, name: &TubeName) -> bool
         ensures { result ≡ has_jobs (tally_at name.now self.now.entries self.now.tallies) }
     {
         self.tally_of(name).has_jobs()
     }
 
-    /// Counts a share of a seat at the tube of this name, or counts it no longer.
+    /// Adds the share of a seat to the counts of the tube with this name, or removes it.
     #[tactic(auto, using(crate::proofs::EditLemmas::crowds_change))]
     pub(crate) fn recount(&mut self, name: &TubeName, moving: Moving, share: Share)
         ensures { self.new ≡ with_crowds_at name.now (recounted moving share) self.old }
@@ -236,7 +237,8 @@ impl Tubes {
         entry::recount(&mut self.kept, name, moving, share);
     }
 
-    /// How many clients are at the tube of this name; none where it has no entry.
+    /// Returns how many clients use or watch the tube with this name or wait for its jobs; none if
+    /// it has no entry.
     pub fn crowd_of(&self, name: &TubeName) -> Crowd
         ensures { result ≡ crowd_at name.now self.now.entries self.now.crowds }
     {
@@ -246,22 +248,22 @@ impl Tubes {
         }
     }
 
-    /// Whether somebody waits at the tube of this name, where there are so many clients. Where
-    /// nobody waits, it isn't looked for.
+    /// Returns true if a client waits for jobs of the tube with this name; `clients` are the counts
+    /// of clients. If no client waits, nothing is searched.
     pub(crate) fn has_waiter_at(&self, clients: &Clients, name: &TubeName) -> bool
         ensures { result ≡ (nat_lt 0 clients.now.waiting && is_waited_at name.now self.now) }
     {
         clients.waiting > 0 && self.crowd_of(name).waiting > 0
     }
 
-    /// Whether the tube exists.
+    /// Returns true if the tube exists.
     pub(crate) fn is_tube(&self, name: &TubeName) -> bool
         ensures { result ≡ exists_in self.now name.now }
     {
         *name == default_tube() || self.has_jobs_in(name) || self.crowd_of(name).has_seats()
     }
 
-    /// How many tubes exist.
+    /// Returns how many tubes exist.
     #[tactic(auto, using(crate::proofs::GoneLemmas::counted_names))]
     pub(crate) fn count_alive(&self) -> u64
         ensures { IfCounted self.now
@@ -272,7 +274,7 @@ impl Tubes {
         alive.count()
     }
 
-    /// The names of the tubes that exist, in byte order. Their memory is asked for before.
+    /// Returns the names of the tubes that exist, in byte order. Their memory is allocated first.
     pub(crate) fn names_alive<'a>(&'a self, alloc: Global) -> Result<Names<'a>, NoMemory>
         ensures { IfCounted self.now
             (λ jobs seats. IfOk result
@@ -284,8 +286,8 @@ impl Tubes {
         }
     }
 
-    /// Drops the entries of tubes that are gone, which are among those that may be. Their numbers
-    /// go with them.
+    /// Drops the entries and numbers of tubes that no longer exist, which are among those that may
+    /// have gone.
     pub(crate) fn forget_lost(&mut self, jobs: &mut NumberedJobs, loss: &Loss)
         requires numbered { HaveNumbers jobs.old.tubes self.old.entries }
         requires tallies { self.old.tallies ≡ tallies_of jobs.old.jobs self.old.entries }
@@ -301,7 +303,7 @@ impl Tubes {
         }
     }
 
-    /// When the first pause ends.
+    /// Returns when the first pause ends.
     #[tactic(auto, using(crate::proofs::EndLemmas::first_seen))]
     pub fn first_pause_end(&self) -> Option<Moment>
         ensures { result ≡ first_pause_end self.now.entries }
@@ -309,7 +311,7 @@ impl Tubes {
         pauses::first_until(&self.ends)
     }
 
-    /// When the first pause ends after a change of a tube, and when it did before.
+    /// Returns when the first pause ends after a change of a tube; `last` is when it ended before.
     pub(crate) fn pause_end_after(&self, what: TubeChange, last: Option<Moment>) -> Option<Moment>
         ensures { result ≡ pause_end_after self.now.entries what last }
     {
@@ -319,8 +321,8 @@ impl Tubes {
         }
     }
 
-    /// When the first pause ends once entries were dropped, of which there were so many, and when
-    /// it did before.
+    /// Returns when the first pause ends after entries were dropped; before, there were `entries`,
+    /// and `last` was the first end.
     pub(crate) fn pause_end_left(&self, entries: usize, last: Option<Moment>) -> Option<Moment>
         ensures { result ≡ pause_end_left self.now.entries entries last }
     {

@@ -1,4 +1,4 @@
-//! The clients that wait, in their turn.
+//! The waiting clients, in order of their turns.
 ghost use Rattle.std.specs.Prelude.{◌≡◌, ◌==◌, ◌-◌, ◌<◌, ◌≤◌, [], find, not, length, vec_len, IfOk};
 ghost use Rattle.std.specs.List.{position, prefix_len, slice_get};
 ghost use Rattle.std.specs.Option.{option_copied};
@@ -13,8 +13,8 @@ use bq_job::{NoMemory, Seat};
 use std::alloc::Global;
 use std::marker::Model;
 
-/// The turns of the clients that wait, the one that has waited longest first. All its memory is
-/// given when it is made.
+/// The turns of the waiting clients, the one that has waited longest first. `new` allocates all the
+/// memory that it needs.
 #[derive(Drop)]
 pub struct Waiting {
     turns: Vec<Turn, Global>,
@@ -29,21 +29,21 @@ impl Model for Waiting {
     ghost view = { λ q. record { turns = q.turns.items; room = vec_capacity q.turns } };
 }
 
-// Whether the one turn comes before the other.
+// Returns true if the first turn comes before the second.
 fn is_before(turn: Turn, other: Turn) -> bool
     ensures { result ≡ is_turn_before turn other }
 {
     turn.0 < other.0 || (turn.0 == other.0 && turn.1 < other.1)
 }
 
-// The place of the first turn that doesn't come before this one.
+// Returns the place of the first turn that doesn't come before this one.
 fn first_after(turns: &[Turn], turn: Turn) -> Option<usize>
     ensures { result ≡ position (λ other. not (is_turn_before other turn)) turns.now }
 {
     turns.iter().position(|other| !is_before(*other, turn))
 }
 
-// Whether the turn comes after the last one, if there is one.
+// Returns true if the turn comes after `last`, or there is no `last`.
 fn is_after(turn: Turn, last: Option<Turn>) -> bool
     ensures { result ≡ is_turn_after last turn }
 {
@@ -53,14 +53,14 @@ fn is_after(turn: Turn, last: Option<Turn>) -> bool
     }
 }
 
-// The place of the first turn that comes after the last one.
+// Returns the place of the first turn that comes after `last`.
 fn place_after(turns: &[Turn], last: Option<Turn>) -> Option<usize>
     ensures { result ≡ position (is_turn_after last) turns.now }
 {
     turns.iter().position(|turn| is_after(*turn, last))
 }
 
-/// What stands at this place, if anything does.
+/// Returns the turn at this place, if there is one.
 pub(crate) fn turn_at(turns: &[Turn], place: Option<usize>) -> Option<Turn>
     ensures { result ≡ item_at turns.now place }
 {
@@ -70,7 +70,7 @@ pub(crate) fn turn_at(turns: &[Turn], place: Option<usize>) -> Option<Turn>
     }
 }
 
-// Whether the last turn, if there is one, comes before this one.
+// Returns true if the last turn, if there is one, comes before this one.
 fn ends_before(turns: &[Turn], turn: Turn) -> bool
     ensures { result ≡ is_none_or_before turn (slice_get turns.now (length turns.now - 1)) }
 {
@@ -80,7 +80,7 @@ fn ends_before(turns: &[Turn], turn: Turn) -> bool
     }
 }
 
-// Where the turn would stand. Who begins to wait mostly stands last.
+// Returns where the turn would be inserted. A client that begins to wait mostly comes last.
 fn place_of(turns: &[Turn], turn: Turn) -> usize
     requires { IsRising is_turn_before turns.now }
     ensures { result ≡ prefix_len (λ other. is_turn_before other turn) turns.now }
@@ -91,7 +91,7 @@ fn place_of(turns: &[Turn], turn: Turn) -> usize
     first_after(turns, turn).unwrap_or(turns.len())
 }
 
-// Puts a turn in at its place. It takes no memory.
+// Inserts a turn in order. It allocates nothing.
 fn place(turns: &mut Vec<Turn, Global>, turn: Turn)
     requires fits { vec_len turns.old < vec_capacity turns.old }
     requires rising { IsRising is_turn_before turns.old.items }
@@ -102,14 +102,14 @@ fn place(turns: &mut Vec<Turn, Global>, turn: Turn)
     let _fits = turns.insert(i, turn);
 }
 
-// The place of the turn of this seat.
+// Returns the place of the turn of this seat.
 fn place_of_seat(turns: &[Turn], number: Seat) -> Option<usize>
     ensures { result ≡ position (λ turn. turn.1 == number) turns.now }
 {
     turns.iter().position(|turn| turn.1 == number)
 }
 
-// Takes the turn of this seat out.
+// Removes the turn of this seat.
 fn remove(turns: &mut Vec<Turn, Global>, number: Seat)
     ensures turns { turns.new.items ≡ removed number turns.old.items }
     ensures room { vec_capacity turns.new ≡ vec_capacity turns.old }
@@ -120,7 +120,8 @@ fn remove(turns: &mut Vec<Turn, Global>, number: Seat)
 }
 
 impl Waiting {
-    /// With nobody in it, and with room for so many.
+    /// Returns an empty list with room for this many clients. Returns `NoMemory` if the allocation
+    /// fails.
     pub fn new(alloc: Global, room: u16) -> Result<Waiting, NoMemory>
         ensures empty { IfOk result (λ waiting. waiting.turns ≡ []) }
         ensures room { IfOk result (λ waiting. waiting.room ≡ room) }
@@ -131,15 +132,14 @@ impl Waiting {
         }
     }
 
-    /// The turns, the first one first.
+    /// Returns the turns, the first one first.
     pub fn as_slice(&self) -> &[Turn]
         ensures { result.now ≡ self.now.turns }
     {
         self.turns.as_slice()
     }
 
-    /// The first turn that comes after the last one, or where there is no last one, the first of
-    /// all.
+    /// Returns the first turn that comes after `last`; without `last`, the first of all.
     #[tactic(auto, using(crate::proofs::WalkLemmas::item_found))]
     pub fn next_after(&self, last: Option<Turn>) -> Option<Turn>
         ensures { result ≡ find (is_turn_after last) self.now.turns }
@@ -148,7 +148,7 @@ impl Waiting {
         turn_at(turns, place_after(turns, last))
     }
 
-    /// Puts in the turn of the client, if there is one and it waits.
+    /// Inserts the turn of the client, if there is one and it waits.
     #[tactic(auto, using(std::proofs::lemmas::Grind::common_steps, crate::proofs::WaitingLemmas::placed_length))]
     pub(crate) fn join(&mut self, client: Option<&SeatRecord>)
         requires fits { length (with_turn (option_copied client) self.old.turns) ≤ self.old.room }
@@ -164,7 +164,7 @@ impl Waiting {
         }
     }
 
-    /// Takes it out.
+    /// Removes the turn of the client.
     pub(crate) fn leave(&mut self, client: Option<&SeatRecord>)
         ensures turns { self.new.turns ≡ without_turn (option_copied client.entry) self.old.turns }
         ensures room { self.new.room ≡ self.old.room }

@@ -8,7 +8,7 @@ use bq_job::{NoMemory, TubeName};
 use std::alloc::Global;
 use std::marker::Model;
 
-/// The tubes that a client watches, in the order in which they were watched. There is one at least.
+/// The tubes that a client watches, in the order in which it watched them. There is at least one.
 #[derive(Drop)]
 pub(crate) struct WatchList {
     names: Vec<TubeName, Global>,
@@ -24,7 +24,7 @@ impl Model for WatchList {
     ghost invariant = { λ w. 0 < length w.names.items };
 }
 
-/// The tube that a new client uses and watches.
+/// Returns the tube that a new client uses and watches.
 pub(crate) fn default_tube() -> TubeName
     ensures { result ≡ default_tube }
 {
@@ -34,7 +34,7 @@ pub(crate) fn default_tube() -> TubeName
     name
 }
 
-// Makes room for one more element, where there is none.
+// Makes room for one more element, if there is none.
 fn reserve_one<T: Drop>(list: &mut Vec<T, Global>, alloc: Global) -> Result<(), NoMemory>
     ensures items { list.new.items ≡ list.old.items }
     ensures room { IfOk result (λ _. vec_len list.new < vec_capacity list.new) }
@@ -49,7 +49,7 @@ fn reserve_one<T: Drop>(list: &mut Vec<T, Global>, alloc: Global) -> Result<(), 
     let Ok(mut wider) = Vec::with_capacity(alloc, more.saturating_add(len)) else {
         return Err(NoMemory);
     };
-    // There is room enough, and it takes no more memory.
+    // There is enough room, so this allocates nothing.
     if wider.append(list).is_err() {
         return Err(NoMemory);
     }
@@ -57,7 +57,7 @@ fn reserve_one<T: Drop>(list: &mut Vec<T, Global>, alloc: Global) -> Result<(), 
     Ok(())
 }
 
-// Some other name is there, and so some are left.
+// There is another name, so some are left.
 fn keep_others(names: &mut Vec<TubeName, Global>, name: &TubeName)
     requires other { list_any (λ other. not (is_same_name name.now other)) names.old.items ≡ true }
     ensures kept { names.new.items
@@ -68,7 +68,7 @@ fn keep_others(names: &mut Vec<TubeName, Global>, name: &TubeName)
 }
 
 impl WatchList {
-    /// The default tube alone.
+    /// Returns a list with only the default tube.
     pub(crate) fn new(alloc: Global) -> Result<WatchList, NoMemory>
         ensures { IfOk result (λ list. list ≡ default_tube ∷ []) }
     {
@@ -97,14 +97,14 @@ impl WatchList {
         self.names.iter().any(|other| name == other)
     }
 
-    /// Whether another tube than this one is watched.
+    /// Returns true if it contains another tube than this one.
     pub(crate) fn has_other(&self, name: &TubeName) -> bool
         ensures { result ≡ list_any (λ other. not (is_same_name name.now other)) self.now }
     {
         self.names.iter().any(|other| name != other)
     }
 
-    /// Adds a tube at the end. No other change of a list takes memory.
+    /// Appends a tube. No other change of a list allocates.
     pub(crate) fn add(&mut self, alloc: Global, name: TubeName) -> Result<(), NoMemory>
         ensures pushed { IfOk result (λ _. self.new ≡ self.old ++ name ∷ []) }
         ensures same { OnErr result (self.new ≡ self.old) }
@@ -114,7 +114,7 @@ impl WatchList {
         Ok(())
     }
 
-    /// Takes a tube out, where another one stays.
+    /// Removes a tube; another one stays.
     pub(crate) fn remove(&mut self, name: &TubeName)
         requires { list_any (λ other. not (is_same_name name.now other)) self.old ≡ true }
         ensures { self.new ≡ filter (λ other. not (is_same_name name.now other)) self.old }
@@ -122,7 +122,7 @@ impl WatchList {
         keep_others(&mut self.names, name);
     }
 
-    /// The default tube alone. It takes no memory.
+    /// Resets the list to only the default tube. It allocates nothing.
     pub(crate) fn reset(&mut self)
         ensures { self.new ≡ default_tube ∷ [] }
     {

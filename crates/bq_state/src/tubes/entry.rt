@@ -1,4 +1,4 @@
-//! What is kept of a tube, and how the entry of a name is changed in its place.
+//! What is kept of a tube, and how the entry of a name is changed in place.
 ghost use Rattle.std.specs.Prelude.{◌≡◌, [], is_some};
 ghost use Rattle.std.specs.Cmp.Lexicographic.{slice_cmp};
 ghost use Rattle.std.specs.Ordering.{nat_cmp};
@@ -37,14 +37,14 @@ impl Model for Pausing {
 }
 
 impl Pausing {
-    /// How many seconds were asked for.
+    /// Returns how many seconds were requested.
     pub fn seconds(self) -> u32
         ensures { result ≡ self.seconds }
     {
         self.seconds
     }
 
-    /// When it ends.
+    /// Returns when it ends.
     pub fn until(self) -> Moment
         ensures { result ≡ self.until }
     {
@@ -52,7 +52,7 @@ impl Pausing {
     }
 }
 
-/// What is kept of a tube that exists, beside its name.
+/// What is kept of a tube that exists, besides its name.
 #[derive(Drop)]
 pub struct TubeEntry {
     pause: Option<Pausing>,
@@ -73,17 +73,17 @@ impl Model for TubeEntry {
     ghost view = { kept_of };
 }
 
-/// What happens to a tube.
+/// A change of a tube.
 #[derive(Clone, Copy)]
 pub enum TubeChange {
     CountPut,
     CountDelete,
-    /// It is paused so many seconds from this moment on.
+    /// It is paused for this many seconds from this moment on.
     Pause(u32, Moment),
 }
 
 impl TubeEntry {
-    /// Nothing is kept of the tube yet.
+    /// Returns the entry of a tube of which nothing is known.
     pub fn new() -> TubeEntry
         ensures { result ≡ fresh_entry }
     {
@@ -97,49 +97,49 @@ impl TubeEntry {
         }
     }
 
-    /// How many jobs were put into the tube.
+    /// Returns how many jobs were put into the tube.
     pub fn puts(&self) -> u64
         ensures { result ≡ self.now.puts }
     {
         self.puts
     }
 
-    /// How many of its jobs were deleted.
+    /// Returns how many of its jobs were deleted.
     pub fn deletes(&self) -> u64
         ensures { result ≡ self.now.deletes }
     {
         self.deletes
     }
 
-    /// How often it was paused.
+    /// Returns how often it was paused.
     pub fn pauses(&self) -> u64
         ensures { result ≡ self.now.pauses }
     {
         self.pauses
     }
 
-    /// Its pause, if there is one.
+    /// Returns its pause, if there is one.
     pub fn pause(&self) -> Option<Pausing>
         ensures { result ≡ self.now.pause }
     {
         self.pause
     }
 
-    /// How many jobs it has.
+    /// Returns the counts of its jobs.
     pub(crate) fn tally(&self) -> Tally
         ensures { result ≡ self.now.tally }
     {
         self.tally
     }
 
-    /// How many clients are at it.
+    /// Returns the counts of its clients.
     pub(crate) fn crowd(&self) -> Crowd
         ensures { result ≡ self.now.crowd }
     {
         self.crowd
     }
 
-    /// The end of its pause, under the name of the tube.
+    /// Returns the end of its pause, with the name of the tube.
     pub(crate) fn end(&self, name: &TubeName) -> Option<PauseEnd>
         ensures { result ≡ end_of name.now self.now.pause }
     {
@@ -183,7 +183,7 @@ impl TubeEntry {
         }
     }
 
-    /// Counts a job that was put.
+    /// Counts a new job.
     pub(crate) fn add_job(&mut self, job: &Job)
         ensures { self.new ≡ kept_with job.now self.old }
     {
@@ -191,7 +191,7 @@ impl TubeEntry {
         self.tally.add(job);
     }
 
-    /// Counts a job that was deleted no longer, and that it was deleted.
+    /// Stops counting a job, and counts its deletion.
     pub(crate) fn remove_job(&mut self, job: &Job)
         ensures { self.new ≡ kept_without job.now self.old }
     {
@@ -199,7 +199,7 @@ impl TubeEntry {
         self.tally.remove(job);
     }
 
-    /// A job of the tube stands otherwise.
+    /// A job of the tube changed its state.
     pub(crate) fn move_job(&mut self, moved: &Moved)
         ensures { self.new ≡ kept_moved moved.now self.old }
     {
@@ -207,7 +207,7 @@ impl TubeEntry {
         self.tally.enter(moved.to);
     }
 
-    /// Counts a share of a seat, or counts it no longer.
+    /// Adds the share of a seat to the counts, or removes it.
     pub(crate) fn recount(&mut self, moving: Moving, share: Share)
         ensures { self.new ≡ kept_recounted moving share self.old }
     {
@@ -226,7 +226,7 @@ impl TubeEntry {
     }
 }
 
-/// Changes the tube of this name. The contract tells besides that the names ascend.
+/// Changes the tube with this name. The contract also states that the names are in ascending order.
 pub(crate) fn change(catalog: &mut Catalog<TubeName, TubeEntry>, name: &TubeName, what: TubeChange)
     ensures entries { catalog.new.entries
         ≡ edited_at name.now (kept_changed what) catalog.old.entries }
@@ -237,7 +237,8 @@ pub(crate) fn change(catalog: &mut Catalog<TubeName, TubeEntry>, name: &TubeName
     }
 }
 
-/// The pause of the tube of this name ends, if it is over. The names ascend here too.
+/// Ends the pause of the tube with this name, if it is due. Here, too, the names are in ascending
+/// order.
 pub(crate) fn end_pause(catalog: &mut Catalog<TubeName, TubeEntry>, name: &TubeName, moment: Moment)
     ensures entries { catalog.new.entries
         ≡ edited_at name.now (ended moment) catalog.old.entries }
@@ -248,7 +249,7 @@ pub(crate) fn end_pause(catalog: &mut Catalog<TubeName, TubeEntry>, name: &TubeN
     }
 }
 
-/// Counts a job that was put in its tube. The names ascend here too.
+/// Counts a new job in its tube. Here, too, the names are in ascending order.
 pub(crate) fn add_job(catalog: &mut Catalog<TubeName, TubeEntry>, job: &Job)
     ensures entries { catalog.new.entries
         ≡ edited_at job.now.tube (kept_with job.now) catalog.old.entries }
@@ -259,7 +260,8 @@ pub(crate) fn add_job(catalog: &mut Catalog<TubeName, TubeEntry>, job: &Job)
     }
 }
 
-/// Counts a job that was deleted in its tube no longer. The names ascend here too.
+/// Stops counting a job in its tube, and counts its deletion. Here, too, the names are in ascending
+/// order.
 pub(crate) fn remove_job(catalog: &mut Catalog<TubeName, TubeEntry>, job: &Job)
     ensures entries { catalog.new.entries
         ≡ edited_at job.now.tube (kept_without job.now) catalog.old.entries }
@@ -270,7 +272,7 @@ pub(crate) fn remove_job(catalog: &mut Catalog<TubeName, TubeEntry>, job: &Job)
     }
 }
 
-/// A job stands otherwise in its tube.
+/// A job of a tube changed its state.
 pub(crate) fn move_job(catalog: &mut Catalog<TubeName, TubeEntry>, moved: &Moved)
     ensures { catalog.new.entries
         ≡ edited_at moved.now.tube (kept_moved moved.now) catalog.old.entries }
@@ -280,7 +282,7 @@ pub(crate) fn move_job(catalog: &mut Catalog<TubeName, TubeEntry>, moved: &Moved
     }
 }
 
-/// Counts a share of a seat at the tube of this name, or counts it no longer.
+/// Adds the share of a seat to the counts of the tube with this name, or removes it.
 pub(crate) fn recount(
     catalog: &mut Catalog<TubeName, TubeEntry>,
     name: &TubeName,
@@ -295,7 +297,7 @@ pub(crate) fn recount(
     }
 }
 
-/// What a seat counts for at a tube: whether its client uses it, watches it, and waits at it.
+/// How a seat counts at a tube: whether its client uses it, watches it, and waits for its jobs.
 #[derive(Clone, Copy)]
 pub(crate) struct Share {
     pub(crate) using: bool,
@@ -303,8 +305,8 @@ pub(crate) struct Share {
     pub(crate) waiting: bool,
 }
 
-/// How many clients use a tube, watch it, and wait at it. A count stops at 2^64 - 1, which no
-/// number of seats comes to.
+/// How many clients use a tube, watch it, and wait for its jobs. A count stops at 2^64 - 1, more
+/// than there can be seats.
 #[derive(Clone, Copy, PartialEq, Eq)]
 pub struct Crowd {
     pub using: u64,
@@ -312,7 +314,7 @@ pub struct Crowd {
     pub waiting: u64,
 }
 
-/// Whether a share is counted from now on, or no longer.
+/// Whether a share is added or removed.
 #[derive(Clone, Copy)]
 pub(crate) enum Moving {
     Comes,
@@ -320,7 +322,7 @@ pub(crate) enum Moving {
 }
 
 impl Share {
-    /// Whether it counts for nothing.
+    /// Returns true if the share is empty.
     pub(crate) fn is_none(self) -> bool
         ensures { result ≡ is_none self }
     {
@@ -329,7 +331,7 @@ impl Share {
 }
 
 impl Crowd {
-    /// Nobody is counted.
+    /// Counts of no clients.
     pub(crate) fn none() -> Crowd
         ensures { result ≡ no_crowd }
     {
@@ -340,7 +342,7 @@ impl Crowd {
         }
     }
 
-    /// Whether a client uses or watches the tube.
+    /// Returns true if a client uses or watches the tube.
     pub(crate) fn has_seats(&self) -> bool
         ensures { result ≡ has_seats self.now }
     {
@@ -375,7 +377,7 @@ impl Crowd {
         }
     }
 
-    /// Counts a seat's share, or counts it no longer.
+    /// Adds a seat's share to the counts, or removes it.
     pub(crate) fn recount(&mut self, moving: Moving, share: Share)
         ensures { self.new ≡ recounted moving share self.old }
     {

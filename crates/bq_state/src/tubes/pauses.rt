@@ -1,5 +1,4 @@
-//! Changes of the tubes with which pauses come and go. The ends of the pauses follow, in their
-//! order.
+//! Changes of tubes in which pauses begin and end. The ends of the pauses are kept in order.
 ghost use Rattle.std.specs.Prelude.{◌≡◌, ◌<◌, map, true, false, ◌+◌, ◌≤◌, length, is_some};
 ghost use Rattle.std.specs.Prelude.{if◌then◌else◌, IfOk, None};
 ghost use Rattle.std.specs.Map.{remove_entry};
@@ -22,7 +21,7 @@ use bq_job::{Moment, NoMemory, TubeName};
 use std::alloc::Global;
 use std::cmp::Ordering;
 
-// The end of the pause of the tube of this name, if it is paused.
+// Returns the end of the pause of the tube with this name, if it is paused.
 #[tactic(auto, using(crate::proofs::EndMoves::none_lent, crate::proofs::EndMoves::some_lent))]
 fn end_of(kept: &Catalog<TubeName, TubeEntry>, name: &TubeName) -> Option<PauseEnd>
     ensures end { result
@@ -35,7 +34,7 @@ fn end_of(kept: &Catalog<TubeName, TubeEntry>, name: &TubeName) -> Option<PauseE
     }
 }
 
-/// Pauses the tube of this name, or ends its pause.
+/// Pauses the tube with this name, or ends its pause.
 pub(crate) fn pause(
     kept: &mut Catalog<TubeName, TubeEntry>,
     ends: &mut PauseEnds,
@@ -54,7 +53,7 @@ pub(crate) fn pause(
     enter(ends, to);
 }
 
-/// Drops the entry of this name, if there is one.
+/// Drops the entry with this name, if there is one.
 pub(crate) fn drop_entry(
     kept: &mut Catalog<TubeName, TubeEntry>,
     ends: &mut PauseEnds,
@@ -70,7 +69,7 @@ pub(crate) fn drop_entry(
     let _entry = kept.remove(name);
 }
 
-// The first pause ends, if it is over.
+// Ends the first pause, if it is due.
 fn end_first(kept: &mut Catalog<TubeName, TubeEntry>, ends: &mut PauseEnds, moment: Moment) -> bool
     requires { AreEnds (map record_at kept.old.entries) ends.old }
     ensures done { result ≡ false
@@ -90,7 +89,7 @@ fn end_first(kept: &mut Catalog<TubeName, TubeEntry>, ends: &mut PauseEnds, mome
     true
 }
 
-/// Pauses that are over end. No other tube is looked at.
+/// Ends pauses that are due. No other tube is accessed.
 #[tactic(auto, using(crate::proofs::PauseLemmas::no_pause_ends, crate::proofs::PauseLemmas::none_over))]
 pub(crate) fn end_all(kept: &mut Catalog<TubeName, TubeEntry>, ends: &mut PauseEnds, moment: Moment)
     requires { AreEnds (map record_at kept.old.entries) ends.old }
@@ -102,7 +101,7 @@ pub(crate) fn end_all(kept: &mut Catalog<TubeName, TubeEntry>, ends: &mut PauseE
     while end_first(kept, ends, moment) {}
 }
 
-/// When the pause of a tube ends: by moment, and at one moment by name.
+/// The end of a tube's pause. Ends are ordered by moment, then by name.
 #[derive(Clone, Copy)]
 pub(crate) struct PauseEnd {
     pub(crate) until: Moment,
@@ -149,10 +148,10 @@ impl Ord for PauseEnd {
     }
 }
 
-/// The ends of pauses, one for each tube that is paused.
+/// The ends of pauses, one for each paused tube.
 pub(crate) type PauseEnds = Catalog<PauseEnd, ()>;
 
-// Each end passes.
+// A test that each end passes.
 #[derive(Clone, Copy)]
 struct Each;
 
@@ -166,7 +165,7 @@ impl Test<PauseEnd, ()> for Each {
     }
 }
 
-/// The first end, if there is one.
+/// Returns the first end, if there is one.
 pub(crate) fn first(ends: &PauseEnds) -> Option<PauseEnd>
     ensures end { result ≡ first_end ends.now.entries }
     ensures ordered { InOrder end_cmp ends.now.entries }
@@ -177,7 +176,7 @@ pub(crate) fn first(ends: &PauseEnds) -> Option<PauseEnd>
     }
 }
 
-/// When the first pause ends, if there is one.
+/// Returns when the first pause ends, if there is one.
 pub(crate) fn first_until(ends: &PauseEnds) -> Option<Moment>
     ensures until { result ≡ option_map (λ e. e.until) (first_end ends.now.entries) }
     ensures ordered { InOrder end_cmp ends.now.entries }
@@ -188,7 +187,7 @@ pub(crate) fn first_until(ends: &PauseEnds) -> Option<Moment>
     }
 }
 
-/// The first end, if it has come.
+/// Returns the first end, if it is due.
 pub(crate) fn first_over(ends: &PauseEnds, moment: Moment) -> Option<PauseEnd>
     ensures end { result ≡ if_over moment (first_end ends.now.entries) }
     ensures ordered { InOrder end_cmp ends.now.entries }
@@ -199,7 +198,7 @@ pub(crate) fn first_over(ends: &PauseEnds, moment: Moment) -> Option<PauseEnd>
     }
 }
 
-/// Sets boxes aside for the ends of the pauses of so many tubes and of one more.
+/// Reserves boxes for the ends of the pauses of `tubes` tubes and of one more.
 pub(crate) fn make_room(ends: &mut PauseEnds, alloc: Global, tubes: usize) -> Result<(), NoMemory>
     ensures entries { ends.new.entries ≡ ends.old.entries }
     ensures not_fewer { ends.old.spare ≤ ends.new.spare }
@@ -215,7 +214,7 @@ pub(crate) fn make_room(ends: &mut PauseEnds, alloc: Global, tubes: usize) -> Re
     }
 }
 
-/// Puts an end in, if there is one.
+/// Inserts an end, if there is one.
 pub(crate) fn enter(ends: &mut PauseEnds, end: Option<PauseEnd>)
     requires spare { ForSome end (λ _. 0 < ends.old.spare) }
     requires absent { ForSome end (λ e. found_end e ends.old.entries ≡ None) }
@@ -227,7 +226,7 @@ pub(crate) fn enter(ends: &mut PauseEnds, end: Option<PauseEnd>)
     }
 }
 
-/// Takes an end out, if there is one.
+/// Removes an end, if there is one.
 pub(crate) fn leave(ends: &mut PauseEnds, end: Option<PauseEnd>)
     requires { ForSome end (λ e. has_end e ends.old.entries ≡ true) }
     ensures entries { ends.new.entries ≡ without_end end ends.old.entries }

@@ -1,4 +1,4 @@
-//! What is asked of all entries of tubes, and which of them are dropped.
+//! Queries of all entries of tubes, and which of them are dropped.
 ghost use Rattle.std.specs.Prelude.{◌≡◌, ◌<◌, ◌≤◌, ◌+◌, ◌++◌, [], false, vec_len, IfOk, fold, filter};
 ghost use Rattle.std.specs.Prelude.{find, map};
 ghost use Rattle.std.specs.Vec.{vec_capacity};
@@ -26,14 +26,14 @@ use bq_job::{NoMemory, TubeName};
 use bq_jobs::NumberedJobs;
 use std::alloc::Global;
 
-/// How many of those that were seen are of tubes that exist. The count stops at 2^64 - 1.
+/// How many of the entries visited so far are of tubes that exist. The count stops at 2^64 - 1.
 #[derive(Clone, Copy)]
 pub(crate) struct HowMany {
     count: u64,
 }
 
 impl HowMany {
-    /// None was seen yet.
+    /// Returns the count before any entry was visited.
     pub(crate) fn none() -> HowMany
         ensures { result ≡ record { count = 0 } }
     {
@@ -57,7 +57,8 @@ impl Visitor<TubeName, TubeEntry> for HowMany {
     }
 }
 
-/// Whether the tube of an entry exists. Its name is compared last, since that of the default tube is made for it.
+/// Returns true if the tube of an entry exists. Its name is compared last, because the default
+/// tube's name has to be made for that.
 #[tactic(auto, using(crate::proofs::AliveLemmas::name_last))]
 pub(crate) fn is_alive(name: &TubeName, entry: &TubeEntry) -> bool
     ensures { result ≡ is_alive_with name.now entry.now }
@@ -65,7 +66,7 @@ pub(crate) fn is_alive(name: &TubeName, entry: &TubeEntry) -> bool
     entry.tally().has_jobs() || entry.crowd().has_seats() || *name == default_tube()
 }
 
-// Adds the name of an entry, if its tube exists. It takes no memory.
+// Adds the name of an entry if its tube exists. It allocates nothing.
 fn add_alive<'a>(names: &mut Names<'a>, name: &'a TubeName, entry: &TubeEntry)
     requires { vec_len names.old < vec_capacity names.old }
     ensures names { names_of names.new.items
@@ -78,7 +79,8 @@ fn add_alive<'a>(names: &mut Names<'a>, name: &'a TubeName, entry: &TubeEntry)
     }
 }
 
-/// The names of those of these tubes that exist, in their order. Their memory is asked for before.
+/// Returns the names of the tubes among these that exist, in order. Their memory is allocated
+/// first.
 pub(crate) fn names_alive<'a>(
     alloc: Global,
     listed: &[(&'a TubeName, &'a TubeEntry)],
@@ -95,7 +97,7 @@ pub(crate) fn names_alive<'a>(
     Ok(names)
 }
 
-// The tube of an entry is gone.
+// The test of an entry whose tube no longer exists.
 #[derive(Clone, Copy)]
 struct GoneTube;
 
@@ -110,7 +112,7 @@ impl Test<TubeName, TubeEntry> for GoneTube {
     }
 }
 
-// Whether the tube of this name has an entry, and is gone.
+// Returns true if the tube with this name has an entry and no longer exists.
 fn is_gone(catalog: &Catalog<TubeName, TubeEntry>, name: &TubeName) -> bool
     ensures { result ≡ is_gone_by name.now (lookup (is_named_at name.now) catalog.now.entries) }
 {
@@ -140,7 +142,7 @@ fn drop_tube(
     jobs.forget(name);
 }
 
-/// Drops the entry and the number of this name, where its tube is gone.
+/// Drops the entry and the number of the tube with this name, if it no longer exists.
 pub(crate) fn forget_named(
     catalog: &mut Catalog<TubeName, TubeEntry>,
     ends: &mut PauseEnds,
@@ -161,7 +163,8 @@ pub(crate) fn forget_named(
     }
 }
 
-// The name of the first entry whose tube is gone, or of the first from this name on.
+// Returns the name of the first entry whose tube no longer exists, from this name on if it is
+// given.
 fn next_gone(catalog: &Catalog<TubeName, TubeEntry>, from: &Option<TubeName>) -> Option<TubeName>
     ensures { result ≡ option_map (λ e. e.0) (find (is_gone_from from.now) catalog.now.entries) }
 {
@@ -175,8 +178,8 @@ fn next_gone(catalog: &Catalog<TubeName, TubeEntry>, from: &Option<TubeName>) ->
     }
 }
 
-/// Drops all entries whose tubes are gone, and their numbers. After each, the search goes on from
-/// there.
+/// Drops all entries whose tubes no longer exist, and their numbers. After each, the search
+/// continues from there.
 #[tactic(auto, using(crate::proofs::GoneLemmas::name_removed, crate::proofs::GoneLemmas::no_name, crate::proofs::GoneLemmas::none_gone))]
 pub(crate) fn forget_all(
     catalog: &mut Catalog<TubeName, TubeEntry>,
