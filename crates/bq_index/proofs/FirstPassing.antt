@@ -1,4 +1,4 @@
--- The first entry of a tree that passes, by what its sides have.
+-- The first entry of a tree that passes a test, derived from its sides.
 use Rattle.std.proofs.Common.{◌≡◌, Bool, true, false, ◌&&◌, not, if◌then◌else◌, List, [], ◌∷◌, ◌++◌, Option, None, Some, refl, sym, ap, ◌∙◌, subst}
 use Rattle.std.specs.Prelude.{find}
 use Rattle.std.proofs.lemmas.List.Folds.{find-append}
@@ -19,19 +19,19 @@ module _ {K V : Type 0} (p : K × V → Bool) {t l r : Option (Node K V)} {x : K
   by_parts : find p (entries_of t) ≡ option_or (find p (entries_of l)) (if p x then Some x else find p (entries_of r))
   by_parts = ap (find p) c.is ∙ find-append p (entries_of l) (x ∷ entries_of r)
 
-  -- One passes on the left.
+  -- An entry on the left passes.
   pub found_left : {B : Type 0} (f : B → K × V) (o : Option B) → (o ≡ None → ⊥) → option_map f o ≡ find p (entries_of l) → option_map f o ≡ find p (entries_of t)
   found_left f None n e = absurd (n refl)
   found_left f (Some b) n e = sym (by_parts ∙ ap (λ o. option_or o (if p x then Some x else find p (entries_of r))) (sym e))
 
-  -- None passes there:
+  -- No entry on the left passes:
   module _ {B : Type 0} (f : B → K × V) (o : Option B) (n : o ≡ None) (e : option_map f o ≡ find p (entries_of l)) where
     without_left : (b : Bool) → b ≡ p x → (if b then Some x else find p (entries_of r)) ≡ find p (entries_of t)
     without_left b h =
         ap (λ d. if d then Some x else find p (entries_of r)) h
         ∙ sym (by_parts ∙ ap (λ z. option_or z (if p x then Some x else find p (entries_of r))) (sym e ∙ ap (option_map f) n))
 
-    -- it is x,
+    -- then it is x,
     pub found_here : true ≡ p x → Some x ≡ find p (entries_of t)
     found_here h = without_left true h
 
@@ -40,12 +40,12 @@ module _ {K V : Type 0} (p : K × V → Bool) {t l r : Option (Node K V)} {x : K
     found_right h g u i = i ∙ without_left false h
 
 module _ {K V : Type 0} {R : K → K → Ordering} (o : IsTotalOrder R) (k : K) (p : K → V → Bool) where
-  -- what is below k doesn't pass from k on
+  -- no entry with a key below k passes `passes_from k`
   none_below : (es : List (K × V)) → AllByRecursion (λ x. R k x ≡ Greater) (keys_of es) → find (passes_from (R k) p) es ≡ None
   none_below [] all = refl
   none_below (x ∷ es) all = rw all.0 (none_below es all.1)
 
-  -- what is above k passes from k on where it passes
+  -- for entries with keys above k, `passes_from k` equals the test itself
   all_beyond : (es : List (K × V)) → AllByRecursion (λ x. R k x ≡ Less) (keys_of es) → find (passes_from (R k) p) es ≡ find (passes_by p) es
   all_beyond [] all = refl
   all_beyond (x ∷ es) all = rw (all.0, all_beyond es all.1) refl
@@ -54,7 +54,7 @@ module _ {K V : Type 0} {R : K → K → Ordering} (o : IsTotalOrder R) (k : K) 
     whole_order : InOrder R (entries_of l ++ x ∷ entries_of r)
     whole_order = subst (InOrder R) c.is s
 
-    -- x is below k: it is on the right,
+    -- the key of x is below k: the entry is on the right,
     pub from_right : {C : Type 0} → true ≡ is_gt a → (g : C → K × V) (u : Option C) → option_map g u ≡ find (passes_from (R k) p) (entries_of r)
         → option_map g u ≡ find (passes_from (R k) p) (entries_of t)
     from_right h g u i =
@@ -67,7 +67,7 @@ module _ {K V : Type 0} {R : K → K → Ordering} (o : IsTotalOrder R) (k : K) 
         greater Equal h = absurd cc
         greater Greater h = refl
 
-    -- or it isn't, and none passes on the left:
+    -- or it is not below k, and no entry on the left passes:
     module _ (h : false ≡ is_gt a) {B : Type 0} (f : B → K × V) (u : Option B) (n : u ≡ None) (e : option_map f u ≡ find (passes_from (R k) p) (entries_of l)) where
       not_greater : is_gt (R k x.0) ≡ false
       not_greater = ap is_gt (sym is) ∙ sym h
@@ -75,11 +75,11 @@ module _ {K V : Type 0} {R : K → K → Ordering} (o : IsTotalOrder R) (k : K) 
       passes_here : (b : Bool) → b ≡ p x.0 x.1 → b ≡ passes_from (R k) p x
       passes_here b i = i ∙ sym (ap (λ g. not g && p x.0 x.1) not_greater)
 
-      -- it is x,
+      -- then it is x,
       pub first_here : true ≡ p x.0 x.1 → Some x ≡ find (passes_from (R k) p) (entries_of t)
       first_here i = found_here (passes_from (R k) p) c f u n e (passes_here true i)
 
-      -- or it is the first on the right.
+      -- or it is the first one on the right.
       pub first_right : {C : Type 0} → false ≡ p x.0 x.1 → (g : C → K × V) (w : Option C) → option_map g w ≡ find (passes_by p) (entries_of r)
           → option_map g w ≡ find (passes_from (R k) p) (entries_of t)
       first_right i g w j =

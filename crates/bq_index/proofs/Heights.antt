@@ -1,11 +1,12 @@
--- The height of a box that is made anew after one of its sides changed by a level at most.
+-- The height of a box that is rebuilt after one of its sides changed by at most one level.
 use Rattle.std.proofs.Common.{◌≡◌, ℕ, ◌+◌, ◌-◌, ◌≤◌, max, Option, Some, inl, inr, arith}
 use Rattle.std.proofs.lemmas.Bool.{cases_order}
 use Rattle.bq_index.specs.Tree.{height_in, height_of, DifferByAtMost, IsRebalanced}
 use Rattle.bq_index.specs.declared.tree.Node.{Node}
 
--- A box was `high`, with sides of the heights `before` and r. The first side is l high now, and the box t, which is
--- known to the level where the sides are near.
+-- A box was `high`, with sides of the heights `before` and r. Now the first side has the height l,
+-- and the box the height t, which is known to within one level, and exactly if the sides differ by
+-- at most one.
 levels : (high before l r t : ℕ) → high ≡ max before r + 1 → DifferByAtMost 1 before r → DifferByAtMost 1 before l
     → max l r ≤ t → t ≤ max l r + 1 → (DifferByAtMost 1 l r → t ≡ max l r + 1) → (t ≤ high + (l - before)) × (high ≤ t + (before - l))
 levels high before l r t known near changed low top exact =
@@ -19,7 +20,7 @@ levels high before l r t known near changed low top exact =
       | inr (inr more) ↦ absurd (omega arith)
     ]
 
--- The box that was made anew, where the left side has changed,
+-- the rebuilt box, after the left side has changed,
 module _ {K V : Type 0} (l r : Option (Node K V)) (e : Option (K × V)) (n : Node K V) (high before : ℕ) where
   both_left : IsRebalanced l e r (Some n) → high ≡ max before (height_of r) + 1 → DifferByAtMost 1 before (height_of r)
       → DifferByAtMost 1 before (height_of l) → (height_in n ≤ high + (height_of l - before)) × (high ≤ height_in n + (before - height_of l))
@@ -33,7 +34,7 @@ module _ {K V : Type 0} (l r : Option (Node K V)) (e : Option (K × V)) (n : Nod
       → DifferByAtMost 1 before (height_of l) → high ≤ height_in n + (before - height_of l)
   left_not_lower b known near changed = (both_left b known near changed).1
 
-  -- or the right one
+  -- or the right side
   both_right : IsRebalanced l e r (Some n) → high ≡ max before (height_of l) + 1 → DifferByAtMost 1 before (height_of l)
       → DifferByAtMost 1 before (height_of r) → (height_in n ≤ high + (height_of r - before)) × (high ≤ height_in n + (before - height_of r))
   both_right b known near changed =

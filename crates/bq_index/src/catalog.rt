@@ -1,4 +1,4 @@
-// An ordered map that is read by who only looks, and whose comparisons nobody counts.
+// An ordered map that can be read through a shared reference and does not count comparisons.
 ghost use Rattle.std.specs.Prelude.{◌≡◌, ◌+◌, ◌<◌, ◌≤◌, ◌^◌, [], find, fold, length, map, is_some, if◌then◌else◌, None, IfOk, OnOk};
 ghost use Rattle.std.specs.Option.{option_map, option_copied_mut};
 ghost use Rattle.bq_index.specs.Order.{InOrder};
@@ -11,9 +11,11 @@ use super::walk::{Test, Visitor};
 use std::alloc::Global;
 use std::marker::Model;
 
-/// An ordered map whose insertions take no memory, as long as there are spare boxes, and that tells nothing of
-/// how many keys it compares: it can be read, and gone over, by who shares it. Who has to keep a bound on
-/// comparisons makes use of a `Shelf`, which has no call that goes uncounted.
+/// An ordered map whose insertions allocate nothing as long as there are spare boxes.
+///
+/// It does not report how many keys it compares, so a shared reference is enough to search it and
+/// to visit its entries. Code that has to keep a bound on comparisons uses a `Shelf`, which has no
+/// call that goes uncounted.
 #[derive(Drop)]
 pub struct Catalog<K: Ord + Drop, V: Drop> {
     shelf: Shelf<K, V>,
@@ -32,7 +34,7 @@ impl<K: Ord + Drop, V: Drop> Catalog<K, V> {
     ghost use Rattle.bq_index.specs.CatalogLent.{LendsEntry};
     ghost use Rattle.bq_index.specs.Walk.{entry_of, passes_by, passes_from, seen_by};
 
-    /// A catalog with no entries and no spare boxes. It takes no memory.
+    /// Returns a catalog with no entries and no spare boxes. It allocates nothing.
     pub fn new() -> Self
         ensures { result ≡ record { entries = []; spare = 0 } }
     {
@@ -41,7 +43,7 @@ impl<K: Ord + Drop, V: Drop> Catalog<K, V> {
         }
     }
 
-    /// The number of entries. The contract tells besides that their keys ascend.
+    /// Returns the number of entries. The contract also states that their keys ascend.
     pub fn len(&self) -> usize
         ensures len { result ≡ length self.now.entries }
         ensures ordered { InOrder K.cmp self.now.entries }
@@ -49,17 +51,19 @@ impl<K: Ord + Drop, V: Drop> Catalog<K, V> {
         self.shelf.len()
     }
 
-    /// The number of spare boxes: so many insertions take no memory.
+    /// Returns the number of spare boxes. That many insertions allocate nothing.
     pub fn spare(&self) -> usize
         ensures { result ≡ self.now.spare }
     {
         self.shelf.spare()
     }
 
-    /// Sets aside boxes until `n` are spare: none where there are as many already.
+    /// Allocates boxes until `n` are spare. If `n` or more are spare already, it allocates nothing.
     ///
     /// # Errors
-    /// `NoMemory` where a box is refused. The boxes are made one by one, and those before it are kept.
+    ///
+    /// `NoMemory` if the allocation of a box fails. Boxes are allocated one by one, and the ones
+    /// before the failure are kept.
     pub fn reserve(&mut self, alloc: Global, n: usize) -> Result<(), NoMemory>
         ensures ok { OnOk result (n ≤ self.new.spare) }
         ensures entries { self.new.entries ≡ self.old.entries }
@@ -68,7 +72,7 @@ impl<K: Ord + Drop, V: Drop> Catalog<K, V> {
         self.shelf.reserve(alloc, n)
     }
 
-    /// Adds an entry whose key is not there yet. Its box is a spare one.
+    /// Adds an entry whose key is not in the catalog. The entry takes a spare box.
     pub fn insert(&mut self, key: K, value: V)
         requires spare { 0 < self.old.spare }
         requires absent { lookup (is_at (K.cmp key)) self.old.entries ≡ None }
@@ -78,7 +82,8 @@ impl<K: Ord + Drop, V: Drop> Catalog<K, V> {
         self.shelf.insert(key, value);
     }
 
-    /// Takes out the entry of a key, whose box becomes spare; `None` where there is none.
+    /// Removes the entry of a key and returns its value, or `None` if there is no such entry. Its
+    /// box becomes spare.
     pub fn remove(&mut self, key: &K) -> Option<V>
         ensures value { result ≡ lookup (is_at (K.cmp key.now)) self.old.entries }
         ensures entries { self.new.entries ≡ remove_entry (is_at (K.cmp key.now)) self.old.entries }
@@ -88,7 +93,7 @@ impl<K: Ord + Drop, V: Drop> Catalog<K, V> {
         self.shelf.remove(key)
     }
 
-    /// The value at a key.
+    /// Returns the value at a key.
     pub fn peek(&self, key: &K) -> Option<&V>
         ensures value { option_map (λ v. v.now) result
             ≡ lookup (is_at (K.cmp key.now)) self.now.entries }
@@ -97,7 +102,7 @@ impl<K: Ord + Drop, V: Drop> Catalog<K, V> {
         self.shelf.peek(key)
     }
 
-    /// The value at a key, to be changed in its place.
+    /// Returns a mutable reference to the value at a key.
     pub fn get_mut(&mut self, key: &K) -> Option<&mut V>
         ensures* writes_back { sem 𝓛
             (LendsEntry K.row V.row K.Ord self.entry (K.cmp key.now) result) }
@@ -107,7 +112,8 @@ impl<K: Ord + Drop, V: Drop> Catalog<K, V> {
         self.shelf.get_mut(key)
     }
 
-    /// Shows a visitor each entry, in the order of the keys. A count of 64 bits holds how many it sees.
+    /// Shows each entry to a visitor, in the order of the keys. The contract also states that there
+    /// are fewer than 2^64 entries, so a visitor can count them in 64 bits.
     pub fn walk<T: Visitor<K, V>>(&self, visitor: &mut T)
         ensures visitor { visitor.new ≡ fold (seen_by T.after) visitor.old self.now.entries }
         ensures few { length self.now.entries < 2 ^ 64 }
@@ -115,7 +121,7 @@ impl<K: Ord + Drop, V: Drop> Catalog<K, V> {
         self.shelf.walk(visitor);
     }
 
-    /// The first entry that passes a test.
+    /// Returns the first entry that passes a test.
     pub fn first<T: Test<K, V>>(&self, test: &T) -> Option<(&K, &V)>
         ensures entry { option_map entry_of result
             ≡ find (passes_by (T.passed test.now)) self.now.entries }
@@ -124,7 +130,7 @@ impl<K: Ord + Drop, V: Drop> Catalog<K, V> {
         self.shelf.first(test)
     }
 
-    /// The first entry that passes a test among those whose key is not below `from`.
+    /// Returns the first entry that passes a test, among those whose key is `from` or above.
     pub fn first_from<T: Test<K, V>>(&self, from: &K, test: &T) -> Option<(&K, &V)>
         ensures { option_map entry_of result
             ≡ find (passes_from (K.cmp from.now) (T.passed test.now)) self.now.entries }
@@ -132,10 +138,12 @@ impl<K: Ord + Drop, V: Drop> Catalog<K, V> {
         self.shelf.first_from(from, test)
     }
 
-    /// The entries, in the order of their keys. The memory of the list is asked for before.
+    /// Returns the entries in the order of their keys. The memory of the list is allocated before
+    /// it is filled.
     ///
     /// # Errors
-    /// `NoMemory` where it is refused.
+    ///
+    /// `NoMemory` if that allocation fails.
     pub fn list(&self, alloc: Global) -> Result<Vec<(&K, &V), Global>, NoMemory>
         ensures { IfOk result (λ listed. map entry_of listed.items ≡ self.now.entries) }
     {

@@ -1,5 +1,6 @@
-// A tree with one entry more or less. Boxes are changed where they lie: only where one gets or loses a side, or sides are
-// turned, does an entry move. What ends a way down stays a function of its own, so that the steps on the way are short.
+// Insertion and removal. Boxes are changed in place: an entry moves only if its box gains or loses
+// a side, or if the tree is rebalanced there. The last step of a descent is a separate function, so
+// that the steps on the way have small stack frames.
 ghost use Rattle.std.specs.Prelude.{◌≡◌, ◌+◌, ◌<◌, ◌≤◌, max, [], ◌++◌, Some, None, IsSome, IfSome, IfNone};
 ghost use Rattle.std.specs.Option.{option_map, option_to_list};
 ghost use Rattle.std.specs.Map.{lookup, remove_entry};
@@ -14,7 +15,7 @@ use super::tree::{Node, Tree, open, put};
 use std::cmp::Ordering;
 use std::mem;
 
-// Hangs a box with an entry alone on the left of one that has nothing there.
+// Attaches a box with a single entry as the left side of a box that has none.
 #[tactic(auto, using(crate::proofs::Parts::come_apart))]
 #[inline(never)]
 fn hang_left<K, V>(here: &mut Node<K, V>, node: Box<Node<K, V>>)
@@ -36,7 +37,7 @@ where
     put(here, Node::over(Tree::Fork(node), entry, right));
 }
 
-// Hangs a box with an entry alone on the right of one that has nothing there.
+// Attaches a box with a single entry as the right side of a box that has none.
 #[tactic(auto, using(crate::proofs::Parts::come_apart))]
 #[inline(never)]
 fn hang_right<K, V>(here: &mut Node<K, V>, node: Box<Node<K, V>>)
@@ -58,7 +59,7 @@ where
     put(here, Node::over(left, entry, Tree::Fork(node)));
 }
 
-// Puts a box with an entry alone below another one.
+// Inserts a box with a single entry below another box.
 fn insert_below<K: Ord, V>(here: &mut Node<K, V>, node: Box<Node<K, V>>, count: &mut u64)
 where
     K: Drop,
@@ -108,7 +109,7 @@ where
     }
 }
 
-// Puts a box with an entry alone into its place.
+// Inserts a box with a single entry at its place in the tree.
 pub(crate) fn insert<K: Ord, V>(
     tree: Tree<K, V>,
     node: Box<Node<K, V>>,
@@ -138,7 +139,8 @@ where
     }
 }
 
-// The first entry and a box that it leaves, and the tree of the others.
+// Takes the first entry out of a tree: returns a box that is spare now, the entry, and the tree of
+// the others.
 fn take_first<K, V>(tree: Tree<K, V>) -> Option<(Box<Node<K, V>>, (K, V), Tree<K, V>)>
 where
     K: Drop,
@@ -163,7 +165,7 @@ where
     }
 }
 
-// The two sides of a box that became spare, and a box that is spare then.
+// Joins the two sides of a box whose entry was removed. Returns the joined tree and a spare box.
 fn close<K, V>(
     node: Box<Node<K, V>>,
     left: Tree<K, V>,
@@ -190,8 +192,8 @@ where
     }
 }
 
-// The tree without the key, and what was there, with a box that is spare now. It takes the boxes on its way apart, and is
-// for a tree of one.
+// Returns the tree without the key, and the removed value with a spare box, if the key was there.
+// It takes apart the boxes on its way, so it is called for trees of at most one level.
 fn remove_apart<K: Ord, V>(
     tree: Tree<K, V>,
     key: &K,
@@ -235,7 +237,7 @@ where
     }
 }
 
-// Takes the entry out of a box that has a side, and puts its value in a place with the box that is spare then.
+// Takes the entry out of a box that has a side, and stores its value with a spare box in `found`.
 #[tactic(auto, using(crate::proofs::Parts::come_apart))]
 #[inline(never)]
 fn take_out<K, V>(here: &mut Node<K, V>, found: &mut Option<(Box<Node<K, V>>, V)>)
@@ -264,7 +266,7 @@ where
     }
 }
 
-// Fills a box with what the box of a tree has, which is spare then.
+// Moves the content of a tree's top box into `here`, and returns that box, which is spare now.
 fn move_up<K, V>(here: &mut Node<K, V>, tree: Tree<K, V>) -> Box<Node<K, V>>
 where
     K: Drop,
@@ -281,8 +283,9 @@ where
     }
 }
 
-// Removes the key on the left of a box, and takes that apart. What was there comes into a place, so that who calls makes no
-// room for it: a call fills all the room that it may need before it begins.
+// Removes the key from the left side of a box by taking that side apart. The result goes to `found`
+// so that the caller has no local variable for it: a function initializes all of its stack frame
+// before it starts.
 #[tactic(auto, using(crate::proofs::Parts::come_apart))]
 #[inline(never)]
 fn cut_left<K: Ord, V>(
@@ -313,7 +316,7 @@ where
     put(found, there);
 }
 
-// Removes the key on the right of a box, and takes that apart.
+// Removes the key from the right side of a box by taking that side apart.
 #[tactic(auto, using(crate::proofs::Parts::come_apart))]
 #[inline(never)]
 fn cut_right<K: Ord, V>(
@@ -344,8 +347,8 @@ where
     put(found, there);
 }
 
-// Removes the key from a box that has a side, or from below it, and puts what was there in a place that the calls hand
-// down: so a value, which may be long, is not handed up from call to call.
+// Removes the key from a box that has a side, or from below it. The removed value, which may be
+// large, goes straight to `found`, so that it is not copied from call to call on the way back.
 fn remove_below<K: Ord, V>(
     here: &mut Node<K, V>,
     key: &K,
@@ -400,7 +403,7 @@ where
     }
 }
 
-// The tree without the key, and what was there, with a box that is spare now.
+// Returns the tree without the key, and the removed value with a spare box, if the key was there.
 pub(crate) fn remove<K: Ord, V>(
     tree: Tree<K, V>,
     key: &K,

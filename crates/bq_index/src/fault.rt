@@ -1,11 +1,11 @@
 ghost use Rattle.std.specs.Prelude.{◌≡◌};
 
-/// A box was refused.
+/// The allocation of a box failed.
 #[derive(Clone, Copy, Debug, PartialEq, Eq)]
 pub struct NoMemory;
 
 impl NoMemory {
-    /// The number of this fault, 301.
+    /// Returns the number of this error, 301.
     pub fn code(self) -> u16
         ensures { result ≡ 301 }
     {

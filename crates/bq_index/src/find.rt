@@ -1,4 +1,5 @@
-// Comparisons of keys with their count, and what is found in a tree by them, to be read or to be changed in its place.
+// Counted comparisons of keys, and searches in a tree that read an entry or lend its value for a
+// change.
 ghost use Rattle.std.specs.Prelude.{◌≡◌, ℕ, ◌+◌, ◌-◌, ◌^◌, ◌≤◌, min, IsSome};
 ghost use Rattle.std.specs.Borrow.{LendsIf, sem};
 ghost use Rattle.std.specs.Option.{option_copied_mut, option_map};
@@ -16,9 +17,10 @@ use super::tree::{Node, Tree, parts};
 use std::cmp::Ordering;
 use std::marker::PhantomData;
 
-// One comparison of keys, and the only place where two keys meet in a call that counts: it raises the count by
-// one, which stops at 2^64 - 1. No clause above tells that every comparison is made here. A call that compared keys without
-// this function would stay within all bounds, so who needs a comparison makes it by this function.
+// Compares two keys and raises the count by one; the count stops at 2^64 - 1. In a call that
+// counts, this is the only function that compares keys. No contract above states this: a call that
+// compared keys elsewhere would still stay within every bound. So code that needs a comparison
+// makes it by this function.
 pub(crate) fn compare<K: Ord>(key: &K, other: &K, count: &mut u64) -> Ordering
     ensures answer { result ≡ K.cmp key.now other.now }
     ensures counts_one { count.new ≡ min (count.old + 1) (2 ^ 64 - 1) }
@@ -28,7 +30,7 @@ pub(crate) fn compare<K: Ord>(key: &K, other: &K, count: &mut u64) -> Ordering
     key.cmp(other)
 }
 
-// A comparison with the key of a box.
+// Compares a key with the key of a box.
 pub(crate) fn compare_to<K: Ord, V>(key: &K, node: &Node<K, V>, count: &mut u64) -> Ordering
     requires { IsSome (entry_in node.now) }
     ensures answer { Comparison K.cmp key.now (entry_in node.now) result }
@@ -37,7 +39,7 @@ pub(crate) fn compare_to<K: Ord, V>(key: &K, node: &Node<K, V>, count: &mut u64)
     compare(key, node.key(), count)
 }
 
-// The value at a key.
+// Returns the value at a key.
 pub(crate) fn get<'a, K: Ord, V>(
     tree: Option<&'a Node<K, V>>,
     key: &K,
@@ -60,7 +62,7 @@ pub(crate) fn get<'a, K: Ord, V>(
     None
 }
 
-// The first entry whose key is not below `key`.
+// Returns the first entry whose key is `key` or above.
 pub(crate) fn next_from<'a, K: Ord, V>(
     tree: Option<&'a Node<K, V>>,
     key: &K,
@@ -73,7 +75,8 @@ pub(crate) fn next_from<'a, K: Ord, V>(
     ensures counted { RaisedByAtMost (height_of (lent tree.entry)) count.old count.new }
 {
     let mut below = tree;
-    // The least entry above the key so far: that of the last box which the way left on its left.
+    // The lowest entry so far whose key is above: that of the last box at which the descent went
+    // left.
     let mut above = None;
     while let Some((left, other, value, right)) = parts(below) {
         match compare(key, other, count) {
@@ -88,8 +91,9 @@ pub(crate) fn next_from<'a, K: Ord, V>(
     above
 }
 
-// The value at a key, to be changed in its place: a loan through a tree of bounded height. A recursion that lends has
-// no generated proof, and a chain of calls through a bound has: each level of `Deeper` goes one step down.
+// Lends the value at a key for a change, through a tree of bounded height. No proof can be
+// generated for a recursive function that returns a loan, but one can for a chain of calls up to a
+// bound: each level of `Deeper` goes one step down.
 pub(crate) fn value_mut<'a, K: Ord, V>(
     tree: &'a mut Tree<K, V>,
     key: &K,

@@ -1,11 +1,12 @@
 //! An ordered map whose insertions cannot fail.
 //!
-//! A [`Shelf`] keeps its entries in the order of their keys, each in a box of a balanced search tree, and
-//! beside them the spare boxes of entries to come. Memory is asked for by [`Shelf::reserve`] alone, so
-//! that who has reserved first can insert, remove and move entries with no refusal in between. Each call
-//! compares few keys, by a bound that its contract states over the count [`Shelf::comparisons`].
+//! A [`Shelf`] keeps its entries in the order of their keys, each in a box of a balanced search
+//! tree, and keeps spare boxes for entries to come. Only [`Shelf::reserve`] allocates, so a caller
+//! that has reserved first can insert, remove and move entries, and none of these calls can fail.
+//! Each call compares few keys: its contract states a bound for the count [`Shelf::comparisons`].
 //!
-//! A [`Catalog`] is the same without the count. It can be read by who only looks, and gone over.
+//! A [`Catalog`] is the same map without the count. A shared reference is enough to search it and
+//! to visit its entries.
 #![tactic(auto)]
 
 pub use catalog::Catalog;

@@ -1,4 +1,5 @@
-// What keeps a tree balanced. What few calls need stays a function of its own, so that the others are short.
+// Rebalancing of a tree. Code that few calls need is in separate functions, so that the others have
+// small stack frames.
 ghost use Rattle.std.specs.Prelude.{◌≡◌, ◌+◌, ◌-◌, ◌<◌, ◌≤◌, ◌++◌, max, Some, IsSome, IsTrue};
 ghost use Rattle.std.specs.Option.{option_to_list};
 ghost use Rattle.bq_index.specs.Tree.{entries, entries_in, entries_of, entry_in, height, height_in, height_of, held, left_in, right_in};
@@ -6,8 +7,9 @@ ghost use Rattle.bq_index.specs.Tree.{IsBalanced, IsBalancedFrom, IsLevel, Diffe
 
 use super::tree::{Node, Tree, open, put};
 
-// Fills a box with an entry whose left side has changed by a level at most: it was `before` high, and the box `high`.
-// The whole has risen or fallen no more than that side.
+// Fills a box with an entry and two sides, after the height of the left side has changed by at most
+// one level. Before the change the left side was `before` levels high and the box `high`. The
+// height of the box changes by no more than that of the side.
 #[tactic(auto, using(crate::proofs::Heights::left_not_higher, crate::proofs::Heights::left_not_lower))]
 pub(crate) fn with_left<K, V>(
     node: &mut Node<K, V>,
@@ -35,7 +37,7 @@ where
     balance(node, left, entry, right, high, same);
 }
 
-// The same, where the right side has changed.
+// The same, after the height of the right side has changed.
 #[tactic(auto, using(crate::proofs::Heights::right_not_higher, crate::proofs::Heights::right_not_lower))]
 pub(crate) fn with_right<K, V>(
     node: &mut Node<K, V>,
@@ -63,8 +65,9 @@ where
     balance(node, left, entry, right, high, same);
 }
 
-// Mends a box whose left side has changed in its place, by a level at most: it was `before` high. The whole rises or falls
-// no more than that side.
+// Rebalances a box after the height of its left side has changed by at most one level, in place.
+// Before the change the left side was `before` levels high. The height of the box changes by no
+// more than that of the side.
 #[tactic(auto, using(crate::proofs::Parts::by_sides, crate::proofs::Parts::still_level, crate::proofs::Heights::left_not_higher, crate::proofs::Heights::left_not_lower))]
 #[inline(always)]
 pub(crate) fn mend_left<K, V>(node: &mut Node<K, V>, before: u8)
@@ -89,8 +92,9 @@ where
     }
 }
 
-// Mends a box whose right side has changed in its place, by a level at most: it was `before` high. The whole rises or falls
-// no more than that side.
+// Rebalances a box after the height of its right side has changed by at most one level, in place.
+// Before the change the right side was `before` levels high. The height of the box changes by no
+// more than that of the side.
 #[tactic(auto, using(crate::proofs::Parts::by_sides, crate::proofs::Parts::still_level, crate::proofs::Heights::right_not_higher, crate::proofs::Heights::right_not_lower))]
 #[inline(always)]
 pub(crate) fn mend_right<K, V>(node: &mut Node<K, V>, before: u8)
@@ -115,7 +119,7 @@ where
     }
 }
 
-// Balances a box in place. Its sides differ by two levels at most.
+// Balances a box in place whose sides differ by at most two levels.
 #[tactic(auto, using(crate::proofs::Parts::set_level))]
 #[inline(never)]
 fn rebalance<K, V>(node: &mut Node<K, V>)
@@ -155,8 +159,8 @@ where
     balance(node, left, entry, right, 0, false);
 }
 
-// Fills a box with an entry and two sides, whose heights differ by up to two. Where neither changed, the box is as high
-// as it was.
+// Fills a box with an entry and two sides whose heights differ by at most two levels. If `same` is
+// true, neither side has changed its height, and the box keeps the height `high`.
 pub(crate) fn balance<K, V>(
     node: &mut Node<K, V>,
     left: Tree<K, V>,
@@ -190,7 +194,8 @@ where
     }
 }
 
-// The box of the higher side goes below, and takes the entry.
+// Rotates to the right: the box of the left side, which is the higher one, becomes the right side
+// and takes the entry.
 #[inline(never)]
 fn lean_left<K, V>(node: &mut Node<K, V>, left: Tree<K, V>, entry: (K, V), right: Tree<K, V>)
 where

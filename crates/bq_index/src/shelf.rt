@@ -1,4 +1,4 @@
-// An ordered map whose insertions take no memory.
+// An ordered map whose insertions allocate nothing.
 ghost use Rattle.std.specs.Prelude.{◌≡◌, ◌+◌, ◌-◌, ◌<◌, ◌≤◌, ◌^◌, max};
 ghost use Rattle.std.specs.Prelude.{[], find, fold, length, map, is_some, if◌then◌else◌, None, IfOk, OnOk, OnErr};
 ghost use Rattle.std.specs.Option.{option_map, option_copied_mut};
@@ -13,12 +13,12 @@ use std::alloc::Global;
 use std::marker::Model;
 use std::mem;
 
-/// An ordered map whose insertions take no memory, as long as there are spare boxes.
+/// An ordered map whose insertions allocate nothing as long as there are spare boxes.
 ///
-/// Contracts see three things: the entries in the order of their keys, the number of spare boxes, and how
-/// often two keys were compared. Each call looks at few entries: it makes at most two comparisons for each
-/// binary digit of one more than the entries that there were. There is none that goes over the entries, so a
-/// structure that is made of shelves alone finds nothing in them by asking each.
+/// Contracts see three things: the entries in the order of their keys, the number of spare boxes,
+/// and how often two keys were compared. A call makes at most two comparisons for each binary digit
+/// of one more than the number of entries. No call visits all entries, so code that keeps
+/// everything in shelves cannot search them one by one.
 pub struct Shelf<K: Ord, V> {
     tree: Tree<K, V>,
     len: usize,
@@ -59,7 +59,7 @@ impl<K: Ord + Drop, V: Drop> Shelf<K, V> {
     ghost use Rattle.bq_index.specs.ShelfLent.{LeavesEntries, LendsValue};
     ghost use Rattle.bq_index.specs.Walk.{entry_of, passes_by, passes_from, seen_by};
 
-    /// A shelf with no entries and no spare boxes. It takes no memory.
+    /// Returns a shelf with no entries and no spare boxes. It allocates nothing.
     #[tactic(auto, using(crate::proofs::Order::order_none))]
     pub fn new() -> Self
         ensures { result ≡ record { entries = []; spare = 0; comparisons = 0 } }
@@ -73,7 +73,7 @@ impl<K: Ord + Drop, V: Drop> Shelf<K, V> {
         }
     }
 
-    /// The number of entries. The contract tells besides that their keys ascend.
+    /// Returns the number of entries. The contract also states that their keys ascend.
     pub fn len(&self) -> usize
         ensures len { result ≡ length self.now.entries }
         ensures ordered { InOrder K.cmp self.now.entries }
@@ -81,24 +81,26 @@ impl<K: Ord + Drop, V: Drop> Shelf<K, V> {
         self.len
     }
 
-    /// The number of spare boxes: so many insertions take no memory.
+    /// Returns the number of spare boxes. That many insertions allocate nothing.
     pub fn spare(&self) -> usize
         ensures { result ≡ self.now.spare }
     {
         self.spare
     }
 
-    /// The comparisons of two keys so far. The count stops at 2^64 - 1.
+    /// Returns how often two keys were compared so far. The count stops at 2^64 - 1.
     pub fn comparisons(&self) -> u64
         ensures { result ≡ self.now.comparisons }
     {
         self.comparisons
     }
 
-    /// Sets aside boxes until `n` are spare: none where there are as many already.
+    /// Allocates boxes until `n` are spare. If `n` or more are spare already, it allocates nothing.
     ///
     /// # Errors
-    /// `NoMemory` where a box is refused. The boxes are made one by one, and those before it are kept.
+    ///
+    /// `NoMemory` if the allocation of a box fails. Boxes are allocated one by one, and the ones
+    /// before the failure are kept.
     pub fn reserve(&mut self, alloc: Global, n: usize) -> Result<(), NoMemory>
         ensures ok { OnOk result (n ≤ self.new.spare) }
         ensures refused { OnErr result (self.new.spare < n) }
@@ -111,7 +113,8 @@ impl<K: Ord + Drop, V: Drop> Shelf<K, V> {
         self.reserve_from(&mut heap, n)
     }
 
-    /// The same, out of boxes of a source: each is hung into the chain before the next one is asked for.
+    /// The same, with boxes from a source. Each box is linked into the chain before the next one is
+    /// requested.
     pub fn reserve_from<S: BoxSource>(&mut self, source: &mut S, n: usize) -> Result<(), NoMemory>
         ensures ok { OnOk result (n ≤ self.new.spare) }
         ensures refused { OnErr result (self.new.spare < n) }
@@ -126,7 +129,7 @@ impl<K: Ord + Drop, V: Drop> Shelf<K, V> {
         Ok(())
     }
 
-    // One more spare box, where `len` and `spare` stay within `usize` together.
+    // Adds one spare box. `len` and `spare` together stay within `usize`.
     fn add_spare<S: BoxSource>(&mut self, source: &mut S) -> Result<(), NoMemory>
         ensures ok { OnOk result (self.new ≡ record self.old { spare = self.old.spare + 1 }) }
         ensures err { OnErr result (self.new ≡ self.old) }
@@ -140,10 +143,12 @@ impl<K: Ord + Drop, V: Drop> Shelf<K, V> {
         Ok(())
     }
 
-    /// Gives one spare box back to the allocator, where there is one. It takes no memory and compares no keys.
+    /// Returns one spare box to the allocator, if there is one. It allocates nothing and compares
+    /// no keys.
     ///
-    /// The boxes of entries that are gone stay spare, so a peak would keep its memory for ever. Who calls this now
-    /// and then gives it back in small steps, and no call has to let go of many boxes at once.
+    /// Boxes of removed entries stay spare, so without this call a shelf would keep the memory of
+    /// its peak for ever. Regular calls return that memory in small steps, so that no single call
+    /// has to free many boxes.
     pub fn give_back(&mut self)
         ensures { self.new ≡ record self.old { spare = self.old.spare - 1 } }
     {
@@ -156,7 +161,7 @@ impl<K: Ord + Drop, V: Drop> Shelf<K, V> {
         self.spare -= 1;
     }
 
-    /// Adds an entry whose key is not there yet. Its box is a spare one.
+    /// Adds an entry whose key is not on the shelf. The entry takes a spare box.
     pub fn insert(&mut self, key: K, value: V)
         requires spare { 0 < self.old.spare }
         requires absent { lookup (is_at (K.cmp key)) self.old.entries ≡ None }
@@ -173,7 +178,8 @@ impl<K: Ord + Drop, V: Drop> Shelf<K, V> {
         self.len += 1;
     }
 
-    /// Takes out the entry of a key, whose box becomes spare; `None` where there is none.
+    /// Removes the entry of a key and returns its value, or `None` if there is no such entry. Its
+    /// box becomes spare.
     pub fn remove(&mut self, key: &K) -> Option<V>
         ensures value { result ≡ lookup (is_at (K.cmp key.now)) self.old.entries }
         ensures entries { self.new.entries ≡ remove_entry (is_at (K.cmp key.now)) self.old.entries }
@@ -192,7 +198,7 @@ impl<K: Ord + Drop, V: Drop> Shelf<K, V> {
         Some(value)
     }
 
-    /// The value at a key. Nothing changes but the count of comparisons.
+    /// Returns the value at a key. Only the count of comparisons changes.
     #[tactic(auto, using(crate::proofs::Bound::height_bound))]
     pub fn get(&mut self, key: &K) -> Option<&V>
         ensures* after { sem 𝓛 (LeavesEntries K.row V.row K.Ord self.entry) }
@@ -202,7 +208,8 @@ impl<K: Ord + Drop, V: Drop> Shelf<K, V> {
         find::get(self.tree.top(), key, &mut self.comparisons)
     }
 
-    /// The least entry whose key is not below `key`. Nothing changes but the count of comparisons.
+    /// Returns the entry with the lowest key that is `key` or above. Only the count of comparisons
+    /// changes.
     #[tactic(auto, using(crate::proofs::Bound::height_bound))]
     pub fn next_from(&mut self, key: &K) -> Option<(&K, &V)>
         ensures* after { sem 𝓛 (LeavesEntries K.row V.row K.Ord self.entry) }
@@ -212,7 +219,8 @@ impl<K: Ord + Drop, V: Drop> Shelf<K, V> {
         find::next_from(self.tree.top(), key, &mut self.comparisons)
     }
 
-    // What follows up to `list` is for a catalog, which counts no comparisons: the value at a key.
+    // From here to `list`: what a catalog needs, which does not count comparisons. Returns the
+    // value at a key.
     pub(crate) fn peek(&self, key: &K) -> Option<&V>
         ensures value { option_map (λ v. v.now) result
             ≡ lookup (is_at (K.cmp key.now)) self.now.entries }
@@ -222,7 +230,7 @@ impl<K: Ord + Drop, V: Drop> Shelf<K, V> {
         find::get(self.tree.top(), key, &mut uncounted)
     }
 
-    // Shows a visitor each entry, in the order of the keys. No keys are compared.
+    // Shows each entry to a visitor, in the order of the keys. It compares no keys.
     pub(crate) fn walk<T: Visitor<K, V>>(&self, visitor: &mut T)
         ensures visitor { visitor.new ≡ fold (seen_by T.after) visitor.old self.now.entries }
         ensures few { length self.now.entries < 2 ^ 64 }
@@ -230,7 +238,7 @@ impl<K: Ord + Drop, V: Drop> Shelf<K, V> {
         walk::walk(self.tree.top(), visitor);
     }
 
-    // The first entry that passes a test.
+    // Returns the first entry that passes a test.
     pub(crate) fn first<T: Test<K, V>>(&self, test: &T) -> Option<(&K, &V)>
         ensures entry { option_map entry_of result
             ≡ find (passes_by (T.passed test.now)) self.now.entries }
@@ -239,7 +247,7 @@ impl<K: Ord + Drop, V: Drop> Shelf<K, V> {
         walk::first(self.tree.top(), test)
     }
 
-    // The first entry that passes a test among those whose key is not below `from`.
+    // Returns the first entry that passes a test, among those whose key is `from` or above.
     pub(crate) fn first_from<T: Test<K, V>>(&self, from: &K, test: &T) -> Option<(&K, &V)>
         ensures { option_map entry_of result
             ≡ find (passes_from (K.cmp from.now) (T.passed test.now)) self.now.entries }
@@ -247,8 +255,8 @@ impl<K: Ord + Drop, V: Drop> Shelf<K, V> {
         walk::first_from(self.tree.top(), from, test)
     }
 
-    // The entries, in the order of their keys. The memory of the list is asked for before, and where it is
-    // refused there is no list.
+    // Returns the entries in the order of their keys. The memory of the list is allocated before it
+    // is filled; if that fails, there is no list.
     pub(crate) fn list(&self, alloc: Global) -> Result<Vec<(&K, &V), Global>, NoMemory>
         ensures { IfOk result (λ listed. map entry_of listed.items ≡ self.now.entries) }
     {
@@ -259,7 +267,7 @@ impl<K: Ord + Drop, V: Drop> Shelf<K, V> {
         Ok(listed)
     }
 
-    /// The value at a key, to be changed in its place.
+    /// Returns a mutable reference to the value at a key.
     pub fn get_mut(&mut self, key: &K) -> Option<&mut V>
         ensures* writes_back { sem 𝓛
             (LendsValue K.row V.row K.Ord self.entry (K.cmp key.now) result) }

@@ -1,4 +1,5 @@
-// A balanced tree of boxes, seen by its entries in order and its height; and the chain of the spare boxes.
+// A balanced tree of boxes, which contracts see by its entries in order and its height, and the
+// chain of the spare boxes.
 ghost use Rattle.std.specs.Prelude.{◌≡◌, ◌+◌, ◌<◌, max, [], IsSome, IfSome, IfNone, IfOk, Some};
 ghost use Rattle.bq_index.specs.Tree.{chain_length, entries, entries_of, entry_in, height, height_in};
 ghost use Rattle.bq_index.specs.Tree.{height_of, held, left_in, length_behind, lent, right_in, with_height};
@@ -15,16 +16,17 @@ pub(crate) enum Tree<K, V> {
     Fork(Box<Node<K, V>>),
 }
 
-// What a box holds. It has one byte that tells which of these it is, the height in the next one, and the fields as they
-// stand here: so a box has 24 bytes beside its key and its value, and a search, which reads a key and a side, finds them
-// side by side, before the value, which may be long. A height is stored where there are two sides, since in a balanced
-// tree a single side is one box.
+// The content of a box. One byte says which variant it is, the height is in the next byte, and the
+// other fields follow in the order given here. So a box takes 24 bytes besides its key and its
+// value. A search reads a key and a side, which are next to each other before the value, which may
+// be large. Only a box with two sides stores its height: in a balanced tree, a box with one side
+// has a single box there.
 #[derive(Drop)]
 pub(crate) enum Node<K, V> {
-    // A spare box, the last of its chain, and one before another.
+    // Spare boxes: the last one of a chain, and one with another after it.
     Spare,
     SpareBefore(Box<Node<K, V>>),
-    // An entry with nothing below it, and with a side or two.
+    // Entries: with nothing below, with one side, and with two.
     Alone {
         key: K,
         value: V,
@@ -80,7 +82,8 @@ impl<K, V> Node<K, V> {
         }
     }
 
-    // Stores a new height in a box with two sides. Other boxes store none.
+    // Stores a new height in a box with two sides. It does nothing to other boxes, which store
+    // none.
     #[inline(always)]
     pub(crate) fn set_height(&mut self, high: u8)
         ensures { self.new ≡ with_height high self.old }
@@ -103,7 +106,7 @@ impl<K, V> Node<K, V> {
         }
     }
 
-    // The box of two trees with an entry between them, which is so high.
+    // Returns a box of two trees with an entry between them, whose height is `high`.
     pub(crate) fn of(high: u8, left: Tree<K, V>, entry: (K, V), right: Tree<K, V>) -> Self
         requires left_balanced { IsBalanced left }
         requires right_balanced { IsBalanced right }
@@ -127,7 +130,7 @@ impl<K, V> Node<K, V> {
         }
     }
 
-    // The same, where both sides are asked how high they are.
+    // The same, with the height computed from the heights of both sides.
     pub(crate) fn over(left: Tree<K, V>, entry: (K, V), right: Tree<K, V>) -> Self
         requires left_balanced { IsBalanced left }
         requires right_balanced { IsBalanced right }
@@ -140,7 +143,7 @@ impl<K, V> Node<K, V> {
         Node::of(high, left, entry, right)
     }
 
-    // The sides and the entry of a filled box.
+    // Returns the sides and the entry of a filled box.
     fn into_parts(self) -> (Tree<K, V>, (K, V), Tree<K, V>)
         requires { IsSome (entry_in self) }
         ensures left { held result.0 ≡ left_in self }
@@ -162,7 +165,7 @@ impl<K, V> Node<K, V> {
         }
     }
 
-    // The same, out of a box, which stays behind.
+    // The same, without taking the box itself, which stays allocated.
     pub(crate) fn take_parts(&mut self) -> (Tree<K, V>, (K, V), Tree<K, V>)
         requires { IsSome (entry_in self.old) }
         ensures left { held result.0 ≡ left_in self.old }
@@ -183,7 +186,7 @@ impl<K, V> Tree<K, V> {
         }
     }
 
-    // The box at the top.
+    // Returns the box at the top.
     pub(crate) fn top(&self) -> Option<&Node<K, V>>
         ensures { lent result ≡ held self.now }
     {
@@ -194,7 +197,7 @@ impl<K, V> Tree<K, V> {
     }
 }
 
-// The two sides of a tree, and between them its box, which is spare now, and its entry.
+// Takes the top of a tree apart: returns the two sides, the box, which is spare now, and the entry.
 pub(crate) fn open<K, V>(
     tree: Tree<K, V>,
 ) -> Option<(Tree<K, V>, Box<Node<K, V>>, (K, V), Tree<K, V>)>
@@ -212,7 +215,7 @@ pub(crate) fn open<K, V>(
     }
 }
 
-// The two sides of a tree, and the entry between them.
+// Returns the two sides of a tree and the entry between them.
 pub(crate) fn parts<K, V>(
     top: Option<&Node<K, V>>,
 ) -> Option<(Option<&Node<K, V>>, &K, &V, Option<&Node<K, V>>)>
@@ -236,13 +239,13 @@ pub(crate) fn parts<K, V>(
     }
 }
 
-/// Who gives boxes, one at a time: the heap, or in a test somebody who refuses some of them.
+/// A source of boxes, one at a time: the heap, or in a test a source that fails for some requests.
 pub trait BoxSource {
     fn box_of<T: Drop>(&mut self, value: T) -> Result<Box<T>, NoMemory>
         ensures { IfOk result (λ b. b.value ≡ value) };
 }
 
-/// The heap. It is asked once for each box.
+/// The heap. Each box is one allocation.
 impl BoxSource for Global {
     fn box_of<T: Drop>(&mut self, value: T) -> Result<Box<T>, NoMemory> {
         match Box::new(*self, value) {
@@ -252,7 +255,7 @@ impl BoxSource for Global {
     }
 }
 
-// A box with nothing in it.
+// Returns a box with nothing in it.
 pub(crate) fn spare_box<K, V, S: BoxSource>(source: &mut S) -> Result<Box<Node<K, V>>, NoMemory>
 where
     K: Drop,
@@ -261,8 +264,8 @@ where
     source.box_of(Node::Spare)
 }
 
-// Puts a value into a place. An assignment there would do the same, but the proof of a function that has one goes through all
-// that may have lain in the place.
+// Stores a value in a place. An assignment would do the same, but a proof about it has to consider
+// every value that the place may have held.
 #[inline(always)]
 pub(crate) fn put<T: Drop>(place: &mut T, value: T)
     ensures { place.new ≡ value }
@@ -270,7 +273,7 @@ pub(crate) fn put<T: Drop>(place: &mut T, value: T)
     *place = value;
 }
 
-// Puts a box before a chain.
+// Puts a box in front of a chain.
 pub(crate) fn link<K, V>(mut node: Box<Node<K, V>>, chain: Tree<K, V>) -> Tree<K, V>
 where
     K: Drop,
@@ -285,7 +288,7 @@ where
     Tree::Fork(node)
 }
 
-// The first box of a chain, and the others.
+// Returns the first box of a chain, and the rest of the chain.
 pub(crate) fn unlink<K, V>(chain: Tree<K, V>) -> (Box<Node<K, V>>, Tree<K, V>)
 where
     K: Drop,
@@ -302,7 +305,7 @@ where
     }
 }
 
-// The chain behind a box.
+// Returns the chain after a box.
 fn behind<K, V>(node: Node<K, V>) -> Tree<K, V>
 where
     K: Drop,
@@ -315,7 +318,7 @@ where
     }
 }
 
-// In a loop, since a chain may be long.
+// Frees a chain. It uses a loop since a chain may be long.
 pub(crate) fn drop_chain<K, V>(chain: Tree<K, V>)
 where
     K: Drop,

@@ -1,4 +1,5 @@
-// What is done with each entry of a tree, in the order of the keys. No two keys are compared.
+// Functions that visit the entries of a tree in the order of the keys. Only `first_from` compares
+// keys.
 ghost use Rattle.std.specs.Prelude.{◌≡◌, ◌+◌, ◌≤◌, ◌++◌, Bool, find, fold, length, map, vec_len};
 ghost use Rattle.std.specs.Option.{option_map};
 ghost use Rattle.std.specs.Vec.{vec_capacity};
@@ -9,9 +10,9 @@ ghost use Rattle.bq_index.specs.Walk.{entry_of, passes_by, passes_from, seen_by}
 use super::tree::{Node, parts};
 use std::alloc::Global;
 
-/// Who is shown entries, one after another.
+/// A visitor of entries, which sees them one after another.
 pub trait Visitor<K, V> {
-    /// What it is after it was shown an entry.
+    /// Its state after it saw an entry.
     ghost after: { Self → K → V → Self };
 
     /// Sees an entry.
@@ -29,7 +30,7 @@ pub trait Test<K, V> {
         ensures { result ≡ passed self.now key.now value.now };
 }
 
-// Shows each entry.
+// Shows each entry to a visitor.
 pub(crate) fn walk<K, V, T: Visitor<K, V>>(tree: Option<&Node<K, V>>, visitor: &mut T)
     requires { IsBalancedFrom (lent tree) }
     ensures { visitor.new ≡ fold (seen_by T.after) visitor.old (entries_of (lent tree.entry)) }
@@ -42,7 +43,7 @@ pub(crate) fn walk<K, V, T: Visitor<K, V>>(tree: Option<&Node<K, V>>, visitor: &
     walk(right, visitor);
 }
 
-// The first entry that passes.
+// Returns the first entry that passes.
 pub(crate) fn first<'a, K, V, T: Test<K, V>>(
     tree: Option<&'a Node<K, V>>,
     test: &T,
@@ -62,7 +63,8 @@ pub(crate) fn first<'a, K, V, T: Test<K, V>>(
     }
 }
 
-// The first entry that passes among those whose key is not below `key`. It compares keys, and counts nothing.
+// Returns the first entry that passes, among those whose key is `from` or above. It compares keys
+// but does not count that.
 pub(crate) fn first_from<'a, K: Ord, V, T: Test<K, V>>(
     tree: Option<&'a Node<K, V>>,
     from: &K,
@@ -87,7 +89,7 @@ pub(crate) fn first_from<'a, K: Ord, V, T: Test<K, V>>(
     }
 }
 
-// Lists each entry. There is room for all of them.
+// Appends each entry to a list that has room for all of them.
 pub(crate) fn list<'a, K, V>(tree: Option<&'a Node<K, V>>, listed: &mut Vec<(&'a K, &'a V), Global>)
     requires balanced { IsBalancedFrom (lent tree) }
     requires room { vec_len listed.old + length (entries_of (lent tree)) ≤ vec_capacity listed.old }

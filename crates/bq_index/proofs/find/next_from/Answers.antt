@@ -3,7 +3,7 @@ use Rattle.std.proofs.Common.{◌≡◌, Option, None, Some, ap, refl, sym, ◌�
 use Rattle.bq_index.proofs.Parts.{left_in_order, right_in_order, from_below, from_above, from_at}
 use Rattle.bq_index.proofs.find.next_from.Goals as goal
 
--- what is searched for is found further down, or it is what was met last above
+-- the result is the one found further down, or else the last entry met above
 further : {A : Type 0} (whole here down met : Option A) → whole ≡ option_or here met → here ≡ down → whole ≡ option_or down met
 further whole here down met e d = e ∙ ap (λ z. option_or z met) d
 
@@ -11,7 +11,7 @@ found_below : {A : Type 0} (down : Option A) (x : A) (met : Option A) → option
 found_below None x met = refl
 found_below (Some y) x met = refl
 
--- or it is the entry here
+-- or else it is the entry here
 further_or_here : {A : Type 0} (whole here down : Option A) (x : A) (met : Option A) → whole ≡ option_or here met → here ≡ option_or down (Some x) → whole ≡ option_or down (Some x)
 further_or_here whole here down x met e d = e ∙ ap (λ z. option_or z met) d ∙ found_below down x met
 
