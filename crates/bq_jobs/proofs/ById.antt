@@ -15,7 +15,7 @@ use Rattle.bq_jobs.specs.Inside.{jobs_of, with_id}
 use Rattle.bq_jobs.specs.Kept.{with_added, without}
 use Rattle.bq_jobs.proofs.Changes.{none_changed, others_above, without_first}
 
--- a comparison of numbers tells whether they are the same
+-- numbers compare equal exactly if they are the same
 pub is_eq_nat : (a b : ℕ) → is_eq (nat_cmp a b) ≡ (b == a)
 is_eq_nat a b =
     elim (cases_Bool (nat_lt a b)) [
@@ -63,7 +63,7 @@ remove_by_id low next id (k ∷ jobs) h =
       | inr kept ↦ rw (is_eq_nat id k.id, kept) (ap (λ es. with_id k ∷ es) (remove_by_id (suc k.id) next id jobs h.1))
     ]
 
--- the changed job stands at its id
+-- the changed job is filed under its id
 pub set_by_id : (low next id : ℕ) (f : Job → Job) (j : Job) (jobs : List Job) → AreIdsWithin low jobs next → job_with id jobs ≡ Some j → (f j).id ≡ id
     → set_value (is_at (nat_cmp id)) (map with_id jobs) (f j) ≡ map with_id (with_changed id f jobs)
 set_by_id low next id f j [] h found same = refl

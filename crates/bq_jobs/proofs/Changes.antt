@@ -1,4 +1,4 @@
--- Lists of jobs in the order of their ids: what additions and removals do.
+-- Additions to and removals from lists of jobs in the order of their ids.
 use Rattle.std.proofs.Common.{◌≡◌, ℕ, suc, ◌+◌, ◌<◌, ◌≤◌, Bool, true, false, cond, List, [], ◌∷◌, ◌++◌, Some, None, map, length, arith, refl, sym, ap, ◌∙◌, subst, inl, inr}
 use Rattle.std.specs.Prelude.{◌==◌, nat_lt, count_by, if◌then◌else◌}
 use Rattle.std.specs.List.{AllByRecursion as All, Contains}
@@ -28,7 +28,7 @@ pub all_below_next : (low next : ℕ) (jobs : List Job) → AreIdsWithin low job
 all_below_next low next [] h = tt
 all_below_next low next (j ∷ jobs) h = (let i = low_below (suc j.id) next jobs h.1 in omega arith, all_below_next (suc j.id) next jobs h.1)
 
--- no job has an id that is none of theirs
+-- an id that no job has finds no job
 pub not_found : (id : ℕ) (jobs : List Job) → All (λ j. (j.id == id) ≡ false) jobs → job_with id jobs ≡ None
 not_found id [] h = refl
 not_found id (j ∷ jobs) h = rw h.0 (not_found id jobs h.1)
@@ -48,7 +48,7 @@ pub next_is_free : NextIsFree
 next_is_free low next jobs h =
     not_found next jobs (all_weaker (λ j. j.id < next) (λ j. (j.id == next) ≡ false) jobs (λ j m. grind (arith, nat_tests)) (all_below_next low next jobs h))
 
--- a job that is found has the id
+-- a job that an id finds has this id
 pub found_id : (id : ℕ) (jobs : List Job) (j : Job) → job_with id jobs ≡ Some j → j.id ≡ id
 found_id id [] j h = absurd cc
 found_id id (k ∷ jobs) j h =
@@ -60,7 +60,7 @@ found_id id (k ∷ jobs) j h =
       | inr e ↦ found_id id jobs j (rw e at h)
     ]
 
--- a job is found by its id
+-- a job's id finds this job
 pub all_found : (low next : ℕ) (jobs : List Job) → AreIdsWithin low jobs next → All (λ j. job_with j.id jobs ≡ Some j) jobs
 all_found low next [] h = tt
 all_found low next (j ∷ jobs) h =
@@ -80,14 +80,14 @@ all_found low next (j ∷ jobs) h =
 pub found_by_id : (low next : ℕ) (jobs : List Job) (j : Job) → AreIdsWithin low jobs next → Contains jobs j → job_with j.id jobs ≡ Some j
 found_by_id low next jobs j h i = all_at (λ k. job_with k.id jobs ≡ Some k) jobs j (all_found low next jobs h) i
 
--- a change that ignores the tube stays in it
+-- a change that ignores the tube does not change it
 pub stays_in : (f : Job → Job) → IgnoresTube f → KeepsTube f
 stays_in f ignores j = ap (λ (i : Job). i.tube) (ignores j j.tube)
 
 pub chosen_has_its_id : ChosenHasItsId
 chosen_has_its_id low next jobs passes before j h chosen = found_by_id low next jobs j h (first_of_contains passes before jobs j chosen)
 
--- an addition
+-- additions
 added_at_end : (jobs : List Job) (j : Job) → All (λ k. k.id < j.id) jobs → with_added j jobs ≡ jobs ++ j ∷ []
 added_at_end [] j h = refl
 added_at_end (k ∷ jobs) j h =
@@ -141,7 +141,7 @@ length_added j (k ∷ jobs) =
       | inl before ↦ rw before (ap suc (length_added j jobs))
     ]
 
--- a removal
+-- removals
 pub found_without : (q id : ℕ) (jobs : List Job) → job_with q (without id jobs) ≡ cond (id == q) None (job_with q jobs)
 found_without q id [] = elim (cases_Bool (id == q)) [ inl e ↦ rw e refl | inr e ↦ rw e refl ]
 found_without q id (k ∷ jobs) =
@@ -168,7 +168,7 @@ without_within low next id (k ∷ jobs) h =
       | inr kept ↦ rw kept (h.0, without_within (suc k.id) next id jobs h.1)
     ]
 
--- without the job of this id, which comes first
+-- removal of the first job
 pub without_first : (low next : ℕ) (k : Job) (jobs : List Job) → AreIdsWithin low (k ∷ jobs) next → without k.id jobs ≡ jobs
 without_first low next k jobs h = all_kept k.id jobs (others_above k.id (suc k.id) next jobs (omega arith) h.1)
 
@@ -235,6 +235,6 @@ changed low next id f j (k ∷ jobs) h found same =
               absurd (cc)
         ]
 
--- no job has an id after its removal
+-- after its removal, an id finds no job
 pub not_there : (id : ℕ) (jobs : List Job) → job_with id (without id jobs) ≡ None
 not_there id jobs = let same : (id == id) ≡ true = grind (arith, nat_tests) in found_without id id jobs ∙ rw same refl

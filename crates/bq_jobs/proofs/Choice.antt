@@ -1,4 +1,4 @@
--- Entries in the order of their keys: look-ups after a change, and the first entry from a key on.
+-- Entries in the order of their keys: lookups after a change, and the first entry from a key on.
 use Rattle.std.proofs.Common.{◌≡◌, ℕ, true, false, cond, List, [], ◌∷◌, Option, Some, None, arith, refl, ap, ◌∙◌, subst, inl, inr}
 use Rattle.std.specs.Prelude.{is_some, ◌==◌, nat_lt}
 use Rattle.std.specs.declared.cmp.Ordering.{Ordering}
@@ -17,13 +17,13 @@ use Rattle.std.proofs.lemmas.Map.Keys.{IsDistinct-from_sorted}
 use Rattle.bq_index.specs.Order.{InOrder, entry_from}
 use Rattle.bq_job.specs.machine.Changes.{is_pair_before}
 
--- what a test of an answer tells
+-- the comparison that a test confirms
 pub equal_from : (a : Ordering) → is_eq a ≡ true → a ≡ Equal
 equal_from Less h = absurd cc
 equal_from Equal h = refl
 equal_from Greater h = absurd cc
 
--- two comparisons, one after the other
+-- two comparisons, the second one for ties
 pub then_equal_first : (a b : Ordering) → ordering_then a b ≡ Equal → a ≡ Equal
 then_equal_first Less b h = absurd cc
 then_equal_first Equal b h = refl
@@ -56,7 +56,7 @@ then_not_greater Less b h i = refl
 then_not_greater Equal b h i = i
 then_not_greater Greater b h i = h
 
--- The order of pairs of numbers is the one that they are compared by.
+-- The order of pairs agrees with the comparison of pairs.
 pub pair_not_after : (a i b j : ℕ) → is_gt (ordering_then (nat_cmp a b) (nat_cmp i j)) ≡ false → is_pair_before b j a i ≡ false
 pair_not_after a i b j h =
     elim (cases_Bool (nat_lt a b)) [
@@ -74,7 +74,7 @@ pair_not_after a i b j h =
     ]
 
 module _ {K V : Type 0} {R : K → K → Ordering} (o : IsTotalOrder R) where
-  -- both tests of two keys that don't tie
+  -- the order of two tests is irrelevant if their keys differ
   swapped : (q p x : K) (v w : V) (rest : Option V) → is_eq (R p x) ≡ false → cond (is_eq (R q x)) (Some w) (cond (is_eq (R q p)) (Some v) rest) ≡ cond (is_eq (R q p)) (Some v) (cond (is_eq (R q x)) (Some w) rest)
   swapped q p x v w rest apart =
       elim (cases_Bool (is_eq (R q p))) [
@@ -94,18 +94,18 @@ module _ {K V : Type 0} {R : K → K → Ordering} (o : IsTotalOrder R) where
   inserted_cases q p v e es Greater h i absent =
       ap (λ z. cond (is_eq (R q e.0)) (Some e.1) z) (i absent) ∙ swapped q p e.0 v e.1 (lookup (is_at (R q)) es) (ap is_eq h)
 
-  -- a look-up after an insertion
+  -- lookup after an insertion
   pub lookup_inserted : (q p : K) (v : V) (es : List (K × V)) → lookup (is_at (R p)) es ≡ None → lookup (is_at (R q)) (insert_entry R es p v) ≡ cond (is_eq (R q p)) (Some v) (lookup (is_at (R q)) es)
   lookup_inserted q p v [] absent = refl
   lookup_inserted q p v (e ∷ es) absent = inserted_cases q p v e es (R p e.0) refl (lookup_inserted q p v es) absent
 
-  -- and after a removal
+  -- lookup after a removal
   pub lookup_removed : (q p : K) (es : List (K × V)) → InOrder R es → lookup (is_at (R q)) (remove_entry (is_at (R p)) es) ≡ cond (is_eq (R p q)) None (lookup (is_at (R q)) es)
   lookup_removed q p es s =
       let laws = eq_by_cmp_equiv o in
       lookup-remove_entry laws (is_at (R p)) (λ x y h. laws.congr p x y h) q es (IsDistinct-from_sorted R (keys_of es) s)
 
-  -- Where all keys are above x, so is one that is found.
+  -- If all keys are above x, so is every key that is found.
   found_above : (x q : K) (es : List (K × V)) → All (λ k. R x k ≡ Less) (keys_of es) → is_some (lookup (is_at (R q)) es) ≡ true → R x q ≡ Less
   found_above x q [] a h = absurd cc
   found_above x q (e ∷ es) a h =
@@ -114,7 +114,7 @@ module _ {K V : Type 0} {R : K → K → Ordering} (o : IsTotalOrder R) where
         | inr t ↦ found_above x q es a.1 (rw t at h)
       ]
 
-  -- where there is no entry from f on, what is found is below f
+  -- if there is no entry from f on, every key that is found is below f
   pub found_below : (f q : K) (es : List (K × V)) → entry_from (R f) es ≡ None → is_some (lookup (is_at (R q)) es) ≡ true → is_gt (R f q) ≡ true
   found_below f q [] n h = absurd cc
   found_below f q (e ∷ es) n h =
@@ -126,7 +126,8 @@ module _ {K V : Type 0} {R : K → K → Ordering} (o : IsTotalOrder R) where
         ]
       ]
 
-  -- The first entry from f on is not below f, it is found, and nothing that is found from f on is below it.
+  -- The first entry from f on is not below f, it is found, and no key from f on that is found is
+  -- below it.
   pub from_not_below : (f : K) (e : K × V) (es : List (K × V)) → entry_from (R f) es ≡ Some e → is_gt (R f e.0) ≡ false
   from_not_below f e [] h = absurd cc
   from_not_below f e (x ∷ es) h =

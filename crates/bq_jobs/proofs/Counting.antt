@@ -1,4 +1,4 @@
--- How many comparisons there are.
+-- Bounds on the number of comparisons.
 use Rattle.std.proofs.Common.{◌≡◌, ℕ, zero, suc, ◌+◌, ◌*◌, ◌/◌, ◌≤◌, true, false, List, min, length, arith, subst, inl, inr}
 use Rattle.std.specs.Prelude.{◌==◌}
 use Rattle.std.proofs.lemmas.Bool.{cases_Bool}
@@ -8,7 +8,7 @@ use Rattle.bq_job.specs.declared.job.Job.{Job}
 use Rattle.bq_job.specs.machine.Limits.{greatest}
 use Rattle.bq_jobs.specs.Kept.{Kept, search_bound}
 
--- a smaller number has no more digits
+-- a lower number does not have more digits
 pub digits_rise : (most more n m : ℕ) → n ≤ m → m ≤ more → digits_up_to most n ≤ digits_up_to more m
 digits_rise zero more n m l u = omega arith
 digits_rise (suc most) zero n m l u = let e : (n == 0) ≡ true = grind (arith, nat_tests) in rw e (omega arith)
@@ -25,17 +25,17 @@ pub digits_grow : (n m : ℕ) → n ≤ m → binary_digits n ≤ binary_digits 
 unfolding binary_digits
 digits_grow n m l = digits_rise n m n m l (omega arith)
 
--- a search among no more entries than there are jobs
+-- the comparisons of a search among at most as many entries as there are jobs
 pub search_is_bounded : (jobs : List Job) (n : ℕ) → n ≤ length jobs → 2 * binary_digits (n + 1) ≤ search_bound jobs
 unfolding binary_digits
 search_is_bounded jobs n l =
     omega (arith, digits_rise (n + 1) (2 * length jobs + 2) (n + 1) (2 * length jobs + 2) (omega arith) (omega arith))
 
--- A sum that stops at its end rises by no more than what is added.
+-- A sum that stops at its maximum rises by at most the amount that is added.
 pub sum_rises : (a b by : ℕ) → a ≤ b → b ≤ a + by → (min a greatest ≤ min b greatest) × (min b greatest ≤ min a greatest + by)
 sum_rises a b by l u = (omega arith, omega arith)
 
--- a call that makes no more comparisons than n searches
+-- a call that compares keys at most as often as n searches
 pub few_more : (n : ℕ) (seen old : Kept) (sum new : ℕ) → seen ≡ old → seen.comparisons ≡ min sum greatest → sum ≤ new → new ≤ sum + n * search_bound seen.jobs
     → (old.comparisons ≤ min new greatest) × (min new greatest ≤ old.comparisons + n * search_bound old.jobs)
 few_more n seen old sum new e is l u =

@@ -60,7 +60,7 @@ module _ (s : Parts) (h : AreShelved s) where
       rank_is timer_laws.total-law t timer_place timer_own (is_timed t) (moment_of t) (timed t) (timed_numbered t)
       0 (2 ^ 64) (jobs_of s.by_id.entries) s.by_id.spare s.timers h.in_timers h.ids h.in_timers.sorted
 
--- the id in the pair is that of the first
+-- the id in the pair is the id of the first job
 second_of : (number : Job → ℕ) (o : Option Job) → option_map (λ (p : ℕ × ℕ). p.1) (option_map (ranked number) o) ≡ option_map (λ j. j.id) o
 second_of number None = refl
 second_of number (Some j) = refl

@@ -1,4 +1,4 @@
--- The first place of a group is that of the first job.
+-- The first place of a group is the place of its first job.
 use Rattle.std.proofs.Common.{◌≡◌, ℕ, Bool, true, false, List, Option, Some, None, arith, refl, sym, ap, ◌∙◌, subst, inl, inr}
 use Rattle.std.specs.Prelude.{is_some, ◌==◌}
 use Rattle.std.specs.declared.cmp.Ordering.{Ordering}
@@ -23,7 +23,7 @@ use Rattle.bq_jobs.proofs.Changes.{found_by_id, found_id}
 use Rattle.bq_jobs.proofs.Choice.{equal_from, found_below, from_found, from_least, from_not_below, none_below, numbers_tie, pair_not_after, then_equal_first, then_equal_second, then_not_greater}
 use Rattle.bq_jobs.proofs.Orders.{held_place}
 
--- whether a place is of the group
+-- whether a place is in the group
 abbrev pub in_group : {G : Type 0} → (G → G → Ordering) → G → Option (ShelfPlace G) → Bool
 in_group C g None = false
 in_group C g (Some p) = is_eq (C g p.group)
@@ -36,7 +36,8 @@ false_or : (b : Bool) → (b ≡ true → ⊥) → b ≡ false
 false_or true h = absurd (h refl)
 false_or false h = refl
 
--- one group is below another where the first place of it is not above the other's places
+-- if the front of one group is not above a place of another group, the first group is below the
+-- other
 then_less : (a b : Ordering) → is_gt (ordering_then a b) ≡ false → is_eq a ≡ false → a ≡ Less
 then_less Less b h n = refl
 then_less Equal b h n = absurd cc
@@ -57,7 +58,7 @@ module _ {G : Type 0} {C : G → G → Ordering} (o : IsTotalOrder C) (g : G) wh
       then_not_greater (C g p.group) (ordering_then (nat_cmp 0 p.at) (nat_cmp 0 p.id)) (ap is_gt (equal_from (C g p.group) h))
       (then_not_greater (nat_cmp 0 p.at) (nat_cmp 0 p.id) (none_below p.at) (none_below p.id))
 
-  -- a place between the front and a place of the group is of the group
+  -- every place between the front and a place of the group is in the group
   between : (k q : ShelfPlace G) → is_gt (place_cmp C (front C g) k) ≡ false → is_gt (place_cmp C k q) ≡ false → is_eq (C g q.group) ≡ true → is_eq (C g k.group) ≡ true
   between k q l u h =
       elim (cases_Bool (is_eq (C g k.group))) [
@@ -74,7 +75,7 @@ module _ {G : Type 0} {C : G → G → Ordering} (o : IsTotalOrder C) (g : G) wh
       (passes : Job → Bool) (number : Job → ℕ)
       (grouped : (j : Job) → passes j ≡ in_group C g (place_of j))
       (numbered : (j : Job) (p : ShelfPlace G) → place_of j ≡ Some p → passes j ≡ true → p.at ≡ number j) where
-    -- what a job that passes has
+    -- a job that passes, and its place
     record Placed (j : Job) : Type 0 where
       place : ShelfPlace G
       is : place_of j ≡ Some place
@@ -107,21 +108,21 @@ module _ {G : Type 0} {C : G → G → Ordering} (o : IsTotalOrder C) (g : G) wh
       none_passes never =
           first_of_none_passes passes before jobs (list_any_not passes jobs (all_from_members (λ j. passes j ≡ false) jobs (λ j i. false_or (passes j) (λ t. never j i (placed j t)))))
 
-      -- no place from the front on
+      -- there is no place from the front on
       none_first : entry_from (place_cmp C (front C g)) order.entries ≡ None → first_of passes before jobs ≡ None
       none_first n = none_passes (λ j i p.
           let below = found_below (place_total o) (front C g) p.place order.entries n (held j i p.place p.is) in
           let from = front_first p.place p.group in
           absurd (cc))
 
-      -- the first place from the front on is that of another group
+      -- the first place from the front on is in another group
       none_of_group : (e : ShelfPlace G × Unit {0}) → entry_from (place_cmp C (front C g)) order.entries ≡ Some e → is_eq (C g e.0.group) ≡ false → first_of passes before jobs ≡ None
       none_of_group e n apart = none_passes (λ j i p.
           let above = from_least (place_total o) (front C g) p.place e order.entries s n (held j i p.place p.is) (front_first p.place p.group) in
           let same = between e.0 p.place (from_not_below (place_total o) (front C g) e order.entries n) above p.group in
           absurd (cc))
 
-      -- the job whose place is held
+      -- the job of a place in the order
       record Standing (q : ShelfPlace G) : Type 0 where
         job : Job
         found : job_with q.id jobs ≡ Some job
@@ -179,6 +180,7 @@ module _ {G : Type 0} {C : G → G → Ordering} (o : IsTotalOrder C) (g : G) wh
             | inr t ↦ rw t (sym (ap (option_map (ranked number)) (none_of_group e n t)))
           ]
 
-      -- the number and the id at the first place of the group are those of the first job that passes
+      -- the number and the id at the first place of the group are those of the first job that
+      -- passes
       pub rank_is : first_rank C g order.entries ≡ option_map (ranked number) (first_of passes (λ a b. is_pair_before (number a) a.id (number b) b.id) jobs)
       rank_is = rank_by (entry_from (place_cmp C (front C g)) order.entries) refl

@@ -1,4 +1,4 @@
--- The orders of places, and what passes in each.
+-- The orders of places, and the jobs that pass the test of each.
 use Rattle.std.proofs.Common.{◌≡◌, ◌<◌, ◌+◌, ◌*◌, ℕ, suc, true, false, ◌&&◌, List, [], ◌∷◌, Option, Some, None, length, arith, refl, sym, ap, ◌∙◌, inl, inr}
 use Rattle.std.specs.Prelude.{◌==◌}
 use Rattle.std.specs.Option.{IfSome}
@@ -33,7 +33,7 @@ group_cmp = group_ord.ghosts.cmp
 abbrev pub timer_cmp : Timer → Timer → Ordering
 timer_cmp = timer_ord.ghosts.cmp
 
--- names of other lengths are other names
+-- equal names have equal lengths
 same_length : (a b : List ℕ) → is_same_name a b ≡ true → length a ≡ length b
 same_length [] [] h = refl
 same_length [] (y ∷ b) h = absurd cc
@@ -50,7 +50,7 @@ then_on Less b h = absurd cc
 then_on Equal b h = refl
 then_on Greater b h = absurd cc
 
--- names tie where they are the same
+-- names compare equal exactly if they are the same
 pub name_ties : (a b : List ℕ) → is_same_name a b ≡ is_eq (name_cmp a b)
 name_ties a b =
     elim (cases_Bool (length b == length a)) [
@@ -66,7 +66,7 @@ then_second Less b h = refl
 then_second Equal b h = h
 then_second Greater b h = refl
 
--- lists of one kind are the same where their tubes are,
+-- lists of one kind are the same exactly if their tubes are,
 list_ties : (k : ℕ) (a b : List ℕ) → is_same_name a b ≡ is_eq (ordering_then (nat_cmp (number_in a * 4 + k) (number_in b * 4 + k)) (name_cmp a b))
 list_ties k a b =
     let m = number_in a * 4 + k in
@@ -78,7 +78,7 @@ list_ties k a b =
       | inr e ↦ e ∙ sym (then_second (nat_cmp m n) (name_cmp a b) (sym (name_ties a b) ∙ e))
     ]
 
--- those of a client where their seats are,
+-- lists of clients exactly if their seats are,
 held_ties : (seat holder : ℕ) → (holder == seat) ≡ is_eq (ordering_then (nat_cmp (seat * 4 + 3) (holder * 4 + 3)) Equal)
 held_ties seat holder =
     let m = seat * 4 + 3 in
@@ -88,7 +88,7 @@ held_ties seat holder =
       | inr e ↦ e ∙ sym (then_apart (nat_cmp m n) Equal (is_eq_nat m n ∙ grind (arith, nat_tests)))
     ]
 
--- and those of two kinds never.
+-- and lists of two kinds never are.
 apart : (a b i k : ℕ) (x : Ordering) → i < 4 → k < 4 → (k == i) ≡ false → false ≡ is_eq (ordering_then (nat_cmp (a * 4 + i) (b * 4 + k)) x)
 apart a b i k x few less other =
     sym (then_apart (nat_cmp (a * 4 + i) (b * 4 + k)) x (is_eq_nat (a * 4 + i) (b * 4 + k) ∙ elim (cases_Bool (b * 4 + k == a * 4 + i)) [
@@ -115,7 +115,7 @@ group_own j = own_group j.state j
 pub timer_own : (j : Job) → IfSome (timer_place j) (λ p. p.id ≡ j.id)
 timer_own j = own_timer j.state j
 
--- what passes is of the group
+-- a job passes the test of a group exactly if its place is in the group
 pub ready_grouped : (tube : List ℕ) (s : JobState) (j : Job) → (is_ready_state s && is_same_name tube j.tube) ≡ in_group group_cmp (list_of tube lists.Ready) (in_groups s j)
 ready_grouped tube states.Ready j = list_ties 0 tube j.tube
 ready_grouped tube (states.Delayed due) j = apart (number_in tube) (number_in j.tube) 0 1 (name_cmp tube j.tube) (omega arith) (omega arith) refl
@@ -152,7 +152,7 @@ held_grouped seat (states.Delayed due) j = apart seat (number_in j.tube) 3 1 (na
 held_grouped seat (states.Reserved holder deadline) j = held_ties seat holder
 held_grouped seat (states.Buried number) j = apart seat (number_in j.tube) 3 2 (name_cmp [] j.tube) (omega arith) (omega arith) refl
 
--- by which number
+-- the number that orders the jobs of a group
 at_of : {G : Type 0} → Option (ShelfPlace G) → ℕ
 at_of None = 0
 at_of (Some p) = p.at

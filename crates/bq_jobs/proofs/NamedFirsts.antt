@@ -1,4 +1,4 @@
--- The first of the jobs by the names of their tubes is the first of the records.
+-- The first job by names of tubes is the first record by numbers.
 use Rattle.std.proofs.Common.{◌≡◌, ℕ, Bool, false, ◌&&◌, List, [], ◌∷◌, Option, Some, None, map, refl, ap, ◌∙◌, inl, inr}
 use Rattle.std.specs.Prelude.{fold}
 use Rattle.std.specs.List.{AllByRecursion as All}
@@ -36,7 +36,7 @@ module _ (f : Job → Job) (passes test : Job → Bool) (before : Job → Job �
   first_named : (rows : List Job) → All (λ j. passes (f j) ≡ test j) rows → first_of passes before (map f rows) ≡ option_map f (first_of test before rows)
   first_named rows all = fold_named rows all None
 
--- Its number and its id are the same, where they don't depend on the name,
+-- Its number and its id are the same, if they do not depend on the name,
 module _ (k : Numbering) (passes test : Job → Bool) (number : Job → ℕ) (same : (j : Job) → number (named k j) ≡ number j) where
   alike : (a b : Job) → is_pair_before (number (named k a)) a.id (number (named k b)) b.id ≡ is_pair_before (number a) a.id (number b) b.id
   alike a b = ap (λ n. is_pair_before n a.id (number (named k b)) b.id) (same a) ∙ ap (λ n. is_pair_before (number a) a.id n b.id) (same b)
@@ -50,7 +50,7 @@ module _ (k : Numbering) (passes test : Job → Bool) (number : Job → ℕ) (sa
       of None = refl
       of (Some j) = ap (λ n. Some (n, j.id)) (same j)
 
--- as in a list of a tube that is known,
+-- as in a list of a registered tube,
 pub listed_told : (k : Numbering) (h : IsPaired k) (name : List ℕ) (n : ℕ) → number_of name k ≡ Some n → (list : JobList) (rows : List Job) → AreNumbered k rows
     → first_held (list_of name list) (map (named k) rows) ≡ first_held (list_of (n ∷ []) list) rows
 unfolding first_held
@@ -71,7 +71,7 @@ unfolding first_timed
 timed_told k timers.Due rows = first_told k (is_timed timers.Due) (is_timed timers.Due) (moment_of timers.Due) (λ j. refl) rows (all_alike (is_timed timers.Due) rows)
 timed_told k timers.Lease rows = first_told k (is_timed timers.Lease) (is_timed timers.Lease) (moment_of timers.Lease) (λ j. refl) rows (all_alike (is_timed timers.Lease) rows)
 
--- In a tube that isn't known there is none.
+-- A tube that is not registered has no first job.
 none_first : (f : Job → Job) (passes : Job → Bool) (before : Job → Job → Bool) (rows : List Job) → All (λ j. passes (f j) ≡ false) rows
     → first_of passes before (map f rows) ≡ None
 none_first f passes before [] all = refl

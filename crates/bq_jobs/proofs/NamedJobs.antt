@@ -1,4 +1,4 @@
--- Jobs by the names of their tubes are what they are by their numbers.
+-- Operations on jobs by the names of their tubes agree with those on records by numbers.
 use Rattle.std.proofs.Common.{◌≡◌, ◌+◌, ◌*◌, ◌≤◌, ℕ, suc, length, Bor, Bool, true, false, ◌&&◌, ◌||◌, List, [], ◌∷◌, Option, Some, None, is_some, map, refl, sym, ap, ◌∙◌, subst, inl, inr}
 use Rattle.std.specs.Prelude.{◌==◌, nat_lt, unwrap_or, if◌then◌else◌, is_ok, Result, Ok, Err, IfOk}
 use Rattle.std.specs.Cmp.Lexicographic.{bytes_decides}
@@ -31,7 +31,7 @@ same_itself : (a : List ℕ) → is_same_name a a ≡ true
 same_itself a = (bytes_decides a a).1 refl
 
 module _ (k : Numbering) (h : IsPaired k) (name : List ℕ) where
-  -- the name of a tube is this one where its number is,
+  -- a tube has this name exactly if it has its number,
   told_by : (n m : ℕ) → number_of name k ≡ Some n → (o : Option (List ℕ)) → name_of m k ≡ o → is_some o ≡ true
       → is_same_name name (unwrap_or o []) ≡ is_same_name (n ∷ []) (m ∷ [])
   told_by n m own None its some = absurd cc
@@ -58,7 +58,7 @@ module _ (k : Numbering) (h : IsPaired k) (name : List ℕ) where
   tube_told : (n : ℕ) → number_of name k ≡ Some n → (j : Job) → IsNumbered k j → is_same_name name (named k j).tube ≡ is_same_name (n ∷ []) j.tube
   tube_told n own j is = told_by n (number_in j.tube) own (name_of (number_in j.tube) k) refl is.1 ∙ ap (is_same_name (n ∷ [])) (sym is.0)
 
-  -- and no tube has it that isn't known.
+  -- and if no tube has the name, no number has it
   not_told_by : number_of name k ≡ None → (m : ℕ) (o : Option (List ℕ)) → name_of m k ≡ o → is_some o ≡ true → is_same_name name (unwrap_or o []) ≡ false
   not_told_by none m None its some = absurd cc
   not_told_by none m (Some other) its some = elim (cases_Bool (is_same_name name other)) [
@@ -72,7 +72,7 @@ module _ (k : Numbering) (h : IsPaired k) (name : List ℕ) where
   tube_not_told : number_of name k ≡ None → (j : Job) → IsNumbered k j → is_same_name name (named k j).tube ≡ false
   tube_not_told none j is = not_told_by none (number_in j.tube) (name_of (number_in j.tube) k) refl is.1
 
-  -- what passes a test of its state and is in the tube
+  -- the jobs that pass a test of their state and are in the tube
   pub all_told : (n : ℕ) → number_of name k ≡ Some n → (test : Job → Bool) (rows : List Job) → AreNumbered k rows
       → All (λ j. (test j && is_same_name name (named k j).tube) ≡ (test j && is_same_name (n ∷ []) j.tube)) rows
   all_told n own test [] all = tt
@@ -87,7 +87,7 @@ module _ (k : Numbering) (h : IsPaired k) (name : List ℕ) where
       and_false true = refl
       and_false false = refl
 
--- Additions, removals and changes are those of the records.
+-- Additions, removals and changes of jobs are those of their records.
 added_named : (k : Numbering) (j : Job) (rows : List Job) → with_added (named k j) (map (named k) rows) ≡ map (named k) (with_added j rows)
 added_named k j [] = refl
 added_named k j (r ∷ rows) = elim (cases_Bool (nat_lt r.id j.id)) [
@@ -103,7 +103,7 @@ without_named k id (r ∷ rows) = elim (cases_Bool (r.id == id)) [
 ]
 
 module _ (k : Numbering) (id : ℕ) (f : Job → Job) (ignores : IgnoresTube f) where
-  -- the same whatever the tube is called
+  -- a change does not depend on the name of the tube
   edited_named : (j : Job) → f (named k j) ≡ named k (f j)
   edited_named j = ignores j (named k j).tube ∙ ap (λ tube. record (f j) { tube = unwrap_or (name_of (number_in tube) k) [] }) (sym (stays_in f ignores j))
 
@@ -114,11 +114,11 @@ module _ (k : Numbering) (id : ℕ) (f : Job → Job) (ignores : IgnoresTube f) 
     | inr e ↦ rw e (ap (λ ks. named k r ∷ ks) (changed_named rows))
   ]
 
--- the job of an id is its record's
+-- the job that an id finds is the job of the record that it finds
 pub job_named : (k : Numbering) (id : ℕ) (rows : List Job) → job_with id (map (named k) rows) ≡ option_map (named k) (job_with id rows)
 job_named k id rows = job_in_map (named k) id rows (λ j. refl)
 
--- All stay numbered.
+-- All records stay numbered.
 pub numbered_added : (k : Numbering) (j : Job) (rows : List Job) → IsNumbered k j → AreNumbered k rows → AreNumbered k (with_added j rows)
 numbered_added k j [] is all = (is, tt)
 numbered_added k j (r ∷ rows) is all = elim (cases_Bool (nat_lt r.id j.id)) [
@@ -143,7 +143,7 @@ numbered_changed k id f ignores (r ∷ rows) all = elim (cases_Bool (r.id == id)
   | inr e ↦ rw e (all.0, numbered_changed k id f ignores rows all.1)
 ]
 
--- the record of an id is numbered
+-- the record that an id finds is numbered
 pub numbered_there : (k : Numbering) (id : ℕ) (rows : List Job) (j : Job) → AreNumbered k rows → job_with id rows ≡ Some j → IsNumbered k j
 numbered_there k id [] j all e = absurd cc
 numbered_there k id (r ∷ rows) j all e = elim (cases_Bool (r.id == id)) [
@@ -167,7 +167,7 @@ told_rows k id rows all = of (job_with id rows) refl ∙ sym (job_named k id row
 pub ids_named : (k : Numbering) (low next : ℕ) (rows : List Job) → AreIdsWithin low rows next → AreIdsWithin low (map (named k) rows) next
 ids_named k low next rows ids = ids_of_map (named k) low next rows (λ j. refl) ids
 
--- no record, no job
+-- an id without a job has no record
 pub none_named : (k : Numbering) (id : ℕ) (rows : List Job) → job_with id (map (named k) rows) ≡ None → job_with id rows ≡ None
 none_named k id rows e = of (job_with id rows) (sym (job_named k id rows) ∙ e)
   where
@@ -175,7 +175,7 @@ none_named k id rows e = of (job_with id rows) (sym (job_named k id rows) ∙ e)
     of None e = refl
     of (Some j) e = absurd cc
 
--- a job that was given the number of its tube
+-- the record of a job, with the number of its tube
 pub numbered_row : (k : Numbering) (h : IsPaired k) (j : Job) (n : ℕ) → number_of j.tube k ≡ Some n → IsNumbered k (record j { tube = n ∷ [] })
 numbered_row k h j n own = (refl, ap is_some (h.there j.tube n own))
 
@@ -186,7 +186,7 @@ pub row_added : (k : Numbering) (h : IsPaired k) (j : Job) (n : ℕ) → number_
     → with_added j (map (named k) rows) ≡ map (named k) (with_added (record j { tube = n ∷ [] }) rows)
 row_added k h j n own rows = ap (λ i. with_added i (map (named k) rows)) (sym (row_named k h j n own)) ∙ added_named k (record j { tube = n ∷ [] }) rows
 
--- what is told of a changed record is told of the job
+-- the report about a changed record is the report about its job
 module _ (k : Numbering) (id : ℕ) (f : Job → Job) (ignores : IgnoresTube f) where
   moved_by_name : (j : Job) (o : Option (List ℕ)) → is_some o ≡ true
       → option_map (moved_in (row_moved_by f j)) o ≡ Some (record { tube = unwrap_or o []; from = standing j; to = standing (named k (f j)) })
@@ -203,7 +203,7 @@ module _ (k : Numbering) (id : ℕ) (f : Job → Job) (ignores : IgnoresTube f) 
           moved_by_name j (name_of (number_in j.tube) k) ((numbered_there k id rows j all there).1)
           ∙ ap (λ i. Some (record { tube = (named k j).tube; from = standing j; to = standing i })) (sym (edited_named k id f ignores j))
 
--- A tube more that is known changes no job's.
+-- Registering a tube does not change the tubes of the jobs.
 pub numbered_known : (k : Numbering) (h : IsPaired k) (name : List ℕ) (rows : List Job) → AreNumbered k rows → AreNumbered (with_known name k) rows
 numbered_known k h name [] all = tt
 numbered_known k h name (j ∷ rows) all = ((all.0.0, ap is_some (name_kept k h name (number_in j.tube) all.0.1) ∙ all.0.1), numbered_known k h name rows all.1)
@@ -214,7 +214,7 @@ named_known k h name (j ∷ rows) all =
     ap (λ o. record j { tube = unwrap_or o [] } ∷ map (named (with_known name k)) rows) (name_kept k h name (number_in j.tube) all.0.1)
     ∙ ap (λ js. named k j ∷ js) (named_known k h name rows all.1)
 
--- Nor does one less, of which there is no job.
+-- Neither does removing a tube that has no jobs.
 module _ (k : Numbering) (h : IsPaired k) (name : List ℕ) where
   stays_by : (m : ℕ) (o : Option (List ℕ)) → name_of m k ≡ o → is_some o ≡ true → is_same_name name (unwrap_or o []) ≡ false → name_of m (without_known name k) ≡ name_of m k
   stays_by m None its some apart = absurd cc
@@ -236,7 +236,7 @@ module _ (k : Numbering) (h : IsPaired k) (name : List ℕ) where
       ap (λ o. record j { tube = unwrap_or o [] } ∷ map (named (without_known name k)) rows) (stays_named j all.0 both.0)
       ∙ ap (λ js. named k j ∷ js) (named_left rows all.1 both.1)
 
--- The same of a call that was refused the memory for it, or wasn't.
+-- The same for a registration that may fail for lack of memory.
 abbrev pub known_if : Bool → List ℕ → Numbering → Numbering
 known_if b name k = if b then with_known name k else k
 
@@ -284,7 +284,7 @@ no_tube_named k id rows e = of (job_with id rows) e ∙ ap (option_map (λ j. j.
     of None e = refl
     of (Some j) e = absurd cc
 
--- a record is the job but for its tube
+-- without its tube, a record is its job
 pub but_named : (k : Numbering) (id : ℕ) (rows : List Job) → option_map but_for_tube (job_with id rows) ≡ option_map but_for_tube (job_with id (map (named k) rows))
 but_named k id rows = of (job_with id rows) ∙ ap (option_map but_for_tube) (sym (job_named k id rows))
   where
@@ -292,7 +292,7 @@ but_named k id rows = of (job_with id rows) ∙ ap (option_map but_for_tube) (sy
     of None = refl
     of (Some j) = refl
 
--- the look at a record and the look at the job
+-- a reference to a record and a reference to its job show the same
 pub same_looks : (r : Option (Bor Job)) → option_map (λ row. but_for_tube row.now) r ≡ option_map but_for_tube (option_map (λ j. j.now) r)
 same_looks None = refl
 same_looks (Some row) = refl
@@ -301,13 +301,13 @@ length_named : (k : Numbering) (rows : List Job) → length (map (named k) rows)
 length_named k [] = refl
 length_named k (j ∷ rows) = ap suc (length_named k rows)
 
--- As many comparisons are those of a search among the jobs.
+-- A bound on the comparisons for records is a bound for their jobs.
 pub counted_as : (k : Numbering) (rows old new : Kept) → kept_named rows k ≡ old → ComparesAtMost 1 rows new → ComparesAtMost 1 old new
 counted_as k rows old new is few =
     subst (λ (m : Kept). ComparesAtMost 1 m new) is
     (few.0, subst (λ n. new.comparisons ≤ rows.comparisons + 1 * (2 * binary_digits (2 * n + 2))) (sym (length_named k rows.jobs)) few.1)
 
--- Of the record of a job, what is told is told of the job.
+-- The record of a job.
 record IsNamedFrom (k : Numbering) (o : Option Job) (j : Job) : Type 0 where
   row : Job
   there : o ≡ Some row
@@ -353,7 +353,7 @@ pub body_told : {E : Type 0} (k : Numbering) (id : ℕ) (rows : List Job) (r : R
 body_told k id rows (Ok body) is = body_is k id rows body is
 body_told k id rows (Err e) is = tt
 
--- what the search takes for an addition, a removal, a change and a share
+-- what the search takes for an addition, a removal, a change and another reference to a body
 pub ruleset additions = (ids_named, none_named, numbered_added, numbered_row, row_added)
 
 pub ruleset removals = (job_named, numbered_without, some_named, told_rows, without_named)

@@ -1,4 +1,5 @@
--- Jobs with the names of their tubes lie as the records with their numbers do, and what is known of those holds of them.
+-- Jobs with the names of their tubes are kept as the records with numbers are, so the lemmas about
+-- records apply to them.
 use Rattle.std.proofs.Common.{◌≡◌, ℕ, Some, None}
 use Rattle.std.specs.Ordering.{nat_cmp}
 use Rattle.std.specs.Map.{lookup, remove_entry}

@@ -1,4 +1,4 @@
--- What comes of the tubes that are known.
+-- Consequences of the numbering of tubes.
 use Rattle.std.proofs.Common.{◌≡◌, ◌≤◌, ◌<◌, ◌+◌, ◌^◌, ℕ, Bool, true, false, cond, if◌then◌else◌, List, Option, Some, None, is_some, arith, refl, sym, ap, ◌∙◌, subst, inl, inr}
 use Rattle.std.specs.Prelude.{nat_lt, IfSome}
 use Rattle.std.specs.BTreeMap.{is_at, insert_entry}
@@ -14,7 +14,7 @@ use Rattle.bq_jobs.specs.Numbering.{IsPaired, Numbering, name_of, names_without,
 use Rattle.bq_jobs.proofs.ById.{is_eq_nat}
 use Rattle.bq_jobs.proofs.Choice.{lookup_inserted, lookup_removed}
 
--- names that tie are the same
+-- names that compare equal are the same
 pub tied_names : (a b : List ℕ) → is_eq (slice_cmp nat_cmp a b) ≡ true → a ≡ b
 tied_names a b e = (bytes_decides a b).0 (texts_ties a b ∙ e)
 
@@ -45,7 +45,7 @@ module _ (k : Numbering) (h : IsPaired k) (name : List ℕ) where
     name_then : (n : ℕ) → name_of n (paired_with name k) ≡ cond (is_eq (nat_cmp n k.next)) (Some name) (name_of n k)
     name_then n = lookup_inserted nat_cmp_total n k.next name k.names free
 
-    -- what has a name has it still
+    -- a number that has a name keeps it
     pub names_stay : (n : ℕ) → is_some (name_of n k) ≡ true → name_of n (paired_with name k) ≡ name_of n k
     names_stay n some = elim (cases_Bool (is_eq (nat_cmp n k.next))) [
       | inl e ↦ absurd (let is = tied_numbers n k.next e in let none : name_of n k ≡ None = ap (λ i. name_of i k) is ∙ free in let g = rw none at some in cc)
@@ -150,7 +150,7 @@ module _ (k : Numbering) (h : IsPaired k) (name : List ℕ) where
   pub removed_is_paired : IsPaired (without_known name k)
   removed_is_paired = removed_by (number_of name k) refl
 
--- the same, of whatever has these lists
+-- the same for any value with these lists
 pub paired_to : (k new : Numbering) (name : List ℕ) → IsPaired k → number_of name k ≡ None → k.next < 2 ^ 62
     → new.numbers ≡ insert_entry (slice_cmp nat_cmp) k.numbers name k.next → new.names ≡ insert_entry nat_cmp k.names k.next name → new.next ≡ k.next + 1 → IsPaired new
 paired_to k new name h absent few numbers names next =
@@ -161,7 +161,7 @@ pub removed_to : (k new : Numbering) (name : List ℕ) (o : Option ℕ) → IsPa
 removed_to k new name o h own numbers names next =
     subst IsPaired (λ i. record { numbers = sym numbers i; names = sym names i; next = sym next i }) (removed_by k h name o own)
 
--- A number of a tube is small.
+-- The number of a tube is small.
 pub number_few : (k : Numbering) (name : List ℕ) (o : Option ℕ) → IsPaired k → number_of name k ≡ o → IfSome o (λ n. n < 2 ^ 62)
 number_few k name None h own = tt
 number_few k name (Some n) h own = elim (cases_Bool (nat_lt n k.next)) [
@@ -169,7 +169,7 @@ number_few k name (Some n) h own = elim (cases_Bool (nat_lt n k.next)) [
   | inr e ↦ absurd (let above : k.next ≤ n = grind (arith, nat_tests) in let none = h.fresh n above in let there = h.there name n own in cc)
 ]
 
--- What is known of the others stays.
+-- The other tubes keep their names and numbers.
 module _ (k : Numbering) (h : IsPaired k) (name : List ℕ) where
   kept_by : (b : Bool) → is_some (number_of name k) ≡ b → (n : ℕ) → is_some (name_of n k) ≡ true → name_of n (if b then k else paired_with name k) ≡ name_of n k
   kept_by true e n some = refl
@@ -216,14 +216,14 @@ module _ (k : Numbering) (h : IsPaired k) (name : List ℕ) where
     | inr t ↦ taken_then k h name n m ∙ rw t refl
   ]
 
-  -- where a tube is forgotten, the others keep their names,
+  -- when a tube is removed, the others keep their names
   pub name_left : (m : ℕ) (other : List ℕ) → name_of m k ≡ Some other → is_same_name name other ≡ false → name_of m (without_known name k) ≡ name_of m k
   name_left = left_by (number_of name k) refl
 
-  -- and are known as before;
+  -- and their numbers,
   pub number_left : (other : List ℕ) → is_same_name name other ≡ false → number_of other (without_known name k) ≡ number_of other k
   number_left other apart = removed_then k h name other ∙ (let t : is_eq (slice_cmp nat_cmp name other) ≡ false = sym (texts_ties name other) ∙ apart in rw t refl)
 
-  -- it has no number.
+  -- and the removed one has no number.
   pub number_gone : number_of name (without_known name k) ≡ None
   number_gone = removed_then k h name name ∙ rw (tie_names name name refl) refl

@@ -25,7 +25,7 @@ use Rattle.bq_jobs.proofs.Changes.{count_added, count_without, found_among_added
 use Rattle.bq_jobs.proofs.Counting.{search_is_bounded}
 use Rattle.bq_jobs.proofs.Choice.{equal_from, lookup_inserted, lookup_removed, numbers_tie, then_equal_second}
 
--- no more are counted than there are
+-- at most all jobs are counted
 pub count_few : (p : Job → Bool) (jobs : List Job) → count_by p jobs ≤ length jobs
 count_few p [] = omega arith
 count_few p (j ∷ jobs) = rw (count_cons p j jobs) (elim (cases_Bool (p j)) [
@@ -52,12 +52,13 @@ fewer_entries test (e ∷ es) = elim (cases_Bool (test e.0)) [
   | inr kept ↦ rw kept (omega (arith, fewer_entries test es))
 ]
 
--- without a place there are no more
+-- removing a place, if there is one, does not add any
 pub fewer_places : {G : Type 0} (C : G → G → Ordering) (place : Option (ShelfPlace G)) (es : List (ShelfPlace G × Unit {0})) → length (without_place C place es) ≤ length es
 fewer_places C None es = omega arith
 fewer_places C (Some p) es = fewer_entries (is_at (place_cmp C p)) es
 
--- What a move from one place to another needs: the first is held, there is a box for the other, and it is free then.
+-- What a move from one place to another needs: the first place is taken, there is a box for the
+-- second, and the second will be free.
 pub record CanMove {G : Type 0} (C : G → G → Ordering) (from to : Option (ShelfPlace G)) (order : Order G) : Type 0 where
   pub held : (p : ShelfPlace G) → from ≡ Some p → is_some (holds_place C p order.entries) ≡ true
   pub spare : (p : ShelfPlace G) → to ≡ Some p → 0 < order.spare + cond (is_some from) 1 0
@@ -68,7 +69,7 @@ own_id j None h p e = absurd cc
 own_id j (Some q) h p e = let is : q ≡ p = (cc) in subst (λ z. z.id ≡ j.id) is h
 
 module _ {G : Type 0} {C : G → G → Ordering} (o : IsTotalOrder C) where
-  -- places that tie are of one job
+  -- places that compare equal belong to one job
   pub same_id : (p q : ShelfPlace G) → is_eq (place_cmp C p q) ≡ true → p.id ≡ q.id
   same_id p q h = numbers_tie p.id q.id (then_equal_second (nat_cmp p.at q.at) (nat_cmp p.id q.id) (then_equal_second (C p.group q.group) (ordering_then (nat_cmp p.at q.at) (nat_cmp p.id q.id)) (equal_from (place_cmp C p q) h)))
 
@@ -90,24 +91,24 @@ module _ {G : Type 0} {C : G → G → Ordering} (o : IsTotalOrder C) where
       ]
 
   module _ (place_of : Job → Option (ShelfPlace G)) (own : (j : Job) → IfSome (place_of j) (λ p. p.id ≡ j.id)) where
-    -- there is a box for a place, where there is room for a job
+    -- if there is room for a job, there is a box for its place
     pub has_spare : (jobs : List Job) (room : ℕ) (order : Order G) → IsOrderOf C place_of jobs room order → 0 < room → 0 < order.spare
     has_spare jobs room order h r = omega (arith, h.roomy, h.counted, count_few (λ j. is_some (place_of j)) jobs, r)
 
-    -- the places of a job that is not there are free
+    -- if a job is absent, its places are free
     pub absent_place : (j : Job) (jobs : List Job) (room : ℕ) (order : Order G) → IsOrderOf C place_of jobs room order → job_with j.id jobs ≡ None → (p : ShelfPlace G) → p.id ≡ j.id → holds_place C p order.entries ≡ None
     absent_place j jobs room order h free p same =
         let found : job_with p.id jobs ≡ None = rw same free in
         none_from (holds_place C p order.entries) (h.places p ∙ ap (has_place C place_of p) found)
 
-    -- the place of a job that is there is taken
+    -- if a job is present, its place is taken
     pub held_place : (id : ℕ) (j : Job) (jobs : List Job) (room : ℕ) (order : Order G) → IsOrderOf C place_of jobs room order → job_with id jobs ≡ Some j → (p : ShelfPlace G) → place_of j ≡ Some p → is_some (holds_place C p order.entries) ≡ true
     held_place id j jobs room order h found p e =
         let same : p.id ≡ id = own_id j (place_of j) (own j) p e ∙ found_id id jobs j found in
         let found_then : job_with p.id jobs ≡ Some j = rw same found in
         h.places p ∙ ap (has_place C place_of p) found_then ∙ ap (is_place C p) e ∙ ap is_eq (tied_itself (place_total o) p)
 
-    -- places stay in order where one comes or goes
+    -- places stay ordered when one is added or removed
     sorted_with : (place : Option (ShelfPlace G)) (es : List (ShelfPlace G × Unit {0})) → InOrder (place_cmp C) es → InOrder (place_cmp C) (with_place C place es)
     sorted_with None es s = s
     sorted_with (Some p) es s = order_insert (place_total o) p tt es s
@@ -210,13 +211,13 @@ module _ {G : Type 0} {C : G → G → Ordering} (o : IsTotalOrder C) where
           sorted = subst (InOrder (place_cmp C)) (sym entries) (sorted_without (place_of j) order.entries h.sorted);
         }
 
-    -- where a job goes from its place to that of k, which has its id
+    -- a job moves from its place to that of k, which has the same id
     module _ (low next id : ℕ) (j k : Job) (jobs : List Job) (room : ℕ) (order : Order G) (h : IsOrderOf C place_of jobs room order)
         (ids : AreIdsWithin low jobs next) (found : job_with id jobs ≡ Some j) (same : k.id ≡ id) where
       abbrev left : Order G
       left = record { entries = without_place C (place_of j) order.entries; spare = order.spare + cond (is_some (place_of j)) 1 0; comparisons = order.comparisons }
 
-      -- once it left
+      -- the order after the job has left its place
       once_left : IsOrderOf C place_of (without id jobs) (room + 1) left
       once_left = order_removed low next id j jobs room (room + 1) order left h ids found refl refl refl
 
@@ -229,7 +230,7 @@ module _ {G : Type 0} {C : G → G → Ordering} (o : IsTotalOrder C) where
       absent_then : (p : ShelfPlace G) → place_of k ≡ Some p → holds_place C p (without_place C (place_of j) order.entries) ≡ None
       absent_then p e = absent_place k (without id jobs) (room + 1) left once_left free_then p (own_id k (place_of k) (own k) p e)
 
-      -- so it can move
+      -- so the job can move
       pub can_move : (from to : Option (ShelfPlace G)) → from ≡ place_of j → to ≡ place_of k → CanMove C from to order
       can_move from to left entered = record {
         held = λ p e. held_place id j jobs room order h found p (sym left ∙ e);

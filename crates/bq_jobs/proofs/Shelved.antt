@@ -1,4 +1,4 @@
--- What additions, removals and growths leave of what is kept.
+-- What is kept after additions, removals and allocations.
 use Rattle.std.proofs.Common.{◌≡◌, ℕ, suc, ◌+◌, ◌<◌, ◌≤◌, ◌^◌, ◌*◌, List, [], ◌∷◌, Some, None, map, length, cond, arith, refl, sym, ap, ◌∙◌, subst, inl, inr}
 use Rattle.std.specs.Prelude.{is_some, ◌==◌}
 use Rattle.std.specs.Ordering.{nat_cmp}
@@ -48,15 +48,15 @@ length_jobs : (es : List (ℕ × Job)) → length (jobs_of es) ≡ length es
 length_jobs [] = refl
 length_jobs (e ∷ es) = ap suc (length_jobs es)
 
--- a search among the jobs by their ids
+-- the comparisons of a search for an id
 pub id_search : (by_id : ById) → 2 * binary_digits (length by_id.entries + 1) ≤ search_bound (jobs_of by_id.entries)
 id_search by_id = search_is_bounded (jobs_of by_id.entries) (length by_id.entries) (omega (arith, length_jobs by_id.entries))
 
--- what is found by an id
+-- the job that an id finds
 pub found_in : (id : ℕ) (s : Parts) → AreShelved s → lookup (is_at (nat_cmp id)) s.by_id.entries ≡ job_with id (jobs_of s.by_id.entries)
 found_in id s h = ap (lookup (is_at (nat_cmp id))) h.by_own_id ∙ lookup_by_id id (jobs_of s.by_id.entries)
 
--- it has that id
+-- it has this id
 pub found_own : (id : ℕ) (s : Parts) → AreShelved s → (j : Job) → lookup (is_at (nat_cmp id)) s.by_id.entries ≡ Some j → j.id ≡ id
 found_own id s h j found = found_id id (jobs_of s.by_id.entries) j (sym (found_in id s h) ∙ found)
 
@@ -110,7 +110,7 @@ shelved_removed id j s n h found a =
       timed = order_removed timer_laws.total-law timer_place timer_own 0 (2 ^ 64) id j jobs s.by_id.spare n.by_id.spare s.timers n.timers h.in_timers h.ids found a.room a.timers a.timer_spare;
     })
 
--- a search in each order
+-- the comparisons of a search in each order
 module _ (s : Parts) (h : AreShelved s) where
   pub group_search : 2 * binary_digits (length s.groups.entries + 1) ≤ search_bound (jobs_of s.by_id.entries)
   group_search = order_search group_cmp group_place (jobs_of s.by_id.entries) s.by_id.spare s.groups h.in_groups
@@ -118,7 +118,7 @@ module _ (s : Parts) (h : AreShelved s) where
   pub timer_search : 2 * binary_digits (length s.timers.entries + 1) ≤ search_bound (jobs_of s.by_id.entries)
   timer_search = order_search timer_cmp timer_place (jobs_of s.by_id.entries) s.by_id.spare s.timers h.in_timers
 
--- where nothing is found, nothing is taken out
+-- if an id finds nothing, nothing is removed
 pub shelved_same : (id : ℕ) (s : Parts) (by_id : ById) → AreShelved s → lookup (is_at (nat_cmp id)) s.by_id.entries ≡ None → by_id.entries ≡ remove_entry (is_at (nat_cmp id)) s.by_id.entries → by_id.spare ≡ s.by_id.spare → AreShelved (record s { by_id = by_id })
 shelved_same id s by_id h none entries spare =
     let jobs = jobs_of s.by_id.entries in
@@ -130,7 +130,7 @@ shelved_same id s by_id h none entries spare =
       timed = subst (λ room. IsOrderOf timer_cmp timer_place jobs room s.timers) (sym spare) h.in_timers;
     })
 
--- no job has an id after its removal
+-- after its removal, an id finds no job
 pub gone_after : (id : ℕ) (s : Parts) → AreShelved s → job_with id (jobs_of (remove_entry (is_at (nat_cmp id)) s.by_id.entries)) ≡ None
 gone_after id s h = ap (job_with id) (jobs_removed id s h) ∙ not_there id (jobs_of s.by_id.entries)
 

@@ -1,4 +1,4 @@
--- What is told of a changed job is of the job that was there.
+-- The report about a changed job concerns the job that was there.
 use Rattle.std.proofs.Common.{◌≡◌, ℕ, ◌^◌, List, [], ◌∷◌, Option, Some, None, refl, sym, ap, ◌∙◌, inl, inr}
 use Rattle.std.specs.Prelude.{◌==◌, option_map}
 use Rattle.std.proofs.lemmas.Bool.{cases_Bool}
@@ -19,7 +19,7 @@ use Rattle.bq_jobs.proofs.Firsts.{group_cmp, timer_cmp, timer_own, group_own}
 use Rattle.bq_jobs.proofs.Orders.{CanMove, can_move}
 use Rattle.bq_jobs.proofs.Shelved.{AreShelved, found_in}
 
--- the job of which m is told
+-- the job that the report m is about
 pub record IsOf {M : Type 0} (tells : Job → M) (o : Option Job) (m : M) : Type 0 where
   pub job : Job
   pub there : o ≡ Some job
@@ -75,7 +75,7 @@ module _ (id : ℕ) (f : Job → Job) (keeps : KeepsId f) (ignores : IgnoresTube
   timer_moves from to left entered =
       can_move timer_laws.total-law timer_place timer_own 0 (2 ^ 64) id job_then (f job_then) (jobs_of s.by_id.entries) s.by_id.spare s.timers h.in_timers h.ids found_then id_after from to (left ∙ left_timer) (entered ∙ entered_timer)
 
--- where nothing is told, there is no job
+-- if there is no report, there is no job
 pub nothing_told_of : {M : Type 0} (tells : Job → M) (o : Option Job) → option_map tells o ≡ None → o ≡ None
 nothing_told_of tells None e = refl
 nothing_told_of tells (Some j) e = absurd cc

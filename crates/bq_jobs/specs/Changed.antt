@@ -1,4 +1,4 @@
--- A job that is changed and stays.
+-- A change of a job that stays in the queue.
 use Rattle.std.specs.Prelude.{◌≡◌, ℕ, ◌==◌, if◌then◌else◌, List, map, Option, Some, None}
 use Rattle.std.specs.Ordering.{nat_cmp}
 use Rattle.std.specs.Map.{lookup, set_value}
@@ -11,19 +11,19 @@ use Rattle.bq_jobs.specs.declared.row.Standing.{Standing}
 abbrev pub standing : Job → Standing
 standing j = record { pri = j.pri; state = j.state }
 
--- the jobs with the one of this id changed by f
+-- the jobs, with the one with this id changed by f
 abbrev pub with_changed : ℕ → (Job → Job) → List Job → List Job
 with_changed id f jobs = map (λ k. if k.id == id then f k else k) jobs
 
--- what is told of a job that f changed
+-- the report about a job that f changed
 abbrev pub moved_by : (Job → Job) → Job → Moved
 moved_by f j = record { tube = j.tube; from = standing j; to = standing (f j) }
 
--- the same, of a record inside
+-- the same for a record
 abbrev pub row_moved_by : (Job → Job) → Job → MovedRow
 row_moved_by f j = record { tube = j.tube; from = standing j; to = standing (f j) }
 
--- what is told of a record, with the name of its tube
+-- the report about a record, with the name of its tube
 abbrev pub moved_in : MovedRow → List ℕ → Moved
 moved_in m tube = record { tube = tube; from = m.from; to = m.to }
 
@@ -33,15 +33,15 @@ KeepsId f = (j : Job) → (f j).id ≡ j.id
 abbrev pub KeepsTube : (Job → Job) → Type 0
 KeepsTube f = (j : Job) → (f j).tube ≡ j.tube
 
--- What f does to a job doesn't depend on its tube, and leaves it in it.
+-- The effect of f on a job does not depend on the job's tube, and does not change it.
 abbrev pub IgnoresTube : (Job → Job) → Type 0
 IgnoresTube f = (j : Job) (tube : List ℕ) → f (record j { tube = tube }) ≡ record (f j) { tube = tube }
 
--- the job of this id
+-- the job with this id
 abbrev pub entry_at : ℕ → List (ℕ × Job) → Option Job
 entry_at id es = lookup (is_at (nat_cmp id)) es
 
--- the entries with the one that is found at this id changed by f
+-- the entries, with the one at this id changed by f if it was found
 abbrev pub with_edited : ℕ → (Job → Job) → Option Job → List (ℕ × Job) → List (ℕ × Job)
 with_edited id f None es = es
 with_edited id f (Some j) es = set_value (is_at (nat_cmp id)) es (f j)

@@ -1,4 +1,4 @@
--- The numbers by which the holders of jobs are told apart.
+-- The numbers that distinguish the holders of jobs.
 use Rattle.std.specs.Prelude.{ℕ, ◌+◌, ◌*◌, ◌/◌, ◌%◌, ◌==◌, if◌then◌else◌, List, [], ◌∷◌}
 use Rattle.std.specs.declared.cmp.Ordering.{Ordering}
 use Rattle.std.specs.Cmp.{IsTotalOrder, nat_cmp_total, on_total, then_total}
@@ -15,12 +15,12 @@ list_number lists.Ready = 0
 list_number lists.Delayed = 1
 list_number lists.Buried = 2
 
--- four times the number of the tube or the seat, and which of the four it is
+-- four times the number of the tube or the seat, plus the number of the list, or 3 for a seat
 abbrev pub group_number : Holder → ℕ
 group_number (holders.Held seat) = seat * 4 + 3
 group_number (holders.Listed l) = number_in l.tube * 4 + list_number l.list
 
--- the holder of the number that is four times n and k
+-- the holder whose number is four times n plus k
 abbrev pub holder_of : ℕ → ℕ → Holder
 holder_of n k =
     if k == 0 then list_of (n ∷ []) lists.Ready
@@ -36,7 +36,7 @@ abbrev pub tube_in : Holder → List ℕ
 tube_in (holders.Held seat) = []
 tube_in (holders.Listed l) = l.tube
 
--- by number; the tube comes too late to tell more, for it is told by its number
+-- by number, then by tube; the number already determines the tube
 abbrev pub group_cmp : Holder → Holder → Ordering
 group_cmp = then_cmp (on group_number nat_cmp) (on tube_in name_cmp)
 

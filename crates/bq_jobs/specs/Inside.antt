@@ -1,4 +1,4 @@
--- How the jobs are kept: by id with all that is known of them, and by id alone in two more orders.
+-- How the jobs are kept: the records by id, and the ids alone in two more orders.
 use Rattle.std.specs.Prelude.{◌≡◌, ℕ, Bool, false, ◌+◌, ◌^◌, ◌≤◌, min, List, [], Option, Some, None, map, length, is_some, count_by}
 use Rattle.std.specs.declared.cmp.Ordering.{Ordering}
 use Rattle.std.specs.Ordering.{is_eq}
@@ -35,7 +35,7 @@ kept_in by_id groups timers = record {
   tubes = [];
 }
 
--- whether the job has this place
+-- whether this is the job's place
 abbrev pub is_place : {G : Type 0} → (G → G → Ordering) → ShelfPlace G → Option (ShelfPlace G) → Bool
 is_place compare p None = false
 is_place compare p (Some q) = is_eq (place_cmp compare p q)
@@ -44,7 +44,8 @@ abbrev pub has_place : {G : Type 0} → (G → G → Ordering) → (Job → Opti
 has_place compare place_of p None = false
 has_place compare place_of p (Some j) = is_place compare p (place_of j)
 
--- An order has the places of all jobs and no others, ascending, and boxes for those of the jobs to come.
+-- An order has the places of all jobs and no others, ascending, and boxes for the places of the
+-- jobs to come.
 pub record IsOrderOf {G : Type 0} (compare : G → G → Ordering) (place_of : Job → Option (ShelfPlace G))
     (jobs : List Job) (room : ℕ) (order : Order G) : Type 0 where
   pub places : (p : ShelfPlace G) → is_some (holds_place compare p order.entries) ≡ has_place compare place_of p (job_with p.id jobs)
@@ -52,7 +53,8 @@ pub record IsOrderOf {G : Type 0} (compare : G → G → Ordering) (place_of : J
   pub roomy : length jobs + room ≤ length order.entries + order.spare
   pub sorted : InOrder (place_cmp compare) order.entries
 
--- The jobs stand by their own ids, which ascend, and each order is that of these jobs.
+-- The jobs are filed under their own ids, which ascend, and each order has the places of these
+-- jobs.
 pub record IsShelved (group_cmp : Holder → Holder → Ordering) (timer_cmp : Timer → Timer → Ordering)
     (by_id : ById) (groups : Order Holder) (timers : Order Timer) : Type 0 where
   pub by_own_id : by_id.entries ≡ map with_id (jobs_of by_id.entries)

@@ -1,11 +1,11 @@
--- What the jobs are seen as.
+-- What a contract sees of the jobs.
 use Rattle.std.specs.Prelude.{ℕ, Bool, ◌+◌, ◌*◌, ◌≤◌, ◌==◌, not, nat_lt, List, filter, length}
 use Rattle.bq_index.specs.Digits.{binary_digits}
 use Rattle.bq_job.specs.declared.job.Job.{Job}
 use Rattle.bq_job.specs.machine.JobCommands.{put_in_order}
 
--- the jobs in the order of their ids, how many more can be added without memory, the comparisons of keys so far,
--- and the tubes that are known, each with its number
+-- the jobs in the order of their ids, how many more can be added without an allocation, the
+-- comparisons of keys so far, and the registered tubes, each with its number
 pub record Kept : Type 0 where
   pub jobs : List Job
   pub room : ℕ
@@ -16,19 +16,20 @@ pub record Kept : Type 0 where
 abbrev pub is_id_before : Job → Job → Bool
 is_id_before a b = nat_lt a.id b.id
 
--- the jobs with this one at its place in the order of ids
+-- the jobs with this one added at its place in the order of ids
 abbrev pub with_added : Job → List Job → List Job
 with_added j jobs = put_in_order is_id_before j jobs
 
--- the jobs but the one of this id
+-- the jobs without the one with this id
 abbrev pub without : ℕ → List Job → List Job
 without id jobs = filter (λ k. not (k.id == id)) jobs
 
--- twice the binary digits of a little more than twice the jobs: as many comparisons as one search may take
+-- The most comparisons that one search may take: twice the number of binary digits of a little more
+-- than twice the number of jobs.
 abbrev pub search_bound : List Job → ℕ
 search_bound jobs = 2 * binary_digits (2 * length jobs + 2)
 
--- the comparisons of a call: no more than those of n searches
+-- a call compares keys at most as often as n searches may
 abbrev pub ComparesAtMost : ℕ → Kept → Kept → Type 0
 ComparesAtMost n old new = (old.comparisons ≤ new.comparisons) × (new.comparisons ≤ old.comparisons + n * search_bound old.jobs)
 

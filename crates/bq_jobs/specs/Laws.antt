@@ -1,4 +1,4 @@
--- What the machine's definitions say of additions, and of jobs that are found by their ids.
+-- Properties of the machine's definitions: what an addition does, and which job an id finds.
 use Rattle.std.specs.Prelude.{◌≡◌, ℕ, ◌++◌, ◌∷◌, [], Bool, List, Some, None}
 use Rattle.bq_job.specs.declared.job.Job.{Job}
 use Rattle.bq_job.specs.machine.Changes.{first_of, job_with}
@@ -13,7 +13,7 @@ AddsAtTheEnd = (low : ℕ) (jobs : List Job) (j : Job) → AreIdsWithin low jobs
 abbrev pub NextIsFree : Type 0
 NextIsFree = (low next : ℕ) (jobs : List Job) → AreIdsWithin low jobs next → job_with next jobs ≡ None
 
--- The job that is found by its id is the one that was chosen.
+-- The id of a chosen job finds that job.
 abbrev pub ChosenHasItsId : Type 0
 ChosenHasItsId = (low next : ℕ) (jobs : List Job) (passes : Job → Bool) (before : Job → Job → Bool) (j : Job)
     → AreIdsWithin low jobs next → first_of passes before jobs ≡ Some j → job_with j.id jobs ≡ Some j

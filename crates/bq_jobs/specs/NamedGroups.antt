@@ -9,7 +9,7 @@ abbrev pub holder_named : Named → Holder
 holder_named (named.Held seat) = held_by seat
 holder_named (named.Listed list tube) = list_of tube list
 
--- and back
+-- and the reverse
 abbrev pub named_holder : Holder → Named
 named_holder (holders.Held seat) = named.Held seat
 named_holder (holders.Listed l) = named.Listed l.list l.tube

@@ -1,4 +1,4 @@
--- The tubes that are known, and their numbers.
+-- The registered tubes and their numbers.
 use Rattle.std.specs.Prelude.{◌≡◌, ◌≤◌, ◌+◌, ◌^◌, ◌∷◌, [], ℕ, Bool, true, List, Option, Some, None, is_some, if◌then◌else◌, unwrap_or, map}
 use Rattle.std.specs.BTreeMap.{is_at, insert_entry}
 use Rattle.std.specs.Cmp.Lexicographic.{slice_cmp}
@@ -22,7 +22,8 @@ number_of name k = lookup (is_at (slice_cmp nat_cmp name)) k.numbers
 abbrev pub name_of : ℕ → Numbering → Option (List ℕ)
 name_of n k = lookup (is_at (nat_cmp n)) k.names
 
--- A name and its number stand for one another, and no number that is still to come has a name. Numbers stay small.
+-- Names and numbers correspond one to one, no number that is still to come has a name, and numbers
+-- stay small.
 pub record IsPaired (k : Numbering) : Type 0 where
   pub by_name : InOrder (slice_cmp nat_cmp) k.numbers
   pub by_number : InOrder nat_cmp k.names
@@ -31,7 +32,7 @@ pub record IsPaired (k : Numbering) : Type 0 where
   pub fresh : (n : ℕ) → k.next ≤ n → name_of n k ≡ None
   pub few : k.next ≤ 2 ^ 62
 
--- with one more tube, which gets the next number
+-- the numbering with one more tube, which gets the next number
 abbrev pub paired_with : List ℕ → Numbering → Numbering
 paired_with name k = record {
   numbers = insert_entry (slice_cmp nat_cmp) k.numbers name k.next;
@@ -46,7 +47,7 @@ abbrev pub names_without : Option ℕ → List (ℕ × List ℕ) → List (ℕ �
 names_without None names = names
 names_without (Some n) names = remove_entry (is_at (nat_cmp n)) names
 
--- without the tube of this name, if it is known
+-- the numbering without the tube of this name, if it is registered
 abbrev pub without_known : List ℕ → Numbering → Numbering
 without_known name k = record k {
   numbers = remove_entry (is_at (slice_cmp nat_cmp name)) k.numbers;
@@ -64,10 +65,10 @@ IsNumbered k j = (j.tube ≡ number_in j.tube ∷ []) × (is_some (name_of (numb
 abbrev pub AreNumbered : Numbering → List Job → Type 0
 AreNumbered k rows = AllByRecursion (IsNumbered k) rows
 
--- what is kept, seen with the names of the tubes
+-- what is kept, as a contract sees it with the names of the tubes
 abbrev pub kept_named : Kept → Numbering → Kept
 kept_named rows k = record { jobs = map (named k) rows.jobs; room = rows.room; comparisons = rows.comparisons; tubes = k.numbers }
 
--- whether the tube of this name is known
+-- whether the tube of this name is registered
 abbrev pub is_known : List ℕ → Kept → Bool
 is_known name m = is_some (lookup (is_at (slice_cmp nat_cmp name)) m.tubes)

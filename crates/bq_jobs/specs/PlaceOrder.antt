@@ -11,16 +11,16 @@ use Rattle.bq_index.specs.Order.{entry_from}
 use Rattle.bq_index.specs.Shelf.{Seen}
 use Rattle.bq_jobs.specs.declared.places.ShelfPlace.{ShelfPlace}
 
--- by number, by id
+-- by number, then by id
 abbrev pub numbers_cmp : {G : Type 0} → ShelfPlace G → ShelfPlace G → Ordering
 numbers_cmp = then_cmp (on (λ p. p.at) nat_cmp) (on (λ p. p.id) nat_cmp)
 
 module _ {G : Type 0} (compare : G → G → Ordering) where
-  -- by group, by number, by id
+  -- by group, then by number, then by id
   abbrev pub place_cmp : ShelfPlace G → ShelfPlace G → Ordering
   place_cmp = then_cmp (on (λ p. p.group) compare) numbers_cmp
 
-  -- the first place that a group can have
+  -- the lowest place that a group can have
   abbrev pub front : G → ShelfPlace G
   front group = record { at = 0; id = 0; group = group }
 
@@ -42,12 +42,12 @@ module _ {G : Type 0} (compare : G → G → Ordering) where
   without_place None es = es
   without_place (Some p) es = remove_entry (is_at (place_cmp p)) es
 
--- places are in order where their groups are
+-- if the groups are totally ordered, so are the places
 pub place_total : {G : Type 0} {compare : G → G → Ordering} → IsTotalOrder compare → IsTotalOrder (place_cmp compare)
 place_total o =
     then_total (on_total (λ p. p.group) o) (then_total (on_total (λ p. p.at) nat_cmp_total) (on_total (λ p. p.id) nat_cmp_total))
 
--- the comparisons of two searches in an order that doesn't grow
+-- the comparisons of two searches in an order that does not grow
 abbrev pub ComparesTwice : {G : Type 0} → Seen (ShelfPlace G) (Unit {0}) → Seen (ShelfPlace G) (Unit {0}) → Type 0
 ComparesTwice old new =
     (old.comparisons ≤ new.comparisons) × (new.comparisons ≤ old.comparisons + 4 * binary_digits (length old.entries + 1))

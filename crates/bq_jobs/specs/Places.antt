@@ -1,4 +1,4 @@
--- Where a job stands in each order.
+-- The place of a job in each order.
 use Rattle.std.specs.Prelude.{ℕ, List, Option, Some, None}
 use Rattle.bq_job.specs.declared.job.Job.{Job}
 use Rattle.bq_job.specs.declared.job.JobState.{JobState}
@@ -20,7 +20,7 @@ list_of tube list = holders.Listed (record { list = list; tube = tube })
 abbrev pub held_by : ℕ → Holder
 held_by seat = holders.Held seat
 
--- among the ready, delayed or buried jobs of its tube, or the leases of its holder
+-- its place among the ready, delayed or buried jobs of its tube, or among the leases of its holder
 abbrev pub in_groups_at : JobState → ℕ → List ℕ → ℕ → Option (ShelfPlace Holder)
 in_groups_at states.Ready pri tube id = placed (list_of tube lists.Ready) pri id
 in_groups_at (states.Delayed due) pri tube id = placed (list_of tube lists.Delayed) due id
@@ -33,7 +33,7 @@ in_groups state j = in_groups_at state j.pri j.tube j.id
 abbrev pub group_place : Job → Option (ShelfPlace Holder)
 group_place j = in_groups j.state j
 
--- among the delays or the leases
+-- its place among the delays or the leases
 abbrev pub in_timers_at : JobState → ℕ → Option (ShelfPlace Timer)
 in_timers_at (states.Delayed due) id = placed timers.Due due id
 in_timers_at (states.Reserved seat deadline) id = placed timers.Lease deadline id

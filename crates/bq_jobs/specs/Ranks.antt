@@ -1,4 +1,4 @@
--- What the jobs of each kind are ordered by, and the first of them.
+-- The number that orders the jobs of each kind, and the first of them.
 use Rattle.std.specs.Prelude.{ℕ, Bool, ◌&&◌, List, Option}
 use Rattle.std.specs.Option.{option_map}
 use Rattle.bq_job.specs.declared.job.Job.{Job}
@@ -32,7 +32,7 @@ is_listed list tube j = is_in_list list j.state && is_same_name tube j.tube
 abbrev pub list_rank : JobList → Job → ℕ
 list_rank list j = list_rank_at list j.pri j.state
 
--- the same of whoever has a job,
+-- the same for any holder,
 abbrev pub is_of : Holder → Job → Bool
 is_of (holders.Held seat) j = is_holder seat j.state
 is_of (holders.Listed l) j = is_listed l.list l.tube j
@@ -41,7 +41,7 @@ abbrev pub rank_of : Holder → Job → ℕ
 rank_of (holders.Held seat) j = deadline_of j.state
 rank_of (holders.Listed l) j = list_rank l.list j
 
--- and of delays and leases
+-- and for delays and leases
 abbrev pub is_timed : Timer → Job → Bool
 is_timed timers.Due j = is_delayed j.state
 is_timed timers.Lease j = is_reserved j.state
@@ -50,15 +50,15 @@ abbrev pub moment_of : Timer → Job → ℕ
 moment_of timers.Due j = due_of j.state
 moment_of timers.Lease j = deadline_of j.state
 
--- the first of the jobs that pass, by a number, then by id
+-- the first of the jobs that pass: by a number, then by id
 abbrev pub first_by : (Job → Bool) → (Job → ℕ) → List Job → Option Job
 first_by passes number jobs = first_of passes (λ a b. is_pair_before (number a) a.id (number b) b.id) jobs
 
--- the number and the id of the first that a holder has
+-- the number and the id of the first job of a holder
 unfoldable pub first_held : Holder → List Job → Option (ℕ × ℕ)
 first_held g jobs = option_map (ranked (rank_of g)) (first_by (is_of g) (rank_of g) jobs)
 
--- the same of the delays or the leases
+-- the same for the delays or the leases
 unfoldable pub first_timed : Timer → List Job → Option (ℕ × ℕ)
 first_timed t jobs = option_map (ranked (moment_of t)) (first_by (is_timed t) (moment_of t) jobs)
 

@@ -1,11 +1,12 @@
--- The state of a job out of what is kept of it.
+-- The state of a job, from the fields that represent it.
 use Rattle.std.specs.Prelude.{ℕ}
 use Rattle.bq_job.specs.declared.job.JobState.{JobState}
 use Rattle.bq_job.specs.declared.job.JobState.TheVariants as states
 use Rattle.bq_jobs.specs.declared.row.Stage.{Stage}
 use Rattle.bq_jobs.specs.declared.row.Stage.TheVariants as stages
 
--- which state it is, the seat of who holds the job, and the moment or the number that the state has
+-- from the kind of state, the seat of the holder, and the moment or the number that belongs to the
+-- state
 abbrev pub state_of : Stage → ℕ → ℕ → JobState
 state_of stages.Ready seat at = states.Ready
 state_of stages.Delayed seat at = states.Delayed at

@@ -1,4 +1,4 @@
--- What is told of a record, with the name of its tube.
+-- A record with the name of its tube.
 use Rattle.std.specs.Prelude.{Option}
 use Rattle.std.specs.Option.{option_map}
 use Rattle.bq_job.specs.declared.job.Job.{Job}
@@ -9,10 +9,10 @@ use Rattle.bq_jobs.specs.Names.{number_in}
 use Rattle.bq_jobs.specs.Numbering.{Numbering, name_of}
 use Rattle.bq_jobs.specs.Seen.{in_tube}
 
--- the job
+-- the job of a record
 abbrev pub job_told : Numbering → Job → Option Job
 job_told k row = option_map (in_tube row) (name_of (number_in row.tube) k)
 
--- and how it was changed
+-- the report about its change
 abbrev pub moved_told : Numbering → MovedRow → Option Moved
 moved_told k m = option_map (moved_in m) (name_of (number_in m.tube) k)

@@ -1,4 +1,4 @@
-//! The jobs of a work queue, with the numbers of their tubes.
+//! The jobs of a work queue, kept with the numbers of their tubes.
 ghost use Rattle.std.specs.Option.{option_and_then, option_map};
 ghost use Rattle.std.specs.Prelude.{◌≡◌, ◌+◌, ◌-◌, ◌<◌, ◌^◌, if◌then◌else◌, [], ℕ, List};
 ghost use Rattle.std.specs.Prelude.{nat_lt, true, false, length, max, is_some, IfOk, IfSome, None, OnOk, OnErr};
@@ -29,10 +29,11 @@ use bq_job::{Body, Job, JobId, Moment, NoMemory, Seat, TubeName};
 use std::alloc::Global;
 use std::marker::Model;
 
-/// The jobs, of which each is found by its id, and the first of each kind at once. A job comes in by
-/// [`NumberedJobs::add`], into a tube that [`NumberedJobs::know`] made known and with the room that [`NumberedJobs::reserve_one`]
-/// made, and goes out by [`NumberedJobs::remove`], which leaves that room for the next job: so a job that is taken
-/// out, changed and added again takes no memory.
+/// The jobs. A job is found by its id, and the first job of each kind without a search.
+///
+/// [`NumberedJobs::add`] adds a job, to a tube that [`NumberedJobs::know`] registered and with the
+/// room that [`NumberedJobs::reserve_one`] made. [`NumberedJobs::remove`] removes a job and leaves
+/// its room for the next one, so to remove a job, change it and add it again allocates nothing.
 #[derive(Drop)]
 pub struct NumberedJobs {
     rows: Rows,
@@ -54,7 +55,7 @@ impl NumberedJobs {
     ghost use Rattle.std.specs.Borrow.{sem};
     ghost use Rattle.bq_jobs.specs.Lent.{LeavesNumbered};
 
-    /// No jobs, and no room for one.
+    /// Returns a value with no jobs, and no room for one.
     pub fn new() -> NumberedJobs
         ensures { result ≡ record { jobs = []; room = 0; comparisons = 0; tubes = [] } }
     {
@@ -64,7 +65,7 @@ impl NumberedJobs {
         }
     }
 
-    /// How many jobs there are.
+    /// Returns the number of jobs.
     #[tactic(auto, using(crate::proofs::NamedJobs::ids_named))]
     pub fn len(&self) -> usize
         ensures len { result ≡ length self.now.jobs }
@@ -73,22 +74,22 @@ impl NumberedJobs {
         self.rows.len()
     }
 
-    /// How many more jobs can be added.
+    /// Returns how many more jobs can be added.
     pub fn room(&self) -> usize
         ensures { result ≡ self.now.room }
     {
         self.rows.room()
     }
 
-    /// The comparisons of keys so far. The count stops at 2^64 - 1.
+    /// Returns how often two keys were compared so far. The count stops at 2^64 - 1.
     pub fn comparisons(&self) -> u64
         ensures { result ≡ self.now.comparisons }
     {
         self.rows.comparisons()
     }
 
-    /// Makes room for a job, where there is none. What was taken before a refusal is kept for the next
-    /// call.
+    /// Makes room for a job, if there is none. What was allocated before a failure is kept for the
+    /// next call.
     pub fn reserve_one(&mut self, alloc: Global) -> Result<(), NoMemory>
         ensures ok { OnOk result (self.new ≡ record self.old { room = max self.old.room 1 }) }
         ensures refused { OnErr result (self.old.room ≡ 0) }
@@ -98,8 +99,8 @@ impl NumberedJobs {
         self.reserve_one_from(&mut heap)
     }
 
-    /// The same, out of boxes of a source. The boxes of the other orders come first, so that room for a
-    /// job is only told where all are there.
+    /// The same, with boxes from a source. The boxes of the other orders are allocated first, so
+    /// there is no room for a job until all of its boxes are there.
     pub fn reserve_one_from<S: BoxSource>(&mut self, source: &mut S) -> Result<(), NoMemory>
         ensures ok { OnOk result (self.new ≡ record self.old { room = max self.old.room 1 }) }
         ensures refused { OnErr result (self.old.room ≡ 0) }
@@ -108,8 +109,8 @@ impl NumberedJobs {
         self.rows.reserve_one_from(source)
     }
 
-    /// Gives back the room of one job, where there is room for more jobs than there are. It takes no memory:
-    /// so after a peak the room of the jobs that are gone goes back to the heap in small steps.
+    /// Returns the room of one job to the allocator, if there is room for more jobs than there are.
+    /// It allocates nothing. Regular calls return the memory of a peak in small steps.
     pub fn give_back(&mut self)
         ensures { self.new ≡ record self.old {
           room =
@@ -119,7 +120,8 @@ impl NumberedJobs {
         self.rows.give_back();
     }
 
-    /// Puts a job in. It uses the room of one. Its tube has to be known, see [`NumberedJobs::know`].
+    /// Adds a job, which uses the room of one. Its tube has to be registered, see
+    /// [`NumberedJobs::know`].
     #[tactic(auto, using(crate::proofs::NamedJobs::additions))]
     pub fn add(&mut self, job: Job)
         requires room { 0 < self.old.room }
@@ -136,7 +138,7 @@ impl NumberedJobs {
         }
     }
 
-    /// Takes the job of this id out, if there is one. Its room comes back.
+    /// Removes the job with this id and returns it, if there is one. Its room is free again.
     #[tactic(auto, using(crate::proofs::NamedJobs::removals))]
     pub fn remove(&mut self, id: JobId) -> Option<Job>
         ensures job { result ≡ job_with id self.old.jobs }
@@ -151,8 +153,8 @@ impl NumberedJobs {
         job_of(&self.tubes, id, row)
     }
 
-    /// Changes the job of this id, if there is one. Its record stays where it lies, and it goes from its
-    /// places in the orders to those where it stands then. No memory is taken.
+    /// Changes the job with this id, if there is one, and moves it to its new place in each order.
+    /// The record itself does not move, and nothing is allocated.
     #[tactic(auto, using(crate::proofs::NamedJobs::changes))]
     pub fn change<E: JobEdit>(&mut self, id: JobId, edit: &E) -> Option<Moved>
         requires id { KeepsId (E.edited edit.now) }
@@ -169,7 +171,7 @@ impl NumberedJobs {
         told_of(&self.tubes, moved)
     }
 
-    /// The record of the job of this id, which tells all of it but the name of its tube.
+    /// Returns the record of the job with this id. It has all of the job but the name of its tube.
     pub fn get(&mut self, id: JobId) -> Option<&Row>
         ensures* after { sem 𝓛 (LeavesNumbered self.entry) }
         ensures job { option_map (λ row. but_for_tube row.now) result
@@ -178,7 +180,7 @@ impl NumberedJobs {
         self.rows.get(id)
     }
 
-    /// The tube of the job of this id.
+    /// Returns the tube of the job with this id.
     #[tactic(auto, using(crate::proofs::NamedJobs::tube_named, crate::proofs::NamedJobs::no_tube_named))]
     pub fn tube_of(&mut self, id: JobId) -> Option<TubeName>
         ensures tube { result ≡ option_map (λ j. j.tube) (job_with id self.old.jobs) }
@@ -189,7 +191,8 @@ impl NumberedJobs {
         self.tubes.name_of(number).copied()
     }
 
-    /// The tube of the job of this id, and one more owner of its body, unless that is refused.
+    /// Returns the tube of the job with this id, and another reference to its body, or `NoMemory`
+    /// for that.
     #[tactic(auto, using(crate::proofs::NamedJobs::shares))]
     pub fn share(&mut self, id: JobId) -> Option<(TubeName, Result<Body, NoMemory>)>
         ensures none { is_some result ≡ is_some (job_with id self.old.jobs) }
@@ -203,7 +206,8 @@ impl NumberedJobs {
         Some((*tube, body))
     }
 
-    /// One more owner of the body of the job of this id, unless that is refused. The name of its tube isn't looked for.
+    /// Returns another reference to the body of the job with this id, or `NoMemory`. It does not
+    /// look up the name of the job's tube.
     #[tactic(auto, using(crate::proofs::NamedJobs::shares))]
     pub fn share_body(&mut self, id: JobId) -> Option<Result<Body, NoMemory>>
         ensures none { is_some result ≡ is_some (job_with id self.old.jobs) }
@@ -214,7 +218,7 @@ impl NumberedJobs {
         self.rows.share_body(id)
     }
 
-    /// The id of the most urgent ready job of a tube: by priority, then by id.
+    /// Returns the id of the most urgent ready job of a tube: by priority, then by id.
     #[tactic(auto, using(crate::proofs::FirstJobs::held_id))]
     pub fn first_ready(&mut self, tube: &TubeName) -> Option<JobId>
         ensures id { result
@@ -225,7 +229,7 @@ impl NumberedJobs {
         id_in(self.first_listed(JobList::Ready, tube))
     }
 
-    /// The id of the delayed job of a tube that is due first: by due moment, then by id.
+    /// Returns the id of the delayed job of a tube that is due first: by due moment, then by id.
     #[tactic(auto, using(crate::proofs::FirstJobs::held_id))]
     pub fn first_delayed(&mut self, tube: &TubeName) -> Option<JobId>
         ensures id { result
@@ -237,7 +241,7 @@ impl NumberedJobs {
         id_in(self.first_listed(JobList::Delayed, tube))
     }
 
-    /// The id of the job of a tube that was buried first: by burial number, then by id.
+    /// Returns the id of the job of a tube that was buried first: by burial number, then by id.
     #[tactic(auto, using(crate::proofs::FirstJobs::held_id))]
     pub fn first_buried(&mut self, tube: &TubeName) -> Option<JobId>
         ensures id { result
@@ -249,7 +253,7 @@ impl NumberedJobs {
         id_in(self.first_listed(JobList::Buried, tube))
     }
 
-    /// The id of the delayed job that is due first, in whatever tube: by due moment, then by id.
+    /// Returns the id of the delayed job that is due first, in any tube: by due moment, then by id.
     #[tactic(auto, using(crate::proofs::FirstJobs::timed_id))]
     pub fn first_due(&mut self) -> Option<JobId>
         ensures id { result
@@ -261,7 +265,8 @@ impl NumberedJobs {
         id_in(self.first_timed(Timer::Due))
     }
 
-    /// The id of the reserved job whose time to run ends first, whoever holds it: by deadline, then by id.
+    /// Returns the id of the reserved job whose time to run ends first, among those of all clients:
+    /// by deadline, then by id.
     #[tactic(auto, using(crate::proofs::FirstJobs::timed_id))]
     pub fn first_lease(&mut self) -> Option<JobId>
         ensures id { result
@@ -273,7 +278,8 @@ impl NumberedJobs {
         id_in(self.first_timed(Timer::Lease))
     }
 
-    /// The id of the job of the client at a seat whose time to run ends first: by deadline, then by id.
+    /// Returns the id of the job of the client at a seat whose time to run ends first: by deadline,
+    /// then by id.
     #[tactic(auto, using(crate::proofs::FirstJobs::held_id))]
     pub fn first_held(&mut self, seat: Seat) -> Option<JobId>
         ensures id { result
@@ -284,7 +290,8 @@ impl NumberedJobs {
         id_in(self.first_at_seat(seat))
     }
 
-    /// The priority and the id of the most urgent ready job of a tube: by priority, then by id.
+    /// Returns the priority and the id of the most urgent ready job of a tube: by priority, then by
+    /// id.
     #[tactic(auto, unfolding(crate::specs::Ranks::first_held))]
     pub fn most_urgent(&mut self, tube: &TubeName) -> Option<(u64, JobId)>
         ensures rank { result
@@ -296,7 +303,7 @@ impl NumberedJobs {
         self.first_listed(JobList::Ready, tube)
     }
 
-    /// The due moment and the id of the delayed job that is due first, in whatever tube.
+    /// Returns the due moment and the id of the delayed job that is due first, in any tube.
     #[tactic(auto, unfolding(crate::specs::Ranks::first_timed))]
     pub fn next_due(&mut self) -> Option<(Moment, JobId)>
         ensures rank { result
@@ -308,7 +315,8 @@ impl NumberedJobs {
         self.first_timed(Timer::Due)
     }
 
-    /// The deadline and the id of the reserved job whose time to run ends first, whoever holds it.
+    /// Returns the deadline and the id of the reserved job whose time to run ends first, among
+    /// those of all clients.
     #[tactic(auto, unfolding(crate::specs::Ranks::first_timed))]
     pub fn next_deadline(&mut self) -> Option<(Moment, JobId)>
         ensures rank { result ≡ option_map (ranked (λ j. deadline_of j.state))
@@ -319,7 +327,8 @@ impl NumberedJobs {
         self.first_timed(Timer::Lease)
     }
 
-    /// The deadline and the id of the job of the client at a seat whose time to run ends first.
+    /// Returns the deadline and the id of the job of the client at a seat whose time to run ends
+    /// first.
     #[tactic(auto, unfolding(crate::specs::Ranks::first_held))]
     pub fn next_deadline_of(&mut self, seat: Seat) -> Option<(Moment, JobId)>
         ensures rank { result
@@ -331,7 +340,8 @@ impl NumberedJobs {
         self.first_at_seat(seat)
     }
 
-    // The number and the id of the first job of a tube in one state: by that number, then by id.
+    // Returns the number and the id of the first job of a tube in one state: by that number, then
+    // by id.
     #[tactic(auto, using(crate::proofs::NamedFirsts::listed_told, crate::proofs::NamedFirsts::none_listed))]
     fn first_listed(&mut self, list: JobList, tube: &TubeName) -> Option<(u64, JobId)>
         ensures rank { result ≡ first_held (list_of tube.now list) self.old.jobs }
@@ -343,7 +353,7 @@ impl NumberedJobs {
             .first_of_group(Group::list(list, TubeNumber::of(number)))
     }
 
-    // The deadline and the id of the first job of the client at a seat.
+    // Returns the deadline and the id of the first job of the client at a seat.
     #[tactic(auto, using(crate::proofs::NamedFirsts::seat_told))]
     fn first_at_seat(&mut self, seat: Seat) -> Option<(Moment, JobId)>
         ensures rank { result ≡ first_held (held_by seat) self.old.jobs }
@@ -353,7 +363,7 @@ impl NumberedJobs {
         self.rows.first_of_group(Group::held(seat))
     }
 
-    // The moment and the id of the first delay or lease.
+    // Returns the moment and the id of the first delay or of the first lease.
     #[tactic(auto, using(crate::proofs::NamedFirsts::timed_told))]
     fn first_timed(&mut self, timer: Timer) -> Option<(Moment, JobId)>
         ensures rank { result ≡ first_timed timer self.old.jobs }
@@ -363,10 +373,12 @@ impl NumberedJobs {
         self.rows.first_of_timer(timer)
     }
 
-    /// Sees to it that jobs can be put into a tube. The growth that this needs comes before any change.
+    /// Registers a tube, so that jobs can be added to it. The memory that this needs is allocated
+    /// before any change.
     ///
     /// # Errors
-    /// `NoMemory` where it is refused.
+    ///
+    /// `NoMemory` if that allocation fails.
     #[tactic(auto, using(crate::proofs::NamedJobs::kept_if, crate::proofs::NamedJobs::others_if, crate::proofs::NamedJobs::known_of))]
     pub fn know(&mut self, alloc: Global, tube: &TubeName) -> Result<(), NoMemory>
         ensures known { IfOk result (λ _. is_known tube.now self.new ≡ true) }
@@ -380,7 +392,7 @@ impl NumberedJobs {
         self.tubes.add(alloc, tube)
     }
 
-    /// No job is put into the tube any more, unless it is known anew. It has none.
+    /// Removes a tube that has no jobs. No job can be added to it until it is registered again.
     #[tactic(auto, using(crate::proofs::NumberingLemmas::number_left, crate::proofs::NumberingLemmas::number_gone))]
     pub fn forget(&mut self, tube: &TubeName)
         requires none { list_any (λ j. is_same_name tube.now j.tube) self.old.jobs ≡ false }
@@ -393,7 +405,7 @@ impl NumberedJobs {
     }
 }
 
-// The id in a pair.
+// Returns the id in a pair.
 #[tactic(auto, unfolding(crate::specs::Ranks::id_in))]
 pub(crate) fn id_in(rank: Option<(u64, JobId)>) -> Option<JobId>
     ensures { result ≡ id_in rank }
@@ -402,7 +414,7 @@ pub(crate) fn id_in(rank: Option<(u64, JobId)>) -> Option<JobId>
     Some(id)
 }
 
-// The job of the record at this id, in the tube of its number, if there is one.
+// Returns the job of the record with this id, with the name of its tube, if there is a record.
 fn job_of(tubes: &NumberedTubes, id: JobId, row: Option<Row>) -> Option<Job>
     requires id { IfSome row (λ r. r.id ≡ id) }
     ensures { result ≡ option_and_then (job_told tubes.now) row }
@@ -414,7 +426,7 @@ fn job_of(tubes: &NumberedTubes, id: JobId, row: Option<Row>) -> Option<Job>
     }
 }
 
-// What is told of a changed record, with the name of its tube.
+// Returns the report about a changed record, with the name of its tube.
 fn told_of(tubes: &NumberedTubes, moved: Option<MovedRow>) -> Option<Moved>
     ensures { result ≡ option_and_then (moved_told tubes.now) moved }
 {
@@ -429,9 +441,9 @@ fn told_of(tubes: &NumberedTubes, moved: Option<MovedRow>) -> Option<Moved>
     }
 }
 
-// What the machine's definitions say of additions, and of jobs that are found by their ids.
+// Properties of the machine's definitions: what an addition does, and which job an id finds.
 
-/// A job with an id above all others comes last.
+/// A job whose id is above all others comes last.
 #[tactic(auto, using(crate::proofs::Changes::adds_at_the_end))]
 pub fn adds_at_the_end()
     ensures { AddsAtTheEnd }
@@ -443,7 +455,7 @@ pub fn next_is_free()
     ensures { NextIsFree }
 {}
 
-/// A job that was chosen by a test and an order is the one that is found by its id.
+/// A job that a test and an order choose is the job that its id finds.
 pub fn chosen_has_its_id()
     ensures { ChosenHasItsId }
 {}

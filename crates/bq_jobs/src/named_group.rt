@@ -13,8 +13,8 @@ use bq_job::{Job, JobId, JobState, Seat, TubeName};
 use std::cmp::Ordering;
 use std::marker::Model;
 
-/// The jobs that a holder has: the client at a seat, or a tube in one state. [`super::places::Group`] with the name of
-/// the tube in place of its number, and in the same order.
+/// A holder of jobs: the client at a seat, or a tube in one state. It is [`super::places::Group`]
+/// with the name of the tube in place of its number, and has the same order.
 #[derive(Clone, Copy)]
 pub struct NamedGroup(Named);
 
@@ -37,21 +37,21 @@ impl Model for NamedGroup {
 }
 
 impl NamedGroup {
-    /// The jobs of a tube in one state.
+    /// Returns the holder of the jobs of a tube in one state.
     pub(crate) fn list(list: JobList, tube: &TubeName) -> NamedGroup
         ensures { result ≡ list_of tube.now list }
     {
         NamedGroup(Named::Listed(list, *tube))
     }
 
-    /// The jobs of the client at a seat.
+    /// Returns the holder of the jobs of the client at a seat.
     pub(crate) fn held(seat: Seat) -> NamedGroup
         ensures { result ≡ held_by seat }
     {
         NamedGroup(Named::Held(seat))
     }
 
-    // The number that it is ordered by first.
+    // Returns the number that orders holders first.
     fn number(&self) -> u64
         ensures { result ≡ group_number self.now }
     {
@@ -61,7 +61,7 @@ impl NamedGroup {
         }
     }
 
-    // The name that it is ordered by next.
+    // Returns the name that orders holders with equal numbers.
     fn tube(&self) -> &[u8]
         ensures { result.now ≡ tube_in self.now }
     {
@@ -82,7 +82,7 @@ fn first_byte(tube: &TubeName) -> u64
     }
 }
 
-// The order of names: by length, and where that is equal by bytes.
+// Compares two names: by length, then by bytes.
 fn cmp_names(name: &[u8], other: &[u8]) -> Ordering
     ensures { result ≡ name_cmp name.now other.now }
 {
@@ -129,7 +129,7 @@ impl Ord for NamedGroup {
     }
 }
 
-/// The id of a job.
+/// Returns the id of a job.
 pub(crate) fn id_of(job: &Job) -> JobId
     ensures id { result ≡ job.now.id }
     ensures fits { result < 2 ^ 64 }
@@ -137,7 +137,7 @@ pub(crate) fn id_of(job: &Job) -> JobId
     job.id
 }
 
-/// The place of a job among those of its tube's list or of its holder. Each job has one.
+/// Returns the place of a job in its tube's list or among the jobs of its holder. Each job has one.
 pub(crate) fn place_of(job: &Job) -> Option<ShelfPlace<NamedGroup>>
     ensures { result ≡ group_place job.now }
 {
@@ -153,7 +153,7 @@ pub(crate) fn place_of(job: &Job) -> Option<ShelfPlace<NamedGroup>>
     Some(ShelfPlace::of(group, number, job.id))
 }
 
-/// The place of a job among all delays and leases.
+/// Returns the place of a job among all delays and leases, if it has one.
 pub(crate) fn timer_place_of(job: &Job) -> Option<ShelfPlace<Timer>>
     ensures { result ≡ timer_place job.now }
 {

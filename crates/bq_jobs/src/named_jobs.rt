@@ -20,9 +20,11 @@ use bq_job::{Job, JobId, Moment, NoMemory, Seat, TubeName};
 use std::alloc::Global;
 use std::marker::Model;
 
-/// The jobs, of which each is found by its id, and the first of each kind at once. A job comes in by
-/// [`Jobs::add`], with the room that [`Jobs::reserve_one`] made, and goes out by [`Jobs::remove`], which leaves
-/// that room for the next job: so a job that is taken out, changed and added again takes no memory.
+/// The jobs. A job is found by its id, and the first job of each kind without a search.
+///
+/// [`Jobs::add`] adds a job, with the room that [`Jobs::reserve_one`] made. [`Jobs::remove`]
+/// removes a job and leaves its room for the next one, so to remove a job, change it and add it
+/// again allocates nothing.
 #[derive(Drop)]
 pub struct Jobs {
     by_id: Shelf<JobId, Job>,
@@ -45,7 +47,7 @@ impl Jobs {
     ghost use Rattle.std.specs.Borrow.{sem};
     ghost use Rattle.bq_jobs.specs.Lent.{LeavesJobs};
 
-    /// No jobs, and no room for one.
+    /// Returns a value with no jobs, and no room for one.
     pub fn new() -> Jobs
         ensures { result ≡ record { jobs = []; room = 0; comparisons = 0; tubes = [] } }
     {
@@ -56,7 +58,7 @@ impl Jobs {
         }
     }
 
-    /// How many jobs there are.
+    /// Returns the number of jobs.
     pub fn len(&self) -> usize
         ensures len { result ≡ length self.now.jobs }
         ensures ordered { AreIdsWithin 0 self.now.jobs (2 ^ 64) }
@@ -64,14 +66,14 @@ impl Jobs {
         self.by_id.len()
     }
 
-    /// How many more jobs can be added.
+    /// Returns how many more jobs can be added.
     pub fn room(&self) -> usize
         ensures { result ≡ self.now.room }
     {
         self.by_id.spare()
     }
 
-    /// The comparisons of keys so far. The count stops at 2^64 - 1.
+    /// Returns how often two keys were compared so far. The count stops at 2^64 - 1.
     pub fn comparisons(&self) -> u64
         ensures { result ≡ self.now.comparisons }
     {
@@ -81,8 +83,8 @@ impl Jobs {
             .saturating_add(self.timers.comparisons())
     }
 
-    /// Makes room for a job, where there is none. What was taken before a refusal is kept for the next
-    /// call. No other call takes memory.
+    /// Makes room for a job, if there is none. What was allocated before a failure is kept for the
+    /// next call. No other call allocates.
     pub fn reserve_one(&mut self, alloc: Global) -> Result<(), NoMemory>
         ensures ok { OnOk result (self.new ≡ record self.old { room = max self.old.room 1 }) }
         ensures refused { OnErr result (self.old.room ≡ 0) }
@@ -92,8 +94,8 @@ impl Jobs {
         self.reserve_one_from(&mut heap)
     }
 
-    /// The same, out of boxes of a source. The boxes of the other orders come first, so that room for a
-    /// job is only told where all are there.
+    /// The same, with boxes from a source. The boxes of the other orders are allocated first, so
+    /// there is no room for a job until all of its boxes are there.
     pub fn reserve_one_from<S: BoxSource>(&mut self, source: &mut S) -> Result<(), NoMemory>
         ensures ok { OnOk result (self.new ≡ record self.old { room = max self.old.room 1 }) }
         ensures refused { OnErr result (self.old.room ≡ 0) }
@@ -113,7 +115,7 @@ impl Jobs {
         }
     }
 
-    /// Puts a job in. It uses the room of one.
+    /// Adds a job, which uses the room of one.
     #[tactic(auto, using(crate::proofs::NamedParts::found_in, crate::proofs::NamedParts::jobs_added))]
     pub fn add(&mut self, job: Job)
         requires room { 0 < self.old.room }
@@ -128,7 +130,7 @@ impl Jobs {
         self.by_id.insert(named_group::id_of(&job), job);
     }
 
-    /// Takes the job of this id out, if there is one. Its room comes back.
+    /// Removes the job with this id and returns it, if there is one. Its room is free again.
     #[tactic(auto, using(crate::proofs::NamedParts::removals))]
     pub fn remove(&mut self, id: JobId) -> Option<Job>
         ensures job { result ≡ job_with id self.old.jobs }
@@ -144,7 +146,7 @@ impl Jobs {
         Some(job)
     }
 
-    /// The job of this id.
+    /// Returns the job with this id.
     pub fn get(&mut self, id: JobId) -> Option<&Job>
         ensures* after { sem 𝓛 (LeavesJobs self.entry) }
         ensures job { option_map (λ j. j.now) result ≡ job_with id self.old.jobs }
@@ -152,7 +154,7 @@ impl Jobs {
         self.by_id.get(&id)
     }
 
-    /// The id of the most urgent ready job of a tube: by priority, then by id.
+    /// Returns the id of the most urgent ready job of a tube: by priority, then by id.
     #[tactic(auto, using(crate::proofs::FirstJobs::held_id))]
     pub fn first_ready(&mut self, tube: &TubeName) -> Option<JobId>
         ensures id { result
@@ -163,7 +165,7 @@ impl Jobs {
         id_in(self.first_of_group(NamedGroup::list(JobList::Ready, tube)))
     }
 
-    /// The id of the delayed job of a tube that is due first: by due moment, then by id.
+    /// Returns the id of the delayed job of a tube that is due first: by due moment, then by id.
     #[tactic(auto, using(crate::proofs::FirstJobs::held_id))]
     pub fn first_delayed(&mut self, tube: &TubeName) -> Option<JobId>
         ensures id { result
@@ -175,7 +177,7 @@ impl Jobs {
         id_in(self.first_of_group(NamedGroup::list(JobList::Delayed, tube)))
     }
 
-    /// The id of the job of a tube that was buried first: by burial number, then by id.
+    /// Returns the id of the job of a tube that was buried first: by burial number, then by id.
     #[tactic(auto, using(crate::proofs::FirstJobs::held_id))]
     pub fn first_buried(&mut self, tube: &TubeName) -> Option<JobId>
         ensures id { result
@@ -187,7 +189,7 @@ impl Jobs {
         id_in(self.first_of_group(NamedGroup::list(JobList::Buried, tube)))
     }
 
-    /// The id of the delayed job that is due first, in whatever tube: by due moment, then by id.
+    /// Returns the id of the delayed job that is due first, in any tube: by due moment, then by id.
     #[tactic(auto, using(crate::proofs::FirstJobs::timed_id))]
     pub fn first_due(&mut self) -> Option<JobId>
         ensures id { result
@@ -199,7 +201,8 @@ impl Jobs {
         id_in(self.first_of_timer(Timer::Due))
     }
 
-    /// The id of the reserved job whose time to run ends first, whoever holds it: by deadline, then by id.
+    /// Returns the id of the reserved job whose time to run ends first, among those of all clients:
+    /// by deadline, then by id.
     #[tactic(auto, using(crate::proofs::FirstJobs::timed_id))]
     pub fn first_lease(&mut self) -> Option<JobId>
         ensures id { result
@@ -211,7 +214,8 @@ impl Jobs {
         id_in(self.first_of_timer(Timer::Lease))
     }
 
-    /// The id of the job of the client at a seat whose time to run ends first: by deadline, then by id.
+    /// Returns the id of the job of the client at a seat whose time to run ends first: by deadline,
+    /// then by id.
     #[tactic(auto, using(crate::proofs::FirstJobs::held_id))]
     pub fn first_held(&mut self, seat: Seat) -> Option<JobId>
         ensures id { result
@@ -222,7 +226,7 @@ impl Jobs {
         id_in(self.first_of_group(NamedGroup::held(seat)))
     }
 
-    // The number and the id of the first job that a holder has: by that number, then by id.
+    // Returns the number and the id of the first job of a holder: by that number, then by id.
     fn first_of_group(&mut self, group: NamedGroup) -> Option<(u64, JobId)>
         ensures rank { result ≡ first_held group self.old.jobs }
         ensures same { self.new ≡ record self.old { comparisons = self.new.comparisons } }
@@ -231,7 +235,8 @@ impl Jobs {
         places::first_rank(&mut self.groups, group)
     }
 
-    // The moment and the id of the first delay or lease: by moment, then by id.
+    // Returns the moment and the id of the first delay or of the first lease: by moment, then by
+    // id.
     fn first_of_timer(&mut self, timer: Timer) -> Option<(Moment, JobId)>
         ensures rank { result ≡ first_timed timer self.old.jobs }
         ensures same { self.new ≡ record self.old { comparisons = self.new.comparisons } }

@@ -1,4 +1,4 @@
-//! Where jobs stand: places, and lists of them in their order.
+//! The places of jobs in their orders, and the shelves that keep these places.
 ghost use Rattle.std.specs.Cmp as Cmp;
 ghost use Rattle.bq_jobs.specs.Groups.{group_at, group_cmp, group_number, group_total, list_number};
 ghost use Rattle.bq_jobs.specs.Names.{number_in};
@@ -17,7 +17,7 @@ use bq_job::{JobId, JobState, NoMemory, Seat};
 use std::cmp::Ordering;
 use std::marker::Model;
 
-/// A state in which jobs stand in an order of their tube.
+/// A state whose jobs a tube keeps in an order.
 #[derive(Clone, Copy)]
 pub enum JobList {
     Ready,
@@ -32,16 +32,16 @@ pub struct TubeList {
     pub tube: TubeNumber,
 }
 
-/// Who has a job: the client at a seat, or a list of the job's tube. It is never in both, and so one order
-/// serves for both.
+/// The holder of a job: the client at a seat, or a list of the job's tube. A job never has both, so
+/// one order serves for both.
 #[derive(Clone, Copy)]
 pub enum Holder {
     Held(Seat),
     Listed(TubeList),
 }
 
-/// The jobs that a holder has, named by one number, so that a place is small. A list of a tube has four times
-/// the number of the tube and 0, 1 or 2, and a client four times its seat and 3.
+/// A holder as one number, so that a place is small. A list of a tube has four times the number of
+/// the tube plus 0, 1 or 2, and a client four times its seat plus 3.
 #[derive(Clone, Copy)]
 pub struct Group(u64);
 
@@ -64,14 +64,14 @@ impl Model for Group {
 impl Group {
     ghost use Rattle.bq_jobs.specs.Places.{held_by, list_of};
 
-    /// The jobs of a tube in one state.
+    /// Returns the holder of the jobs of a tube in one state.
     pub fn list(list: JobList, tube: TubeNumber) -> Group
         ensures { result ≡ list_of tube list }
     {
         Group(tube.get() * 4 + number_of(list))
     }
 
-    /// The jobs of the client at a seat.
+    /// Returns the holder of the jobs of the client at a seat.
     pub fn held(seat: Seat) -> Group
         ensures { result ≡ held_by seat }
     {
@@ -79,7 +79,7 @@ impl Group {
     }
 }
 
-// Which of the three lists of a tube it is.
+// Returns the number of a list among the three of a tube.
 pub(crate) fn number_of(list: JobList) -> u64
     ensures { result ≡ list_number list }
 {
@@ -128,8 +128,8 @@ impl Ord for Group {
     }
 }
 
-/// A number in two halves, which lies at any multiple of four bytes: so a place with a group of one byte has 20, and
-/// fills in its box what is left beside the tag.
+/// A number as two halves, which needs an alignment of only four bytes. So a place with a group of
+/// one byte takes 20 bytes, and in a box it uses the space after the tag.
 #[derive(Clone, Copy)]
 pub struct Halves {
     low: u32,
@@ -154,7 +154,7 @@ impl Model for Halves {
 impl Halves {
     ghost use Rattle.std.specs.Prelude.{◌≡◌};
 
-    /// A number.
+    /// Splits a number.
     fn of(number: u64) -> Halves
         ensures { result ≡ number }
     {
@@ -164,7 +164,7 @@ impl Halves {
         }
     }
 
-    /// The number.
+    /// Returns the number.
     fn get(self) -> u64
         ensures { result ≡ self }
     {
@@ -229,7 +229,8 @@ impl<G: Ord> Ord for ShelfPlace<G> {
     ghost matches_eq = { λ a b. refl };
 
     fn cmp(&self, other: &ShelfPlace<G>) -> Ordering {
-        // Each way has a branch of its own, so that a search goes on from it with no order made first.
+        // Each result has a branch of its own, so that a search continues from there without
+        // building an `Ordering`.
         if is_below(&self.group, &other.group) {
             Ordering::Less
         } else if is_above(&self.group, &other.group) {
@@ -240,8 +241,9 @@ impl<G: Ord> Ord for ShelfPlace<G> {
     }
 }
 
-// Whether the one comes before the other, and whether behind it. In a function of its own each is one test of two numbers; an
-// order that is asked twice is made first.
+// These two functions tell whether a group comes before or after another. Each compiles to one test
+// of two numbers. With a single `Ordering` that is tested twice, the `Ordering` would be built
+// first.
 fn is_below<G: Ord>(group: &G, other: &G) -> bool
     ensures { result ≡ is_lt (G.cmp group.now other.now) }
 {
@@ -254,7 +256,7 @@ fn is_above<G: Ord>(group: &G, other: &G) -> bool
     group.cmp(other).is_gt()
 }
 
-/// What ends at a moment: a delay or a lease.
+/// A kind of timer: a delay or a lease, which ends at a moment.
 #[derive(Clone, Copy, PartialEq, Eq, PartialOrd, Ord)]
 pub enum Timer {
     Due,
@@ -264,7 +266,7 @@ pub enum Timer {
 impl<G> ShelfPlace<G> {
     ghost use Rattle.bq_jobs.specs.PlaceOrder.{numbers_cmp};
 
-    /// The place of a job in a group.
+    /// Returns the place of a job in a group.
     pub(crate) fn of(group: G, at: u64, id: JobId) -> ShelfPlace<G>
         ensures { result ≡ record { at = at; id = id; group = group } }
     {
@@ -275,7 +277,7 @@ impl<G> ShelfPlace<G> {
         }
     }
 
-    // The order within a group.
+    // Compares two places within a group.
     fn cmp_numbers(&self, other: &ShelfPlace<G>) -> Ordering
         ensures { result ≡ numbers_cmp self.now other.now }
     {
@@ -290,7 +292,7 @@ impl<G> ShelfPlace<G> {
     }
 }
 
-/// The place of the job of this id among those of its tube's list or of its holder.
+/// Returns the place of the job with this id in its tube's list or among the jobs of its holder.
 pub(crate) fn group_place(id: JobId, job: &Row) -> Option<ShelfPlace<Group>>
     requires { job.now.id ≡ id }
     ensures { result ≡ group_place job.now }
@@ -298,7 +300,7 @@ pub(crate) fn group_place(id: JobId, job: &Row) -> Option<ShelfPlace<Group>>
     place_in_groups(id, job.tube, Standing::of_row(job))
 }
 
-/// The place of the job of this id among all delays and leases.
+/// Returns the place of the job with this id among all delays and leases, if it has one.
 pub(crate) fn timer_place(id: JobId, job: &Row) -> Option<ShelfPlace<Timer>>
     requires { job.now.id ≡ id }
     ensures { result ≡ timer_place job.now }
@@ -306,7 +308,8 @@ pub(crate) fn timer_place(id: JobId, job: &Row) -> Option<ShelfPlace<Timer>>
     place_in_timers(id, Standing::of_row(job))
 }
 
-/// The place in its tube's list, or at its holder, of the job of this id that stands so. Each job has one.
+/// Returns the place that a job with this id, tube and standing has in its tube's list or among the
+/// jobs of its holder. Each job has one.
 pub(crate) fn place_in_groups(
     id: JobId,
     tube: TubeNumber,
@@ -323,7 +326,8 @@ pub(crate) fn place_in_groups(
     Some(ShelfPlace::of(group, number, id))
 }
 
-/// The place among all delays and leases of the job of this id that stands so.
+/// Returns the place that a job with this id and standing has among all delays and leases, if it
+/// has one.
 pub(crate) fn place_in_timers(id: JobId, at: Standing) -> Option<ShelfPlace<Timer>>
     ensures { result ≡ in_timers_at at.state id }
 {
@@ -334,7 +338,7 @@ pub(crate) fn place_in_timers(id: JobId, at: Standing) -> Option<ShelfPlace<Time
     }
 }
 
-/// Sets boxes aside for so many places, those that are taken included.
+/// Allocates boxes for a number of places, which includes those in use.
 pub(crate) fn make_room<G: Ord + Drop, S: BoxSource>(
     order: &mut Shelf<ShelfPlace<G>, ()>,
     source: &mut S,
@@ -352,7 +356,7 @@ pub(crate) fn make_room<G: Ord + Drop, S: BoxSource>(
     }
 }
 
-/// Puts a place in, if there is one.
+/// Adds a place, if there is one.
 pub(crate) fn enter<G: Ord + Drop>(
     order: &mut Shelf<ShelfPlace<G>, ()>,
     place: Option<ShelfPlace<G>>,
@@ -368,7 +372,7 @@ pub(crate) fn enter<G: Ord + Drop>(
     }
 }
 
-/// Takes a place out, if there is one.
+/// Removes a place, if there is one.
 pub(crate) fn leave<G: Ord + Drop>(
     order: &mut Shelf<ShelfPlace<G>, ()>,
     place: Option<ShelfPlace<G>>,
@@ -383,7 +387,7 @@ pub(crate) fn leave<G: Ord + Drop>(
     }
 }
 
-/// Takes a place out, if there is one, and puts another one in, if there is one.
+/// Removes one place, if there is one, and adds another, if there is one.
 #[tactic(auto, using(crate::proofs::Counting::digits_grow, crate::proofs::Orders::fewer_places))]
 pub(crate) fn shift<G: Ord + Drop>(
     order: &mut Shelf<ShelfPlace<G>, ()>,
@@ -404,7 +408,7 @@ pub(crate) fn shift<G: Ord + Drop>(
     enter(order, to);
 }
 
-/// The number and the id at the first place of a group.
+/// Returns the number and the id at the first place of a group.
 pub(crate) fn first_rank<G: Ord + Drop + Copy>(
     order: &mut Shelf<ShelfPlace<G>, ()>,
     group: G,

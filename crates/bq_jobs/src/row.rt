@@ -1,4 +1,4 @@
-//! The record of a job, inside, and its changes.
+//! The record of a job inside this crate, and its changes.
 ghost use Rattle.std.specs.Prelude.{◌≡◌, ◌<◌, ◌^◌, [], ◌∷◌};
 ghost use Rattle.bq_jobs.specs.Changed.{standing};
 ghost use Rattle.bq_jobs.specs.Stages.{state_of};
@@ -8,7 +8,7 @@ use bq_job::{Body, Counts, Job, JobId, JobState, Moment, Pri, Seat, TubeName};
 use std::marker::Model;
 use std::snapshot::Snapshot;
 
-/// Which state a job is in, without what is told beside it.
+/// The kind of a job's state, without its data.
 #[derive(Clone, Copy)]
 pub enum Stage {
     Ready,
@@ -17,28 +17,31 @@ pub enum Stage {
     Buried,
 }
 
-/// The record of a job, in which its tube is a number. To a contract it is a job in the tube of that number.
-// Fields lie in memory as they stand here: what tells the places of a job comes first, beside its key. Its state is in
-// three of them, since an enum would take a word for its tag and its seat, and here they lie behind three short numbers.
+/// The record of a job, in which the tube is a number. A contract sees it as a job in the tube of
+/// that number.
+// Fields are in memory in this order: the ones that give the places of a job come first, next to
+// its key. The state is spread over three fields: an enum would take a word for its tag and its
+// seat, while here both follow three short numbers.
 #[derive(Drop)]
 pub struct Row {
-    /// The tube that it was put into, for life.
+    /// The tube of its put. It never changes.
     pub tube: TubeNumber,
-    /// The moment or the number of its state, if that has one.
+    /// The moment or the number that belongs to its state, if the state has one.
     at: u64,
     pub pri: Pri,
     /// The delay of its put or of its last release, in seconds.
     pub delay: u32,
     /// How long a client may hold it, in seconds, at least 1.
     pub ttr: u32,
-    /// Who holds it, if anybody does.
+    /// The client that holds it, if it is reserved.
     seat: Seat,
     stage: Stage,
     pub body: Body,
-    /// When its put was accepted.
+    /// The moment at which its put was accepted.
     pub put_at: Moment,
     pub counts: Counts,
-    /// Its id, which only contracts see: a record is found by it, and keeps no second one.
+    /// Its id, for contracts only: the key of a record is its id, so the record does not store it
+    /// again.
     pub id: Snapshot<JobId>,
 }
 
@@ -62,7 +65,7 @@ impl Model for Row {
 }
 
 impl Row {
-    /// Its state.
+    /// Returns its state.
     pub fn state(&self) -> JobState
         ensures { result ≡ self.now.state }
     {
@@ -74,7 +77,7 @@ impl Row {
         }
     }
 
-    /// Puts it into a state.
+    /// Sets its state.
     pub fn set_state(&mut self, state: JobState)
         ensures { self.new ≡ record self.old { state = state } }
     {
@@ -85,7 +88,7 @@ impl Row {
     }
 }
 
-// What is kept of a state.
+// Returns the fields that represent a state.
 fn parts_of(state: JobState) -> (Stage, Seat, u64)
     ensures { state_of result.0 result.1 result.2 ≡ state }
 {
@@ -97,7 +100,7 @@ fn parts_of(state: JobState) -> (Stage, Seat, u64)
     }
 }
 
-/// The record of a job in the tube of this number.
+/// Returns the record of a job whose tube has this number.
 pub(crate) fn row_of(job: Job, number: u64) -> Row
     requires { number < 2 ^ 62 }
     ensures { result ≡ record job { tube = number ∷ [] } }
@@ -118,7 +121,7 @@ pub(crate) fn row_of(job: Job, number: u64) -> Row
     }
 }
 
-/// The job of the record at this id, in the tube of this name.
+/// Returns the job of the record with this id, in the tube with this name.
 pub(crate) fn job_of(id: JobId, row: Row, tube: TubeName) -> Job
     requires { row.id ≡ id }
     ensures { result ≡ record row { tube = tube } }
@@ -137,7 +140,7 @@ pub(crate) fn job_of(id: JobId, row: Row, tube: TubeName) -> Job
     }
 }
 
-/// What tells where a job stands in each order, beside its id and its tube.
+/// What gives a job's place in each order, besides its id and its tube.
 #[derive(Clone, Copy)]
 pub struct Standing {
     pub pri: Pri,
@@ -145,7 +148,7 @@ pub struct Standing {
 }
 
 impl Standing {
-    /// Where a job stands.
+    /// Returns the standing of a job.
     pub fn of(job: &Job) -> Standing
         ensures { result ≡ standing job.now }
     {
@@ -155,7 +158,7 @@ impl Standing {
         }
     }
 
-    /// Where the job of a record stands.
+    /// Returns the standing of a record's job.
     pub(crate) fn of_row(row: &Row) -> Standing
         ensures { result ≡ standing row.now }
     {
@@ -166,7 +169,7 @@ impl Standing {
     }
 }
 
-/// A job was changed: its tube, and where it stood before and stands now.
+/// The report about a changed job: its tube, and its standing before and after the change.
 #[derive(Clone, Copy)]
 pub struct Moved {
     pub tube: TubeName,
@@ -174,7 +177,7 @@ pub struct Moved {
     pub to: Standing,
 }
 
-/// The same, with the number of its tube.
+/// The same, with the number of the tube.
 #[derive(Clone, Copy)]
 pub(crate) struct MovedRow {
     pub(crate) tube: TubeNumber,
@@ -182,11 +185,11 @@ pub(crate) struct MovedRow {
     pub(crate) to: Standing,
 }
 
-/// Who changes a job.
+/// A change of a job.
 pub trait JobEdit {
     ghost use Rattle.bq_job.specs.declared.job.Job.{Job};
 
-    /// What a job becomes.
+    /// The job after the change.
     ghost edited: { Self → Job → Job };
 
     /// Changes a job.

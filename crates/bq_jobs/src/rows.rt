@@ -18,8 +18,8 @@ use bq_job::{Body, JobId, Moment, NoMemory};
 use std::alloc::Global;
 use std::marker::Model;
 
-/// The records of the jobs, each found by its id, and the first of each kind at once: [`super::Jobs`] with numbers in
-/// place of names.
+/// The records of the jobs. A record is found by its id, and the first one of each kind without a
+/// search. It is [`super::Jobs`] with numbers in place of names.
 #[derive(Drop)]
 pub(crate) struct Rows {
     by_id: Shelf<JobId, Row>,
@@ -42,7 +42,7 @@ impl Rows {
     ghost use Rattle.std.specs.Borrow.{sem};
     ghost use Rattle.bq_jobs.specs.Lent.{LeavesRows};
 
-    /// No jobs, and no room for one.
+    /// Returns a value with no jobs, and no room for one.
     pub(crate) fn new() -> Rows
         ensures { result ≡ record { jobs = []; room = 0; comparisons = 0; tubes = [] } }
     {
@@ -53,7 +53,7 @@ impl Rows {
         }
     }
 
-    /// How many jobs there are.
+    /// Returns the number of jobs.
     pub(crate) fn len(&self) -> usize
         ensures len { result ≡ length self.now.jobs }
         ensures ordered { AreIdsWithin 0 self.now.jobs (2 ^ 64) }
@@ -61,14 +61,14 @@ impl Rows {
         self.by_id.len()
     }
 
-    /// How many more jobs can be added.
+    /// Returns how many more jobs can be added.
     pub(crate) fn room(&self) -> usize
         ensures { result ≡ self.now.room }
     {
         self.by_id.spare()
     }
 
-    /// The comparisons of keys so far. The count stops at 2^64 - 1.
+    /// Returns how often two keys were compared so far. The count stops at 2^64 - 1.
     pub(crate) fn comparisons(&self) -> u64
         ensures { result ≡ self.now.comparisons }
     {
@@ -78,8 +78,8 @@ impl Rows {
             .saturating_add(self.timers.comparisons())
     }
 
-    /// Makes room for a job, where there is none. What was taken before a refusal is kept for the next
-    /// call.
+    /// Makes room for a job, if there is none. What was allocated before a failure is kept for the
+    /// next call.
     pub(crate) fn reserve_one(&mut self, alloc: Global) -> Result<(), NoMemory>
         ensures ok { OnOk result (self.new ≡ record self.old { room = max self.old.room 1 }) }
         ensures refused { OnErr result (self.old.room ≡ 0) }
@@ -89,8 +89,8 @@ impl Rows {
         self.reserve_one_from(&mut heap)
     }
 
-    /// The same, out of boxes of a source. The boxes of the other orders come first, so that room for a
-    /// job is only told where all are there.
+    /// The same, with boxes from a source. The boxes of the other orders are allocated first, so
+    /// there is no room for a job until all of its boxes are there.
     pub(crate) fn reserve_one_from<S: BoxSource>(&mut self, source: &mut S) -> Result<(), NoMemory>
         ensures ok { OnOk result (self.new ≡ record self.old { room = max self.old.room 1 }) }
         ensures refused { OnErr result (self.old.room ≡ 0) }
@@ -110,7 +110,7 @@ impl Rows {
         }
     }
 
-    /// Gives back the room of one job, where there is room for more jobs than there are.
+    /// Returns the room of one job to the allocator, if there is room for more jobs than there are.
     pub(crate) fn give_back(&mut self)
         ensures { self.new ≡ record self.old {
           room =
@@ -124,7 +124,7 @@ impl Rows {
         }
     }
 
-    /// Puts the job of this id in. It uses the room of one.
+    /// Adds the job with this id, which uses the room of one.
     #[tactic(auto, using(crate::proofs::Shelved::found_in, crate::proofs::Shelved::jobs_added))]
     pub(crate) fn add(&mut self, id: JobId, job: Row)
         requires id { job.id ≡ id }
@@ -140,7 +140,8 @@ impl Rows {
         self.by_id.insert(id, job);
     }
 
-    /// Takes the job of this id out, if there is one. Its room comes back.
+    /// Removes the job with this id and returns its record, if there is one. Its room is free
+    /// again.
     #[tactic(auto, using(crate::proofs::Shelved::removals))]
     pub(crate) fn remove(&mut self, id: JobId) -> Option<Row>
         ensures job { result ≡ job_with id self.old.jobs }
@@ -156,8 +157,8 @@ impl Rows {
         Some(job)
     }
 
-    /// Changes the job of this id, if there is one. Its record stays where it lies, and it goes from its
-    /// places in the orders to those where it stands then. No memory is taken.
+    /// Changes the job with this id, if there is one, and moves it to its new place in each order.
+    /// The record itself does not move, and nothing is allocated.
     pub(crate) fn change<E: JobEdit>(&mut self, id: JobId, edit: &E) -> Option<MovedRow>
         requires id { KeepsId (E.edited edit.now) }
         requires tube { IgnoresTube (E.edited edit.now) }
@@ -183,7 +184,7 @@ impl Rows {
         Some(moved)
     }
 
-    /// The job of this id.
+    /// Returns the record of the job with this id.
     pub(crate) fn get(&mut self, id: JobId) -> Option<&Row>
         ensures* after { sem 𝓛 (LeavesRows self.entry) }
         ensures job { option_map (λ j. j.now) result ≡ job_with id self.old.jobs }
@@ -191,7 +192,7 @@ impl Rows {
         self.by_id.get(&id)
     }
 
-    /// The number of the tube of the job of this id.
+    /// Returns the number of the tube of the job with this id.
     pub(crate) fn number_of(&mut self, id: JobId) -> Option<u64>
         ensures number { result ≡ option_map (λ j. number_in j.tube) (job_with id self.old.jobs) }
         ensures same { self.new ≡ record self.old { comparisons = self.new.comparisons } }
@@ -203,7 +204,8 @@ impl Rows {
         }
     }
 
-    /// The number of the tube of the job of this id, and one more owner of its body, unless that is refused.
+    /// Returns the number of the tube of the job with this id, and another reference to its body,
+    /// or `NoMemory` for that.
     pub(crate) fn share(&mut self, id: JobId) -> Option<(u64, Result<Body, NoMemory>)>
         ensures none { is_some result ≡ is_some (job_with id self.old.jobs) }
         ensures number { IfSome result (λ s. IsNumberOf (job_with id self.old.jobs) s.0) }
@@ -217,7 +219,7 @@ impl Rows {
         }
     }
 
-    /// One more owner of the body of the job of this id, unless that is refused.
+    /// Returns another reference to the body of the job with this id, or `NoMemory`.
     pub(crate) fn share_body(&mut self, id: JobId) -> Option<Result<Body, NoMemory>>
         ensures none { is_some result ≡ is_some (job_with id self.old.jobs) }
         ensures body { IfSome result (λ s. IfOk s (IsBodyOf (job_with id self.old.jobs))) }
@@ -230,7 +232,7 @@ impl Rows {
         }
     }
 
-    /// The number and the id of the first job that a holder has: by that number, then by id.
+    /// Returns the number and the id of the first job of a holder: by that number, then by id.
     pub(crate) fn first_of_group(&mut self, group: Group) -> Option<(u64, JobId)>
         ensures rank { result ≡ first_held group self.old.jobs }
         ensures same { self.new ≡ record self.old { comparisons = self.new.comparisons } }
@@ -239,7 +241,8 @@ impl Rows {
         places::first_rank(&mut self.groups, group)
     }
 
-    /// The moment and the id of the first delay or lease: by moment, then by id.
+    /// Returns the moment and the id of the first delay or of the first lease: by moment, then by
+    /// id.
     pub(crate) fn first_of_timer(&mut self, timer: Timer) -> Option<(Moment, JobId)>
         ensures rank { result ≡ first_timed timer self.old.jobs }
         ensures same { self.new ≡ record self.old { comparisons = self.new.comparisons } }
@@ -249,7 +252,7 @@ impl Rows {
     }
 }
 
-// Changes a job where it lies.
+// Changes a job in place.
 fn apply<E: JobEdit>(edit: &E, job: &mut Row) -> MovedRow
     ensures job { job.new ≡ E.edited edit.now job.old }
     ensures moved { result ≡ row_moved_by (E.edited edit.now) job.old }
@@ -263,7 +266,7 @@ fn apply<E: JobEdit>(edit: &E, job: &mut Row) -> MovedRow
     }
 }
 
-// Changes the job of this id where it lies, if there is one.
+// Changes the job with this id in place, if there is one.
 fn edit_at<E: JobEdit>(by_id: &mut Shelf<JobId, Row>, id: JobId, edit: &E) -> Option<MovedRow>
     ensures moved { result
         ≡ option_map (row_moved_by (E.edited edit.now)) (entry_at id by_id.old.entries) }

@@ -1,4 +1,4 @@
-//! The tubes that are known, and their numbers.
+//! The registered tubes and their numbers.
 ghost use Rattle.std.specs.Cmp as Cmp;
 ghost use Rattle.bq_jobs.specs.Names.{name_cmp, name_total};
 ghost use Rattle.std.proofs.Common.{refl};
@@ -13,8 +13,9 @@ use std::alloc::Global;
 use std::cmp::Ordering;
 use std::marker::Model;
 
-/// The number of a tube, by which records and keys name it. To a contract it is a name of one byte, if a byte
-/// could be so large: so what is said of records with names is said of those with numbers.
+/// The number of a tube, which records and keys use in place of its name. A contract sees it as a
+/// name of one element that may be any number below 2^62. So a statement about jobs with names also
+/// holds for records with numbers.
 #[derive(Clone, Copy)]
 pub struct TubeNumber(u64);
 
@@ -26,7 +27,7 @@ impl Model for TubeNumber {
 
     ghost view = { λ n. n.0 ∷ [] };
 
-    // Two bits are left for what is told of a tube beside its number.
+    // Two bits are left for what is stored about a tube beside its number.
     ghost invariant = { λ n. n.0 < 2 ^ 62 };
 
     ghost inverse = { λ name. record { 0 = number_in name } };
@@ -36,7 +37,7 @@ impl TubeNumber {
     ghost use Rattle.std.specs.Prelude.{◌≡◌, [], ◌∷◌, ◌<◌, ◌^◌};
     ghost use Rattle.bq_jobs.specs.Names.{number_in};
 
-    /// The tube of this number.
+    /// Returns the number of a tube.
     pub(crate) fn of(number: u64) -> TubeNumber
         requires { number < 2 ^ 62 }
         ensures { result ≡ number ∷ [] }
@@ -44,7 +45,7 @@ impl TubeNumber {
         TubeNumber(number)
     }
 
-    /// The number.
+    /// Returns the number as an integer.
     pub(crate) fn get(self) -> u64
         ensures number { result ≡ number_in self }
         ensures alone { self ≡ result ∷ [] }
@@ -92,16 +93,18 @@ impl Ord for TubeNumber {
     }
 }
 
-// One more than the greatest number, which leaves two bits for what is told of a tube beside it.
+// One more than the greatest number. It leaves two bits for what is stored about a tube beside its
+// number.
 const TUBES: u64 = 1 << 62;
 
-/// The tubes that are known, each by its name and by its number. A number is given once and not again: so none
-/// can come to stand for another tube than the jobs were put into that have it.
+/// The registered tubes, each found by its name and by its number. A number is never used again, so
+/// the jobs that have it always belong to the tube that they were added to.
 #[derive(Drop)]
 pub(crate) struct NumberedTubes {
     numbers: Catalog<TubeName, u64>,
     names: Catalog<u64, TubeName>,
-    // The number of the next tube. After 2^62 tubes, one after another, none more can be known.
+    // The number of the next tube. When 2^62 tubes have been registered, one after another, no more
+    // can be.
     next: u64,
 }
 
@@ -116,7 +119,7 @@ impl Model for NumberedTubes {
 }
 
 impl NumberedTubes {
-    /// No tube.
+    /// Returns a value with no tubes.
     pub(crate) fn new() -> NumberedTubes
         ensures { result ≡ record { numbers = []; names = []; next = 0 } }
     {
@@ -127,7 +130,7 @@ impl NumberedTubes {
         }
     }
 
-    /// The number of a tube.
+    /// Returns the number of a tube, if it is registered.
     pub(crate) fn number_of(&self, name: &TubeName) -> Option<u64>
         ensures number { result ≡ number_of name.now self.now }
         ensures few { IfSome result (λ n. n < 2 ^ 62) }
@@ -139,7 +142,7 @@ impl NumberedTubes {
         }
     }
 
-    /// The name of the tube of this number.
+    /// Returns the name of the tube with this number.
     pub(crate) fn name_of(&self, number: u64) -> Option<&TubeName>
         ensures name { option_map (λ name. name.now) result ≡ name_of number self.now }
         ensures paired { IsPaired self.now }
@@ -147,7 +150,8 @@ impl NumberedTubes {
         self.names.peek(&number)
     }
 
-    /// Sees to it that a tube is known. The growth that this needs comes before any change.
+    /// Registers a tube, unless it is registered already. The memory that this needs is allocated
+    /// before any change.
     pub(crate) fn add(&mut self, alloc: Global, name: &TubeName) -> Result<(), NoMemory>
         ensures after { self.new
             ≡ (if is_ok result then with_known name.now self.old else self.old) }
@@ -172,7 +176,7 @@ impl NumberedTubes {
         Ok(())
     }
 
-    /// Knows a tube no longer.
+    /// Removes a tube, if it is registered.
     pub(crate) fn remove(&mut self, name: &TubeName)
         ensures after { self.new ≡ without_known name.now self.old }
         ensures paired { IsPaired self.old }
