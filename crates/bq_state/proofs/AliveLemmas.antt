@@ -1,4 +1,4 @@
--- Whether a tube exists, by tests in whichever order.
+-- Whether a tube exists, with its tests in any order.
 use Rattle.std.proofs.Common.{◌||◌, ◌≡◌, Bool, false, refl, true}
 
 pub name_last : (jobs seated first : Bool) → ((jobs || seated) || first) ≡ (first || jobs || seated)

@@ -23,21 +23,21 @@ all_others n high [] less h = refl
 all_others n high (s ∷ seats) less h =
     grind (arith, common_steps, heads, ne_eqb, all_others n (suc high) seats)
 
--- a change of the seat of a number leaves the others
+-- a change of the seat with a number leaves the others
 pub others_left : (n : ℕ) (f : SeatRecord → SeatRecord) → ((s : SeatRecord) → (f s).number ≡ s.number) → (seats : List SeatRecord)
     → others n (map (λ s. if s.number == n then f s else s) seats) ≡ others n seats
 others_left n f keeps [] = refl
 others_left n f keeps (s ∷ seats) = grind (arith, others_left n f keeps seats)
 
 module _ (p : SeatRecord → Bool) where
-  -- those that pass are the seat with a number, if it does, and others
+  -- the seats that pass are the seat with a number, if it passes, and others that pass
   parted : (n low : ℕ) (seats : List SeatRecord) → map (λ s. s.number) seats ≡ numbers low (length seats)
       → cond (seat_passes p (seat_with n seats)) 1 0 + count_by p (others n seats) ≡ count_by p seats
   parted n low [] h = refl
   parted n low (s ∷ seats) h =
       grind (arith, common_steps, heads, cases_Bool, eqb-true, all_others, count_cons, parted n (suc low) seats)
 
-  -- the count of those that pass, once the seat of a number is changed
+  -- the count of seats that pass, after the seat with a number has changed
   count_moved : (n : ℕ) (f : SeatRecord → SeatRecord) → ((s : SeatRecord) → (f s).number ≡ s.number) → (seats : List SeatRecord)
       → AreNumbered seats → AreNumbered (map (λ s. if s.number == n then f s else s) seats) → length seats ≤ greatest
       → count_with (seat_passes p (seat_with n (map (λ s. if s.number == n then f s else s) seats))) (count_without (seat_passes p (seat_with n seats)) (count_by p seats))
@@ -52,23 +52,23 @@ module _ (p : SeatRecord → Bool) where
       let many = length-map seats g in
       ap (count_with (seat_passes p (seat_with n new))) was ∙ with_is (seat_passes p (seat_with n new)) rest (omega (arith, is, few, many, fits)) ∙ is
 
-  -- if a change makes no difference, the count stays
+  -- a change that does not affect the test does not affect the count
   pub count_stays : (f : SeatRecord → SeatRecord) → ((s : SeatRecord) → p (f s) ≡ p s) → (seats : List SeatRecord) → count_by p (map f seats) ≡ count_by p seats
   count_stays f same [] = refl
   count_stays f same (s ∷ seats) = grind (arith, count_cons, count_stays f same seats)
 
-  -- one is counted if there is one
+  -- the count is above 0 if and only if a seat passes
   pub some_pass : (seats : List SeatRecord) → nat_lt 0 (count_by p seats) ≡ list_any p seats
   some_pass [] = refl
   some_pass (s ∷ seats) = grind (arith, common_steps, some_pass seats)
 
--- the seat of a number, once it is changed
+-- the seat with a number, after it has changed
 pub found_changed : (n : ℕ) (f : SeatRecord → SeatRecord) → ((s : SeatRecord) → (f s).number ≡ s.number) → (s : SeatRecord) (seats : List SeatRecord)
     → seat_with n seats ≡ Some s → seat_with n (map (λ t. if t.number == n then f t else t) seats) ≡ Some (f s)
 found_changed n f keeps s [] found = absurd cc
 found_changed n f keeps s (t ∷ seats) found = grind (arith, common_steps, cases_Bool, found_changed n f keeps s seats)
 
--- the count of seats that pass, once the seat of a number is changed that is known
+-- the count of seats that pass, after a known seat has changed
 pub count_changed : (p : SeatRecord → Bool) (n : ℕ) (f : SeatRecord → SeatRecord) → ((s : SeatRecord) → (f s).number ≡ s.number) → (s : SeatRecord) (seats : List SeatRecord)
     → AreNumbered seats → AreNumbered (map (λ s. if s.number == n then f s else s) seats) → length seats ≤ greatest → seat_with n seats ≡ Some s
     → count_with (p (f s)) (count_without (p s) (count_by p seats)) ≡ count_by p (map (λ s. if s.number == n then f s else s) seats)
@@ -76,7 +76,7 @@ count_changed p n f keeps s seats h h' fits found =
     (λ i. count_with (seat_passes p (sym (found_changed n f keeps s seats found) i)) (count_without (seat_passes p (sym found i)) (count_by p seats)))
     ∙ count_moved p n f keeps seats h h' fits
 
--- and where that seat passes as before
+-- the same if that seat passes as before
 pub count_unchanged : (p : SeatRecord → Bool) (n : ℕ) (f : SeatRecord → SeatRecord) → ((s : SeatRecord) → (f s).number ≡ s.number) → (s : SeatRecord) (seats : List SeatRecord)
     → AreNumbered seats → AreNumbered (map (λ s. if s.number == n then f s else s) seats) → seat_with n seats ≡ Some s → p (f s) ≡ p s
     → count_by p (map (λ s. if s.number == n then f s else s) seats) ≡ count_by p seats
@@ -84,7 +84,7 @@ count_unchanged p n f keeps s seats h h' found same =
     let new = map (λ t. if t.number == n then f t else t) seats in
     grind (arith, common_steps, parted p n 0 new h', others_left, parted p n 0 seats h, found_changed)
 
--- How many clients there are, once the seat of a number is changed,
+-- The number of clients, after the seat with a number has changed,
 pub clients_moved : (n : ℕ) (what : SeatChange) (seats : List SeatRecord) → AreNumbered seats → AreNumbered (map (seat_changed_at n what) seats) → length seats ≤ greatest
     → clients_with (seat_with n (map (seat_changed_at n what) seats)) (clients_without (seat_with n seats) (clients_of seats)) ≡ clients_of (map (seat_changed_at n what) seats)
 clients_moved n what seats h h' fits = λ i. record {
@@ -92,7 +92,7 @@ clients_moved n what seats h h' fits = λ i. record {
   waiting = count_moved is_waiting n (seat_changed what) (number_kept what) seats h h' fits i;
 }
 
--- and once it watches other tubes
+-- and after it watches other tubes.
 pub clients_watching : (names : List (List ℕ)) (i : ℕ) (s : SeatRecord) (seats : List SeatRecord) → slice_get seats i ≡ Some s → AreNumbered seats
     → clients_of (set seats i (watching names s)) ≡ clients_of seats
 clients_watching names i s seats found h = grind (arith, common_steps, changed_there seats i s (watching names) h found)

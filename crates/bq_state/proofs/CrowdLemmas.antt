@@ -1,4 +1,4 @@
--- Counts of the clients at tubes, once a seat changes.
+-- Counts of the clients at tubes after a seat changes.
 use Rattle.std.proofs.{Common.{◌&&◌, ◌==◌, ◌||◌, ◌∙◌, ◌∷◌, ◌≡◌, ◌≤◌, if◌then◌else◌, Bool, List, None, Option, Some, [], ℕ, ap, false, length, map, not, refl, sym, true}, lemmas.Bool.{and_parts, cases_Bool}}
 use Rattle.std.proofs.{Common.arith, lemmas.{Bool.not-true, Grind.common_steps}}
 use Rattle.std.specs.{Cmp.Lexicographic.bytes_decides, List.{AllByRecursion as All, list_any}, Prelude.count_by}
@@ -9,7 +9,7 @@ use Rattle.bq_state.specs.{Crowds.{recounted, touched}, SeatChanges.{AreNumbered
 use Rattle.bq_state.specs.TubeEntries.{AreInOrder}
 use Rattle.bq_state.proofs.{ClientLemmas.{count_changed, count_stays, found_changed, some_pass}, PartsLemmas.{all_read, all_set, changed_there, number_kept, numbered_after, seat_there}, TubeLemmas.{before_differs, same_name}}
 
--- names are the same either way round
+-- the comparison of names is symmetric
 pub same_turned : (a b : List ℕ) → is_same_name a b ≡ is_same_name b a
 same_turned a b = go (is_same_name a b) (is_same_name b a) refl refl
   where
@@ -44,7 +44,7 @@ share_at what s name = record {
   waiting = watches name s && (what.waiting && is_waiting s);
 }
 
--- Changes by names that stand at the entries: at one name,
+-- Changes of the entries with a name: with one name,
 module _ (f : Crowd → Crowd) where
   later_stay : (name : List ℕ) (g : TubeRecord → Crowd) (t : TubeRecord) → name ≡ t.name → (es : List TubeRecord) → All (λ u. is_name_before t.name u.name ≡ true) es
       → map g es ≡ map (λ u. if is_same_name name u.name then f (g u) else g u) es
@@ -64,7 +64,7 @@ module _ (f : Crowd → Crowd) where
       ap (λ m. list_any (is_same_name m) ns) (sym (same_name n name e))
       ∙ not-true (list_any (is_same_name n) ns) (and_parts (not (list_any (is_same_name n) ns)) (none_twice ns) once).0
 
-  -- and at names of which none stands twice
+  -- and with several names, each of them once
   at_all_named : (names : List (List ℕ)) (g : TubeRecord → Crowd) (es : List TubeRecord) → AreInOrder es → none_twice names ≡ true
       → crowds_at_all names f es (map g es) ≡ map (λ t. if list_any (is_same_name t.name) names then f (g t) else g t) es
   at_all_named [] g es order once = refl
@@ -91,7 +91,7 @@ and_turned : (a b : Bool) → a && b ≡ b && a
 and_turned a b = grind (arith, common_steps)
 
 module _ (n : ℕ) (what : SeatChange) (s : SeatRecord) (seats : List SeatRecord) (h : AreNumbered seats) (fits : length seats ≤ greatest) (found : seat_with n seats ≡ Some s) where
-  -- the count of those that are of a kind and pass, where the change touches it or not
+  -- the count of the seats that are of a kind and pass, whether the change affects it or not
   field : (p a c : SeatRecord → Bool) (q : Bool) → ((t : SeatRecord) → p t ≡ c t && a t) → (q ≡ false → (t : SeatRecord) → p (seat_changed what t) ≡ p t)
       → count_with (a (seat_changed what s) && (q && c (seat_changed what s))) (count_without (a s && (q && c s)) (count_by p seats)) ≡ count_by p (map (seat_changed_at n what) seats)
   field p a c true is same =
@@ -100,7 +100,7 @@ module _ (n : ℕ) (what : SeatChange) (s : SeatRecord) (seats : List SeatRecord
       ∙ count_changed p n (seat_changed what) (number_kept what) s seats h (numbered_after n what seats h) fits found
   field p a c false is same = grind (arith, count_stays)
 
-  -- the counts of a tube, once the seat is changed
+  -- the counts of a tube, after the seat has changed
   pub crowd_moved : (name : List ℕ) → crowd_with (share_at (touched what) (seat_changed what s) name) (crowd_without (share_at (touched what) s name) (crowd_of seats name)) ≡ crowd_of (map (seat_changed_at n what) seats) name
   crowd_moved name = λ i. record {
     using = field (is_user name) (λ t. is_same_name name t.used) (λ t. t.connected) (touched what).using (λ t. refl) (λ e t. grind (arith, common_steps)) i;
@@ -108,7 +108,7 @@ module _ (n : ℕ) (what : SeatChange) (s : SeatRecord) (seats : List SeatRecord
     waiting = field (is_waiter name) (watches name) is_waiting (touched what).waiting (λ t. refl) (λ e t. grind (arith, common_steps)) i;
   }
 
-  -- and of all tubes
+  -- the counts of all tubes
   some_moved : (es : List TubeRecord) → AreInOrder es → none_twice s.watched ≡ true → none_twice (seat_changed what s).watched ≡ true
       → crowds_recounted Comes (touched what) (seat_changed what s) es (crowds_recounted Goes (touched what) s es (crowds_of seats es)) ≡ crowds_of (map (seat_changed_at n what) seats) es
   some_moved es order once once' =
@@ -117,12 +117,12 @@ module _ (n : ℕ) (what : SeatChange) (s : SeatRecord) (seats : List SeatRecord
       ∙ all_recounted Comes (touched what) (seat_changed what s) g es order once'
       ∙ map_same _ _ es (λ t. crowd_moved t.name)
 
--- if there is no seat with this number, none is changed
+-- if there is no seat with this number, no seat is changed
 pub none_changed : (n : ℕ) (f : SeatRecord → SeatRecord) (seats : List SeatRecord) → seat_with n seats ≡ None → map (λ s. if s.number == n then f s else s) seats ≡ seats
 none_changed n f [] h = refl
 none_changed n f (s ∷ seats) h = grind (arith, common_steps, cases_Bool, none_changed n f seats)
 
--- The counts of the clients at tubes, once the seat of a number is changed, if there is one.
+-- The counts of the clients at tubes, after the seat with a number has changed, if there is one.
 pub crowds_moved : (n : ℕ) (what : SeatChange) (crowds : List Crowd) (seats : List SeatRecord) (es : List TubeRecord) → AreNumbered seats → length seats ≤ greatest → AreInOrder es
     → may_wait what (seat_with n seats) ≡ true → AreCrowds crowds seats es
     → AreCrowds (crowds_recounted_for Comes (touched what) (seat_with n (map (seat_changed_at n what) seats)) es (crowds_recounted_for Goes (touched what) (seat_with n seats) es crowds)) (map (seat_changed_at n what) seats) es

@@ -1,4 +1,4 @@
--- Counts of the clients at tubes, once a client watches a tube more, or one fewer.
+-- Counts of the clients at tubes after a client watches one more tube, or one fewer.
 use Rattle.std.proofs.Common.{◌&&◌, ◌++◌, ◌==◌, ◌||◌, ◌∙◌, ◌∷◌, ◌≡◌, ◌≤◌, if◌then◌else◌, Bool, List, Some, [], ℕ, ap, false, filter, length, map, not, refl, set, slice_get, sym, true}
 use Rattle.std.proofs.{Common.arith, lemmas.Grind.common_steps, Math.Bool.{and-false, or-false}}
 use Rattle.std.specs.{List.list_any, Prelude.count_by}
@@ -9,12 +9,12 @@ use Rattle.bq_state.specs.{Crowds.{AreCrowds, IsSeated, crowd_in, crowd_of, crow
 use Rattle.bq_state.specs.{Tallies.{count_with, count_without}, TubeEntries.AreInOrder}
 use Rattle.bq_state.proofs.{ClientLemmas.{count_changed, count_unchanged}, CrowdLemmas.{at_named, map_same, same_turned}, PartsLemmas.{all_read, all_set, changed_there, seat_read, watching_numbered}, TubeLemmas.same_name}
 
--- a name among those that one was added to
+-- a name in a list with one more name
 any_with : (name more : List ℕ) (names : List (List ℕ)) → list_any (is_same_name name) (names ++ more ∷ []) ≡ list_any (is_same_name name) names || is_same_name name more
 any_with name more [] = or-false (is_same_name name more)
 any_with name more (n ∷ names) = grind (arith, any_with name more names)
 
--- which names are left
+-- the names that are left
 left_without : (lost name : List ℕ) (names : List (List ℕ)) → is_same_name lost name ≡ false
     → list_any (is_same_name name) (filter (λ other. not (is_same_name lost other)) names) ≡ list_any (is_same_name name) names
 left_without lost name [] apart = refl
@@ -40,11 +40,11 @@ module _ (names : List (List ℕ)) (i : ℕ) (s : SeatRecord) (seats : List Seat
   same : (p : SeatRecord → Bool) → p (watching names s) ≡ p s → count_by p seats ≡ count_by p new
   same p e = sym (count_unchanged p i (watching names) (λ t. refl) s seats h numbered (seat_read seats i s h found) e) ∙ ap (count_by p) changed
 
-  -- the counts of a tube that is watched as before
+  -- the counts of a tube that the client watches as before,
   crowd_same : (name : List ℕ) → list_any (is_same_name name) names ≡ watches name s → crowd_of seats name ≡ crowd_of new name
   crowd_same name e = grind (arith, same)
 
-  -- or now is
+  -- that it now watches,
   and_true : (b : Bool) → b && true ≡ b
   and_true b = grind (arith, common_steps)
 
@@ -58,7 +58,7 @@ module _ (names : List (List ℕ)) (i : ℕ) (s : SeatRecord) (seats : List Seat
       one : (b : Bool) (n : ℕ) → count_with b n ≡ count_with (b && list_any (is_same_name name) names) (count_without (b && watches name s) n)
       one b n = λ k. count_with ((sym (and_true b) ∙ ap (λ c. b && c) (sym some)) k) (count_without ((sym (and-false b) ∙ ap (λ c. b && c) (sym none)) k) n)
 
-  -- or no longer
+  -- or that it no longer watches
   crowd_fewer : (name : List ℕ) → list_any (is_same_name name) names ≡ false → crowd_without (share_of_watching name s) (crowd_of seats name) ≡ crowd_of new name
   crowd_fewer name none = λ k. record {
     using = same (is_user name) refl k;
@@ -69,7 +69,7 @@ module _ (names : List (List ℕ)) (i : ℕ) (s : SeatRecord) (seats : List Seat
       one : (b : Bool) (n : ℕ) → n ≡ count_with (b && list_any (is_same_name name) names) n
       one b n = λ k. count_with ((sym (and-false b) ∙ ap (λ c. b && c) (sym none)) k) n
 
--- A client watches a tube more,
+-- A client watches one more tube,
 pub crowds_watching : (more : List ℕ) (i : ℕ) (s : SeatRecord) (crowds : List Crowd) (seats : List SeatRecord) (es : List TubeRecord) → slice_get seats i ≡ Some s → AreNumbered seats → length seats ≤ greatest
     → AreInOrder es → watches more s ≡ false → AreCrowds crowds seats es → AreCrowds (crowds_at more (crowd_with (share_of_watcher s)) es crowds) (set seats i (watching (s.watched ++ more ∷ []) s)) es
 crowds_watching more i s crowds seats es found h fits order none was =

@@ -52,11 +52,11 @@ earliest_from f best [] = sym (no_other best)
 earliest_from f best (x ∷ xs) =
     grind (arith, earliest_of_both, earliest_from f (earlier_of_both best (earliest (f x))) xs)
 
--- the least of all, looked at one by one
+-- the earliest of all moments, found step by step
 pub earliest_of_all : {A : Type 0} (f : A → List ℕ) (xs : List A) → fold (λ b x. earlier_of_both b (earliest (f x))) None xs ≡ earliest (flat_map f xs)
 earliest_of_all f xs = earliest_from f None xs
 
--- where nothing is counted, no pause ends
+-- a tube without counts has no pause that ends
 pub pauses_counted : (entries : List TubeRecord) → All IsFreshUnlessCounted entries → flat_map (λ t. dues_of_pause t.pause) entries ≡ flat_map (λ t. dues_of_pause t.pause) (counted entries)
 pauses_counted [] fresh = refl
 pauses_counted (t ∷ entries) fresh = grind (arith, pauses_counted entries fresh.1)
@@ -65,7 +65,7 @@ pauses_counted (t ∷ entries) fresh = grind (arith, pauses_counted entries fres
 pub all_due : (xs ys zs : List ℕ) → earliest (xs ++ ys ++ zs) ≡ earlier_of_both (earliest xs) (earlier_of_both (earliest ys) (earliest zs))
 all_due xs ys zs = grind (arith, earliest_of_both)
 
--- Two moments are the same where the same moments are before them.
+-- Two optional moments are equal if the same moments come before them.
 told_by_before : (o u : Option ℕ) → ((t : ℕ) → is_before t o ≡ is_before t u) → o ≡ u
 told_by_before None None h = refl
 told_by_before None (Some b) h = absurd (let e : true ≡ nat_lt b b = h b in grind (arith, nat_tests))
@@ -98,7 +98,7 @@ all_of_both : {A : Type 0} (p q : A → Bool) (xs : List A) → (list_all p xs &
 all_of_both p q [] = refl
 all_of_both p q (x ∷ xs) = grind (arith, all_of_both p q xs)
 
--- by rows or by columns
+-- tests by rows and by columns agree
 all_always_true : {A : Type 0} (xs : List A) → list_all (λ _. true) xs ≡ true
 all_always_true [] = refl
 all_always_true (x ∷ xs) = all_always_true xs
@@ -110,7 +110,7 @@ all_turned p (x ∷ xs) ys = ap (λ b. list_all (p x) ys && b) (all_turned p xs 
 not_all : {A : Type 0} (p : A → Bool) (xs : List A) (x : A) → Contains xs x → p x ≡ false → list_all p xs ≡ false
 not_all p xs x here h = grind (arith, common_steps)
 
--- the first of those that pass is after a moment where all of them are
+-- the first of the jobs that pass is after a moment if and only if all of them are
 first_before : (t : ℕ) (p : Job → Bool) (number g : Job → ℕ) → ((a b : Job) → number a ≤ number b → g a ≤ g b) → (jobs : List Job) → is_before t (option_map g (first_of p (λ a b. is_pair_before (number a) a.id (number b) b.id) jobs)) ≡ list_all (λ j. not (p j) || nat_lt t (g j)) jobs
 first_before t p number g rises jobs = go (first_of p before jobs) refl
   where
@@ -144,9 +144,9 @@ fold_before : {A : Type 0} (t : ℕ) (f : A → Option ℕ) (o : Option ℕ) (xs
 fold_before t f o [] = sym (with_true (is_before t o))
 fold_before t f o (x ∷ xs) = grind (arith, fold_before t f (earlier_of_both o (f x)) xs)
 
--- what is due of jobs
+-- the due moments of jobs
 module _ (m : Machine) (t : ℕ) where
-  -- the client is warned of a job in this state after the moment only, or not at all
+  -- the client's warning for a job in this state, if any, is due only after the moment
   abbrev warned : JobState → SeatRecord → Bool
   warned state s = not (is_waiting s) || (not (is_holder s.number state) || nat_lt t (deadline_of state - 1000))
 
@@ -165,7 +165,7 @@ module _ (m : Machine) (t : ℕ) where
   nobody_warned state free [] = refl
   nobody_warned state free (s ∷ seats) = grind (arith, nobody_warned state free seats)
 
-  -- all that is due of a job in this state is after the moment
+  -- all due moments of a job in this state are after the moment
   state_later : (state : JobState) → (((not (is_delayed state) || nat_lt t (due_of state)) && (not (is_reserved state) || nat_lt t (deadline_of state))) && list_all (warned state) m.seats) ≡ list_all (nat_lt t) (dues_of_state m state)
   state_later state = grind (arith, nobody_warned, holder_warned)
 

@@ -1,4 +1,4 @@
--- All that is kept of the tubes, once the entry of one is changed in its place.
+-- Everything that is kept about the tubes, after the entry of one tube has changed in place.
 use Rattle.std.proofs.Common.{◌∙◌, ◌∷◌, ◌≡◌, List, [], ℕ, ap, map, refl, subst, sym}
 use Rattle.std.specs.{Cmp.Lexicographic.slice_cmp, Ordering.nat_cmp}
 use Rattle.bq_index.specs.{Catalog.CatalogSeen, Order.InOrder}
@@ -14,7 +14,7 @@ pub ends_stay : (name : List ℕ) (f : KeptTube → KeptTube) (es last : List Na
     → ((n : List ℕ) (t : KeptTube) → record_of n (f t) ≡ record_of n t) → AreEnds (map record_at es) ends → AreEnds (map record_at last) ends
 ends_stay name f es last ends is same h = subst (λ ts. AreEnds ts ends) (sym (ap (map record_at) is ∙ edit_same_records name f same es)) h
 
--- The counts of jobs alone change,
+-- Only the counts of jobs change,
 pub tallies_change : (name : List ℕ) (f : KeptTube → KeptTube) (g : Tally → Tally) (es last : List Named) (k : KeptTubes) → last ≡ edited_at name f es → tubes_kept es ≡ k
     → ((n : List ℕ) (t : KeptTube) → record_of n (f t) ≡ record_of n t) → ((t : KeptTube) → (f t).tally ≡ g t.tally) → ((t : KeptTube) → (f t).crowd ≡ t.crowd)
     → tubes_kept last ≡ record k { tallies = tallies_at name g k.entries k.tallies }
@@ -34,7 +34,7 @@ crowds_change name f g es last k is seen same tallies made =
     (ap (map tally_kept) is ∙ edit_same_tallies name f tallies es ∙ ap (λ (k : KeptTubes). k.tallies) seen)
     (ap (map crowd_kept) is ∙ edit_crowd name f g made es ∙ ap (λ (k : KeptTubes). crowds_at name g k.entries k.crowds) seen)
 
--- or its record.
+-- or the record.
 pub records_change : (name : List ℕ) (what : TubeChange) (es last : List Named) (k : KeptTubes) → last ≡ edited_at name (kept_changed what) es → tubes_kept es ≡ k → InOrder (slice_cmp nat_cmp) es
     → tubes_kept last ≡ record k { entries = map (tube_changed_at name what) k.entries }
 records_change name what es last k is seen order =
@@ -50,7 +50,7 @@ same_tallies_at f keeps name g [] tallies = refl
 same_tallies_at f keeps name g (t ∷ ts) [] = refl
 same_tallies_at f keeps name g (t ∷ ts) (x ∷ tallies) = rw (keeps t, same_tallies_at f keeps name g ts tallies) refl
 
--- A job is counted, and what happened to its tube.
+-- A job is counted, and its tube's record changes.
 pub job_counted : (what : TubeChange) (name : List ℕ) (f : KeptTube → KeptTube) (g : Tally → Tally) (es last : List Named) (k : KeptTubes) → last ≡ edited_at name f es → tubes_kept es ≡ k → InOrder (slice_cmp nat_cmp) es
     → ((n : List ℕ) (t : KeptTube) → record_of n (f t) ≡ tube_changed what (record_of n t)) → ((t : KeptTube) → (f t).tally ≡ g t.tally) → ((t : KeptTube) → (f t).crowd ≡ t.crowd)
     → tubes_kept last ≡ record k { entries = map (tube_changed_at name what) k.entries; tallies = tallies_at name g (map (tube_changed_at name what) k.entries) k.tallies }

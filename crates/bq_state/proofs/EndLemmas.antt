@@ -1,4 +1,4 @@
--- The ends of pauses: what is found among them after a change, and the first of them.
+-- The ends of pauses: lookups after a change, and the first end.
 use Rattle.std.proofs.Common.{◌&&◌, ◌||◌, ◌∙◌, ◌∷◌, ◌≡◌, ◌≤◌, Bool, List, None, Option, Some, [], ℕ, ap, arith, cond, false, inl, inr, is_some, map, refl, sym, true}
 use Rattle.std.proofs.{lemmas.{Bool.{cases_Bool, or_parts, Decides.nat_tests}, Cmp.alike_right}, Math.Bool.or-true}
 use Rattle.std.proofs.lemmas.Grind.{common_steps}
@@ -26,7 +26,7 @@ has_entered q e ends absent = ap is_some (lookup_inserted end_total q e tt ends 
 pub has_left : (q e : PauseEnd) (ends : Ends) → InOrder end_cmp ends → has_end q (without_end (Some e) ends) ≡ cond (is_eq (end_cmp e q)) false (has_end q ends)
 has_left q e ends s = ap is_some (lookup_removed end_total q e ends s) ∙ (grind (arith, common_steps))
 
--- The first end is the least.
+-- The first end is the earliest.
 not_later : (a b : ℕ) (o : Ordering) → ordering_then (nat_cmp a b) o ≡ Less → a ≤ b
 not_later a b o h = grind (arith)
 
@@ -134,7 +134,7 @@ first_is entries ends h s = go ends.entries h.known s
     go (x ∷ es) known s =
         sym (least_found x.0.until entries None tt (λ e g. least_end x es s e (known e ∙ g)) (hit_of x.0 entries (sym (known x.0) ∙ first_there x es)))
 
--- The first of the ends is the first end of a pause, as the tubes are seen.
+-- The first of the ends is the first end of a pause, as contracts see the tubes.
 pub first_seen : (es : List Named) (ends : CatalogSeen PauseEnd (Unit {0})) (k : KeptTubes) (r : Option ℕ) → r ≡ option_map (λ e. e.until) (first_end ends.entries)
     → AreEnds (map record_at es) ends → InOrder end_cmp ends.entries → tubes_kept es ≡ k → r ≡ first_pause_end k.entries
 first_seen es ends k r is h s seen = is ∙ first_is (map record_at es) ends h s ∙ ap (λ (k : KeptTubes). first_pause_end k.entries) seen

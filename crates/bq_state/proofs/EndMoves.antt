@@ -1,4 +1,4 @@
--- What a change of a pause, and the coming and going of a tube, do to the ends of pauses.
+-- How the ends of pauses change when a pause changes, or a tube is added or removed.
 use Rattle.std.proofs.Common.{◌&&◌, ◌+◌, ◌<◌, ◌||◌, ◌∙◌, ◌∷◌, ◌≡◌, ◌≤◌, if◌then◌else◌, Bool, List, None, Option, Some, [], ℕ, ap, arith, cond, false, inl, inr, is_some, length, map, refl, subst, suc, sym, true}
 use Rattle.std.proofs.{lemmas.{Bool.{cases_Bool, eqb-true, or_parts}, Grind.common_steps}, Math.Bool.or-false}
 use Rattle.std.specs.{Borrow.Bor, Map.{lookup, remove_entry}, Option.{ForSome, option_map}, Ordering.is_eq, Prelude.{◌==◌, count_by, nat_le}}
@@ -16,7 +16,7 @@ use Rattle.bq_state.proofs.TubeLemmas.{order_kept, same_itself, same_name}
 abbrev pub one_if : Option PauseRecord → ℕ
 one_if p = cond (is_some p) 1 0
 
--- The tube of one name had a pause and has another one, if any; those of other names stay.
+-- The tube with this name changes its pause from `from` to `to`; the other tubes stay as they are.
 pub record Moves (name : List ℕ) (from to : Option PauseRecord) (old new : List TubeRecord) : Type 0 where
   pub others : (e : PauseEnd) → is_same_name name e.name ≡ false → is_end_in e new ≡ is_end_in e old
   pub was : (m : ℕ) → is_end_in (record { until = m; name = name }) old ≡ ends_at m from
@@ -33,27 +33,27 @@ none_from o h = grind (arith, common_steps)
 turned : (a b : ℕ) → (a == b) ≡ (b == a)
 turned a b = grind (arith)
 
--- no more are paused than there are
+-- at most all tubes are paused
 count_few : (ts : List TubeRecord) → count_by is_paused ts ≤ length ts
 count_few [] = omega arith
 count_few (t ∷ ts) = grind (arith, common_steps, count_few ts)
 
 module _ (name : List ℕ) (from to : Option PauseRecord) (old new : List TubeRecord) (ends : CatalogSeen PauseEnd (Unit {0})) (h : AreEnds old ends) (m : Moves name from to old new) where
-  -- the end of the pause that it had is there,
+  -- The end of its old pause is present,
   pub end_held : (e : PauseEnd) → end_of name from ≡ Some e → has_end e ends.entries ≡ true
   end_held e is = grind (arith)
 
-  -- and there is a box for that of the one that it gets.
+  -- and there is a box for the end of its new pause.
   pub end_fits : (spare : ℕ) → spare ≡ ends.spare + one_if from → (e : PauseEnd) → end_of name to ≡ Some e → 0 < spare
   end_fits spare boxes e is = grind (arith, count_few)
 
--- An end can only leave where they are in order.
+-- An end can be removed only if the ends are ordered.
 module _ (name : List ℕ) (from to : Option PauseRecord) (old new : List TubeRecord) (ends : CatalogSeen PauseEnd (Unit {0})) (h : AreEnds old ends) (m : Moves name from to old new)
     (s : ForSome (end_of name from) (λ _. InOrder end_cmp ends.entries)) where
   abbrev left : Ends
   left = without_end (end_of name from) ends.entries
 
-  -- None is of the tube once its own has left,
+  -- After its own end has been removed, no end belongs to the tube,
   none_left : (u : ℕ) → has_end (record { until = u; name = name }) left ≡ false
   none_left u = go from refl
     where
@@ -90,14 +90,14 @@ module _ (name : List ℕ) (from to : Option PauseRecord) (old new : List TubeRe
           let held = some_unit (found_end e ends.entries) (end_held name from to old new ends h m e (ap (end_of name) f)) in
           length_removed (λ k. is_eq (end_cmp e k)) ends.entries (Some (e, tt)) refl (sym held)
 
-  -- and that of the one that it gets is new.
+  -- so the end of its new pause is absent.
   pub end_absent : (e : PauseEnd) → end_of name to ≡ Some e → found_end e left ≡ None
   end_absent e is = none_from (found_end e left) (go to is)
     where
       go : (p : Option PauseRecord) → end_of name p ≡ Some e → has_end e left ≡ false
       go p is = grind (arith, none_left)
 
-  -- Then the ends are those of the pauses again.
+  -- The ends are again those of the pauses.
   pub ends_moved : (last : CatalogSeen PauseEnd (Unit {0})) → last.entries ≡ with_end (end_of name to) left → last.spare + one_if to ≡ ends.spare + one_if from → AreEnds new last
   ends_moved last entries spare = record {
     known = λ q. ap (has_end q) entries ∙ elim (cases_Bool (is_same_name name q.name)) [
@@ -162,7 +162,7 @@ apart_from name n k other is = elim (cases_Bool (is_same_name n k)) [
   | inl same ↦ absurd (let g : n ≡ name = same_name n k same ∙ sym is in let h : is_same_name name n ≡ true = ap (is_same_name name) g ∙ same_itself name in cc)
 ]
 
--- its pause changes
+-- the tube's pause changes
 module _ (name : List ℕ) (f : TubeRecord → TubeRecord) (keeps : (t : TubeRecord) → (f t).name ≡ t.name) where
   stay : (ts : List TubeRecord) → has_entry name ts ≡ false → map (changed_one name f) ts ≡ ts
   stay [] h = refl
@@ -189,7 +189,7 @@ module _ (name : List ℕ) (f : TubeRecord → TubeRecord) (keeps : (t : TubeRec
   pub moves_changed : (ts : List TubeRecord) → AreInOrder ts → Moves name (pause_at name ts) (pause_at name (map (changed_one name f) ts)) ts (map (changed_one name f) ts)
   moves_changed ts order = grind (arith, common_steps, others_changed, named_ends, order_changed, count_changed, length_changed)
 
--- it goes
+-- the tube is removed
 module _ (name : List ℕ) where
   abbrev rest : List Named → List TubeRecord
   rest es = map record_at (remove_entry (is_named_at name) es)
@@ -219,7 +219,7 @@ module _ (name : List ℕ) where
   pub moves_out : (es : List Named) → AreInOrder (map record_at es) → Moves name (pause_at name (map record_at es)) None (map record_at es) (map record_at (remove_entry (is_named_at name) es))
   moves_out es order = grind (arith, common_steps, others_stay, named_ends, none_stay, count_rest, length_rest)
 
-  -- it comes
+  -- the tube is added
   fresh_ends : (e : PauseEnd) (ts : List TubeRecord) → has_entry name ts ≡ false → is_end_in e (with_record (fresh_tube name) ts) ≡ is_end_in e ts
   fresh_ends e [] h = ap (λ b. b || false) (not_both (is_same_name e.name name))
   fresh_ends e (t ∷ ts) h = grind (arith, common_steps, or_parts, fresh_ends e ts)
@@ -240,12 +240,12 @@ module _ (f : TubeRecord → TubeRecord) (named : (t : TubeRecord) → (f t).nam
   pub ends_stay : (ts : List TubeRecord) (ends : CatalogSeen PauseEnd (Unit {0})) → AreEnds ts ends → AreEnds (map f ts) ends
   ends_stay ts ends h = grind (arith, common_steps, same_ends)
 
--- the end of the pause of an entry that is lent
+-- the pause of an entry that is lent
 abbrev pub pause_lent : Option (Bor KeptTube) → Option PauseRecord
 pause_lent None = None
 pause_lent (Some t) = t.now.pause
 
--- A change of what is kept of one tube, as an entry and as a record.
+-- A change of what is kept about one tube, as an entry and as a record.
 module _ (name : List ℕ) (f : KeptTube → KeptTube) (g : TubeRecord → TubeRecord) (made : (n : List ℕ) (t : KeptTube) → record_of n (f t) ≡ g (record_of n t)) (keeps : (t : TubeRecord) → (g t).name ≡ t.name)
     (es last : List Named) (order : AreInOrder (map record_at es)) (e : last ≡ edited name f (lookup (is_named_at name) es) es) where
   edit_is : map record_at last ≡ map (changed_one name g) (map record_at es)
@@ -257,7 +257,7 @@ module _ (name : List ℕ) (f : KeptTube → KeptTube) (g : TubeRecord → TubeR
   pub edit_stays : ((t : TubeRecord) → (g t).pause ≡ t.pause) → (ends : CatalogSeen PauseEnd (Unit {0})) → AreEnds (map record_at es) ends → AreEnds (map record_at last) ends
   edit_stays paused ends h = grind (arith, edit_is, ends_stay)
 
--- What a pause, and a count, change.
+-- How a pause changes, and a count.
 pub change_moves : (name : List ℕ) (what : TubeChange) (es last : List Named) → AreInOrder (map record_at es) → last ≡ edited name (kept_changed what) (lookup (is_named_at name) es) es
     → Moves name (pause_at name (map record_at es)) (pause_at name (map record_at last)) (map record_at es) (map record_at last)
 change_moves name what es last order e = edit_moves name (kept_changed what) (tube_changed what) (change_kept what) (tube_name_kept what) es last order e
@@ -266,7 +266,7 @@ pub count_stays : (name : List ℕ) (what : TubeChange) (es last : List Named) (
     → AreEnds (map record_at es) ends → AreEnds (map record_at last) ends
 count_stays name what es last ends paused order e h = edit_stays name (kept_changed what) (tube_changed what) (change_kept what) (tube_name_kept what) es last order e paused ends h
 
--- how many boxes an end takes
+-- the number of boxes that an end takes
 pub one_box : (name : List ℕ) (p : Option PauseRecord) (e : Option PauseEnd) → e ≡ end_of name p → cond (is_some e) 1 0 ≡ one_if p
 one_box name p e is = grind (arith, common_steps)
 
@@ -292,7 +292,7 @@ own_end name u v3 h = grind (arith, common_steps, cases_Bool, eqb-true)
 over_ends : (moment u : ℕ) (p : Option PauseRecord) → ends_at u p ≡ true → nat_le u moment ≡ true → pause_after_timers moment p ≡ None
 over_ends moment u p h come = grind (arith)
 
--- the first one, which is due
+-- the first end, which is due
 module _ (moment : ℕ) (e : PauseEnd) (es last : List Named) (ends : CatalogSeen PauseEnd (Unit {0})) (h : AreEnds (map record_at es) ends) (order : AreInOrder (map record_at es))
     (come : Some e ≡ if_over moment (first_end ends.entries)) (edit : last ≡ edited e.name (ended moment) (lookup (is_named_at e.name) es) es) where
   ends_then : ends_at e.until (pause_at e.name (map record_at es)) ≡ true
@@ -322,7 +322,7 @@ module _ (moment : ℕ) (e : PauseEnd) (es last : List Named) (ends : CatalogSee
   pub over_fewer : count_by is_paused (map record_at last) < count_by is_paused (map record_at es)
   over_fewer = let none = ap one_if over_to in omega (arith, over_moves.count, one_from, none)
 
--- The end of the pause of a tube whose entry is lent,
+-- The end of the pause of an entry that is lent,
 pub none_lent : (name : List ℕ) (es : List Named) (o : Option (Bor KeptTube)) → o ≡ None → option_map (λ (t : Bor KeptTube). t.now) o ≡ lookup (is_named_at name) es → None ≡ end_of name (pause_at name (map record_at es))
 none_lent name es o is e = grind (arith, found_entry name es)
 

@@ -1,4 +1,4 @@
--- When the first wait of a client is over by its timeout, as seats change.
+-- The first timeout of a waiting client, as seats change.
 use Rattle.std.proofs.Common.{◌==◌, ◌||◌, ◌∙◌, ◌∷◌, ◌≡◌, if◌then◌else◌, Bool, List, None, Option, Some, [], ℕ, ap, arith, false, length, map, refl, set, slice_get, suc, sym, true, zero}
 use Rattle.std.proofs.Math.Bool.{or-false}
 use Rattle.std.specs.{List.{AllByRecursion as All, list_any}, Prelude.fold}
@@ -8,7 +8,7 @@ use Rattle.bq_state.specs.declared.{known.FirstEnd.{FirstEnd, TheVariants.{Known
 use Rattle.bq_state.specs.{Dues.{earlier_of_both, is_end_over, with_seat_due}, EndingWaits.has_waited, FirstEnds.{AreTimeouts, IsThere, end_after, gives_up_at, keeps_end}, SeatChanges.{AreNumbered, seat_changed, seat_changed_at}}
 use Rattle.bq_state.proofs.{CrowdLemmas.none_changed, PartsLemmas.{all_read, all_set}}
 
--- the same moments, and so the same first one
+-- the same moments have the same first one
 fold_kept : (g : SeatRecord → SeatRecord) (best : Option ℕ) (seats : List SeatRecord) → All (λ s. gives_up_at (g s) ≡ gives_up_at s) seats → fold with_seat_due best (map g seats) ≡ fold with_seat_due best seats
 fold_kept g best [] same = refl
 fold_kept g best (s ∷ seats) same = fold_kept g (earlier_of_both best (gives_up_at (g s))) seats same.1 ∙ ap (λ due. fold with_seat_due (earlier_of_both best due) seats) same.0
@@ -18,7 +18,7 @@ fold_set best [] i s new same here = refl
 fold_set best (t ∷ seats) zero s new same here = let is : t ≡ s = cc in ap (λ due. fold with_seat_due (earlier_of_both best due) seats) (same ∙ ap gives_up_at (sym is))
 fold_set best (t ∷ seats) (suc i) s new same here = fold_set (earlier_of_both best (gives_up_at t)) seats i s new same here
 
--- a change that keeps it
+-- a change that keeps this moment
 pub timeouts_of_seat : (number : ℕ) (what : SeatChange) (first : FirstEnd) (seats : List SeatRecord) → AreNumbered seats → AreTimeouts first seats
     → AreTimeouts (end_after what (seat_with number seats) first) (map (seat_changed_at number what) seats)
 timeouts_of_seat number what first seats numbered known = go (seat_with number seats) refl
@@ -57,7 +57,7 @@ timeouts_watching names i s Unknown seats here known = tt
 timeouts_watching names i s (Known at) seats here known =
     (fold_set None seats i s (watching names s) refl here ∙ known.0, all_set IsThere seats i (watching names s) known.1 (all_read IsThere seats i s known.1 here))
 
--- whether a moment has come that is the first of some
+-- whether the first of some moments has come
 over_all : (moment : ℕ) (best : Option ℕ) (seats : List SeatRecord) → All IsThere seats → is_end_over moment (fold with_seat_due best seats) ≡ (is_end_over moment best || list_any (has_waited moment) seats)
 over_all moment best [] there = sym (or-false (is_end_over moment best))
 over_all moment best (s ∷ seats) there =
@@ -66,7 +66,7 @@ over_all moment best (s ∷ seats) there =
 pub over_known : (moment : ℕ) (first : Option ℕ) (seats : List SeatRecord) → AreTimeouts (Known first) seats → is_end_over moment first ≡ list_any (has_waited moment) seats
 over_known moment first seats known = ap (is_end_over moment) (sym known.0) ∙ over_all moment None seats known.1
 
--- at the start nobody waits
+-- at the start no client waits
 pub first_timeouts : (ns : List ℕ) → AreTimeouts (Known None) (map empty_seat ns)
 first_timeouts [] = (refl, tt)
 first_timeouts (n ∷ ns) = let rest = first_timeouts ns in (rest.0, (refl, rest.1))

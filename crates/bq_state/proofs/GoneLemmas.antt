@@ -11,7 +11,7 @@ use Rattle.bq_state.specs.{Crowds.{crowd_in, crowds_of, has_seats}, KeptTubes.{K
 use Rattle.bq_state.specs.{Losses.AreAlive, Tallies.{has_jobs, tallies_of, tally_in}, TubeEntries.{AreInOrder, is_tube_of, names_alive}}
 use Rattle.bq_state.proofs.{CrowdLemmas.has_seats_of, CrowdPlaces.exists_by_counts, LossLemmas.{alive_but, alive_or, all_kept_alive, others_alive}, NamedLemmas.ties, TallyPlaces.has_jobs_in, TubeLemmas.same_name}
 
--- The counts are those of these jobs and of these seats.
+-- The counts are those of these jobs and seats.
 abbrev pub AreTallied : List Job → List SeatRecord → List Named → Type 0
 AreTallied jobs seats es = (map tally_kept es ≡ tallies_of jobs (map record_at es)) × (map crowd_kept es ≡ crowds_of seats (map record_at es))
 
@@ -35,7 +35,7 @@ module _ (jobs : List Job) (seats : List SeatRecord) where
   if_tallied true test es h = remove_tallied test es h
   if_tallied false test es h = h
 
-  -- By its counts a tube exists if and only if it does by the jobs and seats.
+  -- By its counts a tube exists if and only if it exists by the jobs and seats.
   alive_is : (x : Named) → IsTallied jobs seats x → is_alive_at x ≡ is_tube_of jobs seats x.0
   alive_is x h = exists_by_counts jobs seats x.0 _ _ (ap has_jobs h.0 ∙ has_jobs_in x.0 jobs) (ap has_seats h.1 ∙ has_seats_of seats x.0)
 
@@ -46,7 +46,7 @@ module _ (jobs : List Job) (seats : List SeatRecord) where
   abbrev names : List Named → List (List ℕ)
   names es = names_alive jobs seats (map record_at es)
 
-  -- They are listed
+  -- The tubes that exist are listed
   pub listed_names : (listed : List (Bor (List ℕ) × Bor KeptTube)) (so_far : List (List ℕ)) → AreTallied jobs seats (map entry_of listed)
       → fold (with_name_of) so_far listed ≡ so_far ++ names_alive jobs seats (map record_at (map entry_of listed))
   listed_names [] so_far h = sym (append-nil so_far)
@@ -94,11 +94,11 @@ module _ (jobs : List Job) (seats : List SeatRecord) where
             → map record_at (if not (is_alive_with name x.1) then es else x ∷ es) ≡ filter (λ t. is_tube_of jobs seats t.name) (map record_at (x ∷ es))
         here is b e others = grind (arith, alive_is)
 
--- All are dropped one after another.
+-- All such entries are dropped one after another.
 abbrev pub AllLeftBefore : Option (List ℕ) → List Named → Type 0
 AllLeftBefore from es = All (λ e. is_from from e ≡ false → is_alive_at e ≡ true) es
 
--- Before the first one none was dropped.
+-- Before the first one, none was dropped.
 pub none_before : (es : List Named) → AllLeftBefore None es
 none_before [] = tt
 none_before (x ∷ es) = ((λ h. absurd (let g : true ≡ false = h in cc)), none_before es)
@@ -127,7 +127,7 @@ behind : (k : List ℕ) (es : List Named) → All (λ y. order k y ≡ Less) (ke
 behind k [] all = tt
 behind k (y ∷ es) all = ((λ h. absurd (let g : is_from (Some k) y ≡ true = ap (λ o. not (is_gt o)) all.0 in cc)), behind k es all.1)
 
--- what one removal leaves
+-- the result of one removal
 pub record Removed (name : List ℕ) (es : List Named) : Type 0 where
   pub before : AllLeftBefore (Some name) (remove_entry (is_named_at name) es)
   pub left : filter (is_alive_at) (remove_entry (is_named_at name) es) ≡ filter (is_alive_at) es

@@ -23,7 +23,7 @@ use Rattle.bq_state.proofs.TubeNumberLemmas.{numbers_kept}
 use Rattle.bq_state.proofs.WarningLemmas.{warned_added, warned_by_due, warned_of_seat, warned_watching}
 
 module _ (st : CoreParts) where
-  -- A job comes,
+  -- A job is added,
   pub so_with_job : (j : Job) → length (with_added j st.jobs.jobs) ≤ greatest
       → IsSo (with_job j (is_ready j && list_any (is_waiter j.tube) st.seats.items) (has_waiting_holder j.state st.seats.items) st.known)
       (with_added j st.jobs.jobs) st.seats.items (record st.tubes { tallies = tallies_with j st.tubes.entries st.tubes.tallies })
@@ -40,7 +40,7 @@ module _ (st : CoreParts) where
         pauses = so.pauses;
       }
 
-  -- is gone,
+  -- removed,
   pub so_without_job : (id : ℕ) (j : Job) → job_with id st.jobs.jobs ≡ Some j
       → IsSo (without_job j st.known) (without id st.jobs.jobs) st.seats.items (record st.tubes { tallies = tallies_without j st.tubes.entries st.tubes.tallies })
   so_without_job id j found =
@@ -56,7 +56,7 @@ module _ (st : CoreParts) where
         pauses = so.pauses;
       }
 
-  -- or is changed.
+  -- or changed.
   pub so_with_moved : (id : ℕ) (what : JobChange) (j : Job) (m : Moved) (wanted waits : Bool) → job_with id st.jobs.jobs ≡ Some j → m ≡ moved_by (changed what) j
       → length st.jobs.jobs ≤ greatest → wanted ≡ (is_ready_state m.to.state && list_any (is_waiter m.tube) st.seats.items) → waits ≡ has_waiting_holder m.to.state st.seats.items
       → IsSo (with_moved m wanted waits st.known) (with_changed id (changed what) st.jobs.jobs) st.seats.items (with_tallies_at m.tube (tally_moved m) st.tubes)
@@ -74,7 +74,7 @@ module _ (st : CoreParts) where
         pauses = so.pauses;
       }
 
-  -- A seat is changed, and what it counts for at its tubes,
+  -- A seat changes, and so do its shares at its tubes,
   pub so_with_seat : (n : ℕ) (what : SeatChange) → length st.seats.items ≤ greatest → may_wait what (seat_with n st.seats.items) ≡ true → may_hold what n st.known.warns st.jobs.jobs ≡ true
       → IsSo (with_joined (seat_with n (map (seat_changed_at n what) st.seats.items)) n what
       (with_left (seat_with n st.seats.items) what (touched what) (recounted_for Goes (touched what) (seat_with n st.seats.items) st.tubes) st.known))
@@ -98,7 +98,7 @@ module _ (st : CoreParts) where
         pauses = so.pauses;
       }
 
-  -- a client watches a tube more,
+  -- a client watches one more tube,
   pub so_watching : (name : List ℕ) (n : ℕ) (s : SeatRecord) → slice_get st.seats.items n ≡ Some s → length st.seats.items ≤ greatest → watches name s ≡ false
       → IsSo (record st.known { stir = if is_waiting s then with_anything st.known.stir else st.known.stir })
       st.jobs.jobs (set st.seats.items n (watching (s.watched ++ name ∷ []) s)) (with_crowds_at name (recounted Comes (share_of_watcher s)) st.tubes)
@@ -117,7 +117,7 @@ module _ (st : CoreParts) where
         pauses = so.pauses;
       }
 
-  -- or one less.
+  -- or one fewer.
   pub so_ignoring : (name : List ℕ) (n : ℕ) (s : SeatRecord) → slice_get st.seats.items n ≡ Some s → length st.seats.items ≤ greatest
       → IsSo (record st.known { loss = with_lost name st.known.loss })
       st.jobs.jobs (set st.seats.items n (watching (filter (λ other. not (is_same_name name other)) s.watched) s)) (with_crowds_at name (recounted Goes (share_of_watching name s)) st.tubes)
@@ -153,7 +153,7 @@ module _ (st : CoreParts) where
         pauses = so.pauses ∙ sym (end_provided name st.tubes.entries);
       }
 
-  -- its entry is changed,
+  -- its entry changes,
   pub so_with_tube : (name : List ℕ) (what : TubeChange) → has_entry name st.tubes.entries ≡ true
       → IsSo (with_tube_changed name what (map (tube_changed_at name what) st.tubes.entries) st.known) st.jobs.jobs st.seats.items (record st.tubes { entries = map (tube_changed_at name what) st.tubes.entries })
   so_with_tube name what there =
@@ -173,7 +173,7 @@ module _ (st : CoreParts) where
         pauses = end_after_change name what st.tubes.entries st.known.pause_end so.pauses;
       }
 
-  -- or pauses end, of which the first one that is left is known.
+  -- or pauses end, and the first one that is left is known.
   pub so_with_pauses : IsSo (record st.known { pause_end = first_pause_end (map (tube_after_timers st.moment) st.tubes.entries); stir = stirs.Any })
       st.jobs.jobs st.seats.items (record st.tubes { entries = map (tube_after_timers st.moment) st.tubes.entries })
   so_with_pauses =
@@ -190,7 +190,7 @@ module _ (st : CoreParts) where
         pauses = refl;
       }
 
-  -- Entries of tubes that are gone are dropped.
+  -- Entries of tubes that no longer exist are dropped.
   pub so_forgotten : (new : KeptTubes) (were : ℕ) → were ≡ length st.tubes.entries → new.entries ≡ filter (λ t. is_tube_of st.jobs.jobs st.seats.items t.name) st.tubes.entries → AreCounts new st.jobs.jobs st.seats.items
       → IsSo (with_forgotten were new.entries st.known) st.jobs.jobs st.seats.items new
   so_forgotten new were is left counts =
@@ -207,19 +207,19 @@ module _ (st : CoreParts) where
         pauses = rw left (end_of_those_left p st.tubes.entries were st.known.pause_end is so.pauses);
       }
 
-  -- No client may have a job.
+  -- No waiting client can receive a job.
   pub so_with_nothing : next_job (machine_of st) ≡ None → IsSo (record st.known { stir = stirs.Nothing }) st.jobs.jobs st.seats.items st.tubes
   so_with_nothing none =
       let so = st.sound.known in
       record { counts = so.counts; clients = so.clients; crowds = so.crowds; alive = so.alive; stirs = known_nothing (machine_of st) none; warnings = so.warnings; timeouts = so.timeouts; pauses = so.pauses }
 
-  -- Whom a warning is due, if anyone, was asked.
+  -- The client whose warning is due, if any, was looked up.
   pub so_settled : (due : Bool) → due ≡ is_some (fold (with_warning_due st.jobs.jobs) None st.seats.items) → IsSo (record st.known { warns = warned_if_due due st.known.warns }) st.jobs.jobs st.seats.items st.tubes
   so_settled due is =
       let so = st.sound.known in
       record { counts = so.counts; clients = so.clients; crowds = so.crowds; alive = so.alive; stirs = so.stirs; warnings = rw is (warned_by_due st.known.warns st.jobs.jobs st.seats.items so.warnings); timeouts = so.timeouts; pauses = so.pauses }
 
--- the parts once a put or a deletion was counted in a tube
+-- the parts after a put or a deletion was counted in a tube
 abbrev pub with_count : (st : CoreParts) (name : List ℕ) (what : TubeChange) → has_entry name st.tubes.entries ≡ true → CoreParts
 with_count st name what there =
     let entries = map (tube_changed_at name what) st.tubes.entries in
@@ -243,7 +243,7 @@ with_count st name what there =
 pub so_at_first : (n : ℕ) → IsSo nothing_known [] (map empty_seat (numbers 0 n)) first_tubes
 so_at_first n = grind (arith, common_steps, first_crowds (numbers 0 n), first_timeouts (numbers 0 n))
 
--- what is so of new parts, and after a change of a seat, by names that an attribute can cite
+-- facts about new parts, and after a change of a seat, under names that an attribute can cite
 pub ruleset known_at_first = (common_steps, so_at_first, first_entries, first_numbered, none_in_turn, many_seats)
 
 pub ruleset kept_by_seat = (common_steps, so_with_seat, entries_of_seat, numbered_after, rising_left, turns_moved, turns_within, length-map)

@@ -1,4 +1,5 @@
--- Which tubes may be gone once a seat changes: those that its client left, but for those whose counts tell that they exist.
+-- The tubes that may no longer exist after a seat changes: those that its client left, except those
+-- that exist by their counts.
 use Rattle.std.proofs.{Common.{◌∙◌, ◌∷◌, ◌≡◌, ◌≤◌, ◌⊎◌, Bool, List, None, Option, Some, [], ℕ, ap, false, inl, inr, length, map, refl, sym, true}, lemmas.Bool.{or_cases, or_left, or_right}}
 use Rattle.std.proofs.{Common.arith, lemmas.{Bool.cases_Bool, Grind.common_steps}}
 use Rattle.std.specs.List.{AllByRecursion as All, list_any}
@@ -31,11 +32,11 @@ module _ (k : KeptTubes) where
         | inr more ↦ all_lost ns name (lost_unless (exists_in k n) n loss) more gone
       ]
 
--- more clients leave one there
+-- adding clients at a tube leaves a client there
 still_seats : (share : Share) (c : Crowd) → has_seats c ≡ true → has_seats (crowd_with share c) ≡ true
 still_seats share c h = grind (arith)
 
--- what a change leaves of a seat at a tube
+-- the shares of a seat at a tube after a change
 abbrev IsLeft : SeatChange → SeatRecord → List ℕ → Type 0
 IsLeft what s name = (((touched what).using ≡ true) × (is_same_name name s.used ≡ true)) ⊎ (((touched what).watching ≡ true) × (watches name s ≡ true))
 
@@ -48,7 +49,7 @@ module _ (n : ℕ) (what : SeatChange) (loss : Loss) (jobs : List Job) (seats : 
   new = map (seat_changed_at n what) seats
 
   module _ (s : SeatRecord) (found : seat_with n seats ≡ Some s) (left : k.crowds ≡ crowds_recounted Goes (touched what) s es (crowds_of seats es)) where
-    -- A tube whose counts without the seat tell that it exists does so afterwards.
+    -- A tube that exists by its counts without the seat still exists afterwards.
     exists_then : (name : List ℕ) → has_entry name es ≡ true → exists_in k name ≡ true → is_tube_of jobs new name ≡ true
     exists_then name there e =
         let once = (all_read IsSeated seats n s seated (seat_there seats n s h found)).once in

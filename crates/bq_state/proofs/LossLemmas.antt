@@ -1,4 +1,4 @@
--- Which entries may be of tubes that have gone, as jobs and seats change.
+-- The entries of tubes that may no longer exist, as jobs and seats change.
 use Rattle.std.proofs.Common.{◌++◌, ◌||◌, ◌∙◌, ◌∷◌, ◌≡◌, ◌≤◌, ◌⊎◌, if◌then◌else◌, Bool, List, Option, Some, [], ℕ, ap, arith, false, inl, inr, length, map, not, refl, set, slice_get, suc, sym, true, zero}
 use Rattle.std.proofs.lemmas.{Bool.{cases_Bool, eqb-true, or_cases, or_left, or_right}, Grind.common_steps}
 use Rattle.std.specs.{List.{AllByRecursion as All, list_any}, Prelude.filter}
@@ -11,7 +11,7 @@ use Rattle.bq_state.specs.declared.known.Loss.{Loss, TheVariants.{Any, Nothing, 
 use Rattle.bq_state.specs.{Dues.{first_pause_end, pause_end_left}, Losses.{AreAlive, is_accounted, may_be_gone, with_lost, with_regained}, TubeEntries.{has_entry, is_tube_of, provided}}
 use Rattle.bq_state.proofs.TubeLemmas.{same_itself, same_name}
 
--- what may be gone still may
+-- a tube that is marked as possibly gone stays marked
 pub still_lost : (more : List ℕ) (loss : Loss) (name : List ℕ) → may_be_gone loss name ≡ true → may_be_gone (with_lost more loss) name ≡ true
 still_lost more Nothing name h = absurd cc
 still_lost more (Of lost) name h = go (is_same_name lost more) refl
@@ -24,7 +24,7 @@ still_lost more Any name h = refl
 named_lost : (name more : List ℕ) (loss : Loss) → is_same_name name more ≡ true → may_be_gone (with_lost more loss) name ≡ true
 named_lost name more loss same = ap (may_be_gone (with_lost more loss)) (same_name name more same) ∙ (grind (arith, same_itself))
 
--- why a tube is accounted for
+-- the reasons why a tube is accounted for
 module _ (loss : Loss) (jobs : List Job) (seats : List SeatRecord) (name : List ℕ) where
   pub by_job : list_any (λ j. is_same_name name j.tube) jobs ≡ true → is_accounted loss jobs seats name ≡ true
   by_job h = or_left _ (may_be_gone loss name) (or_left _ (list_any (is_seated_at name) seats) (or_right (is_same_name name default_tube) _ h))
@@ -42,7 +42,7 @@ pub still_accounted : (loss loss' : Loss) (jobs jobs' : List Job) (seats seats' 
     → is_accounted loss jobs seats name ≡ true → is_accounted loss' jobs' seats' name ≡ true
 still_accounted loss loss' jobs jobs' seats seats' name job seat lost h = grind (arith)
 
--- a job comes
+-- a job is added
 still_some : (p : Job → Bool) (j : Job) (jobs : List Job) → list_any p jobs ≡ true → list_any p (with_added j jobs) ≡ true
 still_some p j [] h = absurd cc
 still_some p j (k ∷ jobs) h = grind (arith, common_steps, still_some p j jobs)
@@ -70,7 +70,7 @@ alive_added j loss jobs seats entries all =
     lost name (Of gone) h = at name gone (is_same_name gone j.tube) refl h
     lost name Any h = by_loss Any (with_added j jobs) seats name refl
 
--- or goes: then only its tube has lost it
+-- a job is removed: only its tube may have lost its last job
 module _ (p : Job → Bool) where
   left_over : (low next id : ℕ) (j : Job) (jobs : List Job) → AreIdsWithin low jobs next → job_with id jobs ≡ Some j → list_any p jobs ≡ true → (list_any p (without id jobs) ≡ true) ⊎ (p j ≡ true)
   left_over low next id j [] ids found h = absurd cc
@@ -91,7 +91,7 @@ alive_taken low next id j loss jobs seats entries ids found all =
     h)
     all
 
--- where some seat was at the tube, and still is after a change of seats, the tube is accounted for as before
+-- if a seat was at the tube and still is after a change of seats, the tube is still accounted for
 alive_reseated : (loss loss' : Loss) (jobs : List Job) (seats seats' : List SeatRecord) (entries : List TubeRecord)
     → ((name : List ℕ) → list_any (is_seated_at name) seats ≡ true → is_accounted loss' jobs seats' name ≡ true)
     → ((name : List ℕ) → may_be_gone loss name ≡ true → may_be_gone loss' name ≡ true)
@@ -142,7 +142,7 @@ alive_ignoring lost i s loss jobs seats entries found all =
     new : SeatRecord
     new = watching (filter (λ other. not (is_same_name lost other)) s.watched) s
 
--- an entry is provided, whose tube may be gone where it is new
+-- an entry is added, and if it is new its tube may not exist
 pub alive_provided : (name : List ℕ) (loss : Loss) (jobs : List Job) (seats : List SeatRecord) (entries : List TubeRecord) → AreAlive loss jobs seats entries → AreAlive (if not (has_entry name entries) then with_lost name loss else loss) jobs seats (provided name entries)
 alive_provided name loss jobs seats entries all = go (has_entry name entries)
   where
@@ -186,12 +186,12 @@ others_alive name jobs seats (t ∷ entries) later all =
     apart false e = refl
     apart true e = grind (arith, same_name name t.name e, not_same name t.name (is_same_name t.name name) refl later.0)
 
--- afterwards each entry is of a tube that exists
+-- after that, each entry is of a tube that exists
 pub alive_forgotten : (jobs : List Job) (seats : List SeatRecord) (entries : List TubeRecord) → AreAlive Nothing jobs seats (filter (λ t. is_tube_of jobs seats t.name) entries)
 alive_forgotten jobs seats [] = tt
 alive_forgotten jobs seats (t ∷ entries) = grind (arith, alive_forgotten jobs seats entries)
 
--- if equally many are left, all are
+-- if the number of elements is the same, all are left
 pub as_many_left : {A : Type 0} (p : A → Bool) (xs : List A) → length xs ≤ length (filter p xs) → filter p xs ≡ xs
 as_many_left p [] h = refl
 as_many_left {A = A} p (x ∷ xs) h = go (p x) h (filter_no_longer p xs) (as_many_left p xs)

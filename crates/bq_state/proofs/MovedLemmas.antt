@@ -1,4 +1,4 @@
--- What the change of a job keeps.
+-- What a change of a job keeps.
 use Rattle.std.proofs.{Common.{◌&&◌, ◌==◌, ◌∙◌, ◌∷◌, ◌≡◌, ◌≤◌, if◌then◌else◌, Bool, List, Some, [], ℕ, ap, arith, length, map, refl}, lemmas.List.length-map}
 use Rattle.std.proofs.lemmas.Grind.{common_steps}
 use Rattle.std.specs.List.{list_any}
@@ -18,11 +18,11 @@ use Rattle.bq_state.proofs.PartsLemmas.{same_id}
 pub tube_ignored : (change : JobChange) → IgnoresTube (changed change)
 tube_ignored change j tube = grind (arith)
 
--- and so none brings a job into another one
+-- so none moves a job to another tube
 pub tube_kept : (change : JobChange) → KeepsTube (changed change)
 tube_kept change j = ap (λ (i : Job). i.tube) (tube_ignored change j j.tube)
 
--- one job alone is changed
+-- only one job is changed
 module _ (id : ℕ) (f : Job → Job) where
   pub one_id : KeepsId f → KeepsId (λ k. if k.id == id then f k else k)
   one_id keeps k = same_id (k.id == id) (f k) k k.id (keeps k) refl
@@ -49,7 +49,7 @@ at_once name g h [] tallies = refl
 at_once name g h (t ∷ es) [] = refl
 at_once name g h (t ∷ es) (x ∷ tallies) = grind (arith, at_once name g h es tallies)
 
--- a job stands otherwise
+-- the standing of a job changes
 pub counted_moved : (low next id : ℕ) (f : Job → Job) → KeepsId f → KeepsTube f → (j : Job) (m : Moved) → m ≡ moved_by f j → (tally : Tally) (tallies : List Tally) (jobs : List Job) (es : List TubeRecord)
     → AreIdsWithin low jobs next → job_with id jobs ≡ Some j → AreInOrder es → length jobs ≤ greatest
     → AreCounted tally tallies jobs es → AreCounted (tally_moved m tally) (tallies_at m.tube (tally_moved m) es tallies) (with_changed id f jobs) es

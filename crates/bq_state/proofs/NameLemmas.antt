@@ -10,12 +10,12 @@ use Rattle.bq_state.specs.{Names.{is_named, names_of}, TubeEntries.{AreEntries, 
 use Rattle.bq_state.proofs.{PartsLemmas.tube_has_entry, TubeLemmas.{before_differs, none_found, none_later, order_filtered, same_itself, same_name}}
 use Rattle.std.proofs.lemmas.Bool.{cases_Bool}
 
--- names that come later are others
+-- a name differs from all names that come after it
 none_listed : (name : List ℕ) (names : List (List ℕ)) → All (λ n. is_name_before name n ≡ true) names → list_any (is_same_name name) names ≡ false
 none_listed name [] all = refl
 none_listed name (n ∷ names) all = rw (before_differs name n all.0) (none_listed name names all.1)
 
--- an element of ordered names is the first, or comes after it
+-- a name in an ordered list is the first one, or comes after it
 first_or_later : (name first : List ℕ) (names : List (List ℕ)) → All (λ n. is_name_before first n ≡ true) names → list_any (is_same_name name) (first ∷ names) ≡ true
     → (name ≡ first) ⊎ (is_name_before first name ≡ true)
 first_or_later name first names all h =
@@ -121,12 +121,12 @@ record_of_entry name [] order fresh = refl
 record_of_entry name (t ∷ entries) order fresh =
     entry_at name t entries (is_same_name name t.name) (is_counted t) refl refl fresh.0 order.0 (record_of_entry name entries order.1 fresh.1)
 
--- A name that is put at the place of the first one that doesn't come before it.
+-- A name at the place of the first name that does not come before it.
 module _ (name : List ℕ) where
   abbrev place : List (Bor (List ℕ)) → ℕ
   place names = prefix_len (λ other. is_name_before other.now name) names
 
-  -- It is there already,
+  -- The name is already there,
   pub place_kept : (names : List (Bor (List ℕ))) → is_named name (slice_get names (prefix_len (λ other. is_name_before other.now name) names)) ≡ true
       → names_of names ≡ with_name (names_of names) name
   place_kept [] h = absurd cc
@@ -136,7 +136,7 @@ module _ (name : List ℕ) where
           → is_named name (slice_get (o ∷ names) (cond b (1 + place names) 0)) ≡ true → names_of (o ∷ names) ≡ with_name (names_of (o ∷ names)) name
       go b e rest h = grind (arith, not_before)
 
-  -- or comes there.
+  -- or it is inserted there.
   pub place_new : (x : Bor (List ℕ)) → x.now ≡ name → (names : List (Bor (List ℕ)))
       → is_named name (slice_get names (prefix_len (λ other. is_name_before other.now name) names)) ≡ false
       → names_of (insert names (prefix_len (λ other. is_name_before other.now name) names) x) ≡ with_name (names_of names) name
@@ -150,11 +150,11 @@ module _ (name : List ℕ) where
       go true e rest h = grind (arith, not_same o.now name (is_same_name name o.now) refl e, not_before o.now name e)
       go false e rest h = grind (arith, after)
 
--- a call that doesn't fail
+-- a call that succeeds
 pub when_ok : {T E X : Type 0} (r : Result T E) (a b : X) → IsOk r → (if is_ok r then a else b) ≡ a
 when_ok r a b h = rw h refl
 
--- what is lent, or else something else
+-- a lent value, or a default
 pub lent_or : {A B : Type 0} (f : A → B) (o : Option (Bor A)) (other : Bor A) (x : Option B) → option_map (λ b. f b.now) o ≡ x → f (unwrap_or o other).now ≡ unwrap_or x (f other.now)
 lent_or f o other x h = grind (arith, common_steps)
 

@@ -11,7 +11,7 @@ use Rattle.bq_state.specs.KeptTubes.{KeptTube, KeptTubes, Named, crowd_by, crowd
 use Rattle.bq_state.specs.{Tallies.{tallies_at, tallies_provided, tally_at, tally_of}, TubeEntries.{AreInOrder, has_entry, provided, tube_changed}}
 use Rattle.bq_state.proofs.TubeLemmas.{changed_one, none_later, same_name}
 
--- a look-up asks whether names are the same
+-- keys compare equal exactly if the names are the same
 pub ties : (a b : List ℕ) → is_named_at a b ≡ is_same_name a b
 ties a b = sym (texts_ties a b)
 
@@ -32,7 +32,7 @@ module _ (name : List ℕ) where
   at : (x : List ℕ) (b : Bool) → is_same_name name x ≡ b → is_named_at name x ≡ b
   at x b e = ties name x ∙ e
 
-  -- What is found is the entry of the name,
+  -- A lookup finds the entry of the name,
   pub found_entry : (es : List Named) → option_map (record_of name) (lookup (is_named_at name) es) ≡ find (λ t. is_same_name name t.name) (map record_at es)
   found_entry [] = refl
   found_entry (x ∷ es) = elim (cases_Bool (is_same_name name x.0)) [
@@ -72,7 +72,7 @@ module _ (name : List ℕ) where
   found_crowd [] = refl
   found_crowd (x ∷ es) = grind (arith, at, found_crowd es)
 
-  -- Others stay.
+  -- The other entries stay.
   unchanged : (g : TubeRecord → TubeRecord) (ts : List TubeRecord) → has_entry name ts ≡ false → map (changed_one name g) ts ≡ ts
   unchanged g [] h = refl
   unchanged g (t ∷ ts) h =
@@ -87,7 +87,7 @@ module _ (name : List ℕ) where
     edited_past : (x : Named) (es : List Named) → is_same_name name x.0 ≡ false → edited name f (lookup (is_named_at name) (x ∷ es)) (x ∷ es) ≡ x ∷ edited name f (lookup (is_named_at name) es) es
     edited_past x es e = grind (arith, at)
 
-    -- the counts alone,
+    -- only the counts,
     pub edit_tally : (g : Tally → Tally) → ((t : KeptTube) → (f t).tally ≡ g t.tally) → (es : List Named)
         → map tally_kept (edited name f (lookup (is_named_at name) es) es) ≡ tallies_at name g (map record_at es) (map tally_kept es)
     edit_tally g made [] = refl
@@ -105,7 +105,7 @@ module _ (name : List ℕ) where
       | inr e ↦ ap (map record_at) (edited_past x es e) ∙ ap (λ ts. record_at x ∷ ts) (edit_same_records same es)
     ]
 
-    -- or all but these.
+    -- or everything except the counts.
     pub edit_same_tallies : ((t : KeptTube) → (f t).tally ≡ t.tally) → (es : List Named) → map tally_kept (edited name f (lookup (is_named_at name) es) es) ≡ map tally_kept es
     edit_same_tallies same [] = refl
     edit_same_tallies same (x ∷ es) = grind (arith, edit_same_tallies same es)
@@ -191,11 +191,11 @@ module _ (name : List ℕ) where
   pub new_crowd : (es : List Named) → has_entry name (map record_at es) ≡ false → map crowd_kept (insert_entry (slice_cmp nat_cmp) es name fresh_entry) ≡ crowds_provided name (map record_at es) (map crowd_kept es)
   new_crowd es none = crowd_new es none ∙ sym (ap (λ b. if b then map crowd_kept es else insert (map crowd_kept es) (place (records es)) no_crowd) none)
 
--- What happens to a tube changes its record.
+-- An event at a tube changes its record.
 pub change_kept : (what : TubeChange) (name : List ℕ) (t : KeptTube) → record_of name (kept_changed what t) ≡ tube_changed what (record_of name t)
 change_kept what name t = grind (arith, common_steps)
 
--- What is lent is what is found.
+-- The lent value is the value that was found.
 pub lent_any : (o : Option (Bor KeptTube)) {found : Option KeptTube} → option_map (λ (t : Bor KeptTube). t.now) o ≡ found → is_some o ≡ is_some found
 lent_any o e = grind (arith, common_steps)
 
@@ -208,6 +208,6 @@ tallies_provided_there name ts us h = ap (λ b. if b then us else insert us (pre
 pub crowds_provided_there : (name : List ℕ) (ts : List TubeRecord) (us : List Crowd) → has_entry name ts ≡ true → crowds_provided name ts us ≡ us
 crowds_provided_there name ts us h = ap (λ b. if b then us else insert us (prefix_len (λ t. is_name_before t.name name) ts) no_crowd) h
 
--- what is kept is the same where its three lists are
+-- what is kept is equal if its three lists are
 pub kept_alike : {k l : KeptTubes} → k.entries ≡ l.entries → k.tallies ≡ l.tallies → k.crowds ≡ l.crowds → k ≡ l
 kept_alike e t w = λ i. record { entries = e i; tallies = t i; crowds = w i }

@@ -15,12 +15,12 @@ use Rattle.bq_state.specs.TubeEntries.{AreEntries, HasTubes, IsFreshUnlessCounte
 use Rattle.bq_state.specs.TubeNumbers.{HaveNumbers}
 use Rattle.bq_state.proofs.TubeLemmas.{counted_inserted, entry_filtered, fresh_inserted, has_inserted, order_filtered, order_inserted, order_kept, same_entries, same_itself, same_name, still_has}
 
--- what all elements have is kept where each change keeps it
+-- a property of all elements is kept if each change keeps it
 pub all_kept : {A : Type 0} (P : A → Type 0) (f : A → A) → ((x : A) → P x → P (f x)) → (xs : List A) → All P xs → All P (map f xs)
 all_kept P f keeps [] all = tt
 all_kept P f keeps (x ∷ xs) all = (keeps x all.0, all_kept P f keeps xs all.1)
 
--- and a part of them has it
+-- and a sublist has it
 pub all_filtered : {A : Type 0} (P : A → Type 0) (p : A → Bool) (xs : List A) → All P xs → All P (filter p xs)
 all_filtered P p [] all = tt
 all_filtered {A = A} P p (x ∷ xs) all = grind (arith, common_steps, all_filtered P p xs)
@@ -28,7 +28,7 @@ all_filtered {A = A} P p (x ∷ xs) all = grind (arith, common_steps, all_filter
 pub same_id : (b : Bool) (x y : Job) (id : ℕ) → x.id ≡ id → y.id ≡ id → (if b then x else y).id ≡ id
 same_id b x y id h i = grind (arith, common_steps)
 
--- nor gives it another id
+-- a change does not affect the id
 pub id_kept : (change : JobChange) (j : Job) → (changed change j).id ≡ j.id
 id_kept change j = grind (arith)
 
@@ -42,7 +42,7 @@ all_added P j (k ∷ jobs) h all = grind (arith, all_added P j jobs h all.1)
 pub entries_of_added : (j : Job) (jobs : List Job) (seats : List SeatRecord) (entries : List TubeRecord) → has_entry j.tube entries ≡ true → AreEntries jobs seats entries → AreEntries (with_added j jobs) seats entries
 entries_of_added j jobs seats entries h e = grind (arith, all_added)
 
--- a job that is there has an entry, and its id was given
+-- a job in the list has an entry, and its id was given out
 pub has_of_job : (jobs : List Job) (seats : List SeatRecord) (entries : List TubeRecord) (id : ℕ) (j : Job) → AreEntries jobs seats entries → job_with id jobs ≡ Some j → has_entry j.tube entries ≡ true
 has_of_job jobs seats entries id j e found = grind (arith, common_steps, found_passes)
 
@@ -58,17 +58,17 @@ pub ids_further : (low next further : ℕ) (jobs : List Job) → next ≤ furthe
 ids_further low next further [] le h = omega arith
 ids_further low next further (k ∷ jobs) le h = (h.0, ids_further (suc k.id) next further jobs le h.1)
 
--- and there are fewer jobs than ids
+-- there are fewer jobs than ids
 pub as_many_ids : (low next : ℕ) (jobs : List Job) → AreIdsWithin low jobs next → length jobs + low ≤ next
 as_many_ids low next [] h = omega arith
 as_many_ids low next (k ∷ jobs) h = let a = h.0 in let b = as_many_ids (suc k.id) next jobs h.1 in omega arith
 
--- fewer than a count can tell, whatever the next id is
+-- there are fewer jobs than the highest count, whatever the next id is
 pub few_jobs : (next : ℕ) (jobs : List Job) → AreIdsWithin 1 jobs next → AreIdsWithin 0 jobs (2 ^ 64) → length jobs ≤ greatest
 few_jobs next [] given h = omega arith
 few_jobs next (k ∷ jobs) given h = let few = as_many_ids 1 (2 ^ 64) (k ∷ jobs) (given.0, h.1) in omega (arith, few)
 
--- where there is no job of the id, none is changed
+-- if no job has the id, none is changed
 pub no_job_changed : (id : ℕ) (f : Job → Job) (jobs : List Job) → job_with id jobs ≡ None → map (λ j. if j.id == id then f j else j) jobs ≡ jobs
 no_job_changed id f [] h = refl
 no_job_changed id f (k ∷ jobs) h = grind (arith, common_steps, cases_Bool, no_job_changed id f jobs)
@@ -85,7 +85,7 @@ compared_numbered st jobs same = subst (λ (k : Kept). HaveNumbers k.tubes st.tu
 pub sound_given : (st : CoreParts) → Soundness st.jobs.jobs st.seats.items st.tubes st.waiting st.known (st.next_id + 1) (nat_le 18446744073709551614 st.next_id)
 sound_given st = grind (arith, ids_further)
 
--- a change of a seat leaves it at tubes with entries
+-- after a change of a seat, its tubes have entries
 pub entries_of_seat : (number : ℕ) (what : SeatChange) (jobs : List Job) (seats : List SeatRecord) (entries : List TubeRecord) → has_tube_of what entries ≡ true → AreEntries jobs seats entries → AreEntries jobs (map (seat_changed_at number what) seats) entries
 entries_of_seat number what jobs seats entries h e = grind (arith, all_kept)
 
@@ -120,7 +120,7 @@ pub entries_of_tube : (name : List ℕ) (what : TubeChange) (jobs : List Job) (s
 entries_of_tube name what jobs seats entries e =
     grind (arith, all_weaker, order_kept, name_kept_at, all_kept, fresh_at, same_entries)
 
--- an entry is provided
+-- an entry is added
 pub entries_provided : (name : List ℕ) (jobs : List Job) (seats : List SeatRecord) (entries : List TubeRecord) → AreEntries jobs seats entries → AreEntries jobs seats (provided name entries)
 entries_provided name jobs seats entries e = grind (arith, all_weaker, order_inserted, fresh_inserted, still_has)
 
@@ -143,7 +143,7 @@ watched_at s name c here = grind (arith, common_steps, same_itself)
 passes_named : (jobs : List Job) (seats : List SeatRecord) (name : List ℕ) → is_tube_of jobs seats name ≡ true → (t : TubeRecord) → name ≡ t.name → is_tube_of jobs seats t.name ≡ true
 passes_named jobs seats name h t e = ap (is_tube_of jobs seats) (sym e) ∙ h
 
--- the entries of tubes that are gone are dropped
+-- the entries of tubes that no longer exist are dropped
 pub entries_forgotten : (jobs : List Job) (seats : List SeatRecord) (entries : List TubeRecord) → AreEntries jobs seats entries → AreEntries jobs seats (filter (λ t. is_tube_of jobs seats t.name) entries)
 entries_forgotten jobs seats entries e =
     let p = λ (t : TubeRecord). is_tube_of jobs seats t.name in
@@ -161,7 +161,7 @@ entries_forgotten jobs seats entries e =
           });
     }
 
--- what exists has an entry
+-- a tube that exists has an entry
 pub tube_has_entry : (jobs : List Job) (seats : List SeatRecord) (entries : List TubeRecord) → AreEntries jobs seats entries → (name : List ℕ) → is_tube_of jobs seats name ≡ true → has_entry name entries ≡ true
 tube_has_entry jobs seats entries e name h =
     elim (or_cases (is_same_name name default_tube || list_any (λ j. is_same_name name j.tube) jobs) (list_any (is_seated_at name) seats) h) [
@@ -216,7 +216,7 @@ numbers_read (n ∷ ns) = ap (λ ms. n ∷ ms) (numbers_read ns)
 pub first_numbered : (n : ℕ) → AreNumbered (map empty_seat (numbers 0 n))
 first_numbered n = grind (arith, numbers_read, length-map, length_numbers)
 
--- the seat of a number stands at its place
+-- the seat with a number is at its place
 seat_at : (low : ℕ) (seats : List SeatRecord) (i : ℕ) (s : SeatRecord) → map (λ s. s.number) seats ≡ numbers low (length seats) → seat_with (low + i) seats ≡ Some s → slice_get seats i ≡ Some s
 seat_at low [] i s h found = absurd cc
 seat_at low (t ∷ seats) zero s h found = grind (arith)
@@ -228,7 +228,7 @@ seat_there seats i s h found = seat_at 0 seats i s h (ap (λ n. seat_with n seat
     from_zero : (i : ℕ) → 0 + i ≡ i
     from_zero i = omega arith
 
--- and a change of it alone is a change at that place
+-- and a change of this seat alone is a change at that place
 none_changed : (low high : ℕ) (seats : List SeatRecord) (f : SeatRecord → SeatRecord) → low < high → map (λ s. s.number) seats ≡ numbers high (length seats) → map (λ s. if s.number == low then f s else s) seats ≡ seats
 none_changed low high [] f less h = refl
 none_changed low high (t ∷ seats) f less h =
@@ -260,7 +260,7 @@ read_at low [] i s h found = absurd cc
 read_at low (t ∷ seats) zero s h found = grind (arith)
 read_at low (t ∷ seats) (suc i) s h found = grind (arith, common_steps, ne_eqb, read_at (suc low) seats i s)
 
--- a place of which the number is known
+-- a place whose number is known
 pub seat_read : (seats : List SeatRecord) (i : ℕ) (s : SeatRecord) → AreNumbered seats → slice_get seats i ≡ Some s → seat_with i seats ≡ Some s
 seat_read seats i s h found = grind (arith, read_at 0 seats i s h found)
 
@@ -292,7 +292,7 @@ watching_fewer p i s jobs seats entries found e = grind (arith, common_steps, al
 pub entries_of_timers : (moment : ℕ) (jobs : List Job) (seats : List SeatRecord) (entries : List TubeRecord) → AreEntries jobs seats entries → AreEntries jobs seats (map (tube_after_timers moment) entries)
 entries_of_timers moment jobs seats entries e = grind (arith, all_weaker, order_kept, all_kept, same_entries)
 
--- a place within a list is taken
+-- a place within a list has an element
 pub some_at : {A : Type 0} (xs : List A) (i : ℕ) → i < length xs → (x : A) × (slice_get xs i ≡ Some x)
 some_at [] i h = absurd (omega arith)
 some_at (x ∷ xs) i h = (get_or (x ∷ xs) i x, slice_get-get_or (x ∷ xs) i x h)

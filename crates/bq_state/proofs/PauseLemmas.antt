@@ -1,4 +1,4 @@
--- When the first of the pauses ends.
+-- The moment at which the first pause ends.
 use Rattle.std.proofs.Common.{◌∷◌, ◌≡◌, List, None, Option, [], ℕ, arith, false, map, refl}
 use Rattle.std.proofs.lemmas.{Bool.or_parts, Grind.common_steps}
 use Rattle.std.specs.{List.list_any, Prelude.fold}
@@ -30,7 +30,7 @@ all_to_come moment best (t ∷ entries) h =
 pub none_over : (moment : ℕ) (entries : List TubeRecord) → is_end_over moment (first_pause_end entries) ≡ false → list_any (is_pause_over moment) entries ≡ false
 none_over moment entries h = (all_to_come moment None entries h).1
 
--- no pause is over
+-- no pause has ended
 pub none_counted : (moment : ℕ) (entries : List TubeRecord) → list_any (is_pause_over moment) entries ≡ false → list_any (is_pause_over moment) (counted entries) ≡ false
 none_counted moment entries h = grind (arith, list_any_not, all_weaker, all_of_filter, none_pass)
 

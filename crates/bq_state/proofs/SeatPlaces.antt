@@ -7,17 +7,17 @@ use Rattle.bq_state.specs.SeatChanges.{AreNumbered}
 use Rattle.bq_state.proofs.PartsLemmas.{seat_read, seat_there}
 use Rattle.std.proofs.lemmas.Grind.{common_steps}
 
--- what stands at the place of a number is the seat of that number, if there is one
+-- the seat at the place of a number is the seat with that number, if there is one
 pub place_is_seat : (seats : List SeatRecord) (i : ℕ) → AreNumbered seats → slice_get seats i ≡ seat_with i seats
 place_is_seat seats i h = grind (arith, seat_read, seat_there)
 
--- what a look at that place finds
+-- the result of a lookup at that place
 pub found_there : (seats : List SeatRecord) (i : ℕ) (found : Option (Bor SeatRecord)) → AreNumbered seats → IfSome found (λ s. s.now ≡ get_or seats i s.now)
     → MatchOption found (length seats ≤ i) (λ s. (i < length seats) × HoldsAt (λ y. s.now ≡ y) seats i) → option_copied found ≡ seat_with i seats
 found_there seats i None h read there = sym (slice_get_past seats i there) ∙ place_is_seat seats i h
 found_there seats i (Some s) h read there = sym (slice_get_read seats (length seats) i s.now refl there.0 read) ∙ place_is_seat seats i h
 
--- where there is no seat of a number, a change of it changes none
+-- if no seat has the number, a change of it changes no seat
 none_from : (low i : ℕ) (seats : List SeatRecord) (f : SeatRecord → SeatRecord) → map (λ s. s.number) seats ≡ numbers low (length seats) → low + length seats ≤ i → map (λ s. if s.number == i then f s else s) seats ≡ seats
 none_from low i [] f h less = refl
 none_from low i (t ∷ seats) f h less = grind (arith, common_steps, ne_eqb, none_from (suc low) i seats f)

@@ -1,4 +1,4 @@
--- What is known of the jobs that waiting clients may have.
+-- What is known about the jobs that waiting clients may receive.
 use Rattle.std.proofs.{Common.{◌&&◌, ◌==◌, ◌||◌, ◌∙◌, ◌∷◌, ◌≡◌, if◌then◌else◌, Bool, List, None, Option, Some, [], ℕ, ap, false, filter, find, inl, inr, is_some, map, not, refl, set, slice_get, subst, sym, true}, lemmas.Bool.cases_Bool}
 use Rattle.std.proofs.{Common.arith, lemmas.Grind.common_steps}
 use Rattle.std.specs.{List.{AllByRecursion as All, Contains, list_any}, Prelude.unwrap_or}
@@ -13,7 +13,7 @@ use Rattle.bq_state.specs.{Crowds.is_waiter, SeatChanges.seat_changed_at}
 use Rattle.bq_state.specs.{Stirs.{AreKnown, IsKnown, is_nothing, is_paused_by, is_wanted_by, may_get, stirred_by_change, stirred_by_seat, with_anything, with_stirred}, TubeEntries.tube_changed}
 use Rattle.bq_state.proofs.{PartsLemmas.{all_added, all_read, all_set}, TubeLemmas.{same_itself, same_name}}
 
--- what could be had can be had yet
+-- a job that a client could receive can still be received
 still_stirred : (name : List ℕ) (stir : Stir) (tube : List ℕ) (seat : ℕ) → may_get stir tube seat ≡ true → may_get (with_stirred name stir) tube seat ≡ true
 still_stirred name Nothing tube seat h = absurd cc
 still_stirred name (Tube stirred) tube seat h = elim (cases_Bool (is_same_name stirred name)) [
@@ -23,7 +23,7 @@ still_stirred name (Tube stirred) tube seat h = elim (cases_Bool (is_same_name s
 still_stirred name (Client asker) tube seat h = refl
 still_stirred name Any tube seat h = refl
 
--- what is known of each job and client after a change
+-- what is known about each job and client after a change
 known_then : (stir stir' : Stir) (jobs : List Job) (seats : List SeatRecord) (tubes tubes' : List TubeRecord)
     → ((j : Job) → Contains jobs j → (s : SeatRecord) → IsKnown stir tubes j s → IsKnown stir' tubes' j s) → AreKnown stir jobs seats tubes → AreKnown stir' jobs seats tubes'
 known_then stir stir' jobs seats tubes tubes' goes known =
@@ -33,7 +33,7 @@ known_then stir stir' jobs seats tubes tubes' goes known =
 pub parts_of : (tubes : List TubeRecord) (j : Job) (s : SeatRecord) → is_wanted_by tubes j s ≡ true → (is_waiting s ≡ true) × (is_ready j ≡ true) × (watches j.tube s ≡ true) × (is_paused_by tubes j.tube ≡ false)
 parts_of tubes j s h = grind (arith, common_steps)
 
--- a pause that goes on leaves no job to be had
+-- a tube that stays paused gives no job
 paused_then : (stir stir' : Stir) (tubes tubes' : List TubeRecord) (j : Job) (s : SeatRecord) → (may_get stir j.tube s.number ≡ true → may_get stir' j.tube s.number ≡ true)
     → (is_paused_by tubes j.tube ≡ true → is_paused_by tubes' j.tube ≡ true) → IsKnown stir tubes j s → IsKnown stir' tubes' j s
 paused_then stir stir' tubes tubes' j s more stays known wanted = grind (arith)
@@ -41,14 +41,14 @@ paused_then stir stir' tubes tubes' j s more stays known wanted = grind (arith)
 pub known_any : (jobs : List Job) (seats : List SeatRecord) (tubes : List TubeRecord) → AreKnown Any jobs seats tubes
 known_any jobs seats tubes = all_always (λ j. All (IsKnown Any tubes j) seats) jobs (λ j. all_always (IsKnown Any tubes j) seats (λ s w. refl))
 
--- where there is no next job
+-- there is no next job
 pub known_nothing : (m : Machine) → next_job m ≡ None → AreKnown Nothing m.jobs m.seats m.tubes
 known_nothing m none =
     all_weaker (λ j. list_any (is_waiting_for m j) m.seats ≡ false) (λ j. All (IsKnown Nothing m.tubes j) m.seats) m.jobs
     (λ j no. all_weaker (λ s. is_waiting_for m j s ≡ false) (IsKnown Nothing m.tubes j) m.seats (λ s f w. sym f ∙ w) (none_pass (is_waiting_for m j) m.seats no))
     (none_pass (λ j. list_any (is_waiting_for m j) m.seats) m.jobs (first_of_none (λ j. list_any (is_waiting_for m j) m.seats) is_job_before m.jobs none))
 
--- there is none where none may be had
+-- there is no next job if no client may receive one
 pub none_known : (stir : Stir) (m : Machine) → is_nothing stir ≡ true → AreKnown stir m.jobs m.seats m.tubes → next_job m ≡ None
 none_known Nothing m e known =
     first_of_none_passes (λ j. list_any (is_waiting_for m j) m.seats) is_job_before m.jobs
@@ -80,7 +80,7 @@ pub known_of_seat : (number : ℕ) (what : SeatChange) (stir : Stir) (jobs : Lis
     → AreKnown (stirred_by_seat number what stir) jobs (map (seat_changed_at number what) seats) tubes
 known_of_seat number what stir jobs seats tubes known = grind (arith, all_weaker, all_of_map)
 
--- a client watches other tubes: any job may be had if it waits
+-- a client watches other tubes: it may receive any job if it waits
 pub known_watching : (names : List (List ℕ)) (i : ℕ) (s : SeatRecord) (stir : Stir) (jobs : List Job) (seats : List SeatRecord) (tubes : List TubeRecord) → AreKnown stir jobs seats tubes
     → AreKnown (if is_waiting s then with_anything stir else stir) jobs (set seats i (watching names s)) tubes
 known_watching names i s stir jobs seats tubes known = grind (arith, all_weaker, all_set)
@@ -102,7 +102,7 @@ known_ignoring q i s stir jobs seats tubes here known =
     fewer : (j : Job) → IsKnown stir tubes j s → IsKnown stir tubes j (watching (filter q s.watched) s)
     fewer j k w = grind (arith, any_left)
 
--- a record whose pause ends none leaves all tubes paused
+-- a record whose pause does not end leaves all tubes paused
 paused_kept : (name : List ℕ) (t : TubeRecord) (tubes : List TubeRecord) → (is_same_name name t.name ≡ true → is_some (unwrap_or (find (λ u. is_same_name name u.name) tubes) (fresh_tube name)).pause ≡ true → is_some t.pause ≡ true)
     → is_some (unwrap_or (find (λ u. is_same_name name u.name) tubes) (fresh_tube name)).pause ≡ true → is_some (unwrap_or (find (λ u. is_same_name name u.name) (with_record t tubes)) (fresh_tube name)).pause ≡ true
 paused_kept name t [] same = λ h. absurd cc
@@ -127,14 +127,14 @@ named name m = go (find (λ t. is_same_name name t.name) m.tubes) refl
     go None e = refl
     go (Some t) e = sym (same_name name t.name ((found_passes (λ u. is_same_name name u.name) m.tubes t e).0))
 
--- a change of one tube that ends no pause of it
+-- a change of one tube that does not end its pause
 pub pauses_kept : (tube : List ℕ) (f : TubeRecord → TubeRecord) (m : Machine) → ((t : TubeRecord) → (f t).name ≡ t.name) → (is_paused tube m ≡ true → is_some (f (tube_record tube m)).pause ≡ true) → (name : List ℕ) → is_paused name m ≡ true → is_paused name (with_tube tube f m) ≡ true
 pauses_kept tube f m keeps stays name =
     paused_kept name (f (tube_record tube m)) m.tubes (λ e h.
     let is : name ≡ tube = same_name name (f (tube_record tube m)).name e ∙ keeps (tube_record tube m) ∙ named tube m in
     stays (subst (λ n. is_paused n m ≡ true) is h))
 
--- a tube is changed: only the end of its pause lets its jobs be had
+-- a tube changes: only the end of its pause allows its jobs to be received
 other_paused : (name tube : List ℕ) (f : TubeRecord → TubeRecord) (m : Machine) → ((t : TubeRecord) → (f t).name ≡ t.name) → is_same_name tube name ≡ false → is_paused name m ≡ true → is_paused name (with_tube tube f m) ≡ true
 other_paused name tube f m keeps other =
     paused_kept name (f (tube_record tube m)) m.tubes (λ e h.
@@ -168,7 +168,7 @@ known_of_change tube (PauseFor seconds moment) m stir known = go (seconds == 0) 
         known_then stir stir m.jobs m.seats m.tubes after
         (λ j c s k. paused_then stir stir m.tubes after j s (λ h. h) (pauses_kept tube (with_pause seconds moment) m (λ t. refl) (λ p. stays (seconds == 0) (record { seconds = seconds; until = later moment seconds }) e) j.tube) k) known
 
--- what is forgotten is of no tube with a job
+-- an entry that is dropped belongs to no tube with a job
 pub known_forgotten : (m : Machine) (stir : Stir) → AreKnown stir m.jobs m.seats m.tubes → AreKnown stir m.jobs m.seats (forgetting m).tubes
 known_forgotten m stir known =
     known_then stir stir m.jobs m.seats m.tubes (forgetting m).tubes

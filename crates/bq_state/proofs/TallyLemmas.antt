@@ -1,4 +1,4 @@
--- Counts of jobs, once a job comes or goes.
+-- Counts of jobs after a job is added or removed.
 use Rattle.std.proofs.Common.{◌+◌, ◌∙◌, ◌∷◌, ◌≡◌, ◌≤◌, Bool, List, Some, [], ℕ, ap, arith, cond, false, filter, length, refl, sym, true}
 use Rattle.std.proofs.{Common.{◌&&◌, count_by}, lemmas.Grind.common_steps}
 use Rattle.bq_job.specs.declared.job.Job.{Job}
@@ -7,16 +7,16 @@ use Rattle.bq_jobs.specs.Kept.{with_added, without}
 use Rattle.bq_jobs.proofs.Changes.{count_added, count_without as count_taken}
 use Rattle.bq_state.specs.Tallies.{count_with, count_without, tally_of, tally_with, tally_without}
 
--- a count, once one more is counted,
+-- a count after one more is counted,
 pub with_is : (counts : Bool) (n : ℕ) → cond counts 1 0 + n ≤ greatest → count_with counts n ≡ cond counts 1 0 + n
 with_is counts n fits = grind (arith, common_steps)
 
--- or one less
+-- or one fewer
 pub without_is : (counts : Bool) (n rest : ℕ) → cond counts 1 0 + rest ≡ n → count_without counts n ≡ rest
 without_is counts n rest e = grind (arith, common_steps)
 
 module _ (chosen passes : Job → Bool) where
-  -- how many of those that are chosen pass
+  -- how many of the chosen jobs pass
   both_count : (jobs : List Job) → count_by passes (filter chosen jobs) ≡ count_by (λ k. chosen k && passes k) jobs
   both_count [] = refl
   both_count (j ∷ jobs) = grind (arith, common_steps, both_count jobs)
@@ -74,7 +74,7 @@ all_chosen : (jobs : List Job) → filter (λ k. true) jobs ≡ jobs
 all_chosen [] = refl
 all_chosen (j ∷ jobs) = ap (λ ks. j ∷ ks) (all_chosen jobs)
 
--- The counts of all jobs, once one comes or goes.
+-- The counts of all jobs after one is added or removed.
 pub whole_added : (j : Job) (jobs : List Job) → length (with_added j jobs) ≤ greatest → tally_of (with_added j jobs) ≡ tally_with j (tally_of jobs)
 whole_added j jobs fits =
     sym (ap tally_of (all_chosen (with_added j jobs))) ∙ tally_added (λ k. true) j jobs fits refl ∙ ap (λ ks. tally_with j (tally_of ks)) (all_chosen jobs)

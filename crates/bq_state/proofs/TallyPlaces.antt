@@ -1,4 +1,4 @@
--- The counts of tubes stand at the places of their entries.
+-- The counts of tubes are at the places of their entries.
 use Rattle.std.proofs.{Common.{◌+◌, ◌∙◌, ◌∷◌, ◌≡◌, ◌≤◌, Bool, List, Some, [], ℕ, ap, arith, false, inl, inr, length, map, refl, sym, true}, lemmas.{Bool.{cases_Bool, lt-ltb}, List.{drop-map, map-append, take-map}}}
 use Rattle.std.proofs.lemmas.Grind.{common_steps}
 use Rattle.std.specs.{Cmp.Lexicographic.bytes_decides, List.{AllByRecursion as All, list_any}, Prelude.{count_by, filter, nat_lt}}
@@ -36,14 +36,14 @@ module _ (j : Job) (old new : List Job) (f : Tally → Tally)
       turned false g e = refl
       turned true g e = let back : is_same_name j.tube t.name ≡ true = (bytes_decides j.tube t.name).1 (sym ((bytes_decides t.name j.tube).0 g)) in cc
 
--- or goes
+-- or removed
 pub tallies_taken : (low next id : ℕ) (j : Job) (jobs : List Job) → AreIdsWithin low jobs next → job_with id jobs ≡ Some j → (es : List TubeRecord) → AreInOrder es
     → tallies_without j es (tallies_of jobs es) ≡ tallies_of (without id jobs) es
 tallies_taken low next id j jobs ids found = followed j jobs (without id jobs) (tally_without j)
     (λ t e. tally_taken (λ k. is_same_name t.name k.tube) low next id j jobs ids found e)
     (λ t e. tally_stays_taken (λ k. is_same_name t.name k.tube) low next id j jobs ids found e)
 
--- the counts of a tube hang on its name alone
+-- the counts of a tube depend on its name only
 same_tallies : (f : TubeRecord → TubeRecord) → ((t : TubeRecord) → (f t).name ≡ t.name) → (jobs : List Job) (es : List TubeRecord) → tallies_of jobs es ≡ tallies_of jobs (map f es)
 same_tallies f same jobs [] = refl
 same_tallies f same jobs (t ∷ es) = grind (arith, same_tallies f same jobs es)
@@ -72,12 +72,12 @@ counted_provided name tally tallies jobs es all was = record { whole = was.whole
     go true e = rw e refl
     go false e = grind (arith, no_job_there name jobs es e all, take-map, drop-map, map-append, provided_new name es e)
 
--- a job comes,
+-- a job is added,
 pub counted_added : (j : Job) (tally : Tally) (tallies : List Tally) (jobs : List Job) (es : List TubeRecord) → length (with_added j jobs) ≤ greatest → AreInOrder es
     → AreCounted tally tallies jobs es → AreCounted (tally_with j tally) (tallies_with j es tallies) (with_added j jobs) es
 counted_added j tally tallies jobs es fits order was = grind (arith, whole_added, followed, tally_added, tally_stays_added)
 
--- or goes
+-- or removed
 pub counted_taken : (low next id : ℕ) (j : Job) (tally : Tally) (tallies : List Tally) (jobs : List Job) (es : List TubeRecord)
     → AreIdsWithin low jobs next → job_with id jobs ≡ Some j → AreInOrder es
     → AreCounted tally tallies jobs es → AreCounted (tally_without j tally) (tallies_without j es tallies) (without id jobs) es
@@ -86,7 +86,7 @@ counted_taken low next id j tally tallies jobs es ids found order was = grind (a
 no_more : (n : ℕ) → 0 + n ≡ n
 no_more n = omega arith
 
--- a job is counted where one passes
+-- the count is above 0 if and only if a job passes
 some_pass : (p : Job → Bool) (jobs : List Job) → nat_lt 0 (count_by p jobs) ≡ list_any p jobs
 some_pass p [] = refl
 some_pass p (j ∷ jobs) =
@@ -105,7 +105,7 @@ some_delayed t jobs whole = ap (λ (t : Tally). nat_lt 0 t.delayed) whole ∙ so
 has_one : (j : Job) (jobs : List Job) → has_jobs (tally_of (j ∷ jobs)) ≡ true
 has_one j jobs = grind (arith, common_steps)
 
--- a job is counted where there is one
+-- a tube has jobs by its counts if and only if it has a job
 pub has_jobs_in : (name : List ℕ) (jobs : List Job) → has_jobs (tally_of (filter (λ j. is_same_name name j.tube) jobs)) ≡ list_any (λ j. is_same_name name j.tube) jobs
 has_jobs_in name [] = refl
 has_jobs_in name (j ∷ jobs) = grind (arith, has_one, has_jobs_in name jobs)
@@ -125,7 +125,7 @@ tally_missing : (name : List ℕ) (jobs : List Job) (es : List TubeRecord) → h
 tally_missing name jobs [] h = refl
 tally_missing name jobs (t ∷ es) h = grind (arith, common_steps, cases_Bool, tally_missing name jobs es)
 
--- the counts that stand at a name are those of its jobs
+-- the counts at a name are those of its jobs
 pub tally_there : (name : List ℕ) (jobs : List Job) (es : List TubeRecord) → All (λ j. has_entry j.tube es ≡ true) jobs
     → tally_at name es (tallies_of jobs es) ≡ tally_of (filter (λ j. is_same_name name j.tube) jobs)
 tally_there name jobs es all = grind (arith, tally_named, tally_missing, no_job_there)

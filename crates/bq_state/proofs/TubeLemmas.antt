@@ -12,7 +12,7 @@ same_name a b h = (bytes_decides a b).0 h
 pub same_itself : (a : List ℕ) → is_same_name a a ≡ true
 same_itself a = (bytes_decides a a).1 refl
 
--- a name that comes before another one is another one
+-- a name that comes before another one differs from it
 pub before_differs : (a b : List ℕ) → is_name_before a b ≡ true → is_same_name a b ≡ false
 before_differs a b h = elim (cases_Bool (is_same_name a b)) [
   | inl same ↦ let e : a ≡ b = same_name a b same in
@@ -22,7 +22,7 @@ before_differs a b h = elim (cases_Bool (is_same_name a b)) [
   | inr other ↦ other
 ]
 
--- a filter and a change that don't touch one another
+-- a filter and a change that do not affect one another
 pub filter_of_map : {A : Type 0} (p : A → Bool) (f : A → A) → ((x : A) → p (f x) ≡ p x) → (xs : List A) → filter p (map f xs) ≡ map f (filter p xs)
 filter_of_map p f same [] = refl
 filter_of_map p f same (x ∷ xs) = grind (arith, filter_of_map p f same xs)
@@ -34,7 +34,7 @@ pub filters_swap : {A : Type 0} (p q : A → Bool) (xs : List A) → filter p (f
 filters_swap p q [] = refl
 filters_swap p q (x ∷ xs) = swap_at p q x xs (p x) (q x) refl refl (filters_swap p q xs)
 
--- names that come later are others
+-- a name differs from all names that come after it
 pub none_later : (name : List ℕ) (entries : List TubeRecord) → All (λ u. is_name_before name u.name ≡ true) entries → has_entry name entries ≡ false
 none_later name [] all = refl
 none_later name (t ∷ entries) all = rw (before_differs name t.name all.0) (none_later name entries all.1)
@@ -42,7 +42,7 @@ none_later name (t ∷ entries) all = rw (before_differs name t.name all.0) (non
 missed_at : (name : List ℕ) (t : TubeRecord) (entries : List TubeRecord) (b : Bool) → is_same_name name t.name ≡ false → find (λ t. is_same_name name t.name) (counted entries) ≡ None → find (λ t. is_same_name name t.name) (if b then t ∷ counted entries else counted entries) ≡ None
 missed_at name t entries b other rest = grind (arith, common_steps)
 
--- no record of a tube without an entry
+-- a tube without an entry has no record
 pub none_found : (name : List ℕ) (entries : List TubeRecord) → has_entry name entries ≡ false → find (λ t. is_same_name name t.name) (counted entries) ≡ None
 none_found name [] h = refl
 none_found name (t ∷ entries) h =
@@ -69,13 +69,13 @@ paused_at name t entries true false e k fresh later rest = grind (arith)
 paused_at name t entries false true e k fresh later rest = rw (k, e) rest
 paused_at name t entries false false e k fresh later rest = rw (k, e) rest
 
--- a tube is paused where its entry says so
+-- a tube is paused if and only if its entry says so
 pub paused_is : (name : List ℕ) (entries : List TubeRecord) → AreInOrder entries → All IsFreshUnlessCounted entries → is_some (found name entries).pause ≡ pauses_there name entries
 paused_is name [] order fresh = refl
 paused_is name (t ∷ entries) order fresh =
     paused_at name t entries (is_same_name name t.name) (is_counted t) refl refl fresh.0 order.0 (paused_is name entries order.1 fresh.1)
 
--- what an entry of this name becomes
+-- the effect of a change on an entry with this name
 abbrev pub changed_one : List ℕ → (TubeRecord → TubeRecord) → TubeRecord → TubeRecord
 changed_one name f t = if is_same_name name t.name then f t else t
 
@@ -85,12 +85,12 @@ unchanged name f (t ∷ entries) h =
     let parts = or_parts (is_same_name name t.name) (has_entry name entries) h in
     rw parts.0 (ap (λ ts. t ∷ ts) (unchanged name f entries parts.1))
 
--- a record that comes before all others stands first
+-- a record that comes before all others is the first
 first_record : (x : TubeRecord) (entries : List TubeRecord) → All (λ u. is_name_before x.name u.name ≡ true) entries → with_record x (counted entries) ≡ x ∷ counted entries
 first_record x [] later = refl
 first_record x (t ∷ entries) later = grind (arith, before_differs, first_record x entries later.1)
 
--- where an entry of this name comes later, this one comes before it
+-- if a later entry has this name, this entry comes before it
 comes_before : (name : List ℕ) (t : TubeRecord) (entries : List TubeRecord) → All (λ u. is_name_before t.name u.name ≡ true) entries → has_entry name entries ≡ true → is_name_before t.name name ≡ true
 comes_before name t [] later h = absurd cc
 comes_before name t (u ∷ entries) later h =
@@ -118,7 +118,7 @@ changed_at name f counts keeps t entries false true e k fresh later h rest =
     grind (arith, found_name, not_before, comes_before)
 changed_at name f counts keeps t entries false false e k fresh later h rest = grind (arith, common_steps)
 
--- what is kept of a tube that has an entry, changed
+-- the record of a tube that has an entry, after a change
 pub record_changed : (name : List ℕ) (f : TubeRecord → TubeRecord) → ((t : TubeRecord) → is_counted (f t) ≡ true) → ((t : TubeRecord) → (f t).name ≡ t.name) → (entries : List TubeRecord) → AreInOrder entries → All IsFreshUnlessCounted entries → has_entry name entries ≡ true → with_record (f (found name entries)) (counted entries) ≡ counted (map (changed_one name f) entries)
 record_changed name f counts keeps [] order fresh h = absurd cc
 record_changed name f counts keeps (t ∷ entries) order fresh h =
@@ -146,7 +146,7 @@ order_filtered p [] order = tt
 order_filtered p (t ∷ entries) order =
     grind (arith, later_filtered p t.name entries order.0, order_filtered p entries order.1)
 
--- what has an entry that passes has one among those that pass
+-- an entry that passes is still there after the filter
 pub entry_filtered : (p : TubeRecord → Bool) (name : List ℕ) → ((t : TubeRecord) → name ≡ t.name → p t ≡ true) → (entries : List TubeRecord) → has_entry name entries ≡ true → has_entry name (filter p entries) ≡ true
 entry_filtered p name passes [] h = absurd cc
 entry_filtered p name passes (t ∷ entries) h =
@@ -194,7 +194,7 @@ pub counted_inserted : (x : TubeRecord) → is_counted x ≡ false → (entries 
 counted_inserted x c [] h = rw c refl
 counted_inserted x c (t ∷ entries) h = grind (arith, common_steps, or_parts, counted_inserted x c entries)
 
--- an inserted record is there, and the others of other names stay
+-- an inserted record is there, and the records with other names stay
 pub has_inserted : (x : TubeRecord) (entries : List TubeRecord) → has_entry x.name (with_record x entries) ≡ true
 has_inserted x [] = rw (same_itself x.name) refl
 has_inserted x (t ∷ entries) = grind (arith, same_itself, has_inserted x entries)
@@ -206,12 +206,12 @@ still_has x name (t ∷ entries) none h = grind (arith, common_steps, or_parts, 
 pub provided_new : (name : List ℕ) (entries : List TubeRecord) → has_entry name entries ≡ false → insert entries (prefix_len (λ t. is_name_before t.name name) entries) (fresh_tube name) ≡ provided name entries
 provided_new name entries none = placed (fresh_tube name) entries none ∙ sym (ap (λ b. if b then entries else with_record (fresh_tube name) entries) none)
 
--- where some element passes, some are left
+-- if some element passes, some are left
 pub some_left : {A : Type 0} (p : A → Bool) (xs : List A) → list_any p xs ≡ true → 0 < length (filter p xs)
 some_left p [] h = absurd cc
 some_left {A = A} p (x ∷ xs) h = grind (arith, common_steps, some_left p xs)
 
--- The place of the first element that doesn't pass, or the end, from the result of the search for
+-- The place of the first element that does not pass, or the end, from the result of the search for
 -- it.
 pub place_told : {A : Type 0} (p : A → Bool) (xs : List A) (o : Option ℕ) (r : ℕ) → r ≡ unwrap_or o (length xs) → o ≡ position (λ x. not (p x)) xs → r ≡ prefix_len p xs
 place_told p xs o r is found = is ∙ ap (λ k. unwrap_or k (length xs)) found ∙ place_read p xs

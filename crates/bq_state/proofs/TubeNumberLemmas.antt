@@ -10,7 +10,7 @@ use Rattle.bq_state.proofs.{NamedLemmas.ties, PartsLemmas.has_provided, TallyPla
 abbrev is_numbered : List ℕ → List (List ℕ × ℕ) → Bool
 is_numbered name numbers = is_some (lookup (is_at (slice_cmp nat_cmp name)) numbers)
 
--- two names are the same, whichever is asked for
+-- the comparison of names is symmetric
 turned : (a b : List ℕ) → is_same_name a b ≡ false → is_same_name b a ≡ false
 turned a b h = elim (cases_Bool (is_same_name b a)) [
   | inl e ↦ absurd (let same : is_same_name a b ≡ true = (bytes_decides a b).1 (sym ((bytes_decides b a).0 e)) in cc)
@@ -28,7 +28,7 @@ module _ (name : List ℕ) where
     | inr e ↦ rw (ties name x.0 ∙ e) (ap (λ b. is_same_name other x.0 || b) (left_of other h es))
   ]
 
-  -- and its tube has none.
+  -- and the dropped tube has none.
   gone_of : (es : List Named) → AreInOrder (map record_at es) → has_entry name (map record_at (remove_entry (is_named_at name) es)) ≡ false
   gone_of [] order = refl
   gone_of (x ∷ es) order = elim (cases_Bool (is_same_name name x.0)) [
@@ -61,7 +61,7 @@ module _ (name : List ℕ) where
       stays true e h = rw e refl
       stays false e h = rw e (others_inserted other h entries)
 
-  -- or neither.
+  -- or neither of them.
   pub numbers_back : (old between new : List (List ℕ × ℕ)) (entries : List TubeRecord) → HaveNumbers old entries → has_entry name entries ≡ false
       → ((other : List ℕ) → is_same_name name other ≡ false → is_numbered other between ≡ is_numbered other old)
       → is_numbered name new ≡ false → ((other : List ℕ) → is_same_name name other ≡ false → is_numbered other new ≡ is_numbered other between)
@@ -71,7 +71,7 @@ module _ (name : List ℕ) where
     | inr e ↦ others other e ∙ first other e ∙ have other
   ]
 
--- At the start the default tube alone has them.
+-- At the start only the default tube has an entry and a number.
 pub numbers_at_first : (numbers : List (List ℕ × ℕ)) → is_numbered default_tube numbers ≡ true
     → ((other : List ℕ) → is_same_name default_tube other ≡ false → is_numbered other numbers ≡ false)
     → HaveNumbers numbers first_tubes.entries

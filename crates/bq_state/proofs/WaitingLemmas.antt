@@ -9,7 +9,7 @@ use Rattle.bq_state.specs.{EndingWaits.turn_of, SeatChanges.{AreNumbered, seat_c
 use Rattle.bq_state.specs.WaitingTurns.{AreInTurn, IsRising, WaitingTurns, is_none_or_before, is_turn_before, placed, removed, turns_of, with_turn, without_turn}
 use Rattle.bq_state.proofs.{ClientLemmas.{all_others, heads, others, others_left}, PartsLemmas.{all_read, changed_there, number_kept, numbered_after, some_at}}
 
--- the place behind those that come before
+-- the place after all elements that come before
 pub placed_at : {A : Type 0} (before : A → A → Bool) (x : A) (xs : List A) → insert xs (prefix_len (λ y. before y x) xs) x ≡ placed before x xs
 placed_at before x [] = refl
 placed_at before x (y ∷ ys) =
@@ -25,13 +25,13 @@ pub placed_length : {A : Type 0} (before : A → A → Bool) (x : A) (xs : List 
 placed_length before x [] = refl
 placed_length before x (y ∷ ys) = grind (arith, placed_length before x ys)
 
--- Of two that differ one comes before the other, so it is the same which is put in first.
+-- Of two different elements one comes before the other, so the order of insertion does not matter.
 pub placed_twice : {A : Type 0} {before : A → A → Bool} (order : IsStrictWeakOrder before) (a b : A) (xs : List A) → (before a b ≡ false → before b a ≡ true) → placed before a (placed before b xs) ≡ placed before b (placed before a xs)
 placed_twice {before = before} order a b [] apart = grind (arith)
 placed_twice {A = A} {before = before} order a b (x ∷ xs) apart =
     grind (arith, common_steps, placed_twice order a b xs)
 
--- turns of which the seats differ
+-- turns of different seats
 turn_apart : (a b : ℕ × ℕ) → (a.1 == b.1) ≡ false → is_turn_before a b ≡ false → is_turn_before b a ≡ true
 turn_apart a b other h = grind (arith, common_steps)
 
@@ -48,7 +48,7 @@ turns_swap s (Some t) turns other = go (is_waiting s) (is_waiting t)
     go false true = refl
     go false false = refl
 
--- The turns are that of the seat of a number, if it waits, and those of others.
+-- The turns are the turn of the seat with a number, if it waits, and those of the others.
 turns_parted : (n low : ℕ) (seats : List SeatRecord) → map (λ s. s.number) seats ≡ numbers low (length seats)
     → turns_of seats ≡ with_turn (seat_with n seats) (turns_of (others n seats))
 turns_parted n low [] h = refl
@@ -64,7 +64,7 @@ others_stay : (n : ℕ) (seats : List SeatRecord) → All (λ t. (t.1 == n) ≡ 
 others_stay n [] = tt
 others_stay n (s ∷ seats) = grind (arith, all_placed, others_stay n seats)
 
--- what was put in is taken out
+-- an inserted turn is removed again
 removed_again : (before : ℕ × ℕ → ℕ × ℕ → Bool) (t : ℕ × ℕ) (turns : List (ℕ × ℕ)) → All (λ u. (u.1 == t.1) ≡ false) turns → removed t.1 (placed before t turns) ≡ turns
 removed_again before t [] all = rw (eq-eqb t.1 t.1 refl) refl
 removed_again before t (u ∷ turns) all = grind (arith, removed_again before t turns all.1)
@@ -77,20 +77,20 @@ turn_taken n (Some s) turns at all = go (is_waiting s)
     go true = removed_again is_turn_before (turn_of s) turns (subst (λ k. All (λ t. (t.1 == k) ≡ false) turns) (sym (at s refl)) all)
     go false = refl
 
--- Once the client of a number has left, those of the others are there,
+-- After the client with a number has left, the turns of the others remain,
 turns_left : (n : ℕ) (seats : List SeatRecord) → AreNumbered seats → without_turn (seat_with n seats) (turns_of seats) ≡ turns_of (others n seats)
 turns_left n seats h =
     ap (without_turn (seat_with n seats)) (turns_parted n 0 seats h)
     ∙ turn_taken n (seat_with n seats) (turns_of (others n seats)) (λ s found. eqb-true s.number n (found_passes (λ u. u.number == n) seats s found).0) (others_stay n seats)
 
--- and it comes back as it is then.
+-- and it is inserted again as it is then.
 turns_changed : (n : ℕ) (f : SeatRecord → SeatRecord) → ((s : SeatRecord) → (f s).number ≡ s.number) → (seats : List SeatRecord) → AreNumbered seats → AreNumbered (map (λ s. if s.number == n then f s else s) seats)
     → with_turn (seat_with n (map (λ s. if s.number == n then f s else s) seats)) (without_turn (seat_with n seats) (turns_of seats)) ≡ turns_of (map (λ s. if s.number == n then f s else s) seats)
 turns_changed n f keeps seats h h' =
     let new = map (λ (s : SeatRecord). if s.number == n then f s else s) seats in
     grind (arith, common_steps, turns_left, others_left, turns_parted)
 
--- They stand in order.
+-- The turns are ordered.
 pub rising_placed : {A : Type 0} {before : A → A → Bool} (order : IsStrictWeakOrder before) (x : A) (ys : List A) → IsRising before ys → IsRising before (placed before x ys)
 rising_placed order x [] rising = (tt, tt)
 rising_placed {before = before} order x (y ∷ ys) rising =
@@ -107,7 +107,7 @@ rising_turns (s ∷ seats) = go (is_waiting s) (rising_turns seats)
 pub rising_left : (n : ℕ) (seats : List SeatRecord) → AreNumbered seats → IsRising is_turn_before (without_turn (seat_with n seats) (turns_of seats))
 rising_left n seats h = subst (IsRising is_turn_before) (sym (turns_left n seats h)) (rising_turns (others n seats))
 
--- where the last one comes before another, each does
+-- if the last one comes before another, each does
 rising_ends : {A : Type 0} {before : A → A → Bool} (order : IsStrictWeakOrder before) (t : A) (xs : List A) (k : ℕ) (l : A) → IsRising before xs → slice_get xs k ≡ Some l → suc k ≡ length xs → before l t ≡ true → prefix_len (λ u. before u t) xs ≡ length xs
 rising_ends order t [] k l rising read ends e = absurd cc
 rising_ends {before = before} order t (x ∷ []) zero l rising read ends e = grind (arith, common_steps)
@@ -125,7 +125,7 @@ all_before t (x ∷ xs) rising ends =
     go None e h = absurd (let some = some_at (x ∷ xs) (length xs) (omega arith) in let both = sym e ∙ some.1 in cc)
     go (Some l) e h = rising_ends (pair_order (λ u. u.0) (λ u. u.1)) t (x ∷ xs) (length xs) l rising e refl h
 
--- the first turn of a seat is taken out
+-- the first turn of a seat is removed
 removed_there : (n : ℕ) (xs : List (ℕ × ℕ)) → prefix_len (λ t. not (t.1 == n)) xs < length xs → removed n xs ≡ remove xs (prefix_len (λ t. not (t.1 == n)) xs)
 removed_there n [] h = absurd (omega (arith, h))
 removed_there n (x ∷ xs) h = go (x.1 == n) (removed_there n xs) h
@@ -151,12 +151,12 @@ removed_found n xs i found = grind (arith, removed_there)
 pub removed_missed : (n : ℕ) (xs : List (ℕ × ℕ)) → None ≡ position (λ t. t.1 == n) xs → removed n xs ≡ xs
 removed_missed n xs none = grind (arith, removed_nowhere)
 
--- there are no more of them than seats
+-- there are at most as many turns as seats
 pub turns_within : (seats : List SeatRecord) → length (turns_of seats) ≤ length seats
 turns_within [] = omega arith
 turns_within (s ∷ seats) = grind (arith, placed_length, turns_within seats)
 
--- there are as many of them as clients that wait
+-- there are as many turns as clients that wait
 pub turns_counted : (seats : List SeatRecord) → length (turns_of seats) ≡ count_by is_waiting seats
 turns_counted [] = refl
 turns_counted (s ∷ seats) = grind (arith, common_steps, placed_length, turns_counted seats)
@@ -165,7 +165,7 @@ pub turns_moved : (n : ℕ) (what : SeatChange) (seats : List SeatRecord) → Ar
     → with_turn (seat_with n (map (seat_changed_at n what) seats)) (without_turn (seat_with n seats) (turns_of seats)) ≡ turns_of (map (seat_changed_at n what) seats)
 turns_moved n what seats h = turns_changed n (seat_changed what) (number_kept what) seats h (numbered_after n what seats h)
 
--- where nobody begins or ends to wait, the turns stay
+-- if no client begins or ends to wait, the turns stay
 turns_kept : (f : SeatRecord → SeatRecord) → ((s : SeatRecord) → with_turn (Some (f s)) ≡ with_turn (Some s)) → (seats : List SeatRecord) → turns_of (map f seats) ≡ turns_of seats
 turns_kept f same [] = refl
 turns_kept f same (s ∷ seats) = λ i. same s i (turns_kept f same seats i)

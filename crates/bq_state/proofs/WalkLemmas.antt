@@ -10,7 +10,7 @@ use Rattle.bq_state.specs.{Clients.seat_passes, EndingWaits.{is_after, turn_of, 
 use Rattle.bq_state.specs.WaitingTurns.{IsRising, at_turn, is_turn_after, is_turn_before, passes_at, placed, turns_of}
 use Rattle.bq_state.proofs.{ClientLemmas.heads, SeatPlaces.place_is_seat, WaitingLemmas.{all_placed, rising_placed}, WarningLemmas.none_found}
 
--- the clients that wait, in their turn
+-- the clients that wait, in the order of their turns
 abbrev pub in_turn : List SeatRecord → List SeatRecord
 in_turn [] = []
 in_turn (s ∷ seats) = if is_waiting s then placed is_wait_before s (in_turn seats) else in_turn seats
@@ -23,12 +23,12 @@ turns_in : (seats : List SeatRecord) → turns_of seats ≡ map turn_of (in_turn
 turns_in [] = refl
 turns_in (s ∷ seats) = grind (arith, map_placed, turns_in seats)
 
--- what is so of those that wait
+-- a property of the clients that wait
 all_in_turn : (P : SeatRecord → Type 0) (seats : List SeatRecord) → All (λ s. is_waiting s ≡ true → P s) seats → All P (in_turn seats)
 all_in_turn P [] all = tt
 all_in_turn P (s ∷ seats) all = grind (arith, all_placed, all_in_turn P seats all.1)
 
--- each seat stands at its place
+-- each seat is at its place
 pub read_each : (seats : List SeatRecord) → AreNumbered seats → All (λ s. slice_get seats s.number ≡ Some s) seats
 read_each seats h = all_from_members (λ s. slice_get seats s.number ≡ Some s) seats (λ s here. place_is_seat seats s.number h ∙ go s here (seat_with s.number seats) refl)
   where
@@ -67,12 +67,12 @@ fold_there : {B : Type 0} (f : B → SeatRecord → B) (seats ss : List SeatReco
 fold_there f seats [] all b = refl
 fold_there f seats (s ∷ ss) all b = grind (arith, fold_there f seats ss all.1 (f b s))
 
--- a walk from turn to turn folds all seats
+-- a walk over the turns gives the same result as a fold over all seats
 pub walked : {B : Type 0} (f : B → SeatRecord → B) → ((s : SeatRecord) → is_waiting s ≡ false → (b : B) → f b s ≡ b) → ((s t : SeatRecord) → (s.number == t.number) ≡ false → (b : B) → f (f b s) t ≡ f (f b t) s)
     → (seats : List SeatRecord) → AreNumbered seats → (b : B) → fold (at_turn f seats) b (turns_of seats) ≡ fold f b seats
 walked f skips swaps seats h b = grind (arith, turns_in, fold_there, read_in_turn, fold_in_turn)
 
--- Of two choices it is the same which comes first.
+-- The order of two choices does not matter.
 abbrev pub chosen : {A : Type 0} → (A → A → Bool) → Option A → Option A → Option A
 chosen before None other = other
 chosen before (Some x) None = Some x
@@ -94,7 +94,7 @@ chosen_twice {before = before} order (Some z) (Some x) (Some y) same = grind (ar
 better_chosen : {A : Type 0} (p : A → Bool) (before : A → A → Bool) (b : Option A) (x : A) → better_of p before b x ≡ chosen before b (if p x then Some x else None)
 better_chosen p before b x = grind (arith, common_steps)
 
--- seats of which the numbers differ don't tie
+-- seats with different numbers never compare equal
 wait_order : IsStrictWeakOrder is_wait_before
 wait_order = pair_order (λ s. ticket_of s.wait) (λ s. s.number)
 
@@ -111,7 +111,7 @@ better_swaps p s t other b =
     apart : (x y : SeatRecord) → (if p s then Some s else None) ≡ Some x → (if p t then Some t else None) ≡ Some y → is_wait_before x y ≡ false → is_wait_before y x ≡ false → x ≡ y
     apart x y e f g h = grind (arith)
 
--- Those that wait stand in the order of their turns.
+-- The clients that wait are in the order of their turns.
 rising_in_turn : (seats : List SeatRecord) → IsRising is_wait_before (in_turn seats)
 rising_in_turn [] = tt
 rising_in_turn (s ∷ seats) = grind (arith, rising_placed, wait_order, rising_in_turn seats)
@@ -129,7 +129,7 @@ find_mapped : (q : ℕ × ℕ → Bool) (p : SeatRecord → Bool) (ss : List Sea
 find_mapped q p [] all = refl
 find_mapped q p (s ∷ ss) all = grind (arith, find_mapped q p ss all.1)
 
--- The first turn that passes is that of the first client which does.
+-- The first turn that passes is that of the first client that does.
 pub first_turn : (q : ℕ × ℕ → Bool) (p : SeatRecord → Bool) (seats : List SeatRecord) → AreNumbered seats → ((s : SeatRecord) → is_waiting s ≡ false → p s ≡ false) → ((s : SeatRecord) → is_waiting s ≡ true → slice_get seats s.number ≡ Some s → q (turn_of s) ≡ p s)
     → find q (turns_of seats) ≡ option_map turn_of (first_of p is_wait_before seats)
 first_turn q p seats h waits agrees =

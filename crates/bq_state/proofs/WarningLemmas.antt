@@ -1,4 +1,4 @@
--- What is known of the clients that wait while they hold a job.
+-- What is known about the clients that wait while they hold a job.
 use Rattle.std.proofs.Common.{◌-◌, ◌==◌, ◌∙◌, ◌∷◌, ◌≡◌, ◌≤◌, if◌then◌else◌, Bool, List, None, Option, Some, [], ℕ, ap, arith, false, map, refl, set, slice_get, true}
 use Rattle.std.proofs.lemmas.{Bool.and_parts, Grind.common_steps}
 use Rattle.std.specs.{List.{AllByRecursion as All, Contains, list_any}, Prelude.{count_by, fold, is_some, length, option_map}}
@@ -13,15 +13,15 @@ use Rattle.bq_state.specs.Warnings.{AreWarned, IsWarned, has_waiting_holder, hol
 use Rattle.bq_state.proofs.PartsLemmas.{all_added, all_read, all_set}
 use Rattle.std.proofs.lemmas.Bool.{cases_Bool}
 
--- beside no moment
+-- with no other moment
 pub no_other : (a : Option ℕ) → earlier_of_both a None ≡ a
 no_other a = grind (arith, common_steps)
 
--- more may be known
+-- at least as much may be known
 abbrev AtLeast : Warns → Warns → Type 0
 AtLeast warns more = (number : ℕ) → may_warn warns number ≡ true → may_warn more number ≡ true
 
--- that one more client may hold a job
+-- one more client may hold a job
 more_if : (b : Bool) (state : JobState) (warns : Warns) → AtLeast warns (if b then with_holder_of state warns else warns)
 more_if b state warns number h = grind (arith)
 
@@ -37,7 +37,7 @@ none_found number (t ∷ seats) h = go (t.number == number) refl h (none_found n
         → ((t.number == number) ≡ false) × All (λ u. (u.number == number) ≡ false) seats
     go b e h rest = grind (arith, common_steps)
 
--- the holder of a job is at the seat in the job's state
+-- the holder of a job is the client at the seat in the job's state
 holder_found : (j : Job) (seats : List SeatRecord) (s : SeatRecord) → AreNumbered seats → Contains seats s → holds_in_wait j s ≡ true → has_waiting_holder j.state seats ≡ true
 holder_found j seats s numbered here h = go j.state (parts.1)
   where
@@ -81,7 +81,7 @@ all_none : {A : Type 0} (f : A → Option ℕ) (best : Option ℕ) (xs : List A)
 all_none f best [] h = (h, tt)
 all_none f best (x ∷ xs) h = grind (arith, all_none f (earlier_of_both best (f x)) xs h)
 
--- of a client that can't hold one while it waits, by what is known
+-- a client that holds no job while it waits, by what is known
 not_known : (warns : Warns) (jobs : List Job) (s : SeatRecord) → may_warn warns s.number ≡ false → All (λ j. IsWarned warns j s) jobs → warning_due jobs s ≡ None
 not_known warns jobs s e all = grind (arith, first_of_none_passes (is_held_by s.number) is_lease_before jobs, list_any_not, all_weaker)
   where
@@ -113,13 +113,14 @@ warned_by_due warns jobs seats known = go (fold (with_warning_due jobs) None sea
         all_from_members (λ j. All (IsWarned Nobody j) seats) jobs
         (λ j c. all_weaker (λ s. warning_due jobs s ≡ None) (IsWarned Nobody j) seats (λ s none. quiet s none j c) each)
 
--- None is due where nobody holds one,
+-- No warning is due if no waiting client holds a job,
 pub none_due : (jobs : List Job) (seats : List SeatRecord) → AreWarned Nobody jobs seats → fold (with_warning_due jobs) None seats ≡ None
 none_due jobs [] known = refl
 none_due jobs (s ∷ seats) known =
     ap (λ o. fold (with_warning_due jobs) o seats) (not_known Nobody jobs s refl (of_first Nobody jobs s seats known)) ∙ none_due jobs seats (of_rest Nobody jobs s seats known)
 
--- and where one client alone may, it is its own: once it was found the others change nothing.
+-- and if only one client may hold one, the warning is its own: after it was found the others change
+-- nothing.
 found_already : (holder : ℕ) (jobs : List Job) (t : SeatRecord) (seats : List SeatRecord) → AreWarned (Client holder) jobs seats → All (λ u. u.number ≡ holder → u ≡ t) seats
     → fold (with_warning_due jobs) (warning_due jobs t) seats ≡ warning_due jobs t
 found_already holder jobs t [] known only = refl
@@ -135,11 +136,11 @@ among holder jobs o (s ∷ seats) e known only =
 pub one_due : (holder : ℕ) (jobs : List Job) (seats : List SeatRecord) → AreNumbered seats → AreWarned (Client holder) jobs seats → fold (with_warning_due jobs) None seats ≡ warning_due_at jobs (seat_with holder seats)
 one_due holder jobs seats numbered known = grind (arith, among, only_seat)
 
--- and it is one of those that wait, or waits not
+-- if this client waits, at least one client waits
 pub one_waits : (number : ℕ) (seats : List SeatRecord) → (if is_waiting_there (seat_with number seats) then 1 else 0) ≤ count_by is_waiting seats
 one_waits number [] = omega arith
 one_waits number (s ∷ seats) = grind (arith, common_steps, one_waits number seats)
 
--- what is known of a client that comes to wait
+-- what is known about a client that begins to wait
 pub known_holds : (number ticket : ℕ) (until : Option ℕ) (warns was : Warns) (jobs : List Job) → warns ≡ (if list_any (is_held_by number) jobs then with_holder number was else was) → may_hold (Wait ticket until) number warns jobs ≡ true
 known_holds number ticket until warns was jobs e = grind (arith)

@@ -1,4 +1,5 @@
--- the entries of tubes that are gone are dropped up to the last one that was found, and their numbers with them
+-- the entries of tubes that no longer exist are dropped up to the last one that was found, and
+-- their numbers with them
 use Rattle.std.proofs.Common.{◌≡◌, filter, length, map}
 use Rattle.bq_jobs.specs.Kept.{Kept}
 use Rattle.bq_state.specs.{KeptTubes.{is_alive_at, record_at, tally_kept}, PauseEnds.AreEnds, Tallies.tallies_of, TubeNumbers.HaveNumbers}
