@@ -5,7 +5,7 @@ from queue_model.reader import requests_of
 SEAT = 0
 REFUSED = b"OUT_OF_MEMORY\r\n"
 
-# The commands that may be answered OUT_OF_MEMORY. A put with a wrong end is one of them, because its body is allocated
+# The commands that may be answered OUT_OF_MEMORY. They include a put with a wrong end, because its body is allocated
 # before its end is checked.
 MAY_BE_REFUSED = {b"put", b"use", b"watch", b"stats", b"stats-job", b"stats-tube", b"list-tubes", b"list-tubes-watched"}
 # The answers for which nothing is allocated.
