@@ -31,6 +31,7 @@ pub struct Heard<R> {
 }
 
 impl<R: Wait> Heard<R> {
+    /// Returns this host with empty outputs and its own clock.
     pub fn new(host: R, alloc: Global) -> Heard<R> {
         Heard {
             host,

@@ -5,8 +5,8 @@ use Rattle.bq_job.specs.machine.{Effect, Memory, acted, addressed, is_growth_ref
 use Rattle.bq_steps.specs.Outbox.{Outbox}
 use Rattle.bq_core.specs.declared.acts.Reply.{Reply, TheVariants.{LeftOut, Silent, Told, Unshared}}
 
--- The outcome of a request. It had this effect, with this answer; or it allocates and was skipped
--- because an allocation failed; or it would show a body, to which a reference was refused.
+-- The outcome of a request. It had this effect, with this answer; or it was skipped because an
+-- allocation failed; or its answer would show a body, and a reference to it could not be allocated.
 abbrev pub Replies : Bool → Machine → Effect → Reply → Answer → Machine → Type 0
 Replies takes m e Silent told next = e ≡ record { machine = next; answer = None }
 Replies takes m e Told told next = e ≡ record { machine = next; answer = Some told }

@@ -12,14 +12,14 @@ IsPicked m seat = (j : Job) → next_job m ≡ Some j → Some seat ≡ option_m
 abbrev pub handed_to : ℕ → ℕ → Machine → Machine
 handed_to seat id m = with_seat seat without_wait (with_job id (reserved_by m.moment seat) m)
 
--- One answer was appended, and a refused reference is recorded.
+-- One answer was appended, and a failed allocation of a reference is recorded.
 pub record AddsHandOut (m : Machine) (j : Job) (s : SeatRecord) (old new : Outbox) (last : Machine) : Type 0 where
   pub given : GivenAnswer
   pub hand_out : IsHandOut m j s given last
   pub added : new ≡ record old { given = old.given ++ given ∷ []; unshared = old.unshared || is_out_of_memory given.1 }
 
--- the job with this id goes to the client at this seat, with this reference to its body unless it
--- was refused
+-- the job with this id goes to the client at this seat, with this reference to its body unless its
+-- allocation failed
 abbrev pub HandsOut : Machine → ℕ → ℕ → Result (List ℕ) NoMemory → Outbox → Outbox → Machine → Type 0
 HandsOut m id number shared old new last =
     (j : Job) (s : SeatRecord) → id ≡ j.id → number ≡ s.number → IfOk shared (λ body. body ≡ j.body) → AddsHandOut m j s old new last

@@ -4,8 +4,8 @@ use Rattle.bq_job.specs.{beside.waiting_count, machine.{Chain, GivenAnswer, Mach
 use Rattle.bq_steps.specs.Outbox.{Outbox}
 
 -- Turns of this kind led from the first machine to the last, and their answers were appended.
--- `refused` says what they mean for the mark of refused references. Each made a waiting client stop
--- waiting.
+-- `refused` says what they mean for the mark of failed allocations of references. Each made a
+-- waiting client stop waiting.
 pub record Gives (Turn : Machine → GivenAnswer → Machine → Type 0) (refused : List GivenAnswer → Bool)
     (first last : Machine) (old new : Outbox) : Type 0 where
   pub given : List GivenAnswer

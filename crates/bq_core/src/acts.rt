@@ -217,6 +217,6 @@ pub(crate) enum Reply {
     Told,
     /// An allocation failed, and nothing was changed.
     LeftOut,
-    /// A reference to a body was refused, and nothing was changed.
+    /// A reference to a body could not be allocated, and nothing was changed.
     Unshared,
 }

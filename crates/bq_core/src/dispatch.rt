@@ -214,8 +214,8 @@ fn next_job(state: &mut CoreParts) -> Option<JobId>
 }
 
 // Returns the client that has waited longest for jobs of the next job's tube, and another reference
-// to the job's body, unless that is refused. Not inlined, because it reserves room for the tube's
-// name.
+// to the job's body, unless its allocation fails. Not inlined, because it reserves room for the
+// tube's name.
 #[inline(never)]
 fn pick_at_tube(state: &mut CoreParts, id: JobId) -> Option<(Seat, Result<Body, NoMemory>)>
     requires next { Some id ≡ option_map (λ j. j.id) (next_job (machine_of state.old)) }
@@ -229,9 +229,9 @@ fn pick_at_tube(state: &mut CoreParts, id: JobId) -> Option<(Seat, Result<Body, 
     Some((seat, shared))
 }
 
-// Returns the client that gets the next job, and another reference to the job's body, unless that
-// is refused. If only one client may have any job, it is that one, and neither the other clients
-// nor the job's tube are checked.
+// Returns the client that gets the next job, and another reference to the job's body, unless its
+// allocation fails. If only one client may have any job, it is that one, and neither the other
+// clients nor the job's tube are checked.
 fn pick(state: &mut CoreParts, id: JobId) -> Option<(Seat, Result<Body, NoMemory>)>
     requires next { Some id ≡ option_map (λ j. j.id) (next_job (machine_of state.old)) }
     ensures some { is_some result ≡ true }
@@ -264,7 +264,8 @@ fn give(state: &mut CoreParts, outs: &mut Outs, number: Seat, id: JobId, body: B
     outs.push(number, Answer::Reserved(id, body));
 }
 
-// A reference to the body was refused: the client is answered OUT_OF_MEMORY, and no longer waits.
+// A reference to the body could not be allocated: the client is answered OUT_OF_MEMORY, and no
+// longer waits.
 fn refuse(state: &mut CoreParts, outs: &mut Outs, number: Seat)
     requires room { length outs.old.given < outs.old.most }
     ensures after { machine_of state.new ≡ with_seat number without_wait (machine_of state.old) }
@@ -281,7 +282,8 @@ fn refuse(state: &mut CoreParts, outs: &mut Outs, number: Seat)
     outs.push(number, Answer::OutOfMemory);
 }
 
-// Hands the job out to the client at the seat, unless the reference to its body was refused.
+// Hands the job out to the client at the seat, unless the reference to its body could not be
+// allocated.
 #[tactic(auto, using(crate::proofs::TurnLemmas::shared_given, crate::proofs::TurnLemmas::refused_given))]
 fn hand_out(
     state: &mut CoreParts,

@@ -241,6 +241,7 @@ pub(crate) fn parts<K, V>(
 
 /// A source of boxes, one at a time: the heap, or in a test a source that fails for some requests.
 pub trait BoxSource {
+    /// Returns a box with this value, or `NoMemory` if none can be allocated.
     fn box_of<T: Drop>(&mut self, value: T) -> Result<Box<T>, NoMemory>
         ensures { IfOk result (λ b. b.value ≡ value) };
 }

@@ -1,4 +1,4 @@
--- If no reference to a body is refused, a step has one result.
+-- If every reference to a body is allocated, a step has one result.
 use Rattle.std.proofs.Common.{ℕ, ◌≡◌, Bool, false, ◌||◌, List, [], ◌∷◌, refl, sym, ap, ◌∙◌, subst, Option, Some, None, arith}
 use Rattle.std.proofs.lemmas.{Bool.or_parts, Grind.common_steps}
 use Rattle.std.specs.List.{list_any}

@@ -3,9 +3,11 @@ use super::{Body, JobId, Moment, Pri, Seat, TubeName};
 /// A job, from the put that made it until its deletion.
 #[derive(Debug, Drop)]
 pub struct Job {
+    /// Given by the server, from 1 up. No two jobs have the same id.
     pub id: JobId,
     /// The tube that it was put into. It never changes.
     pub tube: TubeName,
+    /// A job with a lower number is more urgent.
     pub pri: Pri,
     /// The delay of its put or of its last release, in seconds.
     pub delay: u32,
@@ -21,17 +23,22 @@ pub struct Job {
 /// How often each thing happened to a job. A count stops at 2^64 - 1.
 #[derive(Clone, Copy, Debug, Default, PartialEq, Eq)]
 pub struct Counts {
+    /// How often it was handed out to a client.
     pub reserves: u64,
     /// How often its time to run expired while a client held it.
     pub timeouts: u64,
+    /// How often a client released it.
     pub releases: u64,
+    /// How often a client buried it.
     pub buries: u64,
+    /// How often a client kicked it.
     pub kicks: u64,
 }
 
 /// The state of a job. A job is in one state at a time.
 #[derive(Clone, Copy, Debug, PartialEq, Eq)]
 pub enum JobState {
+    /// A client may reserve it, unless its tube is paused.
     Ready,
     /// Becomes ready at this moment.
     Delayed(Moment),

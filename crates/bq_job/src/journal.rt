@@ -5,6 +5,7 @@ use super::{Moment, Seat, Step};
 pub struct Entry {
     /// The moment that the caller passed in, in milliseconds.
     pub moment: Moment,
+    /// The seat whose step it was.
     pub seat: Seat,
     pub step: Step,
     /// True if the step's command was skipped because an allocation failed.

@@ -67,8 +67,8 @@ pub fn refused_commands_change_nothing()
         → ChangesNothing (parts_of step) seat what answer given last }
 {}
 
-/// A step in which no reference to a body was refused has one result: its answers and the machine
-/// after it are determined, even if the command was skipped for lack of memory.
+/// A step in which every reference to a body was allocated has one result: its answers and the
+/// machine after it are determined, even if the command was skipped for lack of memory.
 pub fn steps_have_one_result()
     ensures { (first last other : Machine) (at seat : ℕ) (what : Step) (outcome : Outcome) (given others : List GivenAnswer)
         → outcome.unshared ≡ false

@@ -14,6 +14,8 @@ pub enum LineEnd {
 /// The first fault of a line.
 #[derive(Clone, Copy, Debug, PartialEq, Eq)]
 pub enum LineFault {
+    /// A read of the line failed.
     Read,
+    /// A write to the line failed.
     Write,
 }

@@ -175,7 +175,9 @@ impl Halves {
 /// A place in an order: by group, then by a number, then by the id of the job.
 #[derive(Clone, Copy)]
 pub struct ShelfPlace<G> {
+    /// The number that orders the places of a group: a priority, a moment or a burial number.
     pub at: Halves,
+    /// The id of the job.
     pub id: Halves,
     pub group: G,
 }
@@ -259,7 +261,9 @@ fn is_above<G: Ord>(group: &G, other: &G) -> bool
 /// A kind of timer: a delay or a lease, which ends at a moment.
 #[derive(Clone, Copy, PartialEq, Eq, PartialOrd, Ord)]
 pub enum Timer {
+    /// The delay of a delayed job.
     Due,
+    /// The time to run of a reserved job.
     Lease,
 }
 

@@ -5,6 +5,7 @@ use bq_jobs::NumberedJobs;
 use std::alloc::Global;
 use std::process::Abort;
 
+/// Returns the tube with this name, which has to be a valid one.
 pub fn tube(rt: &impl Abort, name: &str) -> TubeName {
     TubeName::new(name.as_bytes()).expect(rt, "the name of a tube")
 }

@@ -1,5 +1,6 @@
-//! Calls that may be refused memory, and steps that may take none: what comes of each is a line on standard
-//! output. tests/memory_faults runs it with one request for memory after another refused.
+//! Calls that may fail for lack of memory, and steps that must not allocate: the result of each is
+//! a line on standard output. tests/memory_faults runs it again and again, with another allocation
+//! failing each time.
 #![tactic(auto)]
 
 #[cfg(test)]

@@ -3,8 +3,10 @@
 use std::io;
 use std::io::Print;
 
+/// The outcome of a call or of a step.
 #[derive(Clone, Copy, PartialEq, Eq)]
 pub enum Outcome {
+    /// It succeeded.
     Made,
     /// An allocation failed, and nothing was changed.
     Refused,
@@ -14,6 +16,7 @@ pub enum Outcome {
     LeftOut,
     /// An allocation failed for an argument of the call.
     NotBegun,
+    /// It did something else than the rules allow.
     Wrong,
 }
 

@@ -10,6 +10,7 @@ use std::rt;
 #[derive(Drop)]
 pub struct SessionClock<K> {
     pub machine: MachineClock<K>,
+    /// True if it always reads 0.
     pub is_still: bool,
 }
 

@@ -26,13 +26,21 @@ pub struct CoreParts {
     pub tubes: Tubes,
     /// What is known without a search.
     pub known: Known,
+    /// The largest moment of any step so far, in milliseconds.
     pub moment: Moment,
+    /// The id of the next job.
     pub next_id: JobId,
+    /// The last burial number that was given out.
     pub burials: u64,
+    /// The last ticket that was given to a client that began to wait.
     pub tickets: u64,
+    /// True if puts are rejected from now on.
     pub draining: bool,
+    /// How many reservations have expired.
     pub timeouts: u64,
+    /// How many puts were accepted.
     pub puts: u64,
+    /// How many connections were opened.
     pub connections: u64,
     pub ghost sound: { Soundness jobs.jobs seats.items tubes waiting known
         next_id draining } by { Soundness-prop jobs.jobs seats.items tubes waiting known next_id draining },
@@ -106,8 +114,8 @@ impl CoreParts {
         job_store::time_to_run(&mut self.jobs, id, seat)
     }
 
-    /// Returns another reference to the body of the job with this id, unless that is refused; None
-    /// if there is no such job.
+    /// Returns another reference to the body of the job with this id, or `NoMemory` if its
+    /// allocation fails; None if there is no such job.
     #[tactic(auto, using(crate::proofs::PartsLemmas::compared_sound))]
     pub fn share(&mut self, id: JobId) -> Option<Result<Body, NoMemory>>
         ensures none { is_some result ≡ is_some (job_with id (machine_of self.old).jobs) }

@@ -63,7 +63,7 @@ impl Outs {
         self.left_out
     }
 
-    /// Returns true if a reference to a job's body was refused in the last step.
+    /// Returns true if a reference to a job's body could not be allocated in the last step.
     pub fn unshared(&self) -> bool
         ensures { result ≡ self.now.unshared }
     {
@@ -95,7 +95,7 @@ impl Outs {
         self.left_out = true;
     }
 
-    /// Records that a reference to a job's body was refused in the step.
+    /// Records that a reference to a job's body could not be allocated in the step.
     pub fn set_unshared(&mut self)
         ensures { self.new ≡ record self.old { unshared = true } }
     {

@@ -11,6 +11,7 @@ use std::alloc::Global;
 /// The body of a put and the two bytes after it, as far as they have arrived.
 #[derive(Drop)]
 pub struct PutBody {
+    /// The numbers on the put's line.
     pub put: PutLine,
     /// How many bytes of the body and of the two after it were taken.
     pub taken: usize,

@@ -20,7 +20,9 @@ use std::mem;
 /// The state of a reader.
 #[derive(Drop)]
 pub struct ReaderState {
+    /// The largest size of a body, in bytes.
     pub max_job_size: u32,
+    /// The bytes of an unfinished line.
     pub kept: KeptLine,
     pub place: ReaderPlace,
 }

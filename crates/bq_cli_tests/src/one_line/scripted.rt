@@ -37,6 +37,7 @@ const SECONDS: &[Option<Moment>] = &[
     Some(20_000),
 ];
 
+/// The scripted sessions.
 pub const SCRIPTED: &[Scripted] = &[
     // timed_wait_by_the_clock: a wait of a second ends by the clock, although another command is buffered.
     (

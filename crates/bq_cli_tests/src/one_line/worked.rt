@@ -9,6 +9,7 @@ pub const CLOCKS: &[&[Option<Moment>]] = &[&[Some(0)], &[None], &[Some(9000), So
 /// What the client sends, what it receives, and how its line ends. Module `texts` says how the two texts are read.
 pub type Worked = (&'static str, &'static str, LineEnd);
 
+/// The worked sessions.
 pub const WORKED: &[Worked] = &[
     // first_cycle: a job from its put to its delete.
     (

@@ -9,7 +9,7 @@ use Rattle.bq_job.specs.declared.request.Request.TheVariants as requests
 use Rattle.bq_job.specs.declared.step.Step.TheVariants as steps
 
 -- whether a command got the memory that it needed: yes; an allocation failed; or a reference to a
--- body was refused
+-- body could not be allocated
 pub data Memory : Type 0 where
   granted growth_refused share_refused : Memory
 
@@ -43,8 +43,8 @@ shares_body (Some (answers.Reserved id body)) = true
 shares_body (Some (answers.Found id body)) = true
 shares_body _ = false
 
--- An allocation can fail only in a command that allocates, and a reference can be refused only for
--- an answer with a body.
+-- An allocation can fail only in a command that allocates, and the allocation of a reference only
+-- for an answer with a body.
 abbrev pub is_possible : Memory → Machine → ℕ → Step → Bool
 is_possible granted m seat what = true
 is_possible growth_refused m seat what = step_takes_memory what && may_be_left_out (effect m seat what).answer
@@ -65,7 +65,7 @@ abbrev pub is_out_of_memory : Answer → Bool
 is_out_of_memory answers.OutOfMemory = true
 is_out_of_memory _ = false
 
--- whether dispatch was refused a reference to a body for one of these
+-- whether dispatch failed to allocate a reference to a body for one of these
 abbrev pub has_refused_share : List GivenAnswer → Bool
 has_refused_share given = list_any (λ g. is_out_of_memory g.1) given
 
@@ -98,7 +98,7 @@ is_share_refused share_refused = true
 is_share_refused _ = false
 
 -- the outcome of a step: whether its command was skipped because an allocation failed, and whether
--- a reference to a body was refused
+-- a reference to a body could not be allocated
 pub record Outcome : Type 0 where
   pub left_out : Bool
   pub unshared : Bool

@@ -76,7 +76,9 @@ impl Model for TubeEntry {
 /// A change of a tube.
 #[derive(Clone, Copy)]
 pub enum TubeChange {
+    /// A put to the tube was accepted.
     CountPut,
+    /// A job of the tube was deleted.
     CountDelete,
     /// It is paused for this many seconds from this moment on.
     Pause(u32, Moment),

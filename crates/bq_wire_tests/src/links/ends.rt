@@ -41,6 +41,7 @@ fn last_end(intake: &Shared, seats: &mut Vec<SeatEnd>) -> SeatEnd
     seats.pop().unwrap()
 }
 
+/// Returns the links of four seats, without the end of the control line.
 pub fn links_of_four(alloc: Global) -> Result<Four, NoMemory>
     ensures core { IfOk result (λ r. r.1.intake ≡ r.0.id) }
     ensures first { IfOk result (λ r. (r.2.0.intake ≡ r.0.id) × (r.2.1.intake ≡ r.0.id)) }
