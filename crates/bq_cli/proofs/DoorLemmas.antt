@@ -5,7 +5,7 @@ use Rattle.std.specs.List.{All}
 use Rattle.std.specs.declared.net.tcp.TcpListener.{TcpListener}
 use Rattle.bq_driver.specs.Tending.{AreSame}
 use Rattle.bq_line.specs.InAll.{in_all}
-use Rattle.bq_run_start.proofs.ListLemmas.{first_passes, rest_passes}
+use Rattle.bq_host.proofs.ListLemmas.{first_passes, rest_passes}
 use Rattle.bq_job.specs.promise.History.{LineOver}
 use Rattle.bq_program.specs.declared.chosen.Options.{Options}
 use Rattle.bq_cli.specs.Servers.{AreServedDoors, IsDoorAt, TcpDoor}

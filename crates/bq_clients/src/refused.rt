@@ -1,7 +1,7 @@
 //! Runs of one client that are refused: they open no door.
 
 use crate::clients::{Client, PUTS, ROOM};
-use bq_run_start::RunFault;
+use bq_host::RunFault;
 
 /// How many seats are asked for, how big a job's body may be, and the fault.
 pub type Refused = (u16, u32, Option<RunFault>);

@@ -1,7 +1,7 @@
 -- How the turns of a hub join.
 use Rattle.std.proofs.Common.{ℕ, ◌∙◌, refl}
 use Rattle.bq_job.specs.machine.Machine.{Machine}
-use Rattle.bq_core_work.specs.CoreWork.{Gives}
+use Rattle.bq_host.specs.Clocks.{Gives}
 use Rattle.bq_core_work.specs.Worked.{IsInOrder, WorksOn}
 use Rattle.bq_core_work.specs.declared.core_work.hub.Hub.{Hub}
 

@@ -12,12 +12,9 @@ use Rattle.bq_job.specs.machine.Machine.{Machine, new_machine}
 use Rattle.bq_job.specs.promise.Runs.{Entry, answers_to}
 use Rattle.bq_link.specs.EndStates.{CoreState, sent_to}
 use Rattle.bq_link.specs.Submissions.{AreBelow, steps_of}
-use Rattle.bq_core_work.specs.Compared.{AreCompared}
+use Rattle.bq_host.specs.Compared.{AreCompared}
+use Rattle.bq_host.specs.Clocks.{Gives}
 use Rattle.bq_core_work.specs.declared.core_work.CoreRoom.{CoreRoom}
-
--- What a clock gives: which readings, between which two states of it.
-abbrev pub Gives : Type 0 → Type 1
-Gives C = C → List (Option ℕ) → C → Type 0
 
 -- Among these steps of an end it says that no more come.
 abbrev pub HasGone : List Step → Type 0

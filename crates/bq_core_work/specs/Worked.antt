@@ -14,8 +14,9 @@ use Rattle.bq_line.specs.GivenReadings.{GaveReadings}
 use Rattle.bq_link.specs.EndStates.{CoreState, IsSameCore, sent_to}
 use Rattle.bq_link.specs.Submissions.{AreBelow, steps_of}
 use Rattle.bq_steps.specs.Cost.{IsStepWithin}
-use Rattle.bq_core_work.specs.Compared.{AreWithin, LooksOnce}
-use Rattle.bq_core_work.specs.CoreWork.{Gives, HasGone, no_ticks, steps_made}
+use Rattle.bq_host.specs.Compared.{AreWithin, LooksOnce}
+use Rattle.bq_host.specs.Clocks.{Gives}
+use Rattle.bq_core_work.specs.CoreWork.{HasGone, no_ticks, steps_made}
 use Rattle.bq_core_work.specs.Flags.{AreAllSet}
 use Rattle.bq_core_work.specs.Sending.{IsAtRest}
 use Rattle.bq_core_work.specs.declared.core_work.hub.GoneEnds.{GoneEnds}

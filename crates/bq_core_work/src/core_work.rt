@@ -11,8 +11,6 @@ ghost use Rattle.bq_link.specs.Submissions.{MayTake};
 ghost use Rattle.bq_core_work.specs.CoreWork.{IsNewRoom, RanToEnd};
 ghost use Rattle.bq_core_work.specs.Worked.{IsAtWork, IsInOrder};
 
-pub use hub::{Concern, Notices, concern_of};
-
 mod hub;
 
 use bq_job::{Answer, NoMemory, Seat, Step};

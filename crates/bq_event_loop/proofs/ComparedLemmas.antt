@@ -6,7 +6,7 @@ use Rattle.bq_job.specs.machine.Machine.{Machine}
 use Rattle.bq_job.specs.machine.Steps.{Outcome}
 use Rattle.bq_job.specs.promise.Runs.{Entry}
 use Rattle.bq_steps.specs.Cost.{IsLookWithin, IsStepWithin}
-use Rattle.bq_core_work.specs.Compared.{AreCompared, AreWithin, IsEntryWithin, LooksOnce}
+use Rattle.bq_host.specs.Compared.{AreCompared, AreWithin, IsEntryWithin, LooksOnce}
 use Rattle.bq_event_loop.specs.HubState.{HubState}
 use Rattle.bq_event_loop.specs.HubWent.{HasCompared}
 

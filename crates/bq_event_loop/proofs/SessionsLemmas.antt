@@ -21,7 +21,7 @@ use Rattle.bq_event_loop.specs.Rows.{AreDone}
 use Rattle.bq_event_loop.specs.Serving.{AreServed}
 use Rattle.bq_event_loop.proofs.ComparedLemmas.{compared_all}
 use Rattle.bq_event_loop.proofs.HubLemmas.{hub_none}
-use Rattle.bq_core_work.specs.Compared.{AreCompared}
+use Rattle.bq_host.specs.Compared.{AreCompared}
 use Rattle.bq_job.specs.promise.Headline.{IsHistoryOf}
 use Rattle.bq_job.specs.machine.Machine.{new_machine}
 use Rattle.bq_job.proofs.JoinLemmas.{doors_owed}

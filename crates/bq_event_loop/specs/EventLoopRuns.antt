@@ -5,8 +5,8 @@ use Rattle.bq_job.specs.machine.Machine.{Machine, new_machine}
 use Rattle.bq_job.specs.promise.Headline.{IsHistoryOf}
 use Rattle.bq_job.specs.promise.History.{LineOver}
 use Rattle.bq_driver.specs.ControlRead.{IsReadToEnd}
-use Rattle.bq_core_work.specs.Compared.{AreCompared}
-use Rattle.bq_core_work.specs.CoreWork.{Gives}
+use Rattle.bq_host.specs.Compared.{AreCompared}
+use Rattle.bq_host.specs.Clocks.{Gives}
 use Rattle.bq_event_loop.specs.declared.run.EventLoopRun.{EventLoopRun}
 
 -- The run came from this clock and this control line. Its fields are those of `IsRunOf` of `bq_run`, with the same definitions, but for

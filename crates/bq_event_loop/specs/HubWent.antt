@@ -6,7 +6,7 @@ use Rattle.bq_job.specs.machine.Dispatch.{GivenAnswer}
 use Rattle.bq_job.specs.machine.Machine.{Machine}
 use Rattle.bq_job.specs.promise.History.{IsTimedFrom, steps_at}
 use Rattle.bq_job.specs.promise.Runs.{Entry, Run, answers_to}
-use Rattle.bq_core_work.specs.Compared.{AreWithin, LooksOnce}
+use Rattle.bq_host.specs.Compared.{AreWithin, LooksOnce}
 use Rattle.bq_event_loop.specs.HubState.{HubState, waiting}
 
 -- Along this history, from this many comparisons on, the core stayed within the bounds of its steps, and looked once at most for

@@ -5,11 +5,9 @@ ghost use Rattle.std.specs.Option.{option_to_list};
 ghost use Rattle.bq_job.specs.promise.Runs.{answers_to};
 
 use crate::woken::Woken;
-use bq_core_work::core_work::{Concern, Notices, concern_of};
+use bq_host::{Concern, Mail, Notices, RunFault, concern_of, new_mails};
 use bq_job::{Answer, Moment, Seat, Step};
 use bq_line::clock::{Clock, moment_heard};
-use bq_mail::{Mail, new_mails};
-use bq_run_start::RunFault;
 use bq_steps::{Config, CoreFault, Outs, QueueCore};
 use std::alloc::Global;
 
@@ -43,7 +41,7 @@ impl<C: Clock + Drop, K: QueueCore + Drop> Hub<C, K> {
     ghost use Rattle.bq_line.specs.GivenReadings.{GaveReadings};
     ghost use Rattle.bq_job.specs.beside.NextDue.{is_before, next_due};
     ghost use Rattle.bq_job.specs.promise.History.{moment_heard};
-    ghost use Rattle.bq_core_work.specs.Compared.{LooksOnce};
+    ghost use Rattle.bq_host.specs.Compared.{LooksOnce};
     ghost use Rattle.bq_event_loop.specs.HubState.{IsInOrder, IsNewHub, IsSorted};
     ghost use Rattle.bq_steps.specs.Cost.{IsLookWithin};
     ghost use Rattle.bq_steps.specs.Limits.{are_in_range};

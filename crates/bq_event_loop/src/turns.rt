@@ -4,9 +4,9 @@ ghost use Rattle.bq_driver.specs.Tending.{door_seen};
 ghost use Rattle.bq_event_loop.specs.Rows.{AreTended, RestsSince};
 
 use crate::row::Row;
+use bq_host::RunFault;
 use bq_line::Door;
 use bq_line::line::Line;
-use bq_run_start::RunFault;
 use std::alloc::Global;
 
 /// What the loop does next.

@@ -6,7 +6,7 @@ use crate::together::Together;
 use bq_clients::refused::{ONE, REFUSED, Refused, opens_of};
 use bq_clients::settings::config;
 use bq_event_loop::{ControlReads, TurnsFault};
-use bq_run_start::RunFault;
+use bq_host::RunFault;
 use std::alloc::Global;
 use std::sync::Wait;
 

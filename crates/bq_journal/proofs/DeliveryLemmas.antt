@@ -7,7 +7,7 @@ use Rattle.bq_job.specs.declared.answer.Answer.{Answer}
 use Rattle.bq_job.specs.machine.Dispatch.{GivenAnswer}
 use Rattle.bq_job.specs.promise.Runs.{answers_to}
 use Rattle.bq_job.proofs.OneClientLemmas.{answers_append}
-use Rattle.bq_mail.specs.LastParts.{last_part}
+use Rattle.bq_host.specs.LastParts.{last_part}
 use Rattle.bq_journal.specs.LockedState.{AreFew, outbox_at}
 use Rattle.bq_journal.specs.LockedSteps.{AreDelivered}
 use Rattle.bq_journal.proofs.LastPartLemmas.{last_are_few, last_then}

@@ -1,7 +1,7 @@
 -- The last parts of lists.
 use Rattle.std.proofs.Common.{◌≡◌, ℕ, ◌+◌, ◌-◌, ◌≤◌, List, [], ◌++◌, drop, take, length, sym, ap, ◌∙◌, arith, append_assoc, append-nil}
 use Rattle.std.proofs.lemmas.List.{drop-append-le, drop-drop, length-append, length-drop, take-append-drop}
-use Rattle.bq_mail.specs.LastParts.{EndsWith, last_part}
+use Rattle.bq_host.specs.LastParts.{EndsWith, last_part}
 
 pub last_are_few : {X : Type 0} (n : ℕ) (xs : List X) → length (last_part n xs) ≤ n
 last_are_few n xs = let l = length-drop (length xs - n) xs in omega (arith, l)

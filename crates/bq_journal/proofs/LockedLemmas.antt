@@ -17,7 +17,7 @@ use Rattle.bq_job.specs.machine.Steps.{IsStep, Outcome}
 use Rattle.bq_job.proofs.LawfulLemmas.{new_is_lawful}
 use Rattle.bq_job.proofs.OneClientLemmas.{answers_append}
 use Rattle.bq_job.proofs.ReplayLemmas.{replay_more, replay_none}
-use Rattle.bq_mail.specs.LastParts.{EndsWith, last_part}
+use Rattle.bq_host.specs.LastParts.{EndsWith, last_part}
 use Rattle.bq_journal.specs.LockedState.{IsLawfulHold, IsReplayed, JournalState, LockedState, locked_of, new_locked, outbox_at, without_oldest}
 use Rattle.bq_journal.specs.LockedSteps.{AreDelivered, IsAdded, IsLeftOut, TakesStep, with_entry, without_entry}
 use Rattle.bq_journal.proofs.DeliveryLemmas.{few_delivered, outbox_past}

@@ -8,7 +8,7 @@ use Rattle.bq_job.specs.beside.Lawful.{IsLawful}
 use Rattle.bq_job.specs.machine.Machine.{Machine, new_machine}
 use Rattle.bq_job.specs.beside.Replay.{Replay}
 use Rattle.bq_job.specs.promise.Runs.{answers_to}
-use Rattle.bq_mail.specs.LastParts.{EndsWith}
+use Rattle.bq_host.specs.LastParts.{EndsWith}
 
 -- the entries of a journal, for how many it has room in all, and whether it tells all that happened
 pub record JournalState : Type 0 where

@@ -7,7 +7,7 @@ use Rattle.bq_job.specs.machine.Dispatch.{GivenAnswer}
 use Rattle.bq_job.specs.promise.Runs.{answers_to}
 use Rattle.bq_job.specs.beside.StepBody.{has_body}
 use Rattle.bq_job.specs.machine.Steps.{IsStep, Outcome}
-use Rattle.bq_mail.specs.LastParts.{last_part}
+use Rattle.bq_host.specs.LastParts.{last_part}
 use Rattle.bq_journal.specs.LockedState.{JournalState, LockedState, outbox_at}
 
 -- The answers went into the outboxes of their seats, each of which keeps the last four.

@@ -9,8 +9,8 @@ mod journal;
 mod outboxes;
 
 use bq_core::{Config, Core, CoreFault, Outs};
+use bq_host::RunFault;
 use bq_job::{Answer, Entry, Moment, Seat, Step};
-use bq_run_start::RunFault;
 use journal::Journal;
 use outboxes::Outboxes;
 use std::alloc::Global;

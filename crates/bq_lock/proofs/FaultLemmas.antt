@@ -4,8 +4,8 @@ use Rattle.std.specs.Prelude.{◌↔◌, IsErrOf, IsTrue, Result, Ok, Err}
 use Rattle.std.proofs.lemmas.Bool.{cases_Bool, eq-eqb}
 use Rattle.bq_job.specs.declared.settings.Settings.{Settings}
 use Rattle.bq_steps.specs.Limits.{are_in_range, is_body_size, is_job_limit, is_seat_count}
-use Rattle.bq_run_start.specs.declared.fault.RunFault.{RunFault}
-use Rattle.bq_run_start.specs.declared.fault.RunFault.TheVariants.{BadConfiguration}
+use Rattle.bq_host.specs.declared.fault.RunFault.{RunFault}
+use Rattle.bq_host.specs.declared.fault.RunFault.TheVariants.{BadConfiguration}
 
 ok_is_no_fault : {A E : Type 0} (x y : Result A E) (ok : A) (fault : E) → x ≡ Ok ok → y ≡ Err fault → x ≡ y → ⊥
 ok_is_no_fault x y ok fault a b e = cc

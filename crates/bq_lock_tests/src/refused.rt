@@ -3,7 +3,7 @@
 use crate::runs::{SILENT, around_a_lock};
 use bq_clients::refused::{ONE, REFUSED, opens_of};
 use bq_clients::settings::config;
-use bq_run_start::RunFault;
+use bq_host::RunFault;
 use std::alloc::Global;
 use std::sync::Wait;
 use std::sync::atomic::{AtomicU64, Ordering};

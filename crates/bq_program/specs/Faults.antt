@@ -6,8 +6,8 @@ use Rattle.bq_program.specs.declared.fault.Fault.{Fault}
 use Rattle.bq_program.specs.declared.fault.Fault.TheVariants as faults
 use Rattle.bq_program.specs.declared.fault.Need.{Need}
 use Rattle.bq_program.specs.declared.fault.Need.TheVariants as needs
-use Rattle.bq_run_start.specs.declared.fault.RunFault.{RunFault}
-use Rattle.bq_run_start.specs.declared.fault.RunFault.TheVariants as runs
+use Rattle.bq_host.specs.declared.fault.RunFault.{RunFault}
+use Rattle.bq_host.specs.declared.fault.RunFault.TheVariants as runs
 
 abbrev pub fault_of_run : RunFault → Fault
 fault_of_run runs.NoMemory = faults.NoMemory needs.Queue

@@ -3,8 +3,8 @@ ghost use Rattle.std.specs.Prelude.{◌≡◌, option_map};
 ghost use Rattle.bq_program.specs.Faults.{fault_detail, fault_of_end, fault_of_run, fault_text, need_text};
 
 use crate::chosen::OptionFault;
+use bq_host::RunFault;
 use bq_job::LineEnd;
-use bq_run_start::RunFault;
 
 /// What a program needs memory for.
 #[derive(Clone, Copy, Debug, PartialEq, Eq)]

@@ -2,12 +2,12 @@
 
 use crate::outcome::{Outcome, tell};
 use bq_core::{Config, Core, CoreFault, Outs};
+use bq_host::RunFault;
 use bq_index::Shelf;
 use bq_job::{Body, Counts, Job, JobState, TubeName, USUAL_BODY};
 use bq_jobs::Jobs;
 use bq_journal::Locked;
 use bq_link::{Anything, links};
-use bq_run_start::RunFault;
 use bq_seat::SeatMachine;
 use bq_wire::RequestReader;
 use std::alloc::Global;

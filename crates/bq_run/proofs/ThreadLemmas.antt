@@ -7,8 +7,8 @@ use Rattle.bq_steps.specs.Limits.{are_in_range}
 use Rattle.std.specs.List.{All}
 use Rattle.std.proofs.lemmas.List.{length-append}
 use Rattle.bq_driver.specs.Tending.{DoorSeen, IsDoorServed}
-use Rattle.bq_run_start.specs.declared.fault.RunFault.{RunFault}
-use Rattle.bq_run_start.specs.declared.fault.RunFault.TheVariants.{BadConfiguration, NoMemory}
+use Rattle.bq_host.specs.declared.fault.RunFault.{RunFault}
+use Rattle.bq_host.specs.declared.fault.RunFault.TheVariants.{BadConfiguration, NoMemory}
 use Rattle.bq_link.specs.EndStates.{CoreState, IsSameCore, IsSameSeat, SeatState}
 use Rattle.bq_link.specs.NewEnds.{AreNewSeats}
 use Rattle.atomic_table.specs.Seated.{TableId}

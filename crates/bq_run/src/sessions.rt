@@ -8,12 +8,12 @@ ghost use Rattle.bq_run.specs.Sessions.{IsRunOf};
 
 use bq_driver::control_line::ControlLine;
 use bq_driver::control_reader::ControlReader;
+use bq_host::{RunFault, Start};
 use bq_job::steps_keep_settings;
 use bq_line::Door;
 use bq_line::clock::Clock;
 use bq_line::line::Line;
 use bq_link::{CoreEnd, Intake, NoTicks, SeatEnd, links};
-use bq_run_start::{RunFault, Start};
 use bq_steps::{Config, QueueCore};
 use core_post::NewCore;
 use new_posts::new_posts;

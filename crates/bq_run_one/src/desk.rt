@@ -7,10 +7,9 @@ ghost use Rattle.bq_job.specs.promise.History.{moment_heard};
 ghost use Rattle.bq_job.specs.promise.Runs.{answers_to};
 
 use bq_core::{Config, Core, CoreFault, Outs};
+use bq_host::{Mail, RunFault, new_mails};
 use bq_job::{Answer, Moment, NoMemory, Seat, Step};
 use bq_line::clock::{Clock, moment_heard};
-use bq_mail::{Mail, new_mails};
-use bq_run_start::RunFault;
 use std::alloc::Global;
 
 /// The state that serves all seats.

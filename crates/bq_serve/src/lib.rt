@@ -11,6 +11,7 @@ pub use bq_core_work::core_work::{CoreRoom, core_work};
 pub use bq_driver::control_line::{ControlInput, ControlLine, Heard};
 pub use bq_driver::control_reader::{ControlReader, next_of};
 pub use bq_event_loop::{EventLoopRun, run_event_loop};
+pub use bq_host::RunFault;
 pub use bq_job::{Entry, LineEnd, Moment, NoMemory, Seat, Step};
 pub use bq_journal::Locked;
 pub use bq_line::clock::{Clock, MachineClock, Notice, ScriptClock};
@@ -23,7 +24,6 @@ pub use bq_line::{
 pub use bq_link::{Anything, CoreEnd, Intake, NoTicks, Record, SeatEnd, links};
 pub use bq_lock::{LockedRun, run_locked};
 pub use bq_run_one::{One, run_one};
-pub use bq_run_start::RunFault;
 pub use bq_seat::SeatMachine;
 pub use bq_seat_work::control_work::control_work;
 pub use bq_seat_work::seat_work::seat_work;

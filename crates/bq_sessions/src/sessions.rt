@@ -7,10 +7,10 @@ ghost use Rattle.bq_run.specs.Sessions.{IsRunOf};
 
 use bq_core::{Config, Core};
 use bq_driver::control_reader::ControlReader;
+use bq_host::RunFault;
 use bq_line::Door;
 use bq_line::clock::Clock;
 use bq_line::line::Line;
-use bq_run_start::RunFault;
 use bq_steps::QueueCore;
 use std::alloc::Global;
 use std::sync::Wait;

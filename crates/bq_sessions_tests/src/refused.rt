@@ -3,8 +3,8 @@
 use crate::runs::{SILENT, by_threads};
 use bq_clients::refused::{ONE, REFUSED, Refused, opens_of};
 use bq_clients::settings::config;
+use bq_host::RunFault;
 use bq_line::DoorFault;
-use bq_run_start::RunFault;
 use std::alloc::Global;
 use std::sync::Wait;
 use std::sync::atomic::{AtomicU64, Ordering};

@@ -6,8 +6,8 @@ ghost use Rattle.bq_journal.specs.LockedState.{AreFew, oldest_for, without_oldes
 ghost use Rattle.bq_journal.specs.LockedSteps.{AreDelivered};
 
 use bq_core::Outs;
+use bq_host::{Mail, new_mails};
 use bq_job::{Answer, NoMemory, Seat};
-use bq_mail::{Mail, new_mails};
 use std::alloc::Global;
 
 /// An outbox for each seat, and whom the last step answered.

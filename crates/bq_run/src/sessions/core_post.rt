@@ -7,9 +7,9 @@ ghost use Rattle.bq_core_work.specs.CoreWork.{IsNewRoom};
 ghost use Rattle.bq_run.specs.Threads.{IsCoreOver};
 
 use bq_core_work::core_work::{CoreRoom, core_work};
+use bq_host::{RunFault, Start};
 use bq_line::clock::Clock;
 use bq_link::{CoreEnd, Intake, NoTicks};
-use bq_run_start::{RunFault, Start};
 use bq_steps::{Config, CoreFault, Outs, QueueCore};
 use std::alloc::Global;
 use std::sync::Wait;

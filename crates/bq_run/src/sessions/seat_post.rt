@@ -7,11 +7,11 @@ ghost use Rattle.bq_driver.specs.Tending.{IsDoorServed, IsNewDoor, door_seen};
 ghost use Rattle.bq_link.specs.EndStates.{IsSameSeat};
 ghost use Rattle.bq_seat_work.specs.Ends.{IsNewEnd};
 
+use bq_host::Start;
 use bq_job::NoMemory;
 use bq_line::Door;
 use bq_line::line::Line;
 use bq_link::{Intake, NoTicks, SeatEnd};
-use bq_run_start::Start;
 use bq_seat::SeatMachine;
 use bq_seat_work::seat_work::seat_work;
 use std::alloc::Global;

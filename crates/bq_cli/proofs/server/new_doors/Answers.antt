@@ -1,6 +1,6 @@
 use Rattle.std.proofs.Common.{◌≡◌, List, subst, sym, arith}
 use Rattle.bq_driver.specs.Tending.{IsNewDoor}
-use Rattle.bq_run_start.proofs.ListLemmas.{all_pushed}
+use Rattle.bq_host.proofs.ListLemmas.{all_pushed}
 use Rattle.bq_cli.specs.Servers.{IsDoorAt, TcpDoor}
 use Rattle.bq_cli.proofs.server.new_doors.Goals as goal
 

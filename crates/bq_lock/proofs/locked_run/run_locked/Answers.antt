@@ -1,7 +1,7 @@
 use Rattle.std.proofs.Common.{◌≡◌, ◌∙◌, ap, vec_len, arith, Err}
 use denote.Exit.{no}
 use denote.Param.Send.{arg_send, param_send}
-use Rattle.bq_run_start.specs.declared.fault.RunFault.TheVariants.{BadConfiguration}
+use Rattle.bq_host.specs.declared.fault.RunFault.TheVariants.{BadConfiguration}
 use Rattle.bq_lock.proofs.FaultLemmas.{size_fits, well_configured}
 use Rattle.bq_lock.proofs.SendLemmas.{desk_sends}
 use Rattle.bq_lock.proofs.locked_run.run_locked.Goals as goal

@@ -2,7 +2,7 @@ use Rattle.std.proofs.Common.{◌≡◌, ℕ, arith, subst}
 use Rattle.std.specs.Prelude.{IfSome}
 use Rattle.bq_lock_work.specs.LockedRuns.{IsServedToEnd}
 use Rattle.bq_driver.specs.Tending.{door_seen}
-use Rattle.bq_run_start.proofs.ListLemmas.{all_pushed, first_passes, rest_passes}
+use Rattle.bq_host.proofs.ListLemmas.{all_pushed, first_passes, rest_passes}
 use Rattle.bq_driver.proofs.BackLemmas.{one_back}
 use Rattle.bq_lock_work.proofs.doors_served.join_all.Goals as goal
 

@@ -2,7 +2,7 @@ use Rattle.std.proofs.Common.{◌≡◌, ◌-◌, ◌∙◌, List, subst, sym, a
 use Rattle.std.specs.List.{All}
 use Rattle.std.proofs.lemmas.List.Elements.{All-take}
 use Rattle.bq_driver.specs.Tending.{IsNewDoor, door_seen}
-use Rattle.bq_run_start.proofs.ListLemmas.{all_pushed, put_behind}
+use Rattle.bq_host.proofs.ListLemmas.{all_pushed, put_behind}
 use Rattle.bq_lock_work.proofs.doors_served.new_posts.Goals as goal
 
 pub loop-door-preserved : goal.loop-door-preserved

@@ -1,7 +1,7 @@
 use Rattle.std.proofs.Common.{◌≡◌, ◌-◌, ◌++◌, ap, arith, map, ◌∙◌, vec_len}
 use Rattle.std.specs.Prelude.{reverse}
 use Rattle.std.proofs.lemmas.List.{nil_from_length}
-use Rattle.bq_run_start.proofs.ListLemmas.{all_pushed, all_taken, handed_on, popped_passes}
+use Rattle.bq_host.proofs.ListLemmas.{all_pushed, all_taken, handed_on, popped_passes}
 use Rattle.bq_lock_work.proofs.doors_served.start_threads.Goals as goal
 
 pub loop-post-init : goal.loop-post-init

@@ -3,7 +3,7 @@ use Rattle.std.specs.List.{All}
 use Rattle.std.specs.Prelude.{reverse}
 use Rattle.bq_job.specs.declared.settings.Settings.{Settings}
 use Rattle.bq_driver.specs.Tending.{AreSame, door_seen}
-use Rattle.bq_run_start.specs.declared.fault.RunFault.TheVariants.{BadConfiguration}
+use Rattle.bq_host.specs.declared.fault.RunFault.TheVariants.{BadConfiguration}
 use Rattle.bq_link.specs.EndStates.{SeatState}
 use Rattle.bq_run.specs.Sessions.{IsRunOf}
 use Rattle.bq_run.proofs.LinkedLemmas.{all_at_end, all_done, core_keeps, core_over_of, run_joined, served_of, still_doored}

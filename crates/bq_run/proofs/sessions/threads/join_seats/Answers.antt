@@ -1,6 +1,6 @@
 use Rattle.std.proofs.Common.{◌≡◌, ◌++◌, ◌∙◌, ◌∷◌, [], ap, arith, length}
 use Rattle.bq_driver.specs.Tending.{door_seen}
-use Rattle.bq_run_start.proofs.ListLemmas.{first_passes, rest_passes}
+use Rattle.bq_host.proofs.ListLemmas.{first_passes, rest_passes}
 use Rattle.bq_driver.proofs.BackLemmas.{one_back}
 use Rattle.bq_run.proofs.ThreadLemmas.{joined_first, served_more}
 use Rattle.bq_run.proofs.sessions.threads.join_seats.Goals as goal

@@ -1,5 +1,5 @@
 use Rattle.std.proofs.Common.{◌≡◌, ◌-◌, ◌∙◌, arith, vec_len}
-use Rattle.bq_run_start.proofs.ListLemmas.{all_pushed, all_taken, handed_on, popped_passes}
+use Rattle.bq_host.proofs.ListLemmas.{all_pushed, all_taken, handed_on, popped_passes}
 use Rattle.bq_run.proofs.sessions.threads.start_seats.Goals as goal
 
 pub loop-post-preserved : goal.loop-post-preserved

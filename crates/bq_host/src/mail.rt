@@ -1,6 +1,6 @@
 ghost use Rattle.std.specs.Prelude.{◌≡◌, ◌≤◌, ◌++◌, ◌∷◌, [], length, IfOk, IsErr, IsNone, MatchResult, ◌↔◌, replicate};
 ghost use Rattle.std.specs.Option.{option_to_list};
-ghost use Rattle.bq_mail.specs.LastParts.{last_part};
+ghost use Rattle.bq_host.specs.LastParts.{last_part};
 
 use bq_job::{Answer, NoMemory};
 use std::alloc::Global;

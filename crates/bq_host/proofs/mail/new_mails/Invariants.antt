@@ -1,5 +1,5 @@
 use Rattle.std.proofs.Common.{◌≡◌, ◌≤◌, [], replicate}
-use Rattle.bq_mail.proofs.mail.new_mails.Given as goal
+use Rattle.bq_host.proofs.mail.new_mails.Given as goal
 
 abbrev pub invariant-loop : goal.invariant-loop
 invariant-loop l = record {

@@ -1,7 +1,7 @@
 -- The numbers of faults of a run.
 use Rattle.std.specs.Prelude.{ℕ}
-use Rattle.bq_run_start.specs.declared.fault.RunFault.{RunFault}
-use Rattle.bq_run_start.specs.declared.fault.RunFault.TheVariants as faults
+use Rattle.bq_host.specs.declared.fault.RunFault.{RunFault}
+use Rattle.bq_host.specs.declared.fault.RunFault.TheVariants as faults
 
 abbrev pub run_fault_code : RunFault → ℕ
 run_fault_code faults.NoMemory = 501

@@ -1,5 +1,5 @@
 ghost use Rattle.std.specs.Prelude.{◌≡◌};
-ghost use Rattle.bq_run_start.specs.FaultCodes.{run_fault_code};
+ghost use Rattle.bq_host.specs.FaultCodes.{run_fault_code};
 
 use thiserror::Error;
 

@@ -6,9 +6,9 @@ use Rattle.bq_job.specs.declared.step.Step.{Step}
 use Rattle.bq_job.specs.declared.step.Step.TheVariants as steps
 use Rattle.bq_line.specs.declared.clock.Notice.{Notice}
 use Rattle.bq_line.specs.declared.clock.Notice.TheVariants as notices
-use Rattle.bq_core_work.specs.declared.core_work.hub.Concern.{Concern}
-use Rattle.bq_core_work.specs.declared.core_work.hub.Concern.TheVariants as concerns
-use Rattle.bq_core_work.specs.declared.core_work.hub.Notices.{Notices}
+use Rattle.bq_host.specs.declared.notices.Concern.{Concern}
+use Rattle.bq_host.specs.declared.notices.Concern.TheVariants as concerns
+use Rattle.bq_host.specs.declared.notices.Notices.{Notices}
 
 -- what a step may have to be told for
 abbrev pub concern_of : Step → Concern

@@ -1,0 +1,5 @@
+pub mod Clocks
+pub mod Compared
+pub mod FaultCodes
+pub mod LastParts
+pub mod Told
