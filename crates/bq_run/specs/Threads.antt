@@ -8,7 +8,7 @@ use Rattle.bq_driver.specs.Tending.{AreSame, DoorSeen, IsDoorServed}
 use Rattle.bq_driver.specs.declared.control_line.ControlLine.{ControlLine}
 use Rattle.bq_link.specs.EndStates.{CoreState, IsSameCore, IsSameSeat, SeatState}
 use Rattle.bq_host.specs.Clocks.{Gives}
-use Rattle.bq_core_work.specs.CoreWork.{IsCoreDone}
+use Rattle.bq_run.specs.CoreWork.{IsCoreDone}
 use Rattle.bq_run.specs.declared.sessions.posts.EndedEnds.{EndedEnds}
 
 -- The seats' threads are over, in the order of their seats: each has the end that it began with, and served its

@@ -7,7 +7,7 @@
 #![tactic(auto)]
 
 pub use bq_core::{Config, Core, CoreFault, Outs};
-pub use bq_core_work::core_work::{CoreRoom, core_work};
+pub use bq_run::core_work::{CoreRoom, core_work};
 pub use bq_driver::control_line::{ControlInput, ControlLine, Heard};
 pub use bq_driver::control_reader::{ControlReader, next_of};
 pub use bq_event_loop::{EventLoopRun, run_event_loop};
@@ -25,6 +25,6 @@ pub use bq_link::{Anything, CoreEnd, Intake, NoTicks, Record, SeatEnd, links};
 pub use bq_lock::{LockedRun, run_locked};
 pub use bq_run_one::{One, run_one};
 pub use bq_seat::SeatMachine;
-pub use bq_seat_work::control_work::control_work;
-pub use bq_seat_work::seat_work::seat_work;
+pub use bq_run::control_work::control_work;
+pub use bq_run::seat_work::seat_work;
 pub use bq_sessions::{Run, run_sessions};

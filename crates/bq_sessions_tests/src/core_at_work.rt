@@ -1,13 +1,13 @@
 //! The core at work for ends that a test holds.
 ghost use Rattle.std.specs.Prelude.{◌≡◌, ◌+◌, ◌<◌, [], All, IfOk, false, length};
-ghost use Rattle.bq_core_work.specs.CoreWork.{IsNewRoom};
+ghost use Rattle.bq_run.specs.CoreWork.{IsNewRoom};
 ghost use Rattle.bq_job.specs.promise.History.{is_tick};
 ghost use Rattle.bq_link.specs.NewEnds.{IsNewCore};
 
 use bq_clients::clients::{STILL, clock};
 use bq_clients::settings::config;
 use bq_core::{Core, Outs};
-use bq_core_work::core_work::{CoreRoom, core_work};
+use bq_run::core_work::{CoreRoom, core_work};
 use bq_job::{Answer, NoMemory, Request, Step, USUAL_BODY};
 use bq_line::clock::ScriptClock;
 use bq_link::{CoreEnd, Intake, NoTicks, SeatEnd, links};

@@ -3,10 +3,10 @@ ghost use Rattle.std.specs.Prelude.{◌≡◌, ◌<◌, ◌+◌, ◌↔◌, [], 
 ghost use Rattle.bq_job.specs.machine.Machine.{new_machine};
 ghost use Rattle.bq_steps.specs.Limits.{are_in_range};
 ghost use Rattle.bq_link.specs.NewEnds.{IsNewCore};
-ghost use Rattle.bq_core_work.specs.CoreWork.{IsNewRoom};
+ghost use Rattle.bq_run.specs.CoreWork.{IsNewRoom};
 ghost use Rattle.bq_run.specs.Threads.{IsCoreOver};
 
-use bq_core_work::core_work::{CoreRoom, core_work};
+use crate::core_work::{CoreRoom, core_work};
 use bq_host::{RunFault, Start};
 use bq_line::clock::Clock;
 use bq_link::{CoreEnd, Intake, NoTicks};

@@ -4,7 +4,7 @@ ghost use Rattle.std.specs.List.{All};
 ghost use Rattle.bq_steps.specs.Limits.{is_body_size};
 ghost use Rattle.bq_driver.specs.Tending.{IsNewDoor, door_seen};
 ghost use Rattle.bq_link.specs.NewEnds.{AreNewSeats, IsNewCore};
-ghost use Rattle.bq_seat_work.specs.Ends.{IsNewEnd};
+ghost use Rattle.bq_run.specs.Ends.{IsNewEnd};
 
 use crate::sessions::core_post::{CorePost, NewCore};
 use crate::sessions::posts::{ControlPost, EndPosts, Posts};

@@ -1,7 +1,7 @@
 //! What the threads of a run begin with, and what they give back.
 ghost use Rattle.std.specs.Prelude.{◌≡◌, ◌<◌, vec_capacity, vec_len};
 ghost use Rattle.std.specs.List.{All};
-ghost use Rattle.bq_seat_work.specs.Ends.{IsNewEnd};
+ghost use Rattle.bq_run.specs.Ends.{IsNewEnd};
 
 use crate::sessions::core_post::CorePost;
 use crate::sessions::seat_post::SeatPost;

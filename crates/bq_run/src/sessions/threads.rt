@@ -5,6 +5,7 @@ ghost use Rattle.bq_driver.specs.Tending.{AreSame, IsDoorServed, door_seen};
 ghost use Rattle.bq_link.specs.EndStates.{IsSameSeat};
 ghost use Rattle.bq_run.specs.Threads.{AreOver, AreServed, IsControlOver, IsCoreOver};
 
+use crate::control_work::control_work;
 use crate::sessions::core_post::CorePost;
 use crate::sessions::posts::{ControlPost, EndPosts, Ended, EndedEnds, Posts};
 use crate::sessions::seat_post::SeatPost;
@@ -15,7 +16,6 @@ use bq_line::Door;
 use bq_line::clock::Clock;
 use bq_line::line::Line;
 use bq_link::{CoreEnd, SeatEnd};
-use bq_seat_work::control_work::control_work;
 use bq_steps::{Config, QueueCore};
 use std::alloc::{AllocError, Global};
 use std::snapshot::Snapshot;

@@ -1,3 +1,0 @@
-pub mod SendingLemmas
-pub mod TurnLemmas
-pub mod WorkedLemmas

@@ -1,5 +1,0 @@
-pub mod CoreWork
-pub mod Flags
-pub mod Rests
-pub mod Sending
-pub mod Worked

@@ -1,0 +1,131 @@
+-- The core at work on a thread of its own.
+use Rattle.std.specs.Prelude.{ℕ, ◌≡◌, ◌⊎◌, ◌<◌, ◌++◌, ◌∷◌, Bool, true, false}
+use Rattle.std.specs.Prelude.{List, [], Option, length, slice_index_or, slice_set}
+use Rattle.bq_job.specs.beside.NextDue.{is_before, next_due}
+use Rattle.bq_job.specs.declared.settings.Settings.{Settings}
+use Rattle.bq_job.specs.declared.step.Step.{Step}
+use Rattle.bq_job.specs.declared.step.Step.TheVariants.{Gone, Tick}
+use Rattle.bq_job.specs.machine.Dispatch.{GivenAnswer}
+use Rattle.bq_job.specs.promise.History.{IsTimedFrom, moment_heard}
+use Rattle.bq_job.specs.machine.Machine.{Machine, new_machine}
+use Rattle.bq_job.specs.promise.Runs.{Entry, Run, answers_to}
+use Rattle.bq_job.specs.machine.Steps.{IsStep, Outcome}
+use Rattle.bq_line.specs.GivenReadings.{GaveReadings}
+use Rattle.bq_link.specs.EndStates.{CoreState, IsSameCore, sent_to}
+use Rattle.bq_link.specs.Submissions.{AreBelow, steps_of}
+use Rattle.bq_steps.specs.Cost.{IsStepWithin}
+use Rattle.bq_host.specs.Compared.{AreWithin, LooksOnce}
+use Rattle.bq_host.specs.Clocks.{Gives}
+use Rattle.bq_run.specs.CoreWork.{HasGone, no_ticks, steps_made}
+use Rattle.bq_run.specs.Flags.{AreAllSet}
+use Rattle.bq_run.specs.Sending.{IsAtRest}
+use Rattle.bq_run.specs.declared.core_work.gone_ends.GoneEnds.{GoneEnds}
+use Rattle.bq_run.specs.declared.core_work.core_driver.CoreDriver.{CoreDriver}
+
+-- what lies in the core's thread beside its clock
+pub record DriverState : Type 0 where
+  pub core : Machine
+  pub end : CoreState
+  -- the answers that aren't sent yet, and of each end whether it is gone
+  pub pending : List GivenAnswer
+  pub gone : List Bool
+  -- the moment heard last
+  pub heard : ℕ
+  -- whether the next due moment is known, and the comparisons so far
+  pub known : Bool
+  pub compared : ℕ
+
+abbrev pub driver_state : {C K : Type 0} → (K → Machine) → (K → ℕ) → CoreDriver C K → DriverState
+driver_state machine compared h = record {
+  core = machine h.core;
+  end = h.sender.end;
+  pending = h.sender.kept.items ++ h.outs.given;
+  gone = h.gone.flags.items;
+  heard = h.heard;
+  known = h.is_due_known;
+  compared = compared h.core;
+}
+
+-- What the core did since the start: it took the steps that came by its end, and ticks, each at the moment of a
+-- reading; what it gave was sent, or is to be sent still; and its comparisons, from so many on, stayed within bounds.
+pub record HasWorked (settings : Settings) (from : ℕ) (readings : List (Option ℕ)) (h : DriverState) : Type 0 where
+  pub history : List Entry
+  pub given : List GivenAnswer
+  pub runs : Run (new_machine settings) history given h.core
+  pub timed : IsTimedFrom 0 readings history h.heard
+  pub taken_is : steps_made history ≡ no_ticks h.end.taken
+  pub numbers : AreBelow (length h.end.rings) h.end.taken
+  pub sent_is : (seat : ℕ) → seat < length h.end.rings → answers_to seat given ≡ sent_to h.end seat ++ answers_to seat h.pending
+  pub marked : (seat : ℕ) → slice_index_or h.gone seat false ≡ true → HasGone (steps_of seat h.end.taken)
+  pub count : ℕ
+  pub within : AreWithin (new_machine settings) history given h.core from count
+  pub looked : LooksOnce h.known h.core count h.compared
+
+-- the same with the clock, which gave these readings from the first on
+abbrev pub IsAtWork : {C K : Type 0} → Gives C → (K → Machine) → (K → ℕ) → Settings → ℕ → C → CoreDriver C K → Type 0
+IsAtWork given machine compared settings from first driver =
+    (readings : List (Option ℕ)) × given first readings driver.clock × HasWorked settings from readings (driver_state machine compared driver)
+
+-- It is known whether each end is gone.
+pub record KnowsAll (gone : GoneEnds) : Type 0 where
+  pub each : gone.all ≡ true → AreAllSet gone.flags.items
+  pub known : AreAllSet gone.flags.items → gone.all ≡ true
+
+-- There is room for the answers of a step, it is known which ends are gone, and so may the next due moment be.
+pub record IsInOrder {C K : Type 0} (machine : K → Machine) (h : CoreDriver C K) : Type 0 where
+  pub room : (machine h.core).settings.seats < h.outs.most
+  pub sender : IsAtRest h.sender
+  pub many : length h.gone.flags.items ≡ h.sender.ends
+  pub all : KnowsAll h.gone
+  pub due : h.is_due_known ≡ true → h.due ≡ next_due (machine h.core)
+
+-- The driver is in order still, and has the same end and settings. Whatever was done before, the work went on.
+pub record WorksOn {C K : Type 0} (given : Gives C) (machine : K → Machine) (compared : K → ℕ) (old new : CoreDriver C K) : Type 0 where
+  pub order : IsInOrder machine new
+  pub end : IsSameCore old.sender.end new.sender.end
+  pub settings : (machine new.core).settings ≡ (machine old.core).settings
+  pub work : (settings : Settings) (from : ℕ) (first : C) → IsAtWork given machine compared settings from first old
+      → IsAtWork given machine compared settings from first new
+
+-- of each end whether it is gone, after a step: an end's own step says so
+abbrev pub gone_after : ℕ → Step → List Bool → List Bool
+gone_after seat Gone flags = slice_set flags seat true
+gone_after seat _ flags = flags
+
+-- The core took a step at the moment of one reading of its clock.
+pub record TakesStep {C K : Type 0} (given : Gives C) (machine : K → Machine) (compared : K → ℕ) (old : CoreDriver C K) (seat : ℕ) (what : Step)
+    (new : CoreDriver C K) : Type 0 where
+  pub reading : Option ℕ
+  pub outcome : Outcome
+  pub gave : GaveReadings given old.clock (reading ∷ []) new.clock
+  pub heard : new.heard ≡ moment_heard old.heard reading
+  pub step : IsStepWithin (machine old.core) new.heard seat what outcome new.outs.given (machine new.core) (compared old.core)
+      (compared new.core)
+  pub unknown : new.is_due_known ≡ false
+  pub sender : new.sender ≡ old.sender
+  pub marked : new.gone.flags.items ≡ gone_after seat what old.gone.flags.items
+
+-- One more step was taken out of the intake.
+abbrev pub TookOne : CoreState → CoreState → Type 0
+TookOne old new = (step : ℕ × Step) × (new.taken ≡ old.taken ++ step ∷ [])
+
+-- The core took a tick at the moment heard last.
+pub record HasTicked {C K : Type 0} (machine : K → Machine) (old new : CoreDriver C K) : Type 0 where
+  pub outcome : Outcome
+  pub step : IsStep (machine old.core) new.heard 0 Tick outcome new.outs.given (machine new.core)
+
+-- At the moment heard last nothing is due.
+abbrev pub IsIdle : {C K : Type 0} → (K → Machine) → CoreDriver C K → CoreDriver C K → Type 0
+IsIdle machine old new = is_before new.heard (next_due (machine old.core)) ≡ true
+
+-- What came of a turn that isn't the last one: so many answers wait for full rings that no more can be kept, a step
+-- was taken or a tick made, or nothing is due.
+abbrev pub TurnWent : {C K : Type 0} → (K → Machine) → CoreDriver C K → CoreDriver C K → Type 0
+TurnWent machine old new =
+    (length new.sender.kept.items ≡ new.sender.ends)
+    ⊎ (TookOne old.sender.end new.sender.end ⊎ (HasTicked machine old new ⊎ IsIdle machine old new))
+
+-- Nothing is left to be done.
+pub record IsOver {C K : Type 0} (h : CoreDriver C K) : Type 0 where
+  pub none_pending : h.sender.kept.items ++ h.outs.given ≡ []
+  pub all_gone : AreAllSet h.gone.flags.items

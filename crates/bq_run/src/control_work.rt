@@ -1,0 +1,38 @@
+//! The work of the thread that reads the control line.
+ghost use Rattle.std.specs.Prelude.{◌≡◌, ◌||◌, [], true, IsTrue};
+ghost use Rattle.bq_job.specs.promise.ControlDid.{IsControlDone};
+ghost use Rattle.bq_driver.specs.ControlRead.{IsReadToEnd};
+ghost use Rattle.bq_link.specs.EndStates.{IsSameSeat};
+ghost use Rattle.bq_run.specs.Ends.{IsNewEnd};
+
+use crate::seat_work::control_at;
+use bq_driver::control_line::ControlLine;
+use bq_driver::control_reader::ControlReader;
+use bq_link::{Intake, NoTicks, SeatEnd};
+use std::sync::Wait;
+
+/// Reads the control line to its end or its fault. A drain is submitted for each of its lines that says so,
+/// and at last that it is gone. The line comes back with what was read of it.
+pub fn control_work<R: Wait, I: ControlReader + Drop>(
+    rt: &R,
+    intake: &Intake<NoTicks>,
+    end: SeatEnd,
+    control: I,
+) -> (SeatEnd, ControlLine<I>)
+    requires intake { end.intake ≡ intake.now.id }
+    requires end { IsNewEnd end }
+    ensures end { IsSameSeat end result.0 }
+    ensures over { IsTrue (result.1.ended || result.1.failed) }
+    ensures read { IsReadToEnd (I.remaining control)
+        (I.remaining result.1.reader) result.1.read result.1.failed }
+    // It failed only where a read of the reader may fail.
+    ensures fault { result.1.failed ≡ true → I.may_fail control ≡ true }
+    ensures done { IsControlDone result.1.read result.1.failed result.0.submitted }
+    // No answer is for it.
+    ensures none_taken { result.0.taken ≡ [] }
+{
+    let mut end = end;
+    let mut control = ControlLine::new(control);
+    control_at(rt, intake, &mut end, &mut control);
+    (end, control)
+}

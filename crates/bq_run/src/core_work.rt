@@ -1,0 +1,78 @@
+//! The work of the core's thread, in the midst of the links.
+ghost use Rattle.std.specs.Prelude.{ℕ, ◌≡◌, ◌<◌, ◌+◌, [], length};
+ghost use Rattle.bq_job.specs.declared.settings.Settings.{Settings};
+ghost use Rattle.bq_job.specs.machine.Machine.{new_machine};
+ghost use Rattle.bq_link.specs.EndStates.{IsSameCore};
+ghost use Rattle.bq_link.specs.NewEnds.{IsNewCore};
+ghost use Rattle.bq_run.specs.CoreWork.{IsNewRoom, RanToEnd};
+ghost use Rattle.bq_run.specs.Worked.{IsAtWork, IsInOrder};
+
+pub use core_room::CoreRoom;
+
+mod core_driver;
+mod core_room;
+mod gone_ends;
+mod sender;
+
+use bq_line::clock::Clock;
+use bq_link::{CoreEnd, Intake, NoTicks};
+use bq_steps::{Outs, QueueCore};
+use core_driver::CoreDriver;
+use std::alloc::Global;
+use std::sync::Wait;
+
+/// The core takes the steps that come by its end of the links, and ticks where something is due, until no end has
+/// more to submit; and it sends each end its answers.
+///
+/// It takes all that waits, looks a few times for more, and sleeps until a step comes or something is due. Where the
+/// ring of an end is full, its answers are kept and tried again, and others are served meanwhile; so many can be kept
+/// as there are ends.
+pub fn core_work<R: Wait, C: Clock + Drop, K: QueueCore + Drop>(
+    rt: &R,
+    alloc: Global,
+    intake: &Intake<NoTicks>,
+    end: CoreEnd,
+    core: K,
+    outs: Outs,
+    room: CoreRoom,
+    clock: C,
+) -> (CoreEnd, K, C)
+    requires intake { end.intake ≡ intake.now.id }
+    requires ends { IsNewCore ((K.machine core).settings.seats + 1) end }
+    requires core { K.machine core ≡ new_machine (K.machine core).settings }
+    requires none_given { outs.given ≡ [] }
+    requires outs { (K.machine core).settings.seats < outs.most }
+    requires room { IsNewRoom ((K.machine core).settings.seats + 1) room }
+    ensures end { IsSameCore end result.0 }
+    // Its comparisons stayed within the bounds of each step, and of one look for what is due before each and behind the last.
+    ensures ran { RanToEnd C.given (K.machine core).settings clock result.0 (K.machine result.1) result.2 (K.comparisons core)
+        (K.comparisons result.1) }
+{
+    run_out(
+        rt,
+        intake,
+        CoreDriver::new(alloc, end, core, outs, room, clock),
+    )
+}
+
+// Works on until no end has more to submit and each was sent all.
+fn run_out<R: Wait, C: Clock + Drop, K: QueueCore + Drop>(
+    rt: &R,
+    intake: &Intake<NoTicks>,
+    driver: CoreDriver<C, K>,
+) -> (CoreEnd, K, C)
+    requires intake { driver.sender.end.intake ≡ intake.now.id }
+    requires order { IsInOrder K.machine driver }
+    ensures end { IsSameCore driver.sender.end result.0 }
+    ensures ran { (settings : Settings) (from : ℕ) (first : C) → IsAtWork C.given K.machine K.comparisons settings from first driver
+        → length driver.sender.end.rings ≡ settings.seats + 1
+        → RanToEnd C.given settings first result.0 (K.machine result.1) result.2 from (K.comparisons result.1) }
+{
+    let mut driver = driver;
+    for _ in rt.forever() {
+        if driver.turn(rt, intake) {
+            return driver.into_parts();
+        }
+    }
+    unreachable!()
+}

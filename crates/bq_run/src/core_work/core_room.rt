@@ -1,0 +1,35 @@
+//! What the work of the core needs beside the core and its end of the links.
+ghost use Rattle.std.specs.Prelude.{◌+◌, IfOk};
+ghost use Rattle.bq_run.specs.CoreWork.{IsNewRoom};
+
+use bq_job::{Answer, NoMemory, Seat};
+use std::alloc::Global;
+use std::collections::VecDeque;
+
+/// Room that the core's work needs beside the core and its end: for answers whose rings are full, and for which ends
+/// are gone.
+#[derive(Drop)]
+pub struct CoreRoom {
+    pub kept: VecDeque<(Seat, Answer), Global>,
+    pub aside: VecDeque<(Seat, Answer), Global>,
+    pub gone: Vec<bool, Global>,
+}
+
+impl CoreRoom {
+    /// Room for the ends of so many seats and the control line. All memory is asked for here.
+    pub fn new(alloc: Global, seats: u16) -> Result<CoreRoom, NoMemory>
+        ensures { IfOk result (λ room. IsNewRoom (seats + 1) room) }
+    {
+        let ends = usize::from(seats) + 1;
+        let Ok(kept) = VecDeque::with_capacity(alloc, ends) else {
+            return Err(NoMemory);
+        };
+        let Ok(aside) = VecDeque::with_capacity(alloc, ends) else {
+            return Err(NoMemory);
+        };
+        let Ok(gone) = Vec::from_elem(alloc, false, ends) else {
+            return Err(NoMemory);
+        };
+        Ok(CoreRoom { kept, aside, gone })
+    }
+}

@@ -1,0 +1,400 @@
+//! The work of a seat's thread, at its end of the links, by which the control line works too.
+ghost use Rattle.std.specs.Prelude.{◌≡◌, [], List, false, true};
+ghost use Rattle.bq_seat.specs.Past.{Awaited};
+ghost use Rattle.bq_seat.specs.SeatStands.{awaited};
+ghost use Rattle.bq_driver.specs.Tending.{IsDoorServed, IsNewDoor, door_seen, GoesOn, IsPlaced};
+ghost use Rattle.bq_link.specs.EndStates.{IsSameSeat, WasFull};
+ghost use Rattle.bq_run.specs.Ends.{IsNewEnd, EndWent, LinkWent};
+ghost use Rattle.bq_job.specs.promise.ControlDid.{IsControlDone};
+ghost use Rattle.bq_job.specs.promise.History.{is_tick};
+ghost use Rattle.bq_job.specs.declared.step.Step.{Step};
+ghost use Rattle.bq_driver.specs.ControlRead.{IsOver, IsReadToEnd};
+ghost use Rattle.bq_driver.specs.ControlSeen.{new_control};
+ghost use Rattle.bq_driver.specs.Links.{SubmitsInPlace, TakesInPlace};
+ghost use Rattle.bq_link.specs.Submissions.{MaySubmit};
+
+use bq_driver::attendant::{Attendant, LinePlace};
+use bq_driver::control::{ControlLink, submit_control};
+use bq_driver::control_line::ControlInput;
+use bq_driver::link::Link;
+use bq_driver::room::Room;
+use bq_job::{Request, Step};
+use bq_line::Door;
+use bq_line::line::Line;
+use bq_link::{Intake, NoTicks, Record, SeatEnd};
+use bq_seat::{Action, SeatMachine};
+use std::alloc::Global;
+use std::hint::spin_loop;
+use std::sync::Wait;
+use std::time::Duration;
+use std::{mem, thread};
+
+/// How long a seat rests whose line has no bytes yet and didn't wait for any, in milliseconds.
+const LINE_REST: u64 = 10;
+
+/// How long a seat rests that found the intake full, in milliseconds. It has room again soon.
+const INTAKE_REST: u64 = 1;
+
+/// Serves the lines of a door one after another, until no more come. Steps are submitted at an end of the
+/// links, and their answers taken there.
+pub fn seat_work<R: Wait, L: Line + Drop, D: Door<Line = L> + Drop>(
+    rt: &R,
+    alloc: Global,
+    intake: &Intake<NoTicks>,
+    end: SeatEnd,
+    machine: SeatMachine,
+    door: D,
+) -> (SeatEnd, D)
+    requires intake { end.intake ≡ intake.now.id }
+    requires end { IsNewEnd end }
+    requires machine { awaited machine ≡ Awaited.ALine }
+    requires door { IsNewDoor (door_seen D.is_out D.is_at_end D.lines_over door) }
+    ensures end { IsSameSeat end result.0 }
+    // What was submitted and taken at the end is what the lines of the door asked for and were written.
+    ensures served { let at = door_seen D.is_out D.is_at_end D.lines_over in
+        IsDoorServed machine.reader.max_job_size (at result.1) result.0.submitted result.0.taken }
+    // It is the same door still.
+    ensures same { D.same door result.1 }
+{
+    let mut end = end;
+    let mut door = door;
+    let mut attendant = Attendant {
+        machine,
+        place: LinePlace::Between,
+    };
+    let mut room = Room::new();
+    let mut pace = Pace::new();
+    for _ in rt.forever() {
+        if attendant.is_done() {
+            return (end, door);
+        }
+        if !attend_at(
+            rt,
+            alloc,
+            intake,
+            &mut end,
+            &mut attendant,
+            &mut door,
+            &mut room,
+            &mut pace,
+        ) {
+            pause(
+                rt,
+                intake,
+                &mut end,
+                pause_after(attendant.awaits_line(), pace),
+            );
+        }
+    }
+    unreachable!()
+}
+
+// For how many milliseconds a seat sleeps before it goes on if nothing moved: not at all if its next look at its mail
+// sleeps by itself, as its pace says. Else its line had no bytes yet, or the intake was full.
+fn pause_after(awaits_line: bool, pace: Pace) -> u64 {
+    if awaits_line {
+        LINE_REST
+    } else if pace.rests() {
+        0
+    } else {
+        INTAKE_REST
+    }
+}
+
+fn pause<R: Wait>(rt: &R, intake: &Intake<NoTicks>, end: &mut SeatEnd, most: u64)
+    ensures { end.new ≡ end.old }
+{
+    if most > 0 {
+        end.wait(rt, intake, Duration::from_millis(most));
+    }
+}
+
+/// How long a seat sleeps first while its answer hasn't come, in milliseconds. Then the line of a seat whose reserve waits
+/// is read again, to notice a client that has gone.
+const FIRST_REST: u64 = 100;
+
+/// How long it sleeps at most, in milliseconds. Each sleep is twice as long as the one before, since a client that has
+/// waited for long is seldom gone, and many may wait.
+const LONGEST_REST: u64 = 1_000;
+
+/// How often a seat looks for the answer to a step before it sleeps, if the answer before came while it looked. If the
+/// core's thread is awake it answers within a few microseconds, and to fall asleep and be woken takes longer.
+const LOOKS: u32 = 40;
+
+/// How often it looks if it had to sleep for the answer before: the core's thread then sleeps between two commands, and
+/// it takes longer to wake it.
+const FEW_LOOKS: u32 = 2;
+
+/// How a seat looks for its next answer.
+#[derive(Clone, Copy)]
+pub struct Pace {
+    // For how many milliseconds it sleeps before it looks: not at all once a step was submitted.
+    rest: u64,
+    // How often it looks.
+    looks: u32,
+    // Whether it sleeps once more if it found nothing. After a reserve, whose answer may take long, it doesn't: the
+    // miss is reported at once, so that what the line holds back can go out first.
+    sleeps: bool,
+    // Whether the last answer came while it looked.
+    is_prompt: bool,
+}
+
+impl Pace {
+    /// No step was submitted yet.
+    pub fn new() -> Pace {
+        Pace {
+            rest: 0,
+            looks: 1,
+            sleeps: false,
+            is_prompt: false,
+        }
+    }
+
+    // This step was submitted.
+    fn after(self, step: &Step) -> Pace {
+        Pace {
+            rest: 0,
+            looks: if self.is_prompt { LOOKS } else { FEW_LOOKS },
+            sleeps: !may_wait(step),
+            is_prompt: self.is_prompt,
+        }
+    }
+
+    // It has looked, and found no answer unless that is noted.
+    fn after_look(self) -> Pace {
+        Pace {
+            rest: self.rest.saturating_mul(2).clamp(FIRST_REST, LONGEST_REST),
+            looks: 1,
+            sleeps: false,
+            is_prompt: false,
+        }
+    }
+
+    /// Whether it sleeps before it looks.
+    pub fn rests(self) -> bool {
+        self.rest > 0
+    }
+}
+
+// Whether the answer to a step may take long.
+fn may_wait(step: &Step) -> bool {
+    matches!(
+        step,
+        Step::Ask(Request::Reserve) | Step::Ask(Request::ReserveWithTimeout { .. })
+    )
+}
+
+/// The end of a seat, or of the control line, with the intake into which it submits.
+#[derive(Drop)]
+pub struct EndSeat<'a, R> {
+    rt: &'a R,
+    intake: &'a Intake<NoTicks>,
+    end: &'a mut SeatEnd,
+    pace: Pace,
+}
+
+impl<'a, R: Wait> Link for EndSeat<'a, R> {
+    ghost is_ready = { λ l. l.end.now.intake ≡ l.intake.now.id };
+
+    ghost went = { LinkWent };
+
+    fn submit(&mut self, step: &mut Step) -> bool {
+        self.pace = self.pace.after(step);
+        submit_at(self.rt, self.intake, self.end, step)
+    }
+
+    // It may sleep for up to a second, and wakes when an answer comes.
+    fn mail(&mut self, place: &mut Action) -> bool
+        requires ready { self.old.end.now.intake ≡ self.old.intake.now.id }
+        ensures ready { self.new.end.now.intake ≡ self.new.intake.now.id }
+        ensures went { TakesInPlace LinkWent self.old place.old result place.new self.new }
+        // There is none only where none was known to wait.
+        ensures none { result ≡ false → self.old.end.now.waiting ≡ [] }
+    {
+        mail_at(self.rt, self.intake, self.end, &mut self.pace, place)
+    }
+}
+
+impl<'a, R: Wait> ControlLink for EndSeat<'a, R> {
+    ghost is_ready = { λ l. l.end.now.intake ≡ l.intake.now.id };
+
+    ghost went = { λ first submitted last. LinkWent first submitted [] last };
+
+    fn submit(&mut self, mut step: Step) -> Result<(), Step> {
+        if submit_at(self.rt, self.intake, self.end, &mut step) {
+            Ok(())
+        } else {
+            Err(step)
+        }
+    }
+}
+
+// Submits the step that lies there, and leaves it there where the intake is full. A tick is no seat's own, and is
+// passed.
+//
+// Whatever is so of the intake at each moment: where the step was handed back, it was so of a full one, after the last
+// step that this end submitted.
+fn submit_at<R: Wait, J: Record>(
+    rt: &R,
+    intake: &Intake<J>,
+    end: &mut SeatEnd,
+    step: &mut Step,
+) -> bool
+    requires intake { end.old.intake ≡ intake.now.id }
+    requires may { is_tick step.old ≡ false
+        → MaySubmit J.was intake.now.places end.old.number step.old }
+    ensures intake { end.new.intake ≡ intake.now.id }
+    ensures went { SubmitsInPlace EndWent end.old step.old result step.new end.new }
+    ensures full { result ≡ false → WasFull J.was intake.now.places end.old }
+{
+    if matches!(step, Step::Tick) {
+        return true;
+    }
+    match end.submit(rt, intake, mem::replace(step, Step::Tick)) {
+        Ok(()) => true,
+        Err(back) => {
+            *step = back;
+            false
+        }
+    }
+}
+
+// Takes the oldest answer that came to an end, to be written. The end sleeps as its pace says, until it is woken or the
+// time has passed.
+fn mail_at<R: Wait>(
+    rt: &R,
+    intake: &Intake<NoTicks>,
+    end: &mut SeatEnd,
+    pace: &mut Pace,
+    place: &mut Action,
+) -> bool
+    ensures went { TakesInPlace EndWent end.old place.old result place.new end.new }
+    ensures none { result ≡ false → (end.old.waiting ≡ []) × (end.new ≡ end.old) }
+{
+    let now = *pace;
+    *pace = now.after_look();
+    sleep_or_yield(rt, intake, end, now.rest);
+    if look_often(end, now.looks, place) {
+        pace.is_prompt = !now.rests();
+        return true;
+    }
+    if now.rests() {
+        return false;
+    }
+    look_again(rt, intake, end, now.sleeps, place)
+}
+
+// Sleeps for so many milliseconds. If it is none a step was submitted just now, and other threads run once: the core's
+// thread may share this processor.
+fn sleep_or_yield<R: Wait>(rt: &R, intake: &Intake<NoTicks>, end: &mut SeatEnd, most: u64)
+    ensures { end.new ≡ end.old }
+{
+    if most > 0 {
+        end.wait(rt, intake, Duration::from_millis(most));
+    } else {
+        thread::yield_now();
+    }
+}
+
+// Looks once more after a sleep, or at once. A wake-up that is left of an answer that was found without a sleep would end
+// the next sleep as it begins: a sleep of no length takes it.
+fn look_again<R: Wait>(
+    rt: &R,
+    intake: &Intake<NoTicks>,
+    end: &mut SeatEnd,
+    sleeps: bool,
+    place: &mut Action,
+) -> bool
+    ensures went { TakesInPlace EndWent end.old place.old result place.new end.new }
+    ensures none { result ≡ false
+        → (end.old.waiting ≡ []) × (end.new ≡ end.old) × (place.new ≡ place.old) }
+{
+    let most = if sleeps { FIRST_REST } else { 0 };
+    end.wait(rt, intake, Duration::from_millis(most));
+    look(end, place)
+}
+
+// Looks so often at what came to an end, and once at least.
+fn look_often(end: &mut SeatEnd, looks: u32, place: &mut Action) -> bool
+    ensures went { TakesInPlace EndWent end.old place.old result place.new end.new }
+    ensures none { result ≡ false
+        → (end.old.waiting ≡ []) × (end.new ≡ end.old) × (place.new ≡ place.old) }
+{
+    for _ in 1..looks {
+        if look(end, place) {
+            return true;
+        }
+        spin_loop();
+    }
+    look(end, place)
+}
+
+// One look at what came to an end.
+fn look(end: &mut SeatEnd, place: &mut Action) -> bool
+    ensures went { TakesInPlace EndWent end.old place.old result place.new end.new }
+    ensures none { result ≡ false
+        → (end.old.waiting ≡ []) × (end.new ≡ end.old) × (place.new ≡ place.old) }
+{
+    if !end.has_mail() {
+        return false;
+    }
+    *place = Action::Write(end.take_mail());
+    true
+}
+
+/// One action of a seat that attends to a door, by its end of the links. Says whether something moved. The pace goes from
+/// one action to the next.
+pub fn attend_at<R: Wait, L: Line + Drop, D: Door<Line = L>>(
+    rt: &R,
+    alloc: Global,
+    intake: &Intake<NoTicks>,
+    end: &mut SeatEnd,
+    attendant: &mut Attendant<L>,
+    door: &mut D,
+    room: &mut Room,
+    pace: &mut Pace,
+) -> bool
+    requires intake { end.old.intake ≡ intake.now.id }
+    requires placed { IsPlaced attendant.old.place
+        (door_seen D.is_out D.is_at_end D.lines_over door.old) }
+    ensures same { IsSameSeat end.old end.new }
+    ensures went { let at = door_seen D.is_out D.is_at_end D.lines_over in
+        GoesOn EndWent end.old end.new L.seen attendant.old (at door.old) attendant.new (at door.new) }
+    ensures door { (first : D) → D.same first door.old → D.same first door.new }
+{
+    let mut link = EndSeat {
+        rt,
+        intake,
+        end,
+        pace: *pace,
+    };
+    let moved = attendant.go_on(alloc, door, &mut link, room);
+    *pace = link.pace;
+    moved
+}
+
+/// Serves the control line by its end of the links.
+pub fn control_at<R: Wait, I: ControlInput>(
+    rt: &R,
+    intake: &Intake<NoTicks>,
+    end: &mut SeatEnd,
+    control: &mut I,
+)
+    requires new { I.seen control.old ≡ new_control }
+    requires intake { end.old.intake ≡ intake.now.id }
+    ensures over { IsOver (I.seen control.new) }
+    ensures read { IsReadToEnd (I.remaining control.old) (I.remaining control.new)
+        (I.seen control.new).text (I.seen control.new).failed }
+    ensures fault { (I.seen control.new).failed ≡ true → I.may_fail control.old ≡ true }
+    ensures done { (submitted : List Step) × IsControlDone (I.seen control.new).text (I.seen control.new).failed submitted
+        × EndWent end.old submitted [] end.new }
+{
+    // No answer is for it, and it looks for none.
+    let mut link = EndSeat {
+        rt,
+        intake,
+        end,
+        pace: Pace::new(),
+    };
+    submit_control(rt, control, &mut link);
+}
