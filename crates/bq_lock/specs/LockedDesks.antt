@@ -6,11 +6,11 @@ use Rattle.bq_job.specs.declared.step.Step.TheVariants.{Tick}
 use Rattle.bq_job.specs.promise.History.{moment_heard}
 use Rattle.bq_line.specs.GivenReadings.{GaveReadings}
 use Rattle.bq_job.specs.beside.NextDue.{next_due}
-use Rattle.bq_journal.specs.LockedState.{oldest_for, without_oldest}
-use Rattle.bq_journal.specs.LockedSteps.{TakesStep}
+use Rattle.bq_lock.specs.LockedState.{oldest_for, without_oldest}
+use Rattle.bq_lock.specs.LockedSteps.{TakesStep}
 use Rattle.bq_lock.specs.declared.locked_desk.LockedDesk.{LockedDesk}
-use Rattle.bq_lock_work.specs.declared.shared_desk.Look.{Look}
-use Rattle.bq_lock_work.specs.declared.shared_desk.Look.TheVariants as looks
+use Rattle.bq_lock.specs.declared.shared_desk.Look.{Look}
+use Rattle.bq_lock.specs.declared.shared_desk.Look.TheVariants as looks
 
 -- The clock was read once, and the moment heard last follows the reading.
 abbrev pub HasHeard : {C : Type 0} → (C → List (Option ℕ) → C → Type 0) → LockedDesk C → LockedDesk C → Type 0

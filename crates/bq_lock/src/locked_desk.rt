@@ -1,10 +1,11 @@
 //! A desk under a lock, at which each seat is served by its own thread.
 ghost use Rattle.std.specs.Prelude.{◌≡◌, ◌≤◌};
 
+use crate::bells::Rings;
+use crate::locked::Locked;
+use crate::shared_desk::{LONGEST_REST, Look, OwnedDesk};
 use bq_job::{Answer, Moment, Seat, Step};
-use bq_journal::Locked;
 use bq_line::clock::{Clock, moment_heard};
-use bq_lock_work::{Desk, LONGEST_REST, Look, Rings};
 
 /// What lies under the one lock of a run: the core with its outboxes, the clock, and the moment heard last.
 #[derive(Drop)]
@@ -18,7 +19,7 @@ impl<C: Clock + Drop> LockedDesk<C> {
     ghost use Rattle.bq_job.specs.beside.NextDue.{next_due};
     ghost use Rattle.bq_line.specs.GivenReadings.{GaveReadings};
     ghost use Rattle.bq_lock.specs.LockedDesks.{EndsInTime, HasLooked, HasPassed, HasServed, HasTaken};
-    ghost use Rattle.bq_lock_work.specs.Rung.{AreRung, AreRungByTick, others};
+    ghost use Rattle.bq_lock.specs.Rung.{AreRung, AreRungByTick, others};
     ghost use Rattle.std.specs.Prelude.{[], ◌∷◌};
     ghost use Rattle.bq_job.specs.promise.History.{moment_heard};
 
@@ -101,7 +102,7 @@ impl<C: Clock + Drop> LockedDesk<C> {
     }
 }
 
-impl<C: Clock + Drop> Desk for LockedDesk<C> {
+impl<C: Clock + Drop> OwnedDesk for LockedDesk<C> {
     fn take(&mut self, seat: Seat, what: Step) -> Rings {
         self.step(seat, what)
     }

@@ -2,19 +2,19 @@
 ghost use Rattle.std.specs.Prelude.{◌≡◌, ◌↔◌, ◌&&◌, ◌==◌, not, IfOk, IsErrOf, IsTrue, vec_len};
 ghost use Rattle.std.specs.List.{All};
 ghost use Rattle.bq_steps.specs.Limits.{are_in_range};
-ghost use Rattle.bq_lock_work.specs.LockedRuns.{IsServedToEnd};
-ghost use Rattle.bq_journal.specs.LockedState.{IsLawfulHold};
+ghost use Rattle.bq_lock.specs.LockedRuns.{IsServedToEnd};
+ghost use Rattle.bq_lock.specs.LockedState.{IsLawfulHold};
 ghost use Rattle.bq_driver.specs.Tending.{AreSame, IsNewDoor, door_seen};
 
+use crate::doors_served::serve_at_desk;
+use crate::locked::Locked;
 use crate::locked_desk::LockedDesk;
 use bq_core::Config;
 use bq_driver::control_reader::ControlReader;
 use bq_host::RunFault;
-use bq_journal::Locked;
 use bq_line::Door;
 use bq_line::clock::Clock;
 use bq_line::line::Line;
-use bq_lock_work::serve_doors;
 use std::alloc::Global;
 use std::sync::{Mutex, Wait};
 use std::thread::Threads;
@@ -68,7 +68,7 @@ pub fn run_locked<
     }
     let locked = Locked::new(alloc, config, room)?;
     let desk = Mutex::new(LockedDesk::new(locked, clock));
-    let served = serve_doors(rt, alloc, config.max_job_size, doors, &desk, &mut control);
+    let served = serve_at_desk(rt, alloc, config.max_job_size, doors, &desk, &mut control);
     let doors = match served {
         Ok(doors) => doors,
         Err(fault) => return Err(fault),

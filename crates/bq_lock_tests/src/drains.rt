@@ -5,7 +5,7 @@ use bq_clients::control::Gives;
 use bq_clients::drains::{EXAMPLES, put};
 use bq_clients::settings::config;
 use bq_job::{Answer, Step, USUAL_BODY};
-use bq_journal::Locked;
+use bq_lock::Locked;
 use std::alloc::Global;
 use std::sync::Wait;
 use std::sync::atomic::AtomicU64;

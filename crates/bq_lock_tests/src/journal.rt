@@ -5,7 +5,7 @@ ghost use Rattle.std.specs.Prelude.{◌≡◌, ◌<◌};
 use bq_clients::doors::CountedDoor;
 use bq_core::{Config, Core, Outs};
 use bq_job::{Answer, Entry, LineEnd, Moment, Seat, Step};
-use bq_journal::Locked;
+use bq_lock::Locked;
 use bq_wire::{HeadBuf, answer_body, answer_head, answer_tail};
 use std::alloc::Global;
 use std::test::Fail;

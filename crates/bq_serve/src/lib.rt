@@ -7,13 +7,11 @@
 #![tactic(auto)]
 
 pub use bq_core::{Config, Core, CoreFault, Outs};
-pub use bq_run::core_work::{CoreRoom, core_work};
 pub use bq_driver::control_line::{ControlInput, ControlLine, Heard};
 pub use bq_driver::control_reader::{ControlReader, next_of};
 pub use bq_event_loop::{EventLoopRun, run_event_loop};
 pub use bq_host::RunFault;
 pub use bq_job::{Entry, LineEnd, Moment, NoMemory, Seat, Step};
-pub use bq_journal::Locked;
 pub use bq_line::clock::{Clock, MachineClock, Notice, ScriptClock};
 pub use bq_line::line::{
     Connection, Duplex, IoLine, Line, MemLine, Part, ReadBuffer, Readiness, Socket,
@@ -22,9 +20,10 @@ pub use bq_line::{
     Door, DoorFault, FreeDoors, Listen, ListenDoor, MemDoor, OpenDoors, Opening, Refusals, TcpDoor,
 };
 pub use bq_link::{Anything, CoreEnd, Intake, NoTicks, Record, SeatEnd, links};
-pub use bq_lock::{LockedRun, run_locked};
+pub use bq_lock::{Locked, LockedRun, run_locked};
+pub use bq_run::control_work::control_work;
+pub use bq_run::core_work::{CoreRoom, core_work};
+pub use bq_run::seat_work::seat_work;
 pub use bq_run_one::{One, run_one};
 pub use bq_seat::SeatMachine;
-pub use bq_run::control_work::control_work;
-pub use bq_run::seat_work::seat_work;
 pub use bq_sessions::{Run, run_sessions};

@@ -1,5 +1,5 @@
 use Rattle.std.proofs.Common.{◌∙◌, ap, sym}
-use Rattle.bq_journal.specs.LockedState.{LockedState}
+use Rattle.bq_lock.specs.LockedState.{LockedState}
 use Rattle.bq_lock.proofs.locked_desk.LockedDesk.look.Goals as goal
 
 pub returns-in-Some-clause-looked : goal.returns-in-Some-clause-looked

@@ -1,5 +1,5 @@
 use Rattle.std.proofs.Common.{ap}
-use Rattle.bq_journal.specs.LockedState.{LockedState}
+use Rattle.bq_lock.specs.LockedState.{LockedState}
 use Rattle.bq_lock.proofs.locked_desk.LockedDesk.serve.Goals as goal
 
 pub returns-clause-served : goal.returns-clause-served

@@ -1,4 +1,0 @@
-pub mod DeliveryLemmas
-pub mod LastPartLemmas
-pub mod LockedLemmas
-pub mod SendLemmas

@@ -1,2 +1,0 @@
-pub mod LockedState
-pub mod LockedSteps

@@ -1,0 +1,180 @@
+-- What is true at every hold of the lock stays true.
+use Rattle.std.proofs.Common.{◌≡◌, ℕ, ◌<◌, ◌≤◌, ◌⊎◌, Bool, true, false, not, ◌&&◌, List, [], ◌∷◌, ◌++◌, Option, Some, None, drop, length, refl, sym, ap, ◌∙◌, arith, subst, inl, inr, replicate}
+use Rattle.std.specs.Prelude.{◌==◌, IfSome, IsNone, IsSome, IsTrue}
+use Rattle.std.proofs.lemmas.Bool.{cases_Bool, cases_lt, eqb-true, eqb-false, false≢true}
+use Rattle.std.proofs.lemmas.List.{get_or_past, get_or-replicate, get_or-set_other, get_or-set_same, length-append, length-replicate, length-set, set_past}
+use Rattle.bq_job.specs.declared.answer.Answer.{Answer}
+use Rattle.bq_job.specs.declared.journal.Entry.{Entry}
+use Rattle.bq_job.specs.declared.settings.Settings.{Settings}
+use Rattle.bq_job.specs.declared.step.Step.{Step}
+use Rattle.bq_job.specs.machine.Dispatch.{GivenAnswer}
+use Rattle.bq_job.specs.beside.Lawful.{IsLawful}
+use Rattle.bq_job.specs.machine.Machine.{Machine, new_machine}
+use Rattle.bq_job.specs.beside.Replay.{Replay, outcome_of}
+use Rattle.bq_job.specs.promise.Runs.{answers_to}
+use Rattle.bq_job.specs.beside.StepBody.{has_body}
+use Rattle.bq_job.specs.machine.Steps.{IsStep, Outcome}
+use Rattle.bq_job.proofs.LawfulLemmas.{new_is_lawful}
+use Rattle.bq_job.proofs.OneClientLemmas.{answers_append}
+use Rattle.bq_job.proofs.ReplayLemmas.{replay_more, replay_none}
+use Rattle.bq_host.specs.LastParts.{EndsWith, last_part}
+use Rattle.bq_lock.specs.LockedState.{IsLawfulHold, IsReplayed, JournalState, LockedState, locked_of, new_locked, outbox_at, without_oldest}
+use Rattle.bq_lock.specs.LockedSteps.{AreDelivered, IsAdded, IsLeftOut, TakesStep, with_entry, without_entry}
+use Rattle.bq_lock.proofs.DeliveryLemmas.{few_delivered, outbox_past}
+use Rattle.bq_lock.proofs.LastPartLemmas.{ends_with_drop, ends_with_last, ends_with_more, ends_with_none, ends_with_then}
+
+abbrev no_answers : List Answer
+no_answers = []
+
+outbox_of_new : (n seat : ℕ) → outbox_at seat (replicate n no_answers) ≡ []
+outbox_of_new n seat =
+    elim (cases_lt seat n) [
+      | inl here ↦ get_or-replicate n seat no_answers no_answers here
+      | inr past ↦ get_or_past (replicate n no_answers) seat no_answers (let l = length-replicate n no_answers in omega (arith, l, past))
+    ]
+
+pub hold_new : (settings : Settings) (room : ℕ) → IsLawful (new_machine settings) → IsLawfulHold (new_locked settings room)
+hold_new settings room lawful = record {
+  lawful = lawful;
+  many = length-replicate settings.seats no_answers;
+  few = λ seat. subst (λ (xs : List Answer). length xs ≤ 4) (sym (outbox_of_new settings.seats seat)) (omega arith);
+  replayed = λ whole. record {
+    given = [];
+    replay = replay_none settings;
+    last_parts = λ seat. ([], sym (outbox_of_new settings.seats seat));
+  };
+}
+
+-- answers that are delivered leave a last part of what was given in all
+ends_delivered : (so_far given : List GivenAnswer) (old new : List (List Answer)) (seat : ℕ) → AreDelivered given old new
+    → EndsWith (answers_to seat so_far) (outbox_at seat old) → EndsWith (answers_to seat (so_far ++ given)) (outbox_at seat new)
+ends_delivered so_far given old new seat d ends =
+    elim (cases_lt seat (length old)) [
+      | inl here ↦
+          let whole : List Answer = outbox_at seat old ++ answers_to seat given in
+          let joined : EndsWith (answers_to seat (so_far ++ given)) whole =
+          subst (λ (xs : List Answer). EndsWith xs whole) (sym (answers_append seat so_far given)) (ends_with_more (answers_to seat so_far) (outbox_at seat old) (answers_to seat given) ends) in
+          subst (λ (xs : List Answer). EndsWith (answers_to seat (so_far ++ given)) xs) (sym (d.each seat here))
+          (ends_with_then (answers_to seat (so_far ++ given)) whole (last_part 4 whole) joined (ends_with_last 4 whole))
+      | inr past ↦
+          subst (λ (xs : List Answer). EndsWith (answers_to seat (so_far ++ given)) xs) (sym (outbox_past new seat (let m = d.many in omega (arith, m, past))))
+          (ends_with_none (answers_to seat (so_far ++ given)))
+    ]
+
+-- What became of the entry, by whether there was a copy of the step for it.
+pub noted_of : (copy : Option Step) (old : JournalState) (at seat : ℕ) (what : Step) (told_left told_unshared left_out unshared : Bool) (new : JournalState)
+    → told_left ≡ left_out → told_unshared ≡ unshared
+    → IfSome copy (λ step. step ≡ what) → (IsSome copy → length old.entries < old.room) → (IsNone copy → length old.entries < old.room → IsTrue (has_body what))
+    → (IsNone copy → new ≡ without_entry old) → IfSome copy (λ step. new ≡ with_entry (record { moment = at; seat = seat; step = step; left_out = told_left }) told_unshared old)
+    → IsAdded old (record { moment = at; seat = seat; step = what; left_out = left_out }) unshared new ⊎ IsLeftOut old what new
+noted_of None old at seat what told_left told_unshared left_out unshared new left shared same room refused without added = inr (record { had_body = refused refl; new_is = without refl })
+noted_of (Some step) old at seat what told_left told_unshared left_out unshared new left shared same room refused without added = inl (record {
+  had_room = room refl;
+  new_is =
+      added
+      ∙ ap (λ (s : Step). with_entry (record { moment = at; seat = seat; step = s; left_out = told_left }) told_unshared old) same
+      ∙ ap (λ (b : Bool). with_entry (record { moment = at; seat = seat; step = what; left_out = b }) told_unshared old) left
+      ∙ ap (λ (b : Bool). with_entry (record { moment = at; seat = seat; step = what; left_out = left_out }) b old) shared;
+})
+
+-- A journal that tells all after a step told all before it, and no share was refused in the step.
+both_true : (a b : Bool) → (a && b) ≡ true → (a ≡ true) × (b ≡ true)
+both_true true true h = (refl, refl)
+both_true true false h = absurd cc
+both_true false b h = absurd cc
+
+false_of_not : (b : Bool) → not b ≡ true → b ≡ false
+false_of_not true h = absurd cc
+false_of_not false h = refl
+
+step_replayed : (old : LockedState) (at seat : ℕ) (what : Step) (new : LockedState) (outcome : Outcome) (given : List GivenAnswer)
+    → IsStep old.machine at seat what outcome given new.machine → AreDelivered given old.outboxes new.outboxes → new.machine.settings ≡ old.machine.settings
+    → (old.journal.whole ≡ true → IsReplayed old)
+    → IsAdded old.journal (record { moment = at; seat = seat; step = what; left_out = outcome.left_out }) outcome.unshared new.journal
+    → new.journal.whole ≡ true → IsReplayed new
+step_replayed old at seat what new outcome given step delivered settings replayed added whole =
+    let entry : Entry = record { moment = at; seat = seat; step = what; left_out = outcome.left_out } in
+    let both = both_true old.journal.whole (not outcome.unshared) (sym (ap (λ (j : JournalState). j.whole) added.new_is) ∙ whole) in
+    let shared : outcome.unshared ≡ false = false_of_not outcome.unshared both.1 in
+    let r = replayed both.0 in
+    let named : outcome ≡ outcome_of entry = ap (λ (b : Bool). record { left_out = outcome.left_out; unshared = b }) shared in
+    let step' : IsStep old.machine at seat what (outcome_of entry) given new.machine = subst (λ (o : Outcome). IsStep old.machine at seat what o given new.machine) named step in
+    let entries : new.journal.entries ≡ old.journal.entries ++ entry ∷ [] = ap (λ (j : JournalState). j.entries) added.new_is in
+    let goes_on : Replay old.machine.settings (old.journal.entries ++ entry ∷ []) (r.given ++ given) new.machine =
+    replay_more old.machine.settings old.journal.entries entry r.given given old.machine new.machine r.replay step' in
+    record {
+      given = r.given ++ given;
+      replay =
+          subst (λ (s : Settings). Replay s new.journal.entries (r.given ++ given) new.machine) (sym settings)
+          (subst (λ (es : List Entry). Replay old.machine.settings es (r.given ++ given) new.machine) (sym entries) goes_on);
+      last_parts = λ other. ends_delivered r.given given old.outboxes new.outboxes other delivered (r.last_parts other);
+    }
+
+-- what holds stays after a step
+pub hold_step : (old : LockedState) (at seat : ℕ) (what : Step) (new : LockedState) → IsLawfulHold old → IsLawful new.machine → new.machine.settings ≡ old.machine.settings
+    → TakesStep old at seat what new → IsLawfulHold new
+hold_step old at seat what new h lawful settings taken = record {
+  lawful = lawful;
+  many = taken.delivered.many ∙ h.many ∙ ap (λ (s : Settings). s.seats) (sym settings);
+  few = few_delivered taken.given old.outboxes new.outboxes taken.delivered;
+  replayed = by_journal taken.noted;
+}
+  where
+    entry : Entry
+    entry = record { moment = at; seat = seat; step = what; left_out = taken.outcome.left_out }
+
+    by_journal : IsAdded old.journal entry taken.outcome.unshared new.journal ⊎ IsLeftOut old.journal what new.journal → new.journal.whole ≡ true → IsReplayed new
+    by_journal (inl added) whole = step_replayed old at seat what new taken.outcome taken.given taken.step taken.delivered settings h.replayed added whole
+    by_journal (inr left) whole = absurd (false≢true (sym (ap (λ (j : JournalState). j.whole) left.new_is) ∙ whole))
+
+ends_fetched : (outboxes : List (List Answer)) (seat other : ℕ) → EndsWith (outbox_at other outboxes) (outbox_at other (without_oldest seat outboxes))
+ends_fetched outboxes seat other =
+    elim (cases_lt seat (length outboxes)) [
+      | inl here ↦ elim (cases_Bool (other == seat)) [
+        | inl e ↦
+            subst (λ (t : ℕ). EndsWith (outbox_at t outboxes) (outbox_at t (without_oldest seat outboxes))) (sym (eqb-true other seat e))
+            (subst (λ (xs : List Answer). EndsWith (outbox_at seat outboxes) xs) (sym (get_or-set_same outboxes seat (drop 1 (outbox_at seat outboxes)) [] here)) (ends_with_drop 1 (outbox_at seat outboxes)))
+        | inr e ↦
+            subst (λ (xs : List Answer). EndsWith (outbox_at other outboxes) xs) (sym (get_or-set_other outboxes seat other (drop 1 (outbox_at seat outboxes)) [] (eqb-false other seat e)))
+            ([], refl)
+      ]
+      | inr past ↦
+          subst (λ (bs : List (List Answer)). EndsWith (outbox_at other outboxes) (outbox_at other bs)) (sym (set_past outboxes seat (drop 1 (outbox_at seat outboxes)) past)) ([], refl)
+    ]
+
+few_of_part : (xs part : List Answer) → EndsWith xs part → length xs ≤ 4 → length part ≤ 4
+few_of_part xs part (front, is) few = let l = length-append front part in let m = ap length is in omega (arith, l, m, few)
+
+-- what holds stays after a fetch
+pub hold_fetch : (l : LockedState) (seat : ℕ) → IsLawfulHold l → IsLawfulHold (record l { outboxes = without_oldest seat l.outboxes })
+hold_fetch l seat h = record {
+  lawful = h.lawful;
+  many = length-set l.outboxes seat (drop 1 (outbox_at seat l.outboxes)) ∙ h.many;
+  few = λ other. few_of_part (outbox_at other l.outboxes) _ (ends_fetched l.outboxes seat other) (h.few other);
+  replayed = λ whole. record {
+    given = (h.replayed whole).given;
+    replay = (h.replayed whole).replay;
+    last_parts = λ other. ends_with_then (answers_to other (h.replayed whole).given) (outbox_at other l.outboxes) _ ((h.replayed whole).last_parts other) (ends_fetched l.outboxes seat other);
+  };
+}
+
+-- the same, of the parts of what the lock holds
+pub hold_first : (settings : Settings) (room : ℕ) (machine : Machine) (outboxes : List (List Answer)) (answered : List ℕ) (journal : JournalState)
+    → machine ≡ new_machine settings → outboxes ≡ replicate settings.seats [] → answered ≡ [] → journal ≡ (new_locked settings room).journal
+    → IsLawfulHold (locked_of machine outboxes answered journal)
+hold_first settings room machine outboxes answered journal m o a j =
+    subst IsLawfulHold
+    (sym (ap (λ (x : Machine). locked_of x outboxes answered journal) m
+    ∙ ap (λ (x : List (List Answer)). locked_of (new_machine settings) x answered journal) o
+    ∙ ap (λ (x : List ℕ). locked_of (new_machine settings) (replicate settings.seats []) x journal) a
+    ∙ ap (λ (x : JournalState). locked_of (new_machine settings) (replicate settings.seats []) [] x) j))
+    (hold_new settings room (new_is_lawful settings))
+
+pub hold_fetched : (machine : Machine) (outboxes fetched : List (List Answer)) (answered still : List ℕ) (journal : JournalState) (seat : ℕ)
+    → fetched ≡ without_oldest seat outboxes → still ≡ answered
+    → IsLawfulHold (locked_of machine outboxes answered journal) → IsLawfulHold (locked_of machine fetched still journal)
+hold_fetched machine outboxes fetched answered still journal seat f s h =
+    subst IsLawfulHold
+    (sym (ap (λ (x : List (List Answer)). locked_of machine x still journal) f
+    ∙ ap (λ (x : List ℕ). locked_of machine (without_oldest seat outboxes) x journal) s))
+    (hold_fetch (locked_of machine outboxes answered journal) seat h)

@@ -1,0 +1,26 @@
+use Rattle.std.proofs.Common.{◌≡◌, ◌-◌, ◌++◌, ap, arith, map, ◌∙◌, vec_len}
+use Rattle.std.specs.Prelude.{reverse}
+use Rattle.std.proofs.lemmas.List.{nil_from_length}
+use Rattle.bq_host.proofs.ListLemmas.{all_pushed, all_taken, handed_on, popped_passes}
+use Rattle.bq_lock.proofs.doors_served.start_threads.Goals as goal
+
+pub loop-post-init : goal.loop-post-init
+loop-post-init g c =
+    let none = nil_from_length c.args.threads.now.items (let e = c.requires.none in omega arith) in
+    record {
+      many = let e = c.requires.none in omega arith;
+      doors = ap (λ ts. map (λ thread. thread.promise.door.value) ts ++ reverse (map (λ post. post.door) c.args.posts.items)) none;
+      limits = c.requires.limits;
+      promised = λ k d below. absurd (let e = c.requires.none in omega (arith, below));
+    }
+
+pub loop-post-preserved : goal.loop-post-preserved
+loop-post-preserved g c =
+    let limit = popped_passes c.loop-post.posts.items _ c.in-Some.post (λ p. p.max_job_size ≡ c.args.max_job_size) c.in-Some.ensures.items c.loop-post.invariant.limits in
+    record {
+      many = let h = c.loop-post.invariant.many in let e = c.in-Some.ensures.len in let p = c.in-Ok-push.ensures.len in omega arith;
+      doors = handed_on (λ post. post.door) (λ thread. thread.promise.door.value) c.loop-post.posts.items _ c.in-Some.post c.loop-post.threads.items _ c.in-Ok.thread c.in-Some.ensures.items c.in-Ok-push.ensures.items
+          (ap (λ promise. promise.door.value) c.in-Ok.ensures.ok ∙ c.of.ensures) ∙ c.loop-post.invariant.doors;
+      limits = all_taken (vec_len c.loop-post.posts - 1) c.loop-post.posts.items _ (λ p. p.max_job_size ≡ c.args.max_job_size) c.pop.ensures.rest c.loop-post.invariant.limits;
+      promised = all_pushed c.loop-post.threads.items _ c.in-Ok.thread (λ t. t.promise.max_job_size ≡ c.args.max_job_size) c.in-Ok-push.ensures.items c.loop-post.invariant.promised (ap (λ promise. promise.max_job_size) c.in-Ok.ensures.ok ∙ limit);
+    }

@@ -1,0 +1,39 @@
+use Rattle.std.proofs.Common.{◌++◌, ℕ, [], refl, subst}
+use Rattle.bq_driver.specs.Tending.{IsTended, attendant, door_seen}
+use Rattle.bq_driver.specs.declared.attendant.LinePlace.TheVariants as places
+use Rattle.bq_lock.proofs.PostLemmas.{tended_first}
+use Rattle.bq_lock.proofs.post.Post.serve.Goals as goal
+
+pub loop-init : goal.loop-init
+loop-init g c =
+    let post = c.args.self in
+    let at = door_seen g.D.Door.is_out g.D.Door.is_at_end g.D.Door.lines_over in
+    let first = tended_first g.L.Line.seen g.D.Door.is_out g.D.Door.is_at_end g.D.Door.lines_over (attendant post.machine places.Between) post.door refl post.waits post.inside post.more post.none_over in
+    record {
+      iterator = (tt, tt);
+      tended = ([], [], subst (λ (n : ℕ). IsTended g.L.Line.seen n (attendant post.machine places.Between) (at post.door) [] []) post.limit first);
+      same = g.met.D.Door.same_self post.door;
+    }
+
+pub loop-preserved-then-not-go_on : goal.loop-preserved-then-not-go_on
+loop-preserved-then-not-go_on g c =
+    let t = c.loop.invariant.tended in
+    let w = c.go_on.ensures.went in
+    record {
+      iterator = (tt, tt);
+      tended = (t.0 ++ w.0, t.1 ++ w.1, w.3 c.args.self.max_job_size t.0 t.1 t.2);
+      same = c.go_on.ensures.same c.args.self.door c.loop.invariant.same;
+    }
+
+pub loop-preserved : goal.loop-preserved
+loop-preserved g c =
+    let t = c.loop.invariant.tended in
+    let w = c.go_on.ensures.went in
+    record {
+      iterator = (tt, tt);
+      tended = (t.0 ++ w.0, t.1 ++ w.1, w.3 c.args.self.max_job_size t.0 t.1 t.2);
+      same = c.go_on.ensures.same c.args.self.door c.loop.invariant.same;
+    }
+
+pub go_on-requires-clause-placed : goal.go_on-requires-clause-placed
+go_on-requires-clause-placed g c = c.loop.invariant.tended.2.placed

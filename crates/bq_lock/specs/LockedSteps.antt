@@ -1,0 +1,46 @@
+-- What a step does to what the lock holds.
+use Rattle.std.specs.Prelude.{ℕ, Bool, false, ◌≡◌, ◌<◌, ◌⊎◌, ◌&&◌, not, List, [], ◌∷◌, ◌++◌, map, length, IsTrue}
+use Rattle.bq_job.specs.declared.answer.Answer.{Answer}
+use Rattle.bq_job.specs.declared.journal.Entry.{Entry}
+use Rattle.bq_job.specs.declared.step.Step.{Step}
+use Rattle.bq_job.specs.machine.Dispatch.{GivenAnswer}
+use Rattle.bq_job.specs.promise.Runs.{answers_to}
+use Rattle.bq_job.specs.beside.StepBody.{has_body}
+use Rattle.bq_job.specs.machine.Steps.{IsStep, Outcome}
+use Rattle.bq_host.specs.LastParts.{last_part}
+use Rattle.bq_lock.specs.LockedState.{JournalState, LockedState, outbox_at}
+
+-- The answers went into the outboxes of their seats, each of which keeps the last four.
+pub record AreDelivered (given : List GivenAnswer) (old new : List (List Answer)) : Type 0 where
+  pub many : length new ≡ length old
+  pub each : (seat : ℕ) → seat < length old → outbox_at seat new ≡ last_part 4 (outbox_at seat old ++ answers_to seat given)
+
+-- the journal with an entry more, of a step in which a share was refused or not
+abbrev pub with_entry : Entry → Bool → JournalState → JournalState
+with_entry entry unshared old = record old { entries = old.entries ++ entry ∷ []; whole = old.whole && not unshared }
+
+-- the journal once a step has no entry in it
+abbrev pub without_entry : JournalState → JournalState
+without_entry old = record old { whole = false }
+
+-- The step's entry was added.
+pub record IsAdded (old : JournalState) (entry : Entry) (unshared : Bool) (new : JournalState) : Type 0 where
+  pub had_room : length old.entries < old.room
+  pub new_is : new ≡ with_entry entry unshared old
+
+-- The entry was left out, for want of room or since a share of the body in it was refused.
+pub record IsLeftOut (old : JournalState) (what : Step) (new : JournalState) : Type 0 where
+  pub had_body : length old.entries < old.room → IsTrue (has_body what)
+  pub new_is : new ≡ without_entry old
+
+-- The core took the step and the answers were delivered. The step's entry was added or left out, and names
+-- the outcome that the step had.
+pub record TakesStep (old : LockedState) (at seat : ℕ) (what : Step) (new : LockedState) : Type 0 where
+  pub outcome : Outcome
+  pub given : List GivenAnswer
+  pub step : IsStep old.machine at seat what outcome given new.machine
+  pub delivered : AreDelivered given old.outboxes new.outboxes
+  pub answered : new.answered ≡ map (λ g. g.0) given
+  pub noted :
+      IsAdded old.journal (record { moment = at; seat = seat; step = what; left_out = outcome.left_out }) outcome.unshared new.journal
+      ⊎ IsLeftOut old.journal what new.journal

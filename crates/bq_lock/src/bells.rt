@@ -1,0 +1,95 @@
+//! A bell for each seat of a run.
+ghost use Rattle.std.specs.Prelude.{◌≡◌, [], IfOk, vec_len};
+ghost use Rattle.bq_lock.specs.Rung.{AreRung, others};
+
+use crate::bell::Bell;
+use arrayvec::ArrayVec;
+use bq_job::{NoMemory, Seat};
+use std::alloc::Global;
+use std::sync::Wait;
+use std::time::Duration;
+
+/// How many seats whose bells are to be rung can be told one by one.
+const FEW: usize = 8;
+
+/// The seats whose bells are to be rung.
+#[derive(Drop)]
+pub enum Rings {
+    Few(ArrayVec<Seat, FEW>),
+    All,
+}
+
+impl Rings {
+    pub fn none() -> Rings
+        ensures { AreRung [] result }
+    {
+        Rings::Few(ArrayVec::new())
+    }
+
+    /// The seats of these but for one.
+    pub fn but_own(seats: &[Seat], own: Seat) -> Rings
+        ensures { AreRung (others own seats.now) result }
+    {
+        let mut few = ArrayVec::new();
+        for place in 0..seats.len() {
+            let seat = seats[place];
+            if seat != own {
+                if few.is_full() {
+                    return Rings::All;
+                }
+                few.push(seat);
+            }
+        }
+        Rings::Few(few)
+    }
+}
+
+/// A bell for each seat, which threads share.
+#[derive(Drop)]
+pub struct Bells {
+    bells: Vec<Bell, Global>,
+}
+
+impl Bells {
+    /// A bell for each of so many seats, none of which was rung. All their memory is asked for here.
+    pub fn new(alloc: Global, seats: u16) -> Result<Bells, NoMemory>
+        ensures { IfOk result (λ bells. vec_len bells.bells ≡ seats) }
+    {
+        let Ok(mut bells) = Vec::with_capacity(alloc, usize::from(seats)) else {
+            return Err(NoMemory);
+        };
+        for _ in 0..seats {
+            if bells.push(Bell::new()).is_err() {
+                return Err(NoMemory);
+            }
+        }
+        Ok(Bells { bells })
+    }
+
+    /// Rings the bells of these seats. A seat without a bell is passed.
+    pub fn ring(&self, rings: &Rings) {
+        match rings {
+            Rings::Few(seats) => {
+                for seat in seats.as_slice() {
+                    if let Some(bell) = self.bells.get(usize::from(*seat)) {
+                        bell.ring();
+                    }
+                }
+            }
+            Rings::All => {
+                for bell in self.bells.as_slice() {
+                    bell.ring();
+                }
+            }
+        }
+    }
+
+    /// Waits until the bell of a seat is rung, at most so long, and says whether it was. It may return before
+    /// for no reason, and does so where the seat has no bell.
+    pub fn wait<R: Wait>(&self, rt: &R, seat: Seat, most: Duration) -> bool {
+        match self.bells.get(usize::from(seat)) {
+            Some(bell) => bell.wait(rt, most),
+            None => false,
+        }
+    }
+}

@@ -1,0 +1,293 @@
+//! The threads of a run around one lock, one for each door.
+ghost use Rattle.std.specs.Prelude.{◌≡◌, ◌≤◌, map, reverse, IfOk, IfSome, IsErrOf, IsTrue, vec_len};
+ghost use Rattle.std.specs.List.{All};
+ghost use Rattle.bq_steps.specs.Limits.{is_body_size};
+ghost use Rattle.bq_lock.specs.LockedRuns.{IsServedToEnd};
+ghost use Rattle.bq_driver.specs.Tending.{AreSame, IsNewDoor, door_seen};
+
+use crate::bells::Bells;
+use crate::post::{Post, SeatPosts};
+use crate::shared_desk::{OwnedDesk, SharedDesk, SharedSeat};
+use bq_driver::control::submit_control;
+use bq_driver::control_line::ControlLine;
+use bq_driver::control_reader::ControlReader;
+use bq_host::{RunFault, Start};
+use bq_job::{NoMemory, Seat};
+use bq_line::Door;
+use bq_line::line::Line;
+use std::alloc::Global;
+use std::snapshot::Snapshot;
+use std::sync::{Mutex, Wait};
+use std::thread;
+use std::thread::{Promise, PromisedHandle, Scope, Threads};
+
+/// Serves the lines of all doors at the desk under the lock, each at a seat and in a thread of its own, until no more lines come at
+/// any of them. The calling thread reads the control line. The doors come back in their order.
+///
+/// The fault is `NoMemory` where a growth of memory was refused, or `ThreadRefused` where a thread was. With any
+/// fault no door was opened, and the doors are given up.
+pub fn serve_at_desk<
+    R: Threads + Wait + Sync,
+    L: Line + Drop + Send,
+    D: Door<Line = L> + Drop + Send,
+    K: OwnedDesk + Drop + Send,
+    I: ControlReader,
+>(
+    rt: &R,
+    alloc: Global,
+    max_job_size: u32,
+    doors: Vec<D, Global>,
+    desk: &Mutex<K>,
+    control: &mut I,
+) -> Result<Vec<D, Global>, RunFault>
+    requires size { IsTrue (is_body_size max_job_size) }
+    requires few { vec_len doors ≤ 65535 }
+    requires new { All
+        (λ door. IsNewDoor (door_seen D.is_out D.is_at_end D.lines_over door)) doors.items }
+    ensures fault { IsErrOf result RunFault.BadConfiguration → ⊥ }
+    ensures many { IfOk result (λ served. vec_len served ≡ vec_len doors) }
+    ensures served { IfOk result (λ served. All
+        (λ door. IsServedToEnd max_job_size (door_seen D.is_out D.is_at_end D.lines_over door)) served.items) }
+    ensures same { IfOk result (λ served. AreSame D.same doors.items served.items) }
+{
+    let seats = doors.len() as u16;
+    let Ok(bells) = Bells::new(alloc, seats) else {
+        return Err(RunFault::NoMemory);
+    };
+    let Ok(posts) = new_posts(alloc, max_job_size, doors) else {
+        return Err(RunFault::NoMemory);
+    };
+    let posts = SeatPosts {
+        all: posts,
+        max_job_size,
+    };
+    let start = Start::new();
+    serve_in_scope(rt, alloc, posts, desk, &bells, &start, control, seats)
+}
+
+// Serves all posts, each in a thread of its own, and the control line in this one. The doors come back in
+// their order.
+fn serve_in_scope<
+    R: Threads + Wait + Sync,
+    L: Line + Drop + Send,
+    D: Door<Line = L> + Drop + Send,
+    K: SharedDesk + Sync,
+    I: ControlReader,
+>(
+    rt: &R,
+    alloc: Global,
+    posts: SeatPosts<L, D>,
+    desk: &K,
+    bells: &Bells,
+    start: &Start,
+    control: &mut I,
+    control_seat: Seat,
+) -> Result<Vec<D, Global>, RunFault>
+    ensures fault { IsErrOf result RunFault.BadConfiguration → ⊥ }
+    ensures many { IfOk result (λ doors. vec_len doors ≡ vec_len posts.all) }
+    ensures served { IfOk result (λ doors. All
+        (λ door. IsServedToEnd posts.max_job_size (door_seen D.is_out D.is_at_end D.lines_over door)) doors.items) }
+    ensures same { IfOk result
+        (λ doors. AreSame D.same (reverse (map (λ post. post.door) posts.all.items)) doors.items) }
+{
+    thread::scope(
+        thread::scope_env(),
+        rt,
+        move |scope| -> Result<Vec<D, Global>, RunFault>
+            ensures fault { IsErrOf result RunFault.BadConfiguration → ⊥ }
+            ensures many { IfOk result (λ doors. vec_len doors ≡ vec_len posts.all) }
+            ensures served { IfOk result (λ doors. All
+                (λ door. IsServedToEnd posts.max_job_size (door_seen D.is_out D.is_at_end D.lines_over door)) doors.items) }
+            ensures same { IfOk result
+                (λ doors. AreSame D.same
+                (reverse (map (λ post. post.door) posts.all.items)) doors.items) }
+        {
+            serve_all(
+                scope,
+                rt,
+                alloc,
+                posts,
+                desk,
+                bells,
+                start,
+                control,
+                control_seat,
+            )
+        },
+    )
+}
+
+// A post for each door, the last one first.
+fn new_posts<L: Line + Drop, D: Door<Line = L> + Drop>(
+    alloc: Global,
+    max_job_size: u32,
+    mut doors: Vec<D, Global>,
+) -> Result<Vec<Post<L, D>, Global>, NoMemory>
+    requires size { IsTrue (is_body_size max_job_size) }
+    requires few { vec_len doors ≤ 65535 }
+    requires new { All
+        (λ door. IsNewDoor (door_seen D.is_out D.is_at_end D.lines_over door)) doors.items }
+    ensures many { IfOk result (λ posts. vec_len posts ≡ vec_len doors) }
+    ensures limits { IfOk result
+        (λ posts. All (λ post. post.max_job_size ≡ max_job_size) posts.items) }
+    ensures doors { IfOk result
+        (λ posts. reverse (map (λ post. post.door) posts.items) ≡ doors.items) }
+{
+    let Ok(mut posts) = Vec::with_capacity(alloc, doors.len()) else {
+        return Err(NoMemory);
+    };
+    while let Some(door) = doors.pop() {
+        let post = Post::new(alloc, max_job_size, doors.len() as u16, door)?;
+        let Ok(()) = posts.push(post) else {
+            return Err(NoMemory);
+        };
+    }
+    Ok(posts)
+}
+
+// That this door was served to its end, where its thread began.
+#[derive(Drop)]
+struct DoorPromise<D> {
+    max_job_size: u32,
+    door: Snapshot<D>,
+}
+
+impl<D: Door> Promise<Option<D>> for DoorPromise<D> {
+    ghost kept_by = { λ promise door.
+        IfSome door (λ d. IsServedToEnd promise.max_job_size (door_seen D.is_out D.is_at_end D.lines_over d))
+        × IfSome door (D.same promise.door.value) };
+}
+
+// Starts a thread for each seat, and serves the control line where all were started. The doors come back
+// in their order.
+fn serve_all<
+    's,
+    E,
+    R: Threads + Wait + Sync,
+    L: Line + Drop + Send + 's,
+    D: Door<Line = L> + Drop + Send + 's,
+    K: SharedDesk + Sync,
+    I: ControlReader,
+>(
+    scope: &'s Scope<'s, E>,
+    rt: &'s R,
+    alloc: Global,
+    posts: SeatPosts<L, D>,
+    desk: &'s K,
+    bells: &'s Bells,
+    start: &'s Start,
+    control: &mut I,
+    control_seat: Seat,
+) -> Result<Vec<D, Global>, RunFault>
+    ensures fault { IsErrOf result RunFault.BadConfiguration → ⊥ }
+    ensures many { IfOk result (λ doors. vec_len doors ≡ vec_len posts.all) }
+    ensures served { IfOk result (λ doors. All
+        (λ door. IsServedToEnd posts.max_job_size (door_seen D.is_out D.is_at_end D.lines_over door)) doors.items) }
+    ensures same { IfOk result
+        (λ doors. AreSame D.same (reverse (map (λ post. post.door) posts.all.items)) doors.items) }
+{
+    let SeatPosts { all, max_job_size } = posts;
+    let seats = all.len();
+    let (Ok(mut threads), Ok(doors)) = (
+        Vec::with_capacity(alloc, seats),
+        Vec::with_capacity(alloc, seats),
+    ) else {
+        return Err(RunFault::NoMemory);
+    };
+    let all_started = start_threads(
+        scope,
+        rt,
+        all,
+        desk,
+        bells,
+        start,
+        max_job_size,
+        &mut threads,
+    );
+    start.tell(rt, all_started);
+    if !all_started {
+        // The scope waits for those that were.
+        return Err(RunFault::ThreadRefused);
+    }
+    let mut link = SharedSeat {
+        rt,
+        desk,
+        bells,
+        seat: control_seat,
+        at_hand: None,
+        rests: false,
+    };
+    submit_control(rt, &mut ControlLine::new(control), &mut link);
+    join_all(rt, threads, doors, max_job_size)
+}
+
+// Whether a thread was started for each seat.
+fn start_threads<
+    's,
+    E,
+    R: Threads + Wait + Sync,
+    L: Line + Drop + Send + 's,
+    D: Door<Line = L> + Drop + Send + 's,
+    K: SharedDesk + Sync,
+>(
+    scope: &'s Scope<'s, E>,
+    rt: &'s R,
+    mut posts: Vec<Post<L, D>, Global>,
+    desk: &'s K,
+    bells: &'s Bells,
+    start: &'s Start,
+    max_job_size: u32,
+    threads: &mut Vec<PromisedHandle<Option<D>, DoorPromise<D>>, Global>,
+) -> bool
+    requires none { vec_len threads.old ≡ 0 }
+    requires limits { All (λ post. post.max_job_size ≡ max_job_size) posts.items }
+    ensures many { IsTrue result → vec_len threads.new ≡ vec_len posts }
+    ensures limits { IsTrue result
+        → All (λ thread. thread.promise.max_job_size ≡ max_job_size) threads.new.items }
+    // The last post's thread comes first.
+    ensures doors { IsTrue result
+        → map (λ thread. thread.promise.door.value) threads.new.items ≡ reverse (map (λ post. post.door) posts.items) }
+{
+    while let Some(post) = posts.pop() {
+        let promise = DoorPromise {
+            max_job_size: post.max_job_size,
+            door: Snapshot::of(&post.door),
+        };
+        let Ok(thread) = scope.spawn_with(promise, move || post.serve(rt, desk, bells, start))
+        else {
+            return false;
+        };
+        let Ok(()) = threads.push(thread) else {
+            return false;
+        };
+    }
+    true
+}
+
+// Waits for all threads. Their doors come behind one another, for which there is room.
+fn join_all<R: Threads, D: Door + Drop + Send>(
+    rt: &R,
+    threads: Vec<PromisedHandle<Option<D>, DoorPromise<D>>, Global>,
+    mut doors: Vec<D, Global>,
+    max_job_size: u32,
+) -> Result<Vec<D, Global>, RunFault>
+    requires none { vec_len doors ≡ 0 }
+    requires limits { All (λ thread. thread.promise.max_job_size ≡ max_job_size) threads.items }
+    ensures fault { IsErrOf result RunFault.BadConfiguration → ⊥ }
+    ensures many { IfOk result (λ all. vec_len all ≡ vec_len threads) }
+    ensures served { IfOk result (λ all. All (λ door. IsServedToEnd max_job_size (door_seen D.is_out D.is_at_end D.lines_over door))
+        all.items) }
+    ensures same { IfOk result
+        (λ all. AreSame D.same
+        (map (λ thread. thread.promise.door.value) threads.items) all.items) }
+{
+    for thread in threads {
+        let Some(door) = thread.join(rt) else {
+            return Err(RunFault::ThreadRefused);
+        };
+        let Ok(()) = doors.push(door) else {
+            return Err(RunFault::NoMemory);
+        };
+    }
+    Ok(doors)
+}

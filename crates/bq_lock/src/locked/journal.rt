@@ -1,0 +1,101 @@
+//! The journal behind the lock.
+ghost use Rattle.std.specs.Prelude.{◌≡◌, ◌<◌, [], IfOk, IfSome, IsNone, IsSome, IsTrue, length, true};
+ghost use Rattle.bq_job.specs.beside.StepBody.{has_body};
+ghost use Rattle.bq_lock.specs.LockedSteps.{with_entry, without_entry};
+
+use bq_job::{Entry, Moment, NoMemory, Seat, Step};
+use std::alloc::Global;
+use std::marker::Model;
+
+/// The entries of the steps that were taken, as long as there is room for them.
+#[derive(Drop)]
+pub struct Journal {
+    entries: Vec<Entry, Global>,
+    room: usize,
+    whole: bool,
+}
+
+impl Model for Journal {
+    ghost use Rattle.std.specs.Prelude.{◌≤◌};
+    ghost use Rattle.std.specs.Vec.{vec_capacity};
+    ghost use Rattle.bq_lock.specs.LockedState.{JournalState};
+
+    ghost Value = { JournalState };
+
+    ghost view = { λ j. record { entries = j.entries.items; room = j.room; whole = j.whole } };
+
+    ghost invariant = { λ j. j.room ≤ vec_capacity j.entries };
+}
+
+impl Journal {
+    /// An empty journal with room for so many entries, which is asked for here.
+    pub fn new(alloc: Global, room: usize) -> Result<Journal, NoMemory>
+        ensures { IfOk result
+            (λ journal. journal ≡ record { entries = []; room = room; whole = true }) }
+    {
+        let Ok(entries) = Vec::with_capacity(alloc, room) else {
+            return Err(NoMemory);
+        };
+        Ok(Journal {
+            entries,
+            room,
+            whole: true,
+        })
+    }
+
+    /// The step once more, where there is room for its entry, and where its body is given one more owner.
+    pub fn copy(&self, what: &Step) -> Option<Step>
+        ensures same { IfSome result (λ step. step ≡ what.now) }
+        ensures room { IsSome result → length self.now.entries < self.now.room }
+        ensures refused { IsNone result → length self.now.entries < self.now.room
+            → IsTrue (has_body what.now) }
+    {
+        if self.entries.len() >= self.room {
+            return None;
+        }
+        what.share().ok()
+    }
+
+    /// Adds the entry of a step that was taken, of which this is the copy. Without one, or where a share was
+    /// refused in the step, the journal isn't whole any more.
+    pub fn note(
+        &mut self,
+        at: Moment,
+        seat: Seat,
+        copy: Option<Step>,
+        left_out: bool,
+        unshared: bool,
+    )
+        requires room { IsSome copy → length self.old.entries < self.old.room }
+        ensures without { IsNone copy → self.new ≡ without_entry self.old }
+        ensures added { IfSome copy (λ step. self.new
+            ≡ with_entry (record { moment = at; seat = seat; step = step; left_out = left_out }) unshared self.old) }
+    {
+        let Some(step) = copy else {
+            self.whole = false;
+            return;
+        };
+        self.entries
+            .push(Entry {
+                moment: at,
+                seat,
+                step,
+                left_out,
+            })
+            .unwrap();
+        self.whole = self.whole && !unshared;
+    }
+
+    pub fn entries(&self) -> &[Entry]
+        ensures { result.now ≡ self.now.entries }
+    {
+        self.entries.as_slice()
+    }
+
+    /// Whether every step has its entry, and no share was refused in one.
+    pub fn whole(&self) -> bool
+        ensures { result ≡ self.now.whole }
+    {
+        self.whole
+    }
+}

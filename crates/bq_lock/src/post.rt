@@ -1,0 +1,117 @@
+//! A seat with its door, which a thread of its own serves.
+ghost use Rattle.std.specs.Prelude.{◌≡◌, IfOk, IfSome, IsTrue, false, []};
+ghost use Rattle.std.specs.List.{All};
+ghost use Rattle.bq_steps.specs.Limits.{is_body_size};
+ghost use Rattle.bq_seat.specs.Past.{Awaited};
+ghost use Rattle.bq_seat.specs.SeatStands.{awaited};
+ghost use Rattle.bq_lock.specs.LockedRuns.{IsServedToEnd};
+ghost use Rattle.bq_driver.specs.Tending.{IsNewDoor, door_seen};
+
+use crate::bells::Bells;
+use crate::shared_desk::{SharedDesk, SharedSeat};
+use bq_driver::attendant::{Attendant, LinePlace};
+use bq_driver::room::Room;
+use bq_host::Start;
+use bq_job::{NoMemory, Seat};
+use bq_line::Door;
+use bq_line::line::Line;
+use bq_seat::SeatMachine;
+use std::alloc::Global;
+use std::sync::Wait;
+use std::thread;
+
+/// A seat and its door, on neither of which anything was done.
+#[derive(Drop)]
+pub struct Post<L: Line + Drop, D: Door<Line = L>> {
+    alloc: Global,
+    seat: Seat,
+    pub max_job_size: u32,
+    machine: SeatMachine,
+    pub door: D,
+    ghost limit: { machine.reader.max_job_size ≡ max_job_size },
+    ghost waits: { awaited machine ≡ Awaited.ALine },
+    ghost inside: { D.is_out door ≡ false },
+    ghost more: { D.is_at_end door ≡ false },
+    ghost none_over: { D.lines_over door ≡ [] },
+}
+
+impl<L: Line + Drop, D: Door<Line = L> + Drop> Post<L, D> {
+    /// A post of this seat. All memory but that for bodies is asked for here.
+    pub fn new(
+        alloc: Global,
+        max_job_size: u32,
+        seat: Seat,
+        door: D,
+    ) -> Result<Post<L, D>, NoMemory>
+        requires size { IsTrue (is_body_size max_job_size) }
+        requires new { IsNewDoor (door_seen D.is_out D.is_at_end D.lines_over door) }
+        ensures seat { IfOk result (λ post. post.seat ≡ seat) }
+        ensures limit { IfOk result (λ post. post.max_job_size ≡ max_job_size) }
+        ensures door { IfOk result (λ post. post.door ≡ door) }
+    {
+        let machine = SeatMachine::new(alloc, max_job_size)?;
+        Ok(Post {
+            alloc,
+            seat,
+            max_job_size,
+            machine,
+            door,
+        })
+    }
+
+    /// Serves the door to its end, and gives it back. Where some thread was not started there is none: it was
+    /// not opened.
+    pub fn serve<R: Wait, K: SharedDesk>(
+        self,
+        rt: &R,
+        desk: &K,
+        bells: &Bells,
+        start: &Start,
+    ) -> Option<D>
+        ensures served { IfSome result
+            (λ door. IsServedToEnd self.max_job_size
+            (door_seen D.is_out D.is_at_end D.lines_over door)) }
+        ensures same { IfSome result (D.same self.door) }
+    {
+        let Post {
+            alloc,
+            seat,
+            max_job_size: _,
+            machine,
+            mut door,
+        } = self;
+        if !start.wait(rt) {
+            return None;
+        }
+        let mut attendant = Attendant {
+            machine,
+            place: LinePlace::Between,
+        };
+        let mut link = SharedSeat {
+            rt,
+            desk,
+            bells,
+            seat,
+            at_hand: None,
+            rests: false,
+        };
+        let mut room = Room::new();
+        for _ in rt.forever() {
+            if attendant.is_done() {
+                return Some(door);
+            }
+            if !attendant.go_on(alloc, &mut door, &mut link, &mut room) {
+                thread::yield_now();
+            }
+        }
+        unreachable!()
+    }
+}
+
+/// Posts that all have the same limit of bodies.
+#[derive(Drop)]
+pub struct SeatPosts<L: Line + Drop, D: Door<Line = L>> {
+    pub all: Vec<Post<L, D>, Global>,
+    pub max_job_size: u32,
+    ghost limits: { All (λ post. post.max_job_size ≡ max_job_size) all.items },
+}

@@ -1,0 +1,170 @@
+//! A desk that threads share, and the links to it.
+ghost use Rattle.std.specs.Prelude.{◌≡◌, ◌≤◌};
+
+use crate::bells::{Bells, Rings};
+use bq_driver::control::ControlLink;
+use bq_driver::link::Link;
+use bq_job::{Answer, Seat, Step};
+use bq_seat::Action;
+use std::mem;
+use std::sync::{Mutex, Wait};
+use std::time::Duration;
+
+/// How long a seat whose reserve waits rests before its line is read again, in milliseconds. A client that has
+/// gone is noticed then.
+pub const LONGEST_REST: u64 = 100;
+
+/// What a look at the mail came to.
+#[derive(Drop)]
+pub enum Look {
+    Mail(Answer),
+    /// There is none. How long the seat may rest before it has to look again, in milliseconds.
+    Nothing(u64),
+}
+
+/// A desk at which each seat is served by a thread of its own.
+pub trait SharedDesk {
+    /// Takes a step of a seat, and tells the other seats that it answered.
+    fn step<R: Wait>(&self, rt: &R, seat: Seat, what: Step) -> Rings;
+
+    /// The same, and takes the oldest answer for the seat that there is then.
+    fn serve<R: Wait>(&self, rt: &R, seat: Seat, what: Step) -> (Option<Answer>, Rings);
+
+    /// Takes the oldest answer for a seat, and tells the other seats that were answered meanwhile.
+    fn look<R: Wait>(&self, rt: &R, seat: Seat) -> (Look, Rings);
+}
+
+/// A desk that one value owns, as it lies under a lock.
+pub trait OwnedDesk {
+    /// Takes a step of a seat, and tells the other seats that it answered.
+    fn take(&mut self, seat: Seat, what: Step) -> Rings;
+
+    /// The same, and takes the oldest answer for the seat that there is then.
+    fn take_and_fetch(&mut self, seat: Seat, what: Step) -> (Option<Answer>, Rings);
+
+    /// Takes the oldest answer for a seat, and tells the other seats that were answered meanwhile.
+    fn fetch(&mut self, seat: Seat) -> (Look, Rings);
+}
+
+impl<K: OwnedDesk + Drop> SharedDesk for Mutex<K> {
+    fn step<R: Wait>(&self, rt: &R, seat: Seat, what: Step) -> Rings {
+        self.lock(rt).take(seat, what)
+    }
+
+    fn serve<R: Wait>(&self, rt: &R, seat: Seat, what: Step) -> (Option<Answer>, Rings) {
+        self.lock(rt).take_and_fetch(seat, what)
+    }
+
+    fn look<R: Wait>(&self, rt: &R, seat: Seat) -> (Look, Rings) {
+        self.lock(rt).fetch(seat)
+    }
+}
+
+/// The link of a seat, or of the control line, to a desk that threads share. What other seats do between
+/// two of its calls is unknown, so it tells nothing of what went over it.
+#[derive(Drop)]
+pub struct SharedSeat<'a, R, K> {
+    pub rt: &'a R,
+    pub desk: &'a K,
+    pub bells: &'a Bells,
+    pub seat: Seat,
+    /// An answer that came with a step, and that the seat didn't ask for yet.
+    pub at_hand: Option<Answer>,
+    /// Whether its last step wasn't answered by itself, and that was told: then a look for mail rests.
+    pub rests: bool,
+}
+
+impl<'a, R: Wait, K: SharedDesk> SharedSeat<'a, R, K> {
+    // Most steps are answered by themselves, and the desk is asked no more for that answer.
+    fn serve(&mut self, step: Step) {
+        let (answer, rings) = self.desk.serve(self.rt, self.seat, step);
+        self.bells.ring(&rings);
+        self.at_hand = answer;
+    }
+
+    fn step(&self, step: Step) {
+        let rings = self.desk.step(self.rt, self.seat, step);
+        self.bells.ring(&rings);
+    }
+
+    fn look(&self) -> Look {
+        let (look, rings) = self.desk.look(self.rt, self.seat);
+        self.bells.ring(&rings);
+        look
+    }
+
+    // Rests for so many milliseconds at most, and says how many of them are counted: one where the bell was
+    // rung, since then the seat rests again.
+    fn rest(&self, most: u64) -> u64
+        requires { 1 ≤ most }
+        ensures some { 1 ≤ result }
+        ensures most { result ≤ most }
+    {
+        let rung = self
+            .bells
+            .wait(self.rt, self.seat, Duration::from_millis(most));
+        if rung { 1 } else { most }
+    }
+
+    // The first look behind a step that has no answer yet says so at once, so that what the line holds back can go out.
+    // From then on, where there is no answer the seat rests, and looks again whenever its bell was rung or the core is due.
+    // A bell may have been rung for an answer that was found before, so one ring isn't the end of the rest: a
+    // line that is read meanwhile keeps its seat from the next answer for as long as the read waits.
+    fn next_answer(&mut self) -> Option<Answer> {
+        if let Some(answer) = self.at_hand.take() {
+            return Some(answer);
+        }
+        if !mem::replace(&mut self.rests, true) {
+            return None;
+        }
+        let mut left = LONGEST_REST;
+        while left > 0 {
+            match self.look() {
+                Look::Mail(answer) => return Some(answer),
+                Look::Nothing(rest) => left -= self.rest(rest.clamp(1, left)),
+            }
+        }
+        match self.look() {
+            Look::Mail(answer) => Some(answer),
+            Look::Nothing(_) => None,
+        }
+    }
+}
+
+impl<'a, R: Wait, K: SharedDesk> Link for SharedSeat<'a, R, K> {
+    ghost is_ready = { λ l. Unit {0} };
+
+    ghost went = { λ first submitted taken last. Unit {0} };
+
+    fn submit(&mut self, step: &mut Step) -> bool {
+        self.rests = false;
+        let step = mem::replace(step, Step::Tick);
+        if self.at_hand.is_none() {
+            self.serve(step);
+        } else {
+            self.step(step);
+        }
+        true
+    }
+
+    fn mail(&mut self, place: &mut Action) -> bool {
+        match self.next_answer() {
+            Some(answer) => {
+                *place = Action::Write(answer);
+                true
+            }
+            None => false,
+        }
+    }
+}
+
+impl<'a, R: Wait, K: SharedDesk> ControlLink for SharedSeat<'a, R, K> {
+    ghost is_ready = { λ l. Unit {0} };
+
+    ghost went = { λ first submitted last. Unit {0} };
+
+    fn submit(&mut self, step: Step) -> Result<(), Step> {
+        self.step(step);
+        Ok(())
+    }
+}

@@ -1,2 +1,0 @@
-pub mod PostLemmas
-pub mod RungLemmas

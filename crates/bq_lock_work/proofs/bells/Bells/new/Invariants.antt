@@ -1,8 +1,0 @@
-use Rattle.std.proofs.Common.{◌≡◌, ◌≤◌, vec_len}
-use Rattle.bq_lock_work.proofs.bells.Bells.new.Given as goal
-
-abbrev pub invariant-loop : goal.invariant-loop
-invariant-loop l = record {
-  many : vec_len l.bells ≡ l.counter;
-  within : l.counter ≤ l.fn.seats;
-}

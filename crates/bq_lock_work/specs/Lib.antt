@@ -1,2 +1,0 @@
-pub mod LockedRuns
-pub mod Rung
