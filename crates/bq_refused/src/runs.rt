@@ -7,7 +7,7 @@ use bq_clients::doors::{CountedDoor, doors};
 use bq_host::RunFault;
 use bq_job::LineEnd;
 use bq_lock::run_locked;
-use bq_sessions::run_sessions;
+use bq_serve::run_sessions;
 use std::alloc::Global;
 use std::io;
 use std::io::Print;

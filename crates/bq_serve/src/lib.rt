@@ -1,9 +1,10 @@
 //! Serving clients over lines of bytes: everything that a caller names, in one place.
 //!
-//! Four runs stand here. [`run_one`] serves one line on one thread, [`run_sessions`] serves many doors with a thread for
-//! each, [`run_event_loop`] serves them all on one thread, and [`run_locked`] has a thread for each around one lock. Beside them are the lines, doors and clocks that they serve, and the
-//! work of each thread of `run_sessions` as a call of its own. Each part is made in a crate of its own, so that what
-//! stands on one of them doesn't wait for the proofs of the others.
+//! It has four runs. [`run_one`] serves one line on one thread, [`run_sessions`] serves many doors with a thread for
+//! each, [`run_event_loop`] serves them all on one thread, and [`run_locked`] has a thread for each door around one lock.
+//! Beside them are the lines, doors and clocks that they serve, and the work of each thread of `run_sessions` as a call of
+//! its own. Each part is made in a crate of its own, so that what stands on one of them does not wait for the proofs of
+//! the others.
 #![tactic(auto)]
 
 pub use bq_core::{Config, Core, CoreFault, Outs};
@@ -26,4 +27,6 @@ pub use bq_run::core_work::{CoreRoom, core_work};
 pub use bq_run::seat_work::seat_work;
 pub use bq_run_one::{One, run_one};
 pub use bq_seat::SeatMachine;
-pub use bq_sessions::{Run, run_sessions};
+pub use sessions::{Run, run_sessions};
+
+mod sessions;

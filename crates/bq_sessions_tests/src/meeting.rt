@@ -17,7 +17,7 @@ use bq_host::RunFault;
 use bq_job::{LineEnd, NoMemory, USUAL_BODY};
 use bq_line::Door;
 use bq_line::clock::ScriptClock;
-use bq_sessions::Run;
+use bq_serve::Run;
 use guest::{GUESTS, Guest};
 use guest_control::GuestControl;
 use guest_door::GuestDoor;

@@ -14,7 +14,7 @@ use bq_job::USUAL_BODY;
 use bq_line::Door;
 use bq_line::clock::ScriptClock;
 use bq_line::line::Line;
-use bq_sessions::{Run, run_sessions};
+use bq_serve::{Run, run_sessions};
 use bq_steps::Config;
 use std::alloc::Global;
 use std::sync::Wait;
