@@ -7,12 +7,12 @@ mod scripted;
 mod texts;
 mod worked;
 
-use bq_clients::clients::ROOM;
-use bq_clients::settings::config;
 use bq_job::{Moment, USUAL_BODY};
 use bq_line::clock::ScriptClock;
 use bq_line::line::MemLine;
 use bq_run_one::One;
+use bq_serve_tests::clients::ROOM;
+use bq_serve_tests::settings::config;
 use runs::{on_line_of, on_one_line};
 use scripted::{SCRIPTED, Scripted};
 use std::alloc::Global;

@@ -2,12 +2,12 @@
 
 use crate::makings::config;
 use crate::outcome::{Outcome, tell};
-use bq_clients::clients::{Client, STILL, clock};
-use bq_clients::doors::{CountedDoor, doors};
 use bq_host::RunFault;
 use bq_job::LineEnd;
 use bq_lock::run_locked;
 use bq_serve::run_sessions;
+use bq_serve_tests::clients::{Client, STILL, clock};
+use bq_serve_tests::doors::{CountedDoor, doors};
 use std::alloc::Global;
 use std::io;
 use std::io::Print;

@@ -1,9 +1,9 @@
 //! Runs of one line that are rejected.
 
 use super::runs::on_one_line;
-use bq_clients::clients::{PUTS, ROOM, STILL};
-use bq_clients::refused::{REFUSED, Refused};
-use bq_clients::settings::config;
+use bq_serve_tests::clients::{PUTS, ROOM, STILL};
+use bq_serve_tests::refused::{REFUSED, Refused};
+use bq_serve_tests::settings::config;
 use std::alloc::Global;
 use std::sync::Wait;
 

@@ -1,7 +1,7 @@
 //! Sessions in which the client does one thing after another, or the clock advances.
 
-use bq_clients::clients::{ROOM, STILL};
 use bq_job::{LineEnd, Moment};
+use bq_serve_tests::clients::{ROOM, STILL};
 
 /// What the client does, the readings of the clock, the client's room, what it receives, and how its line ends.
 pub type Scripted = (

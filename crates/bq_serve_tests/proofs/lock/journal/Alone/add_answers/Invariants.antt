@@ -1,0 +1,6 @@
+-- each answer that is taken out is one less
+use Rattle.std.proofs.Common.{length}
+use Rattle.bq_serve_tests.proofs.lock.journal.Alone.add_answers.Given as goal
+
+abbrev pub decreases-loop-to : goal.decreases-loop-to
+decreases-loop-to l = length l.self.outs.given

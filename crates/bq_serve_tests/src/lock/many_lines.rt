@@ -1,0 +1,19 @@
+//! Worked runs, each around a lock, many times.
+
+use crate::lock::runs::comes_out;
+use crate::wanted::Wanted;
+use crate::worked::EXAMPLES;
+use std::test::Fail;
+
+/// How often each run is made.
+const TIMES: usize = 10;
+
+#[test]
+fn worked_runs(rt: HostRuntime) -> Result<(), Fail> {
+    for (clients, outcomes) in EXAMPLES {
+        for _ in 0..TIMES {
+            assert!(rt; comes_out(&rt, rt.alloc(), clients, Wanted::Lines(outcomes))?);
+        }
+    }
+    Ok(())
+}

@@ -1,0 +1,76 @@
+//! Runs around a lock, by a clock that stands still.
+
+use crate::clients::{Client, STILL, clock};
+use crate::control::{Gives, control};
+use crate::doors::{CountedDoor, doors};
+use crate::lock::journal::is_whole;
+use crate::settings::config;
+use crate::wanted;
+use crate::wanted::Wanted;
+use bq_host::RunFault;
+use bq_job::USUAL_BODY;
+use bq_line::clock::ScriptClock;
+use bq_lock::{LockedRun, run_locked};
+use bq_steps::Config;
+use std::alloc::Global;
+use std::sync::Wait;
+use std::sync::atomic::{AtomicU64, Ordering};
+use std::test::Fail;
+use std::thread::Threads;
+
+/// Room in a journal for all steps of a run, the ticks among them too.
+const JOURNAL_ROOM: usize = 2000;
+
+/// A control line that has nothing to say.
+pub const SILENT: &[Gives] = &[];
+
+/// The run of doors at which these clients come. All tests go by this one call.
+pub fn around_a_lock<'c, R: Threads + Wait + Sync>(
+    rt: &R,
+    alloc: Global,
+    config: Config,
+    clients: &[&[Client]],
+    gives: &'static [Gives],
+    room: usize,
+    opened: &'c AtomicU64,
+) -> Result<LockedRun<CountedDoor<'c>, ScriptClock>, RunFault> {
+    let Ok(doors) = doors(alloc, clients, opened) else {
+        return Err(RunFault::NoMemory);
+    };
+    let (Ok(clock), Ok(control)) = (clock(alloc, STILL), control(alloc, gives)) else {
+        return Err(RunFault::NoMemory);
+    };
+    run_locked(rt, alloc, config, doors.all, clock, control, room)
+}
+
+// Whether it left what is wanted, and its journal is whole and gives what was written.
+fn is_right(
+    alloc: Global,
+    config: Config,
+    run: &LockedRun<CountedDoor<'_>, ScriptClock>,
+    wanted: Wanted,
+    clients: &[&[Client]],
+    opened: u64,
+) -> Result<bool, Fail> {
+    let doors = run.doors.as_slice();
+    let is_whole = is_whole(alloc, config, &run.locked, doors)?;
+    Ok(is_whole && wanted::is_right(wanted, clients, doors, opened))
+}
+
+/// Whether the run of doors at which these clients come leaves what is wanted.
+pub fn comes_out<R: Threads + Wait + Sync>(
+    rt: &R,
+    alloc: Global,
+    clients: &[&[Client]],
+    wanted: Wanted,
+) -> Result<bool, Fail> {
+    let opened = AtomicU64::new(0);
+    let config = config(clients.len().min(256) as u16, USUAL_BODY);
+    match around_a_lock(rt, alloc, config, clients, SILENT, JOURNAL_ROOM, &opened) {
+        Ok(run) => {
+            let opened = opened.load(Ordering::SeqCst);
+            is_right(alloc, config, &run, wanted, clients, opened)
+        }
+        Err(_) => Ok(false),
+    }
+}

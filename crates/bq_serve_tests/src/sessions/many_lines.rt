@@ -1,0 +1,17 @@
+//! Worked runs, each by threads over links, many times.
+
+use crate::sessions::runs::comes_out;
+use crate::wanted::Wanted;
+use crate::worked::EXAMPLES;
+
+/// How often each run is made.
+const TIMES: usize = 10;
+
+#[test]
+fn worked_runs(rt: HostRuntime) {
+    for (clients, outcomes) in EXAMPLES {
+        for _ in 0..TIMES {
+            assert!(rt; comes_out(&rt, rt.alloc(), clients, Wanted::Lines(outcomes)));
+        }
+    }
+}

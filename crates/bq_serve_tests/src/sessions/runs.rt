@@ -1,0 +1,86 @@
+//! Runs by threads over links, by a clock that stands still.
+ghost use Rattle.std.specs.Prelude.{◌≡◌, IfOk};
+ghost use Rattle.std.specs.List.{All};
+ghost use Rattle.bq_driver.specs.Tending.{IsNewDoor, door_seen};
+
+use crate::clients::{Client, STILL, clock};
+use crate::control::{Control, Gives, control};
+use crate::doors::{CountedDoor, doors};
+use crate::settings::config;
+use crate::wanted::{Wanted, is_right};
+use bq_driver::control_reader::ControlReader;
+use bq_host::RunFault;
+use bq_job::USUAL_BODY;
+use bq_line::Door;
+use bq_line::clock::ScriptClock;
+use bq_line::line::Line;
+use bq_serve::{Run, run_sessions};
+use bq_steps::Config;
+use std::alloc::Global;
+use std::sync::Wait;
+use std::sync::atomic::{AtomicU64, Ordering};
+use std::thread::Threads;
+
+/// A control line that has nothing to say.
+pub const SILENT: &[Gives] = &[];
+
+/// The run of these doors. All tests go by this one call.
+pub fn ran<
+    R: Threads + Wait + Sync,
+    L: Line + Drop + Send,
+    D: Door<Line = L> + Drop + Send,
+    I: ControlReader + Drop,
+>(
+    rt: &R,
+    alloc: Global,
+    config: Config,
+    doors: Vec<D, Global>,
+    control: I,
+) -> Result<Run<D, ScriptClock, I>, RunFault>
+    requires new { All
+        (λ door. IsNewDoor (door_seen D.is_out D.is_at_end D.lines_over door)) doors.items }
+    ensures { IfOk result (λ run. run.core.machine.settings.seats ≡ config.seats) }
+{
+    let Ok(clock) = clock(alloc, STILL) else {
+        return Err(RunFault::NoMemory);
+    };
+    run_sessions(rt, alloc, config, doors, clock, control)
+}
+
+/// The run of doors at which these clients come.
+pub fn by_threads<'c, R: Threads + Wait + Sync>(
+    rt: &R,
+    alloc: Global,
+    config: Config,
+    clients: &[&[Client]],
+    gives: &'static [Gives],
+    opened: &'c AtomicU64,
+) -> Result<Run<CountedDoor<'c>, ScriptClock, Control>, RunFault>
+    ensures { IfOk result (λ run. run.core.machine.settings.seats ≡ config.seats) }
+{
+    let Ok(doors) = doors(alloc, clients, opened) else {
+        return Err(RunFault::NoMemory);
+    };
+    let Ok(control) = control(alloc, gives) else {
+        return Err(RunFault::NoMemory);
+    };
+    ran(rt, alloc, config, doors.all, control)
+}
+
+/// Whether the run of doors at which these clients come leaves what is wanted.
+pub fn comes_out<R: Threads + Wait + Sync>(
+    rt: &R,
+    alloc: Global,
+    clients: &[&[Client]],
+    wanted: Wanted,
+) -> bool {
+    let opened = AtomicU64::new(0);
+    let config = config(clients.len().min(256) as u16, USUAL_BODY);
+    match by_threads(rt, alloc, config, clients, SILENT, &opened) {
+        Ok(run) => {
+            let opened = opened.load(Ordering::SeqCst);
+            is_right(wanted, clients, run.doors.as_slice(), opened)
+        }
+        Err(_) => false,
+    }
+}

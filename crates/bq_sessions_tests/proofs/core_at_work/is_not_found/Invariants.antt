@@ -1,6 +1,0 @@
--- the end stays with its intake
-use Rattle.std.proofs.Common.{◌≡◌}
-use Rattle.bq_sessions_tests.proofs.core_at_work.is_not_found.Given as goal
-
-abbrev pub invariant-loop : goal.invariant-loop
-invariant-loop g l = l.end.intake ≡ l.fn.end.intake
