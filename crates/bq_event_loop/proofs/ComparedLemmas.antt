@@ -1,46 +1,15 @@
 -- How the comparisons of a core go on.
-use Rattle.std.proofs.Common.{◌≡◌, ℕ, zero, ◌+◌, ◌≤◌, Bool, true, false, List, [], ◌∷◌, ◌++◌, Option, refl, sym, ap, ◌∙◌, subst, arith, append-nil, append_assoc}
+use Rattle.std.proofs.Common.{◌≡◌, ℕ, Bool, true, false, List, [], ◌∷◌, ◌++◌, Option, refl, sym, ap, ◌∙◌, subst, append-nil, append_assoc}
 use Rattle.bq_job.specs.declared.step.Step.{Step}
 use Rattle.bq_job.specs.machine.Dispatch.{GivenAnswer}
 use Rattle.bq_job.specs.machine.Machine.{Machine}
 use Rattle.bq_job.specs.machine.Steps.{Outcome}
 use Rattle.bq_job.specs.promise.Runs.{Entry}
 use Rattle.bq_steps.specs.Cost.{IsLookWithin, IsStepWithin}
-use Rattle.bq_host.specs.Compared.{AreCompared, AreWithin, IsEntryWithin, LooksOnce}
+use Rattle.bq_host.specs.Compared.{AreCompared, AreWithin, LooksOnce}
+use Rattle.bq_host.proofs.ComparedLemmas.{looked_within, within_on}
 use Rattle.bq_event_loop.specs.HubState.{HubState}
 use Rattle.bq_event_loop.specs.HubWent.{HasCompared}
-
--- a look that was not made compared nothing
-look_none : (m : Machine) (count : ℕ) → IsLookWithin m count count
-look_none m count = record { stays = omega arith; comparisons = omega arith }
-
-pub looked_within : (known : Bool) (m : Machine) (count now : ℕ) → LooksOnce known m count now → IsLookWithin m count now
-looked_within true m count now l = l
-looked_within false m count now l = subst (λ (n : ℕ). IsLookWithin m count n) (sym l) (look_none m count)
-
--- one step more within its bound
-within_on : (first middle next : Machine) (history : List Entry) (e : Entry) (given now : List GivenAnswer) (from count to : ℕ)
-    → AreWithin first history given middle from count → IsEntryWithin middle e now next count to → AreWithin first (history ++ e ∷ []) (given ++ now) next from to
-within_on first middle next [] e given now from count to (none, (same, still)) w = (
-  next,
-  now,
-  [],
-  to,
-  (
-    ap (λ (xs : List GivenAnswer). xs ++ now) none ∙ sym (append-nil now),
-    (subst (λ (m : Machine). IsEntryWithin m e now next from to) same (subst (λ (n : ℕ). IsEntryWithin middle e now next n to) still w), (refl, (refl, refl))),
-  ),
-)
-within_on first middle next (f ∷ history) e given now from count to (second, own, more, n, rest) w = (
-  second,
-  own,
-  more ++ now,
-  n,
-  (
-    ap (λ (xs : List GivenAnswer). xs ++ now) rest.0 ∙ append_assoc own more now,
-    (rest.1.0, within_on second middle next history e more now n count to rest.1.1 w),
-  ),
-)
 
 -- After the steps so far, the core took one more.
 pub compared_step : (d n : HubState) (at seat : ℕ) (what : Step) (outcome : Outcome) (given : List GivenAnswer) → IsStepWithin d.core at seat what outcome given n.core d.compared n.compared → n.known ≡ false
@@ -68,17 +37,14 @@ compared_still d n core known compared start before gave from h = none_more star
       (subst (λ (m : Machine). LooksOnce d.known m h.0 n.compared) (sym core) (subst (λ (k : ℕ). LooksOnce d.known d.core h.0 k) (sym compared) h.2)),
 )
 
--- It was asked for the next due moment, which was not known.
-pub compared_looked : (d n : HubState) → d.known ≡ false → n.known ≡ true → n.core ≡ d.core → IsLookWithin d.core d.compared n.compared
+-- It was asked for the next due moment, if that was not known.
+pub compared_looked : (d n : HubState) → n.known ≡ true → n.core ≡ d.core → ((count : ℕ) → LooksOnce d.known d.core count d.compared → IsLookWithin d.core count n.compared)
     → (start : Machine) (before : List Entry) (gave : List GivenAnswer) (from : ℕ) → HasCompared start before gave from d → HasCompared start (before ++ []) (gave ++ []) from n
-compared_looked d n unknown known core look start before gave from h =
-    let none : d.compared ≡ h.0 = subst (λ (b : Bool). LooksOnce b d.core h.0 d.compared) unknown h.2 in
-    none_more start before gave from n (
-      h.0,
-      subst (λ (m : Machine). AreWithin start before gave m from h.0) (sym core) h.1,
-      subst (λ (b : Bool). LooksOnce b n.core h.0 n.compared) (sym known)
-          (subst (λ (m : Machine). IsLookWithin m h.0 n.compared) (sym core) (subst (λ (k : ℕ). IsLookWithin d.core k n.compared) none look)),
-    )
+compared_looked d n known core once start before gave from h = none_more start before gave from n (
+  h.0,
+  subst (λ (m : Machine). AreWithin start before gave m from h.0) (sym core) h.1,
+  subst (λ (b : Bool). LooksOnce b n.core h.0 n.compared) (sym known) (subst (λ (m : Machine). IsLookWithin m h.0 n.compared) (sym core) (once h.0 h.2)),
+)
 
 -- One stretch after another.
 pub compared_on : (first next last : HubState) (history more : List Entry) (given later : List GivenAnswer)

@@ -1,5 +1,5 @@
 -- What happens at a hub, step by step.
-use Rattle.std.proofs.Common.{◌≡◌, ◌≢◌, ◌<◌, ℕ, Bool, true, false, true≢false, List, [], ◌∷◌, ◌++◌, Option, map, length, refl, sym, ap, ◌∙◌, arith, subst, inl, inr, append-nil, append_assoc}
+use Rattle.std.proofs.Common.{◌≡◌, ◌≢◌, ◌<◌, ℕ, Bool, true, false, true≢false, not, List, [], ◌∷◌, ◌++◌, Option, map, length, refl, sym, ap, ◌∙◌, arith, subst, inl, inr, append-nil, append_assoc}
 use Rattle.std.specs.Prelude.{◌==◌, if◌then◌else◌}
 use Rattle.std.specs.Option.{option_to_list}
 use Rattle.std.proofs.lemmas.Bool.{cases_Bool, eq-eqb, eqb-true}
@@ -10,7 +10,13 @@ use Rattle.bq_job.specs.promise.History.{ArePickedFrom, IsTimedFrom, is_tick, la
 use Rattle.bq_job.specs.machine.Machine.{Machine}
 use Rattle.bq_job.specs.promise.Runs.{Entry, Run, answers_to}
 use Rattle.bq_job.specs.machine.Steps.{Outcome}
+use Rattle.bq_job.specs.declared.step.Step.TheVariants.{Tick}
 use Rattle.bq_steps.specs.Cost.{IsLookWithin, IsStepWithin}
+use Rattle.bq_steps.specs.Outbox.{Outbox}
+use Rattle.bq_host.specs.Compared.{LooksOnce}
+use Rattle.bq_host.specs.Timed.{HasLooked, IsReady, LooksAndSteps, PassesOver, TakesStep}
+use Rattle.bq_host.specs.declared.heard_clock.HeardClock.{HeardClock}
+use Rattle.bq_host.specs.declared.timed_core.TimedCore.{TimedCore}
 use Rattle.std.specs.Prelude.{slice_index_or}
 use Rattle.bq_job.proofs.OneClientLemmas.{answers_append}
 use Rattle.bq_job.proofs.RunLemmas.{run_append, run_from, run_none}
@@ -221,10 +227,10 @@ seat_sorted d n seat s = record {
   others_took = λ t differs. refl;
 }
 
--- The core was asked for the next due moment, which was not known.
-pub seat_looked : (d n : HubState) (seat : ℕ) → d.known ≡ false → n.known ≡ true → n.core ≡ d.core → IsLookWithin d.core d.compared n.compared → n.mails ≡ d.mails → n.pending ≡ d.pending → n.heard ≡ d.heard
+-- The core was asked for the next due moment, if that was not known.
+pub seat_looked : (d n : HubState) (seat : ℕ) → n.known ≡ true → n.core ≡ d.core → ((count : ℕ) → LooksOnce d.known d.core count d.compared → IsLookWithin d.core count n.compared) → n.mails ≡ d.mails → n.pending ≡ d.pending → n.heard ≡ d.heard
     → SeatWent seat d [] [] [] n
-seat_looked d n seat unknown known core look mails pending heard = record {
+seat_looked d n seat known core once mails pending heard = record {
   history = [];
   took = λ t. [];
   went = record {
@@ -236,7 +242,7 @@ seat_looked d n seat unknown known core look mails pending heard = record {
         append-nil (waiting t d)
         ∙ ap (λ (ms : List (List Answer)). slice_index_or ms t [] ++ answers_to t d.pending) (sym mails)
         ∙ ap (λ (xs : List GivenAnswer). slice_index_or n.mails t [] ++ answers_to t xs) (sym pending);
-    compared = compared_looked d n unknown known core look;
+    compared = compared_looked d n known core once;
   };
   submitted_is = refl;
   taken_is = refl;
@@ -256,22 +262,14 @@ order_on d n mails core most known due none o = record {
 pub order_sorted : (d n : HubState) → IsSorted d n → (n.sorted ≡ true → n.pending ≡ []) → IsInOrder d → IsInOrder n
 order_sorted d n s none o = order_on d n s.many s.core s.most s.known s.due none o
 
--- After a step nothing is known of its answers and of the next due moment.
-pub order_step : (d n : HubState) → length n.mails ≡ length d.mails → n.core.settings ≡ d.core.settings → n.most ≡ d.most → n.sorted ≡ false → n.known ≡ false → IsInOrder d → IsInOrder n
-order_step d n mails settings most unsorted unknown o = record {
-  many = mails ∙ o.many ∙ ap (λ (s : Settings). s.seats) (sym settings);
-  room = subst (λ (k : ℕ). n.core.settings.seats < k) (sym most) (subst (λ (s : Settings). s.seats < d.most) (sym settings) o.room);
-  none_pending = λ k. absurd (true≢false (sym k ∙ unsorted));
-  due_is = λ k. absurd (true≢false (sym k ∙ unknown));
-}
-
--- The next due moment is known from now on.
-pub order_looked : (d n : HubState) → length n.mails ≡ length d.mails → n.core ≡ d.core → n.most ≡ d.most → n.due ≡ next_due d.core → n.sorted ≡ d.sorted → n.pending ≡ d.pending → IsInOrder d → IsInOrder n
-order_looked d n mails core most due sorted pending o = record {
-  many = mails ∙ o.many ∙ ap (λ (m : Machine). m.settings.seats) (sym core);
-  room = subst (λ (k : ℕ). n.core.settings.seats < k) (sym most) (subst (λ (m : Machine). m.settings.seats < d.most) (sym core) o.room);
-  none_pending = λ k. pending ∙ o.none_pending (sym sorted ∙ k);
-  due_is = λ k. due ∙ ap next_due (sym core);
+-- A hub is in order once its core is ready, where its answers are noted as they are.
+pub order_ready : {C K : Type 0} (machine : K → Machine) (compared : K → ℕ) (first last : Hub C K) → IsReady machine last.timed → (machine last.timed.core).settings ≡ (machine first.timed.core).settings → last.mails ≡ first.mails
+    → (last.is_sorted ≡ true → (state_of machine compared last).pending ≡ []) → IsInOrder (state_of machine compared first) → IsInOrder (state_of machine compared last)
+order_ready machine compared first last ready settings mails none o = record {
+  many = ap (λ ms. length ms.items) mails ∙ o.many ∙ ap (λ (s : Settings). s.seats) (sym settings);
+  room = ready.room;
+  none_pending = none;
+  due_is = ready.due;
 }
 
 -- Nothing was done yet.
@@ -295,63 +293,87 @@ gave_then given a b c readings reads h i first before g =
     subst (λ (rs : List (Option ℕ)). given first rs c) (append_assoc before readings reads) (i first (before ++ readings) (h first before g))
 
 pub went_none : {C K : Type 0} (machine : K → Machine) (compared : K → ℕ) (given : C → List (Option ℕ) → C → Type 0) (seat : ℕ) (hub : Hub C K) → WentAt machine compared given seat hub [] [] hub
-went_none machine compared given seat hub = ([], gave_none given hub.clock, seat_none (state_of machine compared hub) seat)
+went_none machine compared given seat hub = ([], gave_none given hub.timed.time.clock, seat_none (state_of machine compared hub) seat)
 
 pub went_then : {C K : Type 0} (machine : K → Machine) (compared : K → ℕ) (given : C → List (Option ℕ) → C → Type 0) (seat other : ℕ) (first next last : Hub C K) (submitted more : List Step) (taken later : List Answer)
     → other ≡ seat → WentAt machine compared given seat first submitted taken next → WentAt machine compared given other next more later last → WentAt machine compared given seat first (submitted ++ more) (taken ++ later) last
 went_then machine compared given seat other first next last submitted more taken later same a b =
     let b' = subst (λ (n : ℕ). WentAt machine compared given n next more later last) same b in (
       a.0 ++ b'.0,
-      gave_then given first.clock next.clock last.clock a.0 b'.0 a.1 b'.1,
+      gave_then given first.timed.time.clock next.timed.time.clock last.timed.time.clock a.0 b'.0 a.1 b'.1,
       seat_on (state_of machine compared first) (state_of machine compared next) (state_of machine compared last) seat a.0 b'.0 submitted more taken later a.2 b'.2,
     )
 
-pub went_sorted : {C K : Type 0} (machine : K → Machine) (compared : K → ℕ) (given : C → List (Option ℕ) → C → Type 0) (seat : ℕ) (first last : Hub C K) → IsSorted (state_of machine compared first) (state_of machine compared last) → last.clock ≡ first.clock → WentAt machine compared given seat first [] [] last
+pub went_sorted : {C K : Type 0} (machine : K → Machine) (compared : K → ℕ) (given : C → List (Option ℕ) → C → Type 0) (seat : ℕ) (first last : Hub C K) → IsSorted (state_of machine compared first) (state_of machine compared last) → last.timed.time.clock ≡ first.timed.time.clock → WentAt machine compared given seat first [] [] last
 went_sorted machine compared given seat first last s same =
-    ([], subst (λ c. GaveReadings given first.clock [] c) (sym same) (gave_none given first.clock), seat_sorted (state_of machine compared first) (state_of machine compared last) seat s)
+    ([], subst (λ c. GaveReadings given first.timed.time.clock [] c) (sym same) (gave_none given first.timed.time.clock), seat_sorted (state_of machine compared first) (state_of machine compared last) seat s)
 
--- The clock was read once, and the core took a step at the moment heard then.
-pub went_step : {C K : Type 0} (machine : K → Machine) (compared : K → ℕ) (given : C → List (Option ℕ) → C → Type 0) (seat : ℕ) (what : Step) (first last : Hub C K) (reading : Option ℕ) (outcome : Outcome)
-    → GaveReadings given first.clock (reading ∷ []) last.clock → last.heard ≡ moment_heard first.heard reading
-    → IsStepWithin (machine first.core) last.heard seat what outcome last.outs.given (machine last.core) (compared first.core) (compared last.core)
-    → last.is_due_known ≡ false → last.mails ≡ first.mails → last.held ≡ first.held → (state_of machine compared first).pending ≡ []
+-- The core took a step.
+pub went_step : {C K : Type 0} (machine : K → Machine) (compared : K → ℕ) (given : C → List (Option ℕ) → C → Type 0) (seat : ℕ) (what : Step) (first last : Hub C K)
+    → TakesStep given machine compared first.timed seat what last.timed → last.mails ≡ first.mails → last.held ≡ first.held → (state_of machine compared first).pending ≡ []
     → WentAt machine compared given seat first (if is_tick what then [] else what ∷ []) [] last
-went_step machine compared given seat what first last reading outcome gave heard step unknown mails held empty =
-    let timed = subst (λ (n : ℕ). IsStepWithin (machine first.core) n seat what outcome last.outs.given (machine last.core) (compared first.core) (compared last.core)) heard step in
-    let none : option_to_list last.held ≡ [] = ap (λ (xs : Option GivenAnswer). option_to_list xs) held ∙ none_held (option_to_list first.held) first.outs.given empty in (
-      reading ∷ [],
-      gave,
-      one_step (state_of machine compared first) (state_of machine compared last) seat what reading outcome last.outs.given timed unknown heard (ap (λ ms. ms.items) mails) empty (ap (λ (xs : List GivenAnswer). xs ++ last.outs.given) none),
+went_step machine compared given seat what first last s mails held empty =
+    let old = first.timed in
+    let new = last.timed in
+    let timed = subst (λ (n : ℕ). IsStepWithin (machine old.core) n seat what s.outcome new.outs.given (machine new.core) (compared old.core) (compared new.core)) s.time.heard s.step in
+    let none : option_to_list last.held ≡ [] = ap (λ (xs : Option GivenAnswer). option_to_list xs) held ∙ none_held (option_to_list first.held) old.outs.given empty in (
+      s.reading ∷ [],
+      s.time.gave,
+      one_step (state_of machine compared first) (state_of machine compared last) seat what s.reading s.outcome new.outs.given timed s.unknown s.time.heard (ap (λ ms. ms.items) mails) empty (ap (λ (xs : List GivenAnswer). xs ++ new.outs.given) none),
     )
 
--- The clock was read once, and no step was taken.
-pub went_heard : {C K : Type 0} (machine : K → Machine) (compared : K → ℕ) (given : C → List (Option ℕ) → C → Type 0) (seat : ℕ) (first last : Hub C K) (reading : Option ℕ)
-    → GaveReadings given first.clock (reading ∷ []) last.clock → last.heard ≡ moment_heard first.heard reading
-    → last ≡ record first { clock = last.clock; heard = last.heard } → WentAt machine compared given seat first [] [] last
-went_heard machine compared given seat first last reading gave moment same =
-    let s = state_of machine compared first in
-    let there : state_of machine compared last ≡ record s { heard = last.heard } = ap (state_of machine compared) same in (
-      reading ∷ [],
-      gave,
-      seat_heard s (state_of machine compared last) seat reading (ap (λ (d : HubState). d.core) there) (ap (λ (d : HubState). d.known) there) (ap (λ (d : HubState). d.compared) there) moment (ap (λ (d : HubState). d.mails) there)
-          (ap (λ (d : HubState). d.pending) there),
+-- The core was asked for the next due moment, if that was not known: no seat sees a difference.
+went_looked : {C K : Type 0} (machine : K → Machine) (compared : K → ℕ) (given : C → List (Option ℕ) → C → Type 0) (seat : ℕ) (first last : Hub C K) (looked : TimedCore C K)
+    → HasLooked machine compared first.timed looked → last.timed ≡ looked → last.mails ≡ first.mails → last.held ≡ first.held → WentAt machine compared given seat first [] [] last
+went_looked machine compared given seat first last looked l e mails held =
+    let time = ap (λ (x : TimedCore _ _). x.time) e ∙ l.time in (
+      [],
+      subst (λ c. GaveReadings given first.timed.time.clock [] c) (sym (ap (λ (h : HeardClock _). h.clock) time)) (gave_none given first.timed.time.clock),
+      seat_looked (state_of machine compared first) (state_of machine compared last) seat (ap (λ (x : TimedCore _ _). x.is_due_known) e ∙ l.known) (ap (λ (x : TimedCore _ _). machine x.core) e ∙ l.same)
+          (λ count k. subst (λ (n : ℕ). IsLookWithin (machine first.timed.core) count n) (sym (ap (λ (x : TimedCore _ _). compared x.core) e)) (l.once count k)) (ap (λ ms. ms.items) mails)
+          (ap (λ (xs : Option GivenAnswer). option_to_list xs ++ last.timed.outs.given) held ∙ ap (λ (x : TimedCore _ _). option_to_list first.held ++ x.outs.given) e ∙ ap (λ (o : Outbox). option_to_list first.held ++ o.given) l.outs)
+          (ap (λ (h : HeardClock _). h.moment) time),
     )
 
--- The core was asked for the next due moment, which was not known.
-pub went_looked : {C K : Type 0} (machine : K → Machine) (compared : K → ℕ) (given : C → List (Option ℕ) → C → Type 0) (seat : ℕ) (first last : Hub C K)
-    → first.is_due_known ≡ false → last.is_due_known ≡ true → machine last.core ≡ machine first.core → IsLookWithin (machine first.core) (compared first.core) (compared last.core)
-    → last.mails ≡ first.mails → last.held ≡ first.held → last.outs ≡ first.outs → last.heard ≡ first.heard → last.clock ≡ first.clock → WentAt machine compared given seat first [] [] last
-went_looked machine compared given seat first last unknown known core look mails held outs heard clock = (
-  [],
-  subst (λ c. GaveReadings given first.clock [] c) (sym clock) (gave_none given first.clock),
-  seat_looked (state_of machine compared first) (state_of machine compared last) seat unknown known core look (ap (λ ms. ms.items) mails)
-      (ap (λ (xs : Option GivenAnswer). option_to_list xs ++ last.outs.given) held ∙ ap (λ o. option_to_list first.held ++ o.given) outs) heard,
-)
+-- Time passed, and no step was taken.
+pub went_over : {C K : Type 0} (machine : K → Machine) (compared : K → ℕ) (given : C → List (Option ℕ) → C → Type 0) (seat : ℕ) (first last : Hub C K)
+    → PassesOver given machine compared first.timed last.timed → last.mails ≡ first.mails → last.held ≡ first.held → WentAt machine compared given seat first [] [] last
+went_over {C} {K} machine compared given seat first last (looked, l, rest) mails held = elim rest [
+  | inl e ↦ went_looked machine compared given seat first last looked l e mails held
+  | inr h ↦
+      let at : Hub C K = record last { timed = looked } in
+      let heard : WentAt machine compared given seat at [] [] last = (
+        h.0 ∷ [],
+        h.1.gave,
+        seat_heard (state_of machine compared at) (state_of machine compared last) seat h.0 (ap (λ (x : TimedCore C K). machine x.core) h.2) (ap (λ (x : TimedCore C K). x.is_due_known) h.2) (ap (λ (x : TimedCore C K). compared x.core) h.2)
+            h.1.heard refl (ap (λ (x : TimedCore C K). option_to_list last.held ++ x.outs.given) h.2),
+      ) in
+      went_then machine compared given seat seat first at last [] [] [] [] refl (went_looked machine compared given seat first at looked l refl mails held) heard
+]
+
+-- Time passed, and the core took a tick if something was due.
+pub went_passed : {C K : Type 0} (machine : K → Machine) (compared : K → ℕ) (given : C → List (Option ℕ) → C → Type 0) (seat : ℕ) (first last : Hub C K) (ticks : Bool)
+    → (ticks ≡ false → PassesOver given machine compared first.timed last.timed) → (ticks ≡ true → LooksAndSteps given machine compared first.timed seat Tick last.timed)
+    → last.mails ≡ first.mails → last.held ≡ first.held → (state_of machine compared first).pending ≡ [] → WentAt machine compared given seat first [] [] last
+went_passed machine compared given seat first last false over ticked mails held empty = went_over machine compared given seat first last (over refl) mails held
+went_passed {C} {K} machine compared given seat first last true over ticked mails held empty =
+    let (looked, l, s) = ticked refl in
+    let at : Hub C K = record last { timed = looked } in
+    let none : (state_of machine compared at).pending ≡ [] =
+    ap (λ (xs : Option GivenAnswer). option_to_list xs ++ looked.outs.given) held ∙ ap (λ (o : Outbox). option_to_list first.held ++ o.given) l.outs ∙ empty in
+    went_then machine compared given seat seat first at last [] [] [] [] refl (went_looked machine compared given seat first at looked l refl mails held) (went_step machine compared given seat Tick at last s refl refl none)
+
+-- Where no tick was taken, no answer was given.
+pub none_over : {C K : Type 0} (machine : K → Machine) (compared : K → ℕ) (given : C → List (Option ℕ) → C → Type 0) (old new : TimedCore C K) → PassesOver given machine compared old new → new.outs ≡ old.outs
+none_over {C} {K} machine compared given old new (looked, l, rest) = elim rest [
+  | inl e ↦ ap (λ (x : TimedCore C K). x.outs) e ∙ l.outs
+  | inr h ↦ ap (λ (x : TimedCore C K). x.outs) h.2 ∙ l.outs
+]
 
 -- All answers at a hub are still there, in whatever place.
 pub went_still : {C K : Type 0} (machine : K → Machine) (compared : K → ℕ) (given : C → List (Option ℕ) → C → Type 0) (seat : ℕ) (first last : Hub C K)
-    → last.core ≡ first.core → last.mails ≡ first.mails → (state_of machine compared last).pending ≡ (state_of machine compared first).pending → last.heard ≡ first.heard → last.outs.most ≡ first.outs.most
-    → last.is_due_known ≡ first.is_due_known → last.due ≡ first.due → last.clock ≡ first.clock → WentAt machine compared given seat first [] [] last
+    → last.timed.core ≡ first.timed.core → last.mails ≡ first.mails → (state_of machine compared last).pending ≡ (state_of machine compared first).pending → last.timed.time.moment ≡ first.timed.time.moment → last.timed.outs.most ≡ first.timed.outs.most
+    → last.timed.is_due_known ≡ first.timed.is_due_known → last.timed.due ≡ first.timed.due → last.timed.time.clock ≡ first.timed.time.clock → WentAt machine compared given seat first [] [] last
 went_still machine compared given seat first last core mails pending heard most known due clock =
     went_sorted machine compared given seat first last (record {
       core = ap machine core;
@@ -366,21 +388,16 @@ went_still machine compared given seat first last core mails pending heard most 
           ∙ ap (λ (xs : List GivenAnswer). slice_index_or first.mails.items t [] ++ answers_to t xs) pending;
     }) clock
 
--- Nothing of a hub changed but its clock and the moment heard last.
-pub order_heard : {C K : Type 0} (machine : K → Machine) (compared : K → ℕ) (first last : Hub C K) → last ≡ record first { clock = last.clock; heard = last.heard } → IsInOrder (state_of machine compared first) → IsInOrder (state_of machine compared last)
-order_heard machine compared first last same o =
-    subst (λ (h : Hub _ _). IsInOrder (state_of machine compared h)) (sym same) (record { many = o.many; room = o.room; none_pending = o.none_pending; due_is = o.due_is })
-
--- What happened at a hub does not depend on what was reported.
-pub went_told : {C K : Type 0} (machine : K → Machine) (compared : K → ℕ) (given : C → List (Option ℕ) → C → Type 0) (seat : ℕ) (first next last : Hub C K) (submitted : List Step) (taken : List Answer)
-    → last ≡ record next { notices = last.notices } → WentAt machine compared given seat first submitted taken next → WentAt machine compared given seat first submitted taken last
-went_told machine compared given seat first next last submitted taken same w =
-    subst (λ (h : Hub _ _). WentAt machine compared given seat first submitted taken h) (sym same) (w.0, w.1, w.2)
-
-pub order_told : {C K : Type 0} (machine : K → Machine) (compared : K → ℕ) (next last : Hub C K) → last ≡ record next { notices = last.notices } → IsInOrder (state_of machine compared next) → IsInOrder (state_of machine compared last)
-order_told machine compared next last same o =
-    subst (λ (h : Hub _ _). IsInOrder (state_of machine compared h)) (sym same) (record { many = o.many; room = o.room; none_pending = o.none_pending; due_is = o.due_is })
-
 pub order_woken : {C K : Type 0} (machine : K → Machine) (compared : K → ℕ) (next last : Hub C K) → last ≡ record next { woken = last.woken } → IsInOrder (state_of machine compared next) → IsInOrder (state_of machine compared last)
 order_woken machine compared next last same o =
     subst (λ (h : Hub _ _). IsInOrder (state_of machine compared h)) (sym same) (record { many = o.many; room = o.room; none_pending = o.none_pending; due_is = o.due_is })
+
+-- What is noted of the answers is so still.
+pub none_pending_over : {C K : Type 0} (machine : K → Machine) (compared : K → ℕ) (given : C → List (Option ℕ) → C → Type 0) (old : Hub C K) (t : TimedCore C K) → PassesOver given machine compared old.timed t → IsInOrder (state_of machine compared old)
+    → old.is_sorted ≡ true → option_to_list old.held ++ t.outs.given ≡ []
+none_pending_over machine compared given old t over o sorted = ap (λ (x : Outbox). option_to_list old.held ++ x.given) (none_over machine compared given old.timed t over) ∙ o.none_pending sorted
+
+pub none_pending_passed : {C K : Type 0} (machine : K → Machine) (compared : K → ℕ) (given : C → List (Option ℕ) → C → Type 0) (old : Hub C K) (t : TimedCore C K) (ticks : Bool) → (ticks ≡ false → PassesOver given machine compared old.timed t)
+    → (state_of machine compared old).pending ≡ [] → not ticks ≡ true → option_to_list old.held ++ t.outs.given ≡ []
+none_pending_passed machine compared given old t false over empty h = ap (λ (x : Outbox). option_to_list old.held ++ x.given) (none_over machine compared given old.timed t (over refl)) ∙ empty
+none_pending_passed machine compared given old t true over empty h = absurd (true≢false (sym h))

@@ -166,7 +166,7 @@ module _ {L D : Type 0} (seen : L → LineSeen) (at : D → DoorSeen) where
     pub serves_none : (hub : Hub C K) (row : Row L D) → ServesOn machine compared given seen at same hub row [] hub row
     serves_none hub row = record {
       reads = [];
-      gave = gave_none given hub.clock;
+      gave = gave_none given hub.timed.time.clock;
       mailed = refl;
       many = refl;
       served = λ size before first readings s.
@@ -181,7 +181,7 @@ module _ {L D : Type 0} (seen : L → LineSeen) (at : D → DoorSeen) where
         → ServesOn machine compared given seen at same old row (control ++ more) new later
     serves_then old hub new row mid later control more a b = record {
       reads = a.reads ++ b.reads;
-      gave = gave_then given old.clock hub.clock new.clock a.reads b.reads a.gave b.gave;
+      gave = gave_then given old.timed.time.clock hub.timed.time.clock new.timed.time.clock a.reads b.reads a.gave b.gave;
       mailed = b.mailed ∙ a.mailed;
       many = b.many ∙ a.many;
       served = λ size before first readings s.
@@ -264,7 +264,7 @@ module _ {L D : Type 0} (seen : L → LineSeen) (at : D → DoorSeen) where
     pub serves_rested : (hub : Hub C K) (row later : Row L D) → AllRested seen at same row.seats.items row.doors.items later.seats.items later.doors.items → ServesOn machine compared given seen at same hub row [] hub later
     serves_rested hub row later r = record {
       reads = [];
-      gave = gave_none given hub.clock;
+      gave = gave_none given hub.timed.time.clock;
       mailed = refl;
       many = r.many;
       served = λ size before first readings s.
@@ -275,13 +275,13 @@ module _ {L D : Type 0} (seen : L → LineSeen) (at : D → DoorSeen) where
     }
 
     -- The same if all that the hub is known by is as it was.
-    pub serves_same : (old new : Hub C K) (row : Row L D) → state_of machine compared new ≡ state_of machine compared old → new.clock ≡ old.clock → ServesOn machine compared given seen at same old row [] new row
+    pub serves_same : (old new : Hub C K) (row : Row L D) → state_of machine compared new ≡ state_of machine compared old → new.timed.time.clock ≡ old.timed.time.clock → ServesOn machine compared given seen at same old row [] new row
     serves_same old new row state clock = serves_time old new row 0 (
       [],
-      subst (λ c. GaveReadings given old.clock [] c) (sym clock) (gave_none given old.clock),
+      subst (λ c. GaveReadings given old.timed.time.clock [] c) (sym clock) (gave_none given old.timed.time.clock),
       subst (λ (d : HubState). SeatWent 0 (state_of machine compared old) [] [] [] d) (sym state) (seat_none (state_of machine compared old) 0),
     )
 
     -- Some seats were woken.
     pub serves_woken : (old new : Hub C K) (row : Row L D) → new ≡ record old { woken = new.woken } → ServesOn machine compared given seen at same old row [] new row
-    serves_woken old new row same = serves_same old new row (ap (state_of machine compared) same) (ap (λ (h : Hub C K). h.clock) same)
+    serves_woken old new row same = serves_same old new row (ap (state_of machine compared) same) (ap (λ (h : Hub C K). h.timed.time.clock) same)

@@ -12,19 +12,19 @@ use Rattle.bq_event_loop.specs.declared.hub.Hub.{Hub}
 -- by the machine that a core stands for and its comparisons
 abbrev pub state_of : {C K : Type 0} → (K → Machine) → (K → ℕ) → Hub C K → HubState
 state_of machine compared h = record {
-  core = machine h.core;
+  core = machine h.timed.core;
   mails = h.mails.items;
-  pending = option_to_list h.held ++ h.outs.given;
+  pending = option_to_list h.held ++ h.timed.outs.given;
   sorted = h.is_sorted;
-  heard = h.heard;
-  most = h.outs.most;
-  known = h.is_due_known;
-  due = h.due;
-  compared = compared h.core;
+  heard = h.timed.time.moment;
+  most = h.timed.outs.most;
+  known = h.timed.is_due_known;
+  due = h.timed.due;
+  compared = compared h.timed.core;
 }
 
 -- What a seat did at a hub.
 abbrev pub WentAt : {C K : Type 0} → (K → Machine) → (K → ℕ) → (C → List (Option ℕ) → C → Type 0) → ℕ → Hub C K → List Step → List Answer → Hub C K → Type 0
 WentAt machine compared given seat old submitted taken new =
-    (readings : List (Option ℕ)) × GaveReadings given old.clock readings new.clock
+    (readings : List (Option ℕ)) × GaveReadings given old.timed.time.clock readings new.timed.time.clock
     × SeatWent seat (state_of machine compared old) readings submitted taken (state_of machine compared new)

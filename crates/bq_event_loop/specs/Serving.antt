@@ -34,7 +34,7 @@ pub record ServesOn {C K L D : Type 0} (machine : K → Machine) (compared : K �
     (seen : L → LineSeen) (at : D → DoorSeen) (same : D → D → Type 0)
     (old : Hub C K) (row : Row L D) (control : List Step) (new : Hub C K) (later : Row L D) : Type 0 where
   pub reads : List (Option ℕ)
-  pub gave : GaveReadings given old.clock reads new.clock
+  pub gave : GaveReadings given old.timed.time.clock reads new.timed.time.clock
   pub mailed : length new.mails.items ≡ length old.mails.items
   pub many : length later.seats.items ≡ length row.seats.items
   pub served : (max_job_size : ℕ) (before : List Step) (first : HubState) (readings : List (Option ℕ))

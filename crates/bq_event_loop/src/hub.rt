@@ -5,21 +5,18 @@ ghost use Rattle.std.specs.Option.{option_to_list};
 ghost use Rattle.bq_job.specs.promise.Runs.{answers_to};
 
 use crate::woken::Woken;
-use bq_host::{Concern, Mail, Notices, RunFault, concern_of, new_mails};
-use bq_job::{Answer, Moment, Seat, Step};
-use bq_line::clock::{Clock, moment_heard};
-use bq_steps::{Config, CoreFault, Outs, QueueCore};
+use bq_host::{Mail, RunFault, TimedCore, new_mails};
+use bq_job::{Answer, Seat, Step};
+use bq_line::clock::Clock;
+use bq_steps::{Config, QueueCore};
 use std::alloc::Global;
 
 /// The core with its clock, and the answers that no seat has taken yet. An answer to the seat that submitted the last step is taken from
 /// where the core put it. All others go through the mail of their seats.
 #[derive(Drop)]
 pub struct Hub<C, K> {
-    /// For the steps that may ask for memory.
-    pub alloc: Global,
-    pub core: K,
-    /// The answers of the last step that are not in the mail.
-    pub outs: Outs,
+    /// With the answers of the last step that are not in the mail.
+    pub timed: TimedCore<C, K>,
     /// The oldest of these, if the mail of its seat was full.
     pub held: Option<(Seat, Answer)>,
     pub mails: Vec<Mail, Global>,
@@ -27,23 +24,12 @@ pub struct Hub<C, K> {
     pub is_sorted: bool,
     /// The seats into whose mail an answer was put.
     pub woken: Woken,
-    pub clock: C,
-    /// The moment heard last, and the next one at which something is due.
-    pub heard: Moment,
-    pub due: Option<Moment>,
-    /// Whether that is so of the core as it stands now: it was asked since its last step.
-    pub is_due_known: bool,
-    pub notices: Notices,
 }
 
 impl<C: Clock + Drop, K: QueueCore + Drop> Hub<C, K> {
     ghost use Rattle.bq_event_loop.specs.HubOf.{WentAt, state_of};
-    ghost use Rattle.bq_line.specs.GivenReadings.{GaveReadings};
     ghost use Rattle.bq_job.specs.beside.NextDue.{is_before, next_due};
-    ghost use Rattle.bq_job.specs.promise.History.{moment_heard};
-    ghost use Rattle.bq_host.specs.Compared.{LooksOnce};
     ghost use Rattle.bq_event_loop.specs.HubState.{IsInOrder, IsNewHub, IsSorted};
-    ghost use Rattle.bq_steps.specs.Cost.{IsLookWithin};
     ghost use Rattle.bq_steps.specs.Limits.{are_in_range};
     ghost use Rattle.bq_driver.specs.Links.{as_submitted};
 
@@ -53,18 +39,11 @@ impl<C: Clock + Drop, K: QueueCore + Drop> Hub<C, K> {
     pub fn new(alloc: Global, config: Config, clock: C) -> Result<Hub<C, K>, RunFault>
         ensures made { IfOk result (λ hub. IsNewHub config (state_of K.machine K.comparisons hub)) }
         ensures order { IfOk result (λ hub. IsInOrder (state_of K.machine K.comparisons hub)) }
-        ensures clock { IfOk result (λ hub. hub.clock ≡ clock) }
+        ensures clock { IfOk result (λ hub. hub.timed.time.clock ≡ clock) }
         ensures bad_configuration { IsErrOf result RunFault.BadConfiguration ↔ IsTrue
             (not (are_in_range config)) }
     {
-        let core = match K::new(alloc, config) {
-            Ok(core) => core,
-            Err(CoreFault::NoMemory) => return Err(RunFault::NoMemory),
-            Err(_) => return Err(RunFault::BadConfiguration),
-        };
-        let Ok(outs) = Outs::new(alloc, config.seats) else {
-            return Err(RunFault::NoMemory);
-        };
+        let timed = TimedCore::new(alloc, config, clock)?;
         let Ok(mails) = new_mails(alloc, config.seats) else {
             return Err(RunFault::NoMemory);
         };
@@ -72,18 +51,11 @@ impl<C: Clock + Drop, K: QueueCore + Drop> Hub<C, K> {
             return Err(RunFault::NoMemory);
         };
         Ok(Hub {
-            alloc,
-            core,
-            outs,
+            timed,
             held: None,
             mails,
             is_sorted: true,
             woken,
-            clock,
-            heard: 0,
-            due: None,
-            is_due_known: false,
-            notices: Notices::none(),
         })
     }
 
@@ -102,40 +74,15 @@ impl<C: Clock + Drop, K: QueueCore + Drop> Hub<C, K> {
         true
     }
 
-    // The core takes a step, and what an operator has to see of it is reported.
+    // The core takes a step at the moment that the clock gives now.
     fn take_step(&mut self, seat: Seat, what: &Step)
         requires order { IsInOrder (state_of K.machine K.comparisons self.old) }
         requires empty { (state_of K.machine K.comparisons self.old).pending ≡ [] }
         ensures order { IsInOrder (state_of K.machine K.comparisons self.new) }
         ensures went { WentAt K.machine K.comparisons C.given seat self.old (as_submitted what.now) [] self.new }
     {
-        let concern = concern_of(what);
-        self.step(seat, what);
-        self.tell(concern);
-    }
-
-    // The core takes a step at the moment that the clock gives now.
-    fn step(&mut self, seat: Seat, what: &Step)
-        requires order { IsInOrder (state_of K.machine K.comparisons self.old) }
-        requires empty { (state_of K.machine K.comparisons self.old).pending ≡ [] }
-        ensures order { IsInOrder (state_of K.machine K.comparisons self.new) }
-        ensures went { WentAt K.machine K.comparisons C.given seat self.old (as_submitted what.now) [] self.new }
-    {
-        self.hear();
-        self.is_due_known = false;
         self.is_sorted = false;
-        self.core
-            .step_in_place(self.alloc, self.heard, seat, what, &mut self.outs);
-    }
-
-    // Reports what the last step has to be reported for.
-    fn tell(&mut self, concern: Concern)
-        ensures { self.new ≡ record self.old { notices = self.new.notices } }
-    {
-        let is_refused = self.outs.left_out() || self.outs.unshared();
-        if let Some(notice) = self.notices.after(concern, is_refused, self.heard) {
-            self.clock.tell(notice);
-        }
+        self.timed.take_step(seat, what);
     }
 
     /// Takes out the oldest answer to the seat, if there is one.
@@ -174,12 +121,12 @@ impl<C: Clock + Drop, K: QueueCore + Drop> Hub<C, K> {
     fn put_back(&mut self, seat: Seat, answer: Answer)
         ensures held { self.new.held ≡ Some (seat, answer) }
         ensures marked { self.new.is_sorted ≡ false }
-        ensures outs { self.new.outs ≡ self.old.outs }
-        ensures core { self.new.core ≡ self.old.core }
+        ensures outs { self.new.timed.outs ≡ self.old.timed.outs }
+        ensures core { self.new.timed.core ≡ self.old.timed.core }
         ensures mails { self.new.mails ≡ self.old.mails }
-        ensures clock { self.new.clock ≡ self.old.clock }
-        ensures heard { self.new.heard ≡ self.old.heard }
-        ensures due { (self.new.is_due_known ≡ self.old.is_due_known) × (self.new.due ≡ self.old.due) }
+        ensures clock { self.new.timed.time.clock ≡ self.old.timed.time.clock }
+        ensures heard { self.new.timed.time.moment ≡ self.old.timed.time.moment }
+        ensures due { (self.new.timed.is_due_known ≡ self.old.timed.is_due_known) × (self.new.timed.due ≡ self.old.timed.due) }
     {
         self.held = Some((seat, answer));
         self.is_sorted = false;
@@ -215,7 +162,7 @@ impl<C: Clock + Drop, K: QueueCore + Drop> Hub<C, K> {
         requires order { IsInOrder (state_of K.machine K.comparisons self.old) }
         ensures order { IsInOrder (state_of K.machine K.comparisons self.new) }
         ensures sorted { IsSorted (state_of K.machine K.comparisons self.old) (state_of K.machine K.comparisons self.new) }
-        ensures clock { self.new.clock ≡ self.old.clock }
+        ensures clock { self.new.timed.time.clock ≡ self.old.timed.time.clock }
         ensures none { result ≡ true → (state_of K.machine K.comparisons self.new).pending ≡ [] }
     {
         let sorts = self.deliver();
@@ -226,7 +173,7 @@ impl<C: Clock + Drop, K: QueueCore + Drop> Hub<C, K> {
     // Puts what is pending into the mail. Returns true if nothing is pending any more.
     fn deliver(&mut self) -> bool
         ensures sorted { IsSorted (state_of K.machine K.comparisons self.old) (state_of K.machine K.comparisons self.new) }
-        ensures clock { self.new.clock ≡ self.old.clock }
+        ensures clock { self.new.timed.time.clock ≡ self.old.timed.time.clock }
         ensures none { result ≡ true → (state_of K.machine K.comparisons self.new).pending ≡ [] }
     {
         while let Some((seat, answer)) = self.next_pending() {
@@ -243,17 +190,17 @@ impl<C: Clock + Drop, K: QueueCore + Drop> Hub<C, K> {
             ≡ option_to_list result ++ (state_of K.machine K.comparisons self.new).pending }
         ensures none { IsNone result → (state_of K.machine K.comparisons self.new).pending ≡ [] }
         ensures held { option_to_list self.new.held ≡ [] }
-        ensures most { self.new.outs.most ≡ self.old.outs.most }
-        ensures core { self.new.core ≡ self.old.core }
+        ensures most { self.new.timed.outs.most ≡ self.old.timed.outs.most }
+        ensures core { self.new.timed.core ≡ self.old.timed.core }
         ensures mails { self.new.mails ≡ self.old.mails }
-        ensures clock { self.new.clock ≡ self.old.clock }
-        ensures heard { self.new.heard ≡ self.old.heard }
-        ensures due { (self.new.is_due_known ≡ self.old.is_due_known) × (self.new.due ≡ self.old.due) }
+        ensures clock { self.new.timed.time.clock ≡ self.old.timed.time.clock }
+        ensures heard { self.new.timed.time.moment ≡ self.old.timed.time.moment }
+        ensures due { (self.new.timed.is_due_known ≡ self.old.timed.is_due_known) × (self.new.timed.due ≡ self.old.timed.due) }
         ensures marked { self.new.is_sorted ≡ self.old.is_sorted }
     {
         match self.held.take() {
             Some(held) => Some(held),
-            None => self.outs.take_first(),
+            None => self.timed.outs.take_first(),
         }
     }
 
@@ -281,8 +228,8 @@ impl<C: Clock + Drop, K: QueueCore + Drop> Hub<C, K> {
         if ticks {
             return Some(0);
         }
-        let due = self.due?;
-        Some(due.saturating_sub(self.heard))
+        let due = self.timed.due?;
+        Some(due.saturating_sub(self.timed.time.moment))
     }
 
     // The core takes a tick if something is due by now. Returns true if it is, although an answer may wait for room in a mail, so that no
@@ -292,84 +239,36 @@ impl<C: Clock + Drop, K: QueueCore + Drop> Hub<C, K> {
         ensures order { IsInOrder (state_of K.machine K.comparisons self.new) }
         ensures went { WentAt K.machine K.comparisons C.given 0 self.old [] [] self.new }
     {
-        if !self.is_due() {
-            return false;
+        if self.sort(0) {
+            self.tick()
+        } else {
+            self.is_due()
         }
-        self.tick();
-        true
     }
 
     // Reads the clock if something is due at some moment. Returns true exactly if something is due by now.
     fn is_due(&mut self) -> bool
         requires order { IsInOrder (state_of K.machine K.comparisons self.old) }
         ensures order { IsInOrder (state_of K.machine K.comparisons self.new) }
-        ensures due { result ≡ not (is_before self.new.heard (next_due (K.machine self.old.core))) }
+        ensures due { result
+            ≡ not (is_before self.new.timed.time.moment (next_due (K.machine self.old.timed.core))) }
         ensures went { WentAt K.machine K.comparisons C.given 0 self.old [] [] self.new }
     {
-        let Some(due) = self.look() else {
-            return false;
-        };
-        self.listen();
-        if due > self.heard {
-            return false;
-        }
-        true
+        self.timed.is_due()
     }
 
-    // The next moment at which something is due. The core is asked once after a step.
-    fn look(&mut self) -> Option<Moment>
+    // The same, and the core takes a tick then.
+    fn tick(&mut self) -> bool
         requires order { IsInOrder (state_of K.machine K.comparisons self.old) }
+        requires empty { (state_of K.machine K.comparisons self.old).pending ≡ [] }
         ensures order { IsInOrder (state_of K.machine K.comparisons self.new) }
-        ensures due { result ≡ next_due (K.machine self.old.core) }
+        ensures due { result
+            ≡ not (is_before self.new.timed.time.moment (next_due (K.machine self.old.timed.core))) }
         ensures went { WentAt K.machine K.comparisons C.given 0 self.old [] [] self.new }
     {
-        if self.is_due_known {
-            return self.due;
-        }
-        self.ask()
-    }
-
-    // Asks the core for the next moment at which something is due.
-    fn ask(&mut self) -> Option<Moment>
-        requires order { IsInOrder (state_of K.machine K.comparisons self.old) }
-        requires unknown { self.old.is_due_known ≡ false }
-        ensures order { IsInOrder (state_of K.machine K.comparisons self.new) }
-        ensures due { result ≡ next_due (K.machine self.old.core) }
-        ensures went { WentAt K.machine K.comparisons C.given 0 self.old [] [] self.new }
-    {
-        let due = self.core.next_due();
-        self.due = due;
-        self.is_due_known = true;
-        due
-    }
-
-    // Reads the clock once, and no step is taken.
-    fn listen(&mut self)
-        requires order { IsInOrder (state_of K.machine K.comparisons self.old) }
-        ensures order { IsInOrder (state_of K.machine K.comparisons self.new) }
-        ensures went { WentAt K.machine K.comparisons C.given 0 self.old [] [] self.new }
-    {
-        let _reading = self.hear();
-    }
-
-    // The core takes a tick, if all answers so far are in the mail.
-    fn tick(&mut self)
-        requires order { IsInOrder (state_of K.machine K.comparisons self.old) }
-        ensures order { IsInOrder (state_of K.machine K.comparisons self.new) }
-        ensures went { WentAt K.machine K.comparisons C.given 0 self.old [] [] self.new }
-    {
-        let _taken = self.submit(0, &Step::Tick);
-    }
-
-    // Reads the clock once. The moment heard last follows the reading, which is returned.
-    fn hear(&mut self) -> Option<Moment>
-        ensures read { GaveReadings C.given self.old.clock (result ∷ []) self.new.clock }
-        ensures heard { self.new.heard ≡ moment_heard self.old.heard result }
-        ensures rest { self.new ≡ record self.old { clock = self.new.clock; heard = self.new.heard } }
-    {
-        let reading = self.clock.now();
-        self.heard = moment_heard(self.heard, reading);
-        reading
+        let ticks = self.timed.tick_if_due(0);
+        self.is_sorted = !ticks;
+        ticks
     }
 }
 

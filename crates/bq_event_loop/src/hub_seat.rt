@@ -63,7 +63,7 @@ pub fn attend<L: Line + Drop, D: Door<Line = L>, C: Clock + Drop, K: QueueCore +
         GoesOn (WentAt K.machine K.comparisons C.given seat) hub.old hub.new L.seen attendant.old (at door.old) attendant.new (at door.new) }
     ensures same { (first : D) → D.same first door.old → D.same first door.new }
 {
-    let alloc = hub.alloc;
+    let alloc = hub.timed.alloc;
     let mut link = HubSeat { hub, seat };
     attendant.go_on(alloc, door, &mut link, room)
 }

@@ -111,7 +111,7 @@ fn run_at<
     requires new_seats { All (IsNewSeat config.max_job_size) seats.items }
     requires new_doors { All
         (λ door. IsNewDoor (door_seen D.is_out D.is_at_end D.lines_over door)) doors.items }
-    ensures served { IsEventLoopRun C.given D.lines_over I.remaining I.may_fail K.machine K.comparisons config hub.clock control result }
+    ensures served { IsEventLoopRun C.given D.lines_over I.remaining I.may_fail K.machine K.comparisons config hub.timed.time.clock control result }
     ensures at_end { All (λ door. (D.is_out door ≡ false) × (D.is_at_end door ≡ true)) result.doors.items }
     ensures same { AreSame D.same doors.items result.doors.items }
     ensures settings { (K.machine result.core).settings ≡ config }
@@ -122,10 +122,11 @@ fn run_at<
     let mut room = Room::new();
     serve(rt, turns, &mut row, &mut control, &mut hub, &mut room);
     steps_keep_settings();
+    let timed = hub.timed;
     EventLoopRun {
         doors: row.doors,
-        clock: hub.clock,
+        clock: timed.time.clock,
         control: control.input,
-        core: hub.core,
+        core: timed.core,
     }
 }

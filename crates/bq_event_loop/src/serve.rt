@@ -56,7 +56,7 @@ pub fn serve<
         control: control.stands(),
     };
     for _ in rt.forever() {
-        let turn = turns.next(hub.alloc, row, news);
+        let turn = turns.next(hub.timed.alloc, row, news);
         if take_turn(rt, turn, row, control, hub, room, &mut news) {
             return;
         }

@@ -1,1 +1,4 @@
+pub mod ComparedLemmas
 pub mod ListLemmas
+pub mod SendLemmas
+pub mod TimedLemmas

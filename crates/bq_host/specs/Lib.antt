@@ -2,4 +2,5 @@ pub mod Clocks
 pub mod Compared
 pub mod FaultCodes
 pub mod LastParts
+pub mod Timed
 pub mod Told

@@ -1,13 +1,17 @@
-//! What every run of the server shares: how it begins and why it does not, the mail of a seat, and what an operator is
-//! told of the core's steps.
+//! What every run of the server shares: how it begins and why it does not, the mail of a seat, a core with its clock, and
+//! what an operator is told of the core's steps.
 #![tactic(auto)]
 
 pub use fault::RunFault;
+pub use heard_clock::HeardClock;
 pub use mail::{Mail, new_mails};
-pub use notices::{Concern, Notices, concern_of};
+pub use notices::Notices;
 pub use start::Start;
+pub use timed_core::{TimedCore, new_core};
 
 mod fault;
+mod heard_clock;
 mod mail;
 mod notices;
 mod start;
+mod timed_core;

@@ -2,44 +2,48 @@
 
 use std::sync::{Condvar, Mutex, Wait};
 
-/// What the threads that were started are told.
+/// What the threads that were started wait for.
 #[derive(Clone, Copy, Debug, PartialEq, Eq)]
-enum Told {
-    /// Nothing yet.
-    Nothing,
+enum Signal {
+    /// It is not known yet whether all threads could be started.
+    Pending,
     /// All threads were started.
     Begin,
     /// One was refused, so none begins.
     End,
 }
 
-/// Where threads wait to be told whether all of them were started.
+/// Where threads wait until it is known whether all of them were started.
 #[derive(Drop)]
 pub struct Start {
-    told: Mutex<Told>,
+    signal: Mutex<Signal>,
     changed: Condvar,
 }
 
 impl Start {
-    /// A start of which nothing was told yet.
+    /// A start whose signal was not given yet.
     pub fn new() -> Start {
         Start {
-            told: Mutex::new(Told::Nothing),
+            signal: Mutex::new(Signal::Pending),
             changed: Condvar::new(),
         }
     }
 
     /// Tells the threads whether all of them were started.
     pub fn tell<R: Wait>(&self, rt: &R, all_started: bool) {
-        *self.told.lock(rt) = if all_started { Told::Begin } else { Told::End };
+        *self.signal.lock(rt) = if all_started {
+            Signal::Begin
+        } else {
+            Signal::End
+        };
         self.changed.notify_all();
     }
 
-    /// Waits to be told, and says whether all were started.
+    /// Waits for the signal, and returns true if all were started.
     pub fn wait<R: Wait>(&self, rt: &R) -> bool {
-        let told = self
-            .changed
-            .wait_while(rt, self.told.lock(rt), |told| *told == Told::Nothing);
-        *told == Told::Begin
+        let signal = self.changed.wait_while(rt, self.signal.lock(rt), |signal| {
+            *signal == Signal::Pending
+        });
+        *signal == Signal::Begin
     }
 }

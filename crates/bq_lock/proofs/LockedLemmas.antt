@@ -64,7 +64,7 @@ ends_delivered so_far given old new seat d ends =
 -- What became of the entry, by whether there was a copy of the step for it.
 pub noted_of : (copy : Option Step) (old : JournalState) (at seat : ℕ) (what : Step) (told_left told_unshared left_out unshared : Bool) (new : JournalState)
     → told_left ≡ left_out → told_unshared ≡ unshared
-    → IfSome copy (λ step. step ≡ what) → (IsSome copy → length old.entries < old.room) → (IsNone copy → length old.entries < old.room → IsTrue (has_body what))
+    → IfSome copy (λ step. step ≡ what) → (IsSome copy → length old.entries < old.capacity) → (IsNone copy → length old.entries < old.capacity → IsTrue (has_body what))
     → (IsNone copy → new ≡ without_entry old) → IfSome copy (λ step. new ≡ with_entry (record { moment = at; seat = seat; step = step; left_out = told_left }) told_unshared old)
     → IsAdded old (record { moment = at; seat = seat; step = what; left_out = left_out }) unshared new ⊎ IsLeftOut old what new
 noted_of None old at seat what told_left told_unshared left_out unshared new left shared same room refused without added = inr (record { had_body = refused refl; new_is = without refl })

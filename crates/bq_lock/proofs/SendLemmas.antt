@@ -4,6 +4,7 @@ use denote.Param.Send.{AllSend, IsSend, sendable, recorded_send, struct_send}
 use denote.Struct.Declared.{fields, shape}
 use denote.Struct.Struct.{Struct}
 use Rattle.bq_core.proofs.SendLemmas.{core_sends}
+use Rattle.bq_host.proofs.SendLemmas.{heard_clock_sends}
 use Rattle.bq_job.specs.contracts.journal.Entry as Entry
 use Rattle.bq_lock.specs.contracts.locked.Locked as Locked
 use Rattle.bq_lock.specs.contracts.locked.journal.Journal as Journal
@@ -27,5 +28,5 @@ locked_sends = search (core_sends, outs_sends, outboxes_sends, journal_sends, Cr
 pub desk_sends : (C : RattleType) → IsSend C → IsSend (LockedDesk.the_row C)
 desk_sends C s =
     let O = LockedDesk.the_type C in
-    let all : AllSend (fields O) = (locked_sends, (s, (search sendable, tt))) in
+    let all : AllSend (fields O) = (locked_sends, (heard_clock_sends C s, tt)) in
     recorded_send (Struct (shape O)) O.D O.to O.to_one (struct_send (shape O) all)

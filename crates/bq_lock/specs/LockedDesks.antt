@@ -1,10 +1,9 @@
 -- What happens at a desk under a lock.
-use Rattle.std.specs.Prelude.{ℕ, ◌≡◌, ◌+◌, ◌≤◌, max, MatchBool, nat_le, List, [], ◌∷◌, Option, Some, None}
+use Rattle.std.specs.Prelude.{ℕ, ◌≡◌, ◌+◌, ◌≤◌, max, MatchBool, nat_le, List, Option, Some, None}
 use Rattle.bq_job.specs.declared.answer.Answer.{Answer}
 use Rattle.bq_job.specs.declared.step.Step.{Step}
 use Rattle.bq_job.specs.declared.step.Step.TheVariants.{Tick}
-use Rattle.bq_job.specs.promise.History.{moment_heard}
-use Rattle.bq_line.specs.GivenReadings.{GaveReadings}
+use Rattle.bq_host.specs.Timed.{HasHeard}
 use Rattle.bq_job.specs.beside.NextDue.{next_due}
 use Rattle.bq_lock.specs.LockedState.{oldest_for, without_oldest}
 use Rattle.bq_lock.specs.LockedSteps.{TakesStep}
@@ -13,21 +12,20 @@ use Rattle.bq_lock.specs.declared.shared_desk.Look.{Look}
 use Rattle.bq_lock.specs.declared.shared_desk.Look.TheVariants as looks
 
 -- The clock was read once, and the moment heard last follows the reading.
-abbrev pub HasHeard : {C : Type 0} → (C → List (Option ℕ) → C → Type 0) → LockedDesk C → LockedDesk C → Type 0
-HasHeard given old new =
-    (reading : Option ℕ) × GaveReadings given old.clock (reading ∷ []) new.clock × (new.heard ≡ moment_heard old.heard reading)
+abbrev pub Hears : {C : Type 0} → (C → List (Option ℕ) → C → Type 0) → LockedDesk C → LockedDesk C → Type 0
+Hears given old new = (reading : Option ℕ) × HasHeard given old.time reading new.time
 
 -- The step was taken at the moment of one reading.
 abbrev pub HasTaken : {C : Type 0} → (C → List (Option ℕ) → C → Type 0) → ℕ → Step → LockedDesk C → LockedDesk C → Type 0
-HasTaken given seat what old new = HasHeard given old new × TakesStep old.locked new.heard seat what new.locked
+HasTaken given seat what old new = Hears given old new × TakesStep old.locked new.time.moment seat what new.locked
 
 -- Where nothing is ever due nothing happens. Else the clock is read once, and a tick is taken exactly where the
 -- moment heard then has come to what is due.
 abbrev pub HasPassed : {C : Type 0} → (C → List (Option ℕ) → C → Type 0) → ℕ → Option ℕ → LockedDesk C → LockedDesk C → Type 0
 HasPassed given seat None old new = new ≡ old
 HasPassed given seat (Some due) old new =
-    HasHeard given old new
-    × MatchBool (nat_le due new.heard) (TakesStep old.locked new.heard seat Tick new.locked) (new.locked ≡ old.locked)
+    Hears given old new
+    × MatchBool (nat_le due new.time.moment) (TakesStep old.locked new.time.moment seat Tick new.locked) (new.locked ≡ old.locked)
 
 -- How long a seat may rest: never past the next moment at which something is due.
 abbrev pub EndsInTime : Option ℕ → ℕ → ℕ → Type 0

@@ -13,7 +13,7 @@ use Rattle.bq_host.specs.LastParts.{EndsWith}
 -- the entries of a journal, for how many it has room in all, and whether it tells all that happened
 pub record JournalState : Type 0 where
   pub entries : List Entry
-  pub room : ℕ
+  pub capacity : ℕ
   pub whole : Bool
 
 pub record LockedState : Type 0 where
@@ -45,11 +45,11 @@ AreFew outboxes = (seat : ℕ) → length (outbox_at seat outboxes) ≤ 4
 
 -- Nothing was done yet.
 abbrev pub new_locked : Settings → ℕ → LockedState
-new_locked settings room = record {
+new_locked settings capacity = record {
   machine = new_machine settings;
   outboxes = replicate settings.seats [];
   answered = [];
-  journal = record { entries = []; room = room; whole = true };
+  journal = record { entries = []; capacity = capacity; whole = true };
 }
 
 -- The replay of the journal leads to the machine, and each outbox is a last part of the answers that it

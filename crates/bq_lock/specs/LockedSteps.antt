@@ -25,12 +25,12 @@ without_entry old = record old { whole = false }
 
 -- The step's entry was added.
 pub record IsAdded (old : JournalState) (entry : Entry) (unshared : Bool) (new : JournalState) : Type 0 where
-  pub had_room : length old.entries < old.room
+  pub had_room : length old.entries < old.capacity
   pub new_is : new ≡ with_entry entry unshared old
 
 -- The entry was left out, for want of room or since a share of the body in it was refused.
 pub record IsLeftOut (old : JournalState) (what : Step) (new : JournalState) : Type 0 where
-  pub had_body : length old.entries < old.room → IsTrue (has_body what)
+  pub had_body : length old.entries < old.capacity → IsTrue (has_body what)
   pub new_is : new ≡ without_entry old
 
 -- The core took the step and the answers were delivered. The step's entry was added or left out, and names

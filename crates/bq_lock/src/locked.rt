@@ -8,8 +8,8 @@ ghost use Rattle.bq_lock.specs.LockedSteps.{TakesStep};
 mod journal;
 mod outboxes;
 
-use bq_core::{Config, Core, CoreFault, Outs};
-use bq_host::RunFault;
+use bq_core::{Config, Core, Outs};
+use bq_host::{RunFault, new_core};
 use bq_job::{Answer, Entry, Moment, Seat, Step};
 use journal::Journal;
 use outboxes::Outboxes;
@@ -49,24 +49,17 @@ impl Locked {
     /// jobs and answers is asked for here.
     ///
     /// The fault is `BadConfiguration` where the configuration is out of its ranges, and else `NoMemory`.
-    pub fn new(alloc: Global, config: Config, room: usize) -> Result<Locked, RunFault>
-        ensures made { IfOk result (λ locked. locked ≡ new_locked config room) }
+    pub fn new(alloc: Global, config: Config, capacity: usize) -> Result<Locked, RunFault>
+        ensures made { IfOk result (λ locked. locked ≡ new_locked config capacity) }
         ensures bad_configuration { IsErrOf result RunFault.BadConfiguration ↔ IsTrue
             (not (are_in_range config)) }
         ensures no_thread { IsErrOf result RunFault.ThreadRefused ↔ ⊥ }
     {
-        let core = match Core::new(alloc, config) {
-            Ok(core) => core,
-            Err(CoreFault::NoMemory) => return Err(RunFault::NoMemory),
-            Err(_) => return Err(RunFault::BadConfiguration),
-        };
-        let Ok(outs) = Outs::new(alloc, config.seats) else {
-            return Err(RunFault::NoMemory);
-        };
+        let (core, outs) = new_core::<Core>(alloc, config)?;
         let Ok(outboxes) = Outboxes::new(alloc, config.seats) else {
             return Err(RunFault::NoMemory);
         };
-        let Ok(journal) = Journal::new(alloc, room) else {
+        let Ok(journal) = Journal::new(alloc, capacity) else {
             return Err(RunFault::NoMemory);
         };
         Ok(Locked {

@@ -4,35 +4,31 @@ ghost use Rattle.std.specs.Prelude.{◌≡◌, ◌≤◌};
 use crate::bells::Rings;
 use crate::locked::Locked;
 use crate::shared_desk::{LONGEST_REST, Look, OwnedDesk};
-use bq_job::{Answer, Moment, Seat, Step};
-use bq_line::clock::{Clock, moment_heard};
+use bq_host::HeardClock;
+use bq_job::{Answer, Seat, Step};
+use bq_line::clock::Clock;
 
-/// What lies under the one lock of a run: the core with its outboxes, the clock, and the moment heard last.
+/// What lies under the one lock of a run: the core with its outboxes, and the clock.
 #[derive(Drop)]
 pub struct LockedDesk<C> {
     pub locked: Locked,
-    pub clock: C,
-    heard: Moment,
+    pub time: HeardClock<C>,
 }
 
 impl<C: Clock + Drop> LockedDesk<C> {
     ghost use Rattle.bq_job.specs.beside.NextDue.{next_due};
-    ghost use Rattle.bq_line.specs.GivenReadings.{GaveReadings};
     ghost use Rattle.bq_lock.specs.LockedDesks.{EndsInTime, HasLooked, HasPassed, HasServed, HasTaken};
     ghost use Rattle.bq_lock.specs.Rung.{AreRung, AreRungByTick, others};
-    ghost use Rattle.std.specs.Prelude.{[], ◌∷◌};
-    ghost use Rattle.bq_job.specs.promise.History.{moment_heard};
 
     /// A desk at which nothing was done.
     pub fn new(locked: Locked, clock: C) -> LockedDesk<C>
         ensures locked { result.locked ≡ locked }
-        ensures clock { result.clock ≡ clock }
-        ensures heard { result.heard ≡ 0 }
+        ensures clock { result.time.clock ≡ clock }
+        ensures heard { result.time.moment ≡ 0 }
     {
         LockedDesk {
             locked,
-            clock,
-            heard: 0,
+            time: HeardClock::new(clock),
         }
     }
 
@@ -42,8 +38,8 @@ impl<C: Clock + Drop> LockedDesk<C> {
         ensures taken { HasTaken C.given seat what self.old self.new }
         ensures rings { AreRung (others seat self.new.locked.answered) result }
     {
-        self.hear();
-        self.locked.step(self.heard, seat, what);
+        let _reading = self.time.hear();
+        self.locked.step(self.time.moment, seat, what);
         Rings::but_own(self.locked.answered(), seat)
     }
 
@@ -59,7 +55,7 @@ impl<C: Clock + Drop> LockedDesk<C> {
     // A look at the mail of a seat, before which a tick is made where the core is due.
     fn look(&mut self, seat: Seat) -> (Look, Rings)
         ensures looked { HasLooked C.given seat self.old result.0 self.new }
-        ensures rings { AreRungByTick (next_due self.old.locked.machine) self.new.heard
+        ensures rings { AreRungByTick (next_due self.old.locked.machine) self.new.time.moment
             (others seat self.new.locked.answered) result.1 }
     {
         let (rest, rings) = self.tick_if_due(seat);
@@ -74,31 +70,20 @@ impl<C: Clock + Drop> LockedDesk<C> {
     fn tick_if_due(&mut self, seat: Seat) -> (u64, Rings)
         ensures passed { HasPassed C.given seat
             (next_due self.old.locked.machine) self.old self.new }
-        ensures rest { EndsInTime (next_due self.old.locked.machine) self.new.heard result.0 }
+        ensures rest { EndsInTime (next_due self.old.locked.machine) self.new.time.moment result.0 }
         ensures most { result.0 ≤ 100 }
-        ensures rings { AreRungByTick (next_due self.old.locked.machine) self.new.heard
+        ensures rings { AreRungByTick (next_due self.old.locked.machine) self.new.time.moment
             (others seat self.new.locked.answered) result.1 }
     {
         let Some(due) = self.locked.next_due() else {
             return (LONGEST_REST, Rings::none());
         };
-        self.hear();
-        if due <= self.heard {
-            self.locked.step(self.heard, seat, Step::Tick);
+        let _reading = self.time.hear();
+        if due <= self.time.moment {
+            self.locked.step(self.time.moment, seat, Step::Tick);
             return (0, Rings::but_own(self.locked.answered(), seat));
         }
-        (LONGEST_REST.min(due - self.heard), Rings::none())
-    }
-
-    // Reads the clock once. The moment heard last follows the reading, which is answered.
-    fn hear(&mut self) -> Option<Moment>
-        ensures read { GaveReadings C.given self.old.clock (result ∷ []) self.new.clock }
-        ensures heard { self.new.heard ≡ moment_heard self.old.heard result }
-        ensures locked { self.new.locked ≡ self.old.locked }
-    {
-        let reading = self.clock.now();
-        self.heard = moment_heard(self.heard, reading);
-        reading
+        (LONGEST_REST.min(due - self.time.moment), Rings::none())
     }
 }
 

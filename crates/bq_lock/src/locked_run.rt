@@ -47,7 +47,7 @@ pub fn run_locked<
     doors: Vec<D, Global>,
     clock: C,
     mut control: I,
-    room: usize,
+    capacity: usize,
 ) -> Result<LockedRun<D, C>, RunFault>
     // No line is out or over at any door, and none is at its end.
     requires new { All
@@ -66,7 +66,7 @@ pub fn run_locked<
     if doors.len() != usize::from(config.seats) {
         return Err(RunFault::BadConfiguration);
     }
-    let locked = Locked::new(alloc, config, room)?;
+    let locked = Locked::new(alloc, config, capacity)?;
     let desk = Mutex::new(LockedDesk::new(locked, clock));
     let served = serve_at_desk(rt, alloc, config.max_job_size, doors, &desk, &mut control);
     let doors = match served {
@@ -76,7 +76,7 @@ pub fn run_locked<
     let desk = desk.into_inner();
     Ok(LockedRun {
         doors,
-        clock: desk.clock,
+        clock: desk.time.clock,
         locked: desk.locked,
     })
 }

@@ -20,6 +20,7 @@ use Rattle.bq_link.specs.Submissions.{AreBelow, steps_of}
 use Rattle.bq_link.proofs.SubmissionLemmas.{below_push, of_other, of_own}
 use Rattle.bq_steps.specs.Cost.{IsLookWithin, IsStepWithin}
 use Rattle.bq_host.specs.Compared.{AreWithin, IsEntryWithin, LooksOnce}
+use Rattle.bq_host.proofs.ComparedLemmas.{looked_within, within_on}
 use Rattle.bq_run.specs.CoreWork.{HasGone, IsCoreDone, no_ticks, steps_made}
 use Rattle.bq_run.specs.Flags.{AreAllSet}
 use Rattle.bq_run.specs.Sending.{AreSent}
@@ -156,42 +157,9 @@ given_on t given now pending sent h =
     answers_append t given now ∙ ap (λ (all : List Answer). all ++ answers_to t now) h ∙ append_assoc sent (answers_to t pending) (answers_to t now)
     ∙ ap (λ (all : List Answer). sent ++ all) (sym (answers_append t pending now))
 
--- a look that was not made
-look_none : (m : Machine) (count : ℕ) → IsLookWithin m count count
-look_none m count = record { stays = omega arith; comparisons = omega arith }
-
--- A look that may have been made is within its bound.
-looked_within : (known : Bool) (m : Machine) (count now : ℕ) → LooksOnce known m count now → IsLookWithin m count now
-looked_within true m count now l = l
-looked_within false m count now l = subst (λ (n : ℕ). IsLookWithin m count n) (sym l) (look_none m count)
-
 -- Where the next due moment isn't known, no look was made since.
 unknown_is : (known : Bool) (m : Machine) (count : ℕ) → known ≡ false → LooksOnce known m count count
 unknown_is known m count is = subst (λ (b : Bool). LooksOnce b m count count) (sym is) refl
-
--- one step more within its bound
-within_on : (first middle next : Machine) (history : List Entry) (e : Entry) (given now : List GivenAnswer) (from count to : ℕ)
-    → AreWithin first history given middle from count → IsEntryWithin middle e now next count to → AreWithin first (history ++ e ∷ []) (given ++ now) next from to
-within_on first middle next [] e given now from count to (none, (same, still)) w = (
-  next,
-  now,
-  [],
-  to,
-  (
-    ap (λ (xs : List GivenAnswer). xs ++ now) none ∙ sym (append-nil now),
-    (subst (λ (m : Machine). IsEntryWithin m e now next from to) same (subst (λ (n : ℕ). IsEntryWithin middle e now next n to) still w), (refl, (refl, refl))),
-  ),
-)
-within_on first middle next (f ∷ history) e given now from count to (second, own, more, n, rest) w = (
-  second,
-  own,
-  more ++ now,
-  n,
-  (
-    ap (λ (xs : List GivenAnswer). xs ++ now) rest.0 ∙ append_assoc own more now,
-    (rest.1.0, within_on second middle next history e more now n count to rest.1.1 w),
-  ),
-)
 
 -- a look, if any, and a step behind a history
 entry_on : (settings : Settings) (from : ℕ) (history : List Entry) (given now : List GivenAnswer) (core next : Machine) (at later seat : ℕ) (what : Step) (outcome : Outcome) (count : ℕ) (known : Bool) (compared to : ℕ)

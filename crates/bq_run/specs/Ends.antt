@@ -2,7 +2,7 @@
 use Rattle.std.specs.Prelude.{◌≡◌, List, [], ◌++◌}
 use Rattle.bq_job.specs.declared.answer.Answer.{Answer}
 use Rattle.bq_job.specs.declared.step.Step.{Step}
-use Rattle.bq_run.specs.declared.seat_work.EndSeat.{EndSeat}
+use Rattle.bq_run.specs.declared.seat_work.SeatLink.{SeatLink}
 use Rattle.bq_link.specs.EndStates.{IsSameSeat, SeatState}
 
 -- An end at which nothing was done.
@@ -17,6 +17,6 @@ EndWent first submitted taken last =
     IsSameSeat first last × (last.submitted ≡ first.submitted ++ submitted) × (last.taken ≡ first.taken ++ taken)
 
 -- The same at a link to the end. Who drops the last one knows the end by it.
-abbrev pub LinkWent : {R : Type 0} → EndSeat R → List Step → List Answer → EndSeat R → Type 0
+abbrev pub LinkWent : {R : Type 0} → SeatLink R → List Step → List Answer → SeatLink R → Type 0
 LinkWent first submitted taken last =
     (last.end.ghost_name ≡ first.end.ghost_name) × (last.intake ≡ first.intake) × EndWent first.end.now submitted taken last.end.now

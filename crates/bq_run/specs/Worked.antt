@@ -6,15 +6,14 @@ use Rattle.bq_job.specs.declared.settings.Settings.{Settings}
 use Rattle.bq_job.specs.declared.step.Step.{Step}
 use Rattle.bq_job.specs.declared.step.Step.TheVariants.{Gone, Tick}
 use Rattle.bq_job.specs.machine.Dispatch.{GivenAnswer}
-use Rattle.bq_job.specs.promise.History.{IsTimedFrom, moment_heard}
+use Rattle.bq_job.specs.promise.History.{IsTimedFrom}
 use Rattle.bq_job.specs.machine.Machine.{Machine, new_machine}
 use Rattle.bq_job.specs.promise.Runs.{Entry, Run, answers_to}
 use Rattle.bq_job.specs.machine.Steps.{IsStep, Outcome}
-use Rattle.bq_line.specs.GivenReadings.{GaveReadings}
 use Rattle.bq_link.specs.EndStates.{CoreState, IsSameCore, sent_to}
 use Rattle.bq_link.specs.Submissions.{AreBelow, steps_of}
-use Rattle.bq_steps.specs.Cost.{IsStepWithin}
 use Rattle.bq_host.specs.Compared.{AreWithin, LooksOnce}
+use Rattle.bq_host.specs.Timed.{IsReady}
 use Rattle.bq_host.specs.Clocks.{Gives}
 use Rattle.bq_run.specs.CoreWork.{HasGone, no_ticks, steps_made}
 use Rattle.bq_run.specs.Flags.{AreAllSet}
@@ -37,13 +36,13 @@ pub record DriverState : Type 0 where
 
 abbrev pub driver_state : {C K : Type 0} → (K → Machine) → (K → ℕ) → CoreDriver C K → DriverState
 driver_state machine compared h = record {
-  core = machine h.core;
+  core = machine h.timed.core;
   end = h.sender.end;
-  pending = h.sender.kept.items ++ h.outs.given;
+  pending = h.sender.kept.items ++ h.timed.outs.given;
   gone = h.gone.flags.items;
-  heard = h.heard;
-  known = h.is_due_known;
-  compared = compared h.core;
+  heard = h.timed.time.moment;
+  known = h.timed.is_due_known;
+  compared = compared h.timed.core;
 }
 
 -- What the core did since the start: it took the steps that came by its end, and ticks, each at the moment of a
@@ -64,7 +63,7 @@ pub record HasWorked (settings : Settings) (from : ℕ) (readings : List (Option
 -- the same with the clock, which gave these readings from the first on
 abbrev pub IsAtWork : {C K : Type 0} → Gives C → (K → Machine) → (K → ℕ) → Settings → ℕ → C → CoreDriver C K → Type 0
 IsAtWork given machine compared settings from first driver =
-    (readings : List (Option ℕ)) × given first readings driver.clock × HasWorked settings from readings (driver_state machine compared driver)
+    (readings : List (Option ℕ)) × given first readings driver.timed.time.clock × HasWorked settings from readings (driver_state machine compared driver)
 
 -- It is known whether each end is gone.
 pub record KnowsAll (gone : GoneEnds) : Type 0 where
@@ -73,17 +72,16 @@ pub record KnowsAll (gone : GoneEnds) : Type 0 where
 
 -- There is room for the answers of a step, it is known which ends are gone, and so may the next due moment be.
 pub record IsInOrder {C K : Type 0} (machine : K → Machine) (h : CoreDriver C K) : Type 0 where
-  pub room : (machine h.core).settings.seats < h.outs.most
+  pub ready : IsReady machine h.timed
   pub sender : IsAtRest h.sender
   pub many : length h.gone.flags.items ≡ h.sender.ends
   pub all : KnowsAll h.gone
-  pub due : h.is_due_known ≡ true → h.due ≡ next_due (machine h.core)
 
 -- The driver is in order still, and has the same end and settings. Whatever was done before, the work went on.
 pub record WorksOn {C K : Type 0} (given : Gives C) (machine : K → Machine) (compared : K → ℕ) (old new : CoreDriver C K) : Type 0 where
   pub order : IsInOrder machine new
   pub end : IsSameCore old.sender.end new.sender.end
-  pub settings : (machine new.core).settings ≡ (machine old.core).settings
+  pub settings : (machine new.timed.core).settings ≡ (machine old.timed.core).settings
   pub work : (settings : Settings) (from : ℕ) (first : C) → IsAtWork given machine compared settings from first old
       → IsAtWork given machine compared settings from first new
 
@@ -92,19 +90,6 @@ abbrev pub gone_after : ℕ → Step → List Bool → List Bool
 gone_after seat Gone flags = slice_set flags seat true
 gone_after seat _ flags = flags
 
--- The core took a step at the moment of one reading of its clock.
-pub record TakesStep {C K : Type 0} (given : Gives C) (machine : K → Machine) (compared : K → ℕ) (old : CoreDriver C K) (seat : ℕ) (what : Step)
-    (new : CoreDriver C K) : Type 0 where
-  pub reading : Option ℕ
-  pub outcome : Outcome
-  pub gave : GaveReadings given old.clock (reading ∷ []) new.clock
-  pub heard : new.heard ≡ moment_heard old.heard reading
-  pub step : IsStepWithin (machine old.core) new.heard seat what outcome new.outs.given (machine new.core) (compared old.core)
-      (compared new.core)
-  pub unknown : new.is_due_known ≡ false
-  pub sender : new.sender ≡ old.sender
-  pub marked : new.gone.flags.items ≡ gone_after seat what old.gone.flags.items
-
 -- One more step was taken out of the intake.
 abbrev pub TookOne : CoreState → CoreState → Type 0
 TookOne old new = (step : ℕ × Step) × (new.taken ≡ old.taken ++ step ∷ [])
@@ -112,11 +97,11 @@ TookOne old new = (step : ℕ × Step) × (new.taken ≡ old.taken ++ step ∷ [
 -- The core took a tick at the moment heard last.
 pub record HasTicked {C K : Type 0} (machine : K → Machine) (old new : CoreDriver C K) : Type 0 where
   pub outcome : Outcome
-  pub step : IsStep (machine old.core) new.heard 0 Tick outcome new.outs.given (machine new.core)
+  pub step : IsStep (machine old.timed.core) new.timed.time.moment 0 Tick outcome new.timed.outs.given (machine new.timed.core)
 
 -- At the moment heard last nothing is due.
 abbrev pub IsIdle : {C K : Type 0} → (K → Machine) → CoreDriver C K → CoreDriver C K → Type 0
-IsIdle machine old new = is_before new.heard (next_due (machine old.core)) ≡ true
+IsIdle machine old new = is_before new.timed.time.moment (next_due (machine old.timed.core)) ≡ true
 
 -- What came of a turn that isn't the last one: so many answers wait for full rings that no more can be kept, a step
 -- was taken or a tick made, or nothing is due.
@@ -127,5 +112,5 @@ TurnWent machine old new =
 
 -- Nothing is left to be done.
 pub record IsOver {C K : Type 0} (h : CoreDriver C K) : Type 0 where
-  pub none_pending : h.sender.kept.items ++ h.outs.given ≡ []
+  pub none_pending : h.sender.kept.items ++ h.timed.outs.given ≡ []
   pub all_gone : AreAllSet h.gone.flags.items

@@ -186,14 +186,14 @@ fn may_wait(step: &Step) -> bool {
 
 /// The end of a seat, or of the control line, with the intake into which it submits.
 #[derive(Drop)]
-pub struct EndSeat<'a, R> {
+pub struct SeatLink<'a, R> {
     rt: &'a R,
     intake: &'a Intake<NoTicks>,
     end: &'a mut SeatEnd,
     pace: Pace,
 }
 
-impl<'a, R: Wait> Link for EndSeat<'a, R> {
+impl<'a, R: Wait> Link for SeatLink<'a, R> {
     ghost is_ready = { λ l. l.end.now.intake ≡ l.intake.now.id };
 
     ghost went = { LinkWent };
@@ -215,7 +215,7 @@ impl<'a, R: Wait> Link for EndSeat<'a, R> {
     }
 }
 
-impl<'a, R: Wait> ControlLink for EndSeat<'a, R> {
+impl<'a, R: Wait> ControlLink for SeatLink<'a, R> {
     ghost is_ready = { λ l. l.end.now.intake ≡ l.intake.now.id };
 
     ghost went = { λ first submitted last. LinkWent first submitted [] last };
@@ -362,7 +362,7 @@ pub fn attend_at<R: Wait, L: Line + Drop, D: Door<Line = L>>(
         GoesOn EndWent end.old end.new L.seen attendant.old (at door.old) attendant.new (at door.new) }
     ensures door { (first : D) → D.same first door.old → D.same first door.new }
 {
-    let mut link = EndSeat {
+    let mut link = SeatLink {
         rt,
         intake,
         end,
@@ -390,7 +390,7 @@ pub fn control_at<R: Wait, I: ControlInput>(
         × EndWent end.old submitted [] end.new }
 {
     // No answer is for it, and it looks for none.
-    let mut link = EndSeat {
+    let mut link = SeatLink {
         rt,
         intake,
         end,

@@ -1,5 +1,5 @@
 -- A lone line is served at a desk.
-use Rattle.std.proofs.Common.{◌≡◌, ◌≢◌, ℕ, zero, suc, ◌<◌, true, false, List, [], ◌∷◌, ◌++◌, Option, length, replicate, refl, sym, ap, ◌∙◌, arith, subst, inl, inr, append-nil, map}
+use Rattle.std.proofs.Common.{◌≡◌, ◌≢◌, ℕ, zero, suc, ◌<◌, true, false, true≢false, List, [], ◌∷◌, ◌++◌, Option, length, replicate, refl, sym, ap, ◌∙◌, arith, subst, inl, inr, append-nil, map}
 use Rattle.std.specs.Prelude.{◌==◌, slice_index_or}
 use Rattle.std.specs.List.{list_all}
 use Rattle.std.proofs.lemmas.Bool.{cases_Bool, eq-eqb, eqb-true, eqb-false}
@@ -18,7 +18,7 @@ use Rattle.bq_seat.specs.declared.machine.Action.TheVariants as actions
 use Rattle.bq_seat.specs.declared.machine.SeatMachine.{SeatMachine}
 use Rattle.bq_driver.specs.Attending.{IsOnLine}
 use Rattle.bq_driver.specs.Carried.{CarriesOn, with_part}
-use Rattle.bq_run_one.specs.DeskState.{DeskState, IsNewDesk, waiting}
+use Rattle.bq_run_one.specs.DeskState.{DeskState, HasMails, IsNewDesk, waiting}
 use Rattle.bq_run_one.specs.DeskWent.{SeatWent}
 use Rattle.bq_run_one.proofs.DeskLemmas.{seat_none, seat_on}
 use Rattle.bq_driver.proofs.CarriedLemmas.{none_begun}
@@ -63,6 +63,14 @@ no_mail (suc n) (suc t) = no_mail n t
 
 pub new_mails_are : (settings : Settings) (d : DeskState) → IsNewDesk settings d → length d.mails ≡ settings.seats
 new_mails_are settings d new = ap length new.mails ∙ length-replicate settings.seats the_empty
+
+-- A new desk is in order.
+pub mails_of_new : (settings : Settings) (d : DeskState) → IsNewDesk settings d → HasMails d
+mails_of_new settings d new = record {
+  many = new_mails_are settings d new ∙ ap (λ (m : Machine). m.settings.seats) (sym new.core);
+  room = subst (λ (m : Machine). m.settings.seats < d.most) (sym new.core) new.room;
+  due_is = λ known. absurd (true≢false (sym known ∙ new.unknown));
+}
 
 -- No answer waits at a new desk.
 pub none_waits : (settings : Settings) (d : DeskState) (seat : ℕ) → IsNewDesk settings d → waiting seat d ≡ []

@@ -1,5 +1,5 @@
 -- What happens at a desk, step by step.
-use Rattle.std.proofs.Common.{◌≡◌, ◌≢◌, ℕ, Bool, false, List, [], ◌∷◌, ◌++◌, Option, map, length, refl, sym, ap, ◌∙◌, arith, subst, inl, inr, append-nil, append_assoc}
+use Rattle.std.proofs.Common.{◌≡◌, ◌≢◌, ◌<◌, ℕ, Bool, true, false, List, [], ◌∷◌, ◌++◌, Option, map, length, refl, sym, ap, ◌∙◌, arith, subst, inl, inr, append-nil, append_assoc}
 use Rattle.std.specs.Prelude.{◌==◌, if◌then◌else◌}
 use Rattle.std.specs.Option.{option_to_list}
 use Rattle.std.proofs.lemmas.Bool.{cases_Bool, eq-eqb, eqb-true}
@@ -13,9 +13,16 @@ use Rattle.bq_job.specs.machine.Steps.{IsStep, Outcome}
 use Rattle.std.specs.Prelude.{slice_index_or}
 use Rattle.bq_job.proofs.OneClientLemmas.{answers_append}
 use Rattle.bq_job.proofs.RunLemmas.{run_append, run_from, run_none}
+use Rattle.bq_job.specs.beside.NextDue.{next_due}
+use Rattle.bq_job.specs.declared.step.Step.TheVariants.{Tick}
+use Rattle.bq_core.specs.CoreState.{CoreState}
+use Rattle.bq_steps.specs.Outbox.{Outbox}
+use Rattle.bq_host.specs.Timed.{HasLooked, LooksAndSteps, PassesOver, TakesStep}
+use Rattle.bq_host.specs.declared.heard_clock.HeardClock.{HeardClock}
+use Rattle.bq_host.specs.declared.timed_core.TimedCore.{TimedCore}
 use Rattle.bq_run_one.specs.DeskOf.{WentAt, state_of}
 use Rattle.bq_line.specs.GivenReadings.{GaveReadings}
-use Rattle.bq_run_one.specs.DeskState.{DeskState, IsSorted, waiting}
+use Rattle.bq_run_one.specs.DeskState.{DeskState, HasMails, IsSorted, waiting}
 use Rattle.bq_run_one.specs.DeskWent.{DeskWent, SeatWent}
 use Rattle.bq_run_one.specs.declared.desk.Desk.{Desk}
 
@@ -217,51 +224,100 @@ gave_then given a b c readings reads h i first before g =
     subst (λ (rs : List (Option ℕ)). given first rs c) (append_assoc before readings reads) (i first (before ++ readings) (h first before g))
 
 pub went_none : {C : Type 0} (given : C → List (Option ℕ) → C → Type 0) (seat : ℕ) (desk : Desk C) → WentAt given seat desk [] [] desk
-went_none given seat desk = ([], gave_none given desk.clock, seat_none (state_of desk) seat)
+went_none given seat desk = ([], gave_none given desk.timed.time.clock, seat_none (state_of desk) seat)
 
 pub went_then : {C : Type 0} (given : C → List (Option ℕ) → C → Type 0) (seat other : ℕ) (first next last : Desk C) (submitted more : List Step) (taken later : List Answer)
     → other ≡ seat → WentAt given seat first submitted taken next → WentAt given other next more later last → WentAt given seat first (submitted ++ more) (taken ++ later) last
 went_then given seat other first next last submitted more taken later same a b =
     let b' = subst (λ (n : ℕ). WentAt given n next more later last) same b in (
       a.0 ++ b'.0,
-      gave_then given first.clock next.clock last.clock a.0 b'.0 a.1 b'.1,
+      gave_then given first.timed.time.clock next.timed.time.clock last.timed.time.clock a.0 b'.0 a.1 b'.1,
       seat_on (state_of first) (state_of next) (state_of last) seat a.0 b'.0 submitted more taken later a.2 b'.2,
     )
 
-pub went_sorted : {C : Type 0} (given : C → List (Option ℕ) → C → Type 0) (seat : ℕ) (first last : Desk C) → IsSorted (state_of first) (state_of last) → last.clock ≡ first.clock → WentAt given seat first [] [] last
+pub went_sorted : {C : Type 0} (given : C → List (Option ℕ) → C → Type 0) (seat : ℕ) (first last : Desk C) → IsSorted (state_of first) (state_of last) → last.timed.time.clock ≡ first.timed.time.clock → WentAt given seat first [] [] last
 went_sorted given seat first last s same =
-    ([], subst (λ c. GaveReadings given first.clock [] c) (sym same) (gave_none given first.clock), seat_sorted (state_of first) (state_of last) seat s)
+    ([], subst (λ c. GaveReadings given first.timed.time.clock [] c) (sym same) (gave_none given first.timed.time.clock), seat_sorted (state_of first) (state_of last) seat s)
 
--- The clock was read once, and the core took a step at the resulting moment.
-pub went_step : {C : Type 0} (given : C → List (Option ℕ) → C → Type 0) (seat : ℕ) (what : Step) (first heard last : Desk C) (reading : Option ℕ) (outcome : Outcome)
-    → GaveReadings given first.clock (reading ∷ []) last.clock → heard.heard ≡ moment_heard first.heard reading → heard.core.machine ≡ first.core.machine
-    → IsStep heard.core.machine heard.heard seat what outcome last.outs.given last.core.machine
-    → last.heard ≡ heard.heard → last.mails ≡ first.mails → last.held ≡ first.held → (state_of first).pending ≡ []
-    → WentAt given seat first (if is_tick what then [] else what ∷ []) [] last
-went_step given seat what first heard last reading outcome gave moment core step heard_is mails held empty =
-    let there = subst (λ (m : Machine). IsStep m heard.heard seat what outcome last.outs.given last.core.machine) core step in
-    let timed = subst (λ (n : ℕ). IsStep first.core.machine n seat what outcome last.outs.given last.core.machine) moment there in
-    let none : option_to_list last.held ≡ [] = ap (λ (xs : Option GivenAnswer). option_to_list xs) held ∙ none_held (option_to_list first.held) first.outs.given empty in (
-      reading ∷ [],
-      gave,
-      one_step (state_of first) (state_of last) seat what reading outcome last.outs.given timed (heard_is ∙ moment) (ap (λ ms. ms.items) mails) empty (ap (λ (xs : List GivenAnswer). xs ++ last.outs.given) none),
+-- the machine of a core, and its comparisons
+abbrev pub machine_of : CoreState → Machine
+machine_of k = k.machine
+
+abbrev pub compared_of : CoreState → ℕ
+compared_of k = k.comparisons
+
+-- The core took a step, where all answers so far are in the mail.
+pub went_step : {C : Type 0} (given : C → List (Option ℕ) → C → Type 0) (seat : ℕ) (what : Step) (first : Desk C) (t : TimedCore C CoreState)
+    → TakesStep given machine_of compared_of first.timed seat what t → (state_of first).pending ≡ []
+    → WentAt given seat first (if is_tick what then [] else what ∷ []) [] (record first { timed = t })
+went_step given seat what first t s empty =
+    let last = record first { timed = t } in
+    let step = subst (λ (n : ℕ). IsStep first.timed.core.machine n seat what s.outcome t.outs.given t.core.machine) s.time.heard s.step.step in
+    let none : option_to_list first.held ≡ [] = none_held (option_to_list first.held) first.timed.outs.given empty in (
+      s.reading ∷ [],
+      s.time.gave,
+      one_step (state_of first) (state_of last) seat what s.reading s.outcome t.outs.given step s.time.heard refl empty (ap (λ (xs : List GivenAnswer). xs ++ t.outs.given) none),
     )
 
--- The clock was read once, and no step was taken.
-pub went_heard : {C : Type 0} (given : C → List (Option ℕ) → C → Type 0) (seat : ℕ) (first last : Desk C) (reading : Option ℕ)
-    → GaveReadings given first.clock (reading ∷ []) last.clock → last.heard ≡ moment_heard first.heard reading → last.core.machine ≡ first.core.machine
-    → last.outs ≡ first.outs → last.mails ≡ first.mails → last.held ≡ first.held → WentAt given seat first [] [] last
-went_heard given seat first last reading gave moment core outs mails held = (
-  reading ∷ [],
-  gave,
-  seat_heard (state_of first) (state_of last) seat reading core moment (ap (λ ms. ms.items) mails)
-      (ap (λ (xs : Option GivenAnswer). option_to_list xs ++ last.outs.given) held ∙ ap (λ o. option_to_list first.held ++ o.given) outs),
-)
+-- The core was asked for the next due moment, if that wasn't known: no seat sees it.
+went_looked : {C : Type 0} (given : C → List (Option ℕ) → C → Type 0) (seat : ℕ) (first : Desk C) (t looked : TimedCore C CoreState) → HasLooked machine_of compared_of first.timed looked → t ≡ looked
+    → WentAt given seat first [] [] (record first { timed = t })
+went_looked given seat first t looked l e =
+    let time = ap (λ (x : TimedCore _ _). x.time) e ∙ l.time in
+    let state = state_of first in
+    let last = state_of (record first { timed = t }) in
+    let core : last.core ≡ state.core = ap (λ (x : TimedCore _ _). x.core.machine) e ∙ l.same in
+    let pending : last.pending ≡ state.pending = ap (λ (x : TimedCore _ _). option_to_list first.held ++ x.outs.given) e ∙ ap (λ (o : Outbox). option_to_list first.held ++ o.given) l.outs in (
+      [],
+      subst (λ c. GaveReadings given first.timed.time.clock [] c) (sym (ap (λ (h : HeardClock _). h.clock) time)) (gave_none given first.timed.time.clock),
+      record {
+        history = [];
+        took = λ t. [];
+        went = record {
+          given = [];
+          runs = subst (λ (m : Machine). Run state.core [] [] m) (sym core) (run_none state.core);
+          timed = record { picked = tt; last_is = ap (λ (h : HeardClock _). h.moment) time };
+          many = refl;
+          tied = λ s below. append-nil (waiting s state) ∙ ap (λ (xs : List GivenAnswer). slice_index_or state.mails s [] ++ answers_to s xs) (sym pending);
+        };
+        submitted_is = refl;
+        taken_is = refl;
+        others_still = λ s differs. refl;
+        others_took = λ s differs. refl;
+      },
+    )
 
--- No step was taken, and the clock did not change.
-pub went_same : {C : Type 0} (given : C → List (Option ℕ) → C → Type 0) (seat : ℕ) (first last : Desk C) → state_of last ≡ state_of first → last.clock ≡ first.clock → WentAt given seat first [] [] last
-went_same given seat first last same clock = (
-  [],
-  subst (λ c. GaveReadings given first.clock [] c) (sym clock) (gave_none given first.clock),
-  subst (λ (d : DeskState). SeatWent seat (state_of first) [] [] [] d) (sym same) (seat_none (state_of first) seat),
-)
+-- Time passed, and no step was taken.
+pub went_over : {C : Type 0} (given : C → List (Option ℕ) → C → Type 0) (seat : ℕ) (first : Desk C) (t : TimedCore C CoreState) → PassesOver given machine_of compared_of first.timed t
+    → WentAt given seat first [] [] (record first { timed = t })
+went_over {C} given seat first t (looked, l, rest) = elim rest [
+  | inl e ↦ went_looked given seat first t looked l e
+  | inr h ↦
+      let at = record first { timed = looked } in
+      let last = record first { timed = t } in
+      let heard : WentAt given seat at [] [] last = (
+        h.0 ∷ [],
+        h.1.gave,
+        seat_heard (state_of at) (state_of last) seat h.0 (ap (λ (x : TimedCore C CoreState). x.core.machine) h.2) h.1.heard refl (ap (λ (x : TimedCore C CoreState). option_to_list first.held ++ x.outs.given) h.2),
+      ) in
+      went_then given seat seat first at last [] [] [] [] refl (went_looked given seat first looked looked l refl) heard
+]
+
+-- Time passed, and the core took a tick if something was due.
+pub went_passed : {C : Type 0} (given : C → List (Option ℕ) → C → Type 0) (seat : ℕ) (first : Desk C) (t : TimedCore C CoreState) (ticks : Bool) → (state_of first).pending ≡ []
+    → (ticks ≡ false → PassesOver given machine_of compared_of first.timed t) → (ticks ≡ true → LooksAndSteps given machine_of compared_of first.timed seat Tick t)
+    → WentAt given seat first [] [] (record first { timed = t })
+went_passed given seat first t false empty over ticked = went_over given seat first t (over refl)
+went_passed given seat first t true empty over ticked =
+    let (looked, l, s) = ticked refl in
+    let at = record first { timed = looked } in
+    let none : (state_of at).pending ≡ [] = ap (λ (o : Outbox). option_to_list first.held ++ o.given) l.outs ∙ empty in
+    went_then given seat seat first at (record first { timed = t }) [] [] [] [] refl (went_looked given seat first looked looked l refl) (went_step given seat Tick at t s none)
+
+-- A desk whose answers only moved stays in order.
+pub mails_sorted : (d n : DeskState) → IsSorted d n → HasMails d → HasMails n
+mails_sorted d n s o = record {
+  many = s.many ∙ o.many ∙ ap (λ (m : Machine). m.settings.seats) (sym s.core);
+  room = subst (λ (k : ℕ). n.core.settings.seats < k) (sym s.most) (subst (λ (m : Machine). m.settings.seats < d.most) (sym s.core) o.room);
+  due_is = λ known. s.due ∙ o.due_is (sym s.known ∙ known) ∙ ap next_due (sym s.core);
+}

@@ -10,15 +10,17 @@ use Rattle.bq_run_one.specs.declared.desk.Desk.{Desk}
 
 abbrev pub state_of : {C : Type 0} → Desk C → DeskState
 state_of d = record {
-  core = d.core.machine;
+  core = d.timed.core.machine;
   mails = d.mails.items;
-  pending = option_to_list d.held ++ d.outs.given;
-  heard = d.heard;
-  most = d.outs.most;
+  pending = option_to_list d.held ++ d.timed.outs.given;
+  heard = d.timed.time.moment;
+  most = d.timed.outs.most;
+  known = d.timed.is_due_known;
+  due = d.timed.due;
 }
 
 -- what a seat did at a desk
 abbrev pub WentAt : {C : Type 0} → (C → List (Option ℕ) → C → Type 0) → ℕ → Desk C → List Step → List Answer → Desk C → Type 0
 WentAt given seat old submitted taken new =
-    (readings : List (Option ℕ)) × GaveReadings given old.clock readings new.clock
+    (readings : List (Option ℕ)) × GaveReadings given old.timed.time.clock readings new.timed.time.clock
     × SeatWent seat (state_of old) readings submitted taken (state_of new)

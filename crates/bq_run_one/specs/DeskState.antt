@@ -1,5 +1,6 @@
 -- What a desk contains besides its clock.
-use Rattle.std.specs.Prelude.{ℕ, ◌≡◌, ◌<◌, ◌≤◌, List, [], ◌∷◌, ◌++◌, length, replicate, slice_index_or}
+use Rattle.std.specs.Prelude.{ℕ, ◌≡◌, ◌<◌, ◌≤◌, Bool, true, false, Option, List, [], ◌∷◌, ◌++◌, length, replicate, slice_index_or}
+use Rattle.bq_job.specs.beside.NextDue.{next_due}
 use Rattle.bq_job.specs.declared.answer.Answer.{Answer}
 use Rattle.bq_job.specs.declared.settings.Settings.{Settings}
 use Rattle.bq_job.specs.machine.Dispatch.{GivenAnswer}
@@ -15,6 +16,9 @@ pub record DeskState : Type 0 where
   pub heard : ℕ
   -- how many answers a step can give
   pub most : ℕ
+  -- the next due moment, if it is known
+  pub known : Bool
+  pub due : Option ℕ
 
 -- the answers that wait for a seat
 abbrev pub waiting : ℕ → DeskState → List Answer
@@ -27,17 +31,21 @@ pub record IsNewDesk (settings : Settings) (d : DeskState) : Type 0 where
   pub pending : d.pending ≡ []
   pub heard : d.heard ≡ 0
   pub room : settings.seats < d.most
+  pub unknown : d.known ≡ false
 
--- Each seat has its mail, and there is room for the answers of a step.
+-- Each seat has its mail, there is room for the answers of a step, and what is noted of the next due moment is so.
 pub record HasMails (d : DeskState) : Type 0 where
   pub many : length d.mails ≡ d.core.settings.seats
   pub room : d.core.settings.seats < d.most
+  pub due_is : d.known ≡ true → d.due ≡ next_due d.core
 
 -- Answers moved from one place on the desk to another, which no seat can notice.
 pub record IsSorted (first last : DeskState) : Type 0 where
   pub core : last.core ≡ first.core
   pub heard : last.heard ≡ first.heard
   pub most : last.most ≡ first.most
+  pub known : last.known ≡ first.known
+  pub due : last.due ≡ first.due
   pub many : length last.mails ≡ length first.mails
   pub waiting_is : (seat : ℕ) → seat < length first.mails → waiting seat last ≡ waiting seat first
 

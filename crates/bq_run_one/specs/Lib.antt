@@ -2,4 +2,3 @@ pub mod DeskOf
 pub mod DeskState
 pub mod DeskWent
 pub mod RunSettings
-pub mod TimePassing

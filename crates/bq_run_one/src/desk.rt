@@ -3,38 +3,28 @@ ghost use Rattle.std.specs.Prelude.{◌≡◌, ◌<◌, ◌≤◌, ◌+◌, ◌+
 ghost use Rattle.std.specs.Prelude.{IfOk, IfErr, IsErrOf, IsNone, IsTrue, MatchResult, length, replicate, slice_index_or};
 ghost use Rattle.std.specs.Option.{option_to_list};
 ghost use Rattle.bq_job.specs.declared.answer.Answer.{Answer};
-ghost use Rattle.bq_job.specs.promise.History.{moment_heard};
 ghost use Rattle.bq_job.specs.promise.Runs.{answers_to};
 
-use bq_core::{Config, Core, CoreFault, Outs};
-use bq_host::{Mail, RunFault, new_mails};
-use bq_job::{Answer, Moment, NoMemory, Seat, Step};
-use bq_line::clock::{Clock, moment_heard};
+use bq_core::{Config, Core};
+use bq_host::{Mail, RunFault, TimedCore, new_mails};
+use bq_job::{Answer, Seat, Step};
+use bq_line::clock::Clock;
 use std::alloc::Global;
 
 /// The state that serves all seats.
 #[derive(Drop)]
 pub struct Desk<C> {
-    /// For the steps that may allocate.
-    pub alloc: Global,
-    pub core: Core,
-    pub outs: Outs,
+    pub timed: TimedCore<C, Core>,
     /// An answer that did not fit into its mail.
     pub held: Option<(Seat, Answer)>,
     pub mails: Vec<Mail, Global>,
-    pub clock: C,
-    /// The moment of the last reading, in milliseconds.
-    pub heard: Moment,
 }
 
 impl<C: Clock + Drop> Desk<C> {
-    ghost use Rattle.bq_job.specs.beside.NextDue.{next_due};
     ghost use Rattle.bq_run_one.specs.DeskOf.{WentAt, state_of};
-    ghost use Rattle.bq_line.specs.GivenReadings.{GaveReadings};
     ghost use Rattle.bq_run_one.specs.DeskState.{HasMails, IsNewDesk, IsSorted, IsStuck};
     ghost use Rattle.bq_steps.specs.Limits.{are_in_range};
     ghost use Rattle.bq_driver.specs.Links.{Submits, as_submitted};
-    ghost use Rattle.bq_run_one.specs.TimePassing.{PassesTime};
     ghost use Rattle.std.specs.Prelude.{if◌then◌else◌};
 
     /// Returns a new desk. Everything except jobs and answers is allocated here.
@@ -43,30 +33,19 @@ impl<C: Clock + Drop> Desk<C> {
     /// allocation fails.
     pub fn new(alloc: Global, config: Config, clock: C) -> Result<Desk<C>, RunFault>
         ensures made { IfOk result (λ desk. IsNewDesk config (state_of desk)) }
-        ensures clock { IfOk result (λ desk. desk.clock ≡ clock) }
+        ensures clock { IfOk result (λ desk. desk.timed.time.clock ≡ clock) }
         ensures bad_configuration { IsErrOf result RunFault.BadConfiguration ↔ IsTrue
             (not (are_in_range config)) }
         ensures no_thread { IsErrOf result RunFault.ThreadRefused ↔ ⊥ }
     {
-        let core = match Core::new(alloc, config) {
-            Ok(core) => core,
-            Err(CoreFault::NoMemory) => return Err(RunFault::NoMemory),
-            Err(_) => return Err(RunFault::BadConfiguration),
-        };
-        let Ok(outs) = Outs::new(alloc, config.seats) else {
-            return Err(RunFault::NoMemory);
-        };
+        let timed = TimedCore::new(alloc, config, clock)?;
         let Ok(mails) = new_mails(alloc, config.seats) else {
             return Err(RunFault::NoMemory);
         };
         Ok(Desk {
-            alloc,
-            core,
-            outs,
+            timed,
             held: None,
             mails,
-            clock,
-            heard: 0,
         })
     }
 
@@ -96,6 +75,14 @@ impl<C: Clock + Drop> Desk<C> {
         self.take_mail(seat)
     }
 
+    /// Gives back the clock.
+    pub fn into_clock(self) -> C
+        ensures { result ≡ self.timed.time.clock }
+    {
+        let timed = self.timed;
+        timed.time.clock
+    }
+
     // Lets time pass if all answers so far are in the mail.
     fn pass_time(&mut self, seat: Seat)
         requires mails { HasMails (state_of self.old) }
@@ -109,25 +96,15 @@ impl<C: Clock + Drop> Desk<C> {
         }
     }
 
-    // Reads the clock if the core is ever due. The core takes a tick if and only if it is due by
-    // then.
+    // The clock is read if something is ever due, and the core takes a tick exactly if something is due by then.
     fn tick_if_due(&mut self, seat: Seat)
         requires mails { HasMails (state_of self.old) }
         requires empty { (state_of self.old).pending ≡ [] }
         ensures mails { HasMails (state_of self.new) }
         ensures many { length (state_of self.new).mails ≡ length (state_of self.old).mails }
-        ensures passes { PassesTime C.given seat
-            (next_due (state_of self.old).core) self.old self.new }
         ensures went { WentAt C.given seat self.old [] [] self.new }
     {
-        let Some(due) = self.core.next_due() else {
-            return;
-        };
-        self.hear();
-        if due <= self.heard {
-            self.core
-                .step(self.alloc, self.heard, seat, Step::Tick, &mut self.outs);
-        }
+        let _ticks = self.timed.tick_if_due(seat);
     }
 
     fn take_mail(&mut self, seat: Seat) -> Option<Answer>
@@ -142,7 +119,7 @@ impl<C: Clock + Drop> Desk<C> {
     // Puts pending answers into the mail. Returns true if none is pending afterwards.
     fn deliver(&mut self) -> bool
         ensures sorted { IsSorted (state_of self.old) (state_of self.new) }
-        ensures clock { self.new.clock ≡ self.old.clock }
+        ensures clock { self.new.timed.time.clock ≡ self.old.timed.time.clock }
         ensures none { result ≡ true → (state_of self.new).pending ≡ [] }
         ensures stuck { result ≡ false → IsStuck (state_of self.new) }
     {
@@ -160,15 +137,16 @@ impl<C: Clock + Drop> Desk<C> {
             ≡ option_to_list result ++ (state_of self.new).pending }
         ensures none { IsNone result → (state_of self.new).pending ≡ [] }
         ensures held { option_to_list self.new.held ≡ [] }
-        ensures most { self.new.outs.most ≡ self.old.outs.most }
-        ensures core { self.new.core ≡ self.old.core }
+        ensures most { self.new.timed.outs.most ≡ self.old.timed.outs.most }
+        ensures core { self.new.timed.core ≡ self.old.timed.core }
         ensures mails { self.new.mails ≡ self.old.mails }
-        ensures clock { self.new.clock ≡ self.old.clock }
-        ensures heard { self.new.heard ≡ self.old.heard }
+        ensures clock { self.new.timed.time.clock ≡ self.old.timed.time.clock }
+        ensures heard { self.new.timed.time.moment ≡ self.old.timed.time.moment }
+        ensures due { (self.new.timed.is_due_known ≡ self.old.timed.is_due_known) × (self.new.timed.due ≡ self.old.timed.due) }
     {
         match self.held.take() {
             Some(held) => Some(held),
-            None => self.outs.take_first(),
+            None => self.timed.outs.take_first(),
         }
     }
 
@@ -180,23 +158,7 @@ impl<C: Clock + Drop> Desk<C> {
         ensures many { length (state_of self.new).mails ≡ length (state_of self.old).mails }
         ensures went { WentAt C.given seat self.old (as_submitted what) [] self.new }
     {
-        self.hear();
-        self.core
-            .step(self.alloc, self.heard, seat, what, &mut self.outs);
-    }
-
-    // Reads the clock once and returns the reading. Updates the moment of the last reading.
-    fn hear(&mut self) -> Option<Moment>
-        ensures read { GaveReadings C.given self.old.clock (result ∷ []) self.new.clock }
-        ensures heard { self.new.heard ≡ moment_heard self.old.heard result }
-        ensures core { self.new.core ≡ self.old.core }
-        ensures outs { self.new.outs ≡ self.old.outs }
-        ensures held { self.new.held ≡ self.old.held }
-        ensures mails { self.new.mails ≡ self.old.mails }
-    {
-        let reading = self.clock.now();
-        self.heard = moment_heard(self.heard, reading);
-        reading
+        self.timed.take_step(seat, &what);
     }
 }
 

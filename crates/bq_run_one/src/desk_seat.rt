@@ -70,7 +70,7 @@ pub fn act<L: Line, C: Clock + Drop>(
         CarriedPart machine.old (L.seen line.old) action.old sent.old machine.new (L.seen line.new) action.new sent.new submitted taken }
     ensures stays { StaysOver L.lies_over line.old line.new }
 {
-    let alloc = desk.alloc;
+    let alloc = desk.timed.alloc;
     let mut link = DeskSeat { desk, seat };
     carry_out(alloc, machine, action, sent, line, &mut link, room)
 }

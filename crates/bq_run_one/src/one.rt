@@ -79,12 +79,12 @@ fn serve_line<R: Wait, L: Line + Drop, C: Clock + Drop>(
     machine: SeatMachine,
 ) -> One<L, C>
     requires new { L.seen line ≡ new_line }
-    requires desk { IsNewDesk desk.core.machine.settings (state_of desk) }
-    requires lone { desk.core.machine.settings.seats ≡ 1 }
+    requires desk { IsNewDesk desk.timed.core.machine.settings (state_of desk) }
+    requires lone { desk.timed.core.machine.settings.seats ≡ 1 }
     requires awaits { awaited machine ≡ Awaited.ALine }
-    requires limit { machine.reader.max_job_size ≡ desk.core.machine.settings.max_job_size }
-    ensures served { (readings : List (Option ℕ)) × C.given desk.clock readings result.clock ×
-        IsHistoryOfLine desk.core.machine.settings 0 (record { seen = L.seen result.line; over = result.end }) readings }
+    requires limit { machine.reader.max_job_size ≡ desk.timed.core.machine.settings.max_job_size }
+    ensures served { (readings : List (Option ℕ)) × C.given desk.timed.time.clock readings result.clock ×
+        IsHistoryOfLine desk.timed.core.machine.settings 0 (record { seen = L.seen result.line; over = result.end }) readings }
     ensures stays { StaysOver L.lies_over line result.line }
 {
     let mut line = line;
@@ -92,14 +92,14 @@ fn serve_line<R: Wait, L: Line + Drop, C: Clock + Drop>(
     let mut machine = machine;
     let mut room = Room::new();
     let bell = Parker::new();
-    let mut action = machine.on(desk.alloc, Event::Opened);
+    let mut action = machine.on(desk.timed.alloc, Event::Opened);
     let mut sent = 0;
     for _ in rt.forever() {
         if let Action::LineOver(end) = action {
             return One {
                 line,
                 end,
-                clock: desk.clock,
+                clock: desk.into_clock(),
             };
         }
         let looked = is_look(&action);

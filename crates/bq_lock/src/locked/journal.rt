@@ -11,7 +11,7 @@ use std::marker::Model;
 #[derive(Drop)]
 pub struct Journal {
     entries: Vec<Entry, Global>,
-    room: usize,
+    capacity: usize,
     whole: bool,
 }
 
@@ -22,23 +22,23 @@ impl Model for Journal {
 
     ghost Value = { JournalState };
 
-    ghost view = { λ j. record { entries = j.entries.items; room = j.room; whole = j.whole } };
+    ghost view = { λ j. record { entries = j.entries.items; capacity = j.capacity; whole = j.whole } };
 
-    ghost invariant = { λ j. j.room ≤ vec_capacity j.entries };
+    ghost invariant = { λ j. j.capacity ≤ vec_capacity j.entries };
 }
 
 impl Journal {
     /// An empty journal with room for so many entries, which is asked for here.
-    pub fn new(alloc: Global, room: usize) -> Result<Journal, NoMemory>
+    pub fn new(alloc: Global, capacity: usize) -> Result<Journal, NoMemory>
         ensures { IfOk result
-            (λ journal. journal ≡ record { entries = []; room = room; whole = true }) }
+            (λ journal. journal ≡ record { entries = []; capacity = capacity; whole = true }) }
     {
-        let Ok(entries) = Vec::with_capacity(alloc, room) else {
+        let Ok(entries) = Vec::with_capacity(alloc, capacity) else {
             return Err(NoMemory);
         };
         Ok(Journal {
             entries,
-            room,
+            capacity,
             whole: true,
         })
     }
@@ -46,11 +46,11 @@ impl Journal {
     /// The step once more, where there is room for its entry, and where its body is given one more owner.
     pub fn copy(&self, what: &Step) -> Option<Step>
         ensures same { IfSome result (λ step. step ≡ what.now) }
-        ensures room { IsSome result → length self.now.entries < self.now.room }
-        ensures refused { IsNone result → length self.now.entries < self.now.room
+        ensures room { IsSome result → length self.now.entries < self.now.capacity }
+        ensures refused { IsNone result → length self.now.entries < self.now.capacity
             → IsTrue (has_body what.now) }
     {
-        if self.entries.len() >= self.room {
+        if self.entries.len() >= self.capacity {
             return None;
         }
         what.share().ok()
@@ -66,7 +66,7 @@ impl Journal {
         left_out: bool,
         unshared: bool,
     )
-        requires room { IsSome copy → length self.old.entries < self.old.room }
+        requires room { IsSome copy → length self.old.entries < self.old.capacity }
         ensures without { IsNone copy → self.new ≡ without_entry self.old }
         ensures added { IfSome copy (λ step. self.new
             ≡ with_entry (record { moment = at; seat = seat; step = step; left_out = left_out }) unshared self.old) }

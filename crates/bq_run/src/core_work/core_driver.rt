@@ -1,15 +1,14 @@
 //! The core with all that it needs on a thread of its own.
-ghost use Rattle.std.specs.Prelude.{◌≡◌, ◌⊎◌, ◌↔◌, ◌<◌, ◌+◌, ◌∷◌, [], None, false, not, true, length, slice_set};
+ghost use Rattle.std.specs.Prelude.{◌≡◌, ◌⊎◌, ◌↔◌, ◌<◌, ◌+◌, [], false, not, true, length};
 ghost use Rattle.bq_job.specs.beside.NextDue.{is_before, next_due};
-ghost use Rattle.bq_job.specs.promise.History.{moment_heard};
 ghost use Rattle.bq_run.specs.Rests.{longest_rest};
 
 use crate::core_work::core_room::CoreRoom;
 use crate::core_work::gone_ends::GoneEnds;
 use crate::core_work::sender::Sender;
-use bq_host::{Concern, Notices, concern_of};
-use bq_job::{Moment, Seat, Step};
-use bq_line::clock::{Clock, moment_heard};
+use bq_host::TimedCore;
+use bq_job::{Seat, Step};
+use bq_line::clock::Clock;
 use bq_link::{CoreEnd, Intake, NoTicks, Record};
 use bq_steps::{Outs, QueueCore};
 use std::alloc::Global;
@@ -31,29 +30,17 @@ const RING_REST: u64 = 1;
 /// The core with its clock, its end of the links, and what isn't sent yet.
 #[derive(Drop)]
 pub struct CoreDriver<C, K> {
-    /// For the steps that may ask for memory.
-    pub alloc: Global,
-    pub core: K,
-    pub outs: Outs,
+    pub timed: TimedCore<C, K>,
     pub sender: Sender,
     pub gone: GoneEnds,
-    pub clock: C,
-    /// The moment heard last, and the next one at which something is due.
-    pub heard: Moment,
-    pub due: Option<Moment>,
-    /// Whether that is so of the core as it stands now: it was asked since its last step.
-    pub is_due_known: bool,
-    pub notices: Notices,
 }
 
 impl<C: Clock + Drop, K: QueueCore + Drop> CoreDriver<C, K> {
-    ghost use Rattle.bq_line.specs.GivenReadings.{GaveReadings};
     ghost use Rattle.bq_job.specs.machine.Machine.{new_machine};
     ghost use Rattle.bq_link.specs.NewEnds.{IsNewCore};
     ghost use Rattle.bq_link.specs.Submissions.{MayTake};
     ghost use Rattle.std.specs.Prelude.{ℕ};
-    ghost use Rattle.bq_steps.specs.Cost.{IsLookWithin};
-    ghost use Rattle.bq_host.specs.Compared.{LooksOnce};
+    ghost use Rattle.bq_host.specs.Timed.{TakesStep};
     ghost use Rattle.bq_run.specs.CoreWork.{IsNewRoom};
     ghost use Rattle.bq_run.specs.Sending.{AreStuck};
     ghost use Rattle.bq_run.specs.Worked.{
@@ -61,7 +48,6 @@ impl<C: Clock + Drop, K: QueueCore + Drop> CoreDriver<C, K> {
       IsAtWork,
       IsInOrder,
       IsOver,
-      TakesStep,
       TookOne,
       TurnWent,
       WorksOn,
@@ -85,16 +71,14 @@ impl<C: Clock + Drop, K: QueueCore + Drop> CoreDriver<C, K> {
         requires room { IsNewRoom ((K.machine core).settings.seats + 1) room }
         ensures order { IsInOrder K.machine result }
         ensures end { result.sender.end ≡ end }
-        ensures settings { (K.machine result.core).settings ≡ (K.machine core).settings }
+        ensures settings { (K.machine result.timed.core).settings ≡ (K.machine core).settings }
         ensures work { IsAtWork C.given K.machine K.comparisons
             (K.machine core).settings (K.comparisons core) clock result }
     {
         let CoreRoom { kept, aside, gone } = room;
         let ends = gone.len();
         CoreDriver {
-            alloc,
-            core,
-            outs,
+            timed: TimedCore::over(alloc, core, outs, clock),
             sender: Sender {
                 end,
                 ends,
@@ -102,11 +86,6 @@ impl<C: Clock + Drop, K: QueueCore + Drop> CoreDriver<C, K> {
                 aside,
             },
             gone: GoneEnds::none(gone),
-            clock,
-            heard: 0,
-            due: None,
-            is_due_known: false,
-            notices: Notices::none(),
         }
     }
 
@@ -138,19 +117,19 @@ impl<C: Clock + Drop, K: QueueCore + Drop> CoreDriver<C, K> {
         requires order { IsInOrder K.machine self.old }
         ensures on { WorksOn C.given K.machine K.comparisons self.old self.new }
         ensures stuck { AreStuck self.new.sender.end self.new.sender.kept.items }
-        ensures none { result ≡ true → self.new.outs.given ≡ [] }
+        ensures none { result ≡ true → self.new.timed.outs.given ≡ [] }
         ensures full { result ≡ false → length self.new.sender.kept.items ≡ self.new.sender.ends }
         ensures taken { self.new.sender.end.taken ≡ self.old.sender.end.taken }
         ensures rest { self.new
-            ≡ record self.old { sender = self.new.sender; outs = self.new.outs } }
+            ≡ record self.old { sender = self.new.sender; timed = record self.old.timed { outs = self.new.timed.outs } } }
     {
-        self.sender.send_all(intake, &mut self.outs)
+        self.sender.send_all(intake, &mut self.timed.outs)
     }
 
     // Whether every end is gone and has been sent all that it was given.
     fn is_over(&self) -> bool
         requires order { IsInOrder K.machine self.now }
-        requires none { self.now.outs.given ≡ [] }
+        requires none { self.now.timed.outs.given ≡ [] }
         ensures { result ≡ true ↔ IsOver self.now }
     {
         self.gone.all && self.sender.kept.is_empty()
@@ -164,13 +143,13 @@ impl<C: Clock + Drop, K: QueueCore + Drop> CoreDriver<C, K> {
         requires intake { self.old.sender.end.intake ≡ intake.now.id }
         requires may { MayTake J.was }
         requires order { IsInOrder K.machine self.old }
-        requires none { self.old.outs.given ≡ [] }
+        requires none { self.old.timed.outs.given ≡ [] }
         ensures on { WorksOn C.given K.machine K.comparisons self.old self.new }
         ensures stuck { AreStuck self.old.sender.end self.old.sender.kept.items
             → AreStuck self.new.sender.end self.new.sender.kept.items }
         ensures empty { result ≡ false → J.was self.old.sender.end.taken [] }
         ensures idle { result ≡ false
-            → is_before self.new.heard (next_due (K.machine self.old.core)) ≡ true }
+            → is_before self.new.timed.time.moment (next_due (K.machine self.old.timed.core)) ≡ true }
         ensures busy { result ≡ true → TookOne self.old.sender.end self.new.sender.end
             ⊎ HasTicked K.machine self.old self.new }
     {
@@ -187,13 +166,13 @@ impl<C: Clock + Drop, K: QueueCore + Drop> CoreDriver<C, K> {
         requires intake { self.old.sender.end.intake ≡ intake.now.id }
         requires may { MayTake J.was }
         requires order { IsInOrder K.machine self.old }
-        requires none { self.old.outs.given ≡ [] }
+        requires none { self.old.timed.outs.given ≡ [] }
         ensures on { WorksOn C.given K.machine K.comparisons self.old self.new }
         ensures stuck { AreStuck self.old.sender.end self.old.sender.kept.items
             → AreStuck self.new.sender.end self.new.sender.kept.items }
         ensures empty { result ≡ false → J.was self.old.sender.end.taken [] }
         ensures idle { result ≡ false
-            → is_before self.new.heard (next_due (K.machine self.old.core)) ≡ true }
+            → is_before self.new.timed.time.moment (next_due (K.machine self.old.timed.core)) ≡ true }
         ensures busy { result ≡ true → TookOne self.old.sender.end self.new.sender.end
             ⊎ HasTicked K.machine self.old self.new }
     {
@@ -206,84 +185,33 @@ impl<C: Clock + Drop, K: QueueCore + Drop> CoreDriver<C, K> {
         }
     }
 
-    // The core takes a step of an end, and what an operator has to see of it is told. The step stays where it lies.
+    // The core takes a step of an end. The step stays where it lies.
     fn take_step(&mut self, seat: Seat, what: &Step)
         requires order { IsInOrder K.machine self.old }
         ensures order { IsInOrder K.machine self.new }
-        ensures settings { (K.machine self.new.core).settings ≡ (K.machine self.old.core).settings }
-        ensures taken { TakesStep C.given K.machine K.comparisons self.old seat what.now self.new }
-    {
-        let concern = concern_of(what);
-        self.step(seat, what);
-        self.tell(concern);
-    }
-
-    // The core takes a step of an end.
-    fn step(&mut self, seat: Seat, what: &Step)
-        requires order { IsInOrder K.machine self.old }
-        ensures order { IsInOrder K.machine self.new }
-        ensures settings { (K.machine self.new.core).settings ≡ (K.machine self.old.core).settings }
-        ensures taken { TakesStep C.given K.machine K.comparisons self.old seat what.now self.new }
+        ensures taken { TakesStep C.given K.machine K.comparisons self.old.timed seat what.now self.new.timed }
+        ensures marked { self.new.gone.flags.items
+            ≡ gone_after seat what.now self.old.gone.flags.items }
+        ensures sender { self.new.sender ≡ self.old.sender }
     {
         self.mark(seat, what);
-        self.hear();
-        self.is_due_known = false;
-        self.core
-            .step_in_place(self.alloc, self.heard, seat, what, &mut self.outs);
-    }
-
-    // Tells what the last step has to be told for.
-    fn tell(&mut self, concern: Concern)
-        ensures { self.new ≡ record self.old { notices = self.new.notices } }
-    {
-        let is_refused = self.outs.left_out() || self.outs.unshared();
-        if let Some(notice) = self.notices.after(concern, is_refused, self.heard) {
-            self.clock.tell(notice);
-        }
+        self.timed.take_step(seat, what);
     }
 
     // Time passes: the core takes a tick exactly where something is due by now. Whether it did.
     fn tick_if_due(&mut self) -> bool
         requires order { IsInOrder K.machine self.old }
-        requires none { self.old.outs.given ≡ [] }
+        requires none { self.old.timed.outs.given ≡ [] }
         ensures sender { self.new.sender ≡ self.old.sender }
         ensures on { WorksOn C.given K.machine K.comparisons self.old self.new }
-        ensures due { self.new.due ≡ next_due (K.machine self.old.core) }
+        ensures due { self.new.timed.due ≡ next_due (K.machine self.old.timed.core) }
         ensures ticks { result
-            ≡ not (is_before self.new.heard (next_due (K.machine self.old.core))) }
-        ensures still { result ≡ false → K.machine self.new.core ≡ K.machine self.old.core }
+            ≡ not (is_before self.new.timed.time.moment (next_due (K.machine self.old.timed.core))) }
+        ensures still { result ≡ false
+            → K.machine self.new.timed.core ≡ K.machine self.old.timed.core }
         ensures ticked { result ≡ true → HasTicked K.machine self.old self.new }
     {
-        let Some(due) = self.look() else {
-            return false;
-        };
-        self.hear();
-        if due > self.heard {
-            return false;
-        }
-        self.is_due_known = false;
-        self.core
-            .step_in_place(self.alloc, self.heard, 0, &Step::Tick, &mut self.outs);
-        true
-    }
-
-    // The next moment at which something is due. The core is asked once after a step.
-    fn look(&mut self) -> Option<Moment>
-        requires order { IsInOrder K.machine self.old }
-        ensures order { IsInOrder K.machine self.new }
-        ensures due { result ≡ next_due (K.machine self.old.core) }
-        ensures known { (self.new.due ≡ result) × (self.new.is_due_known ≡ true) }
-        ensures same { K.machine self.new.core ≡ K.machine self.old.core }
-        ensures once { (count : ℕ) → LooksOnce self.old.is_due_known (K.machine self.old.core) count (K.comparisons self.old.core)
-            → IsLookWithin (K.machine self.old.core) count (K.comparisons self.new.core) }
-        ensures rest { self.new
-            ≡ record self.old { core = self.new.core; due = self.new.due; is_due_known = true } }
-    {
-        if !self.is_due_known {
-            self.due = self.core.next_due();
-            self.is_due_known = true;
-        }
-        self.due
+        self.timed.tick_if_due(0)
     }
 
     // Notes where a step says that no more come.
@@ -297,18 +225,6 @@ impl<C: Clock + Drop, K: QueueCore + Drop> CoreDriver<C, K> {
         if let Step::Gone = what {
             self.gone.mark(seat);
         }
-    }
-
-    // Reads the clock once. The moment heard last follows the reading, which is answered.
-    fn hear(&mut self) -> Option<Moment>
-        ensures read { GaveReadings C.given self.old.clock (result ∷ []) self.new.clock }
-        ensures heard { self.new.heard ≡ moment_heard self.old.heard result }
-        ensures rest { self.new
-            ≡ record self.old { clock = self.new.clock; heard = self.new.heard } }
-    {
-        let reading = self.clock.now();
-        self.heard = moment_heard(self.heard, reading);
-        reading
     }
 
     // Waits until a step comes or something is due. It lets other threads run once, since the thread of the next step may
@@ -338,33 +254,26 @@ impl<C: Clock + Drop, K: QueueCore + Drop> CoreDriver<C, K> {
     // For how many milliseconds it may sleep: until something is due. While answers wait for full rings it is one, since
     // an end doesn't tell when it takes an answer.
     fn longest_rest(&self) -> u64
-        ensures { result ≡ longest_rest self.now.sender.kept.items self.now.due self.now.heard }
+        ensures { result ≡ longest_rest self.now.sender.kept.items self.now.timed.due self.now.timed.time.moment }
     {
         if !self.sender.kept.is_empty() {
             return RING_REST;
         }
-        match self.due {
+        match self.timed.due {
             None => HOUR,
-            Some(due) => due.saturating_sub(self.heard).min(HOUR),
+            Some(due) => due.saturating_sub(self.timed.time.moment).min(HOUR),
         }
     }
 
     /// The end, the core and the clock.
     pub fn into_parts(self) -> (CoreEnd, K, C)
-        ensures { (result.0 ≡ self.sender.end) × (result.1 ≡ self.core) × (result.2 ≡ self.clock) }
+        ensures { (result.0 ≡ self.sender.end) × (result.1 ≡ self.timed.core) × (result.2 ≡ self.timed.time.clock) }
     {
         let CoreDriver {
-            alloc: _,
-            core,
-            outs: _,
+            timed,
             sender,
             gone: _,
-            clock,
-            heard: _,
-            due: _,
-            is_due_known: _,
-            notices: _,
         } = self;
-        (sender.end, core, clock)
+        (sender.end, timed.core, timed.time.clock)
     }
 }

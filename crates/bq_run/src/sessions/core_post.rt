@@ -7,10 +7,10 @@ ghost use Rattle.bq_run.specs.CoreWork.{IsNewRoom};
 ghost use Rattle.bq_run.specs.Threads.{IsCoreOver};
 
 use crate::core_work::{CoreRoom, core_work};
-use bq_host::{RunFault, Start};
+use bq_host::{RunFault, Start, new_core};
 use bq_line::clock::Clock;
 use bq_link::{CoreEnd, Intake, NoTicks};
-use bq_steps::{Config, CoreFault, Outs, QueueCore};
+use bq_steps::{Config, Outs, QueueCore};
 use std::alloc::Global;
 use std::sync::Wait;
 
@@ -36,14 +36,7 @@ impl<K: QueueCore + Drop> NewCore<K> {
         ensures bad_configuration { IsErrOf result RunFault.BadConfiguration ↔ IsTrue
             (not (are_in_range config)) }
     {
-        let core = match K::new(alloc, config) {
-            Ok(core) => core,
-            Err(CoreFault::NoMemory) => return Err(RunFault::NoMemory),
-            Err(_) => return Err(RunFault::BadConfiguration),
-        };
-        let Ok(outs) = Outs::new(alloc, config.seats) else {
-            return Err(RunFault::NoMemory);
-        };
+        let (core, outs) = new_core::<K>(alloc, config)?;
         let Ok(room) = CoreRoom::new(alloc, config.seats) else {
             return Err(RunFault::NoMemory);
         };

@@ -38,7 +38,7 @@ returns-clause-served g c =
     let j = ends_history g.L.Line.seen at settings first w.0 on.reads last seats doors c.requires.made many s c.serve.ensures.done control.input.read control.input.failed told.done in
     record {
       readings = on.reads;
-      gave = on.gave c.args.hub.clock [] (g.met.C.Clock.none_given c.args.hub.clock);
+      gave = on.gave c.args.hub.timed.time.clock [] (g.met.C.Clock.none_given c.args.hub.timed.time.clock);
       over = told.over;
       read = subst (λ (line : ControlLine g.row.I.Denot). IsReadToEnd (g.I.Read.remaining line.reader) (g.I.Read.remaining control.input.reader) control.input.read control.input.failed) c.new.ensures told.read;
       fault = subst (λ (line : ControlLine g.row.I.Denot). control.input.failed ≡ true → g.I.ControlReader.may_fail line.reader ≡ true) c.new.ensures told.fault;

@@ -8,8 +8,8 @@ use Rattle.bq_run_one.proofs.one.serve_line.Given as goal
 abbrev pub invariant-loop : goal.invariant-loop
 invariant-loop g l = record {
   iterator : (goal.iterator-loop g).can_next l.iterator' × (goal.iterator-loop g).is_finite l.iterator';
-  serves : (readings : List (Option ℕ)) × g.C.Clock.given l.fn.desk.clock readings l.desk.clock
-      × IsServingAlone l.fn.desk.core.machine.settings 0 readings (state_of l.desk) l.machine (g.L.Line.seen l.line) l.action l.sent;
+  serves : (readings : List (Option ℕ)) × g.C.Clock.given l.fn.desk.timed.time.clock readings l.desk.timed.time.clock
+      × IsServingAlone l.fn.desk.timed.core.machine.settings 0 readings (state_of l.desk) l.machine (g.L.Line.seen l.line) l.action l.sent;
   stays : StaysOver g.L.Line.lies_over l.fn.line l.line;
   mails : HasMails (state_of l.desk);
   within : 0 < length (state_of l.desk).mails;

@@ -1,11 +1,18 @@
-use Rattle.std.proofs.Common.{[], refl}
-use Rattle.bq_event_loop.proofs.HubLemmas.{went_then}
+use Rattle.std.proofs.Common.{refl, ap}
+use Rattle.bq_job.specs.machine.Machine.{Machine}
+use Rattle.bq_event_loop.proofs.HubLemmas.{none_pending_over, order_ready, went_over}
 use Rattle.bq_event_loop.proofs.hub.Hub.is_due.Goals as goal
 
-pub returns-then-due-self-clause-went : goal.returns-then-due-self-clause-went
-returns-then-due-self-clause-went g c =
-    went_then g.K.QueueCore.machine g.K.QueueCore.comparisons g.C.Clock.given 0 0 c.args.self.now c.look.new.self c.listen.new.self [] [] [] [] refl c.look.ensures.went c.listen.ensures.went
+pub returns-clause-order : goal.returns-clause-order
+returns-clause-order g c =
+    let d = c.is_due.ensures in
+    let machine = g.K.QueueCore.machine in
+    let compared = g.K.QueueCore.comparisons in
+    let old = c.args.self.now in
+    order_ready machine compared old (record old { timed = c.is_due.new.self }) d.ready (ap (λ (m : Machine). m.settings) d.same) refl
+    (none_pending_over machine compared g.C.Clock.given old c.is_due.new.self d.over c.requires.order) c.requires.order
 
 pub returns-clause-went : goal.returns-clause-went
 returns-clause-went g c =
-    went_then g.K.QueueCore.machine g.K.QueueCore.comparisons g.C.Clock.given 0 0 c.args.self.now c.look.new.self c.listen.new.self [] [] [] [] refl c.look.ensures.went c.listen.ensures.went
+    let old = c.args.self.now in
+    went_over g.K.QueueCore.machine g.K.QueueCore.comparisons g.C.Clock.given 0 old (record old { timed = c.is_due.new.self }) c.is_due.ensures.over refl refl

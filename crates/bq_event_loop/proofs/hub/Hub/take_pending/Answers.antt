@@ -21,7 +21,7 @@ returns-then-first-seat-clause-went g c =
     let first_is : (state old).pending ≡ (c.args.seat, c.in-Some.answer) ∷ (state new).pending =
     subst (λ (n : ℕ). (state old).pending ≡ (n, c.in-Some.answer) ∷ (state new).pending) c.if-first-seat.true c.in-Some.ensures.pending in (
       [],
-      subst (λ x. GaveReadings g.C.Clock.given old.clock [] x) (sym h.clock) (gave_none g.C.Clock.given old.clock),
+      subst (λ x. GaveReadings g.C.Clock.given old.timed.time.clock [] x) (sym h.clock) (gave_none g.C.Clock.given old.timed.time.clock),
       seat_takes_pending (state old) (state new) c.args.seat c.in-Some.answer c.requires.empty first_is (ap g.K.QueueCore.machine h.core) h.due.0 (ap g.K.QueueCore.comparisons h.core) h.heard (ap (λ ms. ms.items) h.mails),
     )
 
@@ -36,9 +36,9 @@ returns-clause-went g c =
     let popped = c.next_pending.new.self in
     let back = c.put_back.new.self in
     let pending : (state_of machine compared back).pending ≡ (state_of machine compared old).pending =
-    ap (λ (x : Option GivenAnswer). option_to_list x ++ back.outs.given) b.held
+    ap (λ (x : Option GivenAnswer). option_to_list x ++ back.timed.outs.given) b.held
     ∙ ap (λ o. (c.in-Some.first, c.in-Some.answer) ∷ o.given) b.outs
-    ∙ ap (λ (xs : List GivenAnswer). (c.in-Some.first, c.in-Some.answer) ∷ (xs ++ popped.outs.given)) (sym h.held)
+    ∙ ap (λ (xs : List GivenAnswer). (c.in-Some.first, c.in-Some.answer) ∷ (xs ++ popped.timed.outs.given)) (sym h.held)
     ∙ sym c.in-Some.ensures.pending in
     let still : WentAt machine compared given c.args.seat old [] [] back =
     went_still machine compared given c.args.seat old back (b.core ∙ h.core) (b.mails ∙ h.mails) pending (b.heard ∙ h.heard) (ap (λ o. o.most) b.outs ∙ h.most) (b.due.0 ∙ h.due.0) (b.due.1 ∙ h.due.1) (b.clock ∙ h.clock) in

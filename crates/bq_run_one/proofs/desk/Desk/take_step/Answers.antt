@@ -1,9 +1,12 @@
-use Rattle.std.proofs.Common.{ap, refl}
+use Rattle.std.proofs.Common.{◌∙◌, ap, sym}
+use Rattle.bq_job.specs.declared.settings.Settings.{Settings}
 use Rattle.bq_run_one.proofs.DeskLemmas.{went_step}
 use Rattle.bq_run_one.proofs.desk.Desk.take_step.Goals as goal
 
+pub returns-clause-mails : goal.returns-clause-mails
+returns-clause-mails g c =
+    let t = c.take_step.ensures in
+    record { many = c.requires.mails.many ∙ ap (λ (s : Settings). s.seats) (sym t.taken.settings); room = t.ready.room; due_is = t.ready.due }
+
 pub returns-clause-went : goal.returns-clause-went
-returns-clause-went g c =
-    let at = c.hear.new.self in
-    went_step g.C.Clock.given c.args.seat c.args.what c.args.self.now at (record { alloc = at.alloc; core = c.step.new.self; outs = c.step.new.outs; held = at.held; mails = at.mails; clock = at.clock; heard = at.heard }) c.hear.result _
-    c.hear.ensures.read c.hear.ensures.heard (ap (λ core. core.machine) c.hear.ensures.core) c.step.ensures.step refl c.hear.ensures.mails c.hear.ensures.held c.requires.empty
+returns-clause-went g c = went_step g.C.Clock.given c.args.seat c.args.what c.args.self.now c.take_step.new.self c.take_step.ensures.taken c.requires.empty

@@ -11,18 +11,18 @@ returns-in-Some-clause-on g c =
     let old = c.args.self.now in
     let new = c.take_step.new.self in
     let state = driver_state g.K.QueueCore.machine g.K.QueueCore.comparisons in
-    let at = c.in-Some.ensures.taken in
-    let end = ap (λ (s : Sender). s.end) (t.sender ∙ at) in
+    let sender = c.take_step.ensures.sender ∙ c.in-Some.ensures.taken in
+    let end = ap (λ (s : Sender). s.end) sender in
     record {
       order = c.take_step.ensures.order;
       end = (ap (λ (e : CoreState). e.intake) end, ap (λ (e : CoreState). e.rings) end);
-      settings = c.take_step.ensures.settings;
+      settings = t.settings;
       work = λ settings from first w. (
         w.0 ++ t.reading ∷ [],
-        t.gave first w.0 w.1,
-        worked_step settings from w.0 (state old) (state new) c.in-Some.taken.0 c.in-Some.taken.1 t.reading t.outcome new.outs.given c.in-Some.ensures.number w.2 t.step t.heard
+        t.time.gave first w.0 w.1,
+        worked_step settings from w.0 (state old) (state new) c.in-Some.taken.0 c.in-Some.taken.1 t.reading t.outcome new.timed.outs.given c.in-Some.ensures.number w.2 t.step t.time.heard
             end
-            (pending_on new.sender.kept.items old.sender.kept.items old.outs.given new.outs.given (ap (λ (s : Sender). s.kept.items) (t.sender ∙ at)) c.requires.none) t.marked t.unknown,
+            (pending_on new.sender.kept.items old.sender.kept.items old.timed.outs.given new.timed.outs.given (ap (λ (s : Sender). s.kept.items) sender) c.requires.none) c.take_step.ensures.marked t.unknown,
       );
     }
 

@@ -1,0 +1,75 @@
+-- What a core with its clock does.
+use Rattle.std.specs.Prelude.{ℕ, ◌≡◌, ◌⊎◌, ◌<◌, ◌+◌, ◌∷◌, List, [], Option, true, false}
+use Rattle.bq_job.specs.beside.NextDue.{next_due}
+use Rattle.bq_job.specs.declared.settings.Settings.{Settings}
+use Rattle.bq_job.specs.declared.step.Step.{Step}
+use Rattle.bq_job.specs.machine.Machine.{Machine, new_machine}
+use Rattle.bq_job.specs.machine.Steps.{Outcome}
+use Rattle.bq_job.specs.promise.History.{moment_heard}
+use Rattle.bq_line.specs.GivenReadings.{GaveReadings}
+use Rattle.bq_steps.specs.Cost.{IsLookWithin, IsStepWithin}
+use Rattle.bq_host.specs.Clocks.{Gives}
+use Rattle.bq_host.specs.Compared.{LooksOnce}
+use Rattle.bq_host.specs.declared.heard_clock.HeardClock.{HeardClock}
+use Rattle.bq_host.specs.declared.timed_core.TimedCore.{TimedCore}
+
+-- The clock was read once, and the moment heard last follows the reading.
+pub record HasHeard {C : Type 0} (given : Gives C) (old : HeardClock C) (reading : Option ℕ) (new : HeardClock C) : Type 0 where
+  pub gave : GaveReadings given old.clock (reading ∷ []) new.clock
+  pub heard : new.moment ≡ moment_heard old.moment reading
+
+-- Nothing was done: the core has this machine and compared nothing, and no reading of the clock was heard.
+pub record IsNewTimed {C K : Type 0} (machine : K → Machine) (compared : K → ℕ) (settings : Settings) (clock : C) (t : TimedCore C K) : Type 0 where
+  pub core : machine t.core ≡ new_machine settings
+  pub none_compared : compared t.core ≡ 0
+  pub none_given : t.outs.given ≡ []
+  pub room : t.outs.most ≡ settings.seats + 1
+  pub clock_is : t.time.clock ≡ clock
+  pub none_heard : t.time.moment ≡ 0
+  pub unknown : t.is_due_known ≡ false
+
+-- There is room for the answers of a step, and what is noted of the next due moment is so.
+pub record IsReady {C K : Type 0} (machine : K → Machine) (t : TimedCore C K) : Type 0 where
+  pub room : (machine t.core).settings.seats < t.outs.most
+  pub due : t.is_due_known ≡ true → t.due ≡ next_due (machine t.core)
+
+-- The core took a step at the moment of one reading of its clock.
+pub record TakesStep {C K : Type 0} (given : Gives C) (machine : K → Machine) (compared : K → ℕ) (old : TimedCore C K) (seat : ℕ)
+    (what : Step) (new : TimedCore C K) : Type 0 where
+  pub reading : Option ℕ
+  pub outcome : Outcome
+  pub time : HasHeard given old.time reading new.time
+  pub step : IsStepWithin (machine old.core) new.time.moment seat what outcome new.outs.given (machine new.core) (compared old.core)
+      (compared new.core)
+  pub unknown : new.is_due_known ≡ false
+  pub most : new.outs.most ≡ old.outs.most
+  pub settings : (machine new.core).settings ≡ (machine old.core).settings
+
+-- The next due moment is known: the core was asked for it if it was not.
+pub record HasLooked {C K : Type 0} (machine : K → Machine) (compared : K → ℕ) (old new : TimedCore C K) : Type 0 where
+  pub known : new.is_due_known ≡ true
+  pub due : new.due ≡ next_due (machine old.core)
+  pub same : machine new.core ≡ machine old.core
+  pub once : (count : ℕ) → LooksOnce old.is_due_known (machine old.core) count (compared old.core)
+      → IsLookWithin (machine old.core) count (compared new.core)
+  pub outs : new.outs ≡ old.outs
+  pub time : new.time ≡ old.time
+
+-- The clock was read once, and nothing else happened.
+abbrev pub OnlyHears : {C K : Type 0} → Gives C → TimedCore C K → TimedCore C K → Type 0
+OnlyHears given old new = (reading : Option ℕ) × HasHeard given old.time reading new.time × (new ≡ record old { time = new.time })
+
+-- No step was taken. The clock was read once if anything is ever due.
+abbrev pub PassesOver : {C K : Type 0} → Gives C → (K → Machine) → (K → ℕ) → TimedCore C K → TimedCore C K → Type 0
+PassesOver {C} {K} given machine compared old new =
+    (looked : TimedCore C K) × HasLooked machine compared old looked × ((new ≡ looked) ⊎ OnlyHears given looked new)
+
+-- The clock was read once, since something is due at some moment.
+abbrev pub HearsDue : {C K : Type 0} → Gives C → (K → Machine) → (K → ℕ) → TimedCore C K → TimedCore C K → Type 0
+HearsDue {C} {K} given machine compared old new =
+    (looked : TimedCore C K) × HasLooked machine compared old looked × OnlyHears given looked new
+
+-- The core took this step at the moment of one reading, after it was asked for the next due moment.
+abbrev pub LooksAndSteps : {C K : Type 0} → Gives C → (K → Machine) → (K → ℕ) → TimedCore C K → ℕ → Step → TimedCore C K → Type 0
+LooksAndSteps {C} {K} given machine compared old seat what new =
+    (looked : TimedCore C K) × HasLooked machine compared old looked × TakesStep given machine compared looked seat what new

@@ -1,0 +1,210 @@
+//! A core with its clock.
+ghost use Rattle.std.specs.Prelude.{ℕ, ◌≡◌, ◌<◌, ◌↔◌, ◌+◌, [], false, not, true, IfOk, IsErrOf, IsTrue};
+ghost use Rattle.bq_job.specs.beside.NextDue.{is_before, next_due};
+ghost use Rattle.bq_job.specs.machine.Machine.{new_machine};
+ghost use Rattle.bq_steps.specs.Limits.{are_in_range};
+ghost use Rattle.bq_steps.specs.Cost.{IsLookWithin};
+ghost use Rattle.bq_host.specs.Compared.{LooksOnce};
+ghost use Rattle.bq_host.specs.Timed.{HearsDue, IsNewTimed, IsReady, LooksAndSteps, OnlyHears, PassesOver, TakesStep};
+
+use crate::fault::RunFault;
+use crate::heard_clock::HeardClock;
+use crate::notices::{Concern, Notices, concern_of};
+use bq_job::{Moment, Seat, Step};
+use bq_line::clock::Clock;
+use bq_steps::{Config, CoreFault, Outs, QueueCore};
+use std::alloc::Global;
+
+/// A core that takes each step at the moment that its clock gives then.
+#[derive(Drop)]
+pub struct TimedCore<C, K> {
+    /// For the steps that may ask for memory.
+    pub alloc: Global,
+    pub core: K,
+    /// The answers of the last step that were not taken out yet.
+    pub outs: Outs,
+    pub time: HeardClock<C>,
+    /// The next moment at which something is due.
+    pub due: Option<Moment>,
+    /// Whether that is so of the core as it stands now: it was asked since its last step.
+    pub is_due_known: bool,
+    /// What the operator was told of the core's steps.
+    pub notices: Notices,
+}
+
+/// A core at which nothing was done, and room for the answers of its steps. All memory but that for jobs is asked for here.
+///
+/// The fault is `BadConfiguration` if the configuration is out of its ranges, and else `NoMemory`.
+pub fn new_core<K: QueueCore + Drop>(alloc: Global, config: Config) -> Result<(K, Outs), RunFault>
+    ensures core { IfOk result (λ new. K.machine new.0 ≡ new_machine config) }
+    ensures none_compared { IfOk result (λ new. K.comparisons new.0 ≡ 0) }
+    ensures none_given { IfOk result (λ new. new.1.given ≡ []) }
+    ensures room { IfOk result (λ new. new.1.most ≡ config.seats + 1) }
+    ensures bad_configuration { IsErrOf result RunFault.BadConfiguration ↔ IsTrue
+        (not (are_in_range config)) }
+    ensures no_thread { IsErrOf result RunFault.ThreadRefused ↔ ⊥ }
+{
+    let core = match K::new(alloc, config) {
+        Ok(core) => core,
+        Err(CoreFault::NoMemory) => return Err(RunFault::NoMemory),
+        Err(_) => return Err(RunFault::BadConfiguration),
+    };
+    match Outs::new(alloc, config.seats) {
+        Ok(outs) => Ok((core, outs)),
+        Err(_) => Err(RunFault::NoMemory),
+    }
+}
+
+impl<C: Clock + Drop, K: QueueCore + Drop> TimedCore<C, K> {
+    /// A core at which nothing was done, with a clock that was not read yet. All memory but that for jobs is asked for
+    /// here.
+    ///
+    /// The fault is `BadConfiguration` if the configuration is out of its ranges, and else `NoMemory`.
+    pub fn new(alloc: Global, config: Config, clock: C) -> Result<TimedCore<C, K>, RunFault>
+        ensures made { IfOk result (IsNewTimed K.machine K.comparisons config clock) }
+        ensures bad_configuration { IsErrOf result RunFault.BadConfiguration ↔ IsTrue
+            (not (are_in_range config)) }
+        ensures no_thread { IsErrOf result RunFault.ThreadRefused ↔ ⊥ }
+    {
+        let (core, outs) = new_core::<K>(alloc, config)?;
+        Ok(TimedCore::over(alloc, core, outs, clock))
+    }
+
+    /// This core with a clock that was not read yet.
+    pub fn over(alloc: Global, core: K, outs: Outs, clock: C) -> TimedCore<C, K>
+        ensures core { result.core ≡ core }
+        ensures outs { result.outs ≡ outs }
+        ensures clock { result.time.clock ≡ clock }
+        ensures none_heard { result.time.moment ≡ 0 }
+        ensures unknown { result.is_due_known ≡ false }
+    {
+        TimedCore {
+            alloc,
+            core,
+            outs,
+            time: HeardClock::new(clock),
+            due: None,
+            is_due_known: false,
+            notices: Notices::none(),
+        }
+    }
+
+    /// The core takes a step at the moment that the clock gives now. The clock is told what the operator has to see of it.
+    /// The step stays where it lies.
+    pub fn take_step(&mut self, seat: Seat, what: &Step)
+        requires ready { IsReady K.machine self.old }
+        ensures ready { IsReady K.machine self.new }
+        ensures taken { TakesStep C.given K.machine K.comparisons self.old seat what.now self.new }
+    {
+        let concern = concern_of(what);
+        self.step(seat, what);
+        self.tell(concern);
+    }
+
+    // The core takes a step at the moment that the clock gives now.
+    fn step(&mut self, seat: Seat, what: &Step)
+        requires ready { IsReady K.machine self.old }
+        ensures ready { IsReady K.machine self.new }
+        ensures taken { TakesStep C.given K.machine K.comparisons self.old seat what.now self.new }
+    {
+        let _reading = self.time.hear();
+        self.is_due_known = false;
+        self.core
+            .step_in_place(self.alloc, self.time.moment, seat, what, &mut self.outs);
+    }
+
+    // Tells the clock what the last step has to be reported for.
+    fn tell(&mut self, concern: Concern)
+        ensures { self.new ≡ record self.old { notices = self.new.notices } }
+    {
+        let is_refused = self.outs.left_out() || self.outs.unshared();
+        if let Some(notice) = self.notices.after(concern, is_refused, self.time.moment) {
+            self.time.clock.tell(notice);
+        }
+    }
+
+    /// Takes a tick if something is due by now, and returns true exactly then. The clock is read once, unless nothing is
+    /// ever due: a tick is taken at the moment of that reading.
+    pub fn tick_if_due(&mut self, seat: Seat) -> bool
+        requires ready { IsReady K.machine self.old }
+        ensures ready { IsReady K.machine self.new }
+        ensures over { result ≡ false → PassesOver C.given K.machine K.comparisons self.old self.new }
+        ensures ticked { result ≡ true → LooksAndSteps C.given K.machine K.comparisons self.old seat Step.Tick self.new }
+        ensures ticks { result
+            ≡ not (is_before self.new.time.moment (next_due (K.machine self.old.core))) }
+        ensures due { self.new.due ≡ next_due (K.machine self.old.core) }
+        ensures settings { (K.machine self.new.core).settings ≡ (K.machine self.old.core).settings }
+    {
+        if !self.is_due() {
+            return false;
+        }
+        self.tick(seat);
+        true
+    }
+
+    // The core takes a tick at the moment heard last.
+    fn tick(&mut self, seat: Seat)
+        requires ready { IsReady K.machine self.old }
+        ensures ready { IsReady K.machine self.new }
+        ensures ticked { (first : TimedCore C K) → OnlyHears C.given first self.old → TakesStep C.given K.machine K.comparisons first seat Step.Tick self.new }
+        ensures time { self.new.time ≡ self.old.time }
+        ensures due { self.new.due ≡ self.old.due }
+        ensures settings { (K.machine self.new.core).settings ≡ (K.machine self.old.core).settings }
+    {
+        self.is_due_known = false;
+        self.core.step_in_place(
+            self.alloc,
+            self.time.moment,
+            seat,
+            &Step::Tick,
+            &mut self.outs,
+        );
+    }
+
+    /// Returns true exactly if something is due by now. The clock is read once, unless nothing is ever due.
+    pub fn is_due(&mut self) -> bool
+        requires ready { IsReady K.machine self.old }
+        ensures ready { IsReady K.machine self.new }
+        ensures over { PassesOver C.given K.machine K.comparisons self.old self.new }
+        ensures heard { result ≡ true → HearsDue C.given K.machine K.comparisons self.old self.new }
+        ensures is_due { result
+            ≡ not (is_before self.new.time.moment (next_due (K.machine self.old.core))) }
+        ensures due { self.new.due ≡ next_due (K.machine self.old.core) }
+        ensures same { K.machine self.new.core ≡ K.machine self.old.core }
+    {
+        let Some(due) = self.look() else {
+            return false;
+        };
+        self.hear();
+        if due > self.time.moment {
+            return false;
+        }
+        true
+    }
+
+    // Reads the clock once.
+    fn hear(&mut self)
+        ensures { OnlyHears C.given self.old self.new }
+    {
+        let _reading = self.time.hear();
+    }
+
+    // The next moment at which something is due. The core is asked once after a step.
+    fn look(&mut self) -> Option<Moment>
+        requires ready { IsReady K.machine self.old }
+        ensures ready { IsReady K.machine self.new }
+        ensures due { result ≡ next_due (K.machine self.old.core) }
+        ensures known { (self.new.due ≡ result) × (self.new.is_due_known ≡ true) }
+        ensures same { K.machine self.new.core ≡ K.machine self.old.core }
+        ensures once { (count : ℕ) → LooksOnce self.old.is_due_known (K.machine self.old.core) count (K.comparisons self.old.core)
+            → IsLookWithin (K.machine self.old.core) count (K.comparisons self.new.core) }
+        ensures rest { self.new
+            ≡ record self.old { core = self.new.core; due = self.new.due; is_due_known = true } }
+    {
+        if !self.is_due_known {
+            self.due = self.core.next_due();
+            self.is_due_known = true;
+        }
+        self.due
+    }
+}
