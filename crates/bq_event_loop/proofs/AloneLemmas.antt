@@ -1,4 +1,4 @@
--- A hub at which nothing was done.
+-- A new hub.
 use Rattle.std.proofs.Common.{◌≡◌, ℕ, zero, suc, List, [], ◌++◌, length, replicate, refl, ap, ◌∙◌}
 use Rattle.std.specs.Prelude.{slice_index_or}
 use Rattle.std.proofs.lemmas.List.{length-replicate}
@@ -7,7 +7,7 @@ use Rattle.bq_job.specs.declared.settings.Settings.{Settings}
 use Rattle.bq_job.specs.promise.Runs.{answers_to}
 use Rattle.bq_event_loop.specs.HubState.{HubState, IsNewHub, waiting}
 
--- no mail lies at a new hub
+-- a new hub has no mail
 abbrev the_empty : List Answer
 the_empty = []
 
@@ -19,7 +19,7 @@ no_mail (suc n) (suc t) = no_mail n t
 pub new_mails_are : (settings : Settings) (d : HubState) → IsNewHub settings d → length d.mails ≡ settings.seats
 new_mails_are settings d new = ap length new.mails ∙ length-replicate settings.seats the_empty
 
--- Nothing waits at a new hub.
+-- No answer waits at a new hub.
 pub none_waits : (settings : Settings) (d : HubState) (seat : ℕ) → IsNewHub settings d → waiting seat d ≡ []
 none_waits settings d seat new =
     ap (λ (ms : List (List Answer)). slice_index_or ms seat [] ++ answers_to seat d.pending) new.mails

@@ -1,4 +1,4 @@
--- How the comparisons of a core go on.
+-- How the count of a core's comparisons grows.
 use Rattle.std.proofs.Common.{◌≡◌, ℕ, Bool, true, false, List, [], ◌∷◌, ◌++◌, Option, refl, sym, ap, ◌∙◌, subst, append-nil, append_assoc}
 use Rattle.bq_job.specs.declared.step.Step.{Step}
 use Rattle.bq_job.specs.machine.Dispatch.{GivenAnswer}
@@ -27,7 +27,7 @@ none_more start before gave from d h =
     subst (λ (xs : List Entry). HasCompared start xs (gave ++ []) from d) (sym (append-nil before))
     (subst (λ (xs : List GivenAnswer). HasCompared start before xs from d) (sym (append-nil gave)) h)
 
--- The core was left alone.
+-- The core was not used.
 pub compared_still : (d n : HubState) → n.core ≡ d.core → n.known ≡ d.known → n.compared ≡ d.compared
     → (start : Machine) (before : List Entry) (gave : List GivenAnswer) (from : ℕ) → HasCompared start before gave from d → HasCompared start (before ++ []) (gave ++ []) from n
 compared_still d n core known compared start before gave from h = none_more start before gave from n (
@@ -46,7 +46,7 @@ compared_looked d n known core once start before gave from h = none_more start b
   subst (λ (b : Bool). LooksOnce b n.core h.0 n.compared) (sym known) (subst (λ (m : Machine). IsLookWithin m h.0 n.compared) (sym core) (once h.0 h.2)),
 )
 
--- One stretch after another.
+-- One part of a history after another.
 pub compared_on : (first next last : HubState) (history more : List Entry) (given later : List GivenAnswer)
     → ((start : Machine) (before : List Entry) (gave : List GivenAnswer) (from : ℕ) → HasCompared start before gave from first → HasCompared start (before ++ history) (gave ++ given) from next)
     → ((start : Machine) (before : List Entry) (gave : List GivenAnswer) (from : ℕ) → HasCompared start before gave from next → HasCompared start (before ++ more) (gave ++ later) from last)
@@ -56,7 +56,7 @@ compared_on first next last history more given later a b start before gave from 
     (subst (λ (xs : List GivenAnswer). HasCompared start ((before ++ history) ++ more) xs from last) (append_assoc gave given later)
     (b start (before ++ history) (gave ++ given) from (a start before gave from h)))
 
--- From a core that compared nothing on.
+-- From a core that has compared nothing.
 pub compared_all : (first last : HubState) (history : List Entry) (given : List GivenAnswer) → first.known ≡ false → first.compared ≡ 0
     → ((start : Machine) (before : List Entry) (gave : List GivenAnswer) (from : ℕ) → HasCompared start before gave from first → HasCompared start (before ++ history) (gave ++ given) from last)
     → AreCompared first.core history given last.core 0 last.compared

@@ -77,7 +77,7 @@ module _ {I : Type 0} (seen : I → ControlSeen) (left : I → Option (List ℕ)
       one_more xs n is = ap (λ (ys : List Step). ys ++ Drain ∷ []) is ∙ replicate-append-replicate n 1 Drain
   tells_drain input line stages.Over first may before h = absurd (let none = h.at_stage.0 in cc)
 
-  -- That it is gone was submitted.
+  -- The end was submitted.
   pub tells_gone : (input : I) (line : List ℕ) → TellsOn seen left may_fail (turns_of input line false stages.Ended) (Gone ∷ []) (turns_of input line false stages.Over)
   tells_gone input line first may before h = record {
     same = h.same;
@@ -155,7 +155,7 @@ module _ {I : Type 0} (seen : I → ControlSeen) (left : I → Option (List ℕ)
   counts_all : (text kept : List ℕ) (count : ℕ) (failed : Bool) → ((rest : List ℕ) (failed : Bool) → drains (text ++ rest) failed ≡ count + drains_from kept rest failed) → drains text failed ≡ count + drains_from kept [] failed
   counts_all text kept count failed h = ap (λ xs. drains xs failed) (sym (append-nil text)) ∙ h [] failed
 
-  -- The end of the input was met, where the last line ends too.
+  -- The end of the input was reached, which also ends the last line.
   pub tells_end : (old new : I) (kept : List ℕ) → seen new ≡ after_heard hears.End (seen old) → may_fail new ≡ may_fail old → Consumes (left old) (left new) [] → IfSome (left old) (λ bytes. IsAtEnd (left new))
       → TellsOn seen left may_fail (turns_of old kept false stages.Reads) [] (turns_of new kept (are_same kept drain_word) stages.Ended)
   tells_end old new kept is may_is read ended first may before h =
@@ -183,7 +183,7 @@ module _ {I : Type 0} (seen : I → ControlSeen) (left : I → Option (List ℕ)
       no_fault : false ≡ true → ⊥
       no_fault e = absurd cc
 
-  -- A read failed, before which an unfinished line is none.
+  -- A read failed, and an incomplete line has no effect.
   pub tells_fault : (old new : I) (kept : List ℕ) → seen new ≡ after_heard hears.Fault (seen old) → may_fail new ≡ may_fail old → Consumes (left old) (left new) [] → may_fail old ≡ true
       → TellsOn seen left may_fail (turns_of old kept false stages.Reads) [] (turns_of new kept false stages.Ended)
   tells_fault old new kept is may_is read may_be first may before h =
@@ -208,7 +208,7 @@ module _ {I : Type 0} (seen : I → ControlSeen) (left : I → Option (List ℕ)
       over_by true = refl
       over_by false = refl
 
-  -- What a control line tells that was read to its end, all of whose steps were submitted.
+  -- A control line that was read to its end and whose steps were all submitted.
   pub record IsToldSo (first : Option (List ℕ)) (may : Bool) (c : ControlTurns I) (told : List Step) : Type 0 where
     pub over : IsOver (seen c.input)
     pub read : IsReadToEnd first (left c.input) (seen c.input).text (seen c.input).failed
@@ -226,7 +226,7 @@ module _ {I : Type 0} (seen : I → ControlSeen) (left : I → Option (List ℕ)
         done = at.1 ∙ ap (λ (n : ℕ). replicate n Drain ++ Gone ∷ []) (sym r.counted);
       }
 
-  -- The end and a fault again, by what was so before.
+  -- The end and a fault again, by the state before.
   pub tells_end_if : (old new : I) (kept : List ℕ) (owes : Bool) (stage : Stage) (word : Bool) → owes ≡ false → stage ≡ stages.Reads → word ≡ are_same kept drain_word
       → seen new ≡ after_heard hears.End (seen old) → may_fail new ≡ may_fail old → Consumes (left old) (left new) [] → IfSome (left old) (λ bytes. IsAtEnd (left new))
       → TellsOn seen left may_fail (turns_of old kept owes stage) [] (turns_of new kept word stages.Ended)

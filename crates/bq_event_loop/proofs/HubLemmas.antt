@@ -64,7 +64,7 @@ map_append : (xs ys : List Entry) → map (λ (e : Entry). e.moment) (xs ++ ys) 
 map_append [] ys = refl
 map_append (x ∷ xs) ys = ap (λ ms. x.moment ∷ ms) (map_append xs ys)
 
--- two stretches of a history are timed by the readings of both
+-- two parts of a history are timed by the readings of both
 timed_on : (first next last : ℕ) (readings reads : List (Option ℕ)) (history more : List Entry) → IsTimedFrom first readings history next → IsTimedFrom next reads more last → IsTimedFrom first (readings ++ reads) (history ++ more) last
 timed_on first next last readings reads history more a b = record {
   picked =
@@ -76,7 +76,8 @@ timed_on first next last readings reads history more a b = record {
   last_is = b.last_is ∙ ap (λ (n : ℕ). last_heard n reads) a.last_is ∙ sym (heard_append first readings reads);
 }
 
--- what waited, was given and taken, twice
+-- for each seat, what waited and was given equals what was taken and waits, for two parts of a
+-- history
 tied_on : (t : ℕ) (first next last : HubState) (given later : List GivenAnswer) (taken more : List Answer)
     → waiting t first ++ answers_to t given ≡ taken ++ waiting t next → waiting t next ++ answers_to t later ≡ more ++ waiting t last
     → waiting t first ++ answers_to t (given ++ later) ≡ (taken ++ more) ++ waiting t last
@@ -88,7 +89,7 @@ tied_on t first next last given later taken more h i =
     ∙ ap (λ (xs : List Answer). taken ++ xs) i
     ∙ sym (append_assoc taken more (waiting t last))
 
--- What happened at a hub, one after the other.
+-- Two parts of what happened at a hub, one after the other.
 pub hub_on : (first next last : HubState) (readings reads : List (Option ℕ)) (history more : List Entry) (took later : ℕ → List Answer)
     → HubWent first readings history took next → HubWent next reads more later last
     → HubWent first (readings ++ reads) (history ++ more) (λ t. took t ++ later t) last
@@ -115,7 +116,7 @@ entry_steps t at seat what =
 abbrev no_steps : List Step
 no_steps = []
 
--- nothing is held where nothing is pending
+-- no answer is held if none is pending
 pub none_held : {X : Type 0} (xs ys : List X) → xs ++ ys ≡ [] → xs ≡ []
 none_held [] ys h = refl
 none_held (x ∷ xs) ys h = absurd cc
@@ -184,7 +185,7 @@ seat_heard d n seat reading core known compared heard mails pending = record {
 pub hub_none : (d : HubState) → HubWent d [] [] (λ t. []) d
 hub_none d = record { given = []; runs = run_none d.core; timed = record { picked = tt; last_is = refl }; many = refl; tied = λ t below. append-nil (waiting t d); compared = compared_still d d refl refl refl }
 
--- A seat did nothing, or one thing after the other.
+-- A seat did nothing, or one thing after another.
 pub seat_none : (d : HubState) (seat : ℕ) → SeatWent seat d [] [] [] d
 seat_none d seat = record {
   history = [];
@@ -250,7 +251,7 @@ seat_looked d n seat known core once mails pending heard = record {
   others_took = λ t differs. refl;
 }
 
--- A hub stays in order while its core does.
+-- A hub stays in order as long as its core does.
 pub order_on : (d n : HubState) → length n.mails ≡ length d.mails → n.core ≡ d.core → n.most ≡ d.most → n.known ≡ d.known → n.due ≡ d.due → (n.sorted ≡ true → n.pending ≡ []) → IsInOrder d → IsInOrder n
 order_on d n mails core most known due none o = record {
   many = mails ∙ o.many ∙ ap (λ (m : Machine). m.settings.seats) (sym core);
@@ -262,7 +263,7 @@ order_on d n mails core most known due none o = record {
 pub order_sorted : (d n : HubState) → IsSorted d n → (n.sorted ≡ true → n.pending ≡ []) → IsInOrder d → IsInOrder n
 order_sorted d n s none o = order_on d n s.many s.core s.most s.known s.due none o
 
--- A hub is in order once its core is ready, where its answers are noted as they are.
+-- A hub is in order if its core is ready and its marks about answers are right.
 pub order_ready : {C K : Type 0} (machine : K → Machine) (compared : K → ℕ) (first last : Hub C K) → IsReady machine last.timed → (machine last.timed.core).settings ≡ (machine first.timed.core).settings → last.mails ≡ first.mails
     → (last.is_sorted ≡ true → (state_of machine compared last).pending ≡ []) → IsInOrder (state_of machine compared first) → IsInOrder (state_of machine compared last)
 order_ready machine compared first last ready settings mails none o = record {
@@ -272,7 +273,7 @@ order_ready machine compared first last ready settings mails none o = record {
   due_is = ready.due;
 }
 
--- Nothing was done yet.
+-- A new hub is in order.
 pub order_new : (settings : Settings) (d : HubState) → IsNewHub settings d → IsInOrder d
 order_new settings d new = record {
   many = ap length new.mails ∙ length-replicate settings.seats none_yet ∙ ap (λ (m : Machine). m.settings.seats) (sym new.core);
@@ -284,7 +285,7 @@ order_new settings d new = record {
     none_yet : List Answer
     none_yet = []
 
--- a clock that was left alone gave no reading
+-- a clock that was not read gave no reading
 pub gave_none : {C : Type 0} (given : C → List (Option ℕ) → C → Type 0) (clock : C) → GaveReadings given clock [] clock
 gave_none given clock first before h = subst (λ (rs : List (Option ℕ)). given first rs clock) (sym (append-nil before)) h
 
@@ -322,7 +323,8 @@ went_step machine compared given seat what first last s mails held empty =
       one_step (state_of machine compared first) (state_of machine compared last) seat what s.reading s.outcome new.outs.given timed s.unknown s.time.heard (ap (λ ms. ms.items) mails) empty (ap (λ (xs : List GivenAnswer). xs ++ new.outs.given) none),
     )
 
--- The core was asked for the next due moment, if that was not known: no seat sees a difference.
+-- The core was asked for the next due moment, if it was not known: this makes no difference to any
+-- seat.
 went_looked : {C K : Type 0} (machine : K → Machine) (compared : K → ℕ) (given : C → List (Option ℕ) → C → Type 0) (seat : ℕ) (first last : Hub C K) (looked : TimedCore C K)
     → HasLooked machine compared first.timed looked → last.timed ≡ looked → last.mails ≡ first.mails → last.held ≡ first.held → WentAt machine compared given seat first [] [] last
 went_looked machine compared given seat first last looked l e mails held =
@@ -363,14 +365,14 @@ went_passed {C} {K} machine compared given seat first last true over ticked mail
     ap (λ (xs : Option GivenAnswer). option_to_list xs ++ looked.outs.given) held ∙ ap (λ (o : Outbox). option_to_list first.held ++ o.given) l.outs ∙ empty in
     went_then machine compared given seat seat first at last [] [] [] [] refl (went_looked machine compared given seat first at looked l refl mails held) (went_step machine compared given seat Tick at last s refl refl none)
 
--- Where no tick was taken, no answer was given.
+-- If no tick was taken, no answer was given.
 pub none_over : {C K : Type 0} (machine : K → Machine) (compared : K → ℕ) (given : C → List (Option ℕ) → C → Type 0) (old new : TimedCore C K) → PassesOver given machine compared old new → new.outs ≡ old.outs
 none_over {C} {K} machine compared given old new (looked, l, rest) = elim rest [
   | inl e ↦ ap (λ (x : TimedCore C K). x.outs) e ∙ l.outs
   | inr h ↦ ap (λ (x : TimedCore C K). x.outs) h.2 ∙ l.outs
 ]
 
--- All answers at a hub are still there, in whatever place.
+-- All answers at a hub are still there, in some place.
 pub went_still : {C K : Type 0} (machine : K → Machine) (compared : K → ℕ) (given : C → List (Option ℕ) → C → Type 0) (seat : ℕ) (first last : Hub C K)
     → last.timed.core ≡ first.timed.core → last.mails ≡ first.mails → (state_of machine compared last).pending ≡ (state_of machine compared first).pending → last.timed.time.moment ≡ first.timed.time.moment → last.timed.outs.most ≡ first.timed.outs.most
     → last.timed.is_due_known ≡ first.timed.is_due_known → last.timed.due ≡ first.timed.due → last.timed.time.clock ≡ first.timed.time.clock → WentAt machine compared given seat first [] [] last
@@ -392,7 +394,7 @@ pub order_woken : {C K : Type 0} (machine : K → Machine) (compared : K → ℕ
 order_woken machine compared next last same o =
     subst (λ (h : Hub _ _). IsInOrder (state_of machine compared h)) (sym same) (record { many = o.many; room = o.room; none_pending = o.none_pending; due_is = o.due_is })
 
--- What is noted of the answers is so still.
+-- The marks about answers are still right.
 pub none_pending_over : {C K : Type 0} (machine : K → Machine) (compared : K → ℕ) (given : C → List (Option ℕ) → C → Type 0) (old : Hub C K) (t : TimedCore C K) → PassesOver given machine compared old.timed t → IsInOrder (state_of machine compared old)
     → old.is_sorted ≡ true → option_to_list old.held ++ t.outs.given ≡ []
 none_pending_over machine compared given old t over o sorted = ap (λ (x : Outbox). option_to_list old.held ++ x.given) (none_over machine compared given old.timed t over) ∙ o.none_pending sorted

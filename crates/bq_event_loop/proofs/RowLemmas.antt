@@ -28,7 +28,7 @@ pub same_selves : {D : Type 0} (same : D → D → Type 0) → ((d : D) → same
 same_selves same self [] = tt
 same_selves same self (d ∷ doors) = (self d, same_selves same self doors)
 
--- One door is the same still, and so are all.
+-- One door is still the same, and so are all.
 pub same_set : {D : Type 0} (same : D → D → Type 0) (handed_in doors : List D) (i : ℕ) (d later : D) → ((first : D) → same first (slice_index_or doors i d) → same first later)
     → AreSame same handed_in doors → AreSame same handed_in (slice_set doors i later)
 same_set same [] [] i d later on h = h
@@ -43,7 +43,8 @@ some_door [] i h = absurd (omega arith)
 some_door (d ∷ doors) i h = d
 
 module _ {L D : Type 0} (seen : L → LineSeen) (at : D → DoorSeen) where
-  -- Of each seat and its door something holds that holds of the changed ones, and held of the others before.
+  -- A property that holds for the changed seat and its door, and held for the others before, holds
+  -- for each seat and its door.
   set_each : (P : ℕ → Attendant L → D → Type 0) (seats : List (Attendant L)) (doors : List D) (i : ℕ) (new : Attendant L) (later : D) → i < length seats → length doors ≡ length seats → P i new later
       → ((t : ℕ) → t ≢ i → t < length seats → (x : Attendant L) (y : D) → P t (slice_index_or seats t x) (slice_index_or doors t y))
       → (t : ℕ) → t < length seats → (x : Attendant L) (y : D) → P t (slice_index_or (slice_set seats i new) t x) (slice_index_or (slice_set doors i later) t y)
@@ -60,7 +61,7 @@ module _ {L D : Type 0} (seen : L → LineSeen) (at : D → DoorSeen) where
           subst (λ (z : Attendant L). P i z (slice_index_or (slice_set doors i later) i y)) (sym (get_or-set_same seats i new x below))
           (subst (λ (z : D). P i new z) (sym (get_or-set_same doors i later y (omega (arith, doored, below)))) own)
 
-  -- A seat went on with its door.
+  -- A seat acted, with its door.
   pub tended_set : (seats : List (Attendant L)) (doors : List D) (i : ℕ) (a new : Attendant L) (d later : D) (submitted : List Step) (taken : List Answer)
       → i < length seats → AllTended seen at seats doors → Tends seen (slice_index_or seats i a) (at (slice_index_or doors i d)) submitted taken new (at later)
       → AllTended seen at (slice_set seats i new) (slice_set doors i later)
@@ -139,7 +140,7 @@ module _ {L D : Type 0} (seen : L → LineSeen) (at : D → DoorSeen) where
   pub placed_at : (seats : List (Attendant L)) (doors : List D) (i : ℕ) (a : Attendant L) (d : D) → AllTended seen at seats doors → i < length seats → IsPlaced (slice_index_or seats i a).place (at (slice_index_or doors i d))
   placed_at seats doors i a d all below = let t = all.each i below a d in t.tended.placed
 
-  -- The same, where a seat and a door are known as what is there.
+  -- The same for a seat and a door that were looked up.
   pub placed_there : (seats : List (Attendant L)) (doors : List D) (i : ℕ) (a : Attendant L) (d : D) → i < length seats → AllTended seen at seats doors → a ≡ slice_index_or seats i a → d ≡ slice_index_or doors i d → IsPlaced a.place (at d)
   placed_there seats doors i a d below all a_is d_is =
       subst (λ (x : Attendant L). IsPlaced x.place (at d)) (sym a_is) (subst (λ (y : D). IsPlaced (slice_index_or seats i a).place (at y)) (sym d_is) (placed_at seats doors i a d all below))

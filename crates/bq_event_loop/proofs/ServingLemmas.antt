@@ -23,7 +23,7 @@ use Rattle.bq_event_loop.specs.declared.hub.Hub.{Hub}
 use Rattle.bq_line.specs.GivenReadings.{GaveReadings}
 use Rattle.bq_event_loop.proofs.HubLemmas.{hub_on, gave_none, gave_then, seat_none, steps_append, went_none}
 
--- what a seat's calls at the hub came to
+-- the result of a seat's calls at the hub
 went_by : {C K : Type 0} (machine : K → Machine) (compared : K → ℕ) (given : C → List (Option ℕ) → C → Type 0) (seat : ℕ) (old new : Hub C K) (submitted : List Step) (taken : List Answer)
     → Calls (WentAt machine compared given seat) old submitted taken new → WentAt machine compared given seat old submitted taken new
 went_by machine compared given seat old new submitted taken (inl w) = w
@@ -84,7 +84,7 @@ module _ {L D : Type 0} (seen : L → LineSeen) (at : D → DoorSeen) where
         | inr e ↦ other t (eqb-false t i e) here x y
       ]
 
-  -- Time passed: no seat submitted or took anything.
+  -- A tick was taken, or none was due: no seat submitted or took anything.
   time_served : (size : ℕ) (control : List Step) (first hub next : HubState) (readings reads : List (Option ℕ)) (seats : List (Attendant L)) (doors : List D) (i : ℕ)
       → AreServed seen at size control first readings hub seats doors → SeatWent i hub reads [] [] next
       → AreServed seen at size control first (readings ++ reads) next seats doors
@@ -162,7 +162,7 @@ module _ {L D : Type 0} (seen : L → LineSeen) (at : D → DoorSeen) where
   }
 
   module _ {C K : Type 0} (machine : K → Machine) (compared : K → ℕ) (given : C → List (Option ℕ) → C → Type 0) (same : D → D → Type 0) where
-    -- Nothing was done yet.
+    -- Nothing was served yet.
     pub serves_none : (hub : Hub C K) (row : Row L D) → ServesOn machine compared given seen at same hub row [] hub row
     serves_none hub row = record {
       reads = [];
@@ -221,7 +221,7 @@ module _ {L D : Type 0} (seen : L → LineSeen) (at : D → DoorSeen) where
           same_doors = λ handed_in h. subst (λ (xs : List D). AreSame same handed_in xs) (sym doors_are) (same_set same handed_in row.doors.items i d door on h);
         }
 
-    -- The same, where the seat and its door are known as what is there.
+    -- The same for a seat and a door that were looked up.
     pub serves_acted : (old new : Hub C K) (row later : Row L D) (i seat : ℕ) (a next : Attendant L) (d door : D)
         → seat ≡ i → i < length row.seats.items → a ≡ slice_index_or row.seats.items i a → d ≡ slice_index_or row.doors.items i d
         → GoesOn (WentAt machine compared given seat) old new seen a (at d) next (at door) → ((first : D) → same first d → same first door)
@@ -233,7 +233,7 @@ module _ {L D : Type 0} (seen : L → LineSeen) (at : D → DoorSeen) where
         (subst (λ (y : D). GoesOn (WentAt machine compared given seat) old new seen a (at y) next (at door)) d_is goes))
         (subst (λ (y : D). (first : D) → same first y → same first door) d_is on) seats_are doors_are
 
-    -- Time passed, or answers moved to another place.
+    -- A tick was taken, or answers moved to another place.
     pub serves_time : (old new : Hub C K) (row : Row L D) (i : ℕ) → WentAt machine compared given i old [] [] new → ServesOn machine compared given seen at same old row [] new row
     serves_time old new row i w = record {
       reads = w.0;
@@ -274,7 +274,7 @@ module _ {L D : Type 0} (seen : L → LineSeen) (at : D → DoorSeen) where
       same_doors = r.same_doors;
     }
 
-    -- The same if all that the hub is known by is as it was.
+    -- The same if the hub's state and clock have not changed.
     pub serves_same : (old new : Hub C K) (row : Row L D) → state_of machine compared new ≡ state_of machine compared old → new.timed.time.clock ≡ old.timed.time.clock → ServesOn machine compared given seen at same old row [] new row
     serves_same old new row state clock = serves_time old new row 0 (
       [],

@@ -54,13 +54,13 @@ tended_done {L} seen size a door submitted taken e tended =
 abbrev pub StepsKeepSettings : Type 0
 StepsKeepSettings = (first last : Machine) (at seat : ℕ) (what : Step) (outcome : Outcome) (given : List GivenAnswer) → IsStep first at seat what outcome given last → last.settings ≡ first.settings
 
--- A run keeps the settings.
+-- A run does not change the settings.
 run_keeps : StepsKeepSettings → (first : Machine) (taken : List Transition) (last : Machine) → GoesBy first taken last → last.settings ≡ first.settings
 run_keeps law first [] last e = ap (λ (m : Machine). m.settings) e
 run_keeps law first (t ∷ taken) last g =
     run_keeps law t.last taken last g.2 ∙ law t.first t.last t.entry.moment t.entry.seat t.entry.what t.outcome t.given g.1.step ∙ ap (λ (m : Machine). m.settings) g.0
 
--- no step is at a seat above this one
+-- no step belongs to a seat above this one
 up_to : (seat : ℕ) (history : List Entry) → ((t : ℕ) → seat < t → steps_at t history ≡ []) → list_all (λ (e : Entry). nat_le e.seat seat) (without_ticks history) ≡ true
 up_to seat [] h = refl
 up_to seat (e ∷ history) h =
@@ -147,7 +147,7 @@ module _ {L D : Type 0} (seen : L → LineSeen) (at : D → DoorSeen) (settings 
     pub ends_settings : StepsKeepSettings → hub.core.settings ≡ settings
     ends_settings law = run_keeps law first.core s.went.runs.1.taken hub.core s.went.runs.1.goes ∙ ap (λ (m : Machine). m.settings) new.core
 
-    -- The parts, tied.
+    -- The parts, combined.
     pub ends_joined : (text : List ℕ) (failed : Bool) → IsControlDone text failed control
         → IsJoined settings (map (λ (d : D). (at d).lines_over) doors) text failed readings s.history s.went.given hub.core
     ends_joined text failed said =
@@ -168,7 +168,7 @@ module _ {L D : Type 0} (seen : L → LineSeen) (at : D → DoorSeen) (settings 
           of_nobody_else = up_to settings.seats s.history (λ n above. s.nobody_else n (omega arith));
         }
 
-    -- One history of all, along which the core stayed within its bounds.
+    -- One history of everything, along which the core stayed within its bounds.
     pub record IsEndedSo (text : List ℕ) (failed : Bool) : Type 0 where
       pub history : IsHistoryOf settings (map (λ (d : D). (at d).lines_over) doors) text failed readings hub.core
       pub compared : AreCompared (new_machine settings) history.history history.given hub.core 0 hub.compared

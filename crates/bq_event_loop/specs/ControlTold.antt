@@ -1,4 +1,5 @@
--- A control line that is read between the turns of the seats: which of its steps were submitted so far.
+-- A control line that is read between the turns of the seats, and the steps that it has submitted
+-- so far.
 use Rattle.std.specs.Prelude.{ℕ, ◌≡◌, ◌+◌, Bool, true, false, List, [], ◌∷◌, ◌++◌, Option, Some, None, replicate}
 use Rattle.std.specs.Io.KnownBytes.{Consumes}
 use Rattle.bq_job.specs.declared.step.Step.{Step, TheVariants.{Drain, Gone}}
@@ -9,41 +10,44 @@ use Rattle.bq_event_loop.specs.declared.control_turns.ControlTurns.{ControlTurns
 use Rattle.bq_event_loop.specs.declared.control_turns.Stage.{Stage}
 use Rattle.bq_event_loop.specs.declared.control_turns.Stage.TheVariants as stages
 
--- the step that is to be submitted next
+-- the step that has to be submitted next
 abbrev pub owed_by : Bool → Stage → Option Step
 owed_by true stage = Some Drain
 owed_by false stages.Reads = None
 owed_by false stages.Ended = Some Gone
 owed_by false stages.Over = None
 
--- This was read so far, and its lines that have ended ask for this many drains. `kept` is what the line that has not ended has.
+-- This text was read so far, and its complete lines ask for this many drains. `kept` is the text of
+-- the incomplete line.
 pub record IsReading (first left : Option (List ℕ)) (seen : ControlSeen) (kept : List ℕ) (count : ℕ) : Type 0 where
   pub read : Consumes first left seen.text
   pub well : seen.failed ≡ false
   pub counted : (rest : List ℕ) (failed : Bool) → drains (seen.text ++ rest) failed ≡ count + drains_from kept rest failed
 
--- All was read, and it asks for this many drains.
+-- Everything was read, and it asks for this many drains.
 pub record IsRead (first left : Option (List ℕ)) (may_fail : Bool) (seen : ControlSeen) (count : ℕ) : Type 0 where
   pub over : IsOver seen
   pub read : IsReadToEnd first left seen.text seen.failed
   pub fault : seen.failed ≡ true → may_fail ≡ true
   pub counted : drains seen.text seen.failed ≡ count
 
--- by how far it was read: this many drains were submitted, and of those that were asked for this many were not yet
+-- by the stage: this many drains were submitted, and this many of those that were asked for were
+-- not yet
 abbrev pub IsAtStage : Stage → Option (List ℕ) → Option (List ℕ) → Bool → ControlSeen → List ℕ → ℕ → ℕ → List Step → Type 0
 IsAtStage stages.Reads first left may_fail seen kept owed count told = (told ≡ replicate count Drain) × IsReading first left seen kept (count + owed)
 IsAtStage stages.Ended first left may_fail seen kept owed count told = (told ≡ replicate count Drain) × IsRead first left may_fail seen (count + owed)
 IsAtStage stages.Over first left may_fail seen kept owed count told =
     (owed ≡ 0) × (told ≡ replicate count Drain ++ Gone ∷ []) × IsRead first left may_fail seen count
 
--- These steps were submitted of a control line whose reader had these bytes left at first, and may fail or not.
+-- A control line whose reader at first had these bytes left and may fail or not, and which has
+-- submitted these steps.
 pub record HasTold {I : Type 0} (seen : I → ControlSeen) (left : I → Option (List ℕ)) (may_fail : I → Bool) (first : Option (List ℕ)) (may : Bool)
     (c : ControlTurns I) (told : List Step) : Type 0 where
   pub same : may_fail c.input ≡ may
   pub count : ℕ
   pub at_stage : IsAtStage c.stage first (left c.input) may (seen c.input) c.line (one_if c.owes_drain) count told
 
--- Whatever was submitted before, these steps were after it.
+-- Whatever was submitted before, these steps were submitted after it.
 abbrev pub TellsOn : {I : Type 0} → (I → ControlSeen) → (I → Option (List ℕ)) → (I → Bool) → ControlTurns I → List Step → ControlTurns I → Type 0
 TellsOn seen left may_fail old more new =
     (first : Option (List ℕ)) (may : Bool) (before : List Step) → HasTold seen left may_fail first may old before

@@ -9,7 +9,7 @@ use Rattle.bq_event_loop.specs.HubState.{HubState}
 use Rattle.bq_event_loop.specs.HubWent.{SeatWent}
 use Rattle.bq_event_loop.specs.declared.hub.Hub.{Hub}
 
--- by the machine that a core stands for and its comparisons
+-- from the machine that a core represents and its comparisons
 abbrev pub state_of : {C K : Type 0} → (K → Machine) → (K → ℕ) → Hub C K → HubState
 state_of machine compared h = record {
   core = machine h.timed.core;

@@ -1,4 +1,4 @@
--- A hub apart from its clock.
+-- The state of a hub without its clock.
 use Rattle.std.specs.Prelude.{ℕ, ◌≡◌, ◌<◌, ◌≤◌, Bool, true, false, List, [], ◌∷◌, ◌++◌, Option, length, replicate, slice_index_or}
 use Rattle.bq_job.specs.beside.NextDue.{next_due}
 use Rattle.bq_job.specs.declared.answer.Answer.{Answer}
@@ -13,9 +13,9 @@ pub record HubState : Type 0 where
   pub mails : List (List Answer)
   pub pending : List GivenAnswer
   pub sorted : Bool
-  -- the moment heard last
+  -- the latest moment of the clock
   pub heard : ℕ
-  -- how many answers a step can give at most
+  -- the most answers that a step can give
   pub most : ℕ
   -- the next due moment, if it is known, and the comparisons so far
   pub known : Bool
@@ -26,7 +26,7 @@ pub record HubState : Type 0 where
 abbrev pub waiting : ℕ → HubState → List Answer
 waiting seat d = slice_index_or d.mails seat [] ++ answers_to seat d.pending
 
--- Nothing was done yet.
+-- A new hub.
 pub record IsNewHub (settings : Settings) (d : HubState) : Type 0 where
   pub core : d.core ≡ new_machine settings
   pub mails : d.mails ≡ replicate settings.seats []
@@ -36,14 +36,15 @@ pub record IsNewHub (settings : Settings) (d : HubState) : Type 0 where
   pub unknown : d.known ≡ false
   pub none_compared : d.compared ≡ 0
 
--- Each seat has its mail, there is room for the answers of a step, and what is noted of answers and of the next due moment is true.
+-- Each seat has its mail, there is room for the answers of a step, and the marks about answers and
+-- the next due moment are right.
 pub record IsInOrder (d : HubState) : Type 0 where
   pub many : length d.mails ≡ d.core.settings.seats
   pub room : d.core.settings.seats < d.most
   pub none_pending : d.sorted ≡ true → d.pending ≡ []
   pub due_is : d.known ≡ true → d.due ≡ next_due d.core
 
--- Answers moved from one place of a hub to another, and no seat sees a difference.
+-- Answers moved from one place of a hub to another, which makes no difference to any seat.
 pub record IsSorted (first last : HubState) : Type 0 where
   pub core : last.core ≡ first.core
   pub heard : last.heard ≡ first.heard

@@ -9,8 +9,8 @@ use Rattle.bq_job.specs.promise.Runs.{Entry, Run, answers_to}
 use Rattle.bq_host.specs.Compared.{AreWithin, LooksOnce}
 use Rattle.bq_event_loop.specs.HubState.{HubState, waiting}
 
--- Along this history, from this many comparisons on, the core stayed within the bounds of its steps, and looked once at most for
--- the next due moment since the last one.
+-- Along this history, counted from this many comparisons on, the core stayed within the bounds of
+-- its steps, and was asked for the next due moment at most once since the last step.
 abbrev pub HasCompared : Machine → List Entry → List GivenAnswer → ℕ → HubState → Type 0
 HasCompared start history given from d = (count : ℕ) × AreWithin start history given d.core from count × LooksOnce d.known d.core count d.compared
 

@@ -8,7 +8,7 @@ use Rattle.bq_driver.specs.declared.attendant.Attendant.{Attendant}
 use Rattle.bq_driver.specs.declared.attendant.LinePlace.TheVariants.{Done}
 use Rattle.bq_event_loop.specs.declared.row.Row.{Row}
 
--- A seat did for its door's lines whatever it did so far.
+-- A seat has done something for its door's lines, by the rules.
 pub record IsSomehowTended {L : Type 0} (seen : L → LineSeen) (a : Attendant L) (door : DoorSeen) : Type 0 where
   pub max_job_size : ℕ
   pub submitted : List Step
@@ -19,7 +19,7 @@ pub record AllTended {L D : Type 0} (seen : L → LineSeen) (at : D → DoorSeen
   pub doored : length doors ≡ length seats
   pub each : (seat : ℕ) → seat < length seats → (a : Attendant L) (d : D) → IsSomehowTended seen (slice_index_or seats seat a) (at (slice_index_or doors seat d))
 
--- Each seat has a door, for whose lines it did whatever it did so far.
+-- Each seat has a door and has done something for the door's lines, by the rules.
 abbrev pub AreTended : {L D : Type 0} → (L → LineSeen) → (D → DoorSeen) → Row L D → Type 0
 AreTended seen at row = AllTended seen at row.seats.items row.doors.items
 
@@ -31,7 +31,8 @@ pub record AllRested {L D : Type 0} (seen : L → LineSeen) (at : D → DoorSeen
       → Tends seen (slice_index_or firsts seat a) (at (slice_index_or first_doors seat d)) [] [] (slice_index_or seats seat a) (at (slice_index_or doors seat d))
   pub same_doors : (handed_in : List D) → AreSame same handed_in first_doors → AreSame same handed_in doors
 
--- Between these two no seat submitted a step or took an answer, whatever else was done with it and its door.
+-- Between these two states no seat submitted a step or took an answer, whatever else was done with
+-- it and its door.
 abbrev pub RestsSince : {L D : Type 0} → (L → LineSeen) → (D → DoorSeen) → (D → D → Type 0) → Row L D → Row L D → Type 0
 RestsSince seen at same first row = AllRested seen at same first.seats.items first.doors.items row.seats.items row.doors.items
 

@@ -15,8 +15,9 @@ use Rattle.bq_event_loop.specs.HubWent.{HubWent}
 use Rattle.bq_event_loop.specs.declared.hub.Hub.{Hub}
 use Rattle.bq_event_loop.specs.declared.row.Row.{Row}
 
--- What was served from the first hub on. The core took the steps of one history. Each seat did what the history has of it, with the
--- answers that were taken out for it; the control line, whose number comes after theirs, submitted these steps; and there are no others.
+-- What was served from the first hub on. The core took the steps of one history. Each seat did what
+-- the history has for it, with the answers that were taken out for it. The control line, whose
+-- number comes after those of the seats, submitted these steps. The history has no other steps.
 pub record AreServed {L D : Type 0} (seen : L → LineSeen) (at : D → DoorSeen) (max_job_size : ℕ) (control : List Step) (first : HubState)
     (readings : List (Option ℕ)) (hub : HubState) (seats : List (Attendant L)) (doors : List D) : Type 0 where
   pub history : List Entry
@@ -29,7 +30,8 @@ pub record AreServed {L D : Type 0} (seen : L → LineSeen) (at : D → DoorSeen
   pub control_is : steps_at (length seats) history ≡ control
   pub nobody_else : (seat : ℕ) → length seats < seat → steps_at seat history ≡ []
 
--- Whatever was served before, it went on with these readings of the clock and these steps of the control line.
+-- Whatever was served before, the service went on with these readings of the clock and these steps
+-- of the control line.
 pub record ServesOn {C K L D : Type 0} (machine : K → Machine) (compared : K → ℕ) (given : C → List (Option ℕ) → C → Type 0)
     (seen : L → LineSeen) (at : D → DoorSeen) (same : D → D → Type 0)
     (old : Hub C K) (row : Row L D) (control : List Step) (new : Hub C K) (later : Row L D) : Type 0 where

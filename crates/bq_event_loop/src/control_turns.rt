@@ -10,30 +10,30 @@ use bq_driver::control::LineSoFar;
 use bq_driver::control_line::{ControlInput, Heard};
 use bq_job::Step;
 
-/// How far a control line was read.
+/// How far a control line has been read.
 #[derive(Clone, Copy, Debug, PartialEq, Eq)]
 pub enum Stage {
-    /// There may be more of it.
+    /// There may be more to read.
     Reads,
-    /// Its input has ended or failed, which is to be submitted.
+    /// Its input has ended or failed, and this has to be submitted.
     Ended,
-    /// That was submitted.
+    /// The end was submitted.
     Over,
 }
 
-/// A control line and which of its steps were submitted.
+/// A control line, with the steps that it has to submit.
 #[derive(Drop)]
 pub struct ControlTurns<I> {
     pub input: I,
-    /// What is kept of the line that is being read.
+    /// The part of the current line that was read so far.
     pub line: LineSoFar,
-    /// Whether a line said so, and it is to be submitted.
+    /// Whether a line said `drain` and the drain has to be submitted.
     pub owes_drain: bool,
     pub stage: Stage,
 }
 
 impl<I: ControlInput> ControlTurns<I> {
-    /// A control line of which nothing was read.
+    /// Returns a control line of which nothing was read.
     pub fn new(input: I) -> ControlTurns<I>
         requires new { I.seen input ≡ new_control }
         ensures { HasTold I.seen I.remaining I.may_fail (I.remaining input) (I.may_fail input) result [] }
@@ -53,7 +53,7 @@ impl<I: ControlInput> ControlTurns<I> {
         matches!(self.stage, Stage::Over)
     }
 
-    /// Where it is.
+    /// Returns the state of the control line.
     pub fn stands(&self) -> ControlStands {
         if self.is_over() {
             ControlStands::Over
@@ -64,12 +64,12 @@ impl<I: ControlInput> ControlTurns<I> {
         }
     }
 
-    /// Returns true if the next read waits for nothing, as far as its reader knows.
+    /// Returns true if the next read does not wait, as far as its reader knows.
     pub fn has_unread(&self) -> bool {
         self.input.has_unread()
     }
 
-    /// The step that is to be submitted next, if there is one.
+    /// Returns the step that has to be submitted next, if there is one.
     pub fn owed(&self) -> Option<Step>
         ensures { result ≡ owed_by self.now.owes_drain self.now.stage }
     {
@@ -82,7 +82,7 @@ impl<I: ControlInput> ControlTurns<I> {
         }
     }
 
-    /// The step that was to be submitted next was submitted.
+    /// Notes that this step was submitted.
     pub fn note_submitted(&mut self)
         ensures { TellsOn I.seen I.remaining I.may_fail self.old
             (option_to_list (owed_by self.old.owes_drain self.old.stage)) self.new }
@@ -96,7 +96,7 @@ impl<I: ControlInput> ControlTurns<I> {
         }
     }
 
-    /// Reads once, unless a step is to be submitted first or all was read.
+    /// Reads once, unless a step has to be submitted first or everything was read.
     pub fn read(&mut self)
         ensures { TellsOn I.seen I.remaining I.may_fail self.old [] self.new }
     {

@@ -19,11 +19,13 @@ use std::os::fd::RawFd;
 use std::rt;
 use std::sync::Wait;
 
-/// Serves the lines of all doors, each door at a seat of its own, until no more lines come at any of them. The calling thread does all of
-/// it, as epoll reports that lines are ready. It reads the control line too, of which each line `drain` begins draining: when
-/// `control_source`, its descriptor, is ready, or to its end before any door is looked at if there is none or epoll refuses it.
+/// Serves the lines of all doors, each door at a seat of its own, until no more lines come at any
+/// of them. The calling thread does everything, as epoll reports that lines are ready. It also
+/// reads the control line, where each line `drain` starts draining. It reads it when epoll reports
+/// `control_source`, its descriptor, as ready. If there is no descriptor or epoll rejects it, the
+/// control line is read to its end before any door is checked.
 ///
-/// Doors must not wait when they are looked at. The faults are those of `run_turns`.
+/// Doors must not block when they are checked. The errors are those of `run_turns`.
 pub fn run_event_loop<
     R: Net + rt::Clock + Wait,
     L: Line + Drop,
@@ -40,18 +42,20 @@ pub fn run_event_loop<
     control: I,
     control_source: Option<RawFd>,
 ) -> Result<EventLoopRun<D, C, I, K>, RunFault>
-    // No line is out or over at any door, and none is at its end.
+    // No door has a line that is open or was served, and no door is at its end.
     requires new { All
         (λ door. IsNewDoor (door_seen D.is_out D.is_at_end D.lines_over door)) doors.items }
-    // There is one history of all clients' steps and those of the control line, each at the moment of a reading of the clock. The one-list
-    // machine takes it, the core stands for the machine after it, and each line received exactly the bytes that it is owed along it.
+    // There is one history of the steps of all clients and of the control line, each at the moment
+    // of a reading of the clock. The one-list machine takes this history, the core represents the
+    // machine after it, and each line received exactly the bytes that the history prescribes for
+    // it.
     ensures served { IfOk result
         (IsEventLoopRun C.given D.lines_over I.remaining I.may_fail K.machine K.comparisons config clock control) }
     ensures at_end { IfOk result
         (λ run. All (λ door. (D.is_out door ≡ false) × (D.is_at_end door ≡ true)) run.doors.items) }
-    // They are the doors that were handed in, in their order.
+    // The doors are those that were passed in, in the same order.
     ensures same { IfOk result (λ run. AreSame D.same doors.items run.doors.items) }
-    // The core can go on.
+    // The core can be used further.
     ensures settings { IfOk result (λ run. (K.machine run.core).settings ≡ config) }
     ensures bad_configuration { IsErrOf result RunFault.BadConfiguration
         ↔ IsTrue (not (are_in_range config && vec_len doors == config.seats)) }

@@ -11,18 +11,20 @@ use bq_line::clock::Clock;
 use bq_steps::{Config, QueueCore};
 use std::alloc::Global;
 
-/// The core with its clock, and the answers that no seat has taken yet. An answer to the seat that submitted the last step is taken from
-/// where the core put it. All others go through the mail of their seats.
+/// The core with its clock, and the answers that no seat has taken yet. An answer to the seat that
+/// submitted the last step is taken from where the core put it. All other answers go through the
+/// mail of their seats.
 #[derive(Drop)]
 pub struct Hub<C, K> {
-    /// With the answers of the last step that are not in the mail.
+    /// The core with its clock. Its buffer has the answers of the last step that are not in the
+    /// mail.
     pub timed: TimedCore<C, K>,
-    /// The oldest of these, if the mail of its seat was full.
+    /// The oldest of these answers, if the mail of its seat was full.
     pub held: Option<(Seat, Answer)>,
     pub mails: Vec<Mail, Global>,
-    /// Whether it is known that all answers are in the mail.
+    /// True if it is known that all answers are in the mail.
     pub is_sorted: bool,
-    /// The seats into whose mail an answer was put.
+    /// The seats that received mail.
     pub woken: Woken,
 }
 
@@ -33,9 +35,10 @@ impl<C: Clock + Drop, K: QueueCore + Drop> Hub<C, K> {
     ghost use Rattle.bq_steps.specs.Limits.{are_in_range};
     ghost use Rattle.bq_driver.specs.Links.{as_submitted};
 
-    /// A hub at which nothing was done. All memory but that for jobs and answers is asked for here.
+    /// Returns a new hub. All memory but that for jobs and answers is allocated here.
     ///
-    /// The fault is `BadConfiguration` if the configuration is out of its ranges, and else `NoMemory`.
+    /// The error is `BadConfiguration` if the configuration is out of its ranges, and otherwise
+    /// `NoMemory`.
     pub fn new(alloc: Global, config: Config, clock: C) -> Result<Hub<C, K>, RunFault>
         ensures made { IfOk result (λ hub. IsNewHub config (state_of K.machine K.comparisons hub)) }
         ensures order { IfOk result (λ hub. IsInOrder (state_of K.machine K.comparisons hub)) }
@@ -59,8 +62,9 @@ impl<C: Clock + Drop, K: QueueCore + Drop> Hub<C, K> {
         })
     }
 
-    /// The core takes this step of a seat, at the moment that the clock gives now. Returns false if it did not, because an answer of an
-    /// earlier step waits for room in the mail of its seat.
+    /// Lets the core take this step of a seat, at the moment that the clock reads now. Returns
+    /// false if it did not, because an answer of an earlier step waits for room in the mail of its
+    /// seat.
     pub fn submit(&mut self, seat: Seat, step: &Step) -> bool
         requires order { IsInOrder (state_of K.machine K.comparisons self.old) }
         ensures order { IsInOrder (state_of K.machine K.comparisons self.new) }
@@ -74,7 +78,7 @@ impl<C: Clock + Drop, K: QueueCore + Drop> Hub<C, K> {
         true
     }
 
-    // The core takes a step at the moment that the clock gives now.
+    // Lets the core take a step at the moment that the clock reads now.
     fn take_step(&mut self, seat: Seat, what: &Step)
         requires order { IsInOrder (state_of K.machine K.comparisons self.old) }
         requires empty { (state_of K.machine K.comparisons self.old).pending ≡ [] }
@@ -85,7 +89,7 @@ impl<C: Clock + Drop, K: QueueCore + Drop> Hub<C, K> {
         self.timed.take_step(seat, what);
     }
 
-    /// Takes out the oldest answer to the seat, if there is one.
+    /// Takes the oldest answer to the seat, if there is one.
     pub fn take(&mut self, seat: Seat) -> Option<Answer>
         requires order { IsInOrder (state_of K.machine K.comparisons self.old) }
         requires within { seat < length self.old.mails.items }
@@ -98,7 +102,8 @@ impl<C: Clock + Drop, K: QueueCore + Drop> Hub<C, K> {
         }
     }
 
-    // The same if nothing is in its mail. Mostly the core's only answer is for the seat, and was not put there.
+    // The same if the seat has no mail. Mostly the core's only answer is for this seat and was not
+    // put into the mail.
     fn take_pending(&mut self, seat: Seat) -> Option<Answer>
         requires order { IsInOrder (state_of K.machine K.comparisons self.old) }
         requires within { seat < length self.old.mails.items }
@@ -117,7 +122,7 @@ impl<C: Clock + Drop, K: QueueCore + Drop> Hub<C, K> {
         self.take_mail(seat)
     }
 
-    // An answer is the oldest one again.
+    // Makes an answer the oldest one again.
     fn put_back(&mut self, seat: Seat, answer: Answer)
         ensures held { self.new.held ≡ Some (seat, answer) }
         ensures marked { self.new.is_sorted ≡ false }
@@ -143,8 +148,8 @@ impl<C: Clock + Drop, K: QueueCore + Drop> Hub<C, K> {
         self.mails[usize::from(seat)].take_first()
     }
 
-    /// Puts all answers into the mail of their seats, of which no seat sees a difference. Returns false if one is left, because the mail of
-    /// its seat is full.
+    /// Puts all answers into the mail of their seats, which makes no difference to any seat.
+    /// Returns false if one is left because the mail of its seat is full.
     pub fn sort(&mut self, seat: Seat) -> bool
         requires order { IsInOrder (state_of K.machine K.comparisons self.old) }
         ensures order { IsInOrder (state_of K.machine K.comparisons self.new) }
@@ -170,7 +175,7 @@ impl<C: Clock + Drop, K: QueueCore + Drop> Hub<C, K> {
         sorts
     }
 
-    // Puts what is pending into the mail. Returns true if nothing is pending any more.
+    // Puts pending answers into the mail. Returns true if none is left.
     fn deliver(&mut self) -> bool
         ensures sorted { IsSorted (state_of K.machine K.comparisons self.old) (state_of K.machine K.comparisons self.new) }
         ensures clock { self.new.timed.time.clock ≡ self.old.timed.time.clock }
@@ -204,15 +209,15 @@ impl<C: Clock + Drop, K: QueueCore + Drop> Hub<C, K> {
         }
     }
 
-    /// Takes out the first of the seats into whose mail an answer was put.
+    /// Removes and returns the first of the seats that received mail.
     pub fn next_woken(&mut self) -> Option<Seat>
         ensures { self.new ≡ record self.old { woken = self.new.woken } }
     {
         self.woken.take_first()
     }
 
-    /// Time passes: the core takes a tick if something is due by now, and all answers are put into the mail. Returns in how many milliseconds
-    /// something is due next, or None if nothing is; 0 if a tick was taken.
+    /// Takes a tick if something is due by now, and puts all answers into the mail. Returns in how
+    /// many milliseconds something is due next, or `None` if nothing is; 0 if a tick was taken.
     pub fn pass_time(&mut self) -> Option<u64>
         requires order { IsInOrder (state_of K.machine K.comparisons self.old) }
         ensures order { IsInOrder (state_of K.machine K.comparisons self.new) }
@@ -223,7 +228,7 @@ impl<C: Clock + Drop, K: QueueCore + Drop> Hub<C, K> {
         self.rest(ticks)
     }
 
-    // In how many milliseconds something is due, as far as that is known: at once after a tick.
+    // Returns in how many milliseconds something is due, as far as that is known; 0 after a tick.
     fn rest(&self, ticks: bool) -> Option<u64> {
         if ticks {
             return Some(0);
@@ -232,8 +237,8 @@ impl<C: Clock + Drop, K: QueueCore + Drop> Hub<C, K> {
         Some(due.saturating_sub(self.timed.time.moment))
     }
 
-    // The core takes a tick if something is due by now. Returns true if it is, although an answer may wait for room in a mail, so that no
-    // tick can be taken yet.
+    // Takes a tick if something is due by now. Returns true if something is due, even if no tick
+    // can be taken yet because an answer waits for room in a mail.
     fn tick_if_due(&mut self) -> bool
         requires order { IsInOrder (state_of K.machine K.comparisons self.old) }
         ensures order { IsInOrder (state_of K.machine K.comparisons self.new) }
@@ -246,7 +251,8 @@ impl<C: Clock + Drop, K: QueueCore + Drop> Hub<C, K> {
         }
     }
 
-    // Reads the clock if something is due at some moment. Returns true exactly if something is due by now.
+    // Reads the clock if anything will ever be due. Returns true exactly if something is due by
+    // now.
     fn is_due(&mut self) -> bool
         requires order { IsInOrder (state_of K.machine K.comparisons self.old) }
         ensures order { IsInOrder (state_of K.machine K.comparisons self.new) }
@@ -257,7 +263,7 @@ impl<C: Clock + Drop, K: QueueCore + Drop> Hub<C, K> {
         self.timed.is_due()
     }
 
-    // The same, and the core takes a tick then.
+    // The same, and takes a tick then.
     fn tick(&mut self) -> bool
         requires order { IsInOrder (state_of K.machine K.comparisons self.old) }
         requires empty { (state_of K.machine K.comparisons self.old).pending ≡ [] }
@@ -272,7 +278,8 @@ impl<C: Clock + Drop, K: QueueCore + Drop> Hub<C, K> {
     }
 }
 
-// Puts an answer into the mail of its seat, which is to be woken, or returns it if that is full. Without such a seat it is dropped.
+// Puts an answer into the mail of its seat and notes that the seat has to be woken, or returns the
+// answer if the mail is full. If the seat does not exist, the answer is dropped.
 fn post(
     mails: &mut Vec<Mail, Global>,
     woken: &mut Woken,

@@ -1,4 +1,4 @@
-//! The link of a seat to a hub, and a seat at work there.
+//! The link of a seat to a hub, and a seat's actions there.
 ghost use Rattle.std.specs.Prelude.{◌≡◌, ◌<◌, ℕ, List, length};
 ghost use Rattle.bq_job.specs.declared.answer.Answer.{Answer};
 ghost use Rattle.bq_job.specs.declared.step.Step.{Step};
@@ -17,7 +17,7 @@ use bq_line::line::Line;
 use bq_seat::Action;
 use bq_steps::QueueCore;
 
-/// A seat's link to the hub at which it is served.
+/// A seat's link to its hub.
 #[derive(Drop)]
 pub struct HubSeat<'a, C, K> {
     hub: &'a mut Hub<C, K>,
@@ -27,7 +27,7 @@ pub struct HubSeat<'a, C, K> {
 impl<'a, C: Clock + Drop, K: QueueCore + Drop> Link for HubSeat<'a, C, K> {
     ghost is_ready = { λ l. IsInOrder (state_of K.machine K.comparisons l.hub.now) × (l.seat < length l.hub.now.mails.items) };
 
-    // The hub is known by its name once the link is dropped.
+    // After the link is dropped, the hub is known by its ghost name.
     ghost went = { λ first submitted taken last. (last.hub.ghost_name ≡ first.hub.ghost_name) × (last.seat ≡ first.seat) ×
         WentAt K.machine K.comparisons C.given first.seat first.hub.now submitted taken last.hub.now };
 
@@ -46,7 +46,7 @@ impl<'a, C: Clock + Drop, K: QueueCore + Drop> Link for HubSeat<'a, C, K> {
     }
 }
 
-/// One action of a seat that attends to a door, at the hub. Returns true if something moved.
+/// Does one action of a seat that attends to a door, at the hub. Returns true if something moved.
 pub fn attend<L: Line + Drop, D: Door<Line = L>, C: Clock + Drop, K: QueueCore + Drop>(
     attendant: &mut Attendant<L>,
     door: &mut D,

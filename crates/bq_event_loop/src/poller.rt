@@ -1,9 +1,11 @@
-//! The order in which the seats go on, decided by epoll (`mio`): one thread sleeps until a line is ready, a connection
-//! may have come, there is more to read of the control line, or something is due.
+//! The order in which the seats act, decided by epoll (`mio`). One thread sleeps until a line is
+//! ready, a connection may have come, there is more to read of the control line, or something is
+//! due.
 //!
-//! A round: the control line, the doors, the visits of all seats that may go on, time, the wait. A seat may go on if its
-//! line became ready, it has mail, or its last visit was cut short. If several may, all lines are read first, then all
-//! steps are taken, and then all answers are written: each part finds its code and data in the processor's caches.
+//! A round consists of the control line, the doors, visits of all seats that can act, the time, and
+//! the wait. A seat can act if its line became ready, it has mail, or its last visit was cut short.
+//! If several can, all lines are read first, then all steps are taken, and then all answers are
+//! written, so that each part finds its code and data in the processor's caches.
 ghost use Rattle.bq_driver.specs.Tending.{door_seen};
 ghost use Rattle.bq_event_loop.specs.Rows.{AreTended, RestsSince};
 
@@ -30,7 +32,7 @@ mod control_watch;
 mod seat_queue;
 mod visit;
 
-/// The token of the control line. Those of lines are the numbers of their seats.
+/// The token of the control line. The token of a line is the number of its seat.
 const CONTROL: Token = Token(usize::MAX);
 
 /// The token of the doors.
@@ -42,10 +44,10 @@ const EVENTS: usize = 256;
 /// The turn in which nothing is done: no seat has this number.
 const NOTHING: Turn = Turn::Seat(usize::MAX);
 
-/// What a round comes to next.
+/// The next part of a round.
 #[derive(Clone, Copy, Debug, PartialEq, Eq)]
 enum Stage {
-    /// The doors and the control line are not watched yet.
+    /// The doors and the control line are not registered yet.
     Start,
     Control,
     /// The control line was read.
@@ -56,7 +58,7 @@ enum Stage {
     Wait,
 }
 
-/// Decides by readiness which seat goes on. All its memory is allocated when it is made.
+/// Chooses the next seat by readiness. All of its memory is allocated when it is created.
 #[derive(Drop)]
 pub struct Poller<'r, R> {
     rt: &'r R,
@@ -65,15 +67,17 @@ pub struct Poller<'r, R> {
     control: ControlWatch,
     accepts: Accepts,
     queue: SeatQueue,
-    // What a line reads into while its seat is visited. A line that keeps bytes keeps the buffer, and gives its own.
+    // The buffer for the reads of the line whose seat is being visited. A line that keeps bytes
+    // keeps the buffer and gives its own in exchange.
     buffer: ReadBuffer,
     stage: Stage,
     visit: Option<Visit>,
 }
 
 impl<'r, R: Net + rt::Clock> Poller<'r, R> {
-    /// A poller for so many seats. The control line is watched by this descriptor; with None, or if epoll refuses the
-    /// descriptor as it does that of a file, the control line is read to its end before any door is looked at.
+    /// Returns a poller for this many seats. The descriptor is that of the control line. If it is
+    /// `None`, or epoll rejects it because it belongs to a file, the control line is read to its
+    /// end before any door is checked.
     pub fn new(
         rt: &'r R,
         alloc: Global,
@@ -107,7 +111,8 @@ impl<'r, R: Net + rt::Clock> Poller<'r, R> {
 }
 
 impl<'r, R: rt::Clock> Poller<'r, R> {
-    // Most doors share a listener, which is registered once: the system refuses the others.
+    // Most doors share a listener, which is registered once: the system rejects the other
+    // registrations.
     fn watch_doors<L: Line + Drop, D: Door<Line = L>>(&self, row: &Row<L, D>) {
         for seat in 0..row.len() {
             if let Some(fd) = source_of_door(row, seat) {
@@ -117,7 +122,7 @@ impl<'r, R: rt::Clock> Poller<'r, R> {
         }
     }
 
-    // The turn of the control line in this round.
+    // Returns the turn of the control line in this round.
     fn control_turn(&mut self, stands: ControlStands) -> Turn {
         match self.control.reads(stands) {
             Some(reads) => {
@@ -131,7 +136,7 @@ impl<'r, R: rt::Clock> Poller<'r, R> {
         }
     }
 
-    // One free seat looks for a connection, if one may have come.
+    // Lets one free seat check for a connection, if one may have come.
     fn look_at_next<L: Line + Drop, D: Door<Line = L>>(
         &mut self,
         alloc: Global,
@@ -151,7 +156,7 @@ impl<'r, R: rt::Clock> Poller<'r, R> {
         self.begin_visits();
     }
 
-    // A seat looks for its next line, which is watched from then on.
+    // Lets a seat check for its next line, which is watched from then on.
     fn look<L: Line + Drop, D: Door<Line = L>>(
         &mut self,
         alloc: Global,
@@ -171,7 +176,8 @@ impl<'r, R: rt::Clock> Poller<'r, R> {
         }
     }
 
-    // A seat that has no line looks for one again, once one may have come.
+    // Notes the result of a check for a line. A seat without a line checks again when a connection
+    // may have come.
     fn note_looked(&mut self, seat: usize, may_have_come: bool, looked: Looked) {
         match looked {
             Looked::Opened | Looked::NoMore => self.queue.enqueue(seat),
@@ -188,7 +194,7 @@ impl<'r, R: rt::Clock> Poller<'r, R> {
         }
     }
 
-    // A line that the system can't watch is lost: its next read is a fault.
+    // Watches a line. A line that the system cannot watch is lost: its next read fails.
     fn watch_line<L: Line + Drop, D: Door<Line = L>>(&self, row: &mut Row<L, D>, seat: usize)
         requires tended { AreTended L.seen (door_seen D.is_out D.is_at_end D.lines_over) row.old }
         ensures tended { AreTended L.seen (door_seen D.is_out D.is_at_end D.lines_over) row.new }
@@ -210,13 +216,13 @@ impl<'r, R: rt::Clock> Poller<'r, R> {
             .is_ok()
     }
 
-    // The visits of all seats that are in the queue now.
+    // Begins the visits of all seats that are in the queue now.
     fn begin_visits(&mut self) {
         self.queue.begin_round();
         self.stage = Stage::Visits(Part::first(self.queue.round()));
     }
 
-    // The next action of the visit that is under way, or the begin of the next visit.
+    // Returns the next action of the current visit, or begins the next visit.
     fn go_on<L: Line + Drop, D: Door<Line = L>>(
         &mut self,
         alloc: Global,
@@ -255,7 +261,8 @@ impl<'r, R: rt::Clock> Poller<'r, R> {
         }
     }
 
-    // The next seat of this part. After the last one the next part begins, or time passes.
+    // Returns the next seat of this part. After the last one the next part begins, or it is time to
+    // wait.
     fn next_seat(&mut self, part: Part) -> Option<usize> {
         let seat = match part {
             Part::Answers => self.queue.take_next(),
@@ -277,7 +284,7 @@ impl<'r, R: rt::Clock> Poller<'r, R> {
         }
     }
 
-    // One action more of a visit, unless it pauses here.
+    // Returns the next action of a visit, unless the visit pauses here.
     fn go_on_at<L: Line + Drop, D: Door<Line = L>>(
         &mut self,
         alloc: Global,
@@ -306,8 +313,9 @@ impl<'r, R: rt::Clock> Poller<'r, R> {
         }
     }
 
-    // Whether the line keeps the shared buffer for the next action. A line that is over gives it back first: else its door
-    // would keep it, and in the end each door would have one of 64 KB that was written to.
+    // Returns true if the line keeps the shared buffer for the next action. A line that ends
+    // returns it first. Otherwise its door would keep it, and in the end each door would have such
+    // a buffer of 64 KB.
     fn keeps_buffer<L: Line + Drop, D: Door<Line = L>>(
         &mut self,
         row: &mut Row<L, D>,
@@ -325,7 +333,7 @@ impl<'r, R: rt::Clock> Poller<'r, R> {
         false
     }
 
-    // What is done once a visit pauses.
+    // Handles the pause of a visit.
     fn pause<L: Line + Drop, D: Door<Line = L>>(
         &mut self,
         alloc: Global,
@@ -341,13 +349,14 @@ impl<'r, R: rt::Clock> Poller<'r, R> {
         match pause {
             Pause::PartDone | Pause::IsDone => {}
             Pause::GoesOn => self.queue.enqueue(seat),
-            // Else the last answers of a batch would wait for the client's acknowledgement.
+            // Otherwise the last answers of a batch would wait for the client's acknowledgement.
             Pause::Rests => row.hand_on(seat),
             Pause::IsFree => self.look(alloc, row, seat),
         }
     }
 
-    // Sleeps until the system reports something, or something is due. While a seat may go on, this only asks the system.
+    // Sleeps until the system reports something, or something is due. If a seat can act, it does
+    // not sleep and only polls the system.
     fn wait<L: Line + Drop, D: Door<Line = L>>(&mut self, row: &mut Row<L, D>, news: News)
         requires tended { AreTended L.seen (door_seen D.is_out D.is_at_end D.lines_over) row.old }
         ensures tended { AreTended L.seen (door_seen D.is_out D.is_at_end D.lines_over) row.new }
@@ -355,7 +364,7 @@ impl<'r, R: rt::Clock> Poller<'r, R> {
             → RestsSince L.seen (door_seen D.is_out D.is_at_end D.lines_over) D.same first row.new }
     {
         let most = self.longest_wait(news);
-        // A wait that fails reports nothing.
+        // A failed wait reports nothing.
         let _polled = self.poll.poll(&mut self.events, most);
         self.accepts.pass(self.rt);
         note_events(
@@ -442,7 +451,7 @@ fn source_of_line<L: Line + Drop, D: Door<Line = L>>(
     row.seat(seat)?.source()
 }
 
-// Whether the next action of a seat shuts its line.
+// Returns true if the next action of a seat closes its line.
 fn ends_line<L: Line + Drop, D: Door<Line = L>>(row: &Row<L, D>, seat: usize) -> bool {
     match row.seat(seat) {
         Some(seat) => visit::ends_line(seat),
@@ -450,7 +459,7 @@ fn ends_line<L: Line + Drop, D: Door<Line = L>>(row: &Row<L, D>, seat: usize) ->
     }
 }
 
-// Whether a visit pauses before its next action.
+// Returns the reason for a pause of a visit before its next action, if it pauses.
 fn pause_of<L: Line + Drop, D: Door<Line = L>>(visit: &Visit, row: &Row<L, D>) -> Option<Pause> {
     match row.seat(visit.seat()) {
         Some(seat) => visit.pause(seat),
@@ -458,7 +467,8 @@ fn pause_of<L: Line + Drop, D: Door<Line = L>>(visit: &Visit, row: &Row<L, D>) -
     }
 }
 
-// What the system reported: lines that are ready, a connection that may have come, more of the control line.
+// Notes what the system reported: lines that are ready, a connection that may have come, more to
+// read of the control line.
 fn note_events<L: Line + Drop, D: Door<Line = L>>(
     row: &mut Row<L, D>,
     events: &Events,

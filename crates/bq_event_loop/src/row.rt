@@ -10,7 +10,8 @@ use bq_line::Door;
 use bq_line::line::{Line, ReadBuffer, Readiness};
 use std::alloc::Global;
 
-/// The seats of a run, each with its door. What can be done here without the core submits no step and takes no answer.
+/// The seats of a run, each with its door. The calls that this type offers without the core submit
+/// no step and take no answer.
 #[derive(Drop)]
 pub struct Row<L: Line + Drop, D: Door<Line = L>> {
     pub seats: Vec<Attendant<L>, Global>,
@@ -20,19 +21,19 @@ pub struct Row<L: Line + Drop, D: Door<Line = L>> {
 impl<L: Line + Drop, D: Door<Line = L>> Row<L, D> {
     ghost use Rattle.bq_event_loop.specs.Rows.{AreDone, AreTended, RestsSince};
 
-    /// How many seats there are.
+    /// Returns the number of seats.
     pub fn len(&self) -> usize
         ensures { result ≡ length self.now.seats.items }
     {
         self.seats.len()
     }
 
-    /// The seat of this number.
+    /// Returns the seat with this number.
     pub fn seat(&self, seat: usize) -> Option<&Attendant<L>> {
         self.seats.get(seat)
     }
 
-    /// The door of the seat of this number.
+    /// Returns the door of the seat with this number.
     pub fn door(&self, seat: usize) -> Option<&D> {
         self.doors.get(seat)
     }
@@ -49,8 +50,9 @@ impl<L: Line + Drop, D: Door<Line = L>> Row<L, D> {
         true
     }
 
-    /// Looks for the next line at a door, without waiting for it. `may_have_come` is false if none can have come since the last look. A
-    /// seat that is on a line is left alone: `Looked::Opened`.
+    /// Checks for the next line at a door, without waiting for it. `may_have_come` is false if none
+    /// can have come since the last check. A seat that has a line is left alone, and the result is
+    /// `Looked::Opened`.
     pub fn look(&mut self, alloc: Global, seat: usize, may_have_come: bool) -> Looked
         requires tended { AreTended L.seen (door_seen D.is_out D.is_at_end D.lines_over) self.old }
         ensures tended { AreTended L.seen (door_seen D.is_out D.is_at_end D.lines_over) self.new }
@@ -68,7 +70,7 @@ impl<L: Line + Drop, D: Door<Line = L>> Row<L, D> {
         )
     }
 
-    /// Notes what the system reported that the line of a seat is ready for.
+    /// Notes what the line of a seat is ready for, as the system reported it.
     pub fn note_ready(&mut self, seat: usize, ready: Readiness)
         requires tended { AreTended L.seen (door_seen D.is_out D.is_at_end D.lines_over) self.old }
         ensures tended { AreTended L.seen (door_seen D.is_out D.is_at_end D.lines_over) self.new }
@@ -80,7 +82,7 @@ impl<L: Line + Drop, D: Door<Line = L>> Row<L, D> {
         }
     }
 
-    /// Swaps the read buffer of the line of a seat with this one, if both are empty.
+    /// Swaps the read buffer of a seat's line with this one, if both are empty.
     pub fn exchange(&mut self, seat: usize, buffer: &mut ReadBuffer)
         requires tended { AreTended L.seen (door_seen D.is_out D.is_at_end D.lines_over) self.old }
         ensures tended { AreTended L.seen (door_seen D.is_out D.is_at_end D.lines_over) self.new }
@@ -92,7 +94,7 @@ impl<L: Line + Drop, D: Door<Line = L>> Row<L, D> {
         }
     }
 
-    /// Sends on its way what the line of a seat holds back for answers that come soon.
+    /// Sends what the line of a seat holds back in the expectation of more answers.
     pub fn hand_on(&mut self, seat: usize)
         requires tended { AreTended L.seen (door_seen D.is_out D.is_at_end D.lines_over) self.old }
         ensures tended { AreTended L.seen (door_seen D.is_out D.is_at_end D.lines_over) self.new }
@@ -105,7 +107,7 @@ impl<L: Line + Drop, D: Door<Line = L>> Row<L, D> {
     }
 }
 
-// Looks for the next line at a door, unless its seat is on a line.
+// Checks for the next line at a door, unless its seat has a line.
 fn look_at<L: Line + Drop, D: Door<Line = L>>(
     alloc: Global,
     seat: &mut Attendant<L>,
@@ -123,7 +125,7 @@ fn look_at<L: Line + Drop, D: Door<Line = L>>(
     seat.look(alloc, door, may_have_come)
 }
 
-/// Seats at which nothing was done. All memory but that for bodies is asked for here.
+/// Returns new seats. All memory but that for bodies is allocated here.
 pub fn new_seats<L: Line + Drop>(
     alloc: Global,
     seats: u16,

@@ -34,11 +34,13 @@ pub struct EventLoopRun<D, C, I, K> {
     pub core: K,
 }
 
-/// Serves the lines of all doors, each door at a seat of its own, until no more lines come at any of them. The calling thread does all of
-/// it. It reads the control line too, of which each line `drain` begins draining. What goes on next is what `turns` says.
+/// Serves the lines of all doors, each door at a seat of its own, until no more lines come at any
+/// of them. The calling thread does everything. It also reads the control line, where each line
+/// `drain` starts draining. `turns` chooses what is done next.
 ///
-/// The fault is `BadConfiguration` if the configuration is out of its ranges or there isn't a door for each seat, and else `NoMemory` if an
-/// allocation failed, or that of the turns. With any fault no door was opened, and the doors are dropped.
+/// The error is `BadConfiguration` if the configuration is out of its ranges or the number of doors
+/// is not the number of seats. Otherwise it is `NoMemory` if an allocation failed, or the error of
+/// the turns. After any error no door was opened, and the doors are dropped.
 pub fn run_turns<
     R: Wait,
     T: Turns + Drop,
@@ -56,18 +58,20 @@ pub fn run_turns<
     control: I,
     turns: Result<T, TurnsFault>,
 ) -> Result<EventLoopRun<D, C, I, K>, RunFault>
-    // No line is out or over at any door, and none is at its end.
+    // No door has a line that is open or was served, and no door is at its end.
     requires new { All
         (λ door. IsNewDoor (door_seen D.is_out D.is_at_end D.lines_over door)) doors.items }
-    // There is one history of all clients' steps and those of the control line, each at the moment of a reading of the clock. The one-list
-    // machine takes it, the core stands for the machine after it, and each line received exactly the bytes that it is owed along it.
+    // There is one history of the steps of all clients and of the control line, each at the moment
+    // of a reading of the clock. The one-list machine takes this history, the core represents the
+    // machine after it, and each line received exactly the bytes that the history prescribes for
+    // it.
     ensures served { IfOk result
         (IsEventLoopRun C.given D.lines_over I.remaining I.may_fail K.machine K.comparisons config clock control) }
     ensures at_end { IfOk result
         (λ run. All (λ door. (D.is_out door ≡ false) × (D.is_at_end door ≡ true)) run.doors.items) }
-    // They are the doors that were handed in, in their order.
+    // The doors are those that were passed in, in the same order.
     ensures same { IfOk result (λ run. AreSame D.same doors.items run.doors.items) }
-    // The core can go on.
+    // The core can be used further.
     ensures settings { IfOk result (λ run. (K.machine run.core).settings ≡ config) }
     ensures bad_configuration { IsErrOf result RunFault.BadConfiguration
         ↔ IsTrue (not (are_in_range config && vec_len doors == config.seats)) }
@@ -86,7 +90,7 @@ pub fn run_turns<
     Ok(run_at(rt, config, hub, seats, doors, control, &mut turns))
 }
 
-// The run from a hub and seats on at which nothing was done.
+// The run, from a new hub and new seats on.
 fn run_at<
     R: Wait,
     T: Turns,

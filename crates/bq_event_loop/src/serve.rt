@@ -124,7 +124,7 @@ fn is_over<L: Line + Drop, D: Door<Line = L>, I: ControlInput>(
     control.is_over() && row.are_done()
 }
 
-// The turns hear of each seat that has mail.
+// Reports to the turns each seat that has mail.
 fn wake_all<T: Turns, C: Clock + Drop, K: QueueCore + Drop>(turns: &mut T, hub: &mut Hub<C, K>)
     ensures { hub.new ≡ record hub.old { woken = hub.new.woken } }
 {
@@ -136,7 +136,8 @@ fn wake_all<T: Turns, C: Clock + Drop, K: QueueCore + Drop>(turns: &mut T, hub: 
     }
 }
 
-// One action of a seat, and whether something moved. All answers are then put into the mail, unless the seat looks for its own next.
+// Does one action of a seat, and returns true if something moved. All answers are then put into the
+// mail, unless this seat takes its own next.
 fn serve_seat<L: Line + Drop, D: Door<Line = L>, C: Clock + Drop, K: QueueCore + Drop>(
     row: &mut Row<L, D>,
     hub: &mut Hub<C, K>,
@@ -187,7 +188,8 @@ fn act<L: Line + Drop, D: Door<Line = L>, C: Clock + Drop, K: QueueCore + Drop>(
     )
 }
 
-// Reads the control line as far as was said, and submits its steps. It stops early if a step is handed back.
+// Reads the control line as far as the turn says, and submits its steps. It stops early if a step
+// is rejected.
 fn serve_control<R: Wait, C: Clock + Drop, I: ControlInput, K: QueueCore + Drop>(
     rt: &R,
     control: &mut ControlTurns<I>,
@@ -219,7 +221,8 @@ fn stops<I: ControlInput>(control: &ControlTurns<I>, may_wait: bool) -> bool {
     control.is_over() || !(may_wait || control.has_unread())
 }
 
-// Submits the steps that the control line owes: a drain and that it is gone, at most. Returns false if one was handed back.
+// Submits the steps that the control line owes: at most a drain and its end. Returns false if one
+// was rejected.
 fn submit_owed<C: Clock + Drop, I: ControlInput, K: QueueCore + Drop>(
     control: &mut ControlTurns<I>,
     hub: &mut Hub<C, K>,
@@ -237,7 +240,7 @@ fn submit_owed<C: Clock + Drop, I: ControlInput, K: QueueCore + Drop>(
     submit_one(control, hub)
 }
 
-// Submits the next step of the control line, if there is one. Returns false if it was handed back.
+// Submits the next step of the control line, if there is one. Returns false if it was rejected.
 fn submit_one<C: Clock + Drop, I: ControlInput, K: QueueCore + Drop>(
     control: &mut ControlTurns<I>,
     hub: &mut Hub<C, K>,

@@ -1,4 +1,4 @@
-//! The choice of what goes on next.
+//! The choice of the next action.
 ghost use Rattle.std.specs.Prelude.{◌≡◌};
 ghost use Rattle.bq_driver.specs.Tending.{door_seen};
 ghost use Rattle.bq_event_loop.specs.Rows.{AreTended, RestsSince};
@@ -12,58 +12,59 @@ use std::alloc::Global;
 /// What the loop does next.
 #[derive(Clone, Copy, Debug, PartialEq, Eq)]
 pub enum Turn {
-    /// One action of this seat. A number of no seat does nothing.
+    /// One action of this seat. If the seat does not exist, nothing is done.
     Seat(usize),
     /// The control line is read.
     Control(ControlReads),
-    /// Time passes: the core takes a tick if something is due, and all answers are sorted into the mail of their seats. The run ends
-    /// here once all seats are done and the control line is over.
+    /// The core takes a tick if something is due, and all answers are sorted into the mail of their
+    /// seats. The run ends here if all seats are done and the control line has ended.
     Time,
 }
 
-/// How far the control line is read. What it owes is submitted first.
+/// How far the control line is read. Steps that it owes are submitted first.
 #[derive(Clone, Copy, Debug, PartialEq, Eq)]
 pub enum ControlReads {
-    /// What is buffered. No read waits.
+    /// Up to the end of the buffered bytes. No read blocks.
     Buffered,
-    /// One read, which may wait, and what is buffered after it.
+    /// One read, which may block, and the bytes that are buffered after it.
     Once,
-    /// All of it, however long its reads wait.
+    /// To its end, however long its reads block.
     ToEnd,
 }
 
-/// Where the control line is.
+/// The state of the control line.
 #[derive(Clone, Copy, Debug, PartialEq, Eq)]
 pub enum ControlStands {
     /// There may be more to read.
     Reads,
-    /// It owes a step that was handed back.
+    /// It owes a step that was rejected.
     Owes,
-    /// It was read to its end, and that was submitted.
+    /// It was read to its end, and the end was submitted.
     Over,
 }
 
-/// What became of the turns so far.
+/// What has happened since the last turn.
 #[derive(Clone, Copy, Debug, PartialEq, Eq)]
 pub struct News {
-    /// Whether something moved by the last action of a seat.
+    /// Whether the last action of a seat moved something.
     pub moved: bool,
-    /// In how many milliseconds something is due, as of the last `Turn::Time`. None if nothing is.
+    /// In how many milliseconds something is due, as of the last `Turn::Time`. `None` if nothing
+    /// is.
     pub due: Option<u64>,
     pub control: ControlStands,
 }
 
-/// Why turns could not be prepared.
+/// The reason why turns could not be prepared.
 #[derive(Clone, Copy, Debug, PartialEq, Eq)]
 pub enum TurnsFault {
     /// Out of memory.
     NoMemory,
-    /// The system refused what they wait with.
+    /// The system rejected what the turns wait with.
     Refused,
 }
 
 impl TurnsFault {
-    /// The fault of a run that cannot begin for it.
+    /// Returns the error of a run that cannot begin for this reason.
     pub fn as_run_fault(self) -> RunFault
         ensures { result ≡ RunFault.BadConfiguration → ⊥ }
     {
@@ -74,10 +75,12 @@ impl TurnsFault {
     }
 }
 
-/// Chooses the turns of a run, and waits for lines. It may note what lines are ready for, look for new lines at doors, and exchange read
-/// buffers. It cannot submit a step or take an answer; so nothing that it chooses or forgets makes an answer wrong.
+/// Chooses the turns of a run, and waits for lines. It may note what lines are ready for, check for
+/// new lines at doors, and exchange read buffers. It cannot submit a step or take an answer, so
+/// nothing that it chooses or forgets makes an answer wrong.
 pub trait Turns {
-    /// The next turn. It may wait here, but for no longer than `news.due`, and only after a `Turn::Time`.
+    /// Returns the next turn. It may wait here, but for no longer than `news.due`, and only after a
+    /// `Turn::Time`.
     fn next<L: Line + Drop, D: Door<Line = L>>(
         &mut self,
         alloc: Global,
@@ -90,6 +93,7 @@ pub trait Turns {
             → RestsSince L.seen (door_seen D.is_out D.is_at_end D.lines_over) D.same first row.old
             → RestsSince L.seen (door_seen D.is_out D.is_at_end D.lines_over) D.same first row.new };
 
-    /// A seat has mail that was put there by another one's step, or by time: it may go on.
+    /// Reports that a seat has mail, which another seat's step or a tick put there, so that the
+    /// seat can act.
     fn wake(&mut self, seat: usize);
 }

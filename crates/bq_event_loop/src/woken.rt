@@ -4,7 +4,7 @@ use bq_job::{NoMemory, Seat};
 use std::alloc::Global;
 use std::collections::VecDeque;
 
-/// Seats, each once at most, in the order in which they came.
+/// A queue of seats, each at most once.
 #[derive(Drop)]
 pub struct Woken {
     seats: VecDeque<Seat, Global>,
@@ -12,7 +12,7 @@ pub struct Woken {
 }
 
 impl Woken {
-    /// Room for this many seats. All memory is asked for here.
+    /// Allocates room for this many seats.
     pub fn new(alloc: Global, seats: u16) -> Result<Woken, NoMemory> {
         let Ok(queue) = VecDeque::with_capacity(alloc, usize::from(seats)) else {
             return Err(NoMemory);
@@ -26,7 +26,7 @@ impl Woken {
         })
     }
 
-    /// Adds a seat, unless it is among them.
+    /// Adds a seat, unless it is in the queue.
     pub fn add(&mut self, seat: Seat) {
         if let Some(mark) = self.marks.get_mut(usize::from(seat)) {
             if !*mark {
@@ -36,7 +36,7 @@ impl Woken {
         }
     }
 
-    /// Takes out the first one.
+    /// Removes and returns the first seat.
     pub fn take_first(&mut self) -> Option<Seat> {
         let seat = self.seats.pop_front()?;
         if let Some(mark) = self.marks.get_mut(usize::from(seat)) {

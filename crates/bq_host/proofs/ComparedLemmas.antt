@@ -1,4 +1,4 @@
--- How the comparisons of a core go on.
+-- How the count of a core's comparisons grows along a history.
 use Rattle.std.proofs.Common.{◌≡◌, ℕ, ◌+◌, ◌≤◌, Bool, true, false, List, [], ◌∷◌, ◌++◌, refl, sym, ap, ◌∙◌, subst, arith, append-nil, append_assoc}
 use Rattle.bq_job.specs.machine.Dispatch.{GivenAnswer}
 use Rattle.bq_job.specs.machine.Machine.{Machine}
@@ -6,16 +6,16 @@ use Rattle.bq_job.specs.promise.Runs.{Entry}
 use Rattle.bq_steps.specs.Cost.{IsLookWithin}
 use Rattle.bq_host.specs.Compared.{AreWithin, IsEntryWithin, LooksOnce}
 
--- a look that was not made compared nothing
+-- without a query for the next due moment, nothing was compared
 pub look_none : (m : Machine) (count : ℕ) → IsLookWithin m count count
 look_none m count = record { stays = omega arith; comparisons = omega arith }
 
--- A look that may have been made is within its bound.
+-- A query that may have been made is within its bound.
 pub looked_within : (known : Bool) (m : Machine) (count now : ℕ) → LooksOnce known m count now → IsLookWithin m count now
 looked_within true m count now l = l
 looked_within false m count now l = subst (λ (n : ℕ). IsLookWithin m count n) (sym l) (look_none m count)
 
--- one step more within its bound
+-- one more step within its bound
 pub within_on : (first middle next : Machine) (history : List Entry) (e : Entry) (given now : List GivenAnswer) (from count to : ℕ)
     → AreWithin first history given middle from count → IsEntryWithin middle e now next count to → AreWithin first (history ++ e ∷ []) (given ++ now) next from to
 within_on first middle next [] e given now from count to (none, (same, still)) w = (

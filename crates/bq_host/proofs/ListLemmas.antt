@@ -1,4 +1,4 @@
--- What holds of each of a list, as it grows and is taken apart.
+-- Properties that hold for each element of a list, as elements are added and taken.
 use Rattle.std.proofs.Common.{◌≡◌, ◌∙◌, ℕ, zero, suc, List, [], ◌∷◌, ◌++◌, Some, ap, subst, sym, arith, append_assoc, map, take}
 use Rattle.std.specs.Prelude.{reverse}
 use Rattle.std.specs.List.{All}
@@ -6,7 +6,7 @@ use Rattle.std.specs.Option.{option_to_list}
 use Rattle.std.proofs.lemmas.List.{map-append, reverse-append}
 use Rattle.std.proofs.lemmas.List.Elements.{All-take}
 
--- A further element passes too.
+-- The property also holds for one more element.
 pub all_more : {X : Type 0} (P : X → Type 0) (xs : List X) (x : X) → All P xs → P x → All P (xs ++ x ∷ [])
 all_more P [] x h p zero d below = p
 all_more P [] x h p (suc k) d below = absurd (omega arith)
@@ -32,17 +32,18 @@ first_passes xs ys x P e h = let at : All P (x ∷ ys) = subst (All P) e h in at
 pub rest_passes : {X : Type 0} (xs ys : List X) (x : X) (P : X → Type 0) → xs ≡ x ∷ ys → All P xs → All P ys
 rest_passes xs ys x P e h = let at : All P (x ∷ ys) = subst (All P) e h in λ k d below. at (suc k) d (omega (arith, below))
 
--- The last element comes first where they are turned round.
+-- In reverse, the last element comes first.
 turned : {X Y : Type 0} (f : X → Y) (xs : List X) (x : X) → reverse (map f (xs ++ x ∷ [])) ≡ f x ∷ reverse (map f xs)
 turned f xs x = ap reverse (map-append f xs (x ∷ [])) ∙ reverse-append (map f xs) (f x ∷ [])
 
--- An element is taken from the end of a list and put behind those that are read from their end.
+-- An element moves from the end of one list to the end of another, and the second list is read in
+-- reverse.
 pub put_behind : {X Y : Type 0} (f : X → Y) (all rest : List Y) (y : Y) (xs ys : List X) (x : X) → all ≡ rest ++ y ∷ [] → ys ≡ xs ++ x ∷ [] → f x ≡ y → rest ++ reverse (map f ys) ≡ all ++ reverse (map f xs)
 put_behind f all rest y xs ys x all_is ys_are same =
     let here : reverse (map f ys) ≡ y ∷ reverse (map f xs) = ap (λ zs. reverse (map f zs)) ys_are ∙ turned f xs x ∙ ap (λ z. z ∷ reverse (map f xs)) same in
     ap (λ zs. rest ++ zs) here ∙ sym (append_assoc rest (y ∷ []) (reverse (map f xs))) ∙ ap (λ zs. zs ++ reverse (map f xs)) (sym all_is)
 
--- An element is taken from the end of a list, and what stands for it is put behind others.
+-- An element is taken from the end of a list, and what represents it is appended to another list.
 pub handed_on : {X Y Z : Type 0} (f : X → Z) (g : Y → Z) (all rest : List X) (x : X) (ys more : List Y) (y : Y) → all ≡ rest ++ x ∷ [] → more ≡ ys ++ y ∷ [] → g y ≡ f x
     → map g more ++ reverse (map f rest) ≡ map g ys ++ reverse (map f all)
 handed_on f g all rest x ys more y all_is more_are same =

@@ -1,4 +1,4 @@
--- A clock with the moment heard last may go to another thread where the clock may.
+-- A clock with its latest moment may be sent to another thread if the clock may.
 use denote.RattleType.{RattleType}
 use denote.Param.Send.{AllSend, IsSend, sendable, struct_send}
 use denote.Struct.Declared.{fields, shape}

@@ -1,4 +1,4 @@
--- What is known of a core that was asked for the next due moment.
+-- Facts about a core that was asked for the next due moment.
 use Rattle.std.proofs.Common.{◌≡◌, ℕ, true, Option, ◌∙◌, ap}
 use Rattle.bq_job.specs.beside.NextDue.{next_due}
 use Rattle.bq_job.specs.machine.Machine.{Machine}

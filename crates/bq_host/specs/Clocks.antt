@@ -1,6 +1,6 @@
--- What a clock gives.
+-- The readings of a clock.
 use Rattle.std.specs.Prelude.{ℕ, List, Option}
 
--- which readings, between which two states of it
+-- the readings between two states of the clock
 abbrev pub Gives : Type 0 → Type 1
 Gives C = C → List (Option ℕ) → C → Type 0

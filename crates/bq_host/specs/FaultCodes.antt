@@ -1,4 +1,4 @@
--- The numbers of faults of a run.
+-- The numbers of a run's errors.
 use Rattle.std.specs.Prelude.{ℕ}
 use Rattle.bq_host.specs.declared.fault.RunFault.{RunFault}
 use Rattle.bq_host.specs.declared.fault.RunFault.TheVariants as faults

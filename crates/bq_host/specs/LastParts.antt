@@ -1,7 +1,7 @@
 -- The last parts of lists.
 use Rattle.std.specs.Prelude.{ℕ, ◌≡◌, ◌-◌, ◌++◌, List, drop, length}
 
--- the last part of a list, with so many elements at most
+-- the last part of a list, with at most n elements
 abbrev pub last_part : {X : Type 0} → ℕ → List X → List X
 last_part n xs = drop (length xs - n) xs
 

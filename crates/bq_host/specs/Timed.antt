@@ -1,4 +1,4 @@
--- What a core with its clock does.
+-- The effect of each operation on a core with its clock.
 use Rattle.std.specs.Prelude.{ℕ, ◌≡◌, ◌⊎◌, ◌<◌, ◌+◌, ◌∷◌, List, [], Option, true, false}
 use Rattle.bq_job.specs.beside.NextDue.{next_due}
 use Rattle.bq_job.specs.declared.settings.Settings.{Settings}
@@ -13,12 +13,12 @@ use Rattle.bq_host.specs.Compared.{LooksOnce}
 use Rattle.bq_host.specs.declared.heard_clock.HeardClock.{HeardClock}
 use Rattle.bq_host.specs.declared.timed_core.TimedCore.{TimedCore}
 
--- The clock was read once, and the moment heard last follows the reading.
+-- The clock was read once, and its latest moment follows the reading.
 pub record HasHeard {C : Type 0} (given : Gives C) (old : HeardClock C) (reading : Option ℕ) (new : HeardClock C) : Type 0 where
   pub gave : GaveReadings given old.clock (reading ∷ []) new.clock
   pub heard : new.moment ≡ moment_heard old.moment reading
 
--- Nothing was done: the core has this machine and compared nothing, and no reading of the clock was heard.
+-- A new core with its clock: it has this machine, nothing was compared, and no reading was taken.
 pub record IsNewTimed {C K : Type 0} (machine : K → Machine) (compared : K → ℕ) (settings : Settings) (clock : C) (t : TimedCore C K) : Type 0 where
   pub core : machine t.core ≡ new_machine settings
   pub none_compared : compared t.core ≡ 0
@@ -28,7 +28,8 @@ pub record IsNewTimed {C K : Type 0} (machine : K → Machine) (compared : K →
   pub none_heard : t.time.moment ≡ 0
   pub unknown : t.is_due_known ≡ false
 
--- There is room for the answers of a step, and what is noted of the next due moment is so.
+-- There is room for the answers of a step, and if the next due moment is marked as known, it is
+-- right.
 pub record IsReady {C K : Type 0} (machine : K → Machine) (t : TimedCore C K) : Type 0 where
   pub room : (machine t.core).settings.seats < t.outs.most
   pub due : t.is_due_known ≡ true → t.due ≡ next_due (machine t.core)
@@ -45,7 +46,7 @@ pub record TakesStep {C K : Type 0} (given : Gives C) (machine : K → Machine) 
   pub most : new.outs.most ≡ old.outs.most
   pub settings : (machine new.core).settings ≡ (machine old.core).settings
 
--- The next due moment is known: the core was asked for it if it was not.
+-- The next due moment is known; the core was asked for it if it was not known before.
 pub record HasLooked {C K : Type 0} (machine : K → Machine) (compared : K → ℕ) (old new : TimedCore C K) : Type 0 where
   pub known : new.is_due_known ≡ true
   pub due : new.due ≡ next_due (machine old.core)
@@ -59,17 +60,17 @@ pub record HasLooked {C K : Type 0} (machine : K → Machine) (compared : K → 
 abbrev pub OnlyHears : {C K : Type 0} → Gives C → TimedCore C K → TimedCore C K → Type 0
 OnlyHears given old new = (reading : Option ℕ) × HasHeard given old.time reading new.time × (new ≡ record old { time = new.time })
 
--- No step was taken. The clock was read once if anything is ever due.
+-- No step was taken. If anything will ever be due, the clock was read once.
 abbrev pub PassesOver : {C K : Type 0} → Gives C → (K → Machine) → (K → ℕ) → TimedCore C K → TimedCore C K → Type 0
 PassesOver {C} {K} given machine compared old new =
     (looked : TimedCore C K) × HasLooked machine compared old looked × ((new ≡ looked) ⊎ OnlyHears given looked new)
 
--- The clock was read once, since something is due at some moment.
+-- The clock was read once, since something will be due.
 abbrev pub HearsDue : {C K : Type 0} → Gives C → (K → Machine) → (K → ℕ) → TimedCore C K → TimedCore C K → Type 0
 HearsDue {C} {K} given machine compared old new =
     (looked : TimedCore C K) × HasLooked machine compared old looked × OnlyHears given looked new
 
--- The core took this step at the moment of one reading, after it was asked for the next due moment.
+-- The core was asked for the next due moment and then took this step at the moment of one reading.
 abbrev pub LooksAndSteps : {C K : Type 0} → Gives C → (K → Machine) → (K → ℕ) → TimedCore C K → ℕ → Step → TimedCore C K → Type 0
 LooksAndSteps {C} {K} given machine compared old seat what new =
     (looked : TimedCore C K) × HasLooked machine compared old looked × TakesStep given machine compared looked seat what new

@@ -1,5 +1,5 @@
-//! What every run of the server shares: how it begins and why it does not, the mail of a seat, a core with its clock, and
-//! what an operator is told of the core's steps.
+//! What every run of the server shares: how it begins and why it does not, the mail of a seat, a
+//! core with its clock, and what is logged about the core's steps.
 #![tactic(auto)]
 
 pub use fault::RunFault;

@@ -7,10 +7,10 @@ use std::alloc::Global;
 use std::collections::VecDeque;
 use std::marker::Model;
 
-/// How many answers can lie in the mail of a seat.
+/// The number of answers that the mail of a seat has room for.
 const MAIL_ROOM: usize = 4;
 
-/// Answers that were given to a seat, and that it hasn't taken yet, in their order.
+/// The answers that were given to a seat and that it has not taken yet, oldest first.
 #[derive(Drop)]
 pub struct Mail {
     answers: VecDeque<Answer, Global>,
@@ -29,7 +29,7 @@ impl Model for Mail {
 }
 
 impl Mail {
-    /// No mail. All memory is asked for here.
+    /// Returns an empty mail. All of its memory is allocated here.
     pub fn new(alloc: Global) -> Result<Mail, NoMemory>
         ensures { IfOk result (λ mail. mail ≡ []) }
     {
@@ -39,7 +39,7 @@ impl Mail {
         }
     }
 
-    /// Takes out the oldest answer.
+    /// Removes and returns the oldest answer.
     pub fn take_first(&mut self) -> Option<Answer>
         ensures oldest { self.old ≡ option_to_list result ++ self.new }
         ensures empty { IsNone result ↔ (self.old ≡ []) }
@@ -47,7 +47,7 @@ impl Mail {
         self.answers.pop_front()
     }
 
-    /// Puts an answer behind the others, or hands it back where there is no room.
+    /// Appends an answer, or returns it if there is no room.
     pub fn put(&mut self, answer: Answer) -> Result<(), Answer>
         ensures put { MatchResult result (λ done. self.new ≡ self.old ++ answer ∷ [])
             (λ back. (back ≡ answer) × (self.new ≡ self.old)) }
@@ -60,7 +60,7 @@ impl Mail {
         Ok(())
     }
 
-    /// Puts an answer behind the others. Where there is no room, the oldest is pushed out.
+    /// Appends an answer. If there is no room, the oldest answer is dropped.
     pub fn put_newest(&mut self, answer: Answer)
         ensures { self.new ≡ last_part 4 (self.old ++ answer ∷ []) }
     {
@@ -71,7 +71,7 @@ impl Mail {
     }
 }
 
-/// A mail for each seat. All memory is asked for here.
+/// Returns a mail for each seat. All of their memory is allocated here.
 pub fn new_mails(alloc: Global, seats: u16) -> Result<Vec<Mail, Global>, NoMemory>
     ensures { IfOk result (λ mails. mails.items ≡ replicate seats []) }
 {

@@ -1,36 +1,37 @@
-//! What the operator of a run is told of the core's steps.
+//! What is logged about the core's steps.
 ghost use Rattle.std.specs.Prelude.{◌≡◌, None, false};
 ghost use Rattle.bq_host.specs.Told.{after_put, after_refusal, concern_of, told_after};
 
 use bq_job::{Moment, Refusal, Request, Step};
 use bq_line::clock::Notice;
 
-/// For how many milliseconds no memory may have been refused until a put that is accepted ends a want of it.
+/// A shortage of memory ends with a put that succeeds when no allocation has failed for this many
+/// milliseconds.
 const CALM: u64 = 1_000;
 
-/// What a step may have to be told for.
+/// The kind of a step, as far as the log is concerned.
 #[derive(Clone, Copy)]
 pub enum Concern {
     /// Draining begins.
     Drain,
-    /// Memory for a body was refused at the seat.
+    /// The allocation of a body failed at the seat.
     Refused,
-    /// Memory is asked for.
+    /// The step allocates.
     Put,
-    /// Memory is asked for now and then.
+    /// The step may allocate, but its success does not end a shortage of memory.
     Other,
 }
 
-/// What was told, and isn't told again.
+/// What was logged and is not logged again.
 #[derive(Clone, Copy)]
 pub struct Notices {
     is_draining: bool,
-    // The moment of the last refusal, while memory is wanting.
+    // The moment of the latest failed allocation during a shortage of memory.
     refused: Option<Moment>,
 }
 
 impl Notices {
-    /// Nothing was told.
+    /// Returns a state in which nothing was logged.
     pub fn none() -> Notices
         ensures { result ≡ record { is_draining = false; refused = None } }
     {
@@ -40,7 +41,8 @@ impl Notices {
         }
     }
 
-    /// What is to be told after a step at this moment, which was refused memory or wasn't.
+    /// Returns what to log after a step at this moment. `is_refused` tells whether an allocation of
+    /// the step failed.
     pub fn after(&mut self, concern: Concern, is_refused: bool, at: Moment) -> Option<Notice>
         ensures { (result, self.new) ≡ told_after concern is_refused at self.old }
     {
@@ -95,7 +97,7 @@ impl Notices {
     }
 }
 
-/// What a step may have to be told for.
+/// Returns the kind of a step, as far as the log is concerned.
 pub fn concern_of(what: &Step) -> Concern
     ensures { result ≡ concern_of what.now }
 {

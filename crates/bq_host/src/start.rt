@@ -1,15 +1,15 @@
-//! The start of threads that begin together, or not at all.
+//! The start of threads that begin together or not at all.
 
 use std::sync::{Condvar, Mutex, Wait};
 
-/// What the threads that were started wait for.
+/// The signal that the started threads wait for.
 #[derive(Clone, Copy, Debug, PartialEq, Eq)]
 enum Signal {
     /// It is not known yet whether all threads could be started.
     Pending,
     /// All threads were started.
     Begin,
-    /// One was refused, so none begins.
+    /// A thread could not be started, so none begins.
     End,
 }
 
@@ -21,7 +21,7 @@ pub struct Start {
 }
 
 impl Start {
-    /// A start whose signal was not given yet.
+    /// Returns a start whose signal was not given yet.
     pub fn new() -> Start {
         Start {
             signal: Mutex::new(Signal::Pending),
@@ -29,7 +29,7 @@ impl Start {
         }
     }
 
-    /// Tells the threads whether all of them were started.
+    /// Signals to the threads whether all of them were started.
     pub fn tell<R: Wait>(&self, rt: &R, all_started: bool) {
         *self.signal.lock(rt) = if all_started {
             Signal::Begin

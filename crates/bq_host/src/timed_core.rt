@@ -15,26 +15,28 @@ use bq_line::clock::Clock;
 use bq_steps::{Config, CoreFault, Outs, QueueCore};
 use std::alloc::Global;
 
-/// A core that takes each step at the moment that its clock gives then.
+/// A core that takes each step at the moment that its clock reads then.
 #[derive(Drop)]
 pub struct TimedCore<C, K> {
-    /// For the steps that may ask for memory.
+    /// The allocator, for the steps that allocate.
     pub alloc: Global,
     pub core: K,
-    /// The answers of the last step that were not taken out yet.
+    /// The answers of the last step that were not taken yet.
     pub outs: Outs,
     pub time: HeardClock<C>,
     /// The next moment at which something is due.
     pub due: Option<Moment>,
-    /// Whether that is so of the core as it stands now: it was asked since its last step.
+    /// Whether `due` holds for the core as it is now: it was asked since its last step.
     pub is_due_known: bool,
-    /// What the operator was told of the core's steps.
+    /// What was logged about the core's steps.
     pub notices: Notices,
 }
 
-/// A core at which nothing was done, and room for the answers of its steps. All memory but that for jobs is asked for here.
+/// Returns a new core, and room for the answers of its steps. All memory but that for jobs is
+/// allocated here.
 ///
-/// The fault is `BadConfiguration` if the configuration is out of its ranges, and else `NoMemory`.
+/// The error is `BadConfiguration` if the configuration is out of its ranges, and otherwise
+/// `NoMemory`.
 pub fn new_core<K: QueueCore + Drop>(alloc: Global, config: Config) -> Result<(K, Outs), RunFault>
     ensures core { IfOk result (λ new. K.machine new.0 ≡ new_machine config) }
     ensures none_compared { IfOk result (λ new. K.comparisons new.0 ≡ 0) }
@@ -56,10 +58,11 @@ pub fn new_core<K: QueueCore + Drop>(alloc: Global, config: Config) -> Result<(K
 }
 
 impl<C: Clock + Drop, K: QueueCore + Drop> TimedCore<C, K> {
-    /// A core at which nothing was done, with a clock that was not read yet. All memory but that for jobs is asked for
-    /// here.
+    /// Returns a new core with a clock that was not read yet. All memory but that for jobs is
+    /// allocated here.
     ///
-    /// The fault is `BadConfiguration` if the configuration is out of its ranges, and else `NoMemory`.
+    /// The error is `BadConfiguration` if the configuration is out of its ranges, and otherwise
+    /// `NoMemory`.
     pub fn new(alloc: Global, config: Config, clock: C) -> Result<TimedCore<C, K>, RunFault>
         ensures made { IfOk result (IsNewTimed K.machine K.comparisons config clock) }
         ensures bad_configuration { IsErrOf result RunFault.BadConfiguration ↔ IsTrue
@@ -70,7 +73,7 @@ impl<C: Clock + Drop, K: QueueCore + Drop> TimedCore<C, K> {
         Ok(TimedCore::over(alloc, core, outs, clock))
     }
 
-    /// This core with a clock that was not read yet.
+    /// Returns this core with a clock that was not read yet.
     pub fn over(alloc: Global, core: K, outs: Outs, clock: C) -> TimedCore<C, K>
         ensures core { result.core ≡ core }
         ensures outs { result.outs ≡ outs }
@@ -89,8 +92,8 @@ impl<C: Clock + Drop, K: QueueCore + Drop> TimedCore<C, K> {
         }
     }
 
-    /// The core takes a step at the moment that the clock gives now. The clock is told what the operator has to see of it.
-    /// The step stays where it lies.
+    /// Takes a step at the moment that the clock reads now, and logs through the clock what the
+    /// operator has to see of it. The step itself is not moved.
     pub fn take_step(&mut self, seat: Seat, what: &Step)
         requires ready { IsReady K.machine self.old }
         ensures ready { IsReady K.machine self.new }
@@ -101,7 +104,7 @@ impl<C: Clock + Drop, K: QueueCore + Drop> TimedCore<C, K> {
         self.tell(concern);
     }
 
-    // The core takes a step at the moment that the clock gives now.
+    // Takes a step at the moment that the clock reads now.
     fn step(&mut self, seat: Seat, what: &Step)
         requires ready { IsReady K.machine self.old }
         ensures ready { IsReady K.machine self.new }
@@ -113,7 +116,7 @@ impl<C: Clock + Drop, K: QueueCore + Drop> TimedCore<C, K> {
             .step_in_place(self.alloc, self.time.moment, seat, what, &mut self.outs);
     }
 
-    // Tells the clock what the last step has to be reported for.
+    // Logs through the clock what has to be reported about the last step.
     fn tell(&mut self, concern: Concern)
         ensures { self.new ≡ record self.old { notices = self.new.notices } }
     {
@@ -123,8 +126,8 @@ impl<C: Clock + Drop, K: QueueCore + Drop> TimedCore<C, K> {
         }
     }
 
-    /// Takes a tick if something is due by now, and returns true exactly then. The clock is read once, unless nothing is
-    /// ever due: a tick is taken at the moment of that reading.
+    /// Takes a tick if something is due by now, and returns true exactly then. The clock is read
+    /// once, unless nothing will ever be due; the tick is taken at the moment of that reading.
     pub fn tick_if_due(&mut self, seat: Seat) -> bool
         requires ready { IsReady K.machine self.old }
         ensures ready { IsReady K.machine self.new }
@@ -142,7 +145,7 @@ impl<C: Clock + Drop, K: QueueCore + Drop> TimedCore<C, K> {
         true
     }
 
-    // The core takes a tick at the moment heard last.
+    // Takes a tick at the latest moment of the clock.
     fn tick(&mut self, seat: Seat)
         requires ready { IsReady K.machine self.old }
         ensures ready { IsReady K.machine self.new }
@@ -161,7 +164,8 @@ impl<C: Clock + Drop, K: QueueCore + Drop> TimedCore<C, K> {
         );
     }
 
-    /// Returns true exactly if something is due by now. The clock is read once, unless nothing is ever due.
+    /// Returns true exactly if something is due by now. The clock is read once, unless nothing will
+    /// ever be due.
     pub fn is_due(&mut self) -> bool
         requires ready { IsReady K.machine self.old }
         ensures ready { IsReady K.machine self.new }
@@ -189,7 +193,8 @@ impl<C: Clock + Drop, K: QueueCore + Drop> TimedCore<C, K> {
         let _reading = self.time.hear();
     }
 
-    // The next moment at which something is due. The core is asked once after a step.
+    // Returns the next moment at which something is due. The core is asked at most once after each
+    // step.
     fn look(&mut self) -> Option<Moment>
         requires ready { IsReady K.machine self.old }
         ensures ready { IsReady K.machine self.new }

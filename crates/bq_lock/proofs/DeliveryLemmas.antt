@@ -15,14 +15,14 @@ use Rattle.bq_lock.proofs.LastPartLemmas.{last_are_few, last_then}
 pub items_of_ok : {X E : Type 0} (result : Result X E) (x : X) (items pushed kept : List ℕ) → items ≡ (if is_ok result then pushed else kept) → result ≡ Ok x → items ≡ pushed
 items_of_ok {X} {E} result x items pushed kept is ok = is ∙ ap (λ (r : Result X E). if is_ok r then pushed else kept) ok
 
--- Of the answers that were given these are left, and the others are in the outboxes.
+-- Of the given answers these are left, and the others are in the outboxes.
 pub record IsDelivering (given : List GivenAnswer) (old : List (List Answer)) (left : List GivenAnswer) (answered : List ℕ) (new : List (List Answer)) : Type 0 where
   pub done : List GivenAnswer
   pub given_is : given ≡ done ++ left
   pub delivered : AreDelivered done old new
   pub answered_is : answered ≡ map (λ g. g.0) done
 
--- an outbox that nobody has is empty
+-- a seat that does not exist has an empty outbox
 pub outbox_past : (outboxes : List (List Answer)) (seat : ℕ) → length outboxes ≤ seat → outbox_at seat outboxes ≡ []
 outbox_past outboxes seat past = get_or_past outboxes seat [] past
 
@@ -44,7 +44,7 @@ delivered_then done more old next new a b = record {
       ∙ ap (λ (xs : List Answer). last_part 4 (outbox_at seat old ++ xs)) (sym (answers_append seat done more));
 }
 
--- the next of the answers went into its outbox
+-- the next answer went into its outbox
 pub delivering_one : (given : List GivenAnswer) (old : List (List Answer)) (g : GivenAnswer) (left rest : List GivenAnswer) (answered : List ℕ) (next new : List (List Answer))
     → IsDelivering given old left answered next → left ≡ g ∷ rest → AreDelivered (g ∷ []) next new → IsDelivering given old rest (answered ++ g.0 ∷ []) new
 delivering_one given old g left rest answered next new d is one = record {

@@ -1,4 +1,4 @@
--- What can't be, each by itself: a search among all that is known of a run is too long.
+-- Facts about errors, each by itself: a search among all facts about a run takes too long.
 use Rattle.std.proofs.Common.{◌≡◌, ◌==◌, ◌&&◌, Bool, ℕ, true, false, not, inl, inr, refl}
 use Rattle.std.specs.Prelude.{◌↔◌, IsErrOf, IsTrue, Result, Ok, Err}
 use Rattle.std.proofs.lemmas.Bool.{cases_Bool, eq-eqb}
@@ -13,7 +13,8 @@ ok_is_no_fault x y ok fault a b e = cc
 false_is_not_true : false ≡ true → ⊥
 false_is_not_true e = cc
 
--- A run with a door for each seat, for which what the lock holds was made, is not refused for its configuration.
+-- A run with a door for each seat, for which the content of the lock could be created, is not
+-- rejected for its configuration.
 pub well_configured : {A T : Type 0} (result : Result T RunFault) (config : Settings) (doors : ℕ) (made : A)
     → (IsErrOf {T = A} {E = RunFault} (Ok made) BadConfiguration ↔ IsTrue (not (are_in_range config))) → doors ≡ config.seats → (IsErrOf result BadConfiguration → ⊥)
     → IsErrOf result BadConfiguration ↔ IsTrue (not (are_in_range config && doors == config.seats))
@@ -31,7 +32,7 @@ size_of_all true true jobs e = refl
 size_of_all true false jobs e = absurd (false_is_not_true e)
 size_of_all false size jobs e = absurd (false_is_not_true e)
 
--- Bodies of a run for which what the lock holds was made have a size that there is.
+-- If the content of the lock could be created, the limit of body sizes is in its range.
 pub size_fits : {A : Type 0} (config : Settings) (made : A) → (IsErrOf {T = A} {E = RunFault} (Ok made) BadConfiguration ↔ IsTrue (not (are_in_range config))) → IsTrue (is_body_size config.max_job_size)
 size_fits config made bad =
     elim (cases_Bool (are_in_range config)) [

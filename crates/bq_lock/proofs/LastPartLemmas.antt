@@ -6,7 +6,7 @@ use Rattle.bq_host.specs.LastParts.{EndsWith, last_part}
 pub last_are_few : {X : Type 0} (n : ℕ) (xs : List X) → length (last_part n xs) ≤ n
 last_are_few n xs = let l = length-drop (length xs - n) xs in omega (arith, l)
 
--- what lies behind the last part comes into it
+-- appending to a last part first, or to the whole list, gives the same last part
 pub last_then : {X : Type 0} (n : ℕ) (xs ys : List X) → last_part n (last_part n xs ++ ys) ≡ last_part n (xs ++ ys)
 last_then {X} n xs ys =
     let k : ℕ = length xs - n in
@@ -27,7 +27,7 @@ ends_with_drop n xs = (take n xs, sym (take-append-drop n xs))
 pub ends_with_none : {X : Type 0} (xs : List X) → EndsWith xs []
 ends_with_none xs = (xs, sym (append-nil xs))
 
--- A part of a part is a part, and both can go on.
+-- A last part of a last part is a last part.
 pub ends_with_then : {X : Type 0} (xs part last : List X) → EndsWith xs part → EndsWith part last → EndsWith xs last
 ends_with_then xs part last (front, is) (more, then_is) = (front ++ more, is ∙ ap (λ zs. front ++ zs) then_is ∙ sym (append_assoc front more last))
 

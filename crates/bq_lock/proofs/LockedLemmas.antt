@@ -1,4 +1,4 @@
--- What is true at every hold of the lock stays true.
+-- The invariant of the lock's content holds after each operation.
 use Rattle.std.proofs.Common.{◌≡◌, ℕ, ◌<◌, ◌≤◌, ◌⊎◌, Bool, true, false, not, ◌&&◌, List, [], ◌∷◌, ◌++◌, Option, Some, None, drop, length, refl, sym, ap, ◌∙◌, arith, subst, inl, inr, replicate}
 use Rattle.std.specs.Prelude.{◌==◌, IfSome, IsNone, IsSome, IsTrue}
 use Rattle.std.proofs.lemmas.Bool.{cases_Bool, cases_lt, eqb-true, eqb-false, false≢true}
@@ -45,7 +45,8 @@ hold_new settings room lawful = record {
   };
 }
 
--- answers that are delivered leave a last part of what was given in all
+-- after the delivery of answers, each outbox is a last part of all answers that were given to its
+-- seat
 ends_delivered : (so_far given : List GivenAnswer) (old new : List (List Answer)) (seat : ℕ) → AreDelivered given old new
     → EndsWith (answers_to seat so_far) (outbox_at seat old) → EndsWith (answers_to seat (so_far ++ given)) (outbox_at seat new)
 ends_delivered so_far given old new seat d ends =
@@ -61,7 +62,7 @@ ends_delivered so_far given old new seat d ends =
           (ends_with_none (answers_to seat (so_far ++ given)))
     ]
 
--- What became of the entry, by whether there was a copy of the step for it.
+-- The journal after a step, by whether there was a copy of the step for its entry.
 pub noted_of : (copy : Option Step) (old : JournalState) (at seat : ℕ) (what : Step) (told_left told_unshared left_out unshared : Bool) (new : JournalState)
     → told_left ≡ left_out → told_unshared ≡ unshared
     → IfSome copy (λ step. step ≡ what) → (IsSome copy → length old.entries < old.capacity) → (IsNone copy → length old.entries < old.capacity → IsTrue (has_body what))
@@ -77,7 +78,8 @@ noted_of (Some step) old at seat what told_left told_unshared left_out unshared 
       ∙ ap (λ (b : Bool). with_entry (record { moment = at; seat = seat; step = what; left_out = left_out }) b old) shared;
 })
 
--- A journal that tells all after a step told all before it, and no share was refused in the step.
+-- If the journal is complete after a step, it was complete before it, and no reference to a body
+-- failed to be allocated in the step.
 both_true : (a b : Bool) → (a && b) ≡ true → (a ≡ true) × (b ≡ true)
 both_true true true h = (refl, refl)
 both_true true false h = absurd cc
@@ -110,7 +112,7 @@ step_replayed old at seat what new outcome given step delivered settings replaye
       last_parts = λ other. ends_delivered r.given given old.outboxes new.outboxes other delivered (r.last_parts other);
     }
 
--- what holds stays after a step
+-- a step preserves the invariant
 pub hold_step : (old : LockedState) (at seat : ℕ) (what : Step) (new : LockedState) → IsLawfulHold old → IsLawful new.machine → new.machine.settings ≡ old.machine.settings
     → TakesStep old at seat what new → IsLawfulHold new
 hold_step old at seat what new h lawful settings taken = record {
@@ -145,7 +147,7 @@ ends_fetched outboxes seat other =
 few_of_part : (xs part : List Answer) → EndsWith xs part → length xs ≤ 4 → length part ≤ 4
 few_of_part xs part (front, is) few = let l = length-append front part in let m = ap length is in omega (arith, l, m, few)
 
--- what holds stays after a fetch
+-- a fetch preserves the invariant
 pub hold_fetch : (l : LockedState) (seat : ℕ) → IsLawfulHold l → IsLawfulHold (record l { outboxes = without_oldest seat l.outboxes })
 hold_fetch l seat h = record {
   lawful = h.lawful;
@@ -158,7 +160,7 @@ hold_fetch l seat h = record {
   };
 }
 
--- the same, of the parts of what the lock holds
+-- the same for the parts of the lock's content when it is created
 pub hold_first : (settings : Settings) (room : ℕ) (machine : Machine) (outboxes : List (List Answer)) (answered : List ℕ) (journal : JournalState)
     → machine ≡ new_machine settings → outboxes ≡ replicate settings.seats [] → answered ≡ [] → journal ≡ (new_locked settings room).journal
     → IsLawfulHold (locked_of machine outboxes answered journal)

@@ -1,4 +1,4 @@
--- A seat with its door, before anything was done, and at its end.
+-- A seat with its door, before its first operation and at its end.
 use Rattle.std.proofs.Common.{◌≡◌, Bool, false, List, [], refl}
 use Rattle.bq_job.specs.promise.History.{LineOver}
 use Rattle.bq_job.specs.promise.LineSteps.{LineSeen}

@@ -1,10 +1,10 @@
--- How many seats are to be rung.
+-- The number of seats to wake.
 use Rattle.std.proofs.Common.{◌≡◌, ◌<◌, ℕ, suc, zero, length, List, [], ◌∷◌, take, arith, refl, inl, inr}
 use Rattle.std.specs.Prelude.{◌==◌, slice_index_or}
 use Rattle.std.proofs.lemmas.Bool.{cases_Bool, eqb-true}
 use Rattle.bq_lock.specs.Rung.{others}
 
--- One that isn't the own one comes behind so many others.
+-- A seat other than the thread's own comes after this many others.
 pub more_others : (own : ℕ) (seats : List ℕ) (place many : ℕ) → length (others own (take place seats)) ≡ many → place < length seats → (slice_index_or seats place 0 ≡ own → ⊥) → many < length (others own seats)
 more_others own [] place many e below differs = absurd (omega arith)
 more_others own (s ∷ seats) zero many e below differs =

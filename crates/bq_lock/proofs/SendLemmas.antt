@@ -1,4 +1,4 @@
--- What lies under the lock may go to another thread.
+-- The content of the lock may be sent to another thread.
 use denote.RattleType.{RattleType}
 use denote.Param.Send.{AllSend, IsSend, sendable, recorded_send, struct_send}
 use denote.Struct.Declared.{fields, shape}

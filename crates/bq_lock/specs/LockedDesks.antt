@@ -1,4 +1,4 @@
--- What happens at a desk under a lock.
+-- The effect of each operation on a desk under a lock.
 use Rattle.std.specs.Prelude.{ℕ, ◌≡◌, ◌+◌, ◌≤◌, max, MatchBool, nat_le, List, Option, Some, None}
 use Rattle.bq_job.specs.declared.answer.Answer.{Answer}
 use Rattle.bq_job.specs.declared.step.Step.{Step}
@@ -11,7 +11,7 @@ use Rattle.bq_lock.specs.declared.locked_desk.LockedDesk.{LockedDesk}
 use Rattle.bq_lock.specs.declared.shared_desk.Look.{Look}
 use Rattle.bq_lock.specs.declared.shared_desk.Look.TheVariants as looks
 
--- The clock was read once, and the moment heard last follows the reading.
+-- The clock was read once, and its latest moment follows the reading.
 abbrev pub Hears : {C : Type 0} → (C → List (Option ℕ) → C → Type 0) → LockedDesk C → LockedDesk C → Type 0
 Hears given old new = (reading : Option ℕ) × HasHeard given old.time reading new.time
 
@@ -19,35 +19,35 @@ Hears given old new = (reading : Option ℕ) × HasHeard given old.time reading 
 abbrev pub HasTaken : {C : Type 0} → (C → List (Option ℕ) → C → Type 0) → ℕ → Step → LockedDesk C → LockedDesk C → Type 0
 HasTaken given seat what old new = Hears given old new × TakesStep old.locked new.time.moment seat what new.locked
 
--- Where nothing is ever due nothing happens. Else the clock is read once, and a tick is taken exactly where the
--- moment heard then has come to what is due.
+-- If nothing will ever be due, nothing happens. Otherwise the clock is read once, and a tick is
+-- taken exactly if the moment after the reading has reached the due moment.
 abbrev pub HasPassed : {C : Type 0} → (C → List (Option ℕ) → C → Type 0) → ℕ → Option ℕ → LockedDesk C → LockedDesk C → Type 0
 HasPassed given seat None old new = new ≡ old
 HasPassed given seat (Some due) old new =
     Hears given old new
     × MatchBool (nat_le due new.time.moment) (TakesStep old.locked new.time.moment seat Tick new.locked) (new.locked ≡ old.locked)
 
--- How long a seat may rest: never past the next moment at which something is due.
+-- A seat's sleep never goes past the next moment at which something is due.
 abbrev pub EndsInTime : Option ℕ → ℕ → ℕ → Type 0
 EndsInTime None heard rest = Unit {0}
 EndsInTime (Some due) heard rest = heard + rest ≤ max due heard
 
--- what was fetched, as what a look came to
+-- what was fetched, as the result of a look
 abbrev pub Tells : Look → Option Answer → Type 0
 Tells (looks.Mail answer) fetched = fetched ≡ Some answer
 Tells (looks.Nothing rest) fetched = fetched ≡ None
 
--- the desk once the oldest answer for a seat was taken out
+-- the desk after the oldest answer for a seat was taken out
 abbrev pub once_fetched : {C : Type 0} → ℕ → LockedDesk C → LockedDesk C
 once_fetched seat desk = record desk { locked = record desk.locked { outboxes = without_oldest seat desk.locked.outboxes } }
 
--- Time passed, and then the oldest answer was taken out of the seat's outbox.
+-- A tick was taken if one was due, and then the oldest answer was taken out of the seat's outbox.
 abbrev pub HasLooked : {C : Type 0} → (C → List (Option ℕ) → C → Type 0) → ℕ → LockedDesk C → Look → LockedDesk C → Type 0
 HasLooked {C} given seat old look new =
     (at_look : LockedDesk C) × HasPassed given seat (next_due old.locked.machine) old at_look
     × Tells look (oldest_for seat at_look.locked.outboxes) × (new ≡ once_fetched seat at_look)
 
--- The step was taken, and then the oldest answer for its seat.
+-- The step was taken, and then the oldest answer for its seat was taken out.
 abbrev pub HasServed : {C : Type 0} → (C → List (Option ℕ) → C → Type 0) → ℕ → Step → LockedDesk C → Option Answer → LockedDesk C → Type 0
 HasServed {C} given seat what old answer new =
     (at_step : LockedDesk C) × HasTaken given seat what old at_step × (answer ≡ oldest_for seat at_step.locked.outboxes)

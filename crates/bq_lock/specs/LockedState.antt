@@ -1,4 +1,4 @@
--- What the lock holds, and what is true of it at every hold.
+-- The content of the lock, and its invariant.
 use Rattle.std.specs.Prelude.{ℕ, Bool, true, ◌≡◌, ◌≤◌, List, [], Option, drop, length, replicate, slice_get, slice_index_or, slice_set}
 use Rattle.bq_job.specs.declared.answer.Answer.{Answer}
 use Rattle.bq_job.specs.declared.journal.Entry.{Entry}
@@ -10,7 +10,7 @@ use Rattle.bq_job.specs.beside.Replay.{Replay}
 use Rattle.bq_job.specs.promise.Runs.{answers_to}
 use Rattle.bq_host.specs.LastParts.{EndsWith}
 
--- the entries of a journal, for how many it has room in all, and whether it tells all that happened
+-- the entries of a journal, how many it has room for in all, and whether it is complete
 pub record JournalState : Type 0 where
   pub entries : List Entry
   pub capacity : ℕ
@@ -20,30 +20,30 @@ pub record LockedState : Type 0 where
   pub machine : Machine
   -- the outbox of each seat
   pub outboxes : List (List Answer)
-  -- the seats that the last step answered
+  -- the seats that received an answer from the last step
   pub answered : List ℕ
   pub journal : JournalState
 
 abbrev pub locked_of : Machine → List (List Answer) → List ℕ → JournalState → LockedState
 locked_of machine outboxes answered journal = record { machine = machine; outboxes = outboxes; answered = answered; journal = journal }
 
--- what lies in the outbox of a seat, nothing where there is no such seat
+-- the content of a seat's outbox; it is empty if the seat does not exist
 abbrev pub outbox_at : ℕ → List (List Answer) → List Answer
 outbox_at seat outboxes = slice_index_or outboxes seat []
 
--- the oldest answer for a seat, where there is any
+-- the oldest answer for a seat, if there is one
 abbrev pub oldest_for : ℕ → List (List Answer) → Option Answer
 oldest_for seat outboxes = slice_get (outbox_at seat outboxes) 0
 
--- the outboxes once that was taken out
+-- the outboxes after this answer was taken out
 abbrev pub without_oldest : ℕ → List (List Answer) → List (List Answer)
 without_oldest seat outboxes = slice_set outboxes seat (drop 1 (outbox_at seat outboxes))
 
--- Each outbox holds four answers at most.
+-- Each outbox holds at most four answers.
 abbrev pub AreFew : List (List Answer) → Type 0
 AreFew outboxes = (seat : ℕ) → length (outbox_at seat outboxes) ≤ 4
 
--- Nothing was done yet.
+-- The content of a new lock.
 abbrev pub new_locked : Settings → ℕ → LockedState
 new_locked settings capacity = record {
   machine = new_machine settings;
@@ -52,14 +52,14 @@ new_locked settings capacity = record {
   journal = record { entries = []; capacity = capacity; whole = true };
 }
 
--- The replay of the journal leads to the machine, and each outbox is a last part of the answers that it
--- gives to the seat.
+-- Replaying the journal leads to the machine, and each outbox is a last part of the answers that
+-- the replay gives to its seat.
 pub record IsReplayed (l : LockedState) : Type 0 where
   pub given : List GivenAnswer
   pub replay : Replay l.machine.settings l.journal.entries given l.machine
   pub last_parts : (seat : ℕ) → EndsWith (answers_to seat given) (outbox_at seat l.outboxes)
 
--- what is true at every hold of the lock
+-- the invariant of the lock's content
 pub record IsLawfulHold (l : LockedState) : Type 0 where
   pub lawful : IsLawful l.machine
   pub many : length l.outboxes ≡ l.machine.settings.seats

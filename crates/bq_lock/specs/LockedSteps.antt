@@ -1,4 +1,4 @@
--- What a step does to what the lock holds.
+-- The effect of a step on the content of the lock.
 use Rattle.std.specs.Prelude.{ℕ, Bool, false, ◌≡◌, ◌<◌, ◌⊎◌, ◌&&◌, not, List, [], ◌∷◌, ◌++◌, map, length, IsTrue}
 use Rattle.bq_job.specs.declared.answer.Answer.{Answer}
 use Rattle.bq_job.specs.declared.journal.Entry.{Entry}
@@ -15,11 +15,12 @@ pub record AreDelivered (given : List GivenAnswer) (old new : List (List Answer)
   pub many : length new ≡ length old
   pub each : (seat : ℕ) → seat < length old → outbox_at seat new ≡ last_part 4 (outbox_at seat old ++ answers_to seat given)
 
--- the journal with an entry more, of a step in which a share was refused or not
+-- the journal with one more entry; `unshared` tells whether the allocation of a reference to a body
+-- failed in the step
 abbrev pub with_entry : Entry → Bool → JournalState → JournalState
 with_entry entry unshared old = record old { entries = old.entries ++ entry ∷ []; whole = old.whole && not unshared }
 
--- the journal once a step has no entry in it
+-- the journal after a step without an entry
 abbrev pub without_entry : JournalState → JournalState
 without_entry old = record old { whole = false }
 
@@ -28,13 +29,14 @@ pub record IsAdded (old : JournalState) (entry : Entry) (unshared : Bool) (new :
   pub had_room : length old.entries < old.capacity
   pub new_is : new ≡ with_entry entry unshared old
 
--- The entry was left out, for want of room or since a share of the body in it was refused.
+-- The entry was left out, because there was no room or another reference to the body in it could
+-- not be allocated.
 pub record IsLeftOut (old : JournalState) (what : Step) (new : JournalState) : Type 0 where
   pub had_body : length old.entries < old.capacity → IsTrue (has_body what)
   pub new_is : new ≡ without_entry old
 
--- The core took the step and the answers were delivered. The step's entry was added or left out, and names
--- the outcome that the step had.
+-- The core took the step and the answers were delivered. The step's entry was added, with the
+-- outcome of the step, or it was left out.
 pub record TakesStep (old : LockedState) (at seat : ℕ) (what : Step) (new : LockedState) : Type 0 where
   pub outcome : Outcome
   pub given : List GivenAnswer

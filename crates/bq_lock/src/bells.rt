@@ -1,4 +1,4 @@
-//! A bell for each seat of a run.
+//! A bell for each seat of a run. A bell wakes the thread of its seat.
 ghost use Rattle.std.specs.Prelude.{◌≡◌, [], IfOk, vec_len};
 ghost use Rattle.bq_lock.specs.Rung.{AreRung, others};
 
@@ -9,10 +9,10 @@ use std::alloc::Global;
 use std::sync::Wait;
 use std::time::Duration;
 
-/// How many seats whose bells are to be rung can be told one by one.
+/// The number of seats that can be listed one by one to be woken.
 const FEW: usize = 8;
 
-/// The seats whose bells are to be rung.
+/// The seats whose bells have to be rung.
 #[derive(Drop)]
 pub enum Rings {
     Few(ArrayVec<Seat, FEW>),
@@ -26,7 +26,7 @@ impl Rings {
         Rings::Few(ArrayVec::new())
     }
 
-    /// The seats of these but for one.
+    /// Returns these seats without the thread's own.
     pub fn but_own(seats: &[Seat], own: Seat) -> Rings
         ensures { AreRung (others own seats.now) result }
     {
@@ -51,7 +51,7 @@ pub struct Bells {
 }
 
 impl Bells {
-    /// A bell for each of so many seats, none of which was rung. All their memory is asked for here.
+    /// Allocates a bell for each of this many seats.
     pub fn new(alloc: Global, seats: u16) -> Result<Bells, NoMemory>
         ensures { IfOk result (λ bells. vec_len bells.bells ≡ seats) }
     {
@@ -66,7 +66,7 @@ impl Bells {
         Ok(Bells { bells })
     }
 
-    /// Rings the bells of these seats. A seat without a bell is passed.
+    /// Rings the bells of these seats. A seat without a bell is skipped.
     pub fn ring(&self, rings: &Rings) {
         match rings {
             Rings::Few(seats) => {
@@ -84,8 +84,8 @@ impl Bells {
         }
     }
 
-    /// Waits until the bell of a seat is rung, at most so long, and says whether it was. It may return before
-    /// for no reason, and does so where the seat has no bell.
+    /// Waits until the bell of a seat is rung, or until the time has passed, and returns whether it
+    /// was rung. It may return early for no reason, and does so if the seat has no bell.
     pub fn wait<R: Wait>(&self, rt: &R, seat: Seat, most: Duration) -> bool {
         match self.bells.get(usize::from(seat)) {
             Some(bell) => bell.wait(rt, most),

@@ -21,11 +21,12 @@ use std::sync::{Mutex, Wait};
 use std::thread;
 use std::thread::{Promise, PromisedHandle, Scope, Threads};
 
-/// Serves the lines of all doors at the desk under the lock, each at a seat and in a thread of its own, until no more lines come at
-/// any of them. The calling thread reads the control line. The doors come back in their order.
+/// Serves the lines of all doors at the desk under the lock, each at a seat and in a thread of its
+/// own, until no more lines come at any of them. The calling thread reads the control line. The
+/// doors are returned in their order.
 ///
-/// The fault is `NoMemory` where a growth of memory was refused, or `ThreadRefused` where a thread was. With any
-/// fault no door was opened, and the doors are given up.
+/// The error is `NoMemory` if an allocation failed, or `ThreadRefused` if a thread could not be
+/// started. After an error no door was opened, and the doors are dropped.
 pub fn serve_at_desk<
     R: Threads + Wait + Sync,
     L: Line + Drop + Send,
@@ -65,8 +66,8 @@ pub fn serve_at_desk<
     serve_in_scope(rt, alloc, posts, desk, &bells, &start, control, seats)
 }
 
-// Serves all posts, each in a thread of its own, and the control line in this one. The doors come back in
-// their order.
+// Serves all posts, each in a thread of its own, and the control line in this thread. The doors are
+// returned in their order.
 fn serve_in_scope<
     R: Threads + Wait + Sync,
     L: Line + Drop + Send,
@@ -117,7 +118,7 @@ fn serve_in_scope<
     )
 }
 
-// A post for each door, the last one first.
+// Returns a post for each door, the last one first.
 fn new_posts<L: Line + Drop, D: Door<Line = L> + Drop>(
     alloc: Global,
     max_job_size: u32,
@@ -145,7 +146,7 @@ fn new_posts<L: Line + Drop, D: Door<Line = L> + Drop>(
     Ok(posts)
 }
 
-// That this door was served to its end, where its thread began.
+// The promise of a thread: if it began, it served this door to its end.
 #[derive(Drop)]
 struct DoorPromise<D> {
     max_job_size: u32,
@@ -158,8 +159,8 @@ impl<D: Door> Promise<Option<D>> for DoorPromise<D> {
         × IfSome door (D.same promise.door.value) };
 }
 
-// Starts a thread for each seat, and serves the control line where all were started. The doors come back
-// in their order.
+// Starts a thread for each seat, and serves the control line if all were started. The doors are
+// returned in their order.
 fn serve_all<
     's,
     E,
@@ -206,7 +207,7 @@ fn serve_all<
     );
     start.tell(rt, all_started);
     if !all_started {
-        // The scope waits for those that were.
+        // The scope waits for the threads that were started.
         return Err(RunFault::ThreadRefused);
     }
     let mut link = SharedSeat {
@@ -221,7 +222,7 @@ fn serve_all<
     join_all(rt, threads, doors, max_job_size)
 }
 
-// Whether a thread was started for each seat.
+// Starts a thread for each seat. Returns true if all were started.
 fn start_threads<
     's,
     E,
@@ -244,7 +245,7 @@ fn start_threads<
     ensures many { IsTrue result → vec_len threads.new ≡ vec_len posts }
     ensures limits { IsTrue result
         → All (λ thread. thread.promise.max_job_size ≡ max_job_size) threads.new.items }
-    // The last post's thread comes first.
+    // The thread of the last post comes first.
     ensures doors { IsTrue result
         → map (λ thread. thread.promise.door.value) threads.new.items ≡ reverse (map (λ post. post.door) posts.items) }
 {
@@ -264,7 +265,7 @@ fn start_threads<
     true
 }
 
-// Waits for all threads. Their doors come behind one another, for which there is room.
+// Waits for all threads and appends their doors, for which there is room.
 fn join_all<R: Threads, D: Door + Drop + Send>(
     rt: &R,
     threads: Vec<PromisedHandle<Option<D>, DoorPromise<D>>, Global>,

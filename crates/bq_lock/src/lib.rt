@@ -1,5 +1,5 @@
-//! A run around one lock: each door is served by a thread of its own, and the core lies under the lock, with an outbox for
-//! each seat and a journal of its steps.
+//! A run around one lock: each door is served by a thread of its own. The lock protects the core,
+//! with an outbox for each seat and a journal of its steps.
 #![tactic(auto)]
 
 pub use locked::Locked;

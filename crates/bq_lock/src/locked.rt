@@ -1,4 +1,4 @@
-//! What the one lock of a server holds.
+//! The content of the one lock of a server.
 ghost use Rattle.std.specs.Prelude.{◌≡◌, ◌↔◌, IfOk, IsErrOf, IsTrue, not};
 ghost use Rattle.bq_steps.specs.Limits.{are_in_range};
 ghost use Rattle.bq_job.specs.beside.NextDue.{next_due};
@@ -16,11 +16,11 @@ use outboxes::Outboxes;
 use std::alloc::Global;
 use std::marker::Model;
 
-/// The content of the one lock of a server: the core, an outbox for each seat, and a journal of the steps
-/// that were taken.
+/// The content of the one lock of a server: the core, an outbox for each seat, and a journal of the
+/// steps that were taken.
 ///
-/// An outbox holds the last four answers to its seat that weren't fetched yet. The journal has a room that
-/// is given when it is made; with none, nothing is done for it.
+/// An outbox holds the last four answers to its seat that were not fetched yet. The size of the
+/// journal is fixed when it is created; with size 0 it costs nothing.
 #[derive(Drop)]
 pub struct Locked {
     alloc: Global,
@@ -45,10 +45,11 @@ impl Model for Locked {
 }
 
 impl Locked {
-    /// A new core with empty outboxes, and room for so many entries in the journal. All memory but that for
-    /// jobs and answers is asked for here.
+    /// Returns a new core with empty outboxes, and room for this many entries in the journal. All
+    /// memory but that for jobs and answers is allocated here.
     ///
-    /// The fault is `BadConfiguration` where the configuration is out of its ranges, and else `NoMemory`.
+    /// The error is `BadConfiguration` if the configuration is out of its ranges, and otherwise
+    /// `NoMemory`.
     pub fn new(alloc: Global, config: Config, capacity: usize) -> Result<Locked, RunFault>
         ensures made { IfOk result (λ locked. locked ≡ new_locked config capacity) }
         ensures bad_configuration { IsErrOf result RunFault.BadConfiguration ↔ IsTrue
@@ -71,11 +72,11 @@ impl Locked {
         })
     }
 
-    /// Takes a step at a moment. A moment below an earlier one counts as that one. The answers go into the
-    /// outboxes of their seats, where a fifth pushes out the oldest.
+    /// Takes a step at a moment. A moment below an earlier one counts as the earlier one. The
+    /// answers go into the outboxes of their seats, where a fifth answer replaces the oldest.
     ///
-    /// The journal gets the step's entry where it has room, and where one more owner is given of the body
-    /// that the step hands in.
+    /// The journal gets the step's entry if it has room and another reference to the body in the
+    /// step can be allocated.
     pub fn step(&mut self, at: Moment, seat: Seat, what: Step)
         ensures taken { TakesStep self.old at seat what self.new }
         ensures holds { IsLawfulHold self.new }
@@ -87,8 +88,8 @@ impl Locked {
             .note(at, seat, copy, self.outs.left_out(), self.outs.unshared());
     }
 
-    /// Takes the oldest answer out of a seat's outbox. There is none where the outbox is empty, or where
-    /// there is no such seat.
+    /// Takes the oldest answer out of a seat's outbox. Returns `None` if the outbox is empty or the
+    /// seat does not exist.
     pub fn fetch(&mut self, seat: Seat) -> Option<Answer>
         ensures oldest { result ≡ oldest_for seat self.old.outboxes }
         ensures rest { self.new
@@ -98,15 +99,15 @@ impl Locked {
         self.outboxes.fetch(seat)
     }
 
-    /// The seats that the last step answered, in the order of its answers: a seat stands here once for each
-    /// of its answers.
+    /// Returns the seats that received an answer from the last step, in the order of the answers. A
+    /// seat appears once for each of its answers.
     pub fn answered(&self) -> &[Seat]
         ensures { result.now ≡ self.now.answered }
     {
         self.outboxes.answered.as_slice()
     }
 
-    /// The least moment at which something happens by itself, as the core says.
+    /// Returns the next moment at which something is due, as reported by the core.
     pub fn next_due(&mut self) -> Option<Moment>
         ensures due { result ≡ next_due self.old.machine }
         ensures same { self.new ≡ self.old }
@@ -114,7 +115,7 @@ impl Locked {
         self.core.next_due()
     }
 
-    /// The entries so far, in the order in which their steps were taken.
+    /// Returns the entries so far, in the order in which their steps were taken.
     pub fn journal(&self) -> &[Entry]
         ensures entries { result.now ≡ self.now.journal.entries }
         ensures holds { IsLawfulHold self.now }
@@ -122,7 +123,8 @@ impl Locked {
         self.journal.entries()
     }
 
-    /// Whether the journal tells all: no step found it full, and no share of a body was refused.
+    /// Returns true if the journal is complete: it was never full when a step was taken, and no
+    /// allocation of a reference to a body failed.
     pub fn whole(&self) -> bool
         ensures whole { result ≡ self.now.journal.whole }
         ensures holds { IsLawfulHold self.now }

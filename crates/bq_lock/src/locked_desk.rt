@@ -1,4 +1,4 @@
-//! A desk under a lock, at which each seat is served by its own thread.
+//! A desk under a lock, where each seat is served by a thread of its own.
 ghost use Rattle.std.specs.Prelude.{◌≡◌, ◌≤◌};
 
 use crate::bells::Rings;
@@ -8,7 +8,7 @@ use bq_host::HeardClock;
 use bq_job::{Answer, Seat, Step};
 use bq_line::clock::Clock;
 
-/// What lies under the one lock of a run: the core with its outboxes, and the clock.
+/// The content of the one lock of a run: the core with its outboxes, and the clock.
 #[derive(Drop)]
 pub struct LockedDesk<C> {
     pub locked: Locked,
@@ -20,7 +20,7 @@ impl<C: Clock + Drop> LockedDesk<C> {
     ghost use Rattle.bq_lock.specs.LockedDesks.{EndsInTime, HasLooked, HasPassed, HasServed, HasTaken};
     ghost use Rattle.bq_lock.specs.Rung.{AreRung, AreRungByTick, others};
 
-    /// A desk at which nothing was done.
+    /// Returns a new desk.
     pub fn new(locked: Locked, clock: C) -> LockedDesk<C>
         ensures locked { result.locked ≡ locked }
         ensures clock { result.time.clock ≡ clock }
@@ -32,8 +32,8 @@ impl<C: Clock + Drop> LockedDesk<C> {
         }
     }
 
-    // A step at the moment that the clock gives now. The seats whose bells are to be rung: those that were
-    // answered, but for the one whose step it is.
+    // Takes a step at the moment that the clock reads now. Returns the seats whose bells have to be
+    // rung: those that were answered, except the one whose step it is.
     fn step(&mut self, seat: Seat, what: Step) -> Rings
         ensures taken { HasTaken C.given seat what self.old self.new }
         ensures rings { AreRung (others seat self.new.locked.answered) result }
@@ -43,7 +43,8 @@ impl<C: Clock + Drop> LockedDesk<C> {
         Rings::but_own(self.locked.answered(), seat)
     }
 
-    // A step, and the oldest answer for its seat behind it. Nothing is due then, since a step fires what is.
+    // Takes a step and then the oldest answer for its seat. No tick is needed, since the step
+    // itself handles what is due.
     fn serve(&mut self, seat: Seat, what: Step) -> (Option<Answer>, Rings)
         ensures served { HasServed C.given seat what self.old result.0 self.new }
         ensures rings { AreRung (others seat self.new.locked.answered) result.1 }
@@ -52,7 +53,7 @@ impl<C: Clock + Drop> LockedDesk<C> {
         (self.locked.fetch(seat), rings)
     }
 
-    // A look at the mail of a seat, before which a tick is made where the core is due.
+    // Takes a tick if one is due, and then looks for mail of a seat.
     fn look(&mut self, seat: Seat) -> (Look, Rings)
         ensures looked { HasLooked C.given seat self.old result.0 self.new }
         ensures rings { AreRungByTick (next_due self.old.locked.machine) self.new.time.moment
@@ -65,8 +66,9 @@ impl<C: Clock + Drop> LockedDesk<C> {
         }
     }
 
-    // The clock is read where the core is ever due. The reading that finds it due is the tick's. How long
-    // the seat may rest at most, in milliseconds, and whose bells are to be rung.
+    // Reads the clock if anything will ever be due, and takes a tick at this reading if something
+    // is due by then. Returns the longest sleep of the seat in milliseconds, and the seats whose
+    // bells have to be rung.
     fn tick_if_due(&mut self, seat: Seat) -> (u64, Rings)
         ensures passed { HasPassed C.given seat
             (next_due self.old.locked.machine) self.old self.new }

@@ -19,7 +19,8 @@ use std::alloc::Global;
 use std::sync::{Mutex, Wait};
 use std::thread::Threads;
 
-/// A run around one lock that is over: the doors and the clock as they were left, and what the lock held.
+/// A run around one lock that has ended: the doors and the clock as they were left, and the content
+/// of the lock.
 #[derive(Drop)]
 pub struct LockedRun<D, C> {
     pub doors: Vec<D, Global>,
@@ -27,13 +28,15 @@ pub struct LockedRun<D, C> {
     pub locked: Locked,
 }
 
-/// Serves the lines of all doors, each at a seat and in a thread of its own, until no more lines come at any
-/// of them. The calling thread reads the control line, of which each line `drain` begins draining. The core
-/// and the clock lie under one lock, with a journal that has room for so many entries.
+/// Serves the lines of all doors, each at a seat and in a thread of its own, until no more lines
+/// come at any of them. The calling thread reads the control line, where each line `drain` starts
+/// draining. One lock protects the core and the clock, with a journal that has room for this many
+/// entries.
 ///
-/// The fault is `BadConfiguration` where the configuration is out of its ranges or there isn't a door for
-/// each seat, and else `NoMemory` where a growth of memory was refused, or `ThreadRefused` where a thread was.
-/// With any fault no door was opened, and the doors are given up.
+/// The error is `BadConfiguration` if the configuration is out of its ranges or the number of doors
+/// is not the number of seats. Otherwise it is `NoMemory` if an allocation failed, or
+/// `ThreadRefused` if a thread could not be started. After any error no door was opened, and the
+/// doors are dropped.
 pub fn run_locked<
     R: Threads + Wait + Sync,
     L: Line + Drop + Send,
@@ -49,14 +52,15 @@ pub fn run_locked<
     mut control: I,
     capacity: usize,
 ) -> Result<LockedRun<D, C>, RunFault>
-    // No line is out or over at any door, and none is at its end.
+    // No door has a line that is open or was served, and no door is at its end.
     requires new { All
         (λ door. IsNewDoor (door_seen D.is_out D.is_at_end D.lines_over door)) doors.items }
-    // Each door was served to its end: its lines' steps were submitted, and each line was written the answers
-    // that were taken for it. What ties them to the steps of the core no clause tells.
+    // Each door was served to its end: the steps of its lines were submitted, and each line
+    // received the answers that were taken for it. No clause states how these relate to the steps
+    // of the core.
     ensures served { IfOk result (λ run. All (λ door. IsServedToEnd config.max_job_size (door_seen D.is_out D.is_at_end D.lines_over door))
         run.doors.items) }
-    // They are the doors that were handed in, in their order.
+    // The doors are those that were passed in, in the same order.
     ensures same { IfOk result (λ run. AreSame D.same doors.items run.doors.items) }
     ensures many { IfOk result (λ run. vec_len run.doors ≡ config.seats) }
     ensures holds { IfOk result (λ run. IsLawfulHold run.locked) }

@@ -1,4 +1,4 @@
-//! A seat with its door, which a thread of its own serves.
+//! A seat with its door, for a thread of its own.
 ghost use Rattle.std.specs.Prelude.{◌≡◌, IfOk, IfSome, IsTrue, false, []};
 ghost use Rattle.std.specs.List.{All};
 ghost use Rattle.bq_steps.specs.Limits.{is_body_size};
@@ -20,7 +20,7 @@ use std::alloc::Global;
 use std::sync::Wait;
 use std::thread;
 
-/// A seat and its door, on neither of which anything was done.
+/// A new seat and its door.
 #[derive(Drop)]
 pub struct Post<L: Line + Drop, D: Door<Line = L>> {
     alloc: Global,
@@ -36,7 +36,7 @@ pub struct Post<L: Line + Drop, D: Door<Line = L>> {
 }
 
 impl<L: Line + Drop, D: Door<Line = L> + Drop> Post<L, D> {
-    /// A post of this seat. All memory but that for bodies is asked for here.
+    /// Returns a post of this seat. All memory but that for bodies is allocated here.
     pub fn new(
         alloc: Global,
         max_job_size: u32,
@@ -59,8 +59,8 @@ impl<L: Line + Drop, D: Door<Line = L> + Drop> Post<L, D> {
         })
     }
 
-    /// Serves the door to its end, and gives it back. Where some thread was not started there is none: it was
-    /// not opened.
+    /// Serves the door to its end and returns it. Returns `None` if a thread was not started; then
+    /// the door was not opened.
     pub fn serve<R: Wait, K: SharedDesk>(
         self,
         rt: &R,
@@ -108,7 +108,7 @@ impl<L: Line + Drop, D: Door<Line = L> + Drop> Post<L, D> {
     }
 }
 
-/// Posts that all have the same limit of bodies.
+/// Posts that share one limit of body sizes.
 #[derive(Drop)]
 pub struct SeatPosts<L: Line + Drop, D: Door<Line = L>> {
     pub all: Vec<Post<L, D>, Global>,

@@ -10,39 +10,41 @@ use std::mem;
 use std::sync::{Mutex, Wait};
 use std::time::Duration;
 
-/// How long a seat whose reserve waits rests before its line is read again, in milliseconds. A client that has
-/// gone is noticed then.
+/// How long a seat whose reserve waits sleeps before its line is read again, in milliseconds. This
+/// read notices if the client has disconnected.
 pub const LONGEST_REST: u64 = 100;
 
-/// What a look at the mail came to.
+/// The result of a look for mail.
 #[derive(Drop)]
 pub enum Look {
     Mail(Answer),
-    /// There is none. How long the seat may rest before it has to look again, in milliseconds.
+    /// There is no mail. The seat may sleep for this many milliseconds before it has to look again.
     Nothing(u64),
 }
 
-/// A desk at which each seat is served by a thread of its own.
+/// A desk where each seat is served by a thread of its own.
 pub trait SharedDesk {
-    /// Takes a step of a seat, and tells the other seats that it answered.
+    /// Takes a step of a seat, and returns the other seats that it answered.
     fn step<R: Wait>(&self, rt: &R, seat: Seat, what: Step) -> Rings;
 
-    /// The same, and takes the oldest answer for the seat that there is then.
+    /// The same, and takes the oldest answer for the seat after the step.
     fn serve<R: Wait>(&self, rt: &R, seat: Seat, what: Step) -> (Option<Answer>, Rings);
 
-    /// Takes the oldest answer for a seat, and tells the other seats that were answered meanwhile.
+    /// Takes the oldest answer for a seat, and returns the other seats that were answered by a
+    /// tick.
     fn look<R: Wait>(&self, rt: &R, seat: Seat) -> (Look, Rings);
 }
 
-/// A desk that one value owns, as it lies under a lock.
+/// A desk that one value owns, as it is under a lock.
 pub trait OwnedDesk {
-    /// Takes a step of a seat, and tells the other seats that it answered.
+    /// Takes a step of a seat, and returns the other seats that it answered.
     fn take(&mut self, seat: Seat, what: Step) -> Rings;
 
-    /// The same, and takes the oldest answer for the seat that there is then.
+    /// The same, and takes the oldest answer for the seat after the step.
     fn take_and_fetch(&mut self, seat: Seat, what: Step) -> (Option<Answer>, Rings);
 
-    /// Takes the oldest answer for a seat, and tells the other seats that were answered meanwhile.
+    /// Takes the oldest answer for a seat, and returns the other seats that were answered by a
+    /// tick.
     fn fetch(&mut self, seat: Seat) -> (Look, Rings);
 }
 
@@ -60,22 +62,24 @@ impl<K: OwnedDesk + Drop> SharedDesk for Mutex<K> {
     }
 }
 
-/// The link of a seat, or of the control line, to a desk that threads share. What other seats do between
-/// two of its calls is unknown, so it tells nothing of what went over it.
+/// The link of a seat, or of the control line, to a desk that threads share. Other seats may act
+/// between two of its calls, so its contract does not state what went over it.
 #[derive(Drop)]
 pub struct SharedSeat<'a, R, K> {
     pub rt: &'a R,
     pub desk: &'a K,
     pub bells: &'a Bells,
     pub seat: Seat,
-    /// An answer that came with a step, and that the seat didn't ask for yet.
+    /// An answer that came with a step and that the seat has not asked for yet.
     pub at_hand: Option<Answer>,
-    /// Whether its last step wasn't answered by itself, and that was told: then a look for mail rests.
+    /// Whether the link has already reported that the last step has no answer yet. After that, a
+    /// look for mail sleeps.
     pub rests: bool,
 }
 
 impl<'a, R: Wait, K: SharedDesk> SharedSeat<'a, R, K> {
-    // Most steps are answered by themselves, and the desk is asked no more for that answer.
+    // Most steps are answered at once, and then no further call to the desk is needed for the
+    // answer.
     fn serve(&mut self, step: Step) {
         let (answer, rings) = self.desk.serve(self.rt, self.seat, step);
         self.bells.ring(&rings);
@@ -93,8 +97,8 @@ impl<'a, R: Wait, K: SharedDesk> SharedSeat<'a, R, K> {
         look
     }
 
-    // Rests for so many milliseconds at most, and says how many of them are counted: one where the bell was
-    // rung, since then the seat rests again.
+    // Sleeps for up to this many milliseconds and returns how many of them count. If the bell was
+    // rung this is one, since the seat then sleeps again.
     fn rest(&self, most: u64) -> u64
         requires { 1 ≤ most }
         ensures some { 1 ≤ result }
@@ -106,10 +110,11 @@ impl<'a, R: Wait, K: SharedDesk> SharedSeat<'a, R, K> {
         if rung { 1 } else { most }
     }
 
-    // The first look behind a step that has no answer yet says so at once, so that what the line holds back can go out.
-    // From then on, where there is no answer the seat rests, and looks again whenever its bell was rung or the core is due.
-    // A bell may have been rung for an answer that was found before, so one ring isn't the end of the rest: a
-    // line that is read meanwhile keeps its seat from the next answer for as long as the read waits.
+    // The first look after a step without an answer returns at once, so that bytes that the line
+    // holds back are written first. After that, the seat sleeps while there is no answer, and looks
+    // again whenever its bell is rung or the core is due. One ring does not end the wait, because a
+    // bell may have been rung for an answer that was taken before. If the wait ended, the line
+    // would be read, and the next answer would have to wait for as long as that read does.
     fn next_answer(&mut self) -> Option<Answer> {
         if let Some(answer) = self.at_hand.take() {
             return Some(answer);

@@ -14,7 +14,7 @@ abbrev is_gone : Step → Bool
 is_gone steps.Gone = true
 is_gone _ = false
 
--- no step of these is Gone
+-- none of these steps is Gone
 abbrev pub IsGoneless : List Step → Type 0
 IsGoneless [] = Unit {0}
 IsGoneless (step ∷ more) = (is_gone step ≡ false) × IsGoneless more
@@ -46,7 +46,7 @@ goneless_lines : (size : ℕ) (lines : List LineOver) (own : List Step) (taken :
 goneless_lines size [] own taken h = subst IsGoneless (sym h.0) tt
 goneless_lines size (line ∷ lines) own taken h = subst IsGoneless (sym h.5) (goneless_both h.0 h.1 (goneless_line size line h.0 h.4.own h.4.line_owed) (goneless_lines size lines h.1 h.3 h.7))
 
--- An end says once that no more comes from it, and last of all.
+-- An end submits Gone once, as its last step.
 pub record EndsByGone (submitted : List Step) : Type 0 where
   pub own : List Step
   pub goneless : IsGoneless own
@@ -66,7 +66,7 @@ behind_gone [] (x ∷ y ∷ before) after waiting g e = absurd cc
 behind_gone (o ∷ own) [] after waiting g e = let same : o ≡ steps.Gone = cc in let no : is_gone steps.Gone ≡ false = subst (λ (s : Step). is_gone s ≡ false) same g.0 in absurd cc
 behind_gone (o ∷ own) (x ∷ before) after waiting g e = behind_gone own before after waiting g.1 (let rest : own ++ steps.Gone ∷ [] ≡ (before ++ steps.Gone ∷ after) ++ waiting = cc in rest)
 
--- Where these steps of the end were taken, among them a Gone, nothing of it waits.
+-- If the core took these steps of the end, including Gone, no step of the end waits.
 pub none_waits : (submitted taken waiting : List Step) → EndsByGone submitted → HasGone taken → submitted ≡ taken ++ waiting → waiting ≡ []
 none_waits submitted taken waiting e gone is =
     behind_gone e.own gone.0 gone.1 waiting e.goneless (sym e.submitted_is ∙ is ∙ ap (λ (xs : List Step). xs ++ waiting) gone.2)

@@ -1,4 +1,4 @@
--- What the threads of a run did, joined along the core's history.
+-- What the threads of a run did, combined along the core's history.
 use Rattle.std.proofs.Common.{◌≡◌, ℕ, zero, suc, ◌+◌, ◌<◌, ◌≤◌, Bool, true, false, cond, List, [], ◌∷◌, ◌++◌, Option, map, filter, length, refl, sym, ap, ◌∙◌, arith, subst, inl, inr, append-nil, add-zero, slice_index_or, not, nat_le}
 use Rattle.std.specs.Prelude.{◌==◌}
 use Rattle.std.specs.List.{All, list_all}
@@ -29,11 +29,11 @@ use Rattle.bq_run.specs.Threads.{AreServed, IsControlOver, IsCoreOver}
 use Rattle.bq_run.proofs.GoneLemmas.{EndsByGone, control_ends_by_gone, none_waits, seat_ends_by_gone}
 use Rattle.bq_run.proofs.ThreadLemmas.{last_at, lasts_many, served_at}
 
--- an entry's seat and step
+-- the seat and the step of each entry
 abbrev pairs : List Entry → List (ℕ × Step)
 pairs entries = map (λ (e : Entry). (e.seat, e.what)) entries
 
--- the steps at a seat, picked after the pairs are made
+-- the steps at a seat can be picked after the pairs are made
 of_pairs : (seat : ℕ) (entries : List Entry) → map (λ (e : Entry). e.what) (filter (λ (e : Entry). e.seat == seat) entries) ≡ steps_of seat (pairs entries)
 of_pairs seat [] = refl
 of_pairs seat (e ∷ entries) = picked (of_pairs seat entries) (e.seat == seat)
@@ -47,12 +47,12 @@ tickless_first : (xs ys : List (ℕ × Step)) → IsTickless (xs ++ ys) → IsTi
 tickless_first [] ys h = tt
 tickless_first (x ∷ xs) ys h = (h.0, tickless_first xs ys h.1)
 
--- without its ticks it is the same
+-- a list without ticks stays the same when ticks are removed
 tickless_whole : (xs : List (ℕ × Step)) → IsTickless xs → filter (λ t. not (is_tick t.1)) xs ≡ xs
 tickless_whole [] h = refl
 tickless_whole (x ∷ xs) h = rw h.0 (ap (λ (ys : List (ℕ × Step)). x ∷ ys) (tickless_whole xs h.1))
 
--- No entry is of a seat above this one.
+-- No entry belongs to a seat above this one.
 seats_below : (seats : ℕ) (entries : List Entry) → AreBelow (seats + 1) (pairs entries) → list_all (λ (e : Entry). nat_le e.seat seats) entries ≡ true
 seats_below seats [] h = refl
 seats_below seats (e ∷ entries) h = let here : nat_le e.seat seats ≡ true = below e.seat h.0 in rw here (seats_below seats entries h.1)
@@ -60,7 +60,7 @@ seats_below seats (e ∷ entries) h = let here : nat_le e.seat seats ≡ true = 
     below : (n : ℕ) → n < seats + 1 → nat_le n seats ≡ true
     below n less = le-leb n seats (omega (arith, less))
 
--- what the end at a place took, and what waits for it
+-- the answers that the end at a place took, and those that wait for it
 taken_at : List SeatState → ℕ → List Answer
 taken_at [] place = []
 taken_at (e ∷ ends) zero = e.taken
@@ -87,8 +87,8 @@ some_end : (ends : List SeatState) (place : ℕ) → place < length ends → Sea
 some_end [] place h = absurd (omega (arith, h))
 some_end (e ∷ ends) place h = e
 
--- All threads are done: that of each seat with its door, that of the core, and the control line; and the ends
--- were compared.
+-- All threads have ended: that of each seat with its door, that of the core, and the control line.
+-- The ends were compared with the core's.
 pub record AreAllDone {D : Type 0} (at : D → DoorSeen) (settings : Settings) (readings : List (Option ℕ)) (text : List ℕ) (failed : Bool) (core : CoreState) (last : Machine) (to : ℕ) (ends : List SeatState) (doors : List D) : Type 0 where
   pub many : length ends ≡ settings.seats + 1
   pub doored : length doors ≡ settings.seats
@@ -109,7 +109,7 @@ module _ {D : Type 0} (at : D → DoorSeen) (settings : Settings) (readings : Li
   abbrev end_at : ℕ → SeatState → SeatState
   end_at place e = slice_index_or ends place e
 
-  -- The core took no tick.
+  -- The core received no tick.
   taken_is : pairs (without_ticks history) ≡ core.taken
   taken_is =
       let none : 0 < length ends = let e = a.many in omega arith in
@@ -156,7 +156,7 @@ module _ {D : Type 0} (at : D → DoorSeen) (settings : Settings) (readings : Li
   pub linked : IsLinked settings.seats history given core ends
   linked = record { many = a.many; taken_is = taken_is; each = end_of }
 
-  -- a door whose seat is done, and its answers
+  -- a door whose seat has ended, and its answers
   record IsDoorTied (place : ℕ) (door : DoorSeen) : Type 0 where
     done : IsSeatDone settings.max_job_size door.lines_over (steps_at place history) (taken_at ends place)
     answers_are : answers_to place given ≡ taken_at ends place ++ waiting_at ends place
@@ -197,7 +197,7 @@ module _ {D : Type 0} (at : D → DoorSeen) (settings : Settings) (readings : Li
   nobody_else : list_all (λ (e : Entry). nat_le e.seat settings.seats) (without_ticks history) ≡ true
   nobody_else = seats_below settings.seats (without_ticks history) (subst (λ (xs : List (ℕ × Step)). AreBelow (settings.seats + 1) xs) (sym taken_is) a.core_done.numbers)
 
-  -- One history of them all.
+  -- One history of all threads.
   pub record IsJoinedRun : Type 0 where
     pub history : IsHistoryOf settings (map lines_of doors) text failed readings last
     pub linked : IsLinked settings.seats history.history history.given core ends
@@ -227,7 +227,7 @@ module _ {D : Type 0} (at : D → DoorSeen) (settings : Settings) (readings : Li
       let s = a.served place d (some_end ends place here) below in
       (s.inside, s.at_end)
 
--- The core's end took nothing and sent nothing since.
+-- The core's end has taken nothing and sent nothing since.
 pub core_done_still : (settings : Settings) (readings : List (Option ℕ)) (first last : CoreState) (machine : Machine) (to : ℕ) → IsCoreStill first last → IsCoreDone settings readings first machine 0 to
     → IsCoreDone settings readings last machine 0 to
 core_done_still settings readings first last machine to s c = record {
@@ -241,7 +241,7 @@ core_done_still settings readings first last machine to s c = record {
   compared = c.compared;
 }
 
--- All that was done, from what the threads gave back.
+-- Everything that was done, from what the threads returned.
 pub all_done : {D C I : Type 0} (at : D → DoorSeen) (gives : C → List (Option ℕ) → C → Type 0) (left : I → Option (List ℕ)) (may_fail : I → Bool) (settings : Settings) (doors : List D)
     (core core_back core_last : CoreState) (firsts lasts ends : List SeatState) (first last : SeatState) (clock after : C) (control : I) (read : ControlLine I) (machine : Machine) (to : ℕ)
     → length doors ≡ settings.seats → AreServed at settings.max_job_size firsts lasts doors → (o : IsCoreOver gives settings core clock core_back machine to after) → (k : IsControlOver left may_fail first control last read)
@@ -265,7 +265,7 @@ all_done at gives left may_fail settings doors core core_back core_last firsts l
           rw ((kept.each settings.seats e within).1, is) k.done;
     }
 
--- The parts of what the threads gave back, at the values that they began with.
+-- The parts of what the threads returned, at the values that they began with.
 pub core_over_of : {C : Type 0} (gives : C → List (Option ℕ) → C → Type 0) (settings from : Settings) (core begun : CoreState) (clock first : C) (last : CoreState) (machine : Machine) (to : ℕ) (after : C)
     → from ≡ settings → begun ≡ core → first ≡ clock → IsCoreOver gives from begun first last machine to after → IsCoreOver gives settings core clock last machine to after
 core_over_of {C} gives settings from core begun clock first last machine to after a b d o =
@@ -276,7 +276,7 @@ core_over_of {C} gives settings from core begun clock first last machine to afte
 pub served_of : {D : Type 0} (at : D → DoorSeen) (size limit : ℕ) (firsts lasts : List SeatState) (doors : List D) → limit ≡ size → AreServed at limit firsts lasts doors → AreServed at size firsts lasts doors
 served_of at size limit firsts lasts doors e s = subst (λ (n : ℕ). AreServed at n firsts lasts doors) e s
 
--- There is a door for each seat still.
+-- There is still a door for each seat.
 pub still_doored : {D : Type 0} (at : D → DoorSeen) (size seats : ℕ) (all firsts lasts : List SeatState) (doors : List D) (first : SeatState)
     → firsts ++ first ∷ [] ≡ all → length all ≡ seats + 1 → AreServed at size firsts lasts doors → length doors ≡ seats
 still_doored at size seats all firsts lasts doors first whole many s =
@@ -293,6 +293,6 @@ run_keeps law first [] last e = ap (λ (m : Machine). m.settings) e
 run_keeps law first (t ∷ taken) last g =
     run_keeps law t.last taken last g.2 ∙ law t.first t.last t.entry.moment t.entry.seat t.entry.what t.outcome t.given g.1.step ∙ ap (λ (m : Machine). m.settings) g.0
 
--- A run keeps the settings.
+-- A run does not change the settings.
 pub core_keeps : StepsKeepSettings → (settings : Settings) (readings : List (Option ℕ)) (core : CoreState) (last : Machine) (to : ℕ) → IsCoreDone settings readings core last 0 to → last.settings ≡ settings
 core_keeps law settings readings core last to d = run_keeps law (new_machine settings) d.run.runs.1.taken last d.run.runs.1.goes

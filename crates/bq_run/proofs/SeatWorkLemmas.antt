@@ -1,4 +1,4 @@
--- A seat at work by its end of the links.
+-- A seat at work at its end of the links.
 use Rattle.std.proofs.Common.{◌≡◌, ℕ, List, inl, inr, subst, sym, append-nil, ◌∙◌, ap, ◌++◌}
 use Rattle.bq_job.specs.declared.answer.Answer.{Answer}
 use Rattle.bq_job.specs.declared.step.Step.{Step}
@@ -9,7 +9,7 @@ use Rattle.bq_driver.specs.declared.attendant.Attendant.{Attendant}
 use Rattle.bq_link.specs.EndStates.{SeatState}
 use Rattle.bq_run.specs.Ends.{EndWent}
 
--- what an end has after these calls
+-- the state of an end after these calls
 calls_at : (old new : SeatState) (submitted : List Step) (taken : List Answer) → Calls EndWent old submitted taken new
     → (old.submitted ++ submitted ≡ new.submitted) × (old.taken ++ taken ≡ new.taken)
 calls_at old new submitted taken (inl w) = (sym w.1, sym w.2)
@@ -18,7 +18,7 @@ calls_at old new submitted taken (inr (same, none, nil)) = (
   ap (λ (xs : List Answer). old.taken ++ xs) nil ∙ append-nil old.taken ∙ ap (λ (e : SeatState). e.taken) (sym same),
 )
 
--- what a seat did is what lies at its end, and so it stays
+-- what a seat did is what its end shows, and this does not change
 pub tended_on : {L : Type 0} (seen : L → LineSeen) (size : ℕ) (old new : SeatState) (a b : Attendant L) (door next : DoorSeen)
     → GoesOn EndWent old new seen a door b next → IsTended seen size a door old.submitted old.taken → IsTended seen size b next new.submitted new.taken
 tended_on seen size old new a b door next h t =

@@ -1,4 +1,4 @@
--- Answers are sent one after the other, or kept.
+-- Answers are sent one after another, or kept.
 use Rattle.std.proofs.Common.{◌≡◌, ◌≢◌, ℕ, ◌<◌, List, [], ◌∷◌, ◌++◌, length, refl, sym, ap, ◌∙◌, inl, inr, append-nil, append_assoc, subst}
 use Rattle.std.specs.Prelude.{◌==◌}
 use Rattle.std.proofs.lemmas.Bool.{cases_Bool, eqb-true, eqb-false}
@@ -11,7 +11,7 @@ use Rattle.bq_link.specs.EndStates.{CoreState, room_for, sent_to}
 use Rattle.bq_link.specs.EndChanges.{with_room, with_sent}
 use Rattle.bq_run.specs.Sending.{AreSent}
 
--- one after the other
+-- one sending after another
 pub sent_on : (a b c : CoreState) (xs ys zs : List GivenAnswer) → AreSent a xs b ys → AreSent b ys c zs → AreSent a xs c zs
 sent_on a b c xs ys zs h i = record {
   intake = i.intake ∙ h.intake;
@@ -20,7 +20,7 @@ sent_on a b c xs ys zs h i = record {
   each = λ seat within. i.each seat (subst (λ (rings : List _). seat < length rings) (sym h.rings) within) ∙ h.each seat within;
 }
 
--- with others behind
+-- with other answers after them
 pub sent_before : (a b : CoreState) (xs ys more : List GivenAnswer) → AreSent a xs b ys → AreSent a (xs ++ more) b (ys ++ more)
 sent_before a b xs ys more h = record {
   intake = h.intake;
@@ -32,7 +32,7 @@ sent_before a b xs ys more h = record {
     parted : (seat : ℕ) (sent : List Answer) (these : List GivenAnswer) → sent ++ answers_to seat (these ++ more) ≡ (sent ++ answers_to seat these) ++ answers_to seat more
     parted seat sent these = ap (λ (all : List Answer). sent ++ all) (answers_append seat these more) ∙ sym (append_assoc sent (answers_to seat these) (answers_to seat more))
 
--- one is the next of them, and goes on before the others
+-- one answer is the next to be sent, and the others follow
 pub sent_next : (a b : CoreState) (kept left rest new : List GivenAnswer) (g : GivenAnswer) → left ≡ g ∷ rest → AreSent a (kept ++ g ∷ []) b new → AreSent a (kept ++ left) b (new ++ rest)
 sent_next a b kept left rest new g is h =
     subst (λ (all : List GivenAnswer). AreSent a all b (new ++ rest)) (append_assoc kept (g ∷ []) rest ∙ ap (λ (all : List GivenAnswer). kept ++ all) (sym is)) (sent_before a b (kept ++ g ∷ []) new rest h)
@@ -50,11 +50,11 @@ to_own seat answer = elim (cases_Bool (seat == seat)) [
   | inr e ↦ absurd (eqb-false seat seat e refl)
 ]
 
--- what is sent to another end
+-- the answers sent to another end
 sent_else : (old new : CoreState) (seat t : ℕ) (answer : Answer) → new ≡ with_room (with_sent old seat answer) seat (room_for new seat) → t ≢ seat → sent_to new t ≡ sent_to old t
 sent_else old new seat t answer is other = ap (λ (c : CoreState). sent_to c t) is ∙ get_or-set_other old.sent seat t (sent_to old seat ++ answer ∷ []) [] other
 
--- an answer is sent where none is kept for its end
+-- an answer is sent if none is kept for its end
 pub sent_one : (old new : CoreState) (kept : List GivenAnswer) (seat : ℕ) (answer : Answer) → new ≡ with_room (with_sent old seat answer) seat (room_for new seat)
     → sent_to new seat ≡ sent_to old seat ++ answer ∷ [] → answers_to seat kept ≡ [] → AreSent old (kept ++ (seat, answer) ∷ []) new kept
 sent_one old new kept seat answer is to none = record {

@@ -25,7 +25,7 @@ there [] i x d below = absurd (omega (arith, below))
 there (e ∷ ends) zero x d below = refl
 there (e ∷ ends) (suc i) x d below = there ends i x d (omega (arith, below))
 
--- An end that was compared stays so.
+-- An end that was compared stays settled.
 settled_on : (core later : CoreState) (place : ℕ) (seat : SeatState) → IsCoreStill core later → IsSettled core place seat → IsSettled later place seat
 settled_on core later place seat s h = record {
   number = h.number;
@@ -36,7 +36,7 @@ settled_on core later place seat s h = record {
   sent_is = rw s.sent h.sent_is;
 }
 
--- The next end is a pair with the core's.
+-- The next end and the core's are a pair.
 pub pair_at : (core later : CoreState) (first ends : List SeatState) (i : ℕ) (x : SeatState) → ArePaired core first → IsCoreStill core later → AreStill first ends → i < length ends
     → ((slice_index_or ends i x).number ≡ i) × IsPair later (slice_index_or ends i x)
 pair_at core later first ends i x paired c s below =
@@ -77,7 +77,8 @@ settled_more core later ends i new below c before here place d less = elim (case
     earlier : place ≢ i → place < i
     earlier differs = elim (cases_Bool (nat_lt place i)) [ inl e ↦ ltb-true place i e | inr e ↦ absurd (differs (let h = ltb-false place i e in omega (arith, less))) ]
 
--- What holds of a run with these parts of what its threads gave back holds of one that has them.
+-- A property of a run that is built from what the threads returned holds for every run with these
+-- parts.
 pub same_run : {D C I K : Type 0} (P : Run D C I K → Type 0) (run : Run D C I K) (e : Ended D C I K) → run.doors ≡ e.ends.doors → run.clock ≡ e.clock → run.control ≡ e.ends.control → run.core ≡ e.core
     → P (record run { doors = e.ends.doors; clock = e.clock; control = e.ends.control; core = e.core }) → P run
 same_run P run e doors clock control core p =

@@ -1,4 +1,4 @@
--- The threads of a run: their posts, their starts and what they gave back.
+-- The threads of a run: their posts, their starts and what they returned.
 use Rattle.std.proofs.Common.{◌≡◌, ◌==◌, ◌&&◌, ℕ, zero, suc, ◌<◌, true, false, not, Ok, Err, List, [], ◌∷◌, ◌++◌, Some, map, length, refl, sym, ap, ◌∙◌, arith, subst, append_assoc, slice_get, slice_index_or}
 use Rattle.std.specs.Prelude.{◌↔◌, IsErrOf, IsTrue, Result}
 use Rattle.std.proofs.lemmas.Bool.{eq-eqb}
@@ -30,7 +30,7 @@ served_more at size (f ∷ fs) (e ∷ es) (d ∷ ds) first last door h same serv
 pub joined_first : {X Y : Type 0} (f : X → Y) (firsts : List Y) (xs rest : List X) (x : X) → xs ≡ x ∷ rest → (firsts ++ f x ∷ []) ++ map f rest ≡ firsts ++ map f xs
 joined_first {X} f firsts xs rest x e = append_assoc firsts (f x ∷ []) (map f rest) ∙ ap (λ (zs : List X). firsts ++ map f zs) (sym e)
 
--- as many ends came back as threads were started
+-- as many ends were returned as threads were started
 pub lasts_many : {D : Type 0} (at : D → DoorSeen) (size : ℕ) (firsts lasts : List SeatState) (doors : List D) → AreServed at size firsts lasts doors → (length lasts ≡ length firsts) × (length doors ≡ length firsts)
 lasts_many at size [] [] [] h = (refl, refl)
 lasts_many at size [] [] (d ∷ ds) h = absurd h
@@ -39,7 +39,8 @@ lasts_many at size (f ∷ fs) [] ds h = absurd h
 lasts_many at size (f ∷ fs) (e ∷ es) [] h = absurd h
 lasts_many at size (f ∷ fs) (e ∷ es) (d ∷ ds) h = let more = lasts_many at size fs es ds h.1 in (ap suc more.0, ap suc more.1)
 
--- each end that came back is the one that went to its thread, that of the control line behind the others
+-- each end that was returned is the one that its thread began with, and the end of the control line
+-- comes after the others
 same_at : {D : Type 0} (at : D → DoorSeen) (size : ℕ) (firsts lasts : List SeatState) (doors : List D) (first last : SeatState) → AreServed at size firsts lasts doors → IsSameSeat first last
     → (place : ℕ) (d : SeatState) → place < length (lasts ++ last ∷ []) → IsSameSeat (slice_index_or (firsts ++ first ∷ []) place d) (slice_index_or (lasts ++ last ∷ []) place d)
 same_at at size [] [] [] first last h same zero d below = same
@@ -77,25 +78,26 @@ pub last_at : (lasts : List SeatState) (last e : SeatState) → slice_index_or (
 last_at [] last e = refl
 last_at (x ∷ lasts) last e = last_at lasts last e
 
--- New ends come from the intake of the core's, and nothing was done at them.
+-- New ends belong to the intake of the core's end, and are unused.
 pub new_intakes : (core : CoreState) (all : List SeatState) (intake : TableId) → AreNewSeats core all → core.intake ≡ intake → All (λ (e : SeatState). e.intake ≡ intake) all
 new_intakes core all intake new is place d below = let n = new place d below in sym n.pair.0 ∙ is
 
 pub new_ends : (core : CoreState) (all : List SeatState) → AreNewSeats core all → All (λ (e : SeatState). IsNewEnd e) all
 new_ends core all new place d below = let n = new place d below in record { submitted = n.submitted; taken = n.taken; waiting = n.waiting }
 
--- what went well is no fault
+-- a success is not an error
 pub no_fault : {T E : Type 0} (t : T) (fault : E) → IsErrOf {T = T} {E = E} (Ok t) fault → ⊥
 no_fault t fault e = absurd cc
 
--- A want of memory is no bad configuration.
+-- A lack of memory is not a bad configuration.
 pub other_fault : {T : Type 0} → IsErrOf {T = T} {E = RunFault} (Err NoMemory) BadConfiguration → ⊥
 other_fault e = absurd cc
 
 never : false ≡ true → ⊥
 never e = absurd cc
 
--- A run of a configuration in its ranges, with a door for each seat, is not refused for its configuration.
+-- A run with a configuration in its ranges and a door for each seat is not rejected for its
+-- configuration.
 pub well_configured : {T : Type 0} (result : Result T RunFault) (config same : Settings) (doors : ℕ) → same ≡ config → IsTrue (are_in_range same) → doors ≡ config.seats → (IsErrOf result BadConfiguration → ⊥)
     → IsErrOf result BadConfiguration ↔ IsTrue (not (are_in_range config && doors == config.seats))
 well_configured result config same doors is range many other =

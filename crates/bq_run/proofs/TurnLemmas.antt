@@ -1,4 +1,4 @@
--- How the turns of the core's driver join.
+-- How the turns of the core's driver combine.
 use Rattle.std.proofs.Common.{◌≡◌, ℕ, Bool, true, false, List, [], ◌∷◌, ◌++◌, Option, ◌∙◌, refl, sym, ap, subst, inl, inr}
 use Rattle.bq_job.specs.declared.settings.Settings.{Settings}
 use Rattle.bq_job.specs.declared.step.Step.TheVariants.{Tick}
@@ -28,7 +28,7 @@ on_both given machine compared old mid new a b = record {
   work = λ settings from first w. b.work settings from first (a.work settings from first w);
 }
 
--- The core was asked for the next due moment, if that wasn't known.
+-- The core was asked for the next due moment, if it was not known.
 looked_on : {C K : Type 0} (machine : K → Machine) (compared : K → ℕ) (old : CoreDriver C K) (t looked : TimedCore C K) → HasLooked machine compared old.timed looked → t ≡ looked
     → (settings : Settings) (from : ℕ) (readings : List (Option ℕ)) → HasWorked settings from readings (driver_state machine compared old) → HasWorked settings from readings (driver_state machine compared (record old { timed = t }))
 looked_on machine compared old t looked l e settings from readings w =
@@ -85,7 +85,7 @@ pub on_passed : {C K : Type 0} (given : Gives C) (machine : K → Machine) (comp
 on_passed given machine compared old t true order ready none over ticked = on_ticked given machine compared old t order ready none (ticked refl)
 on_passed given machine compared old t false order ready none over ticked = on_over given machine compared old t order ready (over refl)
 
--- Where no step was taken, the machine is the same.
+-- If no step was taken, the machine is the same.
 pub still_over : {C K : Type 0} (given : Gives C) (machine : K → Machine) (compared : K → ℕ) (old t : TimedCore C K) → PassesOver given machine compared old t → machine t.core ≡ machine old.core
 still_over {C} {K} given machine compared old t (looked, l, rest) = elim rest [
   | inl e ↦ ap (λ (x : TimedCore C K). machine x.core) e ∙ l.same

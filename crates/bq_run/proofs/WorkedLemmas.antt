@@ -27,7 +27,7 @@ use Rattle.bq_run.specs.Sending.{AreSent}
 use Rattle.bq_run.specs.Worked.{HasWorked, DriverState, KnowsAll, gone_after}
 use Rattle.bq_run.specs.declared.core_work.gone_ends.GoneEnds.{GoneEnds}
 
--- the core took these steps, and this is the moment heard last
+-- the core took these steps, and this is the latest moment of the clock
 record Ran (settings : Settings) (readings : List (Option ℕ)) (history : List Entry) (given : List GivenAnswer) (core : Machine) (heard : ℕ) : Type 0 where
   runs : Run (new_machine settings) history given core
   timed : IsTimedFrom 0 readings history heard
@@ -56,11 +56,11 @@ moments_more : (last : ℕ) (readings : List (Option ℕ)) (r : Option ℕ) → 
 moments_more last [] r = refl
 moments_more last (x ∷ readings) r = ap (λ (ms : List ℕ). moment_heard last x ∷ ms) (moments_more (moment_heard last x) readings r)
 
--- the moments of the readings, and the one heard after them
+-- the moments of the readings, and the latest one after them
 moments_then : (readings : List (Option ℕ)) (heard : ℕ) (r : Option ℕ) → heard ≡ last_heard 0 readings → moments_heard 0 readings ++ moment_heard heard r ∷ [] ≡ moments_heard 0 (readings ++ r ∷ [])
 moments_then readings heard r is = ap (λ (n : ℕ). moments_heard 0 readings ++ moment_heard n r ∷ []) is ∙ sym (moments_more 0 readings r)
 
--- one reading more, and no step
+-- one more reading, and no step
 timed_heard : (readings : List (Option ℕ)) (history : List Entry) (heard : ℕ) (r : Option ℕ) → IsTimedFrom 0 readings history heard → IsTimedFrom 0 (readings ++ r ∷ []) history (moment_heard heard r)
 timed_heard readings history heard r t = record {
   picked = subst (λ (ms : List ℕ). ArePickedFrom (map (λ (e : Entry). e.moment) history) ms) (moments_then readings heard r t.last_is)
@@ -68,7 +68,7 @@ timed_heard readings history heard r t = record {
   last_is = ap (λ (n : ℕ). moment_heard n r) t.last_is ∙ sym (heard_more 0 readings r);
 }
 
--- one reading more, and a step at its moment
+-- one more reading, and a step at its moment
 timed_step : (readings : List (Option ℕ)) (history : List Entry) (heard seat : ℕ) (what : Step) (r : Option ℕ) → IsTimedFrom 0 readings history heard
     → IsTimedFrom 0 (readings ++ r ∷ []) (history ++ entry_of (moment_heard heard r) seat what ∷ []) (moment_heard heard r)
 timed_step readings history heard seat what r t =
@@ -80,7 +80,7 @@ timed_step readings history heard seat what r t =
       last_is = ap (λ (n : ℕ). moment_heard n r) t.last_is ∙ sym (heard_more 0 readings r);
     }
 
--- one step more
+-- one more step
 ran_on : (settings : Settings) (readings : List (Option ℕ)) (history : List Entry) (given now : List GivenAnswer) (core next : Machine) (heard later seat : ℕ) (what : Step) (reading : Option ℕ) (outcome : Outcome)
     → Ran settings readings history given core heard → IsStep core later seat what outcome now next → later ≡ moment_heard heard reading
     → Ran settings (readings ++ reading ∷ []) (history ++ entry_of (moment_heard heard reading) seat what ∷ []) (given ++ now) next later
@@ -133,7 +133,7 @@ set_only flags seat t set = elim (cases_Bool (t == seat)) [
   | inr e ↦ inl (sym (get_or-set_other flags seat t true false (eqb-false t seat e)) ∙ set)
 ]
 
--- where a flag is set that wasn't before, it is for an end that said that no more come
+-- a flag that was not set before belongs to an end whose step said that it has gone
 gone_only : (seat : ℕ) (what : Step) (flags : List Bool) (t : ℕ) → IsSet (gone_after seat what flags) t
     → IsSet flags t ⊎ ((t ≡ seat) × (what ≡ Gone))
 gone_only seat Gone flags t set = elim (set_only flags seat t set) [ inl e ↦ inl e | inr e ↦ inr (e, refl) ]
@@ -157,11 +157,11 @@ given_on t given now pending sent h =
     answers_append t given now ∙ ap (λ (all : List Answer). all ++ answers_to t now) h ∙ append_assoc sent (answers_to t pending) (answers_to t now)
     ∙ ap (λ (all : List Answer). sent ++ all) (sym (answers_append t pending now))
 
--- Where the next due moment isn't known, no look was made since.
+-- If the next due moment is not known, the core was not asked for it since.
 unknown_is : (known : Bool) (m : Machine) (count : ℕ) → known ≡ false → LooksOnce known m count count
 unknown_is known m count is = subst (λ (b : Bool). LooksOnce b m count count) (sym is) refl
 
--- a look, if any, and a step behind a history
+-- a query for the next due moment, if any, and a step after a history
 entry_on : (settings : Settings) (from : ℕ) (history : List Entry) (given now : List GivenAnswer) (core next : Machine) (at later seat : ℕ) (what : Step) (outcome : Outcome) (count : ℕ) (known : Bool) (compared to : ℕ)
     → AreWithin (new_machine settings) history given core from count → LooksOnce known core count compared → IsStepWithin core later seat what outcome now next compared to → later ≡ at
     → AreWithin (new_machine settings) (history ++ entry_of at seat what ∷ []) (given ++ now) next from to
@@ -174,13 +174,13 @@ entry_on settings from history given now core next at later seat what outcome co
       step = subst (λ (n : ℕ). IsStepWithin core n seat what outcome now next compared to) is step;
     })
 
--- the same where nothing of the core changed
+-- the same if nothing of the core changed
 looked_still : (o n : DriverState) (count : ℕ) → n.core ≡ o.core → n.known ≡ o.known → n.compared ≡ o.compared → LooksOnce o.known o.core count o.compared → LooksOnce n.known n.core count n.compared
 looked_still o n count core known compared l =
     subst (λ (b : Bool). LooksOnce b n.core count n.compared) (sym known)
     (subst (λ (m : Machine). LooksOnce o.known m count n.compared) (sym core) (subst (λ (k : ℕ). LooksOnce o.known o.core count k) (sym compared) l))
 
--- The core took a step that came by its end.
+-- The core took a step that arrived at its end.
 pub worked_step : (settings : Settings) (from : ℕ) (readings : List (Option ℕ)) (o n : DriverState) (seat : ℕ) (what : Step) (reading : Option ℕ) (outcome : Outcome) (now : List GivenAnswer)
     → seat < length o.end.rings → HasWorked settings from readings o → IsStepWithin o.core n.heard seat what outcome now n.core o.compared n.compared → n.heard ≡ moment_heard o.heard reading
     → n.end ≡ record o.end { taken = o.end.taken ++ (seat, what) ∷ [] } → n.pending ≡ o.pending ++ now
@@ -249,7 +249,7 @@ worked_heard settings from readings o n reading w core heard end pending gone kn
       looked = looked_still o n w.count core known compared w.looked;
     }
 
--- The core was asked for the next due moment, if that wasn't known.
+-- The core was asked for the next due moment, if it was not known.
 pub worked_looked : (settings : Settings) (from : ℕ) (readings : List (Option ℕ)) (o n : DriverState) → HasWorked settings from readings o → n.core ≡ o.core → n.heard ≡ o.heard
     → n.end ≡ o.end → n.pending ≡ o.pending → n.gone ≡ o.gone → n.known ≡ true
     → ((count : ℕ) → LooksOnce o.known o.core count o.compared → IsLookWithin o.core count n.compared) → HasWorked settings from readings n
@@ -288,13 +288,13 @@ worked_sent settings from readings o n w sent core heard gone known compared = r
   looked = looked_still o n w.count core known compared w.looked;
 }
 
--- where all are the same, and so is what stands for those that aren't there
+-- if all elements are equal, so is the default for places beyond the end
 all_same : {X : Type 0} (n t : ℕ) (x : X) → slice_index_or (replicate n x) t x ≡ x
 all_same zero t x = refl
 all_same (suc n) zero x = refl
 all_same (suc n) (suc t) x = all_same n t x
 
--- While none of the ends is gone, not all are.
+-- While no end has gone, not all have.
 pub known_none : (gone : GoneEnds) (n : ℕ) → gone.flags.items ≡ replicate (n + 1) false → gone.all ≡ false → KnowsAll gone
 known_none gone n none not = record {
   each = λ all. absurd (true≢false (sym all ∙ not));
@@ -340,10 +340,10 @@ worked_all settings from readings h w none ends many all = record {
   compared = record { count = w.count; steps = w.within; look = looked_within h.known h.core w.count h.compared w.looked };
 }
 
--- what is given behind what is kept
+-- new answers after those that are kept
 pub pending_on : (kept same given now : List GivenAnswer) → kept ≡ same → given ≡ [] → kept ++ now ≡ (same ++ given) ++ now
 pending_on kept same given now e none = ap (λ (all : List GivenAnswer). all ++ now) (e ∙ sym (append-nil same) ∙ ap (λ (all : List GivenAnswer). same ++ all) (sym none))
 
--- what neither is kept nor given
+-- no answer is kept or new
 pub none_pending : (kept given : List GivenAnswer) → kept ≡ [] → given ≡ [] → kept ++ given ≡ []
 none_pending kept given e none = ap (λ (all : List GivenAnswer). all ++ given) e ∙ none

@@ -1,4 +1,4 @@
--- What the core did on a thread of its own.
+-- What the core did in a thread of its own.
 use Rattle.std.specs.Prelude.{ℕ, ◌≡◌, ◌<◌, ◌≤◌, ◌+◌, ◌++◌, ◌∷◌, not, false}
 use Rattle.std.specs.Prelude.{List, [], Option, filter, map, replicate}
 use Rattle.std.specs.VecDeque.{deque_capacity}
@@ -16,19 +16,19 @@ use Rattle.bq_host.specs.Compared.{AreCompared}
 use Rattle.bq_host.specs.Clocks.{Gives}
 use Rattle.bq_run.specs.declared.core_work.core_room.CoreRoom.{CoreRoom}
 
--- Among these steps of an end it says that no more come.
+-- One of these steps of an end says that the end submits no more.
 abbrev pub HasGone : List Step → Type 0
 HasGone steps = (before after : List Step) × (steps ≡ before ++ Gone ∷ after)
 
--- the steps of a history, each with its seat, but for the ticks
+-- the steps of a history, each with its seat, without the ticks
 abbrev pub steps_made : List Entry → List (ℕ × Step)
 steps_made history = map (λ e. (e.seat, e.what)) (without_ticks history)
 
--- the steps that are no ticks
+-- the steps that are not ticks
 abbrev pub no_ticks : List (ℕ × Step) → List (ℕ × Step)
 no_ticks all = filter (λ t. not (is_tick t.1)) all
 
--- Room for the core of so many ends, where nothing was done yet.
+-- New memory for a core with this many ends.
 pub record IsNewRoom (ends : ℕ) (room : CoreRoom) : Type 0 where
   pub none_kept : room.kept.items ≡ []
   pub none_aside : room.aside.items ≡ []
@@ -36,10 +36,11 @@ pub record IsNewRoom (ends : ℕ) (room : CoreRoom) : Type 0 where
   pub for_aside : ends ≤ deque_capacity room.aside
   pub none_gone : room.gone.items ≡ replicate ends false
 
--- A core that is done. From the start it took the steps that came by its end of the links, in their order, and ticks of
--- its own, each at the moment of a reading; nobody but the ends submits any. All that it gave to an end was sent to it,
--- in its order, and no end has more to submit. Its comparisons, from so many to so many, stayed within the bounds of each
--- step, and of one look for what is due before each and one behind the last.
+-- A core that has ended. From the start it took the steps that arrived at its end of the links, in
+-- order, and ticks of its own, each at the moment of a reading; only the ends submit steps. All
+-- answers that it gave to an end were sent to it in order, and no end has more to submit. Its
+-- comparisons, counted from `from` to `to`, stayed within the bounds of each step, and of one query
+-- for the next due moment before each step and after the last.
 pub record IsCoreDone (settings : Settings) (readings : List (Option ℕ)) (core : CoreState) (last : Machine) (from to : ℕ) : Type 0 where
   pub history : List Entry
   pub given : List GivenAnswer
@@ -50,7 +51,7 @@ pub record IsCoreDone (settings : Settings) (readings : List (Option ℕ)) (core
   pub all_gone : (seat : ℕ) → seat < settings.seats + 1 → HasGone (steps_of seat core.taken)
   pub compared : AreCompared (new_machine settings) history given last from to
 
--- A core ran to its end at a clock, which gave the readings between.
+-- A core ran to its end with a clock, which gave the readings between `first` and `clock`.
 abbrev pub RanToEnd : {C : Type 0} → Gives C → Settings → C → CoreState → Machine → C → ℕ → ℕ → Type 0
 RanToEnd given settings first core last clock from to =
     (readings : List (Option ℕ)) × given first readings clock × IsCoreDone settings readings core last from to

@@ -1,22 +1,23 @@
--- What happened at an end of the links.
+-- The history of an end of the links.
 use Rattle.std.specs.Prelude.{◌≡◌, List, [], ◌++◌}
 use Rattle.bq_job.specs.declared.answer.Answer.{Answer}
 use Rattle.bq_job.specs.declared.step.Step.{Step}
 use Rattle.bq_run.specs.declared.seat_work.SeatLink.{SeatLink}
 use Rattle.bq_link.specs.EndStates.{IsSameSeat, SeatState}
 
--- An end at which nothing was done.
+-- A new end.
 pub record IsNewEnd (seat : SeatState) : Type 0 where
   pub submitted : seat.submitted ≡ []
   pub taken : seat.taken ≡ []
   pub waiting : seat.waiting ≡ []
 
--- It is the same end, and between these steps were submitted at it and these answers taken.
+-- It is the same end, and between `first` and `last` it submitted these steps and took these
+-- answers.
 abbrev pub EndWent : SeatState → List Step → List Answer → SeatState → Type 0
 EndWent first submitted taken last =
     IsSameSeat first last × (last.submitted ≡ first.submitted ++ submitted) × (last.taken ≡ first.taken ++ taken)
 
--- The same at a link to the end. Who drops the last one knows the end by it.
+-- The same for a link to the end. The last link that is dropped knows the end by its ghost name.
 abbrev pub LinkWent : {R : Type 0} → SeatLink R → List Step → List Answer → SeatLink R → Type 0
 LinkWent first submitted taken last =
     (last.end.ghost_name ≡ first.end.ghost_name) × (last.intake ≡ first.intake) × EndWent first.end.now submitted taken last.end.now

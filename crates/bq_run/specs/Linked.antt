@@ -1,4 +1,4 @@
--- How the history of a run stands to the ends of its links.
+-- How the history of a run relates to the ends of its links.
 use Rattle.std.specs.Prelude.{ℕ, ◌≡◌, ◌+◌, ◌<◌, List, ◌++◌, length, map, slice_index_or}
 use Rattle.bq_job.specs.declared.step.Step.{Step}
 use Rattle.bq_job.specs.machine.Dispatch.{GivenAnswer}
@@ -8,28 +8,30 @@ use Rattle.bq_link.specs.EndStates.{CoreState, IsPair, IsSameCore, IsSameSeat, S
 use Rattle.bq_link.specs.Submissions.{steps_of}
 use Rattle.bq_link.specs.Ticks.{IsTickless}
 
--- Each end has its place for its number, and comes from one `links` with the core's.
+-- Each end has its place as its number, and was created by the same call of `links` as the core's
+-- end.
 abbrev pub ArePaired : CoreState → List SeatState → Type 0
 ArePaired core seats = (place : ℕ) (d : SeatState) → place < length seats
     → ((slice_index_or seats place d).number ≡ place) × IsPair core (slice_index_or seats place d)
 
--- The core's end took no step and sent no answer meanwhile.
+-- The core's end took no step and sent no answer.
 pub record IsCoreStill (first last : CoreState) : Type 0 where
   pub same : IsSameCore first last
   pub taken : last.taken ≡ first.taken
   pub sent : last.sent ≡ first.sent
 
--- It is the same end, and it submitted no step and took no answer meanwhile.
+-- It is the same end, and it submitted no step and took no answer.
 abbrev pub IsEndStill : SeatState → SeatState → Type 0
 IsEndStill first last = IsSameSeat first last × (last.submitted ≡ first.submitted) × (last.taken ≡ first.taken)
 
--- the same of each end
+-- the same for all ends
 pub record AreStill (first last : List SeatState) : Type 0 where
   pub many : length last ≡ length first
   pub each : (place : ℕ) (d : SeatState) → place < length first → IsEndStill (slice_index_or first place d) (slice_index_or last place d)
 
--- An end whose thread is done, beside the core's: none of its steps was a tick, and they are those that the core
--- took and others that wait. What it took, and what waits for it, is what the core sent it.
+-- An end whose thread has ended, compared with the core's end. None of its steps was a tick, and
+-- they are those that the core took and others that wait. The answers that it took and those that
+-- wait for it are the ones that the core sent to it.
 pub record IsSettled (core : CoreState) (place : ℕ) (seat : SeatState) : Type 0 where
   pub number : seat.number ≡ place
   pub pair : IsPair core seat
@@ -42,8 +44,8 @@ pub record IsSettled (core : CoreState) (place : ℕ) (seat : SeatState) : Type 
 abbrev pub AreSettled : CoreState → List SeatState → Type 0
 AreSettled core seats = (place : ℕ) (d : SeatState) → place < length seats → IsSettled core place (slice_index_or seats place d)
 
--- The history has at an end what that end submitted. What the run gave to it was sent to it, and it took that or
--- it waits.
+-- The steps of the history at this seat are those that the end submitted. The answers that the run
+-- gave to the end were sent to it, and it took them or they wait.
 pub record IsEndOf (history : List Entry) (given : List GivenAnswer) (core : CoreState) (place : ℕ) (seat : SeatState) : Type 0 where
   pub number : seat.number ≡ place
   pub pair : IsPair core seat
@@ -51,8 +53,8 @@ pub record IsEndOf (history : List Entry) (given : List GivenAnswer) (core : Cor
   pub given_is : answers_to place given ≡ sent_to core place
   pub sent_is : sent_to core place ≡ seat.taken ++ seat.waiting
 
--- The ends of so many seats, that of the control line, and the core's, after a run along this history: ticks aside,
--- the history has the steps that the core took, in their order.
+-- The ends of this many seats, the end of the control line and the core's end, after a run along
+-- this history. Without ticks, the history has the steps that the core took, in order.
 pub record IsLinked (seats : ℕ) (history : List Entry) (given : List GivenAnswer) (core : CoreState) (ends : List SeatState) : Type 0 where
   pub many : length ends ≡ seats + 1
   pub taken_is : map (λ e. (e.seat, e.what)) (without_ticks history) ≡ core.taken

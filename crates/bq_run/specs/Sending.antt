@@ -6,7 +6,7 @@ use Rattle.bq_job.specs.promise.Runs.{answers_to}
 use Rattle.bq_link.specs.EndStates.{CoreState, room_for, sent_to}
 use Rattle.bq_run.specs.declared.core_work.sender.Sender.{Sender}
 
--- Of these answers some were sent, and the others are left: each end sees them in their order.
+-- Some of these answers were sent, and the others are left. Each end sees its answers in order.
 pub record AreSent (old : CoreState) (before : List GivenAnswer) (new : CoreState) (after : List GivenAnswer) : Type 0 where
   pub intake : new.intake ≡ old.intake
   pub rings : new.rings ≡ old.rings
@@ -14,17 +14,17 @@ pub record AreSent (old : CoreState) (before : List GivenAnswer) (new : CoreStat
   pub each : (seat : ℕ) → seat < length old.rings
       → sent_to new seat ++ answers_to seat after ≡ sent_to old seat ++ answers_to seat before
 
--- An end for which one of these answers is kept has a ring that was full when it was last tried.
+-- If an answer is kept for an end, the ring of that end was full when it was last tried.
 abbrev pub AreStuck : CoreState → List GivenAnswer → Type 0
 AreStuck end kept = (seat : ℕ) → (answers_to seat kept ≡ []) ⊎ (room_for end seat ≡ 0)
 
--- There are places for as many answers as there are ends.
+-- There is room to keep as many answers as there are ends.
 pub record HasPlaces (s : Sender) : Type 0 where
   pub ends : length s.end.rings ≡ s.ends
   pub for_kept : s.ends ≤ deque_capacity s.kept
   pub for_aside : s.ends ≤ deque_capacity s.aside
 
--- At rest no answer lies aside.
+-- Between two calls no answer is set aside.
 pub record IsAtRest (s : Sender) : Type 0 where
   pub places : HasPlaces s
   pub few : length s.kept.items ≤ s.ends

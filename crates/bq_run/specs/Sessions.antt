@@ -1,4 +1,4 @@
--- What a run over doors comes to.
+-- The result of a run over doors.
 use Rattle.std.specs.Prelude.{ℕ, ◌≡◌, ◌||◌, Bool, true, IsTrue, List, Option, map}
 use Rattle.bq_job.specs.declared.settings.Settings.{Settings}
 use Rattle.bq_job.specs.machine.Machine.{Machine, new_machine}
@@ -10,12 +10,15 @@ use Rattle.bq_host.specs.Clocks.{Gives}
 use Rattle.bq_run.specs.Linked.{IsLinked}
 use Rattle.bq_run.specs.declared.sessions.Run.{Run}
 
--- The run came from this clock and this control line. The clock gave these readings. The control line was read to
--- its end or until it failed, and what was read of it, and which of the two it was, it tells itself; it failed only
--- where a read of it may fail. And one history of that and of the lines that are over at the doors leads to the
--- machine that the core stands for. The core took its steps, but for ticks, by its end of the links; each other end
--- submitted those that the history has of it, and was sent what the run gave it. Its comparisons of keys stayed within
--- the bound of each of its steps, and of one look for what is due, at most, before each and behind the last.
+-- The run began with this clock and this control line. The clock gave these readings. The control
+-- line was read to its end or until a read failed, and it records which and what was read; it
+-- failed only if a read of it may fail.
+--
+-- One history of these readings, this control line and the lines that the doors have served leads
+-- to the machine that the core represents. The core took its steps, without ticks, at its end of
+-- the links. Each other end submitted the steps that the history has for it, and received the
+-- answers that the run gave to it. The comparisons of keys stayed within the bound of each step,
+-- and of at most one query for the next due moment before each step and after the last.
 pub record IsRunOf {D C I K : Type 0} (given : Gives C) (lines_over : D → List LineOver) (left : I → Option (List ℕ)) (may_fail : I → Bool)
     (machine : K → Machine) (comparisons : K → ℕ) (config : Settings) (clock : C) (control : I) (run : Run D C I K) : Type 0 where
   pub readings : List (Option ℕ)

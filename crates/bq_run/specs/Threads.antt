@@ -1,4 +1,4 @@
--- What the threads of a run come to.
+-- The results of a run's threads.
 use Rattle.std.specs.Prelude.{ℕ, ◌≡◌, ◌||◌, Bool, true, IsTrue, List, [], ◌∷◌, Option, reverse}
 use Rattle.bq_job.specs.declared.settings.Settings.{Settings}
 use Rattle.bq_job.specs.promise.ControlDid.{IsControlDone}
@@ -11,15 +11,16 @@ use Rattle.bq_host.specs.Clocks.{Gives}
 use Rattle.bq_run.specs.CoreWork.{IsCoreDone}
 use Rattle.bq_run.specs.declared.sessions.posts.EndedEnds.{EndedEnds}
 
--- The seats' threads are over, in the order of their seats: each has the end that it began with, and served its
--- door to its end.
+-- The seats' threads have ended, in the order of their seats: each has the end that it began with,
+-- and served its door to its end.
 abbrev pub AreServed : {D : Type 0} → (D → DoorSeen) → ℕ → List SeatState → List SeatState → List D → Type 0
 AreServed at max_job_size [] [] [] = Unit {0}
 AreServed at max_job_size (first ∷ firsts) (last ∷ lasts) (door ∷ doors) =
     (IsSameSeat first last × IsDoorServed max_job_size (at door) last.submitted last.taken) × AreServed at max_job_size firsts lasts doors
 AreServed at max_job_size _ _ _ = ⊥
 
--- The core's thread is over. The core had compared nothing at first, and has made so many comparisons.
+-- The core's thread has ended. The core had compared nothing at first, and has made this many
+-- comparisons.
 pub record IsCoreOver {C : Type 0} (gives : Gives C) (settings : Settings) (first : CoreState) (clock : C) (last : CoreState)
     (machine : Machine) (compared : ℕ) (after : C) : Type 0 where
   pub same : IsSameCore first last
@@ -27,7 +28,8 @@ pub record IsCoreOver {C : Type 0} (gives : Gives C) (settings : Settings) (firs
   pub gave : gives clock readings after
   pub done : IsCoreDone settings readings last machine 0 compared
 
--- The control line was read to its end or until it failed, the latter only where a read of it may fail.
+-- The control line was read to its end, or until a read failed; it failed only if a read of it may
+-- fail.
 pub record IsControlOver {I : Type 0} (left : I → Option (List ℕ)) (may_fail : I → Bool) (first : SeatState) (control : I)
     (last : SeatState) (after : ControlLine I) : Type 0 where
   pub same : IsSameSeat first last
@@ -36,8 +38,8 @@ pub record IsControlOver {I : Type 0} (left : I → Option (List ℕ)) (may_fail
   pub fault : after.failed ≡ true → may_fail control ≡ true
   pub done : IsControlDone after.read after.failed last.submitted
 
--- The threads of all ends are over. Those of the seats began with these ends and doors, which stand from the last one on,
--- and have come back in the order of their seats.
+-- The threads of all ends have ended. Those of the seats began with these ends and doors, which are
+-- listed from the last one on, and returned in the order of their seats.
 pub record AreOver {D I : Type 0} (at : D → DoorSeen) (is_same : D → D → Type 0) (left : I → Option (List ℕ)) (may_fail : I → Bool)
     (max_job_size : ℕ) (ends : List SeatState) (doors : List D) (control_end : SeatState) (reader : I)
     (over : EndedEnds D I) : Type 0 where

@@ -1,4 +1,4 @@
--- The core at work on a thread of its own.
+-- The core at work in a thread of its own.
 use Rattle.std.specs.Prelude.{ℕ, ◌≡◌, ◌⊎◌, ◌<◌, ◌++◌, ◌∷◌, Bool, true, false}
 use Rattle.std.specs.Prelude.{List, [], Option, length, slice_index_or, slice_set}
 use Rattle.bq_job.specs.beside.NextDue.{is_before, next_due}
@@ -21,14 +21,14 @@ use Rattle.bq_run.specs.Sending.{IsAtRest}
 use Rattle.bq_run.specs.declared.core_work.gone_ends.GoneEnds.{GoneEnds}
 use Rattle.bq_run.specs.declared.core_work.core_driver.CoreDriver.{CoreDriver}
 
--- what lies in the core's thread beside its clock
+-- the state of the core's thread without its clock
 pub record DriverState : Type 0 where
   pub core : Machine
   pub end : CoreState
-  -- the answers that aren't sent yet, and of each end whether it is gone
+  -- the answers that were not sent yet, and a flag for each end that has gone
   pub pending : List GivenAnswer
   pub gone : List Bool
-  -- the moment heard last
+  -- the latest moment of the clock
   pub heard : ℕ
   -- whether the next due moment is known, and the comparisons so far
   pub known : Bool
@@ -45,8 +45,9 @@ driver_state machine compared h = record {
   compared = compared h.timed.core;
 }
 
--- What the core did since the start: it took the steps that came by its end, and ticks, each at the moment of a
--- reading; what it gave was sent, or is to be sent still; and its comparisons, from so many on, stayed within bounds.
+-- What the core did since the start: it took the steps that arrived at its end, and ticks, each at
+-- the moment of a reading. Its answers were sent or will be sent. Its comparisons, counted from
+-- `from` on, stayed within bounds.
 pub record HasWorked (settings : Settings) (from : ℕ) (readings : List (Option ℕ)) (h : DriverState) : Type 0 where
   pub history : List Entry
   pub given : List GivenAnswer
@@ -65,19 +66,21 @@ abbrev pub IsAtWork : {C K : Type 0} → Gives C → (K → Machine) → (K → 
 IsAtWork given machine compared settings from first driver =
     (readings : List (Option ℕ)) × given first readings driver.timed.time.clock × HasWorked settings from readings (driver_state machine compared driver)
 
--- It is known whether each end is gone.
+-- It is known for each end whether it has gone.
 pub record KnowsAll (gone : GoneEnds) : Type 0 where
   pub each : gone.all ≡ true → AreAllSet gone.flags.items
   pub known : AreAllSet gone.flags.items → gone.all ≡ true
 
--- There is room for the answers of a step, it is known which ends are gone, and so may the next due moment be.
+-- There is room for the answers of a step, it is known which ends have gone, and if the next due
+-- moment is marked as known, it is right.
 pub record IsInOrder {C K : Type 0} (machine : K → Machine) (h : CoreDriver C K) : Type 0 where
   pub ready : IsReady machine h.timed
   pub sender : IsAtRest h.sender
   pub many : length h.gone.flags.items ≡ h.sender.ends
   pub all : KnowsAll h.gone
 
--- The driver is in order still, and has the same end and settings. Whatever was done before, the work went on.
+-- The driver is still in order, and has the same end and settings. The work went on from whatever
+-- was done before.
 pub record WorksOn {C K : Type 0} (given : Gives C) (machine : K → Machine) (compared : K → ℕ) (old new : CoreDriver C K) : Type 0 where
   pub order : IsInOrder machine new
   pub end : IsSameCore old.sender.end new.sender.end
@@ -85,7 +88,7 @@ pub record WorksOn {C K : Type 0} (given : Gives C) (machine : K → Machine) (c
   pub work : (settings : Settings) (from : ℕ) (first : C) → IsAtWork given machine compared settings from first old
       → IsAtWork given machine compared settings from first new
 
--- of each end whether it is gone, after a step: an end's own step says so
+-- the flags of the ends that have gone, after a step: an end's own step sets its flag
 abbrev pub gone_after : ℕ → Step → List Bool → List Bool
 gone_after seat Gone flags = slice_set flags seat true
 gone_after seat _ flags = flags
@@ -94,23 +97,23 @@ gone_after seat _ flags = flags
 abbrev pub TookOne : CoreState → CoreState → Type 0
 TookOne old new = (step : ℕ × Step) × (new.taken ≡ old.taken ++ step ∷ [])
 
--- The core took a tick at the moment heard last.
+-- The core took a tick at the latest moment of the clock.
 pub record HasTicked {C K : Type 0} (machine : K → Machine) (old new : CoreDriver C K) : Type 0 where
   pub outcome : Outcome
   pub step : IsStep (machine old.timed.core) new.timed.time.moment 0 Tick outcome new.timed.outs.given (machine new.timed.core)
 
--- At the moment heard last nothing is due.
+-- At the latest moment of the clock nothing is due.
 abbrev pub IsIdle : {C K : Type 0} → (K → Machine) → CoreDriver C K → CoreDriver C K → Type 0
 IsIdle machine old new = is_before new.timed.time.moment (next_due (machine old.timed.core)) ≡ true
 
--- What came of a turn that isn't the last one: so many answers wait for full rings that no more can be kept, a step
--- was taken or a tick made, or nothing is due.
+-- The result of a turn that is not the last one: no more answers can be kept for full rings, or a
+-- step or a tick was taken, or nothing is due.
 abbrev pub TurnWent : {C K : Type 0} → (K → Machine) → CoreDriver C K → CoreDriver C K → Type 0
 TurnWent machine old new =
     (length new.sender.kept.items ≡ new.sender.ends)
     ⊎ (TookOne old.sender.end new.sender.end ⊎ (HasTicked machine old new ⊎ IsIdle machine old new))
 
--- Nothing is left to be done.
+-- Nothing is left to do.
 pub record IsOver {C K : Type 0} (h : CoreDriver C K) : Type 0 where
   pub none_pending : h.sender.kept.items ++ h.timed.outs.given ≡ []
   pub all_gone : AreAllSet h.gone.flags.items

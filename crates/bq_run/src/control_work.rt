@@ -11,8 +11,9 @@ use bq_driver::control_reader::ControlReader;
 use bq_link::{Intake, NoTicks, SeatEnd};
 use std::sync::Wait;
 
-/// Reads the control line to its end or its fault. A drain is submitted for each of its lines that says so,
-/// and at last that it is gone. The line comes back with what was read of it.
+/// Reads the control line to its end or until a read fails. It submits a drain for each line that
+/// says `drain`, and `Gone` at the end. It returns the end of the links, and the control line with
+/// what was read.
 pub fn control_work<R: Wait, I: ControlReader + Drop>(
     rt: &R,
     intake: &Intake<NoTicks>,
@@ -25,10 +26,10 @@ pub fn control_work<R: Wait, I: ControlReader + Drop>(
     ensures over { IsTrue (result.1.ended || result.1.failed) }
     ensures read { IsReadToEnd (I.remaining control)
         (I.remaining result.1.reader) result.1.read result.1.failed }
-    // It failed only where a read of the reader may fail.
+    // It failed only if a read of the reader may fail.
     ensures fault { result.1.failed ≡ true → I.may_fail control ≡ true }
     ensures done { IsControlDone result.1.read result.1.failed result.0.submitted }
-    // No answer is for it.
+    // The core sends it no answers.
     ensures none_taken { result.0.taken ≡ [] }
 {
     let mut end = end;

@@ -1,4 +1,4 @@
-//! The work of the core's thread, in the midst of the links.
+//! The work of the core's thread, which serves the other ends of the links.
 ghost use Rattle.std.specs.Prelude.{ℕ, ◌≡◌, ◌<◌, ◌+◌, [], length};
 ghost use Rattle.bq_job.specs.declared.settings.Settings.{Settings};
 ghost use Rattle.bq_job.specs.machine.Machine.{new_machine};
@@ -21,12 +21,12 @@ use core_driver::CoreDriver;
 use std::alloc::Global;
 use std::sync::Wait;
 
-/// The core takes the steps that come by its end of the links, and ticks where something is due, until no end has
-/// more to submit; and it sends each end its answers.
+/// Takes the steps that arrive at the core's end of the links, takes ticks when something is due,
+/// and sends each end its answers, until no end has more to submit.
 ///
-/// It takes all that waits, looks a few times for more, and sleeps until a step comes or something is due. Where the
-/// ring of an end is full, its answers are kept and tried again, and others are served meanwhile; so many can be kept
-/// as there are ends.
+/// It takes every waiting step, polls a few times for more, and then sleeps until a step arrives or
+/// something is due. If the ring of an end is full, its answers are kept and tried again while
+/// others are served. There is room to keep as many answers as there are ends.
 pub fn core_work<R: Wait, C: Clock + Drop, K: QueueCore + Drop>(
     rt: &R,
     alloc: Global,
@@ -44,7 +44,8 @@ pub fn core_work<R: Wait, C: Clock + Drop, K: QueueCore + Drop>(
     requires outs { (K.machine core).settings.seats < outs.most }
     requires room { IsNewRoom ((K.machine core).settings.seats + 1) room }
     ensures end { IsSameCore end result.0 }
-    // Its comparisons stayed within the bounds of each step, and of one look for what is due before each and behind the last.
+    // The comparisons stayed within the bounds of each step, and of one query for the next due
+    // moment before each step and after the last.
     ensures ran { RanToEnd C.given (K.machine core).settings clock result.0 (K.machine result.1) result.2 (K.comparisons core)
         (K.comparisons result.1) }
 {
@@ -55,7 +56,7 @@ pub fn core_work<R: Wait, C: Clock + Drop, K: QueueCore + Drop>(
     )
 }
 
-// Works on until no end has more to submit and each was sent all.
+// Works until no end has more to submit and every answer was sent.
 fn run_out<R: Wait, C: Clock + Drop, K: QueueCore + Drop>(
     rt: &R,
     intake: &Intake<NoTicks>,

@@ -1,5 +1,6 @@
-//! The run of many doors, each by a thread of its own, and the core by another, over the links of `bq_link`. The work of
-//! each of its threads is a call of its own: of a seat, which serves a door, of the control line, and of the core.
+//! A run that serves each door with a thread of its own, and the core with another thread, over the
+//! links of `bq_link`. The work of each kind of thread is one function: for a seat, which serves a
+//! door, for the control line, and for the core.
 #![tactic(auto)]
 
 pub use sessions::{Run, run_sessions};

@@ -1,4 +1,4 @@
-//! The work of a seat's thread, at its end of the links, by which the control line works too.
+//! The work of a seat's thread at its end of the links. The control line works in the same way.
 ghost use Rattle.std.specs.Prelude.{◌≡◌, [], List, false, true};
 ghost use Rattle.bq_seat.specs.Past.{Awaited};
 ghost use Rattle.bq_seat.specs.SeatStands.{awaited};
@@ -29,14 +29,15 @@ use std::sync::Wait;
 use std::time::Duration;
 use std::{mem, thread};
 
-/// How long a seat rests whose line has no bytes yet and didn't wait for any, in milliseconds.
+/// How long a seat sleeps, in milliseconds, when its line had no bytes and the read did not wait
+/// for any.
 const LINE_REST: u64 = 10;
 
-/// How long a seat rests that found the intake full, in milliseconds. It has room again soon.
+/// How long a seat sleeps, in milliseconds, when the intake was full. It soon has room again.
 const INTAKE_REST: u64 = 1;
 
-/// Serves the lines of a door one after another, until no more come. Steps are submitted at an end of the
-/// links, and their answers taken there.
+/// Serves the lines of a door one after another, until no more come. Steps are submitted at an end
+/// of the links, which also delivers their answers.
 pub fn seat_work<R: Wait, L: Line + Drop, D: Door<Line = L> + Drop>(
     rt: &R,
     alloc: Global,
@@ -50,10 +51,11 @@ pub fn seat_work<R: Wait, L: Line + Drop, D: Door<Line = L> + Drop>(
     requires machine { awaited machine ≡ Awaited.ALine }
     requires door { IsNewDoor (door_seen D.is_out D.is_at_end D.lines_over door) }
     ensures end { IsSameSeat end result.0 }
-    // What was submitted and taken at the end is what the lines of the door asked for and were written.
+    // The steps submitted and the answers taken at the end are what the door's lines asked for and
+    // received.
     ensures served { let at = door_seen D.is_out D.is_at_end D.lines_over in
         IsDoorServed machine.reader.max_job_size (at result.1) result.0.submitted result.0.taken }
-    // It is the same door still.
+    // It is still the same door.
     ensures same { D.same door result.1 }
 {
     let mut end = end;
@@ -89,8 +91,9 @@ pub fn seat_work<R: Wait, L: Line + Drop, D: Door<Line = L> + Drop>(
     unreachable!()
 }
 
-// For how many milliseconds a seat sleeps before it goes on if nothing moved: not at all if its next look at its mail
-// sleeps by itself, as its pace says. Else its line had no bytes yet, or the intake was full.
+// Returns how many milliseconds a seat sleeps if nothing moved. It does not sleep here if its next
+// poll of its mail does so, as its pace says. Otherwise its line had no bytes, or the intake was
+// full.
 fn pause_after(awaits_line: bool, pace: Pace) -> u64 {
     if awaits_line {
         LINE_REST
@@ -109,38 +112,40 @@ fn pause<R: Wait>(rt: &R, intake: &Intake<NoTicks>, end: &mut SeatEnd, most: u64
     }
 }
 
-/// How long a seat sleeps first while its answer hasn't come, in milliseconds. Then the line of a seat whose reserve waits
-/// is read again, to notice a client that has gone.
+/// The first sleep of a seat whose answer has not arrived, in milliseconds. After it, the line of a
+/// seat with a waiting reserve is read again, to notice that its client has disconnected.
 const FIRST_REST: u64 = 100;
 
-/// How long it sleeps at most, in milliseconds. Each sleep is twice as long as the one before, since a client that has
-/// waited for long is seldom gone, and many may wait.
+/// The longest sleep, in milliseconds. Each sleep is twice as long as the one before: a client that
+/// has waited for long seldom disconnects, and many may wait.
 const LONGEST_REST: u64 = 1_000;
 
-/// How often a seat looks for the answer to a step before it sleeps, if the answer before came while it looked. If the
-/// core's thread is awake it answers within a few microseconds, and to fall asleep and be woken takes longer.
+/// How many times a seat polls for an answer before it sleeps, if the answer before came while it
+/// polled. If the core's thread is awake it answers within a few microseconds, and to sleep and be
+/// woken takes longer.
 const LOOKS: u32 = 40;
 
-/// How often it looks if it had to sleep for the answer before: the core's thread then sleeps between two commands, and
-/// it takes longer to wake it.
+/// How many times it polls if it had to sleep for the answer before: the core's thread then sleeps
+/// between two commands, and takes longer to wake.
 const FEW_LOOKS: u32 = 2;
 
-/// How a seat looks for its next answer.
+/// How a seat waits for its next answer.
 #[derive(Clone, Copy)]
 pub struct Pace {
-    // For how many milliseconds it sleeps before it looks: not at all once a step was submitted.
+    // How many milliseconds it sleeps before it polls; 0 after a step was submitted.
     rest: u64,
-    // How often it looks.
+    // How many times it polls.
     looks: u32,
-    // Whether it sleeps once more if it found nothing. After a reserve, whose answer may take long, it doesn't: the
-    // miss is reported at once, so that what the line holds back can go out first.
+    // Whether it sleeps and polls once more if it found nothing. After a reserve, whose answer may
+    // take long, it does not: the miss is returned at once, so that bytes that the line holds back
+    // are written first.
     sleeps: bool,
-    // Whether the last answer came while it looked.
+    // Whether the last answer came while it polled.
     is_prompt: bool,
 }
 
 impl Pace {
-    /// No step was submitted yet.
+    /// Returns the pace of a seat that has not submitted a step.
     pub fn new() -> Pace {
         Pace {
             rest: 0,
@@ -150,7 +155,7 @@ impl Pace {
         }
     }
 
-    // This step was submitted.
+    // Returns the pace after this step was submitted.
     fn after(self, step: &Step) -> Pace {
         Pace {
             rest: 0,
@@ -160,7 +165,7 @@ impl Pace {
         }
     }
 
-    // It has looked, and found no answer unless that is noted.
+    // Returns the pace after a poll. The caller notes it if the poll found an answer.
     fn after_look(self) -> Pace {
         Pace {
             rest: self.rest.saturating_mul(2).clamp(FIRST_REST, LONGEST_REST),
@@ -170,13 +175,13 @@ impl Pace {
         }
     }
 
-    /// Whether it sleeps before it looks.
+    /// Returns true if it sleeps before it polls.
     pub fn rests(self) -> bool {
         self.rest > 0
     }
 }
 
-// Whether the answer to a step may take long.
+// Returns true if the answer to a step may take long.
 fn may_wait(step: &Step) -> bool {
     matches!(
         step,
@@ -184,7 +189,7 @@ fn may_wait(step: &Step) -> bool {
     )
 }
 
-/// The end of a seat, or of the control line, with the intake into which it submits.
+/// The end of a seat, or of the control line, with the intake to which it submits.
 #[derive(Drop)]
 pub struct SeatLink<'a, R> {
     rt: &'a R,
@@ -203,12 +208,12 @@ impl<'a, R: Wait> Link for SeatLink<'a, R> {
         submit_at(self.rt, self.intake, self.end, step)
     }
 
-    // It may sleep for up to a second, and wakes when an answer comes.
+    // It may sleep for up to a second, and wakes when an answer arrives.
     fn mail(&mut self, place: &mut Action) -> bool
         requires ready { self.old.end.now.intake ≡ self.old.intake.now.id }
         ensures ready { self.new.end.now.intake ≡ self.new.intake.now.id }
         ensures went { TakesInPlace LinkWent self.old place.old result place.new self.new }
-        // There is none only where none was known to wait.
+        // It finds none only if none was known to wait.
         ensures none { result ≡ false → self.old.end.now.waiting ≡ [] }
     {
         mail_at(self.rt, self.intake, self.end, &mut self.pace, place)
@@ -229,11 +234,11 @@ impl<'a, R: Wait> ControlLink for SeatLink<'a, R> {
     }
 }
 
-// Submits the step that lies there, and leaves it there where the intake is full. A tick is no seat's own, and is
-// passed.
+// Submits the step in `step`, and leaves it there if the intake is full. A tick is never submitted
+// by a seat and is dropped.
 //
-// Whatever is so of the intake at each moment: where the step was handed back, it was so of a full one, after the last
-// step that this end submitted.
+// The contract holds for any property that the intake has at each moment: if the step was not
+// submitted, a full intake had it after the last step that this end submitted.
 fn submit_at<R: Wait, J: Record>(
     rt: &R,
     intake: &Intake<J>,
@@ -259,8 +264,8 @@ fn submit_at<R: Wait, J: Record>(
     }
 }
 
-// Takes the oldest answer that came to an end, to be written. The end sleeps as its pace says, until it is woken or the
-// time has passed.
+// Takes the oldest answer that arrived at an end, as an action that writes it. The end sleeps as
+// its pace says, until it is woken or the time has passed.
 fn mail_at<R: Wait>(
     rt: &R,
     intake: &Intake<NoTicks>,
@@ -284,8 +289,8 @@ fn mail_at<R: Wait>(
     look_again(rt, intake, end, now.sleeps, place)
 }
 
-// Sleeps for so many milliseconds. If it is none a step was submitted just now, and other threads run once: the core's
-// thread may share this processor.
+// Sleeps for up to this many milliseconds. If it is 0, a step was just submitted, and it yields to
+// other threads once: the core's thread may share this processor.
 fn sleep_or_yield<R: Wait>(rt: &R, intake: &Intake<NoTicks>, end: &mut SeatEnd, most: u64)
     ensures { end.new ≡ end.old }
 {
@@ -296,8 +301,8 @@ fn sleep_or_yield<R: Wait>(rt: &R, intake: &Intake<NoTicks>, end: &mut SeatEnd, 
     }
 }
 
-// Looks once more after a sleep, or at once. A wake-up that is left of an answer that was found without a sleep would end
-// the next sleep as it begins: a sleep of no length takes it.
+// Polls once more, after a sleep if `sleeps` is true. An answer that was found without a sleep
+// leaves its wake-up behind, which would end the next sleep at once; a sleep of 0 ms consumes it.
 fn look_again<R: Wait>(
     rt: &R,
     intake: &Intake<NoTicks>,
@@ -314,7 +319,7 @@ fn look_again<R: Wait>(
     look(end, place)
 }
 
-// Looks so often at what came to an end, and once at least.
+// Polls an end up to this many times, and at least once.
 fn look_often(end: &mut SeatEnd, looks: u32, place: &mut Action) -> bool
     ensures went { TakesInPlace EndWent end.old place.old result place.new end.new }
     ensures none { result ≡ false
@@ -329,7 +334,7 @@ fn look_often(end: &mut SeatEnd, looks: u32, place: &mut Action) -> bool
     look(end, place)
 }
 
-// One look at what came to an end.
+// Polls an end once.
 fn look(end: &mut SeatEnd, place: &mut Action) -> bool
     ensures went { TakesInPlace EndWent end.old place.old result place.new end.new }
     ensures none { result ≡ false
@@ -342,8 +347,8 @@ fn look(end: &mut SeatEnd, place: &mut Action) -> bool
     true
 }
 
-/// One action of a seat that attends to a door, by its end of the links. Says whether something moved. The pace goes from
-/// one action to the next.
+/// Does one action of a seat that attends to a door, at its end of the links. Returns true if
+/// something moved. The pace is kept from one action to the next.
 pub fn attend_at<R: Wait, L: Line + Drop, D: Door<Line = L>>(
     rt: &R,
     alloc: Global,
@@ -373,7 +378,7 @@ pub fn attend_at<R: Wait, L: Line + Drop, D: Door<Line = L>>(
     moved
 }
 
-/// Serves the control line by its end of the links.
+/// Serves the control line at its end of the links.
 pub fn control_at<R: Wait, I: ControlInput>(
     rt: &R,
     intake: &Intake<NoTicks>,
@@ -389,7 +394,7 @@ pub fn control_at<R: Wait, I: ControlInput>(
     ensures done { (submitted : List Step) × IsControlDone (I.seen control.new).text (I.seen control.new).failed submitted
         × EndWent end.old submitted [] end.new }
 {
-    // No answer is for it, and it looks for none.
+    // The core sends it no answers, and it does not poll for any.
     let mut link = SeatLink {
         rt,
         intake,

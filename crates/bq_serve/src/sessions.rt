@@ -1,4 +1,4 @@
-//! The run over doors by threads, for the core of `bq_core`.
+//! The run over doors by threads, with the core of `bq_core`.
 ghost use Rattle.std.specs.Prelude.{◌≡◌, ◌↔◌, ◌&&◌, ◌==◌, false, true, not, IfOk, IsErrOf, IsTrue, vec_len};
 ghost use Rattle.std.specs.List.{All};
 ghost use Rattle.bq_steps.specs.Limits.{are_in_range};
@@ -16,17 +16,18 @@ use std::alloc::Global;
 use std::sync::Wait;
 use std::thread::Threads;
 
-/// A run over doors that is over: the doors with their lines, the clock and the control line as they were
-/// left, the core, and the links between them.
+/// A run over doors that has ended: the doors with their lines, the clock and the control line as
+/// they were left, the core, and the links between them.
 pub type Run<D, C, I> = bq_run::Run<D, C, I, Core>;
 
-/// Serves the lines of all doors, each at a seat and in a thread of its own, until no more lines come at any
-/// of them. One more thread has the core and its clock. The calling thread reads the control line, of which each
-/// line `drain` begins draining.
+/// Serves the lines of all doors, each at a seat and in a thread of its own, until no more lines
+/// come at any of them. Another thread runs the core with its clock. The calling thread reads the
+/// control line, where each line `drain` starts draining.
 ///
-/// The fault is `BadConfiguration` where the configuration is out of its ranges or there isn't a door for
-/// each seat, and else `NoMemory` where a growth of memory was refused, or `ThreadRefused` where a thread was.
-/// With any fault no door was opened, and the doors are given up.
+/// The error is `BadConfiguration` if the configuration is out of its ranges or the number of doors
+/// is not the number of seats. Otherwise it is `NoMemory` if an allocation failed, or
+/// `ThreadRefused` if a thread could not be started. After any error no door was opened, and the
+/// doors are dropped.
 pub fn run_sessions<
     R: Threads + Wait + Sync,
     L: Line + Drop + Send,
@@ -41,19 +42,20 @@ pub fn run_sessions<
     clock: C,
     control: I,
 ) -> Result<Run<D, C, I>, RunFault>
-    // No line is out or over at any door, and none is at its end.
+    // No door has a line that is open or was served, and no door is at its end.
     requires new { All
         (λ door. IsNewDoor (door_seen D.is_out D.is_at_end D.lines_over door)) doors.items }
-    // There is one history of all clients' steps and those of the control line, each at the moment of a
-    // reading of the clock. The one-list machine takes it, the core stands for the machine after it, and each
-    // line was written exactly what it is owed along it. It is what the ends of the links submitted and took.
+    // There is one history of the steps of all clients and of the control line, each at the moment
+    // of a reading of the clock. The one-list machine takes this history, the core represents the
+    // machine after it, and each line received exactly the bytes that the history prescribes for
+    // it. The ends of the links submitted these steps and took these answers.
     ensures served { IfOk result (IsRunOf C.given D.lines_over I.remaining I.may_fail ⟦<Core as QueueCore>⟧.machine
         ⟦<Core as QueueCore>⟧.comparisons config clock control) }
     ensures at_end { IfOk result
         (λ run. All (λ door. (D.is_out door ≡ false) × (D.is_at_end door ≡ true)) run.doors.items) }
-    // They are the doors that were handed in, in their order.
+    // The doors are those that were passed in, in the same order.
     ensures same { IfOk result (λ run. AreSame D.same doors.items run.doors.items) }
-    // The core can go on.
+    // The core can be used further.
     ensures settings { IfOk result (λ run. run.core.machine.settings ≡ config) }
     ensures bad_configuration { IsErrOf result RunFault.BadConfiguration
         ↔ IsTrue (not (are_in_range config && vec_len doors == config.seats)) }

@@ -1,13 +1,14 @@
-//! Lines that fail beside others, which aren't hurt.
+//! Lines that fail while other lines are served without damage.
 
 use crate::clients::{Client, INSERTED, PUTS, RESERVED, ROOM};
 use crate::doors::{CountedDoor, is_left_so};
 use bq_job::LineEnd;
 
-/// One that waits, whose line fails, and one that puts.
+/// A client that waits and whose line fails, and a client that puts a job.
 pub const BROKEN: &[&[Client]] = &[&[("reserve~ + fails", ROOM)], &[(PUTS, ROOM)]];
 
-// A line that fails while it waits is written its answer whole, or nothing.
+// Returns true if the door's one line failed while it waited, and received its whole answer or
+// nothing.
 fn is_broken_off(door: &CountedDoor) -> bool {
     match door.door.over() {
         [(line, end)] => {
@@ -18,7 +19,7 @@ fn is_broken_off(door: &CountedDoor) -> bool {
     }
 }
 
-/// Whether the one is broken off, and the other isn't hurt.
+/// Returns true if the first line failed and the second was served without damage.
 pub fn is_other_unhurt(doors: &[CountedDoor]) -> bool {
     match doors {
         [broken, other] => {
@@ -28,7 +29,7 @@ pub fn is_other_unhurt(doors: &[CountedDoor]) -> bool {
     }
 }
 
-// Whether the one line of the door was written so much of the text as there was room.
+// Returns true if the door's one line received as much of the text as it had room for.
 fn is_cut_off(door: &CountedDoor, text: &str, room: usize) -> bool {
     match door.door.over() {
         [(line, end)] => {
@@ -45,7 +46,8 @@ fn is_cut_off(door: &CountedDoor, text: &str, room: usize) -> bool {
     }
 }
 
-/// Whether a client that waits and one that puts were cut off by so much room each.
+/// Returns true if a client that waits and one that puts a job were each cut off after the given
+/// room.
 pub fn are_both_cut_off(doors: &[CountedDoor], waits: usize, puts: usize) -> bool {
     match doors {
         [first, second] => is_cut_off(first, RESERVED, waits) && is_cut_off(second, INSERTED, puts),

@@ -5,24 +5,25 @@ use bq_line::clock::ScriptClock;
 use bq_line::line::Part;
 use std::alloc::{AllocError, Global};
 
-/// Room for what is written to a client, where it is ample.
+/// Ample room for what a client receives.
 pub const ROOM: usize = 1000;
 
-/// A clock that stands still.
+/// A clock that always reads the same.
 pub const STILL: &[Option<Moment>] = &[Some(0)];
 
-/// What a client does, and the room for what is written to it. Between ` + ` stands a part: bytes, in which `~` is CR LF;
-/// `after`, with how many bytes it waits for that are written to it; or `fails`, where its line does.
+/// What a client does, and the room for what it receives. The parts are separated by ` + `. A part
+/// is bytes, in which `~` represents CR LF; or `after` with the number of bytes that the client
+/// waits to receive; or `fails`, where its line fails.
 pub type Client<'t> = (&'t str, usize);
 
-/// What was written to a client, and how its line was over.
+/// What a client received, and how its line ended.
 pub type Outcome<'t> = (&'t str, LineEnd);
 
 pub const RESERVED: &str = "RESERVED 1 3\r\nabc\r\n";
 
 pub const INSERTED: &str = "INSERTED 1\r\n";
 
-/// It reserves, and stays until it has the job.
+/// It reserves a job, and stays until it has received it.
 pub const WAITS: &str = "reserve~ + after 19";
 
 pub const PUTS: &str = "put 5 0 10 3~abc~";
@@ -34,7 +35,7 @@ fn push(parts: &mut Vec<Part, Global>, part: Part) -> Result<(), NoMemory> {
     }
 }
 
-// The bytes of a text, in which `~` is CR LF.
+// Returns the bytes of a text, in which `~` represents CR LF.
 fn bytes_of(alloc: Global, text: &str) -> Result<Vec<u8>, AllocError> {
     let mut bytes = Vec::new(alloc);
     for byte in text.as_bytes() {
@@ -57,7 +58,7 @@ fn part_of(alloc: Global, text: &str) -> Result<Part, AllocError> {
     Ok(Part::Bytes(bytes_of(alloc, text)?))
 }
 
-/// The parts of a line to a client that does this.
+/// Returns the parts of a line to a client that does this.
 pub fn parts_of(alloc: Global, does: &str) -> Result<Vec<Part, Global>, NoMemory> {
     let mut parts: Vec<Part> = Vec::new(alloc);
     for text in does.split(" + ") {
@@ -69,7 +70,7 @@ pub fn parts_of(alloc: Global, does: &str) -> Result<Vec<Part, Global>, NoMemory
     Ok(parts)
 }
 
-/// A clock of these readings.
+/// Returns a clock with these readings.
 pub fn clock(alloc: Global, readings: &[Option<Moment>]) -> Result<ScriptClock, NoMemory> {
     match Vec::from_slice(alloc, readings) {
         Ok(script) => Ok(ScriptClock::new(script)),

@@ -1,11 +1,11 @@
-//! A control line that comes in pieces.
+//! A control line that arrives in pieces.
 
 use bq_job::NoMemory;
 use std::alloc::Global;
 use std::io;
 use std::io::{BufReader, ErrorKind, Read};
 
-/// What a read of a control line comes to.
+/// The result of a read of a control line.
 #[derive(Clone, Copy)]
 pub enum Gives {
     /// These bytes.
@@ -15,7 +15,8 @@ pub enum Gives {
     Fault,
 }
 
-/// What gives these, one after another, and then the end. A text fits the buffer of who reads it.
+/// A reader that returns these pieces one after another, and then the end. Each text fits in the
+/// caller's buffer.
 #[derive(Drop)]
 pub struct Pieces {
     next: &'static [Gives],
@@ -40,7 +41,7 @@ impl Read for Pieces {
     }
 }
 
-/// A control line, read as that of a server is.
+/// A control line, read in the same way as a server's.
 pub type Control = BufReader<Pieces>;
 
 pub fn control(alloc: Global, gives: &'static [Gives]) -> Result<Control, NoMemory> {

@@ -1,4 +1,4 @@
-//! Doors in memory, at which clients come.
+//! Doors in memory, with clients that connect.
 ghost use Rattle.std.specs.Prelude.{◌≡◌, false, IfOk, []};
 ghost use Rattle.std.specs.List.{All};
 ghost use Rattle.bq_line.specs.MemDoors.{IsFresh};
@@ -49,7 +49,7 @@ impl<'c> Door for CountedDoor<'c> {
     }
 }
 
-/// Doors on which nothing was done.
+/// Doors that were not used yet.
 #[derive(Drop)]
 pub struct NewDoors<'c> {
     pub all: Vec<CountedDoor<'c>, Global>,
@@ -61,7 +61,7 @@ pub struct NewDoors<'c> {
 }
 
 impl<'c> NewDoors<'c> {
-    // One door more.
+    // Adds a door.
     fn push(&mut self, door: MemDoor, opened: &'c AtomicU64) -> Result<(), NoMemory>
         requires inside { ⟦<MemDoor as Door>⟧.is_out door ≡ false }
         requires more { ⟦<MemDoor as Door>⟧.is_at_end door ≡ false }
@@ -81,7 +81,7 @@ fn line(alloc: Global, client: &Client) -> Result<MemLine, NoMemory>
     MemLine::new(alloc, parts, client.1)
 }
 
-/// A door at which these clients come, one after another.
+/// Returns a door where these clients connect, one after another.
 pub fn door(alloc: Global, clients: &[Client]) -> Result<MemDoor, NoMemory>
     ensures inside { IfOk result (λ door. ⟦<MemDoor as Door>⟧.is_out door ≡ false) }
     ensures more { IfOk result (λ door. ⟦<MemDoor as Door>⟧.is_at_end door ≡ false) }
@@ -99,7 +99,8 @@ pub fn door(alloc: Global, clients: &[Client]) -> Result<MemDoor, NoMemory>
     MemDoor::new(alloc, lines)
 }
 
-/// A door for each of these groups of clients. They share a count of how often they are opened.
+/// Returns a door for each of these groups of clients. They share a count of how often they are
+/// opened.
 pub fn doors<'c>(
     alloc: Global,
     clients: &[&[Client]],
@@ -114,7 +115,7 @@ pub fn doors<'c>(
     Ok(doors)
 }
 
-/// Whether these lines are over at the door, in this order, and none is left.
+/// Returns true if the door has served these lines, in this order, and has none left.
 pub fn is_left_so(door: &CountedDoor, outcomes: &[Outcome]) -> bool {
     let over = door.door.over();
     if over.len() != outcomes.len() || door.door.left() != 0 {
@@ -128,7 +129,7 @@ pub fn is_left_so(door: &CountedDoor, outcomes: &[Outcome]) -> bool {
     true
 }
 
-/// The same of each door.
+/// The same for each door.
 pub fn are_left_so(doors: &[CountedDoor], outcomes: &[&[Outcome]]) -> bool {
     if doors.len() != outcomes.len() {
         return false;

@@ -1,16 +1,16 @@
-//! The control line: once it has said `drain`, no put is accepted.
+//! The control line: after `drain`, no put is accepted.
 
 use crate::control::Gives;
 use bq_job::{Body, NoMemory, Request, Step};
 use std::alloc::Global;
 
-/// What the control line comes to, and whether a put is refused then.
+/// The results of the reads of a control line, and whether a put is rejected afterwards.
 pub type Example = (&'static [Gives], bool);
 
 pub const EXAMPLES: &[Example] = &[
     (&[Gives::Text("drain\ndrains\ndrain")], true),
     (&[Gives::Text("drains\n\ndrain ")], false),
-    // A longer line, of which not all has come yet, and a last one that comes in pieces.
+    // A longer line that arrives in two reads, and a last line that arrives in pieces.
     (
         &[
             Gives::Text("no dra"),
@@ -30,12 +30,12 @@ pub const EXAMPLES: &[Example] = &[
         &[Gives::NothingYet, Gives::Text("x"), Gives::Text("drain\n")],
         false,
     ),
-    // A line that isn't over where the reader fails says nothing, and one that is does.
+    // An unfinished line has no effect if the reader fails; a finished line has.
     (&[Gives::Text("drain"), Gives::Fault], false),
     (&[Gives::Text("drain\nd"), Gives::Fault], true),
 ];
 
-/// A put, as a client's step.
+/// Returns a put as a client's step.
 pub fn put(alloc: Global) -> Result<Step, NoMemory> {
     Ok(Step::Ask(Request::Put {
         pri: 0,

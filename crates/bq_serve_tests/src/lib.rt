@@ -1,5 +1,5 @@
-//! Tests of the runs over many doors, through public calls alone, and the clients in memory that they serve: what these do,
-//! the doors at which they come, a control line in pieces, and what comes of each. Every run is held to the same.
+//! Tests of the runs over many doors, by public functions alone. They use clients in memory, the
+//! doors where these connect, and a control line in pieces. Every run has to pass the same tests.
 #![tactic(auto)]
 
 pub mod broken;

@@ -1,4 +1,4 @@
-//! Tests of the run around a lock and of its journal, which go by public names alone.
+//! Tests of the run around a lock and of its journal, by public functions alone.
 
 mod drains;
 mod failing_lines;

@@ -1,9 +1,9 @@
-//! Runs of one client that are refused: they open no door.
+//! Runs with one client that are rejected: they open no door.
 
 use crate::clients::{Client, PUTS, ROOM};
 use bq_host::RunFault;
 
-/// How many seats are asked for, how big a job's body may be, and the fault.
+/// The number of seats, the limit of body sizes, and the error.
 pub type Refused = (u16, u32, Option<RunFault>);
 
 pub const REFUSED: &[Refused] = &[
@@ -18,7 +18,8 @@ pub const REFUSED: &[Refused] = &[
 /// The one client, at the one door.
 pub const ONE: &[&[Client]] = &[&[(PUTS, ROOM)]];
 
-/// How often the door is opened: where the run isn't refused, for its line and once more.
+/// Returns how often the door is opened: if the run is not rejected, once for its line and once
+/// more.
 pub fn opens_of(fault: Option<RunFault>) -> u64 {
     if fault.is_none() { 2 } else { 0 }
 }

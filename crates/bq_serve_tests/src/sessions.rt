@@ -1,4 +1,4 @@
-//! Tests of the run over doors by threads, and of the core's work in it, which go by public names alone.
+//! Tests of the run over doors by threads, and of the core's work in it, by public functions alone.
 
 mod core_at_work;
 mod drains;

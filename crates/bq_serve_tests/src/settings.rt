@@ -1,9 +1,10 @@
-//! What a run is made with.
+//! The settings of the runs.
 ghost use Rattle.std.specs.Prelude.{◌≡◌};
 
 use bq_steps::Config;
 
-/// So many seats, bodies of so many bytes at most, and what is usual else.
+/// Returns a configuration with this many seats, this limit of body sizes, and the usual other
+/// settings.
 pub fn config(seats: u16, max_job_size: u32) -> Config
     ensures { result.seats ≡ seats }
 {

@@ -1,18 +1,19 @@
-//! What has to come of a run.
+//! The wanted result of a run.
 
 use crate::broken::{are_both_cut_off, is_other_unhurt};
 use crate::clients::{Client, Outcome};
 use crate::doors::{CountedDoor, are_left_so};
 use crate::worked::opens_of;
 
-/// What has to come of the lines at its doors.
+/// The wanted result for the lines of its doors.
 #[derive(Clone, Copy)]
 pub enum Wanted {
-    /// These are over, in their order.
+    /// These lines have ended, in this order.
     Lines(&'static [&'static [Outcome<'static>]]),
-    /// That of the first client, who waits, has failed; the other one's hasn't.
+    /// The line of the first client, which waits, has failed; the other one has not.
     OneBroken,
-    /// That of the client who waits and that of the one who puts are cut off by so much room each.
+    /// The line of the client that waits and that of the client that puts a job were each cut off
+    /// after this much room.
     CutOff(usize, usize),
 }
 
@@ -26,7 +27,8 @@ impl Wanted {
     }
 }
 
-/// Whether the doors of these clients are left as is wanted, and were opened for each line that comes and once more.
+/// Returns true if the doors of these clients are left as wanted, and were opened once for each
+/// line and once more.
 pub fn is_right(wanted: Wanted, clients: &[&[Client]], doors: &[CountedDoor], opened: u64) -> bool {
     wanted.is_left_at(doors) && opened == opens_of(clients)
 }

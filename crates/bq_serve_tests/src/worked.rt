@@ -1,18 +1,18 @@
-//! Worked runs over doors, by hand.
+//! Runs over doors whose results were worked out by hand.
 
 use crate::clients::{Client, INSERTED, Outcome, PUTS, RESERVED, ROOM, WAITS};
 use bq_job::LineEnd;
 
-/// Clients at each door, and what comes of them.
+/// The clients at each door, and their results.
 pub type Example = (
     &'static [&'static [Client<'static>]],
     &'static [&'static [Outcome<'static>]],
 );
 
 pub static EXAMPLES: &[Example] = &[
-    // No client at all.
+    // No clients.
     (&[&[], &[]], &[&[], &[]]),
-    // A job of a lost line.
+    // The job of a client that disconnects.
     (
         &[&[("put 0 0 9 1~x~reserve~", ROOM), ("reserve~quit~", ROOM)]],
         &[&[
@@ -20,7 +20,7 @@ pub static EXAMPLES: &[Example] = &[
             ("RESERVED 1 1\r\nx\r\n", LineEnd::Quit),
         ]],
     ),
-    // A job of a lost line, for another door.
+    // The same, for another door.
     (
         &[
             &[("put 0 0 9 1~x~reserve~ + after 29", ROOM)],
@@ -31,7 +31,7 @@ pub static EXAMPLES: &[Example] = &[
             &[("RESERVED 1 1\r\nx\r\n", LineEnd::EndOfInput)],
         ],
     ),
-    // A job of a broken line.
+    // The job of a line with a write error.
     (
         &[&[("put 0 0 9 1~x~reserve~", 20), ("reserve~quit~", ROOM)]],
         &[&[
@@ -39,7 +39,7 @@ pub static EXAMPLES: &[Example] = &[
             ("RESERVED 1 1\r\nx\r\n", LineEnd::Quit),
         ]],
     ),
-    // A wait across doors.
+    // A wait for a job from another door.
     (
         &[&[(WAITS, ROOM)], &[(PUTS, ROOM)]],
         &[
@@ -52,17 +52,17 @@ pub static EXAMPLES: &[Example] = &[
         &[&[], &[(PUTS, ROOM)]],
         &[&[], &[(INSERTED, LineEnd::EndOfInput)]],
     ),
-    // A fault after an answer.
+    // A read error after an answer.
     (
         &[&[("put 0 0 9 1~x~put + fails", ROOM)]],
         &[&[(INSERTED, LineEnd::ReadFault)]],
     ),
-    // A fault behind a wait.
+    // A read error during a wait.
     (
         &[&[("reserve~ + fails", ROOM)]],
         &[&[("", LineEnd::ReadFault)]],
     ),
-    // A fault behind a wait that was answered.
+    // A read error after the answer to a wait.
     (
         &[&[("reserve~ + after 19 + fails", ROOM)], &[(PUTS, ROOM)]],
         &[
@@ -70,7 +70,7 @@ pub static EXAMPLES: &[Example] = &[
             &[(INSERTED, LineEnd::EndOfInput)],
         ],
     ),
-    // A fault behind a put.
+    // A read error after a put.
     (
         &[&[(WAITS, ROOM)], &[("put 5 0 10 3~abc~ + fails", ROOM)]],
         &[
@@ -80,7 +80,7 @@ pub static EXAMPLES: &[Example] = &[
     ),
 ];
 
-/// How often their doors are opened: for each line that comes, and once more.
+/// Returns how often the doors are opened: once for each line, and once more per door.
 pub fn opens_of(clients: &[&[Client]]) -> u64 {
     let mut opens: u64 = 0;
     for clients in clients {

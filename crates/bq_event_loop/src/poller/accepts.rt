@@ -3,29 +3,29 @@
 use std::rt;
 use std::time::{Duration, Instant};
 
-/// How long no connection is accepted after one could not be for a shortage, in milliseconds.
+/// How long no connection is accepted after a lack of resources prevented one, in milliseconds.
 const REST: u64 = 100;
 
-/// A rest after a shortage.
+/// A pause after a lack of resources.
 #[derive(Clone, Copy, Debug, PartialEq, Eq)]
 enum Rest {
     None,
     /// Until this moment, whatever happens meanwhile.
     Until(Instant),
-    /// The clock could not be read: until the next wait is over.
+    /// The clock could not be read: until the next wait has ended.
     OneWait,
 }
 
-/// What is known of connections that were not accepted yet. All doors share it.
+/// What is known about connections that were not accepted yet. All doors share it.
 #[derive(Debug, Drop)]
 pub struct Accepts {
-    // One may have come since none was there.
+    // True if a connection may have come since the last check that found none.
     may_have_come: bool,
     rest: Rest,
 }
 
 impl Accepts {
-    /// Connections may have come before anything was watched.
+    /// Returns the state at the start, when connections may have come before anything was watched.
     pub fn new() -> Accepts {
         Accepts {
             may_have_come: true,
@@ -33,22 +33,23 @@ impl Accepts {
         }
     }
 
-    /// Whether a door is worth a look.
+    /// Returns true if a door should be checked.
     pub fn may_come(&self) -> bool {
         self.may_have_come && self.rest == Rest::None
     }
 
-    /// The system reported one.
+    /// Notes that the system reported a connection.
     pub fn one_may_have_come(&mut self) {
         self.may_have_come = true;
     }
 
-    /// All that came were accepted. The system reports the next one.
+    /// Notes that all connections were accepted. The system will report the next one.
     pub fn none_there(&mut self) {
         self.may_have_come = false;
     }
 
-    /// The system was short of what a connection takes, and does not report when it no longer is.
+    /// Notes that the system lacked resources for a connection. It does not report when it has them
+    /// again.
     pub fn rest<R: rt::Clock>(&mut self, rt: &R) {
         self.rest = match Instant::now(rt) {
             Ok(now) => match now.checked_add(Duration::from_millis(REST)) {
@@ -59,7 +60,7 @@ impl Accepts {
         };
     }
 
-    /// For how long no connection is accepted. None: they are accepted.
+    /// Returns how long no connection is accepted, or `None` if connections are accepted.
     pub fn rests_for<R: rt::Clock>(&self, rt: &R) -> Option<Duration> {
         match self.rest {
             Rest::None => None,
@@ -71,7 +72,7 @@ impl Accepts {
         }
     }
 
-    /// A wait is over: the rest is, if its time has passed.
+    /// Notes that a wait has ended, and ends the pause if its time has passed.
     pub fn pass<R: rt::Clock>(&mut self, rt: &R) {
         if self.is_rested(rt) {
             self.rest = Rest::None;

@@ -6,22 +6,23 @@ use mio::unix::SourceFd;
 use mio::{Interest, Registry};
 use std::os::fd::RawFd;
 
-/// What is known of the control line. Its descriptor is never switched to non-blocking, since other processes may share
-/// it, so a read that may wait is made only after the system reported that it would not.
+/// What is known about the control line. Its descriptor is never switched to non-blocking mode,
+/// since other processes may share it. So a read that may block is made only after the system
+/// reported that it would not.
 #[derive(Clone, Copy, Debug, PartialEq, Eq)]
 pub enum ControlWatch {
-    /// By this descriptor, which is not watched yet.
+    /// The descriptor is not registered yet.
     Unwatched(RawFd),
-    /// The system can't tell when there is more: it is read to its end at once.
+    /// The system cannot report when there is more, so the line is read to its end at once.
     Whole,
-    /// The system reports when there are bytes, or the end, and `has_come` says that it did.
+    /// The system reports bytes or the end; `has_come` tells that it did.
     Watched { fd: RawFd, has_come: bool },
-    /// It is over.
+    /// The line has ended.
     Over,
 }
 
 impl ControlWatch {
-    /// None: it can't be watched.
+    /// Returns the initial state. Without a descriptor the line cannot be watched.
     pub fn new(source: Option<RawFd>) -> ControlWatch {
         match source {
             Some(fd) => ControlWatch::Unwatched(fd),
@@ -29,7 +30,7 @@ impl ControlWatch {
         }
     }
 
-    /// It is watched from now on. The system refuses files and the like.
+    /// Registers the descriptor. The system rejects files and the like.
     pub fn watch(&mut self, registry: &Registry) {
         if let ControlWatch::Unwatched(fd) = *self {
             *self = match registry.register(&mut SourceFd(&fd), CONTROL, Interest::READABLE) {
@@ -42,14 +43,14 @@ impl ControlWatch {
         }
     }
 
-    /// The system reported bytes, or the end.
+    /// Notes that the system reported bytes or the end.
     pub fn more_came(&mut self) {
         if let ControlWatch::Watched { fd, .. } = *self {
             *self = ControlWatch::Watched { fd, has_come: true };
         }
     }
 
-    /// How far it is read in this round, if at all.
+    /// Returns how far the line is read in this round, if at all.
     pub fn reads(&self, stands: ControlStands) -> Option<ControlReads> {
         match *self {
             ControlWatch::Whole => Some(ControlReads::ToEnd),
@@ -66,7 +67,9 @@ impl ControlWatch {
         }
     }
 
-    /// It was read. If there is more, the system reports that again; the end of a pipe it would report without end.
+    /// Notes that the line was read. If there is more, the system reports that again. At the end
+    /// the descriptor is deregistered, because the system would report the end of a pipe again and
+    /// again.
     pub fn watch_on(&mut self, registry: &Registry, stands: ControlStands) {
         if let ControlWatch::Watched { fd, .. } = *self {
             let mut source = SourceFd(&fd);

@@ -1,33 +1,33 @@
-//! The seats that may go on, and those that are free.
+//! The seats that can act, and those that are free.
 
 use std::alloc::{AllocError, Global};
 use std::collections::VecDeque;
 
-/// Where a seat is listed.
+/// The list that a seat is in.
 #[derive(Clone, Copy, Debug, PartialEq, Eq)]
 enum Listed {
     Nowhere,
-    /// Among those that may go on.
+    /// In the queue of seats that can act.
     Queued,
-    /// Among those that look for a line.
+    /// Among the seats that check for a line.
     Free,
 }
 
-/// The seats that may go on, each once, in the order in which they are visited, and those that look for a line. All
-/// memory is allocated when it is made.
+/// The queue of the seats that can act, each at most once, in the order of their visits, and the
+/// seats that check for a line. All of its memory is allocated when it is created.
 #[derive(Drop)]
 pub struct SeatQueue {
     queue: VecDeque<usize, Global>,
     free: Vec<usize, Global>,
     listed: Vec<Listed, Global>,
-    // How many at the front of the queue are visited in this round.
+    // How many seats at the front of the queue are visited in this round.
     round: usize,
-    // How many of these were visited in this part of it.
+    // How many of them were visited in this part of the round.
     at: usize,
 }
 
 impl SeatQueue {
-    /// So many seats, all of them free.
+    /// Returns this many seats, all of them free.
     pub fn new(alloc: Global, seats: usize) -> Result<SeatQueue, AllocError> {
         let mut free = Vec::with_capacity(alloc, seats)?;
         // The last one is taken first.
@@ -43,7 +43,7 @@ impl SeatQueue {
         })
     }
 
-    // Whether a seat that was nowhere is listed there now.
+    // Puts a seat that is in no list into this one. Returns true if it did.
     fn lists(&mut self, seat: usize, place: Listed) -> bool {
         match self.listed.get_mut(seat) {
             Some(listed) => {
@@ -63,21 +63,22 @@ impl SeatQueue {
         }
     }
 
-    /// The seat may go on. One that is free, or is in the queue, is left where it is.
+    /// Puts a seat that can act into the queue. A seat that is free or in the queue stays where it
+    /// is.
     pub fn enqueue(&mut self, seat: usize) {
         if self.lists(seat, Listed::Queued) {
             let _fits = self.queue.push_back(seat);
         }
     }
 
-    /// The seat looks for a line.
+    /// Puts a seat among those that check for a line.
     pub fn set_free(&mut self, seat: usize) {
         if self.lists(seat, Listed::Free) {
             let _fits = self.free.push(seat);
         }
     }
 
-    /// A seat that looks for a line, and is listed nowhere from now on.
+    /// Removes and returns a seat that checks for a line. It is then in no list.
     pub fn next_free(&mut self) -> Option<usize> {
         let seat = self.free.pop()?;
         self.unlist(seat);
@@ -88,18 +89,18 @@ impl SeatQueue {
         self.queue.is_empty()
     }
 
-    /// All that are in the queue now are visited.
+    /// Begins a round, which visits all seats that are in the queue now.
     pub fn begin_round(&mut self) {
         self.round = self.queue.len();
         self.at = 0;
     }
 
-    /// How many are visited in this round.
+    /// Returns how many seats are visited in this round.
     pub fn round(&self) -> usize {
         self.round
     }
 
-    /// The next one of this part of the round, which stays in the queue.
+    /// Returns the next seat in this part of the round, and leaves it in the queue.
     pub fn next_in_round(&mut self) -> Option<usize> {
         if self.at >= self.round {
             return None;
@@ -109,7 +110,7 @@ impl SeatQueue {
         Some(seat)
     }
 
-    /// The next one of this round, which leaves the queue.
+    /// Removes the next seat of this round from the queue and returns it.
     pub fn take_next(&mut self) -> Option<usize> {
         if self.at >= self.round {
             return None;

@@ -1,9 +1,9 @@
-//! A visit of a seat: the actions that it does without waiting, before others have their turn.
+//! A visit of a seat: the actions that it does without waiting, before other seats have their turn.
 
 use bq_driver::attendant::Attendant;
 use bq_line::line::Line;
 
-/// How many actions a visit has at most: those of some 32 commands.
+/// The largest number of actions in a visit: those of some 32 commands.
 const MOST: u32 = 128;
 
 /// A part of the visits of a round.
@@ -13,12 +13,12 @@ pub enum Part {
     Reads,
     /// Steps are taken, each up to an answer.
     Steps,
-    /// Answers are written, and each seat goes on as long as it can.
+    /// Answers are written, and each seat acts for as long as it can.
     Answers,
 }
 
 impl Part {
-    /// The first part of a round of so many visits. A lone one is made in one go.
+    /// Returns the first part of a round with this many visits. A single visit is made in one go.
     pub fn first(visits: usize) -> Part {
         if visits > 1 {
             Part::Reads
@@ -36,18 +36,18 @@ impl Part {
     }
 }
 
-/// Why a visit does no more.
+/// The reason why a visit pauses.
 #[derive(Clone, Copy, Debug, PartialEq, Eq)]
 pub enum Pause {
-    /// The part of it is done.
+    /// This part of the visit is done.
     PartDone,
     /// Nothing moves until its line is ready or it has mail.
     Rests,
-    /// It may go on at once.
+    /// It can act again at once.
     GoesOn,
-    /// Its line is over: it looks for the next one.
+    /// Its line has ended, and it checks for the next one.
     IsFree,
-    /// No more lines come, and that was submitted.
+    /// No more lines come, and this was submitted.
     IsDone,
 }
 
@@ -56,7 +56,7 @@ pub enum Pause {
 pub struct Visit {
     seat: usize,
     part: Part,
-    // How many actions it still has.
+    // How many more actions it may do.
     left: u32,
     // How many of its last actions moved nothing.
     unmoved: u32,
@@ -75,7 +75,7 @@ impl Visit {
         }
     }
 
-    /// The same visit, whose line has the shared buffer or not.
+    /// Returns the same visit, with a note whether its line has the shared buffer.
     pub fn lent(self, is_lent: bool) -> Visit {
         Visit {
             seat: self.seat,
@@ -94,7 +94,7 @@ impl Visit {
         self.seat
     }
 
-    /// An action more was carried out, which moved something or not.
+    /// Returns the visit after another action, which moved something or not.
     pub fn after(self, moved: bool) -> Visit {
         Visit {
             seat: self.seat,
@@ -109,7 +109,7 @@ impl Visit {
         }
     }
 
-    /// Why it does no more. None: it goes on.
+    /// Returns the reason for a pause, or `None` if the visit goes on.
     pub fn pause<L: Line + Drop>(&self, seat: &Attendant<L>) -> Option<Pause> {
         match self.part {
             Part::Answers => self.end(seat),
@@ -125,7 +125,7 @@ impl Visit {
         }
     }
 
-    // Why it does no more, once it may do all.
+    // The same in the last part, in which the visit may do everything.
     fn end<L: Line + Drop>(&self, seat: &Attendant<L>) -> Option<Pause> {
         if seat.is_between() {
             Some(Pause::IsFree)
@@ -142,7 +142,8 @@ impl Visit {
         }
     }
 
-    // A step that was handed back is submitted again, and a call of the line that was interrupted is made again.
+    // If nothing moves, it rests, unless a step was rejected and is submitted again, or a call of
+    // the line was interrupted and is made again.
     fn rest<L: Line + Drop>(&self, seat: &Attendant<L>) -> Pause {
         if seat.submits() || seat.tries_again() {
             Pause::GoesOn
@@ -151,14 +152,14 @@ impl Visit {
         }
     }
 
-    // Whether nothing moves now. A seat whose answer is outstanding polls its mail and reads in turn: neither may move, and
-    // then it rests.
+    // Returns true if nothing moves now. A seat whose answer is outstanding alternately polls its
+    // mail and reads: if neither moves anything, it rests.
     fn is_stuck<L: Line + Drop>(&self, seat: &Attendant<L>) -> bool {
         self.unmoved > 1 || (self.unmoved > 0 && (seat.writes() || seat.submits()))
     }
 }
 
-// Whether a part that is not the last ends before the next action.
+// Returns true if a part that is not the last ends before the next action.
 fn ends_part<L: Line + Drop>(part: Part, seat: &Attendant<L>) -> bool {
     let is_next = match part {
         Part::Reads => seat.submits() || seat.writes(),
@@ -167,7 +168,7 @@ fn ends_part<L: Line + Drop>(part: Part, seat: &Attendant<L>) -> bool {
     is_next || seat.is_between() || seat.is_done() || seat.awaits_bytes()
 }
 
-/// Whether the next action shuts the line.
+/// Returns true if the next action closes the line.
 pub fn ends_line<L: Line + Drop>(seat: &Attendant<L>) -> bool {
     let is_on_line = seat.submits() || seat.polls_mail() || seat.writes() || seat.reads();
     !is_on_line && !seat.is_between() && !seat.is_done()

@@ -1,4 +1,4 @@
-//! The journal behind the lock.
+//! The journal under the lock.
 ghost use Rattle.std.specs.Prelude.{◌≡◌, ◌<◌, [], IfOk, IfSome, IsNone, IsSome, IsTrue, length, true};
 ghost use Rattle.bq_job.specs.beside.StepBody.{has_body};
 ghost use Rattle.bq_lock.specs.LockedSteps.{with_entry, without_entry};
@@ -28,7 +28,7 @@ impl Model for Journal {
 }
 
 impl Journal {
-    /// An empty journal with room for so many entries, which is asked for here.
+    /// Allocates an empty journal with room for this many entries.
     pub fn new(alloc: Global, capacity: usize) -> Result<Journal, NoMemory>
         ensures { IfOk result
             (λ journal. journal ≡ record { entries = []; capacity = capacity; whole = true }) }
@@ -43,7 +43,8 @@ impl Journal {
         })
     }
 
-    /// The step once more, where there is room for its entry, and where its body is given one more owner.
+    /// Returns a copy of the step, if there is room for its entry and another reference to its body
+    /// can be allocated.
     pub fn copy(&self, what: &Step) -> Option<Step>
         ensures same { IfSome result (λ step. step ≡ what.now) }
         ensures room { IsSome result → length self.now.entries < self.now.capacity }
@@ -56,8 +57,9 @@ impl Journal {
         what.share().ok()
     }
 
-    /// Adds the entry of a step that was taken, of which this is the copy. Without one, or where a share was
-    /// refused in the step, the journal isn't whole any more.
+    /// Adds the entry of a step that was taken, with this copy of the step. The journal is no
+    /// longer complete if there is no copy, or if the allocation of a reference to a body failed in
+    /// the step.
     pub fn note(
         &mut self,
         at: Moment,
@@ -92,7 +94,8 @@ impl Journal {
         self.entries.as_slice()
     }
 
-    /// Whether every step has its entry, and no share was refused in one.
+    /// Returns true if every step has its entry, and no allocation of a reference to a body failed
+    /// in one.
     pub fn whole(&self) -> bool
         ensures { result ≡ self.now.whole }
     {

@@ -10,7 +10,7 @@ use bq_host::{Mail, new_mails};
 use bq_job::{Answer, NoMemory, Seat};
 use std::alloc::Global;
 
-/// An outbox for each seat, and whom the last step answered.
+/// An outbox for each seat, and the seats that received an answer from the last step.
 #[derive(Drop)]
 pub struct Outboxes {
     pub mails: Vec<Mail, Global>,
@@ -18,7 +18,7 @@ pub struct Outboxes {
 }
 
 impl Outboxes {
-    /// Empty outboxes for so many seats. All their memory is asked for here.
+    /// Allocates empty outboxes for this many seats.
     pub fn new(alloc: Global, seats: u16) -> Result<Outboxes, NoMemory>
         ensures mails { IfOk result (λ outboxes. outboxes.mails.items ≡ replicate seats []) }
         ensures answered { IfOk result (λ outboxes. outboxes.answered.items ≡ []) }
@@ -31,8 +31,8 @@ impl Outboxes {
         }
     }
 
-    /// Puts the answers of a step into the outboxes, each into that of its seat. A fifth answer pushes out
-    /// the oldest.
+    /// Puts the answers of a step into the outboxes of their seats. A fifth answer replaces the
+    /// oldest.
     pub fn deliver(&mut self, outs: &mut Outs)
         requires few { AreFew self.old.mails.items }
         requires room { length outs.old.given ≤ vec_capacity self.old.answered }
@@ -61,7 +61,7 @@ impl Outboxes {
     }
 }
 
-// Puts an answer into the outbox of its seat. Without such a seat it is dropped.
+// Puts an answer into the outbox of its seat. If the seat does not exist, the answer is dropped.
 fn post(mails: &mut Vec<Mail, Global>, seat: Seat, answer: Answer)
     requires few { AreFew mails.old.items }
     ensures { AreDelivered ((seat, answer) ∷ []) mails.old.items mails.new.items }

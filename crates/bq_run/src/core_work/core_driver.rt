@@ -1,4 +1,4 @@
-//! The core with all that it needs on a thread of its own.
+//! The core with everything that its thread needs.
 ghost use Rattle.std.specs.Prelude.{◌≡◌, ◌⊎◌, ◌↔◌, ◌<◌, ◌+◌, [], false, not, true, length};
 ghost use Rattle.bq_job.specs.beside.NextDue.{is_before, next_due};
 ghost use Rattle.bq_run.specs.Rests.{longest_rest};
@@ -17,17 +17,17 @@ use std::sync::Wait;
 use std::thread;
 use std::time::Duration;
 
-/// How often it looks for a next step before it sleeps. A client whose answer it sent just now mostly asks again at once,
-/// and to fall asleep and be woken takes longer than a few looks.
+/// How many times it polls for a next step before it sleeps. A client that just received an answer
+/// mostly sends its next command at once, and to sleep and be woken takes longer than a few polls.
 const LOOKS: u32 = 20;
 
-/// How long it sleeps at most, in milliseconds.
+/// The longest sleep, in milliseconds.
 const HOUR: u64 = 3_600_000;
 
-/// How long it sleeps while a ring is full, in milliseconds.
+/// The sleep while a ring is full, in milliseconds.
 const RING_REST: u64 = 1;
 
-/// The core with its clock, its end of the links, and what isn't sent yet.
+/// The core with its clock, its end of the links, and the answers that were not sent yet.
 #[derive(Drop)]
 pub struct CoreDriver<C, K> {
     pub timed: TimedCore<C, K>,
@@ -55,7 +55,7 @@ impl<C: Clock + Drop, K: QueueCore + Drop> CoreDriver<C, K> {
       driver_state,
     };
 
-    /// Nothing was done yet.
+    /// Returns a driver that has done nothing yet.
     pub fn new(
         alloc: Global,
         end: CoreEnd,
@@ -89,7 +89,8 @@ impl<C: Clock + Drop, K: QueueCore + Drop> CoreDriver<C, K> {
         }
     }
 
-    /// One turn: answers are sent, and a step is taken, or the thread waits for one. Whether all is done.
+    /// Makes one turn: sends answers, and takes a step or waits for one. Returns true if everything
+    /// is done.
     pub fn turn<R: Wait>(&mut self, rt: &R, intake: &Intake<NoTicks>) -> bool
         requires intake { self.old.sender.end.intake ≡ intake.now.id }
         requires order { IsInOrder K.machine self.old }
@@ -112,7 +113,8 @@ impl<C: Clock + Drop, K: QueueCore + Drop> CoreDriver<C, K> {
         false
     }
 
-    // Sends what is pending, as far as rings and places reach. Whether the next step's answers have room.
+    // Sends pending answers, as far as the rings and the room to keep answers allow. Returns true
+    // if there is room for the answers of the next step.
     fn send_all(&mut self, intake: &Intake<NoTicks>) -> bool
         requires order { IsInOrder K.machine self.old }
         ensures on { WorksOn C.given K.machine K.comparisons self.old self.new }
@@ -126,7 +128,7 @@ impl<C: Clock + Drop, K: QueueCore + Drop> CoreDriver<C, K> {
         self.sender.send_all(intake, &mut self.timed.outs)
     }
 
-    // Whether every end is gone and has been sent all that it was given.
+    // Returns true if every end has gone and has received all of its answers.
     fn is_over(&self) -> bool
         requires order { IsInOrder K.machine self.now }
         requires none { self.now.timed.outs.given ≡ [] }
@@ -135,10 +137,11 @@ impl<C: Clock + Drop, K: QueueCore + Drop> CoreDriver<C, K> {
         self.gone.all && self.sender.kept.is_empty()
     }
 
-    // Takes the oldest step that waits. Where there is none time passes. Whether there was something to do.
+    // Takes the oldest waiting step. If there is none, it takes a tick if something is due. Returns
+    // true if there was something to do.
     //
-    // Whatever is so of the intake at each moment: where there was nothing, it was so of an empty one, after the last
-    // step that was taken.
+    // The contract holds for any property that the intake has at each moment: if there was nothing
+    // to do, an empty intake had it after the last step that was taken.
     fn go_on<R: Wait, J: Record>(&mut self, rt: &R, intake: &Intake<J>) -> bool
         requires intake { self.old.sender.end.intake ≡ intake.now.id }
         requires may { MayTake J.was }
@@ -160,7 +163,8 @@ impl<C: Clock + Drop, K: QueueCore + Drop> CoreDriver<C, K> {
         }
     }
 
-    // The same, where one was seen to wait. It is out of line, since it makes room for steps, and a call fills that.
+    // The same when a step was seen. It is not inlined because it needs stack space for steps,
+    // which a function initializes when it starts.
     #[inline(never)]
     fn take_one<R: Wait, J: Record>(&mut self, rt: &R, intake: &Intake<J>) -> bool
         requires intake { self.old.sender.end.intake ≡ intake.now.id }
@@ -185,7 +189,7 @@ impl<C: Clock + Drop, K: QueueCore + Drop> CoreDriver<C, K> {
         }
     }
 
-    // The core takes a step of an end. The step stays where it lies.
+    // Takes a step of an end. The step itself is not moved.
     fn take_step(&mut self, seat: Seat, what: &Step)
         requires order { IsInOrder K.machine self.old }
         ensures order { IsInOrder K.machine self.new }
@@ -198,7 +202,7 @@ impl<C: Clock + Drop, K: QueueCore + Drop> CoreDriver<C, K> {
         self.timed.take_step(seat, what);
     }
 
-    // Time passes: the core takes a tick exactly where something is due by now. Whether it did.
+    // Takes a tick exactly if something is due by now, and returns whether it did.
     fn tick_if_due(&mut self) -> bool
         requires order { IsInOrder K.machine self.old }
         requires none { self.old.timed.outs.given ≡ [] }
@@ -214,7 +218,7 @@ impl<C: Clock + Drop, K: QueueCore + Drop> CoreDriver<C, K> {
         self.timed.tick_if_due(0)
     }
 
-    // Notes where a step says that no more come.
+    // Records an end as gone if its step says so.
     fn mark(&mut self, seat: Seat, what: &Step)
         requires order { IsInOrder K.machine self.old }
         ensures order { IsInOrder K.machine self.new }
@@ -227,8 +231,9 @@ impl<C: Clock + Drop, K: QueueCore + Drop> CoreDriver<C, K> {
         }
     }
 
-    // Waits until a step comes or something is due. It lets other threads run once, since the thread of the next step may
-    // share its processor. Then it looks a few times, and sleeps if it found none.
+    // Waits until a step arrives or something is due. It yields to other threads once, since the
+    // thread of the next step may share its processor. Then it polls a few times, and sleeps if it
+    // found none.
     fn await_step<R: Wait>(&mut self, rt: &R, intake: &Intake<NoTicks>)
         requires intake { self.old.sender.end.intake ≡ intake.now.id }
         ensures { self.new ≡ self.old }
@@ -243,7 +248,7 @@ impl<C: Clock + Drop, K: QueueCore + Drop> CoreDriver<C, K> {
         self.rest(rt, intake);
     }
 
-    // Sleeps until a step comes, or it has to look again.
+    // Sleeps until a step arrives or it is time to check again.
     fn rest<R: Wait>(&mut self, rt: &R, intake: &Intake<NoTicks>)
         ensures { self.new ≡ self.old }
     {
@@ -251,8 +256,8 @@ impl<C: Clock + Drop, K: QueueCore + Drop> CoreDriver<C, K> {
         self.sender.end.wait(rt, intake, rest);
     }
 
-    // For how many milliseconds it may sleep: until something is due. While answers wait for full rings it is one, since
-    // an end doesn't tell when it takes an answer.
+    // Returns the longest sleep in milliseconds: until something is due. It is one millisecond
+    // while answers wait for full rings, because an end does not signal that it took an answer.
     fn longest_rest(&self) -> u64
         ensures { result ≡ longest_rest self.now.sender.kept.items self.now.timed.due self.now.timed.time.moment }
     {
@@ -265,7 +270,7 @@ impl<C: Clock + Drop, K: QueueCore + Drop> CoreDriver<C, K> {
         }
     }
 
-    /// The end, the core and the clock.
+    /// Returns the end, the core and the clock.
     pub fn into_parts(self) -> (CoreEnd, K, C)
         ensures { (result.0 ≡ self.sender.end) × (result.1 ≡ self.timed.core) × (result.2 ≡ self.timed.time.clock) }
     {

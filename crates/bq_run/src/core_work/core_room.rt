@@ -1,4 +1,4 @@
-//! What the work of the core needs beside the core and its end of the links.
+//! What the core's thread needs besides the core and its end of the links.
 ghost use Rattle.std.specs.Prelude.{◌+◌, IfOk};
 ghost use Rattle.bq_run.specs.CoreWork.{IsNewRoom};
 
@@ -6,8 +6,8 @@ use bq_job::{Answer, NoMemory, Seat};
 use std::alloc::Global;
 use std::collections::VecDeque;
 
-/// Room that the core's work needs beside the core and its end: for answers whose rings are full, and for which ends
-/// are gone.
+/// Memory for the core's thread, besides the core and its end: for answers whose rings are full,
+/// and for flags of the ends that have gone.
 #[derive(Drop)]
 pub struct CoreRoom {
     pub kept: VecDeque<(Seat, Answer), Global>,
@@ -16,7 +16,7 @@ pub struct CoreRoom {
 }
 
 impl CoreRoom {
-    /// Room for the ends of so many seats and the control line. All memory is asked for here.
+    /// Allocates the memory for this many seats and the control line.
     pub fn new(alloc: Global, seats: u16) -> Result<CoreRoom, NoMemory>
         ensures { IfOk result (λ room. IsNewRoom (seats + 1) room) }
     {

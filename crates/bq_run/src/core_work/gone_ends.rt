@@ -1,11 +1,11 @@
-//! Which ends of the links are gone.
+//! The ends of the links that have gone.
 ghost use Rattle.std.specs.Prelude.{◌≡◌, ◌↔◌, false, true, slice_set};
 ghost use Rattle.bq_run.specs.Flags.{AreAllSet};
 
 use bq_job::Seat;
 use std::alloc::Global;
 
-/// Of each end whether it is gone, and whether all are.
+/// A flag for each end that has gone, and whether all have.
 #[derive(Drop)]
 pub struct GoneEnds {
     pub flags: Vec<bool, Global>,
@@ -13,7 +13,7 @@ pub struct GoneEnds {
 }
 
 impl GoneEnds {
-    /// None is gone.
+    /// Returns a value in which no end has gone.
     pub fn none(flags: Vec<bool, Global>) -> GoneEnds
         ensures flags { result.flags ≡ flags }
         ensures all { result.all ≡ false }
@@ -21,7 +21,7 @@ impl GoneEnds {
         GoneEnds { flags, all: false }
     }
 
-    /// The end is gone.
+    /// Records an end as gone.
     pub fn mark(&mut self, seat: Seat)
         ensures marked { self.new.flags.items ≡ slice_set self.old.flags.items seat true }
         ensures all { self.new.all ≡ true ↔ AreAllSet self.new.flags.items }

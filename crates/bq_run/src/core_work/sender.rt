@@ -1,4 +1,4 @@
-//! The core's end of the links at work, with the answers whose rings were full.
+//! The core's end of the links, with the answers whose rings were full.
 ghost use Rattle.std.specs.Prelude.{◌≡◌, ◌↔◌, ◌<◌, ◌≤◌, ◌+◌, ◌++◌, ◌∷◌, [], length, false, true};
 ghost use Rattle.std.specs.Prelude.{IfNone, IfSome};
 ghost use Rattle.bq_job.specs.promise.Runs.{answers_to};
@@ -13,12 +13,13 @@ use std::collections::VecDeque;
 use std::mem;
 use std::sync::Wait;
 
-/// The core's end of the links, and the answers that it couldn't send since their rings were full.
+/// The core's end of the links, and the answers that could not be sent because their rings were
+/// full.
 #[derive(Drop)]
 pub struct Sender {
     pub end: CoreEnd,
     pub ends: usize,
-    /// The answers that are kept, in their order, and room to put them aside while they are tried again.
+    /// The answers that are kept, in order, and room for them while they are tried again.
     pub kept: VecDeque<(Seat, Answer), Global>,
     pub aside: VecDeque<(Seat, Answer), Global>,
 }
@@ -26,8 +27,9 @@ pub struct Sender {
 impl Sender {
     ghost use Rattle.bq_run.specs.Sending.{AreSent, AreStuck, HasPlaces, IsAtRest};
 
-    /// Sends what was kept, and then what was given, until an answer finds its ring full and no place is left to keep
-    /// it. Returns true if no given answer is left. An answer whose ring is full is kept, and the others go on.
+    /// Sends the answers that were kept, and then the new ones. If the ring of an answer is full,
+    /// the answer is kept and the next one is tried, until there is no room to keep another.
+    /// Returns true if every new answer was sent or kept.
     pub fn send_all(&mut self, intake: &Intake<NoTicks>, outs: &mut Outs) -> bool
         requires rest { IsAtRest self.old }
         ensures rest { IsAtRest self.new }
@@ -74,7 +76,7 @@ impl Sender {
         self.end.is_empty(intake)
     }
 
-    // Tries to send all that was kept. Where nothing is, which is so nearly always, nothing is moved.
+    // Tries to send all kept answers. Nearly always there are none, and then nothing is moved.
     fn try_again(&mut self, intake: &Intake<NoTicks>)
         requires rest { IsAtRest self.old }
         ensures rest { IsAtRest self.new }
@@ -91,8 +93,9 @@ impl Sender {
         }
     }
 
-    // Sends an answer and wakes its end, or keeps it behind the others. To nobody nothing is sent. Whether
-    // it can be sent is asked before it is moved, so that it is moved once.
+    // Sends an answer and wakes its end, or keeps it after the others. An answer for a seat that
+    // does not exist is dropped. The check comes before the move, so that an answer is moved only
+    // once.
     fn send_or_keep(&mut self, intake: &Intake<NoTicks>, seat: Seat, answer: Answer)
         requires places { HasPlaces self.old }
         requires room { length self.old.kept.items < self.old.ends }
@@ -116,7 +119,8 @@ impl Sender {
         }
     }
 
-    // Whether an answer can be sent to this end: none is kept for it, and its ring has room.
+    // Returns true if an answer can be sent to this end: no answer is kept for it, and its ring has
+    // room.
     fn can_send(&mut self, seat: Seat) -> bool
         requires places { HasPlaces self.old }
         requires within { seat < self.old.ends }
@@ -136,7 +140,7 @@ impl Sender {
         self.end.has_room(seat)
     }
 
-    // Whether an answer is kept for this end.
+    // Returns true if an answer is kept for this end.
     fn has_kept(&self, seat: Seat) -> bool
         ensures { result ≡ false ↔ (answers_to seat self.now.kept.items ≡ []) }
     {

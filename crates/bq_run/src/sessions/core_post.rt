@@ -1,4 +1,4 @@
-//! The core with its end of the links and the clock, which a thread of its own serves.
+//! The core with its end of the links and the clock, for a thread of its own.
 ghost use Rattle.std.specs.Prelude.{◌≡◌, ◌<◌, ◌+◌, ◌↔◌, [], IfOk, IfSome, IsErrOf, IsTrue, not};
 ghost use Rattle.bq_job.specs.machine.Machine.{new_machine};
 ghost use Rattle.bq_steps.specs.Limits.{are_in_range};
@@ -14,7 +14,7 @@ use bq_steps::{Config, Outs, QueueCore};
 use std::alloc::Global;
 use std::sync::Wait;
 
-/// A core at which nothing was done, and what its work needs beside it.
+/// A new core, and what its thread needs besides.
 #[derive(Drop)]
 pub struct NewCore<K: QueueCore> {
     pub config: Config,
@@ -30,7 +30,7 @@ pub struct NewCore<K: QueueCore> {
 }
 
 impl<K: QueueCore + Drop> NewCore<K> {
-    /// All memory but that for jobs is asked for here.
+    /// Allocates all memory but that for jobs.
     pub fn new(alloc: Global, config: Config) -> Result<NewCore<K>, RunFault>
         ensures config { IfOk result (λ new. new.config ≡ config) }
         ensures bad_configuration { IsErrOf result RunFault.BadConfiguration ↔ IsTrue
@@ -49,7 +49,7 @@ impl<K: QueueCore + Drop> NewCore<K> {
     }
 }
 
-/// A new core and its end, at which nothing was done either.
+/// A new core and its new end.
 #[derive(Drop)]
 pub struct CorePost<'a, C, K: QueueCore> {
     pub alloc: Global,
@@ -62,8 +62,8 @@ pub struct CorePost<'a, C, K: QueueCore> {
 }
 
 impl<'a, C: Clock + Drop, K: QueueCore + Drop> CorePost<'a, C, K> {
-    /// Serves all ends until no steps come from any, and gives back the end, the core and the clock. Where some
-    /// thread was not started there is nothing.
+    /// Serves all ends until no end submits more steps, and returns the end, the core and the
+    /// clock. Returns `None` if a thread was not started.
     pub fn serve<R: Wait>(self, rt: &R, start: &Start) -> Option<(CoreEnd, K, C)>
         ensures { IfSome result
             (λ r. IsCoreOver C.given self.entry.new_core.config self.entry.end self.entry.clock r.0 (K.machine r.1) (K.comparisons r.1) r.2) }

@@ -17,7 +17,7 @@ use bq_link::{CoreEnd, Intake, NoTicks, SeatEnd};
 use bq_steps::QueueCore;
 use std::alloc::Global;
 
-/// The posts of a run of this core, at these ends of its links.
+/// Returns the posts of a run with this core, at these ends of its links.
 pub fn new_posts<
     'a,
     L: Line + Drop,
@@ -70,7 +70,7 @@ pub fn new_posts<
     })
 }
 
-// A post for each door, the last one first.
+// Returns a post for each door, the last one first.
 fn new_seats<'a, L: Line + Drop, D: Door<Line = L> + Drop>(
     alloc: Global,
     max_job_size: u32,
@@ -103,7 +103,8 @@ fn new_seats<'a, L: Line + Drop, D: Door<Line = L> + Drop>(
     Ok(posts)
 }
 
-// The same into room for them. Whoever calls it gives up what is left, so that it does so in one place.
+// The same, into a vector that has room. The caller drops what is left, so that this happens in one
+// place.
 fn fill_seats<'a, L: Line + Drop, D: Door<Line = L> + Drop>(
     alloc: Global,
     max_job_size: u32,

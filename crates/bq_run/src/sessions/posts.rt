@@ -1,4 +1,4 @@
-//! What the threads of a run begin with, and what they give back.
+//! What the threads of a run begin with, and what they return.
 ghost use Rattle.std.specs.Prelude.{◌≡◌, ◌<◌, vec_capacity, vec_len};
 ghost use Rattle.std.specs.List.{All};
 ghost use Rattle.bq_run.specs.Ends.{IsNewEnd};
@@ -11,7 +11,7 @@ use bq_link::{CoreEnd, Intake, NoTicks, SeatEnd};
 use bq_steps::QueueCore;
 use std::alloc::Global;
 
-/// The control line's end of the links, at which nothing was done.
+/// The control line's new end of the links.
 #[derive(Drop)]
 pub struct ControlPost<'a> {
     pub intake: &'a Intake<NoTicks>,
@@ -27,7 +27,8 @@ pub struct Posts<'a, D: Door, C, K: QueueCore> {
     pub core: CorePost<'a, C, K>,
 }
 
-/// The posts of its ends. Those of the seats stand from the last one on, and have one limit of bodies.
+/// The posts of the ends. Those of the seats start from the last seat and share one limit of body
+/// sizes.
 #[derive(Drop)]
 pub struct EndPosts<'a, D: Door> {
     pub seats: Vec<SeatPost<'a, D>, Global>,
@@ -36,8 +37,8 @@ pub struct EndPosts<'a, D: Door> {
     ghost limits: { All (λ post. post.max_job_size ≡ max_job_size) seats.items },
 }
 
-/// What the threads of the ends gave back. The ends and the doors stand in the order of their seats, and there is room
-/// for one more end.
+/// What the threads of the ends returned. The ends and the doors are in the order of their seats,
+/// and there is room for one more end.
 #[derive(Drop)]
 pub struct EndedEnds<D, I> {
     pub ends: Vec<SeatEnd, Global>,
@@ -47,7 +48,7 @@ pub struct EndedEnds<D, I> {
     ghost room: { vec_len ends < vec_capacity ends },
 }
 
-/// What the threads of a run gave back.
+/// What the threads of a run returned.
 #[derive(Drop)]
 pub struct Ended<D, C, I, K> {
     pub ends: EndedEnds<D, I>,

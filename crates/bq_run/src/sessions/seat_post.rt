@@ -1,4 +1,4 @@
-//! A seat with its door and its end of the links, which a thread of its own serves.
+//! A seat with its door and its end of the links, for a thread of its own.
 ghost use Rattle.std.specs.Prelude.{◌≡◌, IfOk, IfSome, IsTrue};
 ghost use Rattle.bq_steps.specs.Limits.{is_body_size};
 ghost use Rattle.bq_seat.specs.Past.{Awaited};
@@ -17,7 +17,7 @@ use bq_seat::SeatMachine;
 use std::alloc::Global;
 use std::sync::Wait;
 
-/// A seat, its door and its end, at none of which anything was done.
+/// A new seat, its door and its new end.
 #[derive(Drop)]
 pub struct SeatPost<'a, D: Door> {
     alloc: Global,
@@ -34,7 +34,7 @@ pub struct SeatPost<'a, D: Door> {
 }
 
 impl<'a, L: Line + Drop, D: Door<Line = L> + Drop> SeatPost<'a, D> {
-    /// A post at this end. All memory but that for bodies is asked for here.
+    /// Returns a post at this end. All memory but that for bodies is allocated here.
     pub fn new(
         alloc: Global,
         max_job_size: u32,
@@ -61,8 +61,8 @@ impl<'a, L: Line + Drop, D: Door<Line = L> + Drop> SeatPost<'a, D> {
         })
     }
 
-    /// Serves the door to its end, and gives it back with the end. Where some thread was not started there is
-    /// nothing: the door was not opened.
+    /// Serves the door to its end, and returns it with the end of the links. Returns `None` if a
+    /// thread was not started; then the door was not opened.
     pub fn serve<R: Wait>(self, rt: &R, start: &Start) -> Option<(SeatEnd, D)>
         ensures served { let at = door_seen D.is_out D.is_at_end D.lines_over in
             IfSome result (λ r. IsSameSeat self.entry.end r.0 × IsDoorServed self.entry.max_job_size (at r.1) r.0.submitted r.0.taken) }

@@ -1,12 +1,13 @@
-//! The ends of a run, once all its threads are over: each is compared with the core's.
+//! The ends of a run after all its threads have ended: each is compared with the core's.
 ghost use Rattle.std.specs.Prelude.{◌≡◌};
 ghost use Rattle.bq_link.specs.EndStates.{IsPair};
 ghost use Rattle.bq_run.specs.Linked.{ArePaired, AreSettled, AreStill, IsCoreStill, IsEndStill, IsSettled};
 
 use bq_link::{CoreEnd, Intake, NoTicks, SeatEnd};
 
-/// Compares each end with the core's. What an end submitted is what the core took and what waits, and what was
-/// sent to it is what it took and what waits for it.
+/// Compares each end with the core's. The steps that an end submitted are those that the core took
+/// and those that still wait. The answers that were sent to an end are those that it took and those
+/// that wait for it.
 pub fn settle(intake: &Intake<NoTicks>, core: &mut CoreEnd, ends: &mut [SeatEnd])
     requires of_intake { core.old.intake ≡ intake.now.id }
     requires pairs { ArePaired core.old ends.old }

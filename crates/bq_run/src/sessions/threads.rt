@@ -1,4 +1,4 @@
-//! The threads of a run: they start together or not at all, and give back what they served.
+//! The threads of a run. They start together or not at all, and return what they served.
 ghost use Rattle.std.specs.Prelude.{◌≡◌, ◌<◌, ◌≤◌, [], IfOk, IfSome, IsErrOf, IsTrue, map, reverse, vec_capacity, vec_len};
 ghost use Rattle.std.specs.List.{All};
 ghost use Rattle.bq_driver.specs.Tending.{AreSame, IsDoorServed, door_seen};
@@ -23,7 +23,8 @@ use std::sync::Wait;
 use std::thread;
 use std::thread::{Promise, PromisedHandle, Scope, Threads};
 
-// That a door was served to its end by an end of the links, and comes back, where its thread began.
+// The promise of a seat's thread: if it began, it served a door to its end by an end of the links,
+// and returns both.
 #[derive(Drop)]
 struct SeatPromise<D> {
     end: Snapshot<SeatEnd>,
@@ -37,7 +38,7 @@ impl<D: Door> Promise<Option<(SeatEnd, D)>> for SeatPromise<D> {
         × IfSome result (λ r. D.same p.door.value r.1) };
 }
 
-// What the core did, where its thread began.
+// The promise of the core's thread: what the core did, if the thread began.
 #[derive(Drop)]
 struct CorePromise<C> {
     end: Snapshot<CoreEnd>,
@@ -50,16 +51,16 @@ impl<C: Clock, K: QueueCore> Promise<Option<(CoreEnd, K, C)>> for CorePromise<C>
         (λ r. IsCoreOver C.given p.settings p.end.value p.clock.value r.0 (K.machine r.1) (K.comparisons r.1) r.2) };
 }
 
-// The threads of the seats, with what each will give back.
+// The threads of the seats, with the promises about their results.
 type SeatThreads<D> = Vec<PromisedHandle<Option<(SeatEnd, D)>, SeatPromise<D>>, Global>;
 
-// The core's, with what it will give back.
+// The core's thread, with the promise about its result.
 type CoreThread<C, K> = PromisedHandle<Option<(CoreEnd, K, C)>, CorePromise<C>>;
 
 type Rooms<D> = (SeatThreads<D>, Vec<SeatEnd, Global>, Vec<D, Global>);
 
-/// Serves all posts, those of the seats and the core each in a thread of its own, and the control line in this one. The
-/// threads begin once all of them were started.
+/// Serves all posts: those of the seats and of the core each in a thread of its own, and the
+/// control line in this thread. The threads begin after all of them were started.
 pub fn serve_in_scope<
     R: Threads + Wait + Sync,
     L: Line + Drop + Send,
@@ -151,7 +152,7 @@ fn serve_all<
     })
 }
 
-// A thread for the core, if it could be started.
+// Starts a thread for the core, if possible.
 fn start_core<
     's,
     E,
@@ -212,7 +213,7 @@ fn serve_ends<
     let all_started = start_seats(scope, rt, seats, start, max_job_size, &mut threads);
     start.tell(rt, all_started);
     if !all_started {
-        // The scope waits for those that were.
+        // The scope waits for the threads that were started.
         return Err(RunFault::ThreadRefused);
     }
     let (control_end, control) = serve_control(rt, control_post, control);
@@ -225,7 +226,8 @@ fn serve_ends<
     })
 }
 
-// Room for the threads of so many seats, and for what they give back, with the control line's end.
+// Allocates room for the threads of this many seats, and for what they return, with the control
+// line's end.
 fn new_rooms<D: Door + Drop>(alloc: Global, seats: usize) -> Result<Rooms<D>, AllocError>
     ensures threads { IfOk result (λ r. vec_len r.0 ≡ 0) }
     ensures ends { IfOk result (λ r. (r.1.items ≡ []) × (seats < vec_capacity r.1)) }
@@ -251,7 +253,7 @@ fn serve_control<R: Wait, I: ControlReader + Drop>(
     control_work(rt, intake, end, control)
 }
 
-// Whether a thread was started for each seat.
+// Starts a thread for each seat. Returns true if all were started.
 fn start_seats<
     's,
     E,
@@ -287,7 +289,7 @@ fn start_seats<
     true
 }
 
-// A thread for this seat, if it could be started.
+// Starts a thread for this seat, if possible.
 fn start_seat<
     's,
     E,
@@ -314,7 +316,7 @@ fn start_seat<
         .ok()
 }
 
-// Waits for the threads of all seats. Their ends and doors come one after another, for which there is room.
+// Waits for the threads of all seats, and appends their ends and doors, for which there is room.
 fn join_seats<R: Threads, D: Door + Drop + Send>(
     rt: &R,
     threads: SeatThreads<D>,

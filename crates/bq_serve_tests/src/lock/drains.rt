@@ -1,4 +1,4 @@
-//! A control line that drains: what a run around a lock leaves accepts no put.
+//! A control line that drains: after a run around a lock, the core accepts no put.
 
 use crate::control::Gives;
 use crate::drains::{EXAMPLES, put};
@@ -21,7 +21,7 @@ fn lock_drains(alloc: Global, locked: &mut Locked) -> Option<bool> {
     Some(matches!(locked.fetch(0), Some(Answer::Draining)))
 }
 
-// Whether what a run leaves refuses puts.
+// Returns true if the core rejects puts after a run.
 fn drains_around_a_lock<R: Threads + Wait + Sync>(
     rt: &R,
     alloc: Global,

@@ -1,4 +1,4 @@
-//! Lines that fail beside others, in a run around a lock.
+//! Lines that fail while others are served, in a run around a lock.
 
 use crate::broken::BROKEN;
 use crate::clients::{PUTS, ROOM, WAITS};

@@ -1,5 +1,5 @@
-//! The journal of a run around a lock: a core by itself is given it entry by entry, and what each line was
-//! written is what that core answers.
+//! The journal of a run around a lock. A separate core takes its entries one by one, and each line
+//! has to have received what that core answers.
 ghost use Rattle.std.specs.Prelude.{◌≡◌, ◌<◌};
 
 use crate::doors::CountedDoor;
@@ -10,10 +10,10 @@ use bq_wire::{HeadBuf, answer_body, answer_head, answer_tail};
 use std::alloc::Global;
 use std::test::Fail;
 
-/// What stands behind each line in the joined text of a seat. No answer has it.
+/// The byte that follows each line in the joined text of a seat. No answer contains it.
 const LINE_OVER: u8 = 0;
 
-// A core by itself.
+// A separate core.
 #[derive(Drop)]
 struct Alone {
     alloc: Global,
@@ -29,13 +29,13 @@ impl Alone {
         Ok(Alone { alloc, core, outs })
     }
 
-    // Takes a step, and says whether its command was left out for want of memory.
+    // Takes a step, and returns whether its command was left out for lack of memory.
     fn step(&mut self, at: Moment, seat: Seat, what: Step) -> bool {
         self.core.step(self.alloc, at, seat, what, &mut self.outs);
         self.outs.left_out()
     }
 
-    // Adds the answers of the last step to one seat.
+    // Appends the answers of the last step to one seat.
     fn add_answers(&mut self, text: &mut Vec<u8, Global>, seat: Seat) -> Result<(), Fail> {
         while let Some((to, answer)) = self.outs.take_first() {
             if to == seat {
@@ -46,7 +46,7 @@ impl Alone {
     }
 }
 
-// Adds the text of an answer. A line that is closed has its mark.
+// Appends the text of an answer. A line that is closed is followed by its mark.
 fn add_answer(text: &mut Vec<u8, Global>, answer: &Answer) -> Result<(), Fail> {
     if let Answer::Closed = answer {
         text.push(LINE_OVER)?;
@@ -60,7 +60,8 @@ fn add_answer(text: &mut Vec<u8, Global>, answer: &Answer) -> Result<(), Fail> {
     Ok(())
 }
 
-// Adds what it answers a seat, where it is given these entries. Whether it left out which they tell.
+// Takes these entries and appends the answers to a seat. Returns true if the core left out the same
+// commands as the entries say.
 fn replay(
     alone: &mut Alone,
     text: &mut Vec<u8, Global>,
@@ -77,7 +78,7 @@ fn replay(
     Ok(true)
 }
 
-// The same of a new core.
+// The same with a new core.
 fn replay_anew(
     alloc: Global,
     config: Config,
@@ -89,7 +90,7 @@ fn replay_anew(
     replay(&mut alone, text, entries, seat)
 }
 
-// What was written at a door, each line with the mark of its end.
+// Returns what the lines of a door received, each followed by the mark of its end.
 fn written(alloc: Global, door: &CountedDoor) -> Result<Vec<u8, Global>, Fail> {
     let mut text: Vec<u8> = Vec::new(alloc);
     for over in door.door.over() {
@@ -99,7 +100,7 @@ fn written(alloc: Global, door: &CountedDoor) -> Result<Vec<u8, Global>, Fail> {
     Ok(text)
 }
 
-// Whether a line of the door had no room for all of its answers.
+// Returns true if a line of the door had no room for all of its answers.
 fn is_cut_off(door: &CountedDoor) -> bool {
     for over in door.door.over() {
         if over.1 == LineEnd::WriteFault {
@@ -109,7 +110,7 @@ fn is_cut_off(door: &CountedDoor) -> bool {
     false
 }
 
-// Whether a line of the door failed while it was read.
+// Returns true if a read of one of the door's lines failed.
 fn has_failed(door: &CountedDoor) -> bool {
     for over in door.door.over() {
         if over.1 == LineEnd::ReadFault {
@@ -119,7 +120,8 @@ fn has_failed(door: &CountedDoor) -> bool {
     false
 }
 
-// Whether the text is the wanted one but for a job that was handed out last. The mark of the line's end stands behind.
+// Returns true if the text lacks only the answer with the last reserved job. The mark of the line's
+// end follows.
 fn lacks_last_job(text: &[u8], wanted: &[u8]) -> bool {
     let Some((_, before)) = text.split_last() else {
         return false;
@@ -130,13 +132,14 @@ fn lacks_last_job(text: &[u8], wanted: &[u8]) -> bool {
     missing.starts_with(b"RESERVED ")
 }
 
-// Whether the text is what a door was to be written. A line that fails while its client waits for a job may have its
-// job's answer or not: it is either seen before the fault or behind it.
+// Returns true if the text is what the door should have received. If a line fails while its client
+// waits for a job, it may have the answer with the job or not: the fault may be noticed before or
+// after the answer.
 fn is_due(door: &CountedDoor, text: &[u8], wanted: &[u8]) -> bool {
     text == wanted || is_cut_off(door) || (has_failed(door) && lacks_last_job(text, wanted))
 }
 
-// How often a seat went, by these entries.
+// Returns how often a seat disconnected, according to these entries.
 fn times_gone(entries: &[Entry], seat: Seat) -> u64 {
     let mut times: u64 = 0;
     for entry in entries {
@@ -147,7 +150,7 @@ fn times_gone(entries: &[Entry], seat: Seat) -> u64 {
     times
 }
 
-// Whether a door was written what a core by itself answers its seat.
+// Returns true if a door received what a separate core answers its seat.
 fn is_replayed(
     alloc: Global,
     config: Config,
@@ -161,8 +164,8 @@ fn is_replayed(
     Ok(is_same && is_due(door, text.as_slice(), wanted.as_slice()))
 }
 
-/// Whether the journal is whole, each seat and the control line went once, and at each door that was written which
-/// a core by itself answers, where there was room for it.
+/// Returns true if the journal is complete, each seat and the control line disconnected once, and
+/// each door received what a separate core answers, as far as there was room.
 pub fn is_whole(
     alloc: Global,
     config: Config,

@@ -1,11 +1,11 @@
-//! Worked runs, each around a lock, many times.
+//! Runs around a lock with known results, many times each.
 
 use crate::lock::runs::comes_out;
 use crate::wanted::Wanted;
 use crate::worked::EXAMPLES;
 use std::test::Fail;
 
-/// How often each run is made.
+/// How often each run is repeated.
 const TIMES: usize = 10;
 
 #[test]

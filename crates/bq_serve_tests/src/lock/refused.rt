@@ -1,4 +1,4 @@
-//! Runs around a lock that are refused: they open no door.
+//! Runs around a lock that are rejected: they open no door.
 
 use crate::lock::runs::{SILENT, around_a_lock};
 use crate::refused::{ONE, REFUSED, opens_of};
@@ -9,10 +9,11 @@ use std::sync::Wait;
 use std::sync::atomic::{AtomicU64, Ordering};
 use std::thread::Threads;
 
-/// One seat, and bodies of this many bytes at most.
+/// One seat, and bodies of at most this many bytes.
 const SEATS_AND_SIZE: (u16, u32) = (1, 1);
 
-// Whether a run with such seats, bodies and room for its journal is refused with this fault, or not.
+// Returns true if a run with these seats, this limit of bodies and this room for the journal has
+// the given error, or none.
 fn is_refused<R: Threads + Wait + Sync>(
     rt: &R,
     alloc: Global,
@@ -30,7 +31,7 @@ fn refused_runs(rt: HostRuntime) {
     for (seats, size, fault) in REFUSED {
         assert!(rt; is_refused(&rt, rt.alloc(), (*seats, *size), 0, *fault));
     }
-    // Only the journal asks for the room.
+    // Only the journal needs this much memory.
     let fault = Some(RunFault::NoMemory);
     assert!(rt; is_refused(&rt, rt.alloc(), SEATS_AND_SIZE, usize::MAX, fault));
 }

@@ -1,4 +1,4 @@
-//! Runs around a lock, by a clock that stands still.
+//! Runs around a lock with a clock that always reads the same.
 
 use crate::clients::{Client, STILL, clock};
 use crate::control::{Gives, control};
@@ -18,13 +18,13 @@ use std::sync::atomic::{AtomicU64, Ordering};
 use std::test::Fail;
 use std::thread::Threads;
 
-/// Room in a journal for all steps of a run, the ticks among them too.
+/// Room in a journal for all steps of a run, including ticks.
 const JOURNAL_ROOM: usize = 2000;
 
-/// A control line that has nothing to say.
+/// A control line without text.
 pub const SILENT: &[Gives] = &[];
 
-/// The run of doors at which these clients come. All tests go by this one call.
+/// Runs the doors where these clients connect. All tests use this one call.
 pub fn around_a_lock<'c, R: Threads + Wait + Sync>(
     rt: &R,
     alloc: Global,
@@ -43,7 +43,8 @@ pub fn around_a_lock<'c, R: Threads + Wait + Sync>(
     run_locked(rt, alloc, config, doors.all, clock, control, room)
 }
 
-// Whether it left what is wanted, and its journal is whole and gives what was written.
+// Returns true if the run left the wanted result, and its journal is complete and gives the
+// received bytes.
 fn is_right(
     alloc: Global,
     config: Config,
@@ -57,7 +58,7 @@ fn is_right(
     Ok(is_whole && wanted::is_right(wanted, clients, doors, opened))
 }
 
-/// Whether the run of doors at which these clients come leaves what is wanted.
+/// Returns true if the run of the doors where these clients connect leaves the wanted result.
 pub fn comes_out<R: Threads + Wait + Sync>(
     rt: &R,
     alloc: Global,

@@ -1,4 +1,4 @@
-//! The core at work for ends that a test holds.
+//! The core at work for ends that the test controls.
 ghost use Rattle.std.specs.Prelude.{◌≡◌, ◌+◌, ◌<◌, [], All, IfOk, false, length};
 ghost use Rattle.bq_run.specs.CoreWork.{IsNewRoom};
 ghost use Rattle.bq_job.specs.promise.History.{is_tick};
@@ -17,7 +17,8 @@ use std::test::Fail;
 use std::thread;
 use std::thread::Threads;
 
-/// An intake for three seats, the core's end, those of two seats, and those of the third and the control line.
+/// An intake for three seats, the core's end, the ends of two seats, and those of the third seat
+/// and the control line.
 type Four = (
     Intake<NoTicks>,
     CoreEnd,
@@ -50,7 +51,7 @@ fn four_ends(alloc: Global) -> Result<Four, NoMemory>
     Ok((intake, core, (first, second), (third, control)))
 }
 
-// Whether the intake had room for a step.
+// Submits a step, and returns true if the intake had room.
 fn submits<R: Wait>(rt: &R, intake: &Intake<NoTicks>, end: &mut SeatEnd, step: Step) -> bool
     requires intake { end.old.intake ≡ intake.now.id }
     requires no_tick { is_tick step ≡ false }
@@ -68,7 +69,7 @@ struct CoreSide<'a> {
     ghost new_end: { IsNewCore 4 end },
 }
 
-// What a core for three seats works with beside its end.
+// Returns what a core for three seats needs besides its end.
 fn beside(alloc: Global) -> Result<(Outs, CoreRoom, ScriptClock), NoMemory>
     ensures outs { IfOk result (λ b. (b.0.given ≡ []) × (3 < b.0.most)) }
     ensures room { IfOk result (λ b. IsNewRoom 4 b.1) }
@@ -79,7 +80,7 @@ fn beside(alloc: Global) -> Result<(Outs, CoreRoom, ScriptClock), NoMemory>
 }
 
 impl<'a> CoreSide<'a> {
-    // Works until all ends are gone.
+    // Works until all ends have gone.
     fn work<R: Wait>(self, rt: &R, alloc: Global) -> Result<(), NoMemory> {
         let (outs, room, clock) = beside(alloc)?;
         let CoreSide { intake, end } = self;
@@ -105,7 +106,7 @@ struct Ends<'a> {
     ghost control_is: { control.intake ≡ intake.now.id },
 }
 
-// The oldest answer to an end, once there is one: whether no job was found.
+// Waits for the oldest answer to an end, and returns true if it says that no job was found.
 fn is_not_found<R: Wait>(rt: &R, end: &mut SeatEnd) -> bool
     ensures { end.new.intake ≡ end.old.intake }
 {
@@ -118,7 +119,8 @@ fn is_not_found<R: Wait>(rt: &R, end: &mut SeatEnd) -> bool
     unreachable!()
 }
 
-// The first seat asks for one answer more than its ring takes, and then the second one for its own.
+// The first seat submits one request more than its ring has room for answers, and then the second
+// seat submits one.
 fn ask<R: Wait>(rt: &R, intake: &Intake<NoTicks>, first: &mut SeatEnd, second: &mut SeatEnd) -> bool
     requires first { first.old.intake ≡ intake.now.id }
     requires second { second.old.intake ≡ intake.now.id }
@@ -135,7 +137,8 @@ fn ask<R: Wait>(rt: &R, intake: &Intake<NoTicks>, first: &mut SeatEnd, second: &
         && submits(rt, intake, second, Step::Ask(Request::PeekReady))
 }
 
-// Whether the second seat has its answer while the ring of the first is full, which takes its five answers after that.
+// Returns true if the second seat receives its answer while the ring of the first is full, and the
+// first then receives its five answers.
 fn take_late<R: Wait>(rt: &R, first: &mut SeatEnd, second: &mut SeatEnd) -> bool
     ensures first { first.new.intake ≡ first.old.intake }
     ensures second { second.new.intake ≡ second.old.intake }
@@ -149,7 +152,8 @@ fn take_late<R: Wait>(rt: &R, first: &mut SeatEnd, second: &mut SeatEnd) -> bool
 }
 
 impl<'a> Ends<'a> {
-    // Whether all comes as it has to. The core ends once all ends are gone.
+    // Returns true if everything arrives as it should. The core's work ends after all ends have
+    // gone.
     fn work<R: Wait>(self, rt: &R) -> bool {
         let Ends {
             intake,
@@ -168,7 +172,7 @@ impl<'a> Ends<'a> {
     }
 }
 
-// The core works here, and the answers are taken there.
+// Runs the core in this thread, and takes the answers in another.
 fn work_beside<R: Threads + Wait + Sync>(
     rt: &R,
     alloc: Global,

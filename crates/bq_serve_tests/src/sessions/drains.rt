@@ -1,4 +1,4 @@
-//! A control line that drains: what a run by threads leaves accepts no put.
+//! A control line that drains: after a run by threads, the core accepts no put.
 ghost use Rattle.std.specs.Prelude.{◌≡◌, ◌<◌};
 
 use crate::control::Gives;
@@ -12,7 +12,7 @@ use std::sync::Wait;
 use std::sync::atomic::AtomicU64;
 use std::thread::Threads;
 
-// Whether a core refuses its first client's put, where it is silent before.
+// Returns true if a core rejects the put of its first client, or `None` if it answers the connect.
 fn refuses(alloc: Global, core: &mut Core, outs: &mut Outs, put: Step) -> Option<bool>
     requires { core.old.machine.settings.seats < outs.old.most }
 {
@@ -24,7 +24,7 @@ fn refuses(alloc: Global, core: &mut Core, outs: &mut Outs, put: Step) -> Option
     Some(matches!(outs.take_first(), Some((0, Answer::Draining))))
 }
 
-// The same of a core for one client.
+// The same for a core with one client.
 fn core_drains(alloc: Global, core: &mut Core) -> Option<bool>
     requires { core.old.machine.settings.seats ≡ 1 }
 {
@@ -33,7 +33,7 @@ fn core_drains(alloc: Global, core: &mut Core) -> Option<bool>
     refuses(alloc, core, &mut outs, put)
 }
 
-// Whether what a run by threads leaves refuses puts.
+// Returns true if the core rejects puts after a run by threads.
 fn drains_by_threads<R: Threads + Wait + Sync>(
     rt: &R,
     alloc: Global,

@@ -1,10 +1,10 @@
-//! Worked runs, each by threads over links, many times.
+//! Runs by threads over links with known results, many times each.
 
 use crate::sessions::runs::comes_out;
 use crate::wanted::Wanted;
 use crate::worked::EXAMPLES;
 
-/// How often each run is made.
+/// How often each run is repeated.
 const TIMES: usize = 10;
 
 #[test]

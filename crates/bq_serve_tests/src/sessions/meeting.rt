@@ -1,6 +1,6 @@
-//! Clients that really wait for one another, and a control line that waits for all of them. A run that serves two
-//! doors by one thread, that has the core's work done by a door's thread, or that reads the control line to its end
-//! before it serves, lets one of them wait for good.
+//! Clients that wait for one another, and a control line that waits for all of them. A run would
+//! never end if it served two doors with one thread, ran the core in a door's thread, or read the
+//! control line to its end before it serves.
 ghost use Rattle.std.specs.Prelude.{◌≡◌, IfOk};
 ghost use Rattle.std.specs.List.{All};
 ghost use Rattle.bq_driver.specs.Tending.{IsNewDoor, door_seen};
@@ -26,10 +26,10 @@ use std::io::BufReader;
 use std::sync::Wait;
 use std::thread::Threads;
 
-/// How often each run is made.
+/// How often each run is repeated.
 const TIMES: usize = 5;
 
-/// What the client is written whose job is the last one.
+/// What the client whose job is the last one receives.
 const LAST: &[u8] = b"INSERTED 4\r\n";
 
 // How many others have their answers before a client begins.
@@ -60,7 +60,7 @@ fn doors<'m>(
     Ok(doors)
 }
 
-// A run in which one client is chosen, which waits until the others have their answers.
+// Makes a run in which the chosen client waits until the others have their answers.
 fn met<'m, R: Threads + Wait + Sync>(
     rt: &R,
     alloc: Global,
@@ -76,7 +76,8 @@ fn met<'m, R: Threads + Wait + Sync>(
     ran(rt, alloc, config(GUESTS, USUAL_BODY), doors, control)
 }
 
-// Whether the door's client has an answer, the last one or another, and its line has ended.
+// Returns true if the door's client has received an answer, the last one or another, and its line
+// has ended.
 fn is_served(door: GuestDoor<'_>, is_last: bool) -> bool {
     match door.into_guest() {
         Some((guest, LineEnd::EndOfInput)) => {
@@ -96,7 +97,7 @@ fn are_served(doors: Vec<GuestDoor<'_>, Global>, chosen: u16) -> bool {
     right
 }
 
-// Whether the clients of one run met, and each was served.
+// Returns true if the clients of one run met, and each was served.
 fn do_all_meet<R: Threads + Wait + Sync>(rt: &R, alloc: Global, chosen: u16) -> bool {
     let meeting = Meeting::new();
     match met(rt, alloc, &meeting, chosen) {

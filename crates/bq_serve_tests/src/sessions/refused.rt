@@ -1,4 +1,4 @@
-//! Runs by threads that are refused: they open no door.
+//! Runs by threads that are rejected: they open no door.
 
 use crate::refused::{ONE, REFUSED, Refused, opens_of};
 use crate::sessions::runs::{SILENT, by_threads};

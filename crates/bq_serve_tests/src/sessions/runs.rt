@@ -1,4 +1,4 @@
-//! Runs by threads over links, by a clock that stands still.
+//! Runs by threads over links, with a clock that always reads the same.
 ghost use Rattle.std.specs.Prelude.{◌≡◌, IfOk};
 ghost use Rattle.std.specs.List.{All};
 ghost use Rattle.bq_driver.specs.Tending.{IsNewDoor, door_seen};
@@ -21,10 +21,10 @@ use std::sync::Wait;
 use std::sync::atomic::{AtomicU64, Ordering};
 use std::thread::Threads;
 
-/// A control line that has nothing to say.
+/// A control line without text.
 pub const SILENT: &[Gives] = &[];
 
-/// The run of these doors. All tests go by this one call.
+/// Runs these doors. All tests use this one call.
 pub fn ran<
     R: Threads + Wait + Sync,
     L: Line + Drop + Send,
@@ -47,7 +47,7 @@ pub fn ran<
     run_sessions(rt, alloc, config, doors, clock, control)
 }
 
-/// The run of doors at which these clients come.
+/// Runs the doors where these clients connect.
 pub fn by_threads<'c, R: Threads + Wait + Sync>(
     rt: &R,
     alloc: Global,
@@ -67,7 +67,7 @@ pub fn by_threads<'c, R: Threads + Wait + Sync>(
     ran(rt, alloc, config, doors.all, control)
 }
 
-/// Whether the run of doors at which these clients come leaves what is wanted.
+/// Returns true if the run of the doors where these clients connect leaves the wanted result.
 pub fn comes_out<R: Threads + Wait + Sync>(
     rt: &R,
     alloc: Global,

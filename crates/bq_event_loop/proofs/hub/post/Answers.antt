@@ -5,7 +5,7 @@ use Rattle.bq_job.specs.promise.Runs.{answers_to}
 use Rattle.bq_event_loop.proofs.MailLemmas.{posted_at, still_at}
 use Rattle.bq_event_loop.proofs.hub.post.Goals as goal
 
--- by what became of the answer
+-- by whether the mail had room for the answer
 by_result : (items : List (List Answer)) (i seat : ℕ) (old new : List Answer) (answer : Answer) (result : Result (Unit {0}) Answer) → i ≡ seat → i < length items → old ≡ slice_index_or items i old
     → MatchResult result (λ done. new ≡ old ++ answer ∷ []) (λ back. (back ≡ answer) × (new ≡ old))
     → MatchResult result (λ done. (other : ℕ) → other < length items → slice_index_or (slice_set items i new) other [] ≡ slice_index_or items other [] ++ answers_to other ((seat, answer) ∷ [])) (λ back. (back ≡ answer) × (slice_set items i new ≡ items))

@@ -3,10 +3,10 @@
 use std::sync::atomic::{AtomicBool, AtomicU64, Ordering};
 use std::thread;
 
-/// How often a wait looks at most.
+/// How many times a wait polls at most.
 const LOOKS: u64 = 10_000_000;
 
-/// What clients tell one another.
+/// What clients report to one another.
 #[derive(Drop)]
 pub struct Meeting {
     begun: AtomicU64,
@@ -15,7 +15,7 @@ pub struct Meeting {
 }
 
 impl Meeting {
-    /// No client was begun to be read, and none has its answer.
+    /// Returns a meeting in which no client was read and none has its answer.
     pub fn new() -> Meeting {
         Meeting {
             begun: AtomicU64::new(0),
@@ -24,17 +24,17 @@ impl Meeting {
         }
     }
 
-    /// One client more is begun to be read.
+    /// Records that the read of another client has begun.
     pub fn begin(&self) {
         self.begun.fetch_add(1, Ordering::SeqCst);
     }
 
-    /// One client more has its answer.
+    /// Records that another client has its answer.
     pub fn answer(&self) {
         self.answered.fetch_add(1, Ordering::SeqCst);
     }
 
-    /// Not all clients have their answers, for which the control line waits.
+    /// Records that the control line did not see the answers of all clients.
     pub fn fail(&self) {
         self.has_failed.store(true, Ordering::SeqCst);
     }
@@ -43,18 +43,18 @@ impl Meeting {
         self.has_failed.load(Ordering::SeqCst)
     }
 
-    /// Waits until so many clients are begun to be read. Whether it came about.
+    /// Waits until the reads of this many clients have begun. Returns true if they have.
     pub fn await_begun(&self, count: u64) -> bool {
         is_reached(&self.begun, count)
     }
 
-    /// Waits until so many clients have their answers. Whether it came about.
+    /// Waits until this many clients have their answers. Returns true if they have.
     pub fn await_answered(&self, count: u64) -> bool {
         is_reached(&self.answered, count)
     }
 }
 
-// Whether a count is reached within so many looks.
+// Returns true if a count reaches a number within a limited number of polls.
 fn is_reached(count: &AtomicU64, wanted: u64) -> bool {
     for _ in 0..LOOKS {
         if count.load(Ordering::SeqCst) >= wanted {

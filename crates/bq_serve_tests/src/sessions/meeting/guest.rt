@@ -6,11 +6,11 @@ use std::alloc::Global;
 use std::io;
 use std::io::ErrorKind;
 
-/// How many clients there are.
+/// The number of clients.
 pub const GUESTS: u16 = 4;
 
-/// A client that puts a job. Its first read waits until those of all clients have begun, and until so many others
-/// have their answers; where that doesn't come about, the read fails.
+/// A client that puts a job. Its first read waits until those of all clients have begun, and until
+/// a given number of others have their answers. If that does not happen, the read fails.
 #[derive(Drop)]
 pub struct Guest<'m> {
     meeting: &'m Meeting,
@@ -31,12 +31,12 @@ impl<'m> Guest<'m> {
         }
     }
 
-    /// What was written to it.
+    /// Returns what the client received.
     pub fn written(&self) -> &[u8] {
         self.written.as_slice()
     }
 
-    // Whether all that it waits for came about.
+    // Returns true if everything that it waits for happened.
     fn begins(&mut self) -> bool {
         if self.has_begun {
             return true;

@@ -5,7 +5,8 @@ use super::guest::GUESTS;
 use std::io;
 use std::io::{ErrorKind, Read};
 
-/// A control line without bytes. Its read waits until all clients have their answers, and else it fails.
+/// A control line without bytes. Its read waits until all clients have their answers, and fails
+/// otherwise.
 #[derive(Drop)]
 pub struct GuestControl<'m> {
     meeting: &'m Meeting,

@@ -1,4 +1,4 @@
-//! A door at which one client comes.
+//! A door where one client connects.
 ghost use Rattle.std.specs.Prelude.{◌≡◌, None, [], false, map, true};
 ghost use Rattle.std.specs.Option.{ForSome, option_to_list};
 ghost use Rattle.bq_line.specs.LineCalls.{new_line};
@@ -8,7 +8,7 @@ use bq_job::LineEnd;
 use bq_line::line::{IoLine, Line};
 use bq_line::{Door, DoorFault, Opening};
 
-/// A door at which one client comes, and no other.
+/// A door where one client connects, and no other.
 #[derive(Drop)]
 pub struct GuestDoor<'m> {
     seat: u16,
@@ -23,7 +23,7 @@ pub struct GuestDoor<'m> {
 }
 
 impl<'m> GuestDoor<'m> {
-    /// The door of this seat.
+    /// Returns the door of this seat.
     pub fn new(seat: u16, guest: Guest<'m>) -> GuestDoor<'m>
         ensures inside { ⟦<GuestDoor<'m> as Door>⟧.is_out result ≡ false }
         ensures more { ⟦<GuestDoor<'m> as Door>⟧.is_at_end result ≡ false }
@@ -38,7 +38,7 @@ impl<'m> GuestDoor<'m> {
         }
     }
 
-    /// The client, and how its line was over, once it is.
+    /// Returns the client and how its line ended, if it has ended.
     pub fn into_guest(self) -> Option<(Guest<'m>, LineEnd)> {
         let GuestDoor {
             seat: _,

@@ -1,4 +1,4 @@
--- the end stays with its intake
+-- the end keeps its intake
 use Rattle.std.proofs.Common.{◌≡◌}
 use Rattle.bq_serve_tests.proofs.sessions.core_at_work.is_not_found.Given as goal
 

@@ -5,7 +5,7 @@ use Rattle.bq_link.proofs.RingLemmas.{all_push}
 use Rattle.bq_link.specs.Ticks.{IsTickless}
 use Rattle.bq_serve_tests.proofs.sessions.core_at_work.submits.Goals as goal
 
--- what is tickless stays so with one step more that is no tick
+-- a list without ticks stays without ticks when another step is added
 pub submit-requires-clause-may : goal.submit-requires-clause-may
 submit-requires-clause-may g c taken waiting room h =
     let t : ℕ × Step = (c.args.end.now.number, c.args.step) in

@@ -1,4 +1,4 @@
--- each answer that is taken out is one less
+-- taking an answer out leaves one less
 use Rattle.std.proofs.Common.{length}
 use Rattle.bq_serve_tests.proofs.lock.journal.Alone.add_answers.Given as goal
 
