@@ -25,7 +25,8 @@ pub trait Link {
         ensures went { SubmitsInPlace went self.old step.old result step.new self.new };
 
     /// Takes the oldest waiting answer, puts it into `place` as an action that writes it, and
-    /// returns true. If there is none, leaves `place` as it was and returns false.
+    /// returns true. If there is none, leaves `place` as it was and returns false. A link between
+    /// threads may sleep here for up to a second, until an answer comes.
     fn mail(&mut self, place: &mut Action) -> bool
         requires ready { is_ready self.old }
         ensures ready { is_ready self.new }
