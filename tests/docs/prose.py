@@ -15,7 +15,7 @@ SENTENCE = 30
 CELL = 40
 
 # How many of each there may be. The aim is 0.
-BUDGETS = {"long sentences in pages": 0, "long cells in pages": 0, "phrases in pages": 0, "phrases in comments": 96}
+BUDGETS = {"long sentences in pages": 0, "long cells in pages": 0, "phrases in pages": 0, "phrases in comments": 0}
 
 # Phrases that a reader has to translate, each with its plainer form.
 PHRASES = {
@@ -34,6 +34,9 @@ PHRASES = {
     r"\bin one hand\b": "on one thread, owned by one value",
     r"\b[Tt]hat one which\b|\b[Oo]ne of them\b": "name it",
     r"\bThe kit\b|\bthe kit\b": "the toolchain",
+    r"\b(?:[Nn]o|[Ss]ome|[Ee]very)body\b": "name the actor",
+    r"\bcomes? to\b|\bis come to\b": "amounts to, results in",
+    r"\bso many\b": "that many, up to N",
 }
 PHRASE = re.compile("|".join(PHRASES), re.M)
 
