@@ -32,7 +32,7 @@ both_more k x y = elim (cases_order x y) [
 one_more_times : (a b p : ℕ) → a < b → a * p + p ≤ b * p
 one_more_times a b p h = let m = mul-le (a + 1) p b p (omega arith) (omega arith) in let d : (a + 1) * p ≡ a * p + p = grind arith in omega (arith, m, d)
 
--- of two numbers the digit that counts most decides, and where that is equal the rest
+-- The leading digit decides the order of two numbers; if it is equal, the rest does.
 digit : (p a b x y : ℕ) → x < p → y < p → nat_cmp (a * p + x) (b * p + y) ≡ ordering_then (nat_cmp a b) (nat_cmp x y)
 digit p a b x y small others = elim (cases_order a b) [
   | inl e ↦ subst (λ c. nat_cmp (a * p + x) (c * p + y) ≡ ordering_then (nat_cmp a c) (nat_cmp x y)) e (both_more (a * p) x y ∙ rw (same_is a) refl)
@@ -72,14 +72,15 @@ then_assoc Less q r = refl
 then_assoc Equal q r = refl
 then_assoc Greater q r = refl
 
--- two lists that begin with as many elements
+-- two lists that begin with equally many elements
 seam : (xs ys rest others : List ℕ) → length xs ≡ length ys → slice_cmp nat_cmp (xs ++ rest) (ys ++ others) ≡ ordering_then (slice_cmp nat_cmp xs ys) (slice_cmp nat_cmp rest others)
 seam [] [] rest others e = refl
 seam [] (y ∷ ys) rest others e = absurd (omega arith)
 seam (x ∷ xs) [] rest others e = absurd (omega arith)
 seam (x ∷ xs) (y ∷ ys) rest others e = ap (ordering_then (nat_cmp x y)) (seam xs ys rest others (omega arith)) ∙ then_assoc (nat_cmp x y) (slice_cmp nat_cmp xs ys) (slice_cmp nat_cmp rest others)
 
--- the order of two lists, by their first eight bytes as numbers, and where these are equal by the rest
+-- the order of two lists: by their first eight bytes as numbers, and if these are equal, by the
+-- rest
 by_words : (a b c d e f g h i j k l m n o p : ℕ) (rest others : List ℕ) → a < 256 → b < 256 → c < 256 → d < 256 → e < 256 → f < 256 → g < 256 → h < 256 → i < 256 → j < 256 → k < 256 → l < 256 → m < 256 → n < 256 → o < 256 → p < 256
     → slice_cmp nat_cmp (a ∷ b ∷ c ∷ d ∷ e ∷ f ∷ g ∷ h ∷ rest) (i ∷ j ∷ k ∷ l ∷ m ∷ n ∷ o ∷ p ∷ others)
     ≡ ordering_then (nat_cmp (from_be_bytes w64 (a ∷ b ∷ c ∷ d ∷ e ∷ f ∷ g ∷ h ∷ [])) (from_be_bytes w64 (i ∷ j ∷ k ∷ l ∷ m ∷ n ∷ o ∷ p ∷ []))) (slice_cmp nat_cmp rest others)
@@ -135,7 +136,7 @@ module _ (xs ys : List ℕ) (long : 8 ≤ length xs) (other_long : 8 ≤ length 
     words : slice_cmp nat_cmp xs ys ≡ ordering_then (nat_cmp w v) (slice_cmp nat_cmp (drop 8 xs) (drop 8 ys))
     words = split ∙ ap (λ (o : Ordering). ordering_then o (slice_cmp nat_cmp (drop 8 xs) (drop 8 ys))) (ap (λ i. nat_cmp i (word_of ys)) (sym word) ∙ ap (nat_cmp w) (sym other))
 
-    -- where the words are equal the rest decides,
+    -- if the words are equal, the rest decides,
     pub rest_decides : w ≡ v → (more others : List ℕ) → more ≡ drop 8 xs → others ≡ drop 8 ys → r ≡ slice_cmp nat_cmp more others → r ≡ slice_cmp nat_cmp xs ys
     rest_decides same more others after other_after rest =
         rest ∙ ap (λ zs. slice_cmp nat_cmp zs others) after ∙ ap (slice_cmp nat_cmp (drop 8 xs)) other_after ∙ sym (words_same w v (slice_cmp nat_cmp (drop 8 xs) (drop 8 ys)) same) ∙ sym words
@@ -150,7 +151,7 @@ none_left [] [] few whole alike = refl
 none_left [] (y ∷ ys) few whole alike = absurd (omega arith)
 none_left (x ∷ xs) ys few whole alike = absurd (omega arith)
 
--- Zeros behind two names leave their order as it is, since no byte of a name is 0.
+-- Zeros after two names do not change their order, since no byte of a name is 0.
 zeros : (n : ℕ) → slice_cmp nat_cmp (replicate n 0) (replicate n 0) ≡ Equal
 zeros zero = refl
 zeros (suc n) = zeros n

@@ -151,8 +151,8 @@ fn after_word(bytes: &[u8]) -> &[u8]
     &bytes[8..]
 }
 
-// Compares two slices of one length, which is a multiple of eight, byte by byte, as `Ord` of slices does. Eight bytes at
-// a time are compared as one number.
+// Compares two slices of the same length, which is a multiple of eight, byte by byte, as `Ord` of
+// slices does. It compares eight bytes at a time, as one number.
 fn cmp_words(bytes: &[u8], others: &[u8]) -> Ordering
     requires whole { length bytes.now % 8 ≡ 0 }
     requires alike { length bytes.now ≡ length others.now }
@@ -175,8 +175,8 @@ fn cmp_words(bytes: &[u8], others: &[u8]) -> Ordering
     }
 }
 
-// Compares two names as far as either goes. It is out of line, so that a look-up that needs the first eight bytes alone
-// has these in its own code.
+// Compares two names up to the end of the longer one. It is not inlined, so that a lookup that
+// needs only the first eight bytes has their comparison in its own code.
 #[inline(never)]
 fn cmp_whole(name: &TubeName, other: &TubeName) -> Ordering
     ensures { result ≡ slice_cmp nat_cmp name.now other.now }

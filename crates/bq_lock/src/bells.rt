@@ -15,11 +15,14 @@ const FEW: usize = 8;
 /// The seats whose bells have to be rung.
 #[derive(Drop)]
 pub enum Rings {
+    /// These seats, at most eight.
     Few(ArrayVec<Seat, FEW>),
+    /// All seats of the run.
     All,
 }
 
 impl Rings {
+    /// Returns no seats.
     pub fn none() -> Rings
         ensures { AreRung [] result }
     {

@@ -17,6 +17,7 @@ pub const LONGEST_REST: u64 = 100;
 /// The result of a look for mail.
 #[derive(Drop)]
 pub enum Look {
+    /// The oldest answer for the seat.
     Mail(Answer),
     /// There is no mail. The seat may sleep for this many milliseconds before it has to look again.
     Nothing(u64),

@@ -246,7 +246,7 @@ machine_of k = k.machine
 abbrev pub compared_of : CoreState → ℕ
 compared_of k = k.comparisons
 
--- The core took a step, where all answers so far are in the mail.
+-- The core took a step, while all answers so far were in the mail.
 pub went_step : {C : Type 0} (given : C → List (Option ℕ) → C → Type 0) (seat : ℕ) (what : Step) (first : Desk C) (t : TimedCore C CoreState)
     → TakesStep given machine_of compared_of first.timed seat what t → (state_of first).pending ≡ []
     → WentAt given seat first (if is_tick what then [] else what ∷ []) [] (record first { timed = t })
@@ -259,7 +259,7 @@ went_step given seat what first t s empty =
       one_step (state_of first) (state_of last) seat what s.reading s.outcome t.outs.given step s.time.heard refl empty (ap (λ (xs : List GivenAnswer). xs ++ t.outs.given) none),
     )
 
--- The core was asked for the next due moment, if that wasn't known: no seat sees it.
+-- The core was asked for the next due moment, if it was not known: no seat notices it.
 went_looked : {C : Type 0} (given : C → List (Option ℕ) → C → Type 0) (seat : ℕ) (first : Desk C) (t looked : TimedCore C CoreState) → HasLooked machine_of compared_of first.timed looked → t ≡ looked
     → WentAt given seat first [] [] (record first { timed = t })
 went_looked given seat first t looked l e =

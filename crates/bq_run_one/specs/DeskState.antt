@@ -33,7 +33,8 @@ pub record IsNewDesk (settings : Settings) (d : DeskState) : Type 0 where
   pub room : settings.seats < d.most
   pub unknown : d.known ≡ false
 
--- Each seat has its mail, there is room for the answers of a step, and what is noted of the next due moment is so.
+-- Each seat has its mail, there is room for the answers of a step, and if the next due moment is
+-- marked as known, it is right.
 pub record HasMails (d : DeskState) : Type 0 where
   pub many : length d.mails ≡ d.core.settings.seats
   pub room : d.core.settings.seats < d.most

@@ -75,7 +75,7 @@ impl<C: Clock + Drop> Desk<C> {
         self.take_mail(seat)
     }
 
-    /// Gives back the clock.
+    /// Returns the clock.
     pub fn into_clock(self) -> C
         ensures { result ≡ self.timed.time.clock }
     {
@@ -96,7 +96,8 @@ impl<C: Clock + Drop> Desk<C> {
         }
     }
 
-    // The clock is read if something is ever due, and the core takes a tick exactly if something is due by then.
+    // Reads the clock if anything will ever be due, and takes a tick exactly if something is due by
+    // then.
     fn tick_if_due(&mut self, seat: Seat)
         requires mails { HasMails (state_of self.old) }
         requires empty { (state_of self.old).pending ≡ [] }

@@ -52,7 +52,8 @@ pub fn run_one<R: Wait, L: Line + Drop, C: Clock + Drop>(
     // The line is unused.
     requires new { L.seen line ≡ new_line }
     // There is one history of the client's steps, each at the moment of a clock reading. The
-    // one-list machine takes it, and the client received exactly what it is owed along it.
+    // one-list machine takes this history, and the client received exactly the bytes that the
+    // history prescribes for it.
     ensures served { IfOk result (λ one. (readings : List (Option ℕ)) × C.given clock readings one.clock ×
         IsHistoryOfLine config 0 (record { seen = L.seen one.line; over = one.end }) readings) }
     // It is the line that was passed in, over the same stream.
@@ -121,8 +122,8 @@ fn is_look(action: &Action) -> bool {
     matches!(action, Action::PollMail)
 }
 
-// If the mail was checked and was empty, and the line isn't to be read, nothing can come before
-// time has passed.
+// Sleeps for a moment if the mail was empty and the next action checks it again: nothing can happen
+// before time has passed.
 fn rest_between_looks<R: Wait>(rt: &R, bell: &Parker, looked: bool, next: &Action) {
     if looked && is_look(next) {
         bell.park_timeout(rt, Duration::from_millis(REST));

@@ -19,13 +19,16 @@ pub type Client<'t> = (&'t str, usize);
 /// What a client received, and how its line ended.
 pub type Outcome<'t> = (&'t str, LineEnd);
 
+/// The answer to a reserve that gets the job of `PUTS`.
 pub const RESERVED: &str = "RESERVED 1 3\r\nabc\r\n";
 
+/// The answer to the first put.
 pub const INSERTED: &str = "INSERTED 1\r\n";
 
 /// It reserves a job, and stays until it has received it.
 pub const WAITS: &str = "reserve~ + after 19";
 
+/// It puts one job and disconnects.
 pub const PUTS: &str = "put 5 0 10 3~abc~";
 
 fn push(parts: &mut Vec<Part, Global>, part: Part) -> Result<(), NoMemory> {

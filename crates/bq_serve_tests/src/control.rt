@@ -12,6 +12,7 @@ pub enum Gives {
     Text(&'static str),
     /// There are none yet.
     NothingYet,
+    /// The read fails.
     Fault,
 }
 
@@ -44,6 +45,7 @@ impl Read for Pieces {
 /// A control line, read in the same way as a server's.
 pub type Control = BufReader<Pieces>;
 
+/// Returns a control line whose reads give these results.
 pub fn control(alloc: Global, gives: &'static [Gives]) -> Result<Control, NoMemory> {
     match BufReader::new(alloc, Pieces { next: gives }) {
         Ok(control) => Ok(control),

@@ -7,6 +7,7 @@ use std::alloc::Global;
 /// The results of the reads of a control line, and whether a put is rejected afterwards.
 pub type Example = (&'static [Gives], bool);
 
+/// Control lines with and without a line `drain`.
 pub const EXAMPLES: &[Example] = &[
     (&[Gives::Text("drain\ndrains\ndrain")], true),
     (&[Gives::Text("drains\n\ndrain ")], false),

@@ -6,6 +6,7 @@ use bq_host::RunFault;
 /// The number of seats, the limit of body sizes, and the error.
 pub type Refused = (u16, u32, Option<RunFault>);
 
+/// Configurations in and out of their ranges.
 pub const REFUSED: &[Refused] = &[
     (1, 1, None),
     (2, 1, Some(RunFault::BadConfiguration)),

@@ -9,6 +9,7 @@ pub type Example = (
     &'static [&'static [Outcome<'static>]],
 );
 
+/// The runs, each with its clients and their results.
 pub static EXAMPLES: &[Example] = &[
     // No clients.
     (&[&[], &[]], &[&[], &[]]),

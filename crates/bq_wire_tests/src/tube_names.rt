@@ -29,7 +29,7 @@ fn tube_names(rt: HostRuntime) -> Result<(), Fail> {
     Ok(())
 }
 
-// Names that differ before, in and after their eighth byte, and by their length alone.
+// Names that differ before, in and after their eighth byte, and names that differ in length only.
 const IN_ORDER: &[(&str, &str)] = &[
     ("a", "b"),
     ("B", "a"),

@@ -85,6 +85,7 @@ impl SeatQueue {
         Some(seat)
     }
 
+    /// Returns true if no seat is in the queue.
     pub fn is_empty(&self) -> bool {
         self.queue.is_empty()
     }

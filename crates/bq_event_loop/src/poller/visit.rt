@@ -27,6 +27,7 @@ impl Part {
         }
     }
 
+    /// Returns the part after this one, if there is one.
     pub fn next(self) -> Option<Part> {
         match self {
             Part::Reads => Some(Part::Steps),
@@ -65,6 +66,7 @@ pub struct Visit {
 }
 
 impl Visit {
+    /// Returns a new visit, whose line has the shared buffer.
     pub fn new(seat: usize, part: Part) -> Visit {
         Visit {
             seat,
@@ -86,10 +88,12 @@ impl Visit {
         }
     }
 
+    /// Returns true if its line has the shared buffer.
     pub fn is_lent(&self) -> bool {
         self.is_lent
     }
 
+    /// Returns the seat that is visited.
     pub fn seat(&self) -> usize {
         self.seat
     }

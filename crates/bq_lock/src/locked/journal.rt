@@ -88,6 +88,7 @@ impl Journal {
         self.whole = self.whole && !unshared;
     }
 
+    /// Returns the entries so far, in the order in which their steps were taken.
     pub fn entries(&self) -> &[Entry]
         ensures { result.now ≡ self.now.entries }
     {

@@ -51,8 +51,8 @@ pub fn bqd_command<'a>(alloc: Global) -> Result<Command<'a>, AllocError> {
         .args(args)
 }
 
-// A command gets all its arguments at once. Each further call that may fail for want of memory would be one more path
-// on which everything is dropped, with a proof of its own.
+// A command gets all its arguments at once. Each further call that may fail for lack of memory
+// would be one more path on which everything is dropped, with a proof of its own.
 
 fn bq_args<'a>(alloc: Global) -> Result<Vec<Arg<'a>>, AllocError> {
     Ok(vec![in alloc;

@@ -39,6 +39,7 @@ impl Meeting {
         self.has_failed.store(true, Ordering::SeqCst);
     }
 
+    /// Returns true if the control line did not see the answers of all clients.
     pub fn has_failed(&self) -> bool {
         self.has_failed.load(Ordering::SeqCst)
     }

@@ -21,6 +21,7 @@ pub struct Guest<'m> {
 }
 
 impl<'m> Guest<'m> {
+    /// Returns a client whose first read waits for the answers of this many others.
     pub fn new(alloc: Global, meeting: &'m Meeting, others: u64) -> Guest<'m> {
         Guest {
             meeting,

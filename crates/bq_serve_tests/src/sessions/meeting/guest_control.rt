@@ -13,6 +13,7 @@ pub struct GuestControl<'m> {
 }
 
 impl<'m> GuestControl<'m> {
+    /// Returns a control line whose read waits for this meeting.
     pub fn new(meeting: &'m Meeting) -> GuestControl<'m> {
         GuestControl { meeting }
     }
