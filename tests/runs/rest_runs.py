@@ -67,3 +67,25 @@ def run_loop_with_silent_clients(bqd):
         for _ in range(many):
             server.client().asks(b"list-tube-used\r\n", b"USING default\r\n")
         same(server.memory() - before <= many * OF_A_CLIENT, True)
+
+
+@of_loop
+def run_loop_behind_clients_that_ended(bqd):
+    """Connections that have ended leave no read buffer at their seats, also if each had filled one with its last bytes."""
+    many, size = 100, 65536
+    too_big = b"put 0 0 9 %d\r\n" % size + b"x" * size + b"\r\nquit\r\n"
+
+    def ends(client):
+        client.asks(too_big, b"JOB_TOO_BIG\r\n")
+        client.hears_end()
+        client.close()
+
+    with Server(bqd, "--seats", str(many)) as server:
+        ends(server.client())
+        clients = [server.client() for _ in range(many)]
+        for client in clients:
+            client.asks(ASK, ANSWER)
+        before = server.memory()
+        for client in clients:
+            ends(client)
+        same(server.memory() - before <= many * OF_A_CLIENT, True)

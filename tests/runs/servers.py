@@ -121,6 +121,11 @@ class Server:
         """Returns how many threads the server has now."""
         return len(os.listdir(f"/proc/{self.process.pid}/task"))
 
+    def is_stopped(self):
+        """Returns true if the server was stopped by a signal."""
+        with open(f"/proc/{self.process.pid}/stat") as stat:
+            return stat.read().rsplit(")", 1)[1].split()[0] == "T"
+
     def time_worked(self):
         """Returns how many seconds of processor time the server has used."""
         with open(f"/proc/{self.process.pid}/stat") as stat:
@@ -220,6 +225,11 @@ class Client:
 def value(client, name):
     """Returns a number of `stats`."""
     client.sends(b"stats\r\n")
+    return value_told(client, name)
+
+
+def value_told(client, name):
+    """Returns a number of the answer to a `stats` that was sent before."""
     with client.stream.makefile("rb", buffering=0) as lines:
         head = lines.readline().split()
         same(head[0], b"OK")

@@ -1,11 +1,12 @@
 """Runs of bqd in which something is due while all clients are silent, a client blocks its seat, or many make requests
 at once."""
+import signal
 import threading
 import time
 
 from programs import Ended, same
 from queue_model.engines import of_loop
-from servers import TAKEN, Server
+from servers import TAKEN, Server, awaits, value_told
 
 # Within how many seconds an answer comes after it is due, unless the machine is busy: then it is tried again.
 SOON = 0.005
@@ -186,6 +187,43 @@ def all_ask_at_one_moment(bqd, seats, number, rounds):
                 client.sends(ASK)
             for client in clients:
                 client.hears(ANSWER)
+
+
+@of_loop
+def run_batch_beside_a_lone_command(bqd):
+    """A client that sends many commands at once has an event loop for some 32 of them, and then another client has its
+    turn."""
+    puts = 1000
+    with Server(bqd, "--seats", "2") as server:
+        many, other = server.client(), server.client()
+        for client in (many, other):
+            client.asks(ASK, ANSWER)
+        # Both are ready when it goes on.
+        server.process.send_signal(signal.SIGSTOP)
+        awaits(server.is_stopped)
+        many.sends(PUT * puts)
+        other.sends(ASK + b"stats\r\n")
+        server.process.send_signal(signal.SIGCONT)
+        other.hears(ANSWER)
+        same(value_told(other, b"total-jobs") < 100, True)
+        many.hears(b"".join(b"INSERTED %d\r\n" % it for it in range(1, puts + 1)))
+
+
+@of_loop
+def run_gone_at_once(bqd):
+    """An event loop frees the seat of a client that goes while it waits as soon as it has gone."""
+    def tried():
+        with Server(bqd, "--seats", "1") as server:
+            first, other = server.client(), server.client()
+            first.asks(ASK + b"reserve\r\n", ANSWER)
+            other.sends(ASK)
+            other.hears_nothing(0.15)
+            begun = time.monotonic()
+            first.close()
+            other.hears(ANSWER)
+            took = time.monotonic() - begun
+        return None if took <= SOON else took
+    often(tried)
 
 
 def run_no_step_is_left_over(bqd):
