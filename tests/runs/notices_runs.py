@@ -110,8 +110,8 @@ def run_notices_without_room(bqd):
     # The thread that writes has one more.
     written = 1 + ROOM
     # Every other accept fails, after which the seat sleeps for a tenth of a second; the clock runs a hundred times as
-    # fast.
-    failing = faults(accepts=code, times=written + dropped, each=2, clock=100)
+    # fast. Accepts that find no connection count too, so that there are more failures than connections.
+    failing = faults(accepts=code, times=10 * (written + dropped), each=2, clock=100)
     with FullPipe() as pipe, Server(bqd, "--seats", "1", stderr=pipe.writing, env=failing) as server:
         for _ in range(written + dropped + 1):
             client = server.client()
