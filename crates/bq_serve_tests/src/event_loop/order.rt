@@ -12,7 +12,7 @@ use std::alloc::Global;
 const MOST: usize = 8;
 
 /// A run that takes more turns is given up.
-const TURNS: u64 = 1_000_000;
+const TURNS: u64 = 400_000;
 
 /// A rule that chooses the next seat among those that can act.
 #[derive(Clone, Copy, PartialEq, Eq)]
@@ -103,12 +103,11 @@ impl<'t> Order<'t> {
         self.last = None;
     }
 
-    // Counts a turn. A run that takes too many is given up, and then any seat can act.
+    // Counts a turn. A run that takes too many is given up.
     fn count(&mut self) {
         self.turns = self.turns.saturating_add(1);
         if self.turns > TURNS {
             self.all.give_up();
-            self.unmoved = [0; MOST];
         }
     }
 
@@ -186,10 +185,10 @@ impl<'t> Order<'t> {
     }
 
     // Begins a round. With most rules it tries each seat again, since the seat's line may be ready
-    // by now.
+    // by now. In a run that was given up each line fails.
     fn begin_round(&mut self) {
         self.stage = Stage::Seats;
-        if self.rule != Rule::Woken {
+        if self.rule != Rule::Woken || self.all.has_given_up() {
             self.unmoved = [0; MOST];
         }
     }
