@@ -19,7 +19,7 @@ use crate::room::{Room, Wrote, write_answer};
 use bq_job::{LARGEST_BODY, LineEnd, NoMemory, Step};
 use bq_line::line::{Line, ReadBuffer, Readiness, is_nothing_yet};
 use bq_line::{Door, Opening};
-use bq_seat::{Action, Event, PIECE_ROOM, SeatMachine, Told};
+use bq_seat::{Action, Event, PIECE_ROOM, SeatMachine};
 use std::alloc::Global;
 use std::os::fd::RawFd;
 use std::{io, mem};
@@ -342,13 +342,13 @@ pub fn carry_out<L: Line, K: Link>(
             match write_answer(line, answer, sent, room) {
                 Wrote::Whole => {
                     *sent = 0;
-                    machine.on_told(alloc, Told::WriteDone, action);
+                    machine.write_done(alloc, action);
                     true
                 }
                 Wrote::NotYet => false,
                 Wrote::Fault => {
                     *sent = 0;
-                    machine.on_told(alloc, Told::WriteFault, action);
+                    machine.write_fault(action);
                     true
                 }
             }
@@ -378,7 +378,7 @@ fn act<L: Line, K: Link>(
     match action {
         Action::Submit(step) => {
             if link.submit(step) {
-                machine.on_told(alloc, Told::Submitted, action);
+                machine.submitted(alloc, action);
                 true
             } else {
                 false
@@ -387,12 +387,12 @@ fn act<L: Line, K: Link>(
         Action::Read => read(alloc, machine, action, line, &mut room.piece),
         Action::PollMail => {
             if link.mail(action) {
-                machine.mail_in_place(action);
+                machine.mail(action);
                 true
             } else {
                 // The answer may take long.
                 line.expect_more(false);
-                machine.on_told(alloc, Told::NothingYet, action);
+                machine.nothing_yet(action);
                 false
             }
         }
@@ -439,7 +439,7 @@ fn hand_on<L: Line>(
     if count == 0 {
         return read_piece(alloc, machine, next, line, room);
     }
-    machine.on_told(alloc, Told::Bytes(&line.unread()[..count]), next);
+    machine.bytes(alloc, &line.unread()[..count], next);
     line.take_unread(count);
     true
 }
@@ -458,11 +458,11 @@ fn read_piece<L: Line>(
 {
     match read_line(machine, line, room) {
         Ok(0) => {
-            machine.on_told(alloc, Told::EndOfInput, next);
+            machine.end_of_input(next);
             true
         }
         Ok(count) => {
-            machine.on_told(alloc, Told::Bytes(&room[..count]), next);
+            machine.bytes(alloc, &room[..count], next);
             true
         }
         Err(e) => tell_error(alloc, machine, next, &e),
@@ -476,10 +476,10 @@ fn tell_error(alloc: Global, machine: &mut SeatMachine, next: &mut Action, e: &i
         (after_fill (Err e.now) seen) next.new [] [] }
 {
     if is_nothing_yet(e) {
-        machine.on_told(alloc, Told::NothingYet, next);
+        machine.nothing_yet(next);
         false
     } else {
-        machine.on_told(alloc, Told::ReadFault, next);
+        machine.read_fault(next);
         true
     }
 }

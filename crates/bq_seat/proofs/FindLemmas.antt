@@ -178,7 +178,7 @@ over_at old event (actions.Write answer) p h over = tt
 over_at old event (actions.LineOver end) p h over = over p h
 over_at old event actions.Stray p h over = tt
 
-is_move : (old : SeatMachine) (event : Event) (action : Action) (new : SeatMachine) → IsStagedMove old event action new
+pub is_move : (old : SeatMachine) (event : Event) (action : Action) (new : SeatMachine) → IsStagedMove old event action new
     → IsMove old event action new
 unfolding StandsFor
 is_move old event action new m = record {
@@ -194,7 +194,7 @@ is_move old event action new m = record {
   looks = λ e p h. m.looks e p h.0;
 }
 
--- the same for an event that is known by an equation
-pub is_move_by : (old : SeatMachine) (event same : Event) (action : Action) (new : SeatMachine) → event ≡ same
-    → IsStagedMove old same action new → IsMove old event action new
-is_move_by old event same action new e m = subst (λ (v : Event). IsMove old v action new) (sym e) (is_move old same action new m)
+-- A move by an event is one by an equal event.
+pub moves_by : (old : SeatMachine) (event same : Event) (action : Action) (new : SeatMachine) → event ≡ same
+    → IsMove old same action new → IsMove old event action new
+moves_by old event same action new e m = subst (λ (v : Event). IsMove old v action new) (sym e) m

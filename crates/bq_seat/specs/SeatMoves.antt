@@ -10,24 +10,12 @@ use Rattle.bq_seat.specs.declared.machine.Event.TheVariants as events
 use Rattle.bq_seat.specs.declared.machine.Action.{Action}
 use Rattle.bq_seat.specs.declared.machine.Action.TheVariants as actions
 use Rattle.bq_seat.specs.declared.machine.SeatMachine.{SeatMachine}
-use Rattle.bq_seat.specs.declared.machine.Told.{Told}
-use Rattle.bq_seat.specs.declared.machine.Told.TheVariants as tellings
 use Rattle.bq_seat.specs.declared.machine.TheConstants.{PIECE_ROOM}
 
 -- A piece of bytes fits into the room for it.
 abbrev pub FitsPiece : Event → Type 0
 FitsPiece (events.Bytes bytes) = length bytes.now ≤ PIECE_ROOM
 FitsPiece _ = Unit {0}
-
--- the event of the same name
-abbrev pub event_told : Told → Event
-event_told tellings.Submitted = events.Submitted
-event_told (tellings.Bytes bytes) = events.Bytes bytes
-event_told tellings.NothingYet = events.NothingYet
-event_told tellings.EndOfInput = events.EndOfInput
-event_told tellings.ReadFault = events.ReadFault
-event_told tellings.WriteDone = events.WriteDone
-event_told tellings.WriteFault = events.WriteFault
 
 -- An awaited line that is opened begins with its connect, and has a past of its own.
 abbrev pub OpensPast : Event → Action → SeatMachine → Type 0

@@ -5,7 +5,8 @@
 
 pub use bq_job::LineEnd;
 pub use laws::pasts_are_orderly;
-pub use machine::{Action, Event, PIECE_ROOM, SeatMachine, Told};
+pub use machine::{Action, Event, PIECE_ROOM, SeatMachine};
 
+mod by_value;
 mod laws;
 mod machine;

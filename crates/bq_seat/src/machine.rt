@@ -30,26 +30,6 @@ pub enum Event<'a> {
     WriteFault,
 }
 
-/// An event that carries no answer, named like its counterpart in `Event`. An `Event` reserves room
-/// for an answer, and initializing that room takes longer than handling most events.
-#[derive(Debug, Drop)]
-pub enum Told<'a> {
-    /// The step was submitted.
-    Submitted,
-    /// These bytes were read, at most 4,096.
-    Bytes(&'a [u8]),
-    /// There was nothing to read, or no mail.
-    NothingYet,
-    /// The client sends no more.
-    EndOfInput,
-    /// A read of the line failed.
-    ReadFault,
-    /// The whole answer was written.
-    WriteDone,
-    /// A write to the line failed.
-    WriteFault,
-}
-
 /// What to do next for a connection.
 #[derive(Debug, Drop)]
 pub enum Action {
@@ -110,8 +90,8 @@ impl SeatMachine {
     ghost use Rattle.bq_job.specs.declared.answer.Answer.{Answer};
     ghost use Rattle.bq_job.specs.machine.OneClient.{is_closed_answer};
     ghost use Rattle.bq_seat.specs.Outstanding.{ReadsWith};
-    ghost use Rattle.bq_seat.specs.SeatMoves.{event_told, FitsPiece, IsMove};
-    ghost use Rattle.bq_seat.specs.SeatParts.{GoesOn, IsStagedMove, asking_stage, holding, in_stage, reads_on};
+    ghost use Rattle.bq_seat.specs.SeatMoves.{IsMove};
+    ghost use Rattle.bq_seat.specs.SeatParts.{GoesOn, asking_stage, holding, in_stage, reads_on};
     ghost use Rattle.bq_seat.specs.SeatStands.{awaited, kept_bytes};
 
     /// Returns a machine that waits for its first line. It rejects bodies of more than
@@ -130,71 +110,6 @@ impl SeatMachine {
             stage: Stage::Between,
             end_told: false,
         })
-    }
-
-    /// Returns the next action after this event. It allocates only the body of a put.
-    ///
-    /// An event that does not answer the last action changes nothing, and the result is `Stray`. A
-    /// piece of bytes is at most 4,096 long.
-    pub fn on(&mut self, alloc: Global, event: Event<'_>) -> Action
-        requires { FitsPiece event }
-        // The event is stray if and only if it does not answer the last action, and then nothing
-        // changes. Otherwise every past that the machine represents continues with this event and
-        // this action, justifies the action, and determines what the machine does next; a line that
-        // has ended was served.
-        ensures { IsMove self.old event.entry result self.new }
-    {
-        let mut next = Action::Stray;
-        self.on_in_place(alloc, event, &mut next);
-        next
-    }
-
-    /// Does the same as `on`, but writes the action to `next`, so that the action and what it
-    /// carries are not copied. The previous content of `next`, which may be the last action, is
-    /// ignored.
-    pub fn on_in_place(&mut self, alloc: Global, event: Event<'_>, next: &mut Action)
-        requires { FitsPiece event }
-        ensures { IsMove self.old event.entry next.new self.new }
-    {
-        match event {
-            Event::Opened => self.opened(next),
-            Event::Submitted => self.submitted(alloc, next),
-            Event::Bytes(bytes) => self.bytes(alloc, bytes, next),
-            Event::NothingYet => self.nothing_yet(next),
-            Event::EndOfInput => self.end_of_input(next),
-            Event::ReadFault => self.read_fault(next),
-            Event::Mail(answer) => {
-                *next = Action::Write(answer);
-                self.mail(next)
-            }
-            Event::WriteDone => self.write_done(alloc, next),
-            Event::WriteFault => self.write_fault(next),
-        }
-    }
-
-    /// Does the same as `on_in_place` for an event that carries no answer.
-    pub fn on_told(&mut self, alloc: Global, told: Told<'_>, next: &mut Action)
-        requires { FitsPiece (event_told told) }
-        ensures { IsMove self.old (event_told told.entry) next.new self.new }
-    {
-        match told {
-            Told::Submitted => self.submitted(alloc, next),
-            Told::Bytes(bytes) => self.bytes(alloc, bytes, next),
-            Told::NothingYet => self.nothing_yet(next),
-            Told::EndOfInput => self.end_of_input(next),
-            Told::ReadFault => self.read_fault(next),
-            Told::WriteDone => self.write_done(alloc, next),
-            Told::WriteFault => self.write_fault(next),
-        }
-    }
-
-    /// Does the same as `on_in_place` for mail. The answer must already be in `next` as a `Write`;
-    /// if it is to be written, it stays there.
-    pub fn mail_in_place(&mut self, next: &mut Action)
-        ensures { (answer : Answer) → next.old ≡ Action.Write answer
-            → IsMove self.old (Event.Mail answer) next.new self.new }
-    {
-        self.mail(next)
     }
 
     /// Returns true if a request waits for its answer while the line is read. A blocking read would
@@ -216,8 +131,14 @@ impl SeatMachine {
         !self.kept.is_empty()
     }
 
-    fn opened(&mut self, next: &mut Action)
-        ensures { IsStagedMove self.old Event.Opened next.new self.new }
+    /// A line was opened. Like the calls for the other events below, this writes the next action to
+    /// `next`, so that the action and what it carries are not copied. The previous content of `next`,
+    /// which may be the last action, is ignored.
+    ///
+    /// An event that does not answer the last action changes nothing, and `next` becomes `Stray`.
+    #[tactic(auto, using(crate::proofs::FindLemmas::is_move))]
+    pub fn opened(&mut self, next: &mut Action)
+        ensures { IsMove self.old Event.Opened next.new self.new }
     {
         match self.stage {
             Stage::Between => {
@@ -231,8 +152,10 @@ impl SeatMachine {
         }
     }
 
-    fn submitted(&mut self, alloc: Global, next: &mut Action)
-        ensures { IsStagedMove self.old Event.Submitted next.new self.new }
+    /// The step was submitted. Like `bytes` and `write_done` it allocates only the body of a put.
+    #[tactic(auto, using(crate::proofs::FindLemmas::is_move))]
+    pub fn submitted(&mut self, alloc: Global, next: &mut Action)
+        ensures { IsMove self.old Event.Submitted next.new self.new }
     {
         match self.stage {
             Stage::Connecting => self.go_on(alloc, next),
@@ -244,9 +167,11 @@ impl SeatMachine {
         }
     }
 
-    fn bytes(&mut self, alloc: Global, bytes: &[u8], next: &mut Action)
+    /// These bytes were read, at most 4,096.
+    #[tactic(auto, using(crate::proofs::FindLemmas::is_move))]
+    pub fn bytes(&mut self, alloc: Global, bytes: &[u8], next: &mut Action)
         requires { length bytes.now ≤ PIECE_ROOM }
-        ensures { IsStagedMove self.old (Event.Bytes bytes.entry) next.new self.new }
+        ensures { IsMove self.old (Event.Bytes bytes.entry) next.new self.new }
     {
         match self.stage {
             Stage::Reading => self.take_in(alloc, bytes, next),
@@ -258,8 +183,10 @@ impl SeatMachine {
         }
     }
 
-    fn nothing_yet(&mut self, next: &mut Action)
-        ensures { IsStagedMove self.old Event.NothingYet next.new self.new }
+    /// There was nothing to read, or no mail.
+    #[tactic(auto, using(crate::proofs::FindLemmas::is_move))]
+    pub fn nothing_yet(&mut self, next: &mut Action)
+        ensures { IsMove self.old Event.NothingYet next.new self.new }
     {
         match self.stage {
             Stage::Reading => *next = Action::Read,
@@ -270,8 +197,10 @@ impl SeatMachine {
         }
     }
 
-    fn end_of_input(&mut self, next: &mut Action)
-        ensures { IsStagedMove self.old Event.EndOfInput next.new self.new }
+    /// The client sends no more.
+    #[tactic(auto, using(crate::proofs::FindLemmas::is_move))]
+    pub fn end_of_input(&mut self, next: &mut Action)
+        ensures { IsMove self.old Event.EndOfInput next.new self.new }
     {
         match self.stage {
             Stage::Reading => self.close(LineEnd::EndOfInput, next),
@@ -284,8 +213,10 @@ impl SeatMachine {
         }
     }
 
-    fn read_fault(&mut self, next: &mut Action)
-        ensures { IsStagedMove self.old Event.ReadFault next.new self.new }
+    /// A read of the line failed.
+    #[tactic(auto, using(crate::proofs::FindLemmas::is_move))]
+    pub fn read_fault(&mut self, next: &mut Action)
+        ensures { IsMove self.old Event.ReadFault next.new self.new }
     {
         match self.stage {
             Stage::Reading => self.close(LineEnd::ReadFault, next),
@@ -294,9 +225,12 @@ impl SeatMachine {
         }
     }
 
-    fn mail(&mut self, next: &mut Action)
+    /// An answer came. It must already be in `next` as a `Write`; if it is to be written, it stays
+    /// there.
+    #[tactic(auto, using(crate::proofs::FindLemmas::is_move))]
+    pub fn mail(&mut self, next: &mut Action)
         ensures { (answer : Answer) → next.old ≡ Action.Write answer
-            → IsStagedMove self.old (Event.Mail answer) next.new self.new }
+            → IsMove self.old (Event.Mail answer) next.new self.new }
     {
         match self.stage {
             Stage::Polling { .. } => self.stage = Stage::Writing,
@@ -305,8 +239,10 @@ impl SeatMachine {
         }
     }
 
-    fn write_done(&mut self, alloc: Global, next: &mut Action)
-        ensures { IsStagedMove self.old Event.WriteDone next.new self.new }
+    /// The whole answer was written.
+    #[tactic(auto, using(crate::proofs::FindLemmas::is_move))]
+    pub fn write_done(&mut self, alloc: Global, next: &mut Action)
+        ensures { IsMove self.old Event.WriteDone next.new self.new }
     {
         match self.stage {
             Stage::Writing => self.go_on(alloc, next),
@@ -314,8 +250,10 @@ impl SeatMachine {
         }
     }
 
-    fn write_fault(&mut self, next: &mut Action)
-        ensures { IsStagedMove self.old Event.WriteFault next.new self.new }
+    /// A write to the line failed.
+    #[tactic(auto, using(crate::proofs::FindLemmas::is_move))]
+    pub fn write_fault(&mut self, next: &mut Action)
+        ensures { IsMove self.old Event.WriteFault next.new self.new }
     {
         match self.stage {
             Stage::Writing => self.close(LineEnd::WriteFault, next),

@@ -2,11 +2,11 @@
 //! every event that does not answer its last action. Each of these is stray and changes nothing.
 
 ghost use Rattle.std.specs.Prelude.{IfSome};
-ghost use Rattle.bq_seat.specs.SeatMoves.{FitsPiece, event_told};
+ghost use Rattle.bq_seat.specs.SeatMoves.{FitsPiece};
 
 use crate::pieces::push_text;
 use bq_job::{Answer, LineEnd, Request, Step};
-use bq_seat::{Action, Event, PIECE_ROOM, SeatMachine, Told};
+use bq_seat::{Action, Event, PIECE_ROOM, SeatMachine};
 use std::alloc::Global;
 use std::process::Abort;
 use std::test::Fail;
@@ -43,21 +43,23 @@ fn event_of<'b>(event: &str, bytes: &'b [u8]) -> Option<Event<'b>>
     }
 }
 
-// Does the same for the other call, if the event carries no answer.
-fn told_of<'b>(event: &str, bytes: &'b [u8]) -> Option<Told<'b>>
-    ensures { IfSome result (λ told. FitsPiece (event_told told)) }
+// Passes the event to the method of its own.
+fn pass(alloc: Global, machine: &mut SeatMachine, event: Event<'_>, next: &mut Action)
+    requires { FitsPiece event }
 {
     match event {
-        "submitted" => Some(Told::Submitted),
-        "nothing yet" => Some(Told::NothingYet),
-        "end of input" => Some(Told::EndOfInput),
-        "read fault" => Some(Told::ReadFault),
-        "write done" => Some(Told::WriteDone),
-        "write fault" => Some(Told::WriteFault),
-        _ if event.starts_with("bytes ") && bytes.len() <= PIECE_ROOM && !bytes.is_empty() => {
-            Some(Told::Bytes(bytes))
+        Event::Opened => machine.opened(next),
+        Event::Submitted => machine.submitted(alloc, next),
+        Event::Bytes(bytes) => machine.bytes(alloc, bytes, next),
+        Event::NothingYet => machine.nothing_yet(next),
+        Event::EndOfInput => machine.end_of_input(next),
+        Event::ReadFault => machine.read_fault(next),
+        Event::Mail(answer) => {
+            *next = Action::Write(answer);
+            machine.mail(next);
         }
-        _ => None,
+        Event::WriteDone => machine.write_done(alloc, next),
+        Event::WriteFault => machine.write_fault(next),
     }
 }
 
@@ -99,8 +101,8 @@ fn answers(event: &str, last: &str) -> bool {
     }
 }
 
-// Returns the name of the action that answers an event. The event is passed to `on_told` if
-// possible.
+// Returns the name of the action that answers an event. The event is passed as a value, or to the
+// method of its own.
 fn told(
     alloc: Global,
     machine: &mut SeatMachine,
@@ -109,15 +111,15 @@ fn told(
 ) -> Result<&'static str, Fail> {
     let mut bytes = Vec::new(alloc);
     push_text(&mut bytes, event.strip_prefix("bytes ").unwrap_or(""))?;
-    if is_in_place && let Some(event) = told_of(event, bytes.as_slice()) {
-        let mut next = Action::PollMail;
-        machine.on_told(alloc, event, &mut next);
-        return Ok(name_of(&next));
-    }
     let Some(event) = event_of(event, bytes.as_slice()) else {
         return Err(Fail::from("no event"));
     };
-    Ok(name_of(&machine.on(alloc, event)))
+    if !is_in_place {
+        return Ok(name_of(&machine.on(alloc, event)));
+    }
+    let mut next = Action::PollMail;
+    pass(alloc, machine, event, &mut next);
+    Ok(name_of(&next))
 }
 
 // Passes the machine each event that does not answer an action with this name.

@@ -7,7 +7,7 @@ use Rattle.bq_driver.proofs.attendant.act.Goals as goal
 pub returns-then-submit-clause-carried : goal.returns-then-submit-clause-carried
 returns-then-submit-clause-carried g c =
     comes_by g.K.Link.went _ _ _ _ _ _ _ _ (actions.Submit c.in-Submit.step) c.in-Submit.is (as_submitted c.in-Submit.step) []
-    (rw c.if-submit.true at c.submit.ensures.went) (refl, refl, inl (refl, c.on_told.ensures))
+    (rw c.if-submit.true at c.submit.ensures.went) (refl, refl, inl (refl, c.submitted.ensures))
 
 pub returns-else-submit-clause-carried : goal.returns-else-submit-clause-carried
 returns-else-submit-clause-carried g c =
@@ -27,13 +27,13 @@ pub returns-then-mail-clause-carried : goal.returns-then-mail-clause-carried
 returns-then-mail-clause-carried g c =
     let came = rw c.if-mail.true at c.mail.ensures.went in
     comes_by g.K.Link.went _ _ _ _ _ _ _ _ actions.PollMail c.in-PollMail.is [] (came.0 ∷ []) came.2
-    (refl, refl, inr (came.0, refl, c.mail_in_place.ensures came.0 came.1))
+    (refl, refl, inr (came.0, refl, c.mail-then-mail.ensures came.0 came.1))
 
 pub returns-else-mail-clause-carried : goal.returns-else-mail-clause-carried
 returns-else-mail-clause-carried g c =
     let none = rw c.if-mail.false at c.mail.ensures.went in
     comes_by g.K.Link.went _ _ _ _ _ _ _ _ actions.PollMail c.in-PollMail.is [] [] none.1
-    (c.expect_more.ensures.seen, refl, inl (refl, c.on_told-else-mail.ensures))
+    (c.expect_more.ensures.seen, refl, inl (refl, c.nothing_yet.ensures))
 
 pub returns-in-LineOver-clause-carried : goal.returns-in-LineOver-clause-carried
 returns-in-LineOver-clause-carried g c =

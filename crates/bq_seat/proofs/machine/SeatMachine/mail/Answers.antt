@@ -1,15 +1,16 @@
 use Rattle.std.proofs.Common.{refl}
 use Rattle.bq_seat.specs.declared.machine.Stage.TheVariants as stages
+use Rattle.bq_seat.proofs.FindLemmas.{is_move}
 use Rattle.bq_seat.proofs.MoveLemmas as moves
 use Rattle.bq_seat.proofs.machine.SeatMachine.mail.Goals as goal
 
 pub returns-in-Polling : goal.returns-in-Polling
 returns-in-Polling c =
-    λ answer lies. moves.by_result _ _ _ _ _ _ lies refl
-    (moves.from_stage _ _ _ _ (stages.Polling _) c.in-Polling.is (moves.mail_in_polling c.args.self.now _ answer))
+    λ answer lies. is_move _ _ _ _ (moves.by_result _ _ _ _ _ _ lies refl
+    (moves.from_stage _ _ _ _ (stages.Polling _) c.in-Polling.is (moves.mail_in_polling c.args.self.now _ answer)))
 
 pub returns-in-Leaving : goal.returns-in-Leaving
 returns-in-Leaving c =
-    λ answer lies. moves.by_result _ _ _ _ _ _ (c.mail_after_close.ensures.action answer lies)
+    λ answer lies. is_move _ _ _ _ (moves.by_result _ _ _ _ _ _ (c.mail_after_close.ensures.action answer lies)
     (c.mail_after_close.ensures.after answer lies)
-    (moves.mail_in_leaving c.args.self.now _ answer _ c.in-Leaving.is refl)
+    (moves.mail_in_leaving c.args.self.now _ answer _ c.in-Leaving.is refl))
