@@ -54,7 +54,7 @@ enum Stage {
     ControlRead,
     Doors,
     Visits(Part),
-    Time,
+    /// Time has passed.
     Wait,
 }
 
@@ -71,7 +71,9 @@ pub struct Poller<'r, R> {
     // keeps the buffer and gives its own in exchange.
     buffer: ReadBuffer,
     stage: Stage,
-    visit: Option<Visit>,
+    // The current visit, if there is one.
+    visit: Visit,
+    is_visiting: bool,
 }
 
 impl<'r, R: Net + rt::Clock> Poller<'r, R> {
@@ -105,7 +107,8 @@ impl<'r, R: Net + rt::Clock> Poller<'r, R> {
             queue,
             buffer,
             stage: Stage::Start,
-            visit: None,
+            visit: Visit::new(0, Part::Answers),
+            is_visiting: false,
         })
     }
 }
@@ -122,26 +125,34 @@ impl<'r, R: rt::Clock> Poller<'r, R> {
         }
     }
 
-    // Returns the turn of the control line in this round.
-    fn control_turn(&mut self, stands: ControlStands) -> Turn {
-        match self.control.reads(stands) {
+    // Returns the turn of the control line in this round, or that of the doors if the control line
+    // is not read.
+    fn control_turn<L: Line + Drop, D: Door<Line = L>>(
+        &mut self,
+        alloc: Global,
+        row: &mut Row<L, D>,
+        news: News,
+    ) -> Turn
+        requires tended { AreTended L.seen (door_seen D.is_out D.is_at_end D.lines_over) row.old }
+        ensures tended { AreTended L.seen (door_seen D.is_out D.is_at_end D.lines_over) row.new }
+        ensures rests { (first : Row L D) → RestsSince L.seen (door_seen D.is_out D.is_at_end D.lines_over) D.same first row.old
+            → RestsSince L.seen (door_seen D.is_out D.is_at_end D.lines_over) D.same first row.new }
+    {
+        match self.control.reads(news.control) {
             Some(reads) => {
                 self.stage = Stage::ControlRead;
                 Turn::Control(reads)
             }
-            None => {
-                self.stage = Stage::Doors;
-                NOTHING
-            }
+            None => self.look_at_next(alloc, row),
         }
     }
 
-    // Lets one free seat check for a connection, if one may have come.
+    // Lets one free seat check for a connection, if one may have come. Otherwise the visits begin.
     fn look_at_next<L: Line + Drop, D: Door<Line = L>>(
         &mut self,
         alloc: Global,
         row: &mut Row<L, D>,
-    )
+    ) -> Turn
         requires tended { AreTended L.seen (door_seen D.is_out D.is_at_end D.lines_over) row.old }
         ensures tended { AreTended L.seen (door_seen D.is_out D.is_at_end D.lines_over) row.new }
         ensures rests { (first : Row L D) → RestsSince L.seen (door_seen D.is_out D.is_at_end D.lines_over) D.same first row.old
@@ -149,11 +160,12 @@ impl<'r, R: rt::Clock> Poller<'r, R> {
     {
         if self.accepts.may_come() {
             if let Some(seat) = self.queue.next_free() {
+                self.stage = Stage::Doors;
                 self.look(alloc, row, seat);
-                return;
+                return NOTHING;
             }
         }
-        self.begin_visits();
+        self.begin_visits(alloc, row)
     }
 
     // Lets a seat check for its next line, which is watched from then on.
@@ -217,9 +229,20 @@ impl<'r, R: rt::Clock> Poller<'r, R> {
     }
 
     // Begins the visits of all seats that are in the queue now.
-    fn begin_visits(&mut self) {
+    fn begin_visits<L: Line + Drop, D: Door<Line = L>>(
+        &mut self,
+        alloc: Global,
+        row: &mut Row<L, D>,
+    ) -> Turn
+        requires tended { AreTended L.seen (door_seen D.is_out D.is_at_end D.lines_over) row.old }
+        ensures tended { AreTended L.seen (door_seen D.is_out D.is_at_end D.lines_over) row.new }
+        ensures rests { (first : Row L D) → RestsSince L.seen (door_seen D.is_out D.is_at_end D.lines_over) D.same first row.old
+            → RestsSince L.seen (door_seen D.is_out D.is_at_end D.lines_over) D.same first row.new }
+    {
         self.queue.begin_round();
-        self.stage = Stage::Visits(Part::first(self.queue.round()));
+        let part = Part::first(self.queue.round());
+        self.stage = Stage::Visits(part);
+        self.begin_next(alloc, row, part)
     }
 
     // Returns the next action of the current visit, or begins the next visit.
@@ -235,12 +258,17 @@ impl<'r, R: rt::Clock> Poller<'r, R> {
         ensures rests { (first : Row L D) → RestsSince L.seen (door_seen D.is_out D.is_at_end D.lines_over) D.same first row.old
             → RestsSince L.seen (door_seen D.is_out D.is_at_end D.lines_over) D.same first row.new }
     {
-        match self.visit {
-            Some(visit) => self.go_on_at(alloc, row, visit.after(moved)),
-            None => self.begin_next(alloc, row, part),
+        if self.is_visiting {
+            self.visit.note(moved);
+            if self.goes_on(alloc, row) {
+                return Turn::Seat(self.visit.seat());
+            }
         }
+        self.begin_next(alloc, row, part)
     }
 
+    // Returns the first action of the next visit of this part. After the last one the next part
+    // begins, or it is time to pass time.
     fn begin_next<L: Line + Drop, D: Door<Line = L>>(
         &mut self,
         alloc: Global,
@@ -252,85 +280,80 @@ impl<'r, R: rt::Clock> Poller<'r, R> {
         ensures rests { (first : Row L D) → RestsSince L.seen (door_seen D.is_out D.is_at_end D.lines_over) D.same first row.old
             → RestsSince L.seen (door_seen D.is_out D.is_at_end D.lines_over) D.same first row.new }
     {
-        match self.next_seat(part) {
-            Some(seat) => {
-                row.exchange(seat, &mut self.buffer);
-                self.go_on_at(alloc, row, Visit::new(seat, part))
-            }
-            None => NOTHING,
+        let Some(seat) = self.next_seat(part) else {
+            return self.end_part(part);
+        };
+        row.exchange(seat, &mut self.buffer);
+        self.visit = Visit::new(seat, part);
+        self.is_visiting = true;
+        if self.goes_on(alloc, row) {
+            return Turn::Seat(seat);
         }
+        NOTHING
     }
 
-    // Returns the next seat of this part. After the last one the next part begins, or it is time to
-    // wait.
+    // Returns the next seat of this part.
     fn next_seat(&mut self, part: Part) -> Option<usize> {
-        let seat = match part {
+        match part {
             Part::Answers => self.queue.take_next(),
             _ => self.queue.next_in_round(),
-        };
-        if seat.is_none() {
-            self.end_part(part);
         }
-        seat
     }
 
-    fn end_part(&mut self, part: Part) {
+    fn end_part(&mut self, part: Part) -> Turn {
         match part.next() {
             Some(next) => {
                 self.queue.begin_round();
                 self.stage = Stage::Visits(next);
+                NOTHING
             }
-            None => self.stage = Stage::Time,
+            None => {
+                self.stage = Stage::Wait;
+                Turn::Time
+            }
         }
     }
 
-    // Returns the next action of a visit, unless the visit pauses here.
-    fn go_on_at<L: Line + Drop, D: Door<Line = L>>(
+    // Returns true if the visit has another action. Otherwise it pauses here.
+    fn goes_on<L: Line + Drop, D: Door<Line = L>>(
         &mut self,
         alloc: Global,
         row: &mut Row<L, D>,
-        visit: Visit,
-    ) -> Turn
-        requires tended { AreTended L.seen (door_seen D.is_out D.is_at_end D.lines_over) row.old }
-        ensures tended { AreTended L.seen (door_seen D.is_out D.is_at_end D.lines_over) row.new }
-        ensures rests { (first : Row L D) → RestsSince L.seen (door_seen D.is_out D.is_at_end D.lines_over) D.same first row.old
-            → RestsSince L.seen (door_seen D.is_out D.is_at_end D.lines_over) D.same first row.new }
-    {
-        match pause_of(&visit, row) {
-            None => {
-                let lent = self.keeps_buffer(row, &visit);
-                self.visit = Some(visit.lent(lent));
-                Turn::Seat(visit.seat())
-            }
-            Some(pause) => {
-                self.visit = None;
-                if visit.is_lent() {
-                    row.exchange(visit.seat(), &mut self.buffer);
-                }
-                self.pause(alloc, row, visit.seat(), pause);
-                NOTHING
-            }
-        }
-    }
-
-    // Returns true if the line keeps the shared buffer for the next action. A line that ends
-    // returns it first. Otherwise its door would keep it, and in the end each door would have such
-    // a buffer of 64 KB.
-    fn keeps_buffer<L: Line + Drop, D: Door<Line = L>>(
-        &mut self,
-        row: &mut Row<L, D>,
-        visit: &Visit,
     ) -> bool
         requires tended { AreTended L.seen (door_seen D.is_out D.is_at_end D.lines_over) row.old }
         ensures tended { AreTended L.seen (door_seen D.is_out D.is_at_end D.lines_over) row.new }
         ensures rests { (first : Row L D) → RestsSince L.seen (door_seen D.is_out D.is_at_end D.lines_over) D.same first row.old
             → RestsSince L.seen (door_seen D.is_out D.is_at_end D.lines_over) D.same first row.new }
     {
-        if !visit.is_lent() || !ends_line(row, visit.seat()) {
-            return visit.is_lent();
+        let visit = self.visit;
+        match pause_of(&visit, row) {
+            None => {
+                if ends_line(row, visit.seat()) {
+                    self.take_back(row);
+                }
+                true
+            }
+            Some(pause) => {
+                self.is_visiting = false;
+                self.take_back(row);
+                self.pause(alloc, row, visit.seat(), pause);
+                false
+            }
         }
-        row.exchange(visit.seat(), &mut self.buffer);
-        false
+    }
+
+    // Takes the shared buffer back, when a visit pauses or before a line ends. Otherwise the door
+    // of the line would keep it, and in the end each door would hold a used buffer of 64 KB.
+    fn take_back<L: Line + Drop, D: Door<Line = L>>(&mut self, row: &mut Row<L, D>)
+        requires tended { AreTended L.seen (door_seen D.is_out D.is_at_end D.lines_over) row.old }
+        ensures tended { AreTended L.seen (door_seen D.is_out D.is_at_end D.lines_over) row.new }
+        ensures rests { (first : Row L D) → RestsSince L.seen (door_seen D.is_out D.is_at_end D.lines_over) D.same first row.old
+            → RestsSince L.seen (door_seen D.is_out D.is_at_end D.lines_over) D.same first row.new }
+    {
+        if self.visit.is_lent() {
+            row.exchange(self.visit.seat(), &mut self.buffer);
+            self.visit.give_back();
+        }
     }
 
     // Handles the pause of a visit.
@@ -402,25 +425,16 @@ impl<'r, R: rt::Clock> Turns for Poller<'r, R> {
                 self.stage = Stage::Control;
                 NOTHING
             }
-            Stage::Control => self.control_turn(news.control),
+            Stage::Control => self.control_turn(alloc, row, news),
             Stage::ControlRead => {
                 self.control.watch_on(self.poll.registry(), news.control);
-                self.stage = Stage::Doors;
-                NOTHING
+                self.look_at_next(alloc, row)
             }
-            Stage::Doors => {
-                self.look_at_next(alloc, row);
-                NOTHING
-            }
+            Stage::Doors => self.look_at_next(alloc, row),
             Stage::Visits(part) => self.go_on(alloc, row, part, news.moved),
-            Stage::Time => {
-                self.stage = Stage::Wait;
-                Turn::Time
-            }
             Stage::Wait => {
                 self.wait(row, news);
-                self.stage = Stage::Control;
-                NOTHING
+                self.control_turn(alloc, row, news)
             }
         }
     }

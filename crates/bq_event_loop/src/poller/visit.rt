@@ -77,15 +77,9 @@ impl Visit {
         }
     }
 
-    /// Returns the same visit, with a note whether its line has the shared buffer.
-    pub fn lent(self, is_lent: bool) -> Visit {
-        Visit {
-            seat: self.seat,
-            part: self.part,
-            left: self.left,
-            unmoved: self.unmoved,
-            is_lent,
-        }
+    /// Notes that its line gave the shared buffer back.
+    pub fn give_back(&mut self) {
+        self.is_lent = false;
     }
 
     /// Returns true if its line has the shared buffer.
@@ -98,19 +92,14 @@ impl Visit {
         self.seat
     }
 
-    /// Returns the visit after another action, which moved something or not.
-    pub fn after(self, moved: bool) -> Visit {
-        Visit {
-            seat: self.seat,
-            part: self.part,
-            left: self.left.saturating_sub(1),
-            unmoved: if moved {
-                0
-            } else {
-                self.unmoved.saturating_add(1)
-            },
-            is_lent: self.is_lent,
-        }
+    /// Notes another action, which moved something or not.
+    pub fn note(&mut self, moved: bool) {
+        self.left = self.left.saturating_sub(1);
+        self.unmoved = if moved {
+            0
+        } else {
+            self.unmoved.saturating_add(1)
+        };
     }
 
     /// Returns the reason for a pause, or `None` if the visit goes on.
