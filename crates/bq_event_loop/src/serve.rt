@@ -156,9 +156,33 @@ fn serve_seat<L: Line + Drop, D: Door<Line = L>, C: Clock + Drop, K: QueueCore +
     if seat >= row.seats.len() {
         return false;
     }
-    let moved = act(row, hub, seat, room);
+    let moved = act_and_poll(row, hub, seat, room);
     if !row.seats[seat].polls_mail() {
         let _all = hub.sort(0);
+    }
+    moved
+}
+
+// One action of a seat. If it submitted a step, the seat looks for the answer at once: mostly the core gave it.
+fn act_and_poll<L: Line + Drop, D: Door<Line = L>, C: Clock + Drop, K: QueueCore + Drop>(
+    row: &mut Row<L, D>,
+    hub: &mut Hub<C, K>,
+    seat: usize,
+    room: &mut Room,
+) -> bool
+    requires order { IsInOrder (state_of K.machine K.comparisons hub.old) }
+    requires tended { AreTended L.seen (door_seen D.is_out D.is_at_end D.lines_over) row.old }
+    requires mailed { length hub.old.mails.items ≡ length row.old.seats.items }
+    requires few { length row.old.seats.items ≤ 65535 }
+    requires below { seat < length row.old.seats.items }
+    ensures order { IsInOrder (state_of K.machine K.comparisons hub.new) }
+    ensures tended { AreTended L.seen (door_seen D.is_out D.is_at_end D.lines_over) row.new }
+    ensures served { ServesOn K.machine K.comparisons C.given L.seen (door_seen D.is_out D.is_at_end D.lines_over) D.same
+        hub.old row.old [] hub.new row.new }
+{
+    let moved = act(row, hub, seat, room);
+    if moved && row.seats[seat].polls_mail() {
+        return act(row, hub, seat, room);
     }
     moved
 }

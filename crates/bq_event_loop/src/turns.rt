@@ -12,7 +12,8 @@ use std::alloc::Global;
 /// What the loop does next.
 #[derive(Clone, Copy, Debug, PartialEq, Eq)]
 pub enum Turn {
-    /// One action of this seat. If the seat does not exist, nothing is done.
+    /// One action of this seat. If it submits a step, the seat then checks for the answer too. If
+    /// the seat does not exist, nothing is done.
     Seat(usize),
     /// The control line is read.
     Control(ControlReads),

@@ -3,8 +3,9 @@
 use bq_driver::attendant::Attendant;
 use bq_line::line::Line;
 
-/// The largest number of actions in a visit: those of some 32 commands.
-const MOST: u32 = 128;
+/// The largest number of turns in a visit: those of some 32 commands that came together. Each takes
+/// two, one to submit it and one to write its answer.
+const MOST: u32 = 64;
 
 /// A part of the visits of a round.
 #[derive(Clone, Copy, Debug, PartialEq, Eq)]
