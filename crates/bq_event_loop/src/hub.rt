@@ -150,6 +150,7 @@ impl<C: Clock + Drop, K: QueueCore + Drop> Hub<C, K> {
 
     /// Puts all answers into the mail of their seats, which makes no difference to any seat.
     /// Returns false if one is left because the mail of its seat is full.
+    #[inline(always)]
     pub fn sort(&mut self, seat: Seat) -> bool
         requires order { IsInOrder (state_of K.machine K.comparisons self.old) }
         ensures order { IsInOrder (state_of K.machine K.comparisons self.new) }
@@ -163,6 +164,7 @@ impl<C: Clock + Drop, K: QueueCore + Drop> Hub<C, K> {
         self.sort_out()
     }
 
+    #[inline(never)]
     fn sort_out(&mut self) -> bool
         requires order { IsInOrder (state_of K.machine K.comparisons self.old) }
         ensures order { IsInOrder (state_of K.machine K.comparisons self.new) }
@@ -203,10 +205,10 @@ impl<C: Clock + Drop, K: QueueCore + Drop> Hub<C, K> {
         ensures due { (self.new.timed.is_due_known ≡ self.old.timed.is_due_known) × (self.new.timed.due ≡ self.old.timed.due) }
         ensures marked { self.new.is_sorted ≡ self.old.is_sorted }
     {
-        match self.held.take() {
-            Some(held) => Some(held),
-            None => self.timed.outs.take_first(),
+        if self.held.is_some() {
+            return self.held.take();
         }
+        self.timed.outs.take_first()
     }
 
     /// Removes and returns the first of the seats that received mail.
