@@ -249,13 +249,32 @@ impl<L: Line + Drop> Attendant<L> {
                 other => carry_out(alloc, &mut self.machine, other, sent, line, link, room),
             },
             LinePlace::Between => {
-                self.place = open_line(alloc, &mut self.machine, door);
+                open_in_place(alloc, &mut self.machine, &mut self.place, door);
                 true
             }
             LinePlace::Leaving => leave(&mut self.place, link),
             LinePlace::Done => false,
         }
     }
+}
+
+// Opens the next line in its place. A separate function, because its caller would otherwise reserve and initialize
+// room for a line on every path.
+#[inline(never)]
+fn open_in_place<L: Line + Drop, D: Door<Line = L>>(
+    alloc: Global,
+    machine: &mut SeatMachine,
+    place: &mut LinePlace<L>,
+    door: &mut D,
+)
+    requires inside { D.is_out door.old ≡ false }
+    requires more { D.is_at_end door.old ≡ false }
+    ensures opened { place.new ≡ LinePlace.Between → ⊥ }
+    ensures went { let at = door_seen D.is_out D.is_at_end D.lines_over in
+        Tends L.seen (attendant machine.old LinePlace.Between) (at door.old) [] [] (attendant machine.new place.new) (at door.new) }
+    ensures same { (first : D) → D.same first door.old → D.same first door.new }
+{
+    *place = open_line(alloc, machine, door);
 }
 
 // Opens the next line, or learns that no more come.
@@ -280,6 +299,7 @@ fn open_line<L: Line + Drop, D: Door<Line = L>>(
 
 // Shuts the line, and frees its place. A separate function, because its caller would otherwise
 // reserve and initialize room for a line on every path.
+#[inline(never)]
 fn shut_line<L: Line + Drop, D: Door<Line = L>>(
     place: &mut LinePlace<L>,
     door: &mut D,

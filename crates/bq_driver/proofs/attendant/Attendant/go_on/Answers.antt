@@ -9,9 +9,9 @@ use Rattle.bq_driver.proofs.attendant.Attendant.go_on.Goals as goal
 pub returns-in-Between-clause-went : goal.returns-in-Between-clause-went
 returns-in-Between-clause-went g c =
     let at = door_seen g.D.Door.is_out g.D.Door.is_at_end g.D.Door.lines_over in
-    from_place g.K.Link.went c.args.link.now c.args.link.now g.L.Line.seen c.args.self.now.machine c.open_line.new.machine
-    c.args.self.now.place places.Between c.open_line.result (at c.args.door.now) (at c.open_line.new.door)
-    c.in-Between.is ([], [], inr (refl, refl, refl), c.open_line.ensures.went)
+    from_place g.K.Link.went c.args.link.now c.args.link.now g.L.Line.seen c.args.self.now.machine c.open_in_place.new.machine
+    c.args.self.now.place places.Between c.open_in_place.new.place (at c.args.door.now) (at c.open_in_place.new.door)
+    c.in-Between.is ([], [], inr (refl, refl, refl), c.open_in_place.ensures.went)
 
 pub returns-in-LineOver-clause-went : goal.returns-in-LineOver-clause-went
 returns-in-LineOver-clause-went g c =
