@@ -20,6 +20,8 @@ use std::io;
 #[derive(Drop)]
 pub struct Room {
     pub piece: [u8; PIECE_ROOM],
+    /// For the head of an answer.
+    pub head: HeadBuf,
 }
 
 impl Room {
@@ -27,6 +29,7 @@ impl Room {
     pub fn new() -> Room {
         Room {
             piece: [0; PIECE_ROOM],
+            head: HeadBuf::new(),
         }
     }
 }
@@ -82,14 +85,20 @@ fn write_text<L: Line>(line: &mut L, answer: &Answer, sent: &mut usize, room: &m
     ensures text { Resumes (answer_text answer.now) sent.old (L.seen line.old) result sent.new (L.seen line.new) }
     ensures stays { StaysOver L.lies_over line.old line.new }
 {
-    let mut head = HeadBuf::new();
-    answer_head(answer, &mut head);
+    answer_head(answer, &mut room.head);
     let body = answer_body(answer);
     let tail = answer_tail(answer);
-    if have_room(&head, body, tail) {
-        write_behind(line, &mut head, body, tail, sent)
+    if have_room(&room.head, body, tail) {
+        write_behind(line, &mut room.head, body, tail, sent)
     } else {
-        write_long(line, room, head.as_slice(), body, tail, sent)
+        write_long(
+            line,
+            &mut room.piece,
+            room.head.as_slice(),
+            body,
+            tail,
+            sent,
+        )
     }
 }
 
@@ -122,7 +131,7 @@ fn write_behind<L: Line>(
 // copying a large body costs more than a gathered write.
 fn write_long<L: Line>(
     line: &mut L,
-    room: &mut Room,
+    room: &mut [u8],
     head: &[u8],
     body: &[u8],
     tail: &[u8],
@@ -132,8 +141,8 @@ fn write_long<L: Line>(
     ensures text { Resumes (head.now ++ body.now ++ tail.now) sent.old (L.seen line.old) result sent.new (L.seen line.new) }
     ensures stays { StaysOver L.lies_over line.old line.new }
 {
-    if fits(room.piece.len(), head, body, tail) {
-        write_joined(line, &mut room.piece, head, body, tail, sent)
+    if fits(room.len(), head, body, tail) {
+        write_joined(line, room, head, body, tail, sent)
     } else {
         write_parts(line, head, body, tail, sent)
     }
