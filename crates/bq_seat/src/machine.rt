@@ -309,6 +309,7 @@ impl SeatMachine {
         *next = Action::Read;
     }
 
+    #[inline(always)]
     fn ask(&mut self, request: Request, next: &mut Action)
         ensures action { next.new ≡ Action.Submit (Step.Ask request) }
         ensures after { self.new ≡ in_stage (asking_stage request) self.old }

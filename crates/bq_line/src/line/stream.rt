@@ -226,6 +226,7 @@ impl<S: Socket> Connection<S> {
     }
 
     // Reads the stream once if it is ready.
+    #[inline(always)]
     fn read_ready(&mut self, buf: &mut [u8], ready: Readiness) -> io::Result<usize>
         ensures bound { ReadsAtMost result buf.new }
         ensures bytes { ReadConsumes (S.remaining self.old.stream) (S.remaining self.new.stream) result buf.new }
@@ -243,6 +244,7 @@ impl<S: Socket> Connection<S> {
     }
 
     // Writes to the stream once if it is ready.
+    #[inline(always)]
     fn write_ready(&mut self, buf: &[u8], ready: Readiness) -> io::Result<usize>
         ensures bound { WritesAtMost result buf.now }
         ensures bytes { WriteAppends (S.contents self.old.stream) (S.contents self.new.stream) result buf.now }
@@ -476,6 +478,7 @@ impl ReadBuffer {
     }
 
     /// Reads the stream once if the buffer is empty. `waits` says whether that may wait for bytes.
+    #[inline(always)]
     pub fn fill<S: Duplex>(&mut self, stream: &mut S, waits: bool) -> io::Result<()>
         ensures bytes { Keeps (prepend_known self.old (S.remaining stream.old))
             (prepend_known self.new (S.remaining stream.new)) }
