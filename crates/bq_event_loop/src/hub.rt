@@ -183,6 +183,9 @@ impl<C: Clock + Drop, K: QueueCore + Drop> Hub<C, K> {
         ensures clock { self.new.timed.time.clock ≡ self.old.timed.time.clock }
         ensures none { result ≡ true → (state_of K.machine K.comparisons self.new).pending ≡ [] }
     {
+        if self.has_none_pending() {
+            return true;
+        }
         while let Some((seat, answer)) = self.next_pending() {
             if let Err(back) = post(&mut self.mails, &mut self.woken, seat, answer) {
                 self.held = Some((seat, back));
@@ -190,6 +193,13 @@ impl<C: Clock + Drop, K: QueueCore + Drop> Hub<C, K> {
             }
         }
         true
+    }
+
+    // Returns true if no answer is pending. Mostly none is, since the seat took the only one.
+    fn has_none_pending(&self) -> bool
+        ensures { result ≡ true → (state_of K.machine K.comparisons self.now).pending ≡ [] }
+    {
+        self.held.is_none() && self.timed.outs.is_empty()
     }
 
     fn next_pending(&mut self) -> Option<(Seat, Answer)>

@@ -1,4 +1,4 @@
-ghost use Rattle.std.specs.Prelude.{◌≡◌, ◌↔◌, ◌+◌, ◌<◌, ◌++◌, ◌∷◌, [], false, true, length, IfOk, IsNone};
+ghost use Rattle.std.specs.Prelude.{◌≡◌, ◌↔◌, ◌+◌, ◌<◌, ◌++◌, ◌∷◌, [], false, true, length, IfOk, IsNone, IsTrue};
 ghost use Rattle.std.specs.Option.{option_to_list};
 
 use bq_job::{Answer, NoMemory, Seat};
@@ -54,6 +54,13 @@ impl Outs {
         ensures rest { self.new ≡ record self.old { given = self.new.given } }
     {
         self.answers.pop_front()
+    }
+
+    /// Returns true if no answer remains.
+    pub fn is_empty(&self) -> bool
+        ensures { IsTrue result ↔ (self.now.given ≡ []) }
+    {
+        self.answers.is_empty()
     }
 
     /// Returns true if the last step skipped its command because an allocation failed.
