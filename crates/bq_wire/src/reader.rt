@@ -217,6 +217,29 @@ fn feed_state(
         → (result ≡ 0) × (request.new ≡ None) × (state.new ≡ state.old) }
     ensures limit { state.new.max_job_size ≡ state.old.max_job_size }
 {
+    match state.place {
+        ReaderPlace::InLine => feed_line(alloc, state, piece, request),
+        _ => feed_taken(alloc, state, piece, request),
+    }
+}
+
+// Takes what the reader is in the middle of out of it, and feeds that.
+#[inline(never)]
+fn feed_taken(
+    alloc: Global,
+    state: &mut ReaderState,
+    piece: &[u8],
+    request: &mut Option<Request>,
+) -> usize
+    requires { IsSoundReader state.old }
+    ensures sound { IsSoundReader state.new }
+    ensures within { result ≤ length piece.now }
+    ensures progress { IfSome request.new (λ _. 0 < result) }
+    ensures feeds { Feeds (Stands state.old) state.new piece.now result request.new }
+    ensures over { IsOver state.old
+        → (result ≡ 0) × (request.new ≡ None) × (state.new ≡ state.old) }
+    ensures limit { state.new.max_job_size ≡ state.old.max_job_size }
+{
     match mem::replace(&mut state.place, ReaderPlace::Over) {
         ReaderPlace::InLine => feed_line(alloc, state, piece, request),
         ReaderPlace::InLongLine(after_cr) => feed_long_line(state, after_cr, piece, request),
@@ -282,7 +305,7 @@ fn whole_line(kept: &mut KeptLine, last: &[u8], place: &mut Option<Request>) -> 
     }
     if last.len() > kept.room() {
         kept.clear();
-        *place = Some(bad_format());
+        refuse_line(place);
         return LineRead::Whole;
     }
     kept.push_slice(last);
@@ -290,6 +313,15 @@ fn whole_line(kept: &mut KeptLine, last: &[u8], place: &mut Option<Request>) -> 
     let read = read_line(&line[..line.len() - 1], place);
     kept.clear();
     read
+}
+
+// Refuses a line that is too long. A separate function, because its caller would otherwise initialize
+// room for a request on every path.
+#[inline(never)]
+fn refuse_line(place: &mut Option<Request>)
+    ensures { place.new ≡ Some (Request.Refused Refusal.BadFormat) }
+{
+    *place = Some(bad_format());
 }
 
 // Continues after a complete line, which ends in the piece.
