@@ -1,5 +1,6 @@
 pub mod ActLemmas
 pub mod AskLemmas
+pub mod AtOnceLemmas
 pub mod CostLemmas
 pub mod DispatchLemmas
 pub mod FiringLemmas

@@ -1,7 +1,7 @@
 -- A whole step from its parts.
-use Rattle.std.proofs.Common.{◌++◌, ◌+◌, ◌<◌, ◌||◌, ◌∙◌, ◌∷◌, ◌≡◌, if◌then◌else◌, Bool, List, None, [], ℕ, ap, arith, false, inl, inr, length, map, refl, subst, sym}
+use Rattle.std.proofs.Common.{◌++◌, ◌+◌, ◌<◌, ◌||◌, ◌∙◌, ◌∷◌, ◌≡◌, if◌then◌else◌, Bool, List, None, Option, [], ℕ, ap, append_assoc, arith, false, inl, inr, length, map, refl, subst, sym}
 use Rattle.std.proofs.{Common.map-id, lemmas.{Bool.Decides.nat_tests, Grind.common_steps, List.length-append}}
-use Rattle.std.proofs.{lemmas.List.Sums.count_by-le-length, Math.Bool.or-false}
+use Rattle.std.proofs.{lemmas.List.Sums.count_by-le-length, Math.Bool.{or-false, or_assoc}}
 use Rattle.std.specs.List.{list_all, list_any}
 use Rattle.bq_job.specs.machine.{Chain, DispatchTurn, GivenAnswer, IsHandOut, IsStep, SeatRecord, TubeRecord, WaitEndTurn, acted, addressed, after_hand_out, after_timers, at_moment, forgetting, has_refused_share, is_growth_refused}
 use Rattle.bq_job.specs.machine.{is_seated_at, is_share_refused, is_tube, is_waiting, job_after_timers, next_end, next_job, tube_after_timers, with_seat, without_wait, Machine.Machine}
@@ -10,8 +10,8 @@ use Rattle.bq_job.proofs.{DispatchLemmas.turn_of, KeptLemmas.{Keeps, kept_of_law
 use Rattle.bq_job.proofs.{ListLemmas.list_all_agree, QuietLemmas.forgets_nothing}
 use Rattle.bq_steps.specs.Outbox.{Outbox}
 use Rattle.bq_state.specs.{CoreParts.machine_of, declared.core_parts.CoreParts.CoreParts}
-use Rattle.bq_core.specs.{Acting.Acts, Serving.{NoneIsGone, ServesInto}, Turns.{Gives, HasRoom, none_refused}}
-use Rattle.bq_core.proofs.TurnLemmas.{room_kept}
+use Rattle.bq_core.specs.{Acting.Acts, AtOnce.waiting_at, Serving.{NoneIsGone, ServesInto}, Turns.{Gives, HasRoom, none_refused}}
+use Rattle.bq_core.proofs.TurnLemmas.{chain_joined, refused_joined, room_kept}
 
 -- the same tubes have jobs, and the same are used and watched
 record SameTubes (m n : Machine) : Type 0 where
@@ -40,6 +40,16 @@ waits_alike m number = record {
   tubes = refl;
   exist = grind (arith, common_steps, nat_tests, map-id m.jobs, changed_alike, one_seat);
 }
+
+-- A client that begins to wait leaves its tubes as they are.
+pub waiting_alike : (m : Machine) (number : ℕ) (until : Option ℕ) → NoneIsGone m → NoneIsGone (waiting_at number until m)
+waiting_alike m number until none = none_gone_after m (waiting_at number until m) same none
+  where
+    same : SameTubes m (waiting_at number until m)
+    same = record {
+      tubes = refl;
+      exist = grind (arith, common_steps, nat_tests, map-id m.jobs, changed_alike, one_seat);
+    }
 
 hand_out_alike : (m : Machine) (j : Job) (s : SeatRecord) → SameTubes m (after_hand_out m j s)
 hand_out_alike m j s = grind (arith, common_steps, changed_alike, one_tube, one_seat)
@@ -78,25 +88,48 @@ pub forgotten_none : (m : Machine) → NoneIsGone (forgetting m)
 forgotten_none m = only_tubes m
 
 -- dispatch and the ends of waits, one after the other
-unfoldable pub serves_into : (first between last : CoreParts) (old middle new : Outbox) → Gives DispatchTurn has_refused_share (machine_of first) (machine_of between) old middle → next_job (machine_of between) ≡ None → Gives WaitEndTurn none_refused (machine_of between) (machine_of last) middle new → next_end (machine_of last) ≡ None → NoneIsGone (machine_of first) → ServesInto (machine_of first) old new (machine_of last)
+unfoldable pub serves_into : (first between last : Machine) (old middle new : Outbox) → Gives DispatchTurn has_refused_share first between old middle → next_job between ≡ None → Gives WaitEndTurn none_refused between last middle new → next_end last ≡ None → NoneIsGone first → ServesInto first old new last
 serves_into first between last old middle new d dispatched w ended none =
-    let then_none = chain_alike DispatchTurn dispatch_turn_alike (machine_of first) d.given (machine_of between) d.turns none in
-    let last_none = chain_alike WaitEndTurn wait_turn_alike (machine_of between) w.given (machine_of last) w.turns then_none in
+    let then_none = chain_alike DispatchTurn dispatch_turn_alike first d.given between d.turns none in
+    let last_none = chain_alike WaitEndTurn wait_turn_alike between w.given last w.turns then_none in
     record {
       handed = d.given;
       ended = w.given;
       serves = record {
-        between = machine_of between;
-        dispatches = record { end = machine_of between; turns = d.turns; done = dispatched; forgets = sym (forgets_nothing (machine_of between) then_none) };
-        ends_waits = record { end = machine_of last; turns = w.turns; done = ended; forgets = sym (forgets_nothing (machine_of last) last_none) };
+        between = between;
+        dispatches = record { end = between; turns = d.turns; done = dispatched; forgets = sym (forgets_nothing between then_none) };
+        ends_waits = record { end = last; turns = w.turns; done = ended; forgets = sym (forgets_nothing last last_none) };
       };
       added = w.added ∙ ap (λ given. given ++ w.given) d.added;
       most = w.most ∙ d.most;
       left_out = w.left_out ∙ d.left_out;
       unshared = w.unshared ∙ or-false middle.unshared ∙ d.unshared;
       tubes = last_none;
-      room = λ more h. room_kept WaitEndTurn none_refused more (machine_of between) (machine_of last) middle new w (room_kept DispatchTurn has_refused_share more (machine_of first) (machine_of between) old middle d h);
+      room = λ more h. room_kept WaitEndTurn none_refused more between last middle new w (room_kept DispatchTurn has_refused_share more first between old middle d h);
     }
+
+-- some turns of dispatch before
+unfoldable pub serves_after : (first middle last : Machine) (old told new : Outbox) → Gives DispatchTurn has_refused_share first middle old told → ServesInto middle told new last → ServesInto first old new last
+serves_after first middle last old told new g s =
+    let d = s.serves.dispatches in
+    record {
+      handed = g.given ++ s.handed;
+      ended = s.ended;
+      serves = record {
+        between = s.serves.between;
+        dispatches = record { end = d.end; turns = chain_joined DispatchTurn first middle d.end g.given s.handed g.turns d.turns; done = d.done; forgets = d.forgets };
+        ends_waits = s.serves.ends_waits;
+      };
+      added = s.added ∙ ap (λ given. given ++ s.handed ++ s.ended) g.added ∙ joined old.given g.given s.handed s.ended;
+      most = s.most ∙ g.most;
+      left_out = s.left_out ∙ g.left_out;
+      unshared = s.unshared ∙ ap (λ b. b || has_refused_share s.handed) g.unshared ∙ or_assoc old.unshared (has_refused_share g.given) (has_refused_share s.handed) ∙ ap (λ b. old.unshared || b) (sym (refused_joined g.given s.handed));
+      tubes = s.tubes;
+      room = λ more h. s.room more (room_kept DispatchTurn has_refused_share more first middle old told g h);
+    }
+  where
+    joined : (ws xs ys zs : List GivenAnswer) → (ws ++ xs) ++ ys ++ zs ≡ ws ++ (xs ++ ys) ++ zs
+    joined ws xs ys zs = grind (arith, common_steps, append_assoc)
 
 pub begins : (first fired : CoreParts) (at : ℕ) → IsLawful (machine_of first) → machine_of fired ≡ after_timers (at_moment at (machine_of first)) → forgetting (after_timers (at_moment at (machine_of first))) ≡ machine_of fired
 begins first fired at lawful fires = forgets_nothing (after_timers (at_moment at (machine_of first))) (timers_alike at (machine_of first) lawful.tubes) ∙ sym fires
@@ -117,41 +150,41 @@ pub less_room : (m : Machine) (o : Outbox) → HasRoom 1 m o → HasRoom 0 m o
 less_room m o h = omega arith
 
 -- the parts of a step up to and including the command's own effect
-pub record Begun (first : CoreParts) (at seat : ℕ) (what : Step) (begun between asked : Outbox) (acted_state left : CoreParts) : Type 0 where
+pub record Begun (first : CoreParts) (at seat : ℕ) (what : Step) (begun between asked : Outbox) (acted_machine left : Machine) : Type 0 where
   pub fired : CoreParts
   pub served_state : CoreParts
   pub lawful : IsLawful (machine_of first)
   pub fires : machine_of fired ≡ after_timers (at_moment at (machine_of first))
   pub serves : ServesInto (machine_of fired) begun between (machine_of served_state)
-  pub acts : Acts (machine_of served_state) seat what between asked (machine_of acted_state)
-  pub forgotten : machine_of left ≡ forgetting (machine_of acted_state)
+  pub acts : Acts (machine_of served_state) seat what between asked acted_machine
+  pub forgotten : left ≡ forgetting acted_machine
 
-pub keeps : (first : CoreParts) (at seat : ℕ) (what : Step) (begun between asked : Outbox) (acted_state left : CoreParts) (b : Begun first at seat what begun between asked acted_state left) → Keeps (machine_of b.served_state)
-keeps first at seat what begun between asked acted_state left b =
+pub keeps : (first : CoreParts) (at seat : ℕ) (what : Step) (begun between asked : Outbox) (acted_machine left : Machine) (b : Begun first at seat what begun between asked acted_machine left) → Keeps (machine_of b.served_state)
+keeps first at seat what begun between asked acted_machine left b =
     let h = kept_of_timers at (machine_of first) (kept_of_lawful (machine_of first) b.lawful) in
     (served (machine_of b.fired) b.serves.handed b.serves.ended (machine_of b.served_state) (subst Keeps (begins first b.fired at b.lawful b.fires) h) b.serves.serves).keeps
 
 -- the command's own effect leaves room for an answer to each waiting client
-pub room_after_act : (first : CoreParts) (at seat : ℕ) (what : Step) (begun between asked : Outbox) (acted_state left : CoreParts) (b : Begun first at seat what begun between asked acted_state left) → HasRoom 1 (machine_of b.served_state) between → HasRoom 0 (machine_of left) asked
-room_after_act first at seat what begun between asked acted_state left b h =
+pub room_after_act : (first : CoreParts) (at seat : ℕ) (what : Step) (begun between asked : Outbox) (acted_machine left : Machine) (b : Begun first at seat what begun between asked acted_machine left) → HasRoom 1 (machine_of b.served_state) between → HasRoom 0 left asked
+room_after_act first at seat what begun between asked acted_machine left b h =
     let a = b.acts in
     let e = acted a.memory (machine_of b.served_state) seat what in
-    let leaves = (leaves_acted a.memory (machine_of b.served_state) seat what (keeps first at seat what begun between asked acted_state left b)).waiting in
-    let same : waiting_count (machine_of left) ≡ waiting_count e.machine = ap waiting_count b.forgotten ∙ ap waiting_count a.after in
+    let leaves = (leaves_acted a.memory (machine_of b.served_state) seat what (keeps first at seat what begun between asked acted_machine left b)).waiting in
+    let same : waiting_count left ≡ waiting_count e.machine = ap waiting_count b.forgotten ∙ ap waiting_count a.after in
     let long : length asked.given ≡ length between.given + length (addressed seat e.answer) = ap length a.added ∙ length-append between.given (addressed seat e.answer) in
     let one = length_addressed seat e.answer in
     let most = a.most in
     omega arith
 
-unfoldable pub whole_step : (first : CoreParts) (at seat : ℕ) (what : Step) (begun between asked new : Outbox) (acted_state left last : CoreParts) → begun.given ≡ [] → begun.left_out ≡ false → begun.unshared ≡ false → Begun first at seat what begun between asked acted_state left → ServesInto (machine_of left) asked new (machine_of last) → IsStep (machine_of first) at seat what (record { left_out = new.left_out; unshared = new.unshared }) new.given (machine_of last)
-whole_step first at seat what begun between asked new acted_state left last empty in_it shared b y =
+unfoldable pub whole_step : (first : CoreParts) (at seat : ℕ) (what : Step) (begun between asked new : Outbox) (acted_machine left last : Machine) → begun.given ≡ [] → begun.left_out ≡ false → begun.unshared ≡ false → Begun first at seat what begun between asked acted_machine left → ServesInto left asked new last → IsStep (machine_of first) at seat what (record { left_out = new.left_out; unshared = new.unshared }) new.given last
+whole_step first at seat what begun between asked new acted_machine left last empty in_it shared b y =
     let x = b.serves in
     let a = b.acts in
     let e = acted a.memory (machine_of b.served_state) seat what in
     record {
       memory = a.memory;
       before = machine_of b.served_state;
-      after = machine_of left;
+      after = left;
       handed = x.handed;
       ended = x.ended;
       handed_then = y.handed;

@@ -9,7 +9,6 @@ use Rattle.bq_job.specs.machine.{with_job, with_seat, without_wait, Machine.Mach
 use Rattle.bq_job.specs.declared.answer.Answer.TheVariants as answers
 use Rattle.bq_job.proofs.{ChoiceLemmas.first_of_none_passes, ComputedLemmas.{next_seat_waits, waiting_falls}}
 use Rattle.bq_steps.specs.Outbox.{Outbox}
-use Rattle.bq_state.specs.{CoreParts.machine_of, declared.core_parts.CoreParts.CoreParts}
 use Rattle.bq_core.specs.{HandOuts.{AddsHandOut, HandsOut}, Turns.{Gives, HasRoom, none_refused}, WaitEnds.AddsWaitEnd}
 
 -- a hand-out makes the client stop waiting, whether the reference was given or not
@@ -51,36 +50,36 @@ pub if_ok : (r : Result (List ℕ) NoMemory) (x : List ℕ) (P : List ℕ → Ty
 if_ok r x P e p = subst (λ z. IfOk z P) e p
 
 -- the job with this id is the next one
-module _ (st : CoreParts) (id : ℕ) (job_is : Some id ≡ option_map (λ j. j.id) (next_job (machine_of st))) where
-  the_job : (j : Job) × (next_job (machine_of st) ≡ Some j) × (id ≡ j.id)
+module _ (m : Machine) (id : ℕ) (job_is : Some id ≡ option_map (λ j. j.id) (next_job m)) where
+  the_job : (j : Job) × (next_job m ≡ Some j) × (id ≡ j.id)
   the_job = grind (arith, common_steps)
 
   -- a client waits for it: the one at the seat with this number
-  module _ (number : ℕ) (seat_is : (j : Job) → next_job (machine_of st) ≡ Some j → Some number ≡ option_map (λ s. s.number) (next_seat (machine_of st) j)) where
-    the_seat : (s : SeatRecord) × (next_seat (machine_of st) the_job.0 ≡ Some s) × (number ≡ s.number)
+  module _ (number : ℕ) (seat_is : (j : Job) → next_job m ≡ Some j → Some number ≡ option_map (λ s. s.number) (next_seat m j)) where
+    the_seat : (s : SeatRecord) × (next_seat m the_job.0 ≡ Some s) × (number ≡ s.number)
     the_seat = grind (arith, common_steps, the_job)
 
-    waits : Contains st.seats.items the_seat.0 × (is_waiting the_seat.0 ≡ true)
-    waits = let w = next_seat_waits (machine_of st) the_job.0 the_seat.0 the_seat.1 in (w.0, w.1)
+    waits : Contains m.seats the_seat.0 × (is_waiting the_seat.0 ≡ true)
+    waits = let w = next_seat_waits m the_job.0 the_seat.0 the_seat.1 in (w.0, w.1)
 
-    pub somebody_waits : 0 < waiting_count (machine_of st)
-    somebody_waits = omega (arith, waiting_falls (machine_of st) the_seat.0 waits.0 waits.1)
+    pub somebody_waits : 0 < waiting_count m
+    somebody_waits = omega (arith, waiting_falls m the_seat.0 waits.0 waits.1)
 
-    module _ (shared : Result (List ℕ) NoMemory) (body_is : IfOk shared (λ body. (j : Job) → next_job (machine_of st) ≡ Some j → body ≡ j.body)) (old new : Outbox) (last : Machine) (given : HandsOut (machine_of st) id number shared old new last) where
-      hands : AddsHandOut (machine_of st) the_job.0 the_seat.0 old new last
+    module _ (shared : Result (List ℕ) NoMemory) (body_is : IfOk shared (λ body. (j : Job) → next_job m ≡ Some j → body ≡ j.body)) (old new : Outbox) (last : Machine) (given : HandsOut m id number shared old new last) where
+      hands : AddsHandOut m the_job.0 the_seat.0 old new last
       hands = given the_job.0 the_seat.0 the_job.2 the_seat.2 (IfOk-weaker shared _ _ (λ body told. told the_job.0 the_job.1) body_is)
 
-      pub turn_given : Gives DispatchTurn has_refused_share (machine_of st) last old new
-      turn_given = one_turn (machine_of st) last old new the_job.0 the_seat.0 the_job.1 the_seat.1 waits.0 waits.1 hands
+      pub turn_given : Gives DispatchTurn has_refused_share m last old new
+      turn_given = one_turn m last old new the_job.0 the_seat.0 the_job.1 the_seat.1 waits.0 waits.1 hands
 
-      pub turn_falls : waiting_count last < waiting_count (machine_of st)
-      turn_falls = hand_out_falls (machine_of st) the_job.0 the_seat.0 _ last waits.0 waits.1 hands.hand_out
+      pub turn_falls : waiting_count last < waiting_count m
+      turn_falls = hand_out_falls m the_job.0 the_seat.0 _ last waits.0 waits.1 hands.hand_out
 
 pub refused_joined : (xs ys : List GivenAnswer) → has_refused_share (xs ++ ys) ≡ (has_refused_share xs || has_refused_share ys)
 refused_joined [] ys = refl
 refused_joined (x ∷ xs) ys = grind (arith, common_steps, refused_joined xs ys)
 
-chain_joined : (Turn : Machine → GivenAnswer → Machine → Type 0) (first middle last : Machine) (xs ys : List GivenAnswer) → Chain Turn first xs middle → Chain Turn middle ys last → Chain Turn first (xs ++ ys) last
+pub chain_joined : (Turn : Machine → GivenAnswer → Machine → Type 0) (first middle last : Machine) (xs ys : List GivenAnswer) → Chain Turn first xs middle → Chain Turn middle ys last → Chain Turn first (xs ++ ys) last
 chain_joined Turn first middle last [] ys a b = rw a at b
 chain_joined Turn first middle last (x ∷ xs) ys a b = (a.0, a.1, chain_joined Turn a.0 middle last xs ys a.2 b)
 

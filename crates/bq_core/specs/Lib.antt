@@ -1,4 +1,5 @@
 pub mod Acting
+pub mod AtOnce
 pub mod CoreState
 pub mod Firing
 pub mod HandOuts

@@ -32,7 +32,7 @@ use bq_state::{changes, seats};
 use bq_steps::Outs;
 
 /// A ready job, as its priority and its id.
-type Offer = (u64, JobId);
+pub(crate) type Offer = (u64, JobId);
 
 // Returns the one of two ready jobs that goes first.
 fn better(best: Option<Offer>, other: Option<Offer>) -> Option<Offer>
@@ -64,8 +64,8 @@ fn offer_of(jobs: &mut NumberedJobs, tubes: &Tubes, tube: &TubeName) -> Option<O
     }
 }
 
-// Returns the best of this job and those that the tubes with these names offer.
-fn best_among(
+/// Returns the best of this job and those that the tubes with these names offer.
+pub(crate) fn best_among(
     jobs: &mut NumberedJobs,
     tubes: &Tubes,
     names: &[TubeName],

@@ -15,6 +15,30 @@ static MANY_TUBES: &[Script] = &[
     0 0 put 0 0 9 1~p | 0 INSERTED 1 | 2 RESERVED 1 1~p
     0 0 use a | 0 USING a
     0 0 put 0 0 9 1~q | 0 INSERTED 2 | 1 RESERVED 2 1~q",
+    "# a job at once out of nine tubes, and out of eight
+    0 1 watch a | 1 WATCHING 2
+    0 1 watch b | 1 WATCHING 3
+    0 1 watch c | 1 WATCHING 4
+    0 1 watch d | 1 WATCHING 5
+    0 1 watch e | 1 WATCHING 6
+    0 1 watch f | 1 WATCHING 7
+    0 1 watch g | 1 WATCHING 8
+    0 1 watch h | 1 WATCHING 9
+    0 0 use h | 0 USING h
+    0 0 put 7 0 9 1~x | 0 INSERTED 1
+    0 0 use a | 0 USING a
+    0 0 put 3 0 9 1~y | 0 INSERTED 2
+    0 1 reserve | 1 RESERVED 2 1~y
+    0 1 ignore default | 1 WATCHING 8
+    0 1 reserve-with-timeout 0 | 1 RESERVED 1 1~x",
+    "# no job at once out of a paused tube
+    0 0 put 0 0 9 1~x | 0 INSERTED 1
+    0 0 pause-tube default 5 | 0 PAUSED
+    0 0 use a | 0 USING a
+    0 0 put 7 0 9 1~y | 0 INSERTED 2
+    0 1 watch a | 1 WATCHING 2
+    0 1 reserve | 1 RESERVED 2 1~y
+    0 1 reserve-with-timeout 0 | 1 TIMED_OUT",
     "# timed waits by ticket
     0 2 reserve-with-timeout 1
     0 1 reserve-with-timeout 1

@@ -12,7 +12,7 @@ pub hand_out-requires : goal.hand_out-requires
 hand_out-requires c =
     let number = c.in-Some-pick.number in
     let picked = subst (λ (x : Machine). (j : Job) → next_job x ≡ Some j → Some number ≡ option_map (λ (s : SeatRecord). s.number) (next_seat x j)) (ap machine_held c.in-Some.ensures.kept.same) c.in-Some-pick.ensures.picked in
-    record { room = omega (arith, somebody_waits c.args.state.now c.in-Some.id c.in-Some.ensures.id number picked, c.requires.room) }
+    record { room = omega (arith, somebody_waits (machine_of c.args.state.now) c.in-Some.id c.in-Some.ensures.id number picked, c.requires.room) }
 
 pub returns-clause-given : goal.returns-clause-given
 returns-clause-given c _ =
@@ -22,7 +22,7 @@ returns-clause-given c _ =
     let second = ap machine_held c.in-Some-pick.ensures.kept.same in
     let picked = subst (λ (x : Machine). (j : Job) → next_job x ≡ Some j → Some number ≡ option_map (λ (s : SeatRecord). s.number) (next_seat x j)) first c.in-Some-pick.ensures.picked in
     let body = subst (λ (x : Machine). IfOk shared (λ body. (j : Job) → next_job x ≡ Some j → body ≡ j.body)) first c.in-Some-pick.ensures.share in
-    turn_given c.args.state.now c.in-Some.id c.in-Some.ensures.id number picked shared body c.args.outs.now c.hand_out.new.outs (machine_of c.hand_out.new.state)
+    turn_given (machine_of c.args.state.now) c.in-Some.id c.in-Some.ensures.id number picked shared body c.args.outs.now c.hand_out.new.outs (machine_of c.hand_out.new.state)
     (subst (λ (x : Machine). HandsOut x c.in-Some.id number shared c.args.outs.now c.hand_out.new.outs (machine_of c.hand_out.new.state)) (second ∙ first) c.hand_out.ensures.given)
 
 pub returns-clause-fewer : goal.returns-clause-fewer
@@ -33,5 +33,5 @@ returns-clause-fewer c _ =
     let second = ap machine_held c.in-Some-pick.ensures.kept.same in
     let picked = subst (λ (x : Machine). (j : Job) → next_job x ≡ Some j → Some number ≡ option_map (λ (s : SeatRecord). s.number) (next_seat x j)) first c.in-Some-pick.ensures.picked in
     let body = subst (λ (x : Machine). IfOk shared (λ body. (j : Job) → next_job x ≡ Some j → body ≡ j.body)) first c.in-Some-pick.ensures.share in
-    turn_falls c.args.state.now c.in-Some.id c.in-Some.ensures.id number picked shared body c.args.outs.now c.hand_out.new.outs (machine_of c.hand_out.new.state)
+    turn_falls (machine_of c.args.state.now) c.in-Some.id c.in-Some.ensures.id number picked shared body c.args.outs.now c.hand_out.new.outs (machine_of c.hand_out.new.state)
     (subst (λ (x : Machine). HandsOut x c.in-Some.id number shared c.args.outs.now c.hand_out.new.outs (machine_of c.hand_out.new.state)) (second ∙ first) c.hand_out.ensures.given)
