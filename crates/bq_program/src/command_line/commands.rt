@@ -96,7 +96,7 @@ fn number_arg<'a>(
 fn still_arg<'a>(alloc: Global) -> Arg<'a> {
     Arg::new(alloc, STILL)
         .long(STILL)
-        .help("The clock stands at 0; it is the machine's unless chosen")
+        .help("The clock always reads 0; by default it is the machine's")
         .action(ArgAction::SetTrue)
 }
 
@@ -106,7 +106,7 @@ fn listen_arg<'a>(alloc: Global) -> Arg<'a> {
         .long(LISTEN)
         .value_name("ADDR")
         .help(
-            "The address and port to listen at, as 127.0.0.1:11300; the address alone beside --port",
+            "The address and port to listen at, such as 127.0.0.1:11300; with --port the address alone",
         )
         .required(true)
 }
@@ -117,7 +117,7 @@ fn port_arg<'a>(alloc: Global) -> Arg<'a> {
         alloc,
         PORT,
         "PORT",
-        "The port to listen at, 0 to 65535, where ADDR has none; 0 takes a free one",
+        "The port to listen at, 0 to 65535, if ADDR has none; 0 takes a free one",
         numbers,
     )
     .short('p')
@@ -129,7 +129,7 @@ fn seats_arg<'a>(alloc: Global) -> Arg<'a> {
         alloc,
         SEATS,
         "N",
-        "How many clients can be connected at a time, 1 to 256; 16 unless chosen",
+        "How many clients are served at a time, 1 to 256; default 16",
         numbers,
     )
 }
@@ -140,7 +140,7 @@ fn sessions_arg<'a>(alloc: Global) -> Arg<'a> {
         alloc,
         SESSIONS,
         "K",
-        "How many connections each seat serves, 1 to 4294967295; without end unless chosen",
+        "How many connections each seat serves, 1 to 4294967295; no limit by default",
         numbers,
     )
 }
@@ -148,7 +148,7 @@ fn sessions_arg<'a>(alloc: Global) -> Arg<'a> {
 fn event_loop_arg<'a>(alloc: Global) -> Arg<'a> {
     Arg::new(alloc, EVENT_LOOP)
         .long(EVENT_LOOP)
-        .help("One thread serves all clients; each seat has a thread of its own unless chosen")
+        .help("One thread serves all clients; by default each seat has a thread of its own")
         .action(ArgAction::SetTrue)
 }
 
@@ -158,7 +158,7 @@ fn max_job_size_arg<'a>(alloc: Global) -> Arg<'a> {
         alloc,
         MAX_JOB_SIZE,
         "BYTES",
-        "How many bytes a job's body may have, 1 to 1048576; 65535 unless chosen",
+        "The largest body in bytes, 1 to 1048576; default 65535",
         numbers,
     )
 }
@@ -169,7 +169,7 @@ fn max_jobs_arg<'a>(alloc: Global) -> Arg<'a> {
         alloc,
         MAX_JOBS,
         "N",
-        "How many jobs there can be at a time, 1 to 4294967295; no limit unless chosen",
+        "The most jobs at a time, 1 to 4294967295; no limit by default",
         numbers,
     )
 }
@@ -180,7 +180,7 @@ fn requeue_delay_arg<'a>(alloc: Global) -> Arg<'a> {
         alloc,
         REQUEUE_DELAY,
         "SECONDS",
-        "For how long a job of a lost connection is delayed, 0 to 4294967295; 0 unless chosen",
+        "How long a job is delayed after its connection is lost, 0 to 4294967295; default 0",
         numbers,
     )
 }
@@ -189,7 +189,7 @@ fn requeue_delay_arg<'a>(alloc: Global) -> Arg<'a> {
 fn verbose_arg<'a>(alloc: Global) -> Arg<'a> {
     Arg::new(alloc, VERBOSE)
         .short('V')
-        .help("Changes nothing, also where it is repeated: beanstalkd tells more by it")
+        .help("Accepted and ignored, also if it is repeated; beanstalkd reports more with it")
         .action(ArgAction::Count)
 }
 
