@@ -12,6 +12,7 @@ use bq_line::clock::ScriptClock;
 use bq_line::line::MemLine;
 use bq_run_one::One;
 use bq_serve_tests::clients::ROOM;
+use bq_serve_tests::notation::bytes_of;
 use bq_serve_tests::settings::config;
 use runs::{on_line_of, on_one_line};
 use scripted::{SCRIPTED, Scripted};
@@ -38,7 +39,7 @@ fn scripted_sessions(rt: HostRuntime) {
 }
 
 fn is_written(alloc: Global, row: &Worked, one: &One<MemLine, ScriptClock>) -> bool {
-    match texts::bytes_of(alloc, row.1) {
+    match bytes_of(alloc, row.1) {
         Ok(bytes) => one.line.written() == bytes.as_slice() && one.end == row.2,
         Err(_) => false,
     }

@@ -1,5 +1,6 @@
 //! Clients in memory: what they do, as the parts of a line.
 
+use crate::notation::bytes_of;
 use bq_job::{LineEnd, Moment, NoMemory};
 use bq_line::clock::ScriptClock;
 use bq_line::line::Part;
@@ -12,7 +13,7 @@ pub const ROOM: usize = 1000;
 pub const STILL: &[Option<Moment>] = &[Some(0)];
 
 /// What a client does, and the room for what it receives. The parts are separated by ` + `. A part
-/// is bytes, in which `~` represents CR LF; or `after` with the number of bytes that the client
+/// is bytes, as module `notation` has them; or `after` with the number of bytes that the client
 /// waits to receive; or `fails`, where its line fails.
 pub type Client<'t> = (&'t str, usize);
 
@@ -36,19 +37,6 @@ fn push(parts: &mut Vec<Part, Global>, part: Part) -> Result<(), NoMemory> {
         Ok(()) => Ok(()),
         Err(_) => Err(NoMemory),
     }
-}
-
-// Returns the bytes of a text, in which `~` represents CR LF.
-fn bytes_of(alloc: Global, text: &str) -> Result<Vec<u8>, AllocError> {
-    let mut bytes = Vec::new(alloc);
-    for byte in text.as_bytes() {
-        if *byte == b'~' {
-            bytes.extend_from_slice(b"\r\n")?;
-        } else {
-            bytes.push(*byte)?;
-        }
-    }
-    Ok(bytes)
 }
 
 fn part_of(alloc: Global, text: &str) -> Result<Part, AllocError> {

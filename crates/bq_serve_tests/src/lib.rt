@@ -11,6 +11,7 @@ pub mod drains;
 mod event_loop;
 #[cfg(test)]
 mod lock;
+pub mod notation;
 pub mod refused;
 #[cfg(test)]
 mod sessions;

@@ -6,7 +6,8 @@ use bq_job::{LineEnd, Moment};
 /// Each session runs with each of these clocks: one that stands at 0, one that always fails, and one that goes backwards.
 pub const CLOCKS: &[&[Option<Moment>]] = &[&[Some(0)], &[None], &[Some(9000), Some(4000)]];
 
-/// What the client sends, what it receives, and how its line ends. Module `texts` says how the two texts are read.
+/// What the client sends, what it receives, and how its line ends. Modules `texts` and `notation` (of `bq_serve_tests`) say
+/// how the two texts are read.
 pub type Worked = (&'static str, &'static str, LineEnd);
 
 /// The worked sessions.

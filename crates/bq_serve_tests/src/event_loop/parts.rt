@@ -1,9 +1,9 @@
-//! The notation of what clients do. The parts of a text are separated by ` + `. A part is bytes, in
-//! which `~` represents CR LF; `times 3 x`, which is `xxx`; `after 9`, where the client sends no
-//! more until it has received 9 bytes; `all 9`, where it waits until all clients together have
-//! received 9 bytes; `stops 9`, where it receives no bytes until then; or `fails`, where its line
-//! fails.
+//! The notation of what clients do. The parts of a text are separated by ` + `. A part is bytes, as
+//! module `notation` has them; `after 9`, where the client sends no more until it has received 9
+//! bytes; `all 9`, where it waits until all clients together have received 9 bytes; `stops 9`, where
+//! it receives no bytes until then; or `fails`, where its line fails.
 
+use crate::notation::bytes_of;
 use std::alloc::{AllocError, Global};
 
 /// A part of what a client does.
@@ -19,46 +19,6 @@ pub enum Part {
     Stops(u64),
     /// Its line fails: each further read returns an error.
     Fails,
-}
-
-// Returns the count and the letter if the piece is a repeated letter.
-fn times_of(piece: &str) -> Option<(u32, u8)> {
-    let (count, letter) = piece.strip_prefix("times ")?.split_once(" ")?;
-    Some((count.parse::<u32>().ok()?, *letter.as_bytes().first()?))
-}
-
-fn add_times(bytes: &mut Vec<u8>, count: u32, letter: u8) -> Result<(), AllocError> {
-    for _ in 0..count {
-        bytes.push(letter)?;
-    }
-    Ok(())
-}
-
-fn add_plain(bytes: &mut Vec<u8>, text: &str) -> Result<(), AllocError> {
-    for byte in text.as_bytes() {
-        if *byte == b'~' {
-            bytes.extend_from_slice(b"\r\n")?;
-        } else {
-            bytes.push(*byte)?;
-        }
-    }
-    Ok(())
-}
-
-fn add_piece(bytes: &mut Vec<u8>, piece: &str) -> Result<(), AllocError> {
-    match times_of(piece) {
-        Some((count, letter)) => add_times(bytes, count, letter),
-        None => add_plain(bytes, piece),
-    }
-}
-
-/// Returns the bytes of a text that has no other parts.
-pub fn bytes_of(alloc: Global, text: &str) -> Result<Vec<u8, Global>, AllocError> {
-    let mut bytes = Vec::new(alloc);
-    for piece in text.split(" + ") {
-        add_piece(&mut bytes, piece)?;
-    }
-    Ok(bytes)
 }
 
 // Returns the number after a word.

@@ -5,9 +5,10 @@ ghost use Rattle.std.specs.List.{All};
 ghost use Rattle.bq_driver.specs.Tending.{IsNewDoor};
 
 use crate::clients::{Client, Outcome};
-use crate::event_loop::parts::{bytes_of, parts_of};
+use crate::event_loop::parts::parts_of;
 use crate::event_loop::script::{Limits, Script};
 use crate::event_loop::together::Together;
+use crate::notation::bytes_of;
 use bq_job::{LineEnd, NoMemory};
 use bq_line::line::{IoLine, Line};
 use bq_line::{Door, DoorFault, Opening};
