@@ -23,8 +23,10 @@ pub asks_then : {n k : ℕ} {first between last : Kept} → Asks n first between
 asks_then {n = n} {k = k} {first = first} {between = between} {last = last} a b = grind (arith, common_steps, add-mul)
 
 -- a turn of a loop with one search for each element that passes
-pub asks_summed : {A : Type 0} (f : A → ℕ) (xs : List A) (i : ℕ) (d : A) {first between last : Kept} → i < length xs → Asks (sum_by f (take i xs)) first between → Asks (f (get_or xs i d)) between last → Asks (sum_by f (take (i + 1) xs)) first last
-asks_summed f xs i d {first = first} {last = last} fits a b = subst (λ n. Asks n first last) (sym (sum_by_more f xs i d fits)) (asks_then a b)
+pub asks_summed : {A : Type 0} (f : A → ℕ) (xs : List A) (i : ℕ) (d : A) {first between last : Kept} → i < length xs
+    → Asks (sum_by f (take i xs)) first between → Asks (f (get_or xs i d)) between last → Asks (sum_by f (take (i + 1) xs)) first last
+asks_summed f xs i d {first = first} {last = last} fits a b = subst (λ n. Asks n first last)
+    (sym (sum_by_more f xs i d fits)) (asks_then a b)
 
 -- this many searches are no more than more of them
 pub asks_more : {n : ℕ} (k : ℕ) {old new : Kept} → n ≤ k → Asks n old new → Asks k old new
@@ -38,7 +40,8 @@ pub within : {n : ℕ} (k : ℕ) {old new : Kept} → n ≤ k → Asks n old new
 within {n = n} k {old = old} {new = new} l a = grind (arith, common_steps, mul-le, search_grows)
 
 -- the searches before the one that adds or removes a job
-pub asked_before : (n k : ℕ) {old between new : Kept} → n + k ≤ 10 → Asks n old between → ComparesAtMost k between new → AsksAsChanged old new
+pub asked_before : (n k : ℕ) {old between new : Kept} → n + k ≤ 10 → Asks n old between → ComparesAtMost k between new
+    → AsksAsChanged old new
 asked_before n k {old = old} {between = between} {new = new} few a b =
     let s = search_among (length old.jobs) in
     let most = max (length old.jobs) (length new.jobs) in

@@ -1,29 +1,38 @@
 -- A reserve that is given a job at once has the result of its wait and of one turn of dispatch.
-use Rattle.std.proofs.Common.{◌&&◌, ◌+◌, ◌++◌, ◌-◌, ◌==◌, ◌*◌, ◌∙◌, ◌∷◌, ◌≡◌, ◌≤◌, if◌then◌else◌, Bool, List, None, Option, Some, [], ℕ, ap, arith, false, inl, inr, is_some, length, map, max, not, refl, subst, sym, true}
+use Rattle.std.proofs.Common.{◌&&◌, ◌+◌, ◌++◌, ◌-◌, ◌==◌, ◌*◌, ◌∙◌, ◌∷◌, ◌≡◌, ◌≤◌, if◌then◌else◌, Bool, List, None, Option, Some}
+use Rattle.std.proofs.Common.{[], ℕ, ap, arith, false, inl, inr, is_some, length, map, max, not, refl, subst, sym, true}
 use Rattle.std.proofs.Math.Nat.{add-mul}
 use Rattle.std.proofs.lemmas.{Bool.{and_parts, cases_Bool, eqb-true}, List.length-append, Nat.mul-le}
 use Rattle.std.specs.{List.{AllByRecursion as All, list_any}, Prelude.{Ok, fold, option_map}}
 use Rattle.bq_job.specs.declared.{job.Job.Job, step.Step.Step}
-use Rattle.bq_job.specs.machine.{DispatchTurn, SeatRecord, effect, has_refused_share, is_paused, is_waiting, is_waiting_for, job_with, later, next_job, next_seat, raised, reserved_by, seat_with, silent, waiting_from, with_job, with_seat, without_wait, Machine.Machine}
+use Rattle.bq_job.specs.machine.{DispatchTurn, SeatRecord, effect, has_refused_share, is_paused, is_waiting, is_waiting_for}
+use Rattle.bq_job.specs.machine.{job_with, later, next_job, next_seat, raised, reserved_by, seat_with}
+use Rattle.bq_job.specs.machine.{silent, waiting_from, with_job, with_seat, without_wait, Machine.Machine}
 use Rattle.bq_job.specs.declared.answer.Answer.TheVariants as answers
 use Rattle.bq_job.specs.declared.request.Request.TheVariants as requests
 use Rattle.bq_job.specs.declared.step.Step.TheVariants as steps
 use Rattle.bq_job.proofs.{KeptLemmas.only_seat, QuietLemmas.forgets_nothing}
 use Rattle.bq_steps.specs.{Cost.changed_jobs, Outbox.Outbox}
 use Rattle.bq_jobs.specs.{Kept.Kept, Seen.IsBodyOf}
-use Rattle.bq_state.specs.declared.{core_parts.CoreParts.CoreParts, known.Stir.TheVariants.{Client, Nothing}, seats.SeatChange.TheVariants.Wait}
-use Rattle.bq_state.specs.{Asking.{Asks, AsksAsChanged, AsksWithin, search_among}, CoreParts.machine_of, Cost.waited, Offers.{next_rank, with_offer}, SeatChanges.AreNumbered, SeatStates.is_asking, Stirs.{AreKnown, is_nothing}}
+use Rattle.bq_state.specs.declared.{core_parts.CoreParts.CoreParts, known.Stir.TheVariants.{Client, Nothing}}
+use Rattle.bq_state.specs.declared.{seats.SeatChange.TheVariants.Wait}
+use Rattle.bq_state.specs.{Asking.{Asks, AsksAsChanged, AsksWithin, search_among}, CoreParts.machine_of, Cost.waited}
+use Rattle.bq_state.specs.{Offers.{next_rank, with_offer}, SeatChanges.AreNumbered, SeatStates.is_asking, Stirs.{AreKnown, is_nothing}}
 use Rattle.bq_state.proofs.{PartsLemmas.numbered_after, StirLemmas.{known_nothing, known_of_seat, none_known}, TubeLemmas.paused_is}
 use Rattle.bq_core.specs.{AtOnce.{ActsOrGives, is_reserve, waiting_at}, Serving.NoneIsGone, Turns.Gives}
-use Rattle.bq_core.proofs.{ActLemmas.{acts_silent, number_found}, AskLemmas.{asks_more, search_grows}, CostLemmas.given_length, DispatchLemmas.{id_of_best, next_is, next_offer, next_there, seat_at_tube, some_at_tube, taker_known, takers_known}}
-use Rattle.bq_core.proofs.{SearchLemmas.{client_entries, client_waits, rank_agrees}, StepLemmas.waiting_alike, TurnLemmas.{shared_given, turn_given}}
+use Rattle.bq_core.proofs.{ActLemmas.{acts_silent, number_found}, AskLemmas.{asks_more, search_grows}, CostLemmas.given_length}
+use Rattle.bq_core.proofs.DispatchLemmas.{id_of_best, next_is, next_offer, next_there}
+use Rattle.bq_core.proofs.DispatchLemmas.{seat_at_tube, some_at_tube, taker_known, takers_known}
+use Rattle.bq_core.proofs.{SearchLemmas.{client_entries, client_waits, rank_agrees}, StepLemmas.waiting_alike}
+use Rattle.bq_core.proofs.TurnLemmas.{shared_given, turn_given}
 
 -- what a reserve does
 record Reserves (m : Machine) (seat : ℕ) (what : Step) : Type 0 where
   until : Option ℕ
   is : effect m seat what ≡ silent (waiting_at seat until m)
 
-reserves : (m : Machine) (seat : ℕ) (s : SeatRecord) → seat_with seat m.seats ≡ Some s → (s.connected && not (is_waiting s)) ≡ true → (what : Step) → is_reserve what ≡ true → Reserves m seat what
+reserves : (m : Machine) (seat : ℕ) (s : SeatRecord) → seat_with seat m.seats ≡ Some s → (s.connected && not (is_waiting s)) ≡ true
+    → (what : Step) → is_reserve what ≡ true → Reserves m seat what
 reserves m seat s at asking (steps.Ask requests.Reserve) e = record {
   until = None;
   is = rw at (rw asking (ap (λ n. silent (waiting_at n None m)) (number_found seat m.seats s at)));
@@ -41,25 +50,32 @@ none_by (Some a) e = absurd cc
 
 -- the seat once its client waits, and once it waits no longer
 module _ (seat : ℕ) (s : SeatRecord) (ticket : ℕ) (until : Option ℕ) where
-  found_set : (seats : List SeatRecord) → seat_with seat seats ≡ Some s → seat_with seat (map (λ t. if t.number == seat then waiting_from ticket until t else t) seats) ≡ Some (waiting_from ticket until s)
+  found_set : (seats : List SeatRecord) → seat_with seat seats ≡ Some s
+      → seat_with seat (map (λ t. if t.number == seat then waiting_from ticket until t else t) seats) ≡ Some (waiting_from ticket until s)
   found_set [] at = absurd cc
   found_set (t ∷ seats) at = elim (cases_Bool (t.number == seat)) [
-    | inl e ↦ let two : Some t ≡ Some s = rw e at at in let same : t ≡ s = (cc) in rw (e, e) (ap (λ x. Some (waiting_from ticket until x)) same)
+    | inl e ↦ let two : Some t ≡ Some s = rw e at at in let same : t ≡ s = (cc) in
+        rw (e, e) (ap (λ x. Some (waiting_from ticket until x)) same)
     | inr e ↦ rw (e, e) (found_set seats (rw e at at))
   ]
 
   unset : is_waiting s ≡ false → (seats : List SeatRecord) → All (λ t. t.number ≡ seat → t ≡ s) seats
-      → map (λ t. if t.number == seat then without_wait t else t) (map (λ t. if t.number == seat then waiting_from ticket until t else t) seats) ≡ seats
+      → map (λ t. if t.number == seat then without_wait t else t)
+      (map (λ t. if t.number == seat then waiting_from ticket until t else t) seats) ≡ seats
   unset awake [] all = refl
   unset awake (t ∷ seats) all = elim (cases_Bool (t.number == seat)) [
     | inl e ↦
         let same = all.0 (eqb-true t.number seat e) in
         let none : t.wait ≡ None = none_by t.wait (ap is_waiting same ∙ awake) in
-        rw (e, e) (ap (λ x. record t { wait = x } ∷ map (λ t. if t.number == seat then without_wait t else t) (map (λ t. if t.number == seat then waiting_from ticket until t else t) seats)) (sym none) ∙ ap (λ ts. t ∷ ts) (unset awake seats all.1))
+        rw (e, e)
+        (ap (λ x. record t { wait = x } ∷ map (λ t. if t.number == seat then without_wait t else t)
+        (map (λ t. if t.number == seat then waiting_from ticket until t else t) seats)) (sym none)
+        ∙ ap (λ ts. t ∷ ts) (unset awake seats all.1))
     | inr e ↦ rw (e, e) (ap (λ ts. t ∷ ts) (unset awake seats all.1))
   ]
 
-module _ (st : CoreParts) (seat : ℕ) (s : SeatRecord) (at : seat_with seat st.seats.items ≡ Some s) (awake : is_waiting s ≡ false) (quiet : is_nothing st.known.stir ≡ true) (until : Option ℕ) where
+module _ (st : CoreParts) (seat : ℕ) (s : SeatRecord) (at : seat_with seat st.seats.items ≡ Some s) (awake : is_waiting s ≡ false)
+    (quiet : is_nothing st.known.stir ≡ true) (until : Option ℕ) where
   abbrev m : Machine
   m = machine_of st
 
@@ -73,7 +89,8 @@ module _ (st : CoreParts) (seat : ℕ) (s : SeatRecord) (at : seat_with seat st.
   found = found_set seat s (raised st.tickets) until st.seats.items at
 
   known : AreKnown (Client seat) then_waits.jobs then_waits.seats then_waits.tubes
-  known = known_of_seat seat (Wait (raised st.tickets) until) Nothing m.jobs m.seats m.tubes (known_nothing m (none_known st.known.stir m quiet st.sound.known.stirs))
+  known = known_of_seat seat (Wait (raised st.tickets) until) Nothing m.jobs m.seats m.tubes
+      (known_nothing m (none_known st.known.stir m quiet st.sound.known.stirs))
 
   numbered : AreNumbered then_waits.seats
   numbered = numbered_after seat (Wait (raised st.tickets) until) st.seats.items st.sound.numbered
@@ -81,16 +98,21 @@ module _ (st : CoreParts) (seat : ℕ) (s : SeatRecord) (at : seat_with seat st.
   -- what its tubes offer is the next job
   rank : fold (with_offer st.jobs.jobs st.tubes.entries) None s.watched ≡ next_rank then_waits
   rank =
-      next_offer m.next_id m.jobs st.sound.ids st.tubes.entries (λ name. is_paused name m) (λ name. sym (paused_is name st.tubes.entries st.sound.entries.order st.sound.entries.fresh)) then_waits (λ name. refl) (client ∷ [])
-      ∙ sym (rank_agrees then_waits (λ j. list_any (is_waiting_for then_waits j) (client ∷ [])) (client_waits then_waits seat (Some client) numbered found known))
+      next_offer m.next_id m.jobs st.sound.ids st.tubes.entries (λ name. is_paused name m)
+      (λ name. sym (paused_is name st.tubes.entries st.sound.entries.order st.sound.entries.fresh)) then_waits
+      (λ name. refl) (client ∷ [])
+      ∙ sym (rank_agrees then_waits (λ j. list_any (is_waiting_for then_waits j) (client ∷ []))
+      (client_waits then_waits seat (Some client) numbered found known))
 
-  module _ (id : ℕ) (first : Some id ≡ option_map (λ (r : ℕ × ℕ). r.1) (fold (with_offer st.jobs.jobs st.tubes.entries) None s.watched)) where
+  module _ (id : ℕ) (first : Some id ≡ option_map (λ (r : ℕ × ℕ). r.1)
+      (fold (with_offer st.jobs.jobs st.tubes.entries) None s.watched)) where
     next : Some id ≡ option_map (λ j. j.id) (next_job then_waits)
     next = first ∙ ap (option_map (λ (r : ℕ × ℕ). r.1)) rank ∙ id_of_best (next_job then_waits)
 
     picked : (j : Job) → next_job then_waits ≡ Some j → Some seat ≡ option_map (λ (t : SeatRecord). t.number) (next_seat then_waits j)
     picked j e =
-        taker_known seat (Client seat) j.tube then_waits.seats refl (some_at_tube then_waits j e) (takers_known then_waits (Client seat) j e known)
+        taker_known seat (Client seat) j.tube then_waits.seats refl (some_at_tube then_waits j e)
+        (takers_known then_waits (Client seat) j e known)
         ∙ ap (option_map (λ (t : SeatRecord). t.number)) (seat_at_tube then_waits j e)
 
     body_of : (body : List ℕ) → IsBodyOf (job_with id m.jobs) body → (j : Job) → next_job then_waits ≡ Some j → body ≡ j.body
@@ -104,13 +126,17 @@ module _ (st : CoreParts) (seat : ℕ) (s : SeatRecord) (at : seat_with seat st.
             is x there ∙ ap (λ (k : Job). k.body) same
 
     -- the machine once the client holds the job is the one after a turn of dispatch
-    handed : (last : Machine) → last ≡ record (with_job id (reserved_by st.moment seat) m) { tickets = raised st.tickets } → last ≡ with_seat seat without_wait (with_job id (reserved_by then_waits.moment seat) then_waits)
+    handed : (last : Machine) → last ≡ record (with_job id (reserved_by st.moment seat) m) { tickets = raised st.tickets }
+        → last ≡ with_seat seat without_wait (with_job id (reserved_by then_waits.moment seat) then_waits)
     handed last is =
         is ∙ ap (λ seats. record (with_job id (reserved_by st.moment seat) m) { tickets = raised st.tickets; seats = seats })
-        (sym (unset seat s (raised st.tickets) until awake st.seats.items (only_seat 0 (length st.seats.items) seat st.seats.items s st.sound.numbered at)))
+        (sym (unset seat s (raised st.tickets) until awake st.seats.items
+        (only_seat 0 (length st.seats.items) seat st.seats.items s st.sound.numbered at)))
 
-    turn : (body : List ℕ) (old new : Outbox) (last : Machine) → IsBodyOf (job_with id m.jobs) body → last ≡ record (with_job id (reserved_by st.moment seat) m) { tickets = raised st.tickets }
-        → new ≡ record old { given = old.given ++ (seat, answers.Reserved id body) ∷ [] } → Gives DispatchTurn has_refused_share then_waits last old new
+    turn : (body : List ℕ) (old new : Outbox) (last : Machine) → IsBodyOf (job_with id m.jobs) body
+        → last ≡ record (with_job id (reserved_by st.moment seat) m) { tickets = raised st.tickets }
+        → new ≡ record old { given = old.given ++ (seat, answers.Reserved id body) ∷ [] }
+        → Gives DispatchTurn has_refused_share then_waits last old new
     turn body old new last is after told =
         turn_given then_waits id next seat picked (Ok body) (body_of body is) old new last
         (λ j t i n b. shared_given then_waits last id seat body j t old new i n b (handed last after) told)
@@ -119,8 +145,10 @@ module _ (st : CoreParts) (seat : ℕ) (s : SeatRecord) (at : seat_with seat st.
   watched_few : length s.watched ≤ waited then_waits
   watched_few = omega (arith, client_entries then_waits.seats seat (Some client) found)
 
-one_given : (outs new : Outbox) (seat id : ℕ) (body : List ℕ) → new ≡ record outs { given = outs.given ++ (seat, answers.Reserved id body) ∷ [] } → length new.given ≡ length outs.given + 1
-one_given outs new seat id body told = ap (λ (o : Outbox). length o.given) told ∙ length-append outs.given ((seat, answers.Reserved id body) ∷ [])
+one_given : (outs new : Outbox) (seat id : ℕ) (body : List ℕ)
+    → new ≡ record outs { given = outs.given ++ (seat, answers.Reserved id body) ∷ [] } → length new.given ≡ length outs.given + 1
+one_given outs new seat id body told = ap (λ (o : Outbox). length o.given) told
+    ∙ length-append outs.given ((seat, answers.Reserved id body) ∷ [])
 
 -- a seat whose client can ask
 pub record Asking (seat : ℕ) (seats : List SeatRecord) : Type 0 where
@@ -136,9 +164,12 @@ asking_client seat seats h = of (seat_with seat seats) refl h
     of (Some s) at h = record { client = s; at = at; asks = h }
 
 -- A client that reserves while no waiting client may have a job is given the job that its tubes offer.
-pub given_at_once : (st : CoreParts) (seat id : ℕ) (what : Step) (body : List ℕ) (old new : Outbox) (last : Machine) (after : Kept) (s : SeatRecord) → is_reserve what ≡ true → is_nothing st.known.stir ≡ true
-    → seat_with seat st.seats.items ≡ Some s → (s.connected && not (is_waiting s)) ≡ true → Some id ≡ option_map (λ (r : ℕ × ℕ). r.1) (fold (with_offer st.jobs.jobs st.tubes.entries) None s.watched)
-    → IsBodyOf (job_with id st.jobs.jobs) body → NoneIsGone (machine_of st) → last ≡ record (with_job id (reserved_by st.moment seat) (machine_of st)) { tickets = raised st.tickets }
+pub given_at_once : (st : CoreParts) (seat id : ℕ) (what : Step) (body : List ℕ) (old new : Outbox) (last : Machine) (after : Kept)
+    (s : SeatRecord) → is_reserve what ≡ true → is_nothing st.known.stir ≡ true
+    → seat_with seat st.seats.items ≡ Some s → (s.connected && not (is_waiting s)) ≡ true
+    → Some id ≡ option_map (λ (r : ℕ × ℕ). r.1) (fold (with_offer st.jobs.jobs st.tubes.entries) None s.watched)
+    → IsBodyOf (job_with id st.jobs.jobs) body → NoneIsGone (machine_of st)
+    → last ≡ record (with_job id (reserved_by st.moment seat) (machine_of st)) { tickets = raised st.tickets }
     → new ≡ record old { given = old.given ++ (seat, answers.Reserved id body) ∷ [] } → Asks (length s.watched + 9) st.jobs after
     → ActsOrGives (machine_of st) seat what old new last st.jobs after
 given_at_once st seat id what body old new last after s reserve quiet at asking first is none after_is told few =
@@ -160,7 +191,9 @@ given_at_once st seat id what body old new last after s reserve quiet at asking 
       turns = gives;
       asks = record { stays = omega arith; rise = omega arith };
       asks_then =
-          let less : length s.watched + 9 ≤ length gives.given * (waited left + 9) = (let w = watched_few st seat s at awake quiet r.until in let p = ap (λ n. n * (waited left + 9)) many in omega (arith, w, p)) in
+          let less : length s.watched + 9 ≤ length gives.given * (waited left + 9) =
+          (let w = watched_few st seat s at awake quiet r.until in let p = ap (λ n. n * (waited left + 9)) many in
+          omega (arith, w, p)) in
           let a = asks_more (length gives.given * (waited left + 9)) less few in
           record { many = a.many; stays = a.stays; rise = a.rise };
     }
@@ -170,12 +203,16 @@ given_at_once st seat id what body old new last after s reserve quiet at asking 
     not_false false e = refl
 
 -- What is asked by a look that finds no job, and then by the command itself.
-pub looked_then : (before between after : Kept) → Asks 9 before between → between.jobs ≡ before.jobs → AsksAsChanged between after → AsksWithin (9 * changed_jobs before.jobs after.jobs + 20) before after
+pub looked_then : (before between after : Kept) → Asks 9 before between → between.jobs ≡ before.jobs → AsksAsChanged between after
+    → AsksWithin (9 * changed_jobs before.jobs after.jobs + 20) before after
 looked_then before between after a same b =
     let s = search_among (length before.jobs) in
     let t = search_among (max (length before.jobs) (length after.jobs)) in
     let c = changed_jobs before.jobs after.jobs in
-    let few : 9 * s ≤ 9 * t = mul-le 9 s 9 t (omega arith) (search_grows (length before.jobs) (max (length before.jobs) (length after.jobs)) (omega arith)) in
-    let rise : after.comparisons ≤ between.comparisons + (9 * c + 10) * t = subst (λ jobs. after.comparisons ≤ between.comparisons + (9 * changed_jobs jobs after.jobs + 10) * search_among (max (length jobs) (length after.jobs))) same b.rise in
+    let few : 9 * s ≤ 9 * t = mul-le 9 s 9 t (omega arith)
+    (search_grows (length before.jobs) (max (length before.jobs) (length after.jobs)) (omega arith)) in
+    let rise : after.comparisons ≤ between.comparisons + (9 * c + 10) * t =
+    subst (λ jobs. after.comparisons ≤ between.comparisons + (9 * changed_jobs jobs after.jobs + 10) * search_among
+    (max (length jobs) (length after.jobs))) same b.rise in
     let sum : (9 + (9 * c + 10)) * t ≤ (9 * c + 20) * t = mul-le (9 + (9 * c + 10)) t (9 * c + 20) t (omega arith) (omega arith) in
     record { stays = omega (arith, a.stays, b.stays); rise = omega (arith, a.rise, rise, few, sum, add-mul 9 (9 * c + 10) t) }

@@ -1,11 +1,16 @@
 -- Which job is handed out next, found tube by tube.
-use Rattle.std.proofs.Common.{◌&&◌, ◌==◌, ◌||◌, ◌∙◌, ◌∷◌, ◌≡◌, if◌then◌else◌, Bool, List, None, Option, Some, [], ℕ, ap, arith, false, inl, inr, not, refl, subst, sym, true}
+use Rattle.std.proofs.Common.{◌&&◌, ◌==◌, ◌||◌, ◌∙◌, ◌∷◌, ◌≡◌, if◌then◌else◌, Bool, List, None, Option, Some}
+use Rattle.std.proofs.Common.{[], ℕ, ap, arith, false, inl, inr, not, refl, subst, sym, true}
 use Rattle.std.proofs.lemmas.Bool.{cases_Bool, eqb-true, or_cases, or_left, or_right, Decides.nat_tests}
 use Rattle.std.proofs.{lemmas.Grind.common_steps, Math.Bool.or_assoc}
 use Rattle.std.specs.{List.{AllByRecursion as All, Contains, list_any}, Prelude.{fold, is_some, option_map}}
-use Rattle.bq_job.specs.{beside.AreIdsWithin, machine.{SeatRecord, TubeRecord, first_of, is_job_before, is_paused, is_ready, is_ready_in, is_wait_before, is_waiting, is_waiting_for, job_with, may_have, next_job, next_seat, Machine.Machine}}
+use Rattle.bq_job.specs.{beside.AreIdsWithin}
+use Rattle.bq_job.specs.machine.{SeatRecord, TubeRecord, first_of, is_job_before, is_paused, is_ready, is_ready_in, is_wait_before}
+use Rattle.bq_job.specs.machine.{is_waiting, is_waiting_for, job_with, may_have, next_job, next_seat, Machine.Machine}
 use Rattle.bq_job.specs.{declared.job.Job.Job, reading.TubeName.is_same_name}
-use Rattle.bq_job.proofs.{ChoiceLemmas.{first_of_agrees, first_of_contains, first_of_is, first_of_is_least, first_of_is_some, first_of_none, first_of_none_passes, first_of_passes, first_of_some, pair_order}, ComputedLemmas.next_has_seat}
+use Rattle.bq_job.proofs.ChoiceLemmas.{first_of_agrees, first_of_contains, first_of_is, first_of_is_least, first_of_is_some}
+use Rattle.bq_job.proofs.ChoiceLemmas.{first_of_none, first_of_none_passes, first_of_passes, first_of_some, pair_order}
+use Rattle.bq_job.proofs.{ComputedLemmas.next_has_seat}
 use Rattle.bq_job.proofs.ListLemmas.{all_always, all_at, all_weaker, list_any_not, none_pass}
 use Rattle.bq_job.proofs.WatchedLemmas.{same_other}
 use Rattle.bq_jobs.specs.Kept.{ranked}
@@ -31,7 +36,8 @@ module _ (next : ℕ) (jobs : List Job) (ids : AreIdsWithin 1 jobs next) where
 
   module _ (p q : Job → Bool) where
     -- of the best ones by two tests, the better one is the best by both
-    first_better : (x y : Job) → first_of p is_job_before jobs ≡ Some x → first_of q is_job_before jobs ≡ Some y → (b : Bool) → is_job_before y x ≡ b → first_of (λ j. p j || q j) is_job_before jobs ≡ (if b then Some y else Some x)
+    first_better : (x y : Job) → first_of p is_job_before jobs ≡ Some x → first_of q is_job_before jobs ≡ Some y → (b : Bool)
+        → is_job_before y x ≡ b → first_of (λ j. p j || q j) is_job_before jobs ≡ (if b then Some y else Some x)
     first_better x y e f true h =
         let order = pair_order (λ (j : Job). j.pri) (λ (j : Job). j.id) in
         let here = first_of_contains q is_job_before jobs y f in
@@ -51,14 +57,22 @@ module _ (next : ℕ) (jobs : List Job) (ids : AreIdsWithin 1 jobs next) where
         ])
         (λ z there a b. same_job x z here there a b)
 
-    if_rank : (b : Bool) (x y : Job) → (if b then Some (ranked (λ j. j.pri) y) else Some (ranked (λ j. j.pri) x)) ≡ option_map (ranked (λ j. j.pri)) (if b then Some y else Some x)
+    if_rank : (b : Bool) (x y : Job) → (if b then Some (ranked (λ j. j.pri) y) else Some (ranked (λ j. j.pri) x)) ≡ option_map
+        (ranked (λ j. j.pri)) (if b then Some y else Some x)
     if_rank b x y = grind (arith, common_steps)
 
-    joined_at : (o u : Option Job) → first_of p is_job_before jobs ≡ o → first_of q is_job_before jobs ≡ u → better_rank (option_map (ranked (λ j. j.pri)) o) (option_map (ranked (λ j. j.pri)) u) ≡ best_of (λ j. p j || q j)
+    joined_at : (o u : Option Job) → first_of p is_job_before jobs ≡ o → first_of q is_job_before jobs ≡ u
+        → better_rank (option_map (ranked (λ j. j.pri)) o) (option_map (ranked (λ j. j.pri)) u) ≡ best_of (λ j. p j || q j)
     joined_at None u e f =
-        ap (option_map (ranked (λ j. j.pri))) (sym f ∙ first_of_agrees q (λ j. p j || q j) is_job_before jobs (all_weaker (λ j. p j ≡ false) (λ j. q j ≡ (p j || q j)) jobs (λ j none. rw none refl) (none_pass p jobs (first_of_none p is_job_before jobs e))))
+        ap (option_map (ranked (λ j. j.pri))) (sym f
+        ∙ first_of_agrees q (λ j. p j || q j) is_job_before jobs
+        (all_weaker (λ j. p j ≡ false) (λ j. q j ≡ (p j || q j)) jobs (λ j none. rw none refl)
+        (none_pass p jobs (first_of_none p is_job_before jobs e))))
     joined_at (Some x) None e f =
-        ap (option_map (ranked (λ j. j.pri))) (sym e ∙ first_of_agrees p (λ j. p j || q j) is_job_before jobs (all_weaker (λ j. q j ≡ false) (λ j. p j ≡ (p j || q j)) jobs (λ j none. rw none (or_none (p j))) (none_pass q jobs (first_of_none q is_job_before jobs f))))
+        ap (option_map (ranked (λ j. j.pri))) (sym e
+        ∙ first_of_agrees p (λ j. p j || q j) is_job_before jobs
+        (all_weaker (λ j. q j ≡ false) (λ j. p j ≡ (p j || q j)) jobs (λ j none. rw none (or_none (p j)))
+        (none_pass q jobs (first_of_none q is_job_before jobs f))))
       where
         or_none : (b : Bool) → b ≡ (b || false)
         or_none b = grind (arith, common_steps)
@@ -71,7 +85,8 @@ module _ (next : ℕ) (jobs : List Job) (ids : AreIdsWithin 1 jobs next) where
   agreed : (p q : Job → Bool) → ((j : Job) → p j ≡ q j) → best_of p ≡ best_of q
   agreed p q same = ap (option_map (ranked (λ j. j.pri))) (first_of_agrees p q is_job_before jobs (all_always (λ j. p j ≡ q j) jobs same))
 
-  module _ (entries : List TubeRecord) (paused : List ℕ → Bool) (paused_is : (name : List ℕ) → is_paused_among entries name ≡ paused name) where
+  module _ (entries : List TubeRecord) (paused : List ℕ → Bool)
+      (paused_is : (name : List ℕ) → is_paused_among entries name ≡ paused name) where
     -- what a tube offers
     abbrev pub offers : List ℕ → Job → Bool
     offers name j = is_ready_in name j && not (paused name)
@@ -86,42 +101,57 @@ module _ (next : ℕ) (jobs : List Job) (ids : AreIdsWithin 1 jobs next) where
         with_false b = grind (arith, common_steps)
 
         go : (b : Bool) → paused name ≡ b → (if b then None else best_of (is_ready_in name)) ≡ best_of (offers name)
-        go true e = sym (ap (option_map (ranked (λ j. j.pri))) (first_of_none_passes (offers name) is_job_before jobs (list_any_not (offers name) jobs (all_always (λ j. offers name j ≡ false) jobs (λ j. rw e (with_false (is_ready_in name j)))))))
+        go true e = sym (ap (option_map (ranked (λ j. j.pri)))
+            (first_of_none_passes (offers name) is_job_before jobs
+            (list_any_not (offers name) jobs (all_always (λ j. offers name j ≡ false) jobs (λ j. rw e (with_false (is_ready_in name j)))))))
         go false e = agreed (is_ready_in name) (offers name) (λ j. rw e (sym (with_true (is_ready_in name j))))
 
     -- ready in one of these tubes, which isn't paused
     abbrev ready_among : List (List ℕ) → Job → Bool
     ready_among names j = is_ready j && list_any (is_same_name j.tube) names && not (paused j.tube)
 
-    one_more_name : (name : List ℕ) (names : List (List ℕ)) (p : Job → Bool) (j : Job) → ((p j || offers name j) || ready_among names j) ≡ (p j || ready_among (name ∷ names) j)
+    one_more_name : (name : List ℕ) (names : List (List ℕ)) (p : Job → Bool) (j : Job)
+        → ((p j || offers name j) || ready_among names j) ≡ (p j || ready_among (name ∷ names) j)
     one_more_name name names p j = grind (arith, common_steps, cases_Bool, same_name, same_itself, same_other)
 
-    with_names : (names : List (List ℕ)) (p : Job → Bool) → fold (with_offer jobs entries) (best_of p) names ≡ best_of (λ j. p j || ready_among names j)
+    with_names : (names : List (List ℕ)) (p : Job → Bool)
+        → fold (with_offer jobs entries) (best_of p) names ≡ best_of (λ j. p j || ready_among names j)
     with_names [] p = grind (arith, common_steps, agreed)
     with_names (name ∷ names) p =
         ap (λ b. fold (with_offer jobs entries) b names) (ap (better_rank (best_of p)) (offered_is name) ∙ joined p (offers name))
         ∙ with_names names (λ j. p j || offers name j)
-        ∙ agreed (λ j. (p j || offers name j) || ready_among names j) (λ j. p j || ready_among (name ∷ names) j) (one_more_name name names p)
+        ∙ agreed (λ j. (p j || offers name j) || ready_among names j) (λ j. p j || ready_among (name ∷ names) j)
+        (one_more_name name names p)
 
     module _ (m : Machine) (paused_in : (name : List ℕ) → paused name ≡ is_paused name m) where
       one_more_seat : (s : SeatRecord) (seats : List SeatRecord) (p : Job → Bool) (b : Bool) → is_waiting s ≡ b
-          → ((q : Job → Bool) → fold (with_offers jobs entries) (best_of q) seats ≡ best_of (λ j. q j || list_any (is_waiting_for m j) seats))
-          → fold (with_offers jobs entries) (if b then fold (with_offer jobs entries) (best_of p) s.watched else best_of p) seats ≡ best_of (λ j. p j || list_any (is_waiting_for m j) (s ∷ seats))
+          → ((q : Job → Bool) → fold (with_offers jobs entries) (best_of q) seats ≡ best_of
+          (λ j. q j || list_any (is_waiting_for m j) seats))
+          → fold (with_offers jobs entries) (if b then fold (with_offer jobs entries) (best_of p) s.watched else best_of p) seats ≡ best_of
+          (λ j. p j || list_any (is_waiting_for m j) (s ∷ seats))
       one_more_seat s seats p true e rest =
           ap (λ o. fold (with_offers jobs entries) o seats) (with_names s.watched p)
           ∙ rest (λ j. p j || ready_among s.watched j)
-          ∙ agreed (λ j. (p j || ready_among s.watched j) || list_any (is_waiting_for m j) seats) (λ j. p j || list_any (is_waiting_for m j) (s ∷ seats)) (λ j. rw (e, paused_in j.tube) (or_assoc (p j) (may_have m s j) (list_any (is_waiting_for m j) seats)))
+          ∙ agreed (λ j. (p j || ready_among s.watched j) || list_any (is_waiting_for m j) seats)
+          (λ j. p j || list_any (is_waiting_for m j) (s ∷ seats))
+          (λ j. rw (e, paused_in j.tube) (or_assoc (p j) (may_have m s j) (list_any (is_waiting_for m j) seats)))
       one_more_seat s seats p false e rest =
           rest p
-          ∙ agreed (λ j. p j || list_any (is_waiting_for m j) seats) (λ j. p j || list_any (is_waiting_for m j) (s ∷ seats)) (λ j. rw e refl)
+          ∙ agreed (λ j. p j || list_any (is_waiting_for m j) seats)
+          (λ j. p j || list_any (is_waiting_for m j) (s ∷ seats)) (λ j. rw e refl)
 
-      with_seats : (seats : List SeatRecord) (p : Job → Bool) → fold (with_offers jobs entries) (best_of p) seats ≡ best_of (λ j. p j || list_any (is_waiting_for m j) seats)
+      with_seats : (seats : List SeatRecord) (p : Job → Bool)
+          → fold (with_offers jobs entries) (best_of p) seats ≡ best_of (λ j. p j || list_any (is_waiting_for m j) seats)
       with_seats [] p = grind (arith, common_steps, agreed)
       with_seats (s ∷ seats) p = one_more_seat s seats p (is_waiting s) refl (with_seats seats)
 
-      pub next_offer : (seats : List SeatRecord) → fold (with_offers jobs entries) None seats ≡ best_of (λ j. list_any (is_waiting_for m j) seats)
+      pub next_offer : (seats : List SeatRecord)
+          → fold (with_offers jobs entries) None seats ≡ best_of (λ j. list_any (is_waiting_for m j) seats)
       next_offer seats =
-          ap (λ o. fold (with_offers jobs entries) o seats) (sym (ap (option_map (ranked (λ j. j.pri))) (first_of_none_passes (λ _. false) is_job_before jobs (list_any_not (λ _. false) jobs (all_always (λ _. false ≡ false) jobs (λ _. refl))))))
+          ap (λ o. fold (with_offers jobs entries) o seats)
+          (sym (ap (option_map (ranked (λ j. j.pri)))
+          (first_of_none_passes (λ _. false) is_job_before jobs
+          (list_any_not (λ _. false) jobs (all_always (λ _. false ≡ false) jobs (λ _. refl))))))
           ∙ with_seats seats (λ _. false)
 
 -- the id of the best one
@@ -159,7 +189,8 @@ some_at_tube m j e =
     sym (first_of_is_some (waits_at j.tube) is_wait_before m.seats) ∙ ap is_some (seat_at_tube m j e ∙ seat.1)
 
 -- it is known to be one that may have the job
-pub takers_known : (m : Machine) (stir : Stir) (j : Job) → next_job m ≡ Some j → AreKnown stir m.jobs m.seats m.tubes → All (λ s. waits_at j.tube s ≡ true → may_get stir j.tube s.number ≡ true) m.seats
+pub takers_known : (m : Machine) (stir : Stir) (j : Job) → next_job m ≡ Some j → AreKnown stir m.jobs m.seats m.tubes
+    → All (λ s. waits_at j.tube s ≡ true → may_get stir j.tube s.number ≡ true) m.seats
 takers_known m stir j e known =
     grind (
       arith,
@@ -172,22 +203,27 @@ takers_known m stir j e known =
     )
 
 -- if only one client may have jobs, it is the first one that waits for jobs of the tube
-pub taker_known : (asker : ℕ) (stir : Stir) (tube : List ℕ) (seats : List SeatRecord) → stir ≡ Client asker → list_any (waits_at tube) seats ≡ true
-    → All (λ s. waits_at tube s ≡ true → may_get stir tube s.number ≡ true) seats → Some asker ≡ option_map (λ (s : SeatRecord). s.number) (first_of (waits_at tube) is_wait_before seats)
+pub taker_known : (asker : ℕ) (stir : Stir) (tube : List ℕ) (seats : List SeatRecord) → stir ≡ Client asker
+    → list_any (waits_at tube) seats ≡ true
+    → All (λ s. waits_at tube s ≡ true → may_get stir tube s.number ≡ true) seats
+    → Some asker ≡ option_map (λ (s : SeatRecord). s.number) (first_of (waits_at tube) is_wait_before seats)
 taker_known asker stir tube seats is some known =
     let s = first_of_some (waits_at tube) is_wait_before seats some in
-    let may = all_at (λ t. waits_at tube t ≡ true → may_get stir tube t.number ≡ true) seats s.0 known (first_of_contains (waits_at tube) is_wait_before seats s.0 s.1) (first_of_passes (waits_at tube) is_wait_before seats s.0 s.1) in
+    let may = all_at (λ t. waits_at tube t ≡ true → may_get stir tube t.number ≡ true) seats s.0 known
+    (first_of_contains (waits_at tube) is_wait_before seats s.0 s.1) (first_of_passes (waits_at tube) is_wait_before seats s.0 s.1) in
     let at : (s.0.number == asker) ≡ true = subst (λ f. may_get f tube s.0.number ≡ true) is may in
     ap Some (sym (eqb-true s.0.number asker at)) ∙ sym (ap (option_map (λ (t : SeatRecord). t.number)) s.1)
 
 -- the job with this id is the next one
-pub next_is : (m : Machine) (id : ℕ) (x : Job) → AreIdsWithin 1 m.jobs m.next_id → Some id ≡ option_map (λ j. j.id) (next_job m) → job_with id m.jobs ≡ Some x → next_job m ≡ Some x
+pub next_is : (m : Machine) (id : ℕ) (x : Job) → AreIdsWithin 1 m.jobs m.next_id → Some id ≡ option_map (λ j. j.id) (next_job m)
+    → job_with id m.jobs ≡ Some x → next_job m ≡ Some x
 next_is m id x ids first found =
     let one = chosen (λ j. list_any (is_waiting_for m j) m.seats) is_job_before 1 m.next_id m.jobs id ids first in
     let same : one.job ≡ x = let f = one.found in cc in
     one.first ∙ ap Some same
 
-pub next_there : (m : Machine) (id : ℕ) → AreIdsWithin 1 m.jobs m.next_id → Some id ≡ option_map (λ j. j.id) (next_job m) → None ≡ job_with id m.jobs → ⊥
+pub next_there : (m : Machine) (id : ℕ) → AreIdsWithin 1 m.jobs m.next_id → Some id ≡ option_map (λ j. j.id) (next_job m)
+    → None ≡ job_with id m.jobs → ⊥
 next_there m id ids first none =
     let one = chosen (λ j. list_any (is_waiting_for m j) m.seats) is_job_before 1 m.next_id m.jobs id ids first in
     cc

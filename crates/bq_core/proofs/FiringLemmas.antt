@@ -1,13 +1,19 @@
 -- Timers of jobs fire one after another, and jobs are released one after another.
-use Rattle.std.proofs.Common.{◌&&◌, ◌+◌, ◌-◌, ◌<◌, ◌==◌, ◌||◌, ◌∙◌, ◌∷◌, ◌≡◌, ◌≤◌, if◌then◌else◌, Bool, List, None, Option, Some, [], ℕ, ap, arith, false, inl, inr, is_some, map, min, refl, suc, sym, true}
+use Rattle.std.proofs.Common.{◌&&◌, ◌+◌, ◌-◌, ◌<◌, ◌==◌, ◌||◌, ◌∙◌, ◌∷◌, ◌≡◌, ◌≤◌, if◌then◌else◌, Bool, List, None, Option}
+use Rattle.std.proofs.Common.{Some, [], ℕ, ap, arith, false, inl, inr, is_some, map, min, refl, suc, sym, true}
 use Rattle.std.proofs.lemmas.{Bool.{cases_Bool, eqb-true, Decides.nat_tests}, Grind.common_steps}
 use Rattle.std.specs.{List.{AllByRecursion as All, list_any}, Prelude.{count_by, nat_le, option_map}}
-use Rattle.bq_job.specs.machine.{SeatRecord, due_of, ends_waiting, first_of, given_back, greatest, grown, in_state, is_deadline_soon, is_delayed, is_due, is_due_before, is_ending_lease, is_expired, is_held_by, is_holder, is_pair_before, is_reserved}
-use Rattle.bq_job.specs.machine.{is_timed_out, is_timed_out_at, is_wait_before, is_waiting, job_after_timers, job_with, next_end, with_job, with_timeout, Machine.Machine}
+use Rattle.bq_job.specs.machine.{SeatRecord, due_of, ends_waiting, first_of, given_back, greatest}
+use Rattle.bq_job.specs.machine.{grown, in_state, is_deadline_soon, is_delayed, is_due, is_due_before}
+use Rattle.bq_job.specs.machine.{is_ending_lease, is_expired, is_held_by, is_holder, is_pair_before, is_reserved}
+use Rattle.bq_job.specs.machine.{is_timed_out, is_timed_out_at, is_wait_before, is_waiting, job_after_timers}
+use Rattle.bq_job.specs.machine.{job_with, next_end, with_job, with_timeout, Machine.Machine}
 use Rattle.bq_job.specs.{beside.AreIdsWithin, declared.job.{Job.Job, JobState.JobState}}
 use Rattle.bq_job.specs.declared.job.JobState.TheVariants as states
-use Rattle.bq_job.proofs.ChoiceLemmas.{first_of_contains, first_of_is_least, first_of_is_some, first_of_none, first_of_none_passes, first_of_passes, pair_order}
-use Rattle.bq_job.proofs.ListLemmas.{all_always, all_at, all_from_members, all_weaker, count_all_not, count_cons, list_any_not, list_any_with, map_all_same, none_pass}
+use Rattle.bq_job.proofs.ChoiceLemmas.{first_of_contains, first_of_is_least, first_of_is_some, first_of_none}
+use Rattle.bq_job.proofs.ChoiceLemmas.{first_of_none_passes, first_of_passes, pair_order}
+use Rattle.bq_job.proofs.ListLemmas.{all_always, all_at, all_from_members, all_weaker, count_all_not}
+use Rattle.bq_job.proofs.ListLemmas.{count_cons, list_any_not, list_any_with, map_all_same, none_pass}
 use Rattle.bq_jobs.specs.{Kept.ranked, Leases.{deadline_of, is_lease_before}}
 use Rattle.bq_jobs.proofs.Changes.{all_found, none_changed, others_above}
 use Rattle.bq_state.specs.EndingWaits.{has_waited, is_lease_short, is_soon}
@@ -15,17 +21,21 @@ use Rattle.bq_core.specs.Firing.{ExpiresOne, IsOne, after_giving_back, after_job
 use Rattle.bq_core.proofs.KickLemmas.{one_of_id}
 
 -- changing one job and then all is changing all, if the second change subsumes the first
-absorbed : (f g : Job → Job) (id : ℕ) (jobs : List Job) → All (λ k. (k.id == id) ≡ true → f (g k) ≡ f k) jobs → map f (map (λ k. if k.id == id then g k else k) jobs) ≡ map f jobs
+absorbed : (f g : Job → Job) (id : ℕ) (jobs : List Job) → All (λ k. (k.id == id) ≡ true → f (g k) ≡ f k) jobs
+    → map f (map (λ k. if k.id == id then g k else k) jobs) ≡ map f jobs
 absorbed f g id [] all = refl
 absorbed f g id (k ∷ jobs) all = grind (arith, common_steps, absorbed f g id jobs all.1)
 
 -- one job fewer passes after the one with this id has changed
-pub one_fewer : (p : Job → Bool) (g : Job → Job) (id low next : ℕ) (jobs : List Job) (j : Job) → AreIdsWithin low jobs next → job_with id jobs ≡ Some j → p j ≡ true → p (g j) ≡ false → count_by p (map (λ k. if k.id == id then g k else k) jobs) + 1 ≡ count_by p jobs
+pub one_fewer : (p : Job → Bool) (g : Job → Job) (id low next : ℕ) (jobs : List Job) (j : Job) → AreIdsWithin low jobs next
+    → job_with id jobs ≡ Some j → p j ≡ true → p (g j) ≡ false
+    → count_by p (map (λ k. if k.id == id then g k else k) jobs) + 1 ≡ count_by p jobs
 one_fewer p g id low next [] j ids found was is = absurd cc
 one_fewer p g id low next (k ∷ jobs) j ids found was is =
     grind (arith, common_steps, cases_Bool, eqb-true, none_changed, others_above, count_cons, one_fewer p g id (suc k.id) next jobs j)
 
-as_many : (p : Job → Bool) (g : Job → Job) (id : ℕ) (jobs : List Job) → All (λ k. (k.id == id) ≡ true → p (g k) ≡ p k) jobs → count_by p (map (λ k. if k.id == id then g k else k) jobs) ≡ count_by p jobs
+as_many : (p : Job → Bool) (g : Job → Job) (id : ℕ) (jobs : List Job) → All (λ k. (k.id == id) ≡ true → p (g k) ≡ p k) jobs
+    → count_by p (map (λ k. if k.id == id then g k else k) jobs) ≡ count_by p jobs
 as_many p g id [] all = refl
 as_many p g id (k ∷ jobs) all = grind (arith, common_steps, count_cons, as_many p g id jobs all.1)
 
@@ -33,7 +43,8 @@ as_many p g id (k ∷ jobs) all = grind (arith, common_steps, count_cons, as_man
 ripened : (moment : ℕ) (j : Job) → is_due moment j.state ≡ true → job_after_timers moment j ≡ in_state states.Ready j
 ripened moment j h = rw h refl
 
-expired : (moment : ℕ) (j : Job) → is_expired moment j.state ≡ true → job_after_timers moment j ≡ record j { state = states.Ready; counts = with_timeout j.counts }
+expired : (moment : ℕ) (j : Job) → is_expired moment j.state ≡ true
+    → job_after_timers moment j ≡ record j { state = states.Ready; counts = with_timeout j.counts }
 expired moment j h = grind (arith, common_steps)
 
 not_expired : (moment : ℕ) (s : JobState) → is_due moment s ≡ true → is_expired moment s ≡ false
@@ -43,7 +54,8 @@ fired_once : (moment : ℕ) (j : Job) → job_after_timers moment (job_after_tim
 fired_once moment j = grind (arith, common_steps, cases_Bool, ripened, expired)
 
 -- one delayed job that is due becomes ready
-pub fired_due : (m : Machine) (id : ℕ) → AreIdsWithin 1 m.jobs m.next_id → IsOne (λ j. is_due m.moment j.state) m.jobs id → after_job_timers (with_job id (job_after_timers m.moment) m) ≡ after_job_timers m
+pub fired_due : (m : Machine) (id : ℕ) → AreIdsWithin 1 m.jobs m.next_id → IsOne (λ j. is_due m.moment j.state) m.jobs id
+    → after_job_timers (with_job id (job_after_timers m.moment) m) ≡ after_job_timers m
 fired_due m id ids one =
     let f = job_after_timers m.moment in
     let p = λ (j : Job). is_expired m.moment j.state in
@@ -55,26 +67,33 @@ none_more : (t c : ℕ) → min (min (t + 0) greatest + c) greatest ≡ min (t +
 none_more t c = omega arith
 
 -- one reservation ended and was counted, or none
-pub counted_fired : (m next : Machine) (t : ℕ) (b : Bool) → AreIdsWithin 1 m.jobs m.next_id → (b ≡ false → (list_any (λ j. is_expired m.moment j.state) m.jobs ≡ false) × (next ≡ m)) → (b ≡ true → ExpiresOne m next) → t ≡ grown (if b then 1 else 0) next.timeouts → after_job_timers (record next { timeouts = t }) ≡ after_job_timers m
+pub counted_fired : (m next : Machine) (t : ℕ) (b : Bool) → AreIdsWithin 1 m.jobs m.next_id
+    → (b ≡ false → (list_any (λ j. is_expired m.moment j.state) m.jobs ≡ false) × (next ≡ m)) → (b ≡ true → ExpiresOne m next)
+    → t ≡ grown (if b then 1 else 0) next.timeouts → after_job_timers (record next { timeouts = t }) ≡ after_job_timers m
 counted_fired m next t b ids none one e = grind (arith, common_steps, absorbed, all_always, fired_once, one_fewer, expired, none_more)
 
-pub fewer_due : (m : Machine) (id : ℕ) → AreIdsWithin 1 m.jobs m.next_id → IsOne (λ j. is_due m.moment j.state) m.jobs id → count_by (is_ripe m.moment) (with_job id (job_after_timers m.moment) m).jobs < count_by (is_ripe m.moment) m.jobs
+pub fewer_due : (m : Machine) (id : ℕ) → AreIdsWithin 1 m.jobs m.next_id → IsOne (λ j. is_due m.moment j.state) m.jobs id
+    → count_by (is_ripe m.moment) (with_job id (job_after_timers m.moment) m).jobs < count_by (is_ripe m.moment) m.jobs
 fewer_due m id ids one = grind (arith, common_steps, one_fewer)
 
-pub fewer_expired : (m : Machine) (id : ℕ) → AreIdsWithin 1 m.jobs m.next_id → IsOne (λ j. is_expired m.moment j.state) m.jobs id → count_by (is_ripe m.moment) (with_job id (job_after_timers m.moment) m).jobs < count_by (is_ripe m.moment) m.jobs
+pub fewer_expired : (m : Machine) (id : ℕ) → AreIdsWithin 1 m.jobs m.next_id → IsOne (λ j. is_expired m.moment j.state) m.jobs id
+    → count_by (is_ripe m.moment) (with_job id (job_after_timers m.moment) m).jobs < count_by (is_ripe m.moment) m.jobs
 fewer_expired m id ids one = grind (arith, common_steps, one_fewer)
 
 -- no timer is due
-pub none_fires : (m : Machine) → list_any (λ j. is_due m.moment j.state) m.jobs ≡ false → list_any (λ j. is_expired m.moment j.state) m.jobs ≡ false → record m { timeouts = grown 0 m.timeouts } ≡ after_job_timers m
+pub none_fires : (m : Machine) → list_any (λ j. is_due m.moment j.state) m.jobs ≡ false
+    → list_any (λ j. is_expired m.moment j.state) m.jobs ≡ false → record m { timeouts = grown 0 m.timeouts } ≡ after_job_timers m
 none_fires m due over =
     let f = job_after_timers m.moment in
     let not_due = none_pass (λ j. is_due m.moment j.state) m.jobs due in
     let held = none_pass (λ j. is_expired m.moment j.state) m.jobs over in
     let jobs : map f m.jobs ≡ m.jobs = map_all_same f m.jobs (stays m.jobs not_due held) in
     let count : count_by (λ j. is_expired m.moment j.state) m.jobs ≡ 0 = count_all_not (λ j. is_expired m.moment j.state) m.jobs held in
-    ap (λ js. record m { jobs = js; timeouts = grown 0 m.timeouts }) (sym jobs) ∙ ap (λ n. record m { jobs = map f m.jobs; timeouts = grown n m.timeouts }) (sym count)
+    ap (λ js. record m { jobs = js; timeouts = grown 0 m.timeouts }) (sym jobs)
+    ∙ ap (λ n. record m { jobs = map f m.jobs; timeouts = grown n m.timeouts }) (sym count)
   where
-    stays : (jobs : List Job) → All (λ j. is_due m.moment j.state ≡ false) jobs → All (λ j. is_expired m.moment j.state ≡ false) jobs → All (λ j. job_after_timers m.moment j ≡ j) jobs
+    stays : (jobs : List Job) → All (λ j. is_due m.moment j.state ≡ false) jobs → All (λ j. is_expired m.moment j.state ≡ false) jobs
+        → All (λ j. job_after_timers m.moment j ≡ j) jobs
     stays [] a b = tt
     stays (j ∷ jobs) a b = (rw (a.0, b.0) refl, stays jobs a.1 b.1)
 
@@ -86,7 +105,8 @@ pub record Chosen (p : Job → Bool) (before : Job → Job → Bool) (jobs : Lis
   pub found : job_with id jobs ≡ Some job
   pub passes_is : p job ≡ true
 
-pub chosen : (p : Job → Bool) (before : Job → Job → Bool) (low next : ℕ) (jobs : List Job) (id : ℕ) → AreIdsWithin low jobs next → Some id ≡ option_map (λ j. j.id) (first_of p before jobs) → Chosen p before jobs id
+pub chosen : (p : Job → Bool) (before : Job → Job → Bool) (low next : ℕ) (jobs : List Job) (id : ℕ) → AreIdsWithin low jobs next
+    → Some id ≡ option_map (λ j. j.id) (first_of p before jobs) → Chosen p before jobs id
 chosen p before low next jobs id ids e = go (first_of p before jobs) refl e
   where
     go : (o : Option Job) → first_of p before jobs ≡ o → Some id ≡ option_map (λ j. j.id) o → Chosen p before jobs id
@@ -97,7 +117,8 @@ chosen p before low next jobs id ids e = go (first_of p before jobs) refl e
           job = j;
           first = f;
           id_is = is;
-          found = ap (λ n. job_with n jobs) is ∙ all_at (λ k. job_with k.id jobs ≡ Some k) jobs j (all_found low next jobs ids) (first_of_contains p before jobs j f);
+          found = ap (λ n. job_with n jobs) is ∙ all_at (λ k. job_with k.id jobs ≡ Some k) jobs j (all_found low next jobs ids)
+              (first_of_contains p before jobs j f);
           passes_is = first_of_passes p before jobs j f;
         }
 
@@ -107,14 +128,18 @@ pub record ChosenAt (p : Job → Bool) (number : Job → ℕ) (jobs : List Job) 
   pub at_is : at ≡ number chosen_is.job
   pub least : All (λ k. p k ≡ true → at ≤ number k) jobs
 
-pub chosen_at : (p : Job → Bool) (number : Job → ℕ) (low next : ℕ) (jobs : List Job) (at id : ℕ) → AreIdsWithin low jobs next → Some (at, id) ≡ option_map (ranked number) (first_of p (λ a b. is_pair_before (number a) a.id (number b) b.id) jobs) → ChosenAt p number jobs at id
+pub chosen_at : (p : Job → Bool) (number : Job → ℕ) (low next : ℕ) (jobs : List Job) (at id : ℕ) → AreIdsWithin low jobs next
+    → Some (at, id) ≡ option_map (ranked number) (first_of p (λ a b. is_pair_before (number a) a.id (number b) b.id) jobs)
+    → ChosenAt p number jobs at id
 chosen_at p number low next jobs at id ids e =
-    let c = chosen p (λ a b. is_pair_before (number a) a.id (number b) b.id) low next jobs id ids (second (first_of p (λ a b. is_pair_before (number a) a.id (number b) b.id) jobs) e) in
+    let c = chosen p (λ a b. is_pair_before (number a) a.id (number b) b.id) low next jobs id ids
+    (second (first_of p (λ a b. is_pair_before (number a) a.id (number b) b.id) jobs) e) in
     let n : at ≡ number c.job = first_is (first_of p (λ a b. is_pair_before (number a) a.id (number b) b.id) jobs) c.job e c.first in
     record {
       chosen_is = c;
       at_is = n;
-      least = all_from_members (λ k. p k ≡ true → at ≤ number k) jobs (λ k here pass. late at id k n c.id_is (first_of_is_least p (pair_order number (λ j. j.id)) jobs c.job k c.first here pass));
+      least = all_from_members (λ k. p k ≡ true → at ≤ number k) jobs
+          (λ k here pass. late at id k n c.id_is (first_of_is_least p (pair_order number (λ j. j.id)) jobs c.job k c.first here pass));
     }
   where
     second : (o : Option Job) → Some (at, id) ≡ option_map (ranked number) o → Some id ≡ option_map (λ j. j.id) o
@@ -123,15 +148,18 @@ chosen_at p number low next jobs at id ids e =
     first_is : (o : Option Job) (j : Job) → Some (at, id) ≡ option_map (ranked number) o → o ≡ Some j → at ≡ number j
     first_is o j h f = grind (arith, common_steps)
 
-    late : (at id : ℕ) (k : Job) {j : Job} → at ≡ number j → id ≡ j.id → is_pair_before (number k) k.id (number j) j.id ≡ false → at ≤ number k
+    late : (at id : ℕ) (k : Job) {j : Job} → at ≡ number j → id ≡ j.id
+        → is_pair_before (number k) k.id (number j) j.id ≡ false → at ≤ number k
     late at id k n i h = grind (arith, nat_tests)
 
 ending_is : (moment seat : ℕ) (s : JobState) → is_ending_lease moment seat s ≡ (is_holder seat s && nat_le (deadline_of s) (moment + 1000))
 ending_is moment seat s = grind (arith, common_steps)
 
-module _ (p : Job → Bool) (number : Job → ℕ) (q : ℕ → Job → Bool) (q_is : (t : ℕ) (j : Job) → q t j ≡ (p j && nat_le (number j) t)) (low next : ℕ) (jobs : List Job) (ids : AreIdsWithin low jobs next) where
+module _ (p : Job → Bool) (number : Job → ℕ) (q : ℕ → Job → Bool) (q_is : (t : ℕ) (j : Job) → q t j ≡ (p j && nat_le (number j) t))
+    (low next : ℕ) (jobs : List Job) (ids : AreIdsWithin low jobs next) where
   -- the first one is due by this moment
-  pub first_past : (t at id : ℕ) → Some (at, id) ≡ option_map (ranked number) (first_of p (λ a b. is_pair_before (number a) a.id (number b) b.id) jobs) → at ≤ t → IsOne (q t) jobs id
+  pub first_past : (t at id : ℕ) → Some (at, id) ≡ option_map (ranked number)
+      (first_of p (λ a b. is_pair_before (number a) a.id (number b) b.id) jobs) → at ≤ t → IsOne (q t) jobs id
   first_past t at id e past =
       let c = chosen_at p number low next jobs at id ids e in
       let j = c.chosen_is.job in
@@ -139,19 +167,23 @@ module _ (p : Job → Bool) (number : Job → ℕ) (q : ℕ → Job → Bool) (q
       record { job = j; found = c.chosen_is.found; passes_is = q_is t j ∙ rw (c.chosen_is.passes_is, past_it) refl }
 
   -- the first one is due after this moment
-  pub none_past : (t at id : ℕ) → Some (at, id) ≡ option_map (ranked number) (first_of p (λ a b. is_pair_before (number a) a.id (number b) b.id) jobs) → t < at → list_any (q t) jobs ≡ false
+  pub none_past : (t at id : ℕ) → Some (at, id) ≡ option_map (ranked number)
+      (first_of p (λ a b. is_pair_before (number a) a.id (number b) b.id) jobs) → t < at → list_any (q t) jobs ≡ false
   none_past t at id e later =
       let c = chosen_at p number low next jobs at id ids e in
       grind (arith, common_steps, list_any_not, all_weaker, cases_Bool, nat_tests)
 
   -- there is no job of the kind
   pub none_such : (t : ℕ) → list_any p jobs ≡ false → list_any (q t) jobs ≡ false
-  none_such t none = list_any_not (q t) jobs (all_weaker (λ k. p k ≡ false) (λ k. q t k ≡ false) jobs (λ k fail. q_is t k ∙ rw fail refl) (none_pass p jobs none))
+  none_such t none = list_any_not (q t) jobs
+      (all_weaker (λ k. p k ≡ false) (λ k. q t k ≡ false) jobs (λ k fail. q_is t k ∙ rw fail refl) (none_pass p jobs none))
 
   -- there is none
-  pub none_there : (t : ℕ) → None ≡ option_map (ranked number) (first_of p (λ a b. is_pair_before (number a) a.id (number b) b.id) jobs) → list_any (q t) jobs ≡ false
+  pub none_there : (t : ℕ) → None ≡ option_map (ranked number) (first_of p (λ a b. is_pair_before (number a) a.id (number b) b.id) jobs)
+      → list_any (q t) jobs ≡ false
   none_there t e =
-      let none = none_pass p jobs (first_of_none p (λ a b. is_pair_before (number a) a.id (number b) b.id) jobs (no_rank (first_of p (λ a b. is_pair_before (number a) a.id (number b) b.id) jobs) e)) in
+      let none = none_pass p jobs (first_of_none p (λ a b. is_pair_before (number a) a.id (number b) b.id) jobs
+      (no_rank (first_of p (λ a b. is_pair_before (number a) a.id (number b) b.id) jobs) e)) in
       list_any_not (q t) jobs (all_weaker (λ k. p k ≡ false) (λ k. q t k ≡ false) jobs (λ k fail. q_is t k ∙ rw fail refl) none)
     where
       no_rank : (o : Option Job) → None ≡ option_map (ranked number) o → o ≡ None
@@ -183,77 +215,109 @@ expiries_are t j = grind (arith, common_steps)
 pub held_by_none : (seat : ℕ) (state : JobState) → is_reserved state ≡ false → is_holder seat state ≡ false
 held_by_none seat state free = grind (arith, common_steps)
 
-pub given_one : (state : JobState) (seat : ℕ) (m : Machine) (id : ℕ) → is_reserved state ≡ false → AreIdsWithin 1 m.jobs m.next_id → Some id ≡ option_map (λ j. j.id) (first_of (is_held_by seat) is_lease_before m.jobs)
+pub given_one : (state : JobState) (seat : ℕ) (m : Machine) (id : ℕ) → is_reserved state ≡ false → AreIdsWithin 1 m.jobs m.next_id
+    → Some id ≡ option_map (λ j. j.id) (first_of (is_held_by seat) is_lease_before m.jobs)
     → after_giving_back state seat (with_job id (in_state state) m) ≡ after_giving_back state seat m
 given_one state seat m id free ids first =
     let one = chosen (is_held_by seat) is_lease_before 1 m.next_id m.jobs id ids first in
     let single = one_of_id id 1 m.next_id m.jobs one.job ids one.found in
     grind (arith, common_steps, absorbed, all_weaker)
 
-pub given_fewer : (state : JobState) (seat : ℕ) (m : Machine) (id : ℕ) → is_reserved state ≡ false → AreIdsWithin 1 m.jobs m.next_id → Some id ≡ option_map (λ j. j.id) (first_of (is_held_by seat) is_lease_before m.jobs)
+pub given_fewer : (state : JobState) (seat : ℕ) (m : Machine) (id : ℕ) → is_reserved state ≡ false → AreIdsWithin 1 m.jobs m.next_id
+    → Some id ≡ option_map (λ j. j.id) (first_of (is_held_by seat) is_lease_before m.jobs)
     → count_by (is_held_by seat) (with_job id (in_state state) m).jobs < count_by (is_held_by seat) m.jobs
 given_fewer state seat m id free ids first =
     let one = chosen (is_held_by seat) is_lease_before 1 m.next_id m.jobs id ids first in
-    omega (arith, one_fewer (is_held_by seat) (in_state state) id 1 m.next_id m.jobs one.job ids one.found one.passes_is (held_by_none seat state free))
+    omega (
+      arith,
+      one_fewer (is_held_by seat) (in_state state) id 1 m.next_id m.jobs one.job ids one.found one.passes_is
+          (held_by_none seat state free),
+    )
 
-pub given_none : (state : JobState) (seat : ℕ) (m : Machine) → None ≡ option_map (λ j. j.id) (first_of (is_held_by seat) is_lease_before m.jobs) → m ≡ after_giving_back state seat m
+pub given_none : (state : JobState) (seat : ℕ) (m : Machine)
+    → None ≡ option_map (λ j. j.id) (first_of (is_held_by seat) is_lease_before m.jobs) → m ≡ after_giving_back state seat m
 given_none state seat m e =
-    let none = none_pass (is_held_by seat) m.jobs (first_of_none (is_held_by seat) is_lease_before m.jobs (no_id (first_of (is_held_by seat) is_lease_before m.jobs) e)) in
-    ap (λ js. record m { jobs = js }) (sym (map_all_same (given_back state seat) m.jobs (all_weaker (λ k. is_held_by seat k ≡ false) (λ k. given_back state seat k ≡ k) m.jobs (λ k h. rw h refl) none)))
+    let none = none_pass (is_held_by seat) m.jobs
+    (first_of_none (is_held_by seat) is_lease_before m.jobs (no_id (first_of (is_held_by seat) is_lease_before m.jobs) e)) in
+    ap (λ js. record m { jobs = js })
+    (sym (map_all_same (given_back state seat) m.jobs
+    (all_weaker (λ k. is_held_by seat k ≡ false) (λ k. given_back state seat k ≡ k) m.jobs (λ k h. rw h refl) none)))
   where
     no_id : (o : Option Job) → None ≡ option_map (λ j. j.id) o → o ≡ None
     no_id o h = grind (arith, common_steps)
 
 -- the first lease of a client ends within a second
-endings_told : (seat moment : ℕ) (jobs : List Job) → list_any (λ j. is_ending_lease moment seat j.state) jobs ≡ list_any (λ j. is_held_by seat j && nat_le (deadline_of j.state) (moment + 1000)) jobs
+endings_told : (seat moment : ℕ) (jobs : List Job)
+    → list_any (λ j. is_ending_lease moment seat j.state) jobs ≡ list_any
+    (λ j. is_held_by seat j && nat_le (deadline_of j.state) (moment + 1000)) jobs
 endings_told seat moment [] = refl
 endings_told seat moment (j ∷ jobs) = rw (ending_is moment seat j.state, endings_told seat moment jobs) refl
 
 -- The first of some leases decides whether any of these ends within a second.
-soon_first : (p : Job → Bool) (moment : ℕ) (jobs : List Job) (found : Option (ℕ × ℕ)) → found ≡ option_map (ranked (λ j. deadline_of j.state)) (first_of p is_lease_before jobs)
+soon_first : (p : Job → Bool) (moment : ℕ) (jobs : List Job) (found : Option (ℕ × ℕ))
+    → found ≡ option_map (ranked (λ j. deadline_of j.state)) (first_of p is_lease_before jobs)
     → is_soon moment found ≡ list_any (λ j. p j && nat_le (deadline_of j.state) (moment + 1000)) jobs
 soon_first p moment jobs found is = ap (is_soon moment) is ∙ go (first_of p is_lease_before jobs) refl
   where
     q : Job → Bool
     q j = p j && nat_le (deadline_of j.state) (moment + 1000)
 
-    late : (k j : Job) → is_lease_before k j ≡ false → nat_le (deadline_of j.state) (moment + 1000) ≡ false → nat_le (deadline_of k.state) (moment + 1000) ≡ false
+    late : (k j : Job) → is_lease_before k j ≡ false → nat_le (deadline_of j.state) (moment + 1000) ≡ false
+        → nat_le (deadline_of k.state) (moment + 1000) ≡ false
     late k j after h = grind (arith, nat_tests)
 
-    go : (o : Option Job) → first_of p is_lease_before jobs ≡ o → is_soon moment (option_map (ranked (λ j. deadline_of j.state)) o) ≡ list_any q jobs
-    go None e = sym (list_any_not q jobs (all_weaker (λ k. p k ≡ false) (λ k. q k ≡ false) jobs (λ k fail. rw fail refl) (none_pass p jobs (first_of_none p is_lease_before jobs e))))
-    go (Some j) e = (grind (arith, common_steps, cases_Bool, nat_tests)) ∙ elim (cases_Bool (nat_le (deadline_of j.state) (moment + 1000))) [
-      | inl past ↦ past ∙ sym (list_any_with q jobs j (first_of_contains p is_lease_before jobs j e) (rw (first_of_passes p is_lease_before jobs j e, past) refl))
-      | inr later ↦
-          later
-          ∙ sym (list_any_not q jobs (all_from_members (λ k. q k ≡ false) jobs (λ k here. elim (cases_Bool (p k)) [
-            | inl pass ↦ rw (pass, late k j (first_of_is_least p (pair_order (λ k. deadline_of k.state) (λ k. k.id)) jobs j k e here pass) later) refl
-            | inr fail ↦ rw fail refl
-          ])))
-    ]
+    go : (o : Option Job) → first_of p is_lease_before jobs ≡ o
+        → is_soon moment (option_map (ranked (λ j. deadline_of j.state)) o) ≡ list_any q jobs
+    go None e =
+        sym
+        (list_any_not q jobs (all_weaker (λ k. p k ≡ false) (λ k. q k ≡ false) jobs (λ k fail. rw fail refl)
+        (none_pass p jobs (first_of_none p is_lease_before jobs e))))
+    go (Some j) e = (grind (arith, common_steps, cases_Bool, nat_tests))
+        ∙ elim (cases_Bool (nat_le (deadline_of j.state) (moment + 1000))) [
+          | inl past ↦ past ∙ sym (list_any_with q jobs j (first_of_contains p is_lease_before jobs j e)
+              (rw (first_of_passes p is_lease_before jobs j e, past) refl))
+          | inr later ↦
+              later
+              ∙ sym (list_any_not q jobs (all_from_members (λ k. q k ≡ false) jobs (λ k here. elim (cases_Bool (p k)) [
+                | inl pass ↦ rw
+                    (pass, late k j (first_of_is_least p (pair_order (λ k. deadline_of k.state) (λ k. k.id)) jobs j k e here pass) later) refl
+                | inr fail ↦ rw fail refl
+              ])))
+        ]
 
-pub seat_warned : (seat moment : ℕ) (jobs : List Job) (found : Option (ℕ × ℕ)) (soon : Bool) → soon ≡ is_soon moment found → found ≡ option_map (ranked (λ j. deadline_of j.state)) (first_of (is_held_by seat) is_lease_before jobs)
+pub seat_warned : (seat moment : ℕ) (jobs : List Job) (found : Option (ℕ × ℕ)) (soon : Bool) → soon ≡ is_soon moment found
+    → found ≡ option_map (ranked (λ j. deadline_of j.state)) (first_of (is_held_by seat) is_lease_before jobs)
     → soon ≡ list_any (λ j. is_ending_lease moment seat j.state) jobs
-seat_warned seat moment jobs found soon told is = told ∙ soon_first (is_held_by seat) moment jobs found is ∙ sym (endings_told seat moment jobs)
+seat_warned seat moment jobs found soon told is =
+    told ∙ soon_first (is_held_by seat) moment jobs found is ∙ sym (endings_told seat moment jobs)
 
-pub some_warned : (moment : ℕ) (jobs : List Job) (found : Option (ℕ × ℕ)) (soon : Bool) → soon ≡ is_soon moment found → found ≡ option_map (ranked (λ j. deadline_of j.state)) (first_of (λ j. is_reserved j.state) is_lease_before jobs)
+pub some_warned : (moment : ℕ) (jobs : List Job) (found : Option (ℕ × ℕ)) (soon : Bool) → soon ≡ is_soon moment found
+    → found ≡ option_map (ranked (λ j. deadline_of j.state)) (first_of (λ j. is_reserved j.state) is_lease_before jobs)
     → soon ≡ list_any (is_lease_short moment) jobs
 some_warned moment jobs found soon told is = told ∙ soon_first (λ j. is_reserved j.state) moment jobs found is
 
 -- no client waits: no wait ends
 pub nobody_ends : (m : Machine) → list_any is_waiting m.seats ≡ false → next_end m ≡ None
-nobody_ends m h = first_of_none_passes (ends_waiting m) is_wait_before m.seats (list_any_not (ends_waiting m) m.seats (all_weaker (λ s. is_waiting s ≡ false) (λ s. ends_waiting m s ≡ false) m.seats (λ s none. rw none refl) (none_pass is_waiting m.seats h)))
+nobody_ends m h = first_of_none_passes (ends_waiting m) is_wait_before m.seats
+    (list_any_not (ends_waiting m) m.seats (all_weaker (λ s. is_waiting s ≡ false) (λ s. ends_waiting m s ≡ false) m.seats
+    (λ s none. rw none refl) (none_pass is_waiting m.seats h)))
 
 -- no wait has timed out, and no time to run ends soon
-pub none_ends : (m : Machine) → list_any (has_waited m.moment) m.seats ≡ false → list_any (is_lease_short m.moment) m.jobs ≡ false → next_end m ≡ None
+pub none_ends : (m : Machine) → list_any (has_waited m.moment) m.seats ≡ false
+    → list_any (is_lease_short m.moment) m.jobs ≡ false → next_end m ≡ None
 none_ends m waited short =
-    first_of_none_passes (ends_waiting m) is_wait_before m.seats (list_any_not (ends_waiting m) m.seats (all_weaker (λ s. has_waited m.moment s ≡ false) (λ s. ends_waiting m s ≡ false) m.seats (λ s none. go s (is_waiting s) none) (none_pass (has_waited m.moment) m.seats waited)))
+    first_of_none_passes (ends_waiting m) is_wait_before m.seats
+    (list_any_not (ends_waiting m) m.seats (all_weaker (λ s. has_waited m.moment s ≡ false) (λ s. ends_waiting m s ≡ false) m.seats
+    (λ s none. go s (is_waiting s) none) (none_pass (has_waited m.moment) m.seats waited)))
   where
-    not_soon : (number : ℕ) (state : JobState) → (is_reserved state && nat_le (deadline_of state) (m.moment + 1000)) ≡ false → is_ending_lease m.moment number state ≡ false
+    not_soon : (number : ℕ) (state : JobState) → (is_reserved state && nat_le (deadline_of state) (m.moment + 1000)) ≡ false
+        → is_ending_lease m.moment number state ≡ false
     not_soon number state h = grind (arith, common_steps)
 
     soon_none : (number : ℕ) → list_any (λ j. is_ending_lease m.moment number j.state) m.jobs ≡ false
-    soon_none number = list_any_not (λ j. is_ending_lease m.moment number j.state) m.jobs (all_weaker (λ j. is_lease_short m.moment j ≡ false) (λ j. is_ending_lease m.moment number j.state ≡ false) m.jobs (λ j h. not_soon number j.state h) (none_pass (is_lease_short m.moment) m.jobs short))
+    soon_none number = list_any_not (λ j. is_ending_lease m.moment number j.state) m.jobs
+        (all_weaker (λ j. is_lease_short m.moment j ≡ false) (λ j. is_ending_lease m.moment number j.state ≡ false) m.jobs
+        (λ j h. not_soon number j.state h) (none_pass (is_lease_short m.moment) m.jobs short))
 
     go : (s : SeatRecord) (w : Bool) → (w && is_timed_out_at m.moment s) ≡ false → (w && (is_deadline_soon m s || is_timed_out m s)) ≡ false
     go s true h = rw (soon_none s.number) h

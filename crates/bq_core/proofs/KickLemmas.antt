@@ -1,10 +1,13 @@
 -- Kicking the first job of a kind repeatedly kicks the first ones in order.
-use Rattle.std.proofs.Common.{◌&&◌, ◌+◌, ◌<◌, ◌==◌, ◌∙◌, ◌∷◌, ◌≡◌, if◌then◌else◌, Bool, List, None, Option, Some, [], ℕ, ap, arith, eq-eqb, false, filter, inl, inr, length, map, not, refl, suc, sym, take, true}
+use Rattle.std.proofs.Common.{◌&&◌, ◌+◌, ◌<◌, ◌==◌, ◌∙◌, ◌∷◌, ◌≡◌, if◌then◌else◌, Bool, List, None, Option, Some, [], ℕ}
+use Rattle.std.proofs.Common.{ap, arith, eq-eqb, false, filter, inl, inr, length, map, not, refl, suc, sym, take, true}
 use Rattle.std.proofs.lemmas.{Bool.{and_from, cases_Bool, eqb-true, ne_eqb, Decides.nat_tests}, Grind.common_steps}
 use Rattle.std.specs.{List.{AllByRecursion as All, Contains, list_any}, Prelude.option_map}
 use Rattle.bq_job.specs.declared.job.Job.{Job}
-use Rattle.bq_job.specs.{beside.AreIdsWithin, machine.{first_of, in_order, is_buried_before, is_buried_in, job_with, kickable, kicked, kicked_first, put_in_order}}
-use Rattle.bq_job.proofs.{ChoiceLemmas.{first_of_contains, first_of_is_least, first_of_is_some, first_of_none, first_of_passes, pair_order}, KeptLemmas.ids_of_filter, ListLemmas.{all_at, all_from_members, list_any_with}}
+use Rattle.bq_job.specs.{beside.AreIdsWithin}
+use Rattle.bq_job.specs.machine.{first_of, in_order, is_buried_before, is_buried_in, job_with, kickable, kicked, kicked_first, put_in_order}
+use Rattle.bq_job.proofs.ChoiceLemmas.{first_of_contains, first_of_is_least, first_of_is_some, first_of_none, first_of_passes, pair_order}
+use Rattle.bq_job.proofs.{KeptLemmas.ids_of_filter, ListLemmas.{all_at, all_from_members, list_any_with}}
 use Rattle.bq_job.proofs.{BecomeLemmas.{all_in_order, all_of_take}, ChoiceLemmas.pair_other}
 use Rattle.bq_jobs.proofs.Changes.{all_found, others_above}
 use Rattle.bq_state.specs.declared.job_store.JobKind.{JobKind, TheVariants.{Buried, Delayed}}
@@ -14,7 +17,8 @@ use Rattle.bq_core.specs.Kicking.{KicksFirst, all_kicked, jobs_of}
 use Rattle.bq_core.proofs.ActLemmas.{none_left}
 
 -- a job is the only one with its id
-pub one_of_id : (id low next : ℕ) (jobs : List Job) (j : Job) → AreIdsWithin low jobs next → job_with id jobs ≡ Some j → All (λ x. (x.id == id) ≡ true → x ≡ j) jobs
+pub one_of_id : (id low next : ℕ) (jobs : List Job) (j : Job) → AreIdsWithin low jobs next → job_with id jobs ≡ Some j
+    → All (λ x. (x.id == id) ≡ true → x ≡ j) jobs
 one_of_id id low next [] j h found = tt
 one_of_id id low next (y ∷ jobs) j h found = elim (cases_Bool (y.id == id)) [
   | inl same ↦
@@ -51,26 +55,30 @@ all_not_before before j [] all = tt
 all_not_before before j (x ∷ js) all = (all.0.not_before, all_not_before before j js all.1)
 
 -- the first one is at the head of the ordered list
-first_ordered : (before : Job → Job → Bool) (j : Job) (low next : ℕ) (js : List Job) → AreIdsWithin low js next → All (Beside before j) js → list_any (λ x. x.id == j.id) js ≡ true → in_order before js ≡ j ∷ in_order before (filter (λ x. not (x.id == j.id)) js)
+first_ordered : (before : Job → Job → Bool) (j : Job) (low next : ℕ) (js : List Job) → AreIdsWithin low js next → All (Beside before j) js
+    → list_any (λ x. x.id == j.id) js ≡ true → in_order before js ≡ j ∷ in_order before (filter (λ x. not (x.id == j.id)) js)
 first_ordered before j low next [] ids all here = absurd cc
 first_ordered before j low next (x ∷ js) ids all here = elim (cases_Bool (x.id == j.id)) [
   | inl same ↦
       let is : x ≡ j = all.0.one same in
       let at : x.id ≡ j.id = eqb-true x.id j.id same in
       let others = none_taken j.id js (others_above j.id (suc x.id) next js (omega arith) ids.1) in
-      rw (same, others, is) (at_head before j (in_order before js) (all_in_order (λ y. before y j ≡ false) before js (all_not_before before j js all.1)))
+      rw (same, others, is) (at_head before j (in_order before js)
+      (all_in_order (λ y. before y j ≡ false) before js (all_not_before before j js all.1)))
   | inr other ↦
       let rest = first_ordered before j (suc x.id) next js ids.1 all.1 (rw other at here) in
       rw (other, rest, all.0.after other) refl
 ]
 
 -- a kicked job is no longer of the kind
-kicked_are_out : (p : Job → Bool) (id : ℕ) → ((k : Job) → p (kicked k) ≡ false) → (js : List Job) → filter p (map (λ k. if k.id == id then kicked k else k) js) ≡ filter (λ k. not (k.id == id)) (filter p js)
+kicked_are_out : (p : Job → Bool) (id : ℕ) → ((k : Job) → p (kicked k) ≡ false) → (js : List Job)
+    → filter p (map (λ k. if k.id == id then kicked k else k) js) ≡ filter (λ k. not (k.id == id)) (filter p js)
 kicked_are_out p id out [] = refl
 kicked_are_out p id out (x ∷ js) = grind (arith, common_steps, kicked_are_out p id out js)
 
 -- the remaining jobs are others
-left_are_others : (p : Job → Bool) (id : ℕ) → ((k : Job) → p (kicked k) ≡ false) → (js : List Job) → All (λ x. (x.id == id) ≡ false) (filter p (map (λ k. if k.id == id then kicked k else k) js))
+left_are_others : (p : Job → Bool) (id : ℕ) → ((k : Job) → p (kicked k) ≡ false) → (js : List Job)
+    → All (λ x. (x.id == id) ≡ false) (filter p (map (λ k. if k.id == id then kicked k else k) js))
 left_are_others p id out [] = tt
 left_are_others p id out (x ∷ js) = grind (arith, common_steps, left_are_others p id out js)
 
@@ -79,16 +87,21 @@ not_chosen id [] all = refl
 not_chosen id (k ∷ chosen) all = rw all.0 (not_chosen id chosen all.1)
 
 -- kicking the first one and then the others is kicking all of them
-kicked_in_turn : (j : Job) (chosen : List Job) → All (λ k. (k.id == j.id) ≡ false) chosen → (js : List Job) → all_kicked (j ∷ chosen) js ≡ all_kicked chosen (map (λ k. if k.id == j.id then kicked k else k) js)
+kicked_in_turn : (j : Job) (chosen : List Job) → All (λ k. (k.id == j.id) ≡ false) chosen → (js : List Job)
+    → all_kicked (j ∷ chosen) js ≡ all_kicked chosen (map (λ k. if k.id == j.id then kicked k else k) js)
 kicked_in_turn j chosen others [] = refl
 kicked_in_turn j chosen others (x ∷ js) = go (x.id == j.id) refl (kicked_in_turn j chosen others js)
   where
-    go : (b : Bool) → (x.id == j.id) ≡ b → all_kicked (j ∷ chosen) js ≡ all_kicked chosen (map (λ k. if k.id == j.id then kicked k else k) js) → all_kicked (j ∷ chosen) (x ∷ js) ≡ all_kicked chosen ((if b then kicked x else x) ∷ map (λ k. if k.id == j.id then kicked k else k) js)
+    go : (b : Bool) → (x.id == j.id) ≡ b → all_kicked (j ∷ chosen) js ≡ all_kicked chosen
+        (map (λ k. if k.id == j.id then kicked k else k) js)
+        → all_kicked (j ∷ chosen) (x ∷ js) ≡ all_kicked chosen
+        ((if b then kicked x else x) ∷ map (λ k. if k.id == j.id then kicked k else k) js)
     go true e rest =
         grind (arith, common_steps, cases_Bool, nat_tests, eqb-true x.id j.id e, eq-eqb, not_chosen j.id chosen others)
     go false e rest = grind (arith, common_steps, ne_eqb, eq-eqb)
 
-those_at : (P : Job → Type 0) (q : Job → Bool) (x : Job) (js : List Job) (b : Bool) → q x ≡ b → (q x ≡ true → P x) → All P (filter q js) → All P (if b then x ∷ filter q js else filter q js)
+those_at : (P : Job → Type 0) (q : Job → Bool) (x : Job) (js : List Job) (b : Bool) → q x ≡ b → (q x ≡ true → P x) → All P (filter q js)
+    → All P (if b then x ∷ filter q js else filter q js)
 those_at P q x js b e h more = grind (arith, common_steps)
 
 those : (P : Job → Type 0) (q : Job → Bool) (js : List Job) → All (λ x. q x ≡ true → P x) js → All P (filter q js)
@@ -96,19 +109,26 @@ those P q [] all = tt
 those P q (x ∷ js) all = those_at P q x js (q x) refl all.0 (those P q js all.1)
 
 -- a job that passes is among those that do
-some_at : (q : Job → Bool) (id : ℕ) (x : Job) (js : List Job) (b : Bool) → q x ≡ b → list_any (λ y. (y.id == id) && q y) (x ∷ js) ≡ true → (list_any (λ y. (y.id == id) && q y) js ≡ true → list_any (λ y. y.id == id) (filter q js) ≡ true) → list_any (λ y. y.id == id) (if b then x ∷ filter q js else filter q js) ≡ true
+some_at : (q : Job → Bool) (id : ℕ) (x : Job) (js : List Job) (b : Bool) → q x ≡ b → list_any (λ y. (y.id == id) && q y) (x ∷ js) ≡ true
+    → (list_any (λ y. (y.id == id) && q y) js ≡ true → list_any (λ y. y.id == id) (filter q js) ≡ true)
+    → list_any (λ y. y.id == id) (if b then x ∷ filter q js else filter q js) ≡ true
 some_at q id x js b e h rest = grind (arith, common_steps, cases_Bool)
 
-some_there_at : (q : Job → Bool) (id : ℕ) (js : List Job) → list_any (λ y. (y.id == id) && q y) js ≡ true → list_any (λ y. y.id == id) (filter q js) ≡ true
+some_there_at : (q : Job → Bool) (id : ℕ) (js : List Job) → list_any (λ y. (y.id == id) && q y) js ≡ true
+    → list_any (λ y. y.id == id) (filter q js) ≡ true
 some_there_at q id [] h = absurd cc
 some_there_at q id (x ∷ js) h = some_at q id x js (q x) refl h (some_there_at q id js)
 
 some_there : (q : Job → Bool) (js : List Job) (x : Job) → Contains js x → q x ≡ true → list_any (λ y. y.id == x.id) (filter q js) ≡ true
 some_there q js x here pass =
-    some_there_at q x.id js (list_any_with (λ y. (y.id == x.id) && q y) js x here (and_from (x.id == x.id) (q x) (eq-eqb x.id x.id refl) pass))
+    some_there_at q x.id js (list_any_with (λ y. (y.id == x.id) && q y) js x here
+    (and_from (x.id == x.id) (q x) (eq-eqb x.id x.id refl) pass))
 
 -- the first one is kicked
-pub kicks_first : (kind : JobKind) (tube : List ℕ) (low next : ℕ) (jobs : List Job) (j : Job) → ((k : Job) → is_of kind tube (kicked k) ≡ false) → AreIdsWithin low jobs next → first_of (is_of kind tube) (is_before_of kind) jobs ≡ Some j → KicksFirst kind tube jobs (map (λ k. if k.id == j.id then kicked k else k) jobs)
+pub kicks_first : (kind : JobKind) (tube : List ℕ) (low next : ℕ) (jobs : List Job) (j : Job)
+    → ((k : Job) → is_of kind tube (kicked k) ≡ false) → AreIdsWithin low jobs next
+    → first_of (is_of kind tube) (is_before_of kind) jobs ≡ Some j
+    → KicksFirst kind tube jobs (map (λ k. if k.id == j.id then kicked k else k) jobs)
 kicks_first kind tube low next jobs j out ids first =
     let p = is_of kind tube in
     let before = is_before_of kind in
@@ -123,12 +143,15 @@ kicks_first kind tube low next jobs j out ids first =
     grind (arith, common_steps, pair_other, all_at)) in
     let rest = map (λ k. if k.id == j.id then kicked k else k) jobs in
     let ordered : jobs_of kind tube jobs ≡ j ∷ jobs_of kind tube rest =
-    first_ordered before j low next (filter p jobs) (ids_of_filter p low next jobs ids) (those (Beside before j) p jobs beside) (some_there p jobs j here passes)
+    first_ordered before j low next (filter p jobs) (ids_of_filter p low next jobs ids) (those (Beside before j) p jobs beside)
+    (some_there p jobs j here passes)
     ∙ ap (λ js. j ∷ in_order before js) (sym (kicked_are_out p j.id out jobs)) in
     record {
       jobs = λ n.
           ap (λ js. all_kicked (take (suc n) js) jobs) ordered
-          ∙ kicked_in_turn j (take n (jobs_of kind tube rest)) (all_of_take (λ k. (k.id == j.id) ≡ false) n (jobs_of kind tube rest) (all_in_order (λ k. (k.id == j.id) ≡ false) before (filter p rest) (left_are_others p j.id out jobs))) jobs;
+          ∙ kicked_in_turn j (take n (jobs_of kind tube rest))
+          (all_of_take (λ k. (k.id == j.id) ≡ false) n (jobs_of kind tube rest)
+          (all_in_order (λ k. (k.id == j.id) ≡ false) before (filter p rest) (left_are_others p j.id out jobs))) jobs;
       count = λ n. ap (λ js. length (take (suc n) js)) ordered;
     }
 
@@ -136,7 +159,8 @@ kicks_first kind tube low next jobs j out ids first =
 some_buried : (tube : List ℕ) (jobs js : List Job) → 0 < length js → in_order is_buried_before js ≡ kicked_first tube jobs js
 some_buried tube jobs js h = grind (arith, common_steps)
 
-pub kickable_buried : (tube : List ℕ) (jobs : List Job) (id : ℕ) → Some id ≡ option_map (λ j. j.id) (first_of (is_buried_in tube) is_buried_before jobs) → jobs_of Buried tube jobs ≡ kickable tube jobs
+pub kickable_buried : (tube : List ℕ) (jobs : List Job) (id : ℕ)
+    → Some id ≡ option_map (λ j. j.id) (first_of (is_buried_in tube) is_buried_before jobs) → jobs_of Buried tube jobs ≡ kickable tube jobs
 kickable_buried tube jobs id first =
     grind (arith, common_steps, cases_Bool, first_of_is_some (is_buried_in tube) is_buried_before jobs, some_buried, some_left)
 
@@ -144,13 +168,18 @@ kickable_buried tube jobs id first =
 pub no_id : (o : Option Job) → None ≡ option_map (λ j. j.id) o → o ≡ None
 no_id o e = grind (arith, common_steps)
 
-pub kickable_delayed : (tube : List ℕ) (jobs : List Job) → None ≡ option_map (λ j. j.id) (first_of (is_buried_in tube) is_buried_before jobs) → jobs_of Delayed tube jobs ≡ kickable tube jobs
+pub kickable_delayed : (tube : List ℕ) (jobs : List Job)
+    → None ≡ option_map (λ j. j.id) (first_of (is_buried_in tube) is_buried_before jobs) → jobs_of Delayed tube jobs ≡ kickable tube jobs
 kickable_delayed tube jobs none =
-    let empty : filter (is_buried_in tube) jobs ≡ [] = none_left (is_buried_in tube) jobs (first_of_none (is_buried_in tube) is_buried_before jobs (no_id (first_of (is_buried_in tube) is_buried_before jobs) none)) in
+    let empty : filter (is_buried_in tube) jobs ≡ [] =
+    none_left (is_buried_in tube) jobs (first_of_none (is_buried_in tube) is_buried_before jobs
+    (no_id (first_of (is_buried_in tube) is_buried_before jobs) none)) in
     ap (kicked_first tube jobs) (sym empty)
 
-pub none_of_kind : (kind : JobKind) (tube : List ℕ) (jobs : List Job) → None ≡ first_of (is_of kind tube) (is_before_of kind) jobs → jobs_of kind tube jobs ≡ []
-none_of_kind kind tube jobs none = ap (in_order (is_before_of kind)) (none_left (is_of kind tube) jobs (first_of_none (is_of kind tube) (is_before_of kind) jobs (sym none)))
+pub none_of_kind : (kind : JobKind) (tube : List ℕ) (jobs : List Job) → None ≡ first_of (is_of kind tube) (is_before_of kind) jobs
+    → jobs_of kind tube jobs ≡ []
+none_of_kind kind tube jobs none = ap (in_order (is_before_of kind))
+    (none_left (is_of kind tube) jobs (first_of_none (is_of kind tube) (is_before_of kind) jobs (sym none)))
 
 -- steps of counting
 pub zero_more : (n : ℕ) → 0 + n ≡ n

@@ -4,18 +4,21 @@ use Rattle.std.specs.{List.sum_by, Prelude.fold}
 use Rattle.bq_job.specs.{declared.job.Job.Job, machine.{SeatRecord, TubeRecord}}
 use Rattle.bq_job.proofs.ChoiceLemmas.{pair_order}
 use Rattle.bq_jobs.specs.Kept.{Kept}
-use Rattle.bq_state.specs.{Asking.Asks, Cost.waited_tubes, Offers.{better_rank, with_offers}, SeatChanges.AreNumbered, WaitingTurns.{by_seat, turns_of, waited_at}}
+use Rattle.bq_state.specs.{Asking.Asks, Cost.waited_tubes, Offers.{better_rank, with_offers}}
+use Rattle.bq_state.specs.{SeatChanges.AreNumbered, WaitingTurns.{by_seat, turns_of, waited_at}}
 use Rattle.bq_state.proofs.{SeatPlaces.place_is_seat, WalkLemmas.{chosen, chosen_twice, walked}}
 
 ranks_swap : (b x y : Option (ℕ × ℕ)) → better_rank (better_rank b x) y ≡ better_rank (better_rank b y) x
 ranks_swap b x y = grind (arith, common_steps, chosen, chosen_twice, pair_order)
 
 -- folds in which the order of elements does not matter
-one_later : {A B : Type 0} (g : B → A → B) → ((b : B) (x y : A) → g (g b x) y ≡ g (g b y) x) → (b : B) (y : A) (xs : List A) → fold g (g b y) xs ≡ g (fold g b xs) y
+one_later : {A B : Type 0} (g : B → A → B) → ((b : B) (x y : A) → g (g b x) y ≡ g (g b y) x) → (b : B) (y : A) (xs : List A)
+    → fold g (g b y) xs ≡ g (fold g b xs) y
 one_later g swap b y [] = refl
 one_later g swap b y (x ∷ xs) = ap (λ c. fold g c xs) (swap b y x) ∙ one_later g swap (g b x) y xs
 
-folds_swap : {A B : Type 0} (g : B → A → B) → ((b : B) (x y : A) → g (g b x) y ≡ g (g b y) x) → (b : B) (xs ys : List A) → fold g (fold g b xs) ys ≡ fold g (fold g b ys) xs
+folds_swap : {A B : Type 0} (g : B → A → B) → ((b : B) (x y : A) → g (g b x) y ≡ g (g b y) x) → (b : B) (xs ys : List A)
+    → fold g (fold g b xs) ys ≡ fold g (fold g b ys) xs
 folds_swap g swap b xs [] = refl
 folds_swap g swap b xs (y ∷ ys) = ap (λ c. fold g c ys) (sym (one_later g swap b y xs)) ∙ folds_swap g swap (g b y) xs ys
 
@@ -23,8 +26,11 @@ fold_same : {A B : Type 0} (g h : B → A → B) → ((b : B) (x : A) → g b x 
 fold_same g h same b [] = refl
 fold_same g h same b (x ∷ xs) = ap (λ c. fold g c xs) (same b x) ∙ fold_same g h same (h b x) xs
 
-pub offers_walked : (jobs : List Job) (entries : List TubeRecord) (seats : List SeatRecord) → AreNumbered seats → fold (by_seat (with_offers jobs entries) seats) None (turns_of seats) ≡ fold (with_offers jobs entries) None seats
+pub offers_walked : (jobs : List Job) (entries : List TubeRecord) (seats : List SeatRecord) → AreNumbered seats
+    → fold (by_seat (with_offers jobs entries) seats) None (turns_of seats) ≡ fold (with_offers jobs entries) None seats
 offers_walked jobs entries seats h = grind (arith, common_steps, fold_same, place_is_seat, walked, folds_swap, ranks_swap)
 
-pub asks_walked : (seats : List SeatRecord) {old new : Kept} → AreNumbered seats → Asks (sum_by (waited_at seats) (turns_of seats)) old new → Asks (sum_by waited_tubes seats) old new
-asks_walked seats {old = old} {new = new} numbered asked = subst (λ n. Asks n old new) (grind (arith, common_steps, fold_same, place_is_seat, walked)) asked
+pub asks_walked : (seats : List SeatRecord) {old new : Kept} → AreNumbered seats → Asks (sum_by (waited_at seats) (turns_of seats)) old new
+    → Asks (sum_by waited_tubes seats) old new
+asks_walked seats {old = old} {new = new} numbered asked = subst (λ n. Asks n old new)
+    (grind (arith, common_steps, fold_same, place_is_seat, walked)) asked

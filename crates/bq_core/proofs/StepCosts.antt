@@ -1,21 +1,29 @@
 -- The searches of a whole step, from its parts.
-use Rattle.std.proofs.{Common.{◌*◌, ◌+◌, ◌∙◌, ◌≡◌, ◌≤◌, List, None, [], ℕ, ap, arith, cond, false, length, max, subst, sym}, lemmas.Nat.mul-le, Math.Nat.add-mul}
+use Rattle.std.proofs.Common.{◌*◌, ◌+◌, ◌∙◌, ◌≡◌, ◌≤◌, List, None, [], ℕ, ap, arith, cond, false, length, max, subst, sym}
+use Rattle.std.proofs.{lemmas.Nat.mul-le, Math.Nat.add-mul}
 use Rattle.std.proofs.lemmas.{Grind.common_steps, List.length-append}
 use Rattle.std.specs.List.{sum_by}
 use Rattle.bq_job.specs.declared.step.Step.{Step}
-use Rattle.bq_job.specs.{beside.waiting_count, machine.{DispatchTurn, GivenAnswer, SeatRecord, Serves, WaitEndTurn, has_refused_share, is_waiting, next_end, next_job, without_wait, Machine.Machine}}
+use Rattle.bq_job.specs.{beside.waiting_count}
+use Rattle.bq_job.specs.machine.{DispatchTurn, GivenAnswer, SeatRecord, Serves, WaitEndTurn, has_refused_share}
+use Rattle.bq_job.specs.machine.{is_waiting, next_end, next_job, without_wait, Machine.Machine}
 use Rattle.bq_job.proofs.LawfulLemmas.{leaves_acted}
 use Rattle.bq_steps.specs.{Cost.{IsStepWithin, changed_jobs, ripening, tubes_watched, watched_tubes}, Outbox.Outbox}
 use Rattle.bq_jobs.specs.Kept.{Kept}
 use Rattle.bq_state.specs.declared.core_parts.CoreParts.{CoreParts}
 use Rattle.bq_state.specs.{Asking.{Asks, AsksByTurn, AsksWithin, search_among}, CoreParts.machine_of, Cost.{waited, waited_tubes}}
 use Rattle.bq_core.specs.{AtOnce.kept_at, Serving.{NoneIsGone, ServesAsking, ServesInto}, Turns.{Gives, none_refused}}
-use Rattle.bq_core.proofs.{AskLemmas.{asks_more, asks_then, search_grows}, CostLemmas.{ended_stop, entries_less, given_length, handed_stop, waited_less}, StepLemmas.{Begun, keeps, serves_after, serves_into, whole_step}}
+use Rattle.bq_core.proofs.AskLemmas.{asks_more, asks_then, search_grows}
+use Rattle.bq_core.proofs.CostLemmas.{ended_stop, entries_less, given_length, handed_stop, waited_less}
+use Rattle.bq_core.proofs.StepLemmas.{Begun, keeps, serves_after, serves_into, whole_step}
 use Rattle.bq_core.proofs.WatchLemmas.{acted_few, waited_few, waiting_few}
 
 -- dispatch and the ends of waits, one after the other
-pub serves_asking : (first between last : Machine) (before middle_jobs after : Kept) (old middle new : Outbox) → Gives DispatchTurn has_refused_share first between old middle → next_job between ≡ None → Gives WaitEndTurn none_refused between last middle new → next_end last ≡ None → NoneIsGone first
-    → AsksByTurn (waited first) old middle before middle_jobs → Asks (waiting_count between + 1) middle_jobs after → ServesAsking first old new last before after
+pub serves_asking : (first between last : Machine) (before middle_jobs after : Kept) (old middle new : Outbox)
+    → Gives DispatchTurn has_refused_share first between old middle → next_job between ≡ None
+    → Gives WaitEndTurn none_refused between last middle new → next_end last ≡ None → NoneIsGone first
+    → AsksByTurn (waited first) old middle before middle_jobs → Asks (waiting_count between + 1) middle_jobs after
+    → ServesAsking first old new last before after
 unfolding serves_into
 serves_asking first between last before middle_jobs after old middle new d dispatched w ended none a b =
     let n = waited first + 9 in
@@ -26,7 +34,9 @@ serves_asking first between last before middle_jobs after old middle new d dispa
     }
 
 -- counts over seats decrease as jobs are handed out and waits end
-serve_falls : (f : SeatRecord → ℕ) → ((s : SeatRecord) → f (without_wait s) ≤ f s) → (first : Machine) (handed ended : List GivenAnswer) (last : Machine) → Serves first handed ended last → sum_by f last.seats ≤ sum_by f first.seats
+serve_falls : (f : SeatRecord → ℕ) → ((s : SeatRecord) → f (without_wait s) ≤ f s)
+    → (first : Machine) (handed ended : List GivenAnswer) (last : Machine) → Serves first handed ended last
+    → sum_by f last.seats ≤ sum_by f first.seats
 serve_falls f less first handed ended last s =
     let d = s.dispatches in
     let e = s.ends_waits in
@@ -40,8 +50,10 @@ bounded : (t h c g q w v x y : ℕ) → w ≤ q → v ≤ q → x ≤ q → y �
 bounded t h c g q w v x y a b d e = grind (arith, common_steps, mul-le, add-mul)
 
 -- four parts, each of which searches among at most the largest number of jobs
-summed : (first fired before left last : Kept) (n k c g most : ℕ) → Asks n first fired → Asks k fired before → AsksWithin (9 * changed_jobs before.jobs left.jobs + 20) before left → Asks g left last
-    → n + k + (9 * changed_jobs before.jobs left.jobs + 20) + g ≤ most → last.comparisons ≤ first.comparisons + most * search_among (max (length first.jobs) (length last.jobs))
+summed : (first fired before left last : Kept) (n k c g most : ℕ) → Asks n first fired → Asks k fired before
+    → AsksWithin (9 * changed_jobs before.jobs left.jobs + 20) before left → Asks g left last
+    → n + k + (9 * changed_jobs before.jobs left.jobs + 20) + g ≤ most
+    → last.comparisons ≤ first.comparisons + most * search_among (max (length first.jobs) (length last.jobs))
 summed first fired before left last n k c g most a b d e few =
     let jobs = max (length first.jobs) (length last.jobs) in
     let s = search_among jobs in
@@ -67,7 +79,8 @@ waits_less : (s : SeatRecord) → cond (is_waiting (without_wait s)) 1 0 ≤ con
 waits_less s = omega arith
 
 -- some turns of dispatch before
-pub serving_after : (first middle last : Machine) (before between after : Kept) (old told new : Outbox) (g : Gives DispatchTurn has_refused_share first middle old told) → ServesAsking middle told new last between after
+pub serving_after : (first middle last : Machine) (before between after : Kept) (old told new : Outbox)
+    (g : Gives DispatchTurn has_refused_share first middle old told) → ServesAsking middle told new last between after
     → Asks (length g.given * (waited first + 9)) before between → ServesAsking first old new last before after
 unfolding serves_after
 serving_after first middle last before between after old told new g s a =
@@ -78,18 +91,34 @@ serving_after first middle last before between after old told new g s a =
     let k = length s.serves.handed in
     record {
       serves = serves_after first middle last old told new g s.serves;
-      asks = asks_more _ (omega (arith, length-append g.given s.serves.handed, ap (λ i. i * (w + 9)) (length-append g.given s.serves.handed), add-mul n k (w + 9), mul-le k (v + 9) k (w + 9) (omega arith) (omega (arith, falls)), g.taken, falls)) (asks_then a s.asks);
+      asks =
+          asks_more _ (omega (
+            arith,
+            length-append g.given s.serves.handed,
+            ap (λ i. i * (w + 9)) (length-append g.given s.serves.handed),
+            add-mul n k (w + 9),
+            mul-le k (v + 9) k (w + 9) (omega arith) (omega (arith, falls)),
+            g.taken,
+            falls,
+          )) (asks_then a s.asks);
     }
 
 -- A step is within its bound.
-pub step_within : (first : CoreParts) (at seat : ℕ) (what : Step) (begun between asked new : Outbox) (acted_machine left : Machine) (comparisons : ℕ) (last : CoreParts) → begun.given ≡ [] → begun.left_out ≡ false → begun.unshared ≡ false → (b : Begun first at seat what begun between asked acted_machine left) → (y : ServesInto left asked new (machine_of last))
+pub step_within : (first : CoreParts) (at seat : ℕ) (what : Step) (begun between asked new : Outbox) (acted_machine left : Machine)
+    (comparisons : ℕ) (last : CoreParts) → begun.given ≡ [] → begun.left_out ≡ false → begun.unshared ≡ false
+    → (b : Begun first at seat what begun between asked acted_machine left) → (y : ServesInto left asked new (machine_of last))
     → Asks (10 * ripening at (machine_of first) + 2) first.jobs b.fired.jobs
-    → Asks (length b.serves.handed * (waited (machine_of b.fired) + 9) + waited (machine_of b.fired) + waiting_count (machine_of b.fired) + 1) b.fired.jobs b.served_state.jobs
-    → AsksWithin (9 * changed_jobs b.served_state.jobs.jobs left.jobs + 20) b.served_state.jobs (kept_at left comparisons b.served_state.jobs)
-    → Asks (length y.handed * (waited left + 9) + waited left + waiting_count left + 1) (kept_at left comparisons b.served_state.jobs) last.jobs
-    → IsStepWithin (machine_of first) at seat what (record { left_out = new.left_out; unshared = new.unshared }) new.given (machine_of last) first.jobs.comparisons last.jobs.comparisons
+    → Asks (length b.serves.handed * (waited (machine_of b.fired) + 9) + waited (machine_of b.fired) + waiting_count
+    (machine_of b.fired) + 1) b.fired.jobs b.served_state.jobs
+    → AsksWithin (9 * changed_jobs b.served_state.jobs.jobs left.jobs + 20) b.served_state.jobs
+    (kept_at left comparisons b.served_state.jobs)
+    → Asks (length y.handed * (waited left + 9) + waited left + waiting_count left + 1)
+    (kept_at left comparisons b.served_state.jobs) last.jobs
+    → IsStepWithin (machine_of first) at seat what (record { left_out = new.left_out; unshared = new.unshared }) new.given
+    (machine_of last) first.jobs.comparisons last.jobs.comparisons
 unfolding whole_step
-step_within first at seat what begun between asked new acted_machine left comparisons last empty in_it shared b y timers serves acts serves_then =
+step_within first at seat what begun between asked new acted_machine left comparisons last empty in_it shared b y timers
+    serves acts serves_then =
     let m = machine_of first in
     let fired = machine_of b.fired in
     let before = machine_of b.served_state in
@@ -100,13 +129,16 @@ step_within first at seat what begun between asked new acted_machine left compar
     let entered : watched_tubes seat fired ≤ q = subst (λ (x : Machine). watched_tubes seat x ≤ q) (sym b.fires) (omega arith) in
     let falls = serve_falls (tubes_watched seat) (entries_less seat) fired b.serves.handed b.serves.ended before b.serves.serves in
     let fewer = serve_falls (λ s. cond (is_waiting s) 1 0) waits_less fired b.serves.handed b.serves.ended before b.serves.serves in
-    let x : waited left ≤ q = (let here = ap waited b.forgotten ∙ ap waited b.acts.after in omega (arith, here, acted_few b.acts.memory before seat what kept.seated, falls, entered)) in
+    let x : waited left ≤ q = (let here = ap waited b.forgotten ∙ ap waited b.acts.after in
+    omega (arith, here, acted_few b.acts.memory before seat what kept.seated, falls, entered)) in
     let z : waiting_count left ≤ q + 1 =
     (let here = ap waiting_count b.forgotten ∙ ap waiting_count b.acts.after in
     omega (arith, here, (leaves_acted b.acts.memory before seat what kept).waiting, fewer, v)) in
     record {
       step = whole_step first at seat what begun between asked new acted_machine left (machine_of last) empty in_it shared b y;
       stays = omega (arith, timers.stays, serves.stays, acts.stays, serves_then.stays);
-      comparisons = summed first.jobs b.fired.jobs b.served_state.jobs (kept_at left comparisons b.served_state.jobs) last.jobs _ _ 0 _ _ timers serves acts serves_then
-          (bounded (ripening at m) (length b.serves.handed) (changed_jobs b.served_state.jobs.jobs left.jobs) (length y.handed) q (waited fired) (waiting_count fired) (waited left) (waiting_count left) w v x z);
+      comparisons = summed first.jobs b.fired.jobs b.served_state.jobs
+          (kept_at left comparisons b.served_state.jobs) last.jobs _ _ 0 _ _ timers serves acts serves_then
+          (bounded (ripening at m) (length b.serves.handed) (changed_jobs b.served_state.jobs.jobs left.jobs) (length y.handed) q
+          (waited fired) (waiting_count fired) (waited left) (waiting_count left) w v x z);
     }

@@ -1,12 +1,16 @@
 -- A whole step from its parts.
-use Rattle.std.proofs.Common.{◌++◌, ◌+◌, ◌<◌, ◌||◌, ◌∙◌, ◌∷◌, ◌≡◌, if◌then◌else◌, Bool, List, None, Option, [], ℕ, ap, append_assoc, arith, false, inl, inr, length, map, refl, subst, sym}
+use Rattle.std.proofs.Common.{◌++◌, ◌+◌, ◌<◌, ◌||◌, ◌∙◌, ◌∷◌, ◌≡◌, if◌then◌else◌, Bool, List, None, Option, []}
+use Rattle.std.proofs.Common.{ℕ, ap, append_assoc, arith, false, inl, inr, length, map, refl, subst, sym}
 use Rattle.std.proofs.{Common.map-id, lemmas.{Bool.Decides.nat_tests, Grind.common_steps, List.length-append}}
 use Rattle.std.proofs.{lemmas.List.Sums.count_by-le-length, Math.Bool.{or-false, or_assoc}}
 use Rattle.std.specs.List.{list_all, list_any}
-use Rattle.bq_job.specs.machine.{Chain, DispatchTurn, GivenAnswer, IsHandOut, IsStep, SeatRecord, TubeRecord, WaitEndTurn, acted, addressed, after_hand_out, after_timers, at_moment, forgetting, has_refused_share, is_growth_refused}
-use Rattle.bq_job.specs.machine.{is_seated_at, is_share_refused, is_tube, is_waiting, job_after_timers, next_end, next_job, tube_after_timers, with_seat, without_wait, Machine.Machine}
+use Rattle.bq_job.specs.machine.{Chain, DispatchTurn, GivenAnswer, IsHandOut, IsStep, SeatRecord, TubeRecord, WaitEndTurn, acted, addressed}
+use Rattle.bq_job.specs.machine.{after_hand_out, after_timers, at_moment, forgetting, has_refused_share, is_growth_refused}
+use Rattle.bq_job.specs.machine.{is_seated_at, is_share_refused, is_tube, is_waiting, job_after_timers, next_end}
+use Rattle.bq_job.specs.machine.{next_job, tube_after_timers, with_seat, without_wait, Machine.Machine}
 use Rattle.bq_job.specs.{beside.{IsLawful, waiting_count}, declared.{job.Job.Job, step.Step.Step}}
-use Rattle.bq_job.proofs.{DispatchLemmas.turn_of, KeptLemmas.{Keeps, kept_of_lawful}, LawfulLemmas.{end_of, kept_of_timers, leaves_acted, length_addressed, only_tubes, seats_many, served}}
+use Rattle.bq_job.proofs.{DispatchLemmas.turn_of, KeptLemmas.{Keeps, kept_of_lawful}}
+use Rattle.bq_job.proofs.LawfulLemmas.{end_of, kept_of_timers, leaves_acted, length_addressed, only_tubes, seats_many, served}
 use Rattle.bq_job.proofs.{ListLemmas.list_all_agree, QuietLemmas.forgets_nothing}
 use Rattle.bq_steps.specs.Outbox.{Outbox}
 use Rattle.bq_state.specs.{CoreParts.machine_of, declared.core_parts.CoreParts.CoreParts}
@@ -26,13 +30,16 @@ none_gone_after : (m n : Machine) → SameTubes m n → NoneIsGone m → NoneIsG
 none_gone_after m n same h = grind (arith, common_steps, list_all_agree)
 
 -- changes of jobs that keep their tubes, and of seats that keep theirs
-changed_alike : (m : Machine) (f : Job → Job) (g : SeatRecord → SeatRecord) → ((j : Job) → (f j).tube ≡ j.tube) → ((name : List ℕ) (s : SeatRecord) → is_seated_at name (g s) ≡ is_seated_at name s) → (name : List ℕ) → is_tube name (record m { jobs = map f m.jobs; seats = map g m.seats }) ≡ is_tube name m
+changed_alike : (m : Machine) (f : Job → Job) (g : SeatRecord → SeatRecord) → ((j : Job) → (f j).tube ≡ j.tube)
+    → ((name : List ℕ) (s : SeatRecord) → is_seated_at name (g s) ≡ is_seated_at name s) → (name : List ℕ)
+    → is_tube name (record m { jobs = map f m.jobs; seats = map g m.seats }) ≡ is_tube name m
 changed_alike m f g in_tube at name = grind (arith, common_steps, agree_any)
 
 one_tube : (b : Bool) (x y : Job) → x.tube ≡ y.tube → (if b then x else y).tube ≡ y.tube
 one_tube b x y h = grind (arith, common_steps)
 
-one_seat : (b : Bool) (x y : SeatRecord) (name : List ℕ) → is_seated_at name x ≡ is_seated_at name y → is_seated_at name (if b then x else y) ≡ is_seated_at name y
+one_seat : (b : Bool) (x y : SeatRecord) (name : List ℕ) → is_seated_at name x ≡ is_seated_at name y
+    → is_seated_at name (if b then x else y) ≡ is_seated_at name y
 one_seat b x y name h = grind (arith, common_steps)
 
 waits_alike : (m : Machine) (number : ℕ) → SameTubes m (with_seat number without_wait m)
@@ -54,9 +61,11 @@ waiting_alike m number until none = none_gone_after m (waiting_at number until m
 hand_out_alike : (m : Machine) (j : Job) (s : SeatRecord) → SameTubes m (after_hand_out m j s)
 hand_out_alike m j s = grind (arith, common_steps, changed_alike, one_tube, one_seat)
 
-given_alike : (m : Machine) (j : Job) (s : SeatRecord) (g : GivenAnswer) (next : Machine) → IsHandOut m j s g next → NoneIsGone m → NoneIsGone next
+given_alike : (m : Machine) (j : Job) (s : SeatRecord) (g : GivenAnswer) (next : Machine) → IsHandOut m j s g next
+    → NoneIsGone m → NoneIsGone next
 given_alike m j s g next (inl h) none = subst NoneIsGone (sym h.1) (none_gone_after m (after_hand_out m j s) (hand_out_alike m j s) none)
-given_alike m j s g next (inr h) none = subst NoneIsGone (sym h.1) (none_gone_after m (with_seat s.number without_wait m) (waits_alike m s.number) none)
+given_alike m j s g next (inr h) none = subst NoneIsGone (sym h.1)
+    (none_gone_after m (with_seat s.number without_wait m) (waits_alike m s.number) none)
 
 pub dispatch_turn_alike : (m : Machine) (g : GivenAnswer) (next : Machine) → DispatchTurn m g next → NoneIsGone m → NoneIsGone next
 dispatch_turn_alike m g next turn none = let t = turn_of m g next turn in given_alike m t.job t.client g next t.hands none
@@ -66,11 +75,15 @@ wait_turn_alike m g next turn none =
     let e = end_of m g next turn in
     subst NoneIsGone (sym e.next_is) (none_gone_after m (with_seat e.client.number without_wait m) (waits_alike m e.client.number) none)
 
-pub chain_alike : (Turn : Machine → GivenAnswer → Machine → Type 0) → ((m : Machine) (g : GivenAnswer) (next : Machine) → Turn m g next → NoneIsGone m → NoneIsGone next) → (first : Machine) (given : List GivenAnswer) (last : Machine) → Chain Turn first given last → NoneIsGone first → NoneIsGone last
+pub chain_alike : (Turn : Machine → GivenAnswer → Machine → Type 0)
+    → ((m : Machine) (g : GivenAnswer) (next : Machine) → Turn m g next → NoneIsGone m → NoneIsGone next)
+    → (first : Machine) (given : List GivenAnswer) (last : Machine) → Chain Turn first given last → NoneIsGone first → NoneIsGone last
 chain_alike Turn keeps first [] last chain none = subst NoneIsGone (sym chain) none
-chain_alike Turn keeps first (g ∷ given) last chain none = chain_alike Turn keeps chain.0 given last chain.2 (keeps first g chain.0 chain.1 none)
+chain_alike Turn keeps first (g ∷ given) last chain none =
+    chain_alike Turn keeps chain.0 given last chain.2 (keeps first g chain.0 chain.1 none)
 
-names_alike : (p : List ℕ → Bool) (f : TubeRecord → TubeRecord) → ((t : TubeRecord) → (f t).name ≡ t.name) → (ts : List TubeRecord) → list_all (λ t. p t.name) (map f ts) ≡ list_all (λ t. p t.name) ts
+names_alike : (p : List ℕ → Bool) (f : TubeRecord → TubeRecord) → ((t : TubeRecord) → (f t).name ≡ t.name) → (ts : List TubeRecord)
+    → list_all (λ t. p t.name) (map f ts) ≡ list_all (λ t. p t.name) ts
 names_alike p f keeps [] = refl
 names_alike p f keeps (t ∷ ts) = rw (keeps t, names_alike p f keeps ts) refl
 
@@ -88,7 +101,9 @@ pub forgotten_none : (m : Machine) → NoneIsGone (forgetting m)
 forgotten_none m = only_tubes m
 
 -- dispatch and the ends of waits, one after the other
-unfoldable pub serves_into : (first between last : Machine) (old middle new : Outbox) → Gives DispatchTurn has_refused_share first between old middle → next_job between ≡ None → Gives WaitEndTurn none_refused between last middle new → next_end last ≡ None → NoneIsGone first → ServesInto first old new last
+unfoldable pub serves_into : (first between last : Machine) (old middle new : Outbox)
+    → Gives DispatchTurn has_refused_share first between old middle → next_job between ≡ None
+    → Gives WaitEndTurn none_refused between last middle new → next_end last ≡ None → NoneIsGone first → ServesInto first old new last
 serves_into first between last old middle new d dispatched w ended none =
     let then_none = chain_alike DispatchTurn dispatch_turn_alike first d.given between d.turns none in
     let last_none = chain_alike WaitEndTurn wait_turn_alike between w.given last w.turns then_none in
@@ -105,11 +120,13 @@ serves_into first between last old middle new d dispatched w ended none =
       left_out = w.left_out ∙ d.left_out;
       unshared = w.unshared ∙ or-false middle.unshared ∙ d.unshared;
       tubes = last_none;
-      room = λ more h. room_kept WaitEndTurn none_refused more between last middle new w (room_kept DispatchTurn has_refused_share more first between old middle d h);
+      room = λ more h. room_kept WaitEndTurn none_refused more between last middle new w
+          (room_kept DispatchTurn has_refused_share more first between old middle d h);
     }
 
 -- some turns of dispatch before
-unfoldable pub serves_after : (first middle last : Machine) (old told new : Outbox) → Gives DispatchTurn has_refused_share first middle old told → ServesInto middle told new last → ServesInto first old new last
+unfoldable pub serves_after : (first middle last : Machine) (old told new : Outbox)
+    → Gives DispatchTurn has_refused_share first middle old told → ServesInto middle told new last → ServesInto first old new last
 serves_after first middle last old told new g s =
     let d = s.serves.dispatches in
     record {
@@ -117,13 +134,20 @@ serves_after first middle last old told new g s =
       ended = s.ended;
       serves = record {
         between = s.serves.between;
-        dispatches = record { end = d.end; turns = chain_joined DispatchTurn first middle d.end g.given s.handed g.turns d.turns; done = d.done; forgets = d.forgets };
+        dispatches = record {
+          end = d.end;
+          turns = chain_joined DispatchTurn first middle d.end g.given s.handed g.turns d.turns;
+          done = d.done;
+          forgets = d.forgets;
+        };
         ends_waits = s.serves.ends_waits;
       };
       added = s.added ∙ ap (λ given. given ++ s.handed ++ s.ended) g.added ∙ joined old.given g.given s.handed s.ended;
       most = s.most ∙ g.most;
       left_out = s.left_out ∙ g.left_out;
-      unshared = s.unshared ∙ ap (λ b. b || has_refused_share s.handed) g.unshared ∙ or_assoc old.unshared (has_refused_share g.given) (has_refused_share s.handed) ∙ ap (λ b. old.unshared || b) (sym (refused_joined g.given s.handed));
+      unshared = s.unshared ∙ ap (λ b. b || has_refused_share s.handed) g.unshared
+          ∙ or_assoc old.unshared (has_refused_share g.given) (has_refused_share s.handed)
+          ∙ ap (λ b. old.unshared || b) (sym (refused_joined g.given s.handed));
       tubes = s.tubes;
       room = λ more h. s.room more (room_kept DispatchTurn has_refused_share more first middle old told g h);
     }
@@ -131,11 +155,16 @@ serves_after first middle last old told new g s =
     joined : (ws xs ys zs : List GivenAnswer) → (ws ++ xs) ++ ys ++ zs ≡ ws ++ (xs ++ ys) ++ zs
     joined ws xs ys zs = grind (arith, common_steps, append_assoc)
 
-pub begins : (first fired : CoreParts) (at : ℕ) → IsLawful (machine_of first) → machine_of fired ≡ after_timers (at_moment at (machine_of first)) → forgetting (after_timers (at_moment at (machine_of first))) ≡ machine_of fired
-begins first fired at lawful fires = forgets_nothing (after_timers (at_moment at (machine_of first))) (timers_alike at (machine_of first) lawful.tubes) ∙ sym fires
+pub begins : (first fired : CoreParts) (at : ℕ) → IsLawful (machine_of first)
+    → machine_of fired ≡ after_timers (at_moment at (machine_of first))
+    → forgetting (after_timers (at_moment at (machine_of first))) ≡ machine_of fired
+begins first fired at lawful fires = forgets_nothing (after_timers (at_moment at (machine_of first)))
+    (timers_alike at (machine_of first) lawful.tubes) ∙ sym fires
 
 -- at the beginning of a step there is room for an answer to each waiting client, and for one more
-pub first_room : (first fired : CoreParts) (at : ℕ) (begun : Outbox) → IsLawful (machine_of first) → machine_of fired ≡ after_timers (at_moment at (machine_of first)) → begun.given ≡ [] → first.config.seats < begun.most → HasRoom 1 (machine_of fired) begun
+pub first_room : (first fired : CoreParts) (at : ℕ) (begun : Outbox) → IsLawful (machine_of first)
+    → machine_of fired ≡ after_timers (at_moment at (machine_of first)) → begun.given ≡ [] → first.config.seats < begun.most
+    → HasRoom 1 (machine_of fired) begun
 first_room first fired at begun lawful fires empty h =
     grind (
       arith,
@@ -150,7 +179,8 @@ pub less_room : (m : Machine) (o : Outbox) → HasRoom 1 m o → HasRoom 0 m o
 less_room m o h = omega arith
 
 -- the parts of a step up to and including the command's own effect
-pub record Begun (first : CoreParts) (at seat : ℕ) (what : Step) (begun between asked : Outbox) (acted_machine left : Machine) : Type 0 where
+pub record Begun (first : CoreParts) (at seat : ℕ) (what : Step) (begun between asked : Outbox)
+    (acted_machine left : Machine) : Type 0 where
   pub fired : CoreParts
   pub served_state : CoreParts
   pub lawful : IsLawful (machine_of first)
@@ -159,24 +189,33 @@ pub record Begun (first : CoreParts) (at seat : ℕ) (what : Step) (begun betwee
   pub acts : Acts (machine_of served_state) seat what between asked acted_machine
   pub forgotten : left ≡ forgetting acted_machine
 
-pub keeps : (first : CoreParts) (at seat : ℕ) (what : Step) (begun between asked : Outbox) (acted_machine left : Machine) (b : Begun first at seat what begun between asked acted_machine left) → Keeps (machine_of b.served_state)
+pub keeps : (first : CoreParts) (at seat : ℕ) (what : Step) (begun between asked : Outbox) (acted_machine left : Machine)
+    (b : Begun first at seat what begun between asked acted_machine left) → Keeps (machine_of b.served_state)
 keeps first at seat what begun between asked acted_machine left b =
     let h = kept_of_timers at (machine_of first) (kept_of_lawful (machine_of first) b.lawful) in
-    (served (machine_of b.fired) b.serves.handed b.serves.ended (machine_of b.served_state) (subst Keeps (begins first b.fired at b.lawful b.fires) h) b.serves.serves).keeps
+    (served (machine_of b.fired) b.serves.handed b.serves.ended (machine_of b.served_state)
+    (subst Keeps (begins first b.fired at b.lawful b.fires) h) b.serves.serves).keeps
 
 -- the command's own effect leaves room for an answer to each waiting client
-pub room_after_act : (first : CoreParts) (at seat : ℕ) (what : Step) (begun between asked : Outbox) (acted_machine left : Machine) (b : Begun first at seat what begun between asked acted_machine left) → HasRoom 1 (machine_of b.served_state) between → HasRoom 0 left asked
+pub room_after_act : (first : CoreParts) (at seat : ℕ) (what : Step) (begun between asked : Outbox) (acted_machine left : Machine)
+    (b : Begun first at seat what begun between asked acted_machine left) → HasRoom 1 (machine_of b.served_state) between
+    → HasRoom 0 left asked
 room_after_act first at seat what begun between asked acted_machine left b h =
     let a = b.acts in
     let e = acted a.memory (machine_of b.served_state) seat what in
-    let leaves = (leaves_acted a.memory (machine_of b.served_state) seat what (keeps first at seat what begun between asked acted_machine left b)).waiting in
+    let leaves = (leaves_acted a.memory (machine_of b.served_state) seat what
+    (keeps first at seat what begun between asked acted_machine left b)).waiting in
     let same : waiting_count left ≡ waiting_count e.machine = ap waiting_count b.forgotten ∙ ap waiting_count a.after in
-    let long : length asked.given ≡ length between.given + length (addressed seat e.answer) = ap length a.added ∙ length-append between.given (addressed seat e.answer) in
+    let long : length asked.given ≡ length between.given + length (addressed seat e.answer) =
+    ap length a.added ∙ length-append between.given (addressed seat e.answer) in
     let one = length_addressed seat e.answer in
     let most = a.most in
     omega arith
 
-unfoldable pub whole_step : (first : CoreParts) (at seat : ℕ) (what : Step) (begun between asked new : Outbox) (acted_machine left last : Machine) → begun.given ≡ [] → begun.left_out ≡ false → begun.unshared ≡ false → Begun first at seat what begun between asked acted_machine left → ServesInto left asked new last → IsStep (machine_of first) at seat what (record { left_out = new.left_out; unshared = new.unshared }) new.given last
+unfoldable pub whole_step : (first : CoreParts) (at seat : ℕ) (what : Step) (begun between asked new : Outbox)
+    (acted_machine left last : Machine) → begun.given ≡ [] → begun.left_out ≡ false → begun.unshared ≡ false
+    → Begun first at seat what begun between asked acted_machine left → ServesInto left asked new last
+    → IsStep (machine_of first) at seat what (record { left_out = new.left_out; unshared = new.unshared }) new.given last
 whole_step first at seat what begun between asked new acted_machine left last empty in_it shared b y =
     let x = b.serves in
     let a = b.acts in

@@ -1,5 +1,7 @@
 -- Texts that are made.
-use Rattle.std.proofs.{Common.{◌++◌, ◌∙◌, ◌∷◌, ◌≡◌, Bor, Err, IfOk, List, Ok, Result, Some, [], ℕ, ap, arith, codes, decimal, flat_map, option_map, refl, sym, true}, lemmas.Grind.common_steps}
+use Rattle.std.proofs.Common.{◌++◌, ◌∙◌, ◌∷◌, ◌≡◌, Bor, Err, IfOk, List, Ok, Result, Some}
+use Rattle.std.proofs.Common.{[], ℕ, ap, arith, codes, decimal, flat_map, option_map, refl, sym, true}
+use Rattle.std.proofs.{lemmas.Grind.common_steps}
 use Rattle.bq_job.specs.declared.{fault.NoMemory.NoMemory, job.Job.Job}
 use Rattle.bq_job.specs.{beside.is_in_order, machine.{job_with, name_list}, texts.Yaml.{KeyValue, key_number, name_line}}
 use Rattle.bq_job.proofs.NameOrderLemmas.{stays_fold}
@@ -24,12 +26,15 @@ with_word key p word known line is = line ∙ ap (λ w. let pair : KeyValue = (k
 pub id_of_row : (id : ℕ) (row : Job) (jobs : List Job) → Some (but_for_tube row) ≡ option_map but_for_tube (job_with id jobs) → id ≡ row.id
 id_of_row id row jobs same = grind (arith, common_steps, found_id)
 
-lines_of : (names : List (Bor (List ℕ))) → flat_map (λ (name : Bor (List ℕ)). name_line name.now) names ≡ flat_map name_line (names_of names)
+lines_of : (names : List (Bor (List ℕ))) → flat_map
+    (λ (name : Bor (List ℕ)). name_line name.now) names ≡ flat_map name_line (names_of names)
 lines_of [] = refl
 lines_of (name ∷ names) = ap (λ more. name_line name.now ++ more) (lines_of names)
 
 -- Names in order are listed unchanged.
-pub names_told : (names : List (Bor (List ℕ))) (r : Result (List ℕ) NoMemory) → is_in_order (names_of names) ≡ true → IfOk r (λ text. text ≡ codes "---\n" ++ flat_map (λ (name : Bor (List ℕ)). name_line name.now) names)
+pub names_told : (names : List (Bor (List ℕ))) (r : Result (List ℕ) NoMemory) → is_in_order (names_of names) ≡ true
+    → IfOk r (λ text. text ≡ codes "---\n" ++ flat_map (λ (name : Bor (List ℕ)). name_line name.now) names)
     → IfOk r (λ text. text ≡ name_list (names_of names))
-names_told names (Ok text) order is = is ∙ ap (λ lines. codes "---\n" ++ lines) (lines_of names ∙ ap (flat_map name_line) (sym (stays_fold (names_of names) [] order)))
+names_told names (Ok text) order is = is ∙ ap (λ lines. codes "---\n" ++ lines)
+    (lines_of names ∙ ap (flat_map name_line) (sym (stays_fold (names_of names) [] order)))
 names_told names (Err e) order is = tt

@@ -8,6 +8,7 @@ use Rattle.bq_state.specs.{CoreParts.{OnlyCompares, machine_of}, declared.core_p
 use Rattle.bq_core.proofs.{ActLemmas.some_there, TurnLemmas.if_ok}
 
 -- A job that exists is shown with its body.
-pub shown_so : (st last : CoreParts) (id : ℕ) (r : Result (List ℕ) NoMemory) (body : List ℕ) → r ≡ Ok body → true ≡ is_some (job_with id (machine_of st).jobs) → IfOk r (IsBodyOf (job_with id (machine_of st).jobs))
+pub shown_so : (st last : CoreParts) (id : ℕ) (r : Result (List ℕ) NoMemory) (body : List ℕ) → r ≡ Ok body
+    → true ≡ is_some (job_with id (machine_of st).jobs) → IfOk r (IsBodyOf (job_with id (machine_of st).jobs))
     → OnlyCompares st last → showing (machine_of st) (job_with id (machine_of st).jobs) ≡ telling (answers.Found id body) (machine_of last)
 shown_so st last id r body is there told same = grind (arith, common_steps, some_there, if_ok, found_id)

@@ -1,9 +1,11 @@
 -- A turn of dispatch or of the ends of waits, and chains of turns.
-use Rattle.std.proofs.Common.{◌++◌, ◌<◌, ◌||◌, ◌∙◌, ◌∷◌, ◌≡◌, Bool, List, None, Some, [], ℕ, ap, append-nil, arith, false, get_or, length, refl, slice_get, subst, sym, true}
+use Rattle.std.proofs.Common.{◌++◌, ◌<◌, ◌||◌, ◌∙◌, ◌∷◌, ◌≡◌, Bool, List, None, Some, [], ℕ}
+use Rattle.std.proofs.Common.{ap, append-nil, arith, false, get_or, length, refl, slice_get, subst, sym, true}
 use Rattle.std.proofs.{lemmas.{Grind.common_steps, List.length-append, Option.slice_get_read}, Math.Bool.{or-false, or-true}}
 use Rattle.std.proofs.lemmas.Result.{IfOk-weaker}
 use Rattle.std.specs.{List.{Contains, list_any}, Prelude.{IfOk, Ok, Result, option_map}}
-use Rattle.bq_job.specs.machine.{Chain, DispatchTurn, GivenAnswer, IsHandOut, SeatRecord, WaitEndTurn, end_of_wait, has_refused_share, is_job_before, is_out_of_memory, is_waiting, is_waiting_for, next_end, next_job, next_seat, reserved_by}
+use Rattle.bq_job.specs.machine.{Chain, DispatchTurn, GivenAnswer, IsHandOut, SeatRecord, WaitEndTurn, end_of_wait, has_refused_share}
+use Rattle.bq_job.specs.machine.{is_job_before, is_out_of_memory, is_waiting, is_waiting_for, next_end, next_job, next_seat, reserved_by}
 use Rattle.bq_job.specs.{beside.waiting_count, declared.{answer.Answer.Answer, fault.NoMemory.NoMemory, job.Job.Job}}
 use Rattle.bq_job.specs.machine.{with_job, with_seat, without_wait, Machine.Machine}
 use Rattle.bq_job.specs.declared.answer.Answer.TheVariants as answers
@@ -12,11 +14,13 @@ use Rattle.bq_steps.specs.Outbox.{Outbox}
 use Rattle.bq_core.specs.{HandOuts.{AddsHandOut, HandsOut}, Turns.{Gives, HasRoom, none_refused}, WaitEnds.AddsWaitEnd}
 
 -- a hand-out makes the client stop waiting, whether the reference was given or not
-hand_out_falls : (m : Machine) (j : Job) (s : SeatRecord) (g : GivenAnswer) (next : Machine) → Contains m.seats s → is_waiting s ≡ true → IsHandOut m j s g next → waiting_count next < waiting_count m
+hand_out_falls : (m : Machine) (j : Job) (s : SeatRecord) (g : GivenAnswer) (next : Machine) → Contains m.seats s → is_waiting s ≡ true
+    → IsHandOut m j s g next → waiting_count next < waiting_count m
 hand_out_falls m j s g next here waits h = grind (arith, common_steps, waiting_falls)
 
 -- one turn is a chain of turns
-one_turn : (m next : Machine) (old new : Outbox) (j : Job) (s : SeatRecord) → next_job m ≡ Some j → next_seat m j ≡ Some s → Contains m.seats s → is_waiting s ≡ true → AddsHandOut m j s old new next → Gives DispatchTurn has_refused_share m next old new
+one_turn : (m next : Machine) (old new : Outbox) (j : Job) (s : SeatRecord) → next_job m ≡ Some j → next_seat m j ≡ Some s
+    → Contains m.seats s → is_waiting s ≡ true → AddsHandOut m j s old new next → Gives DispatchTurn has_refused_share m next old new
 one_turn m next old new j s job seat here waits adds =
     let g = adds.given in
     let turn : DispatchTurn m g next = rw job (rw seat adds.hand_out) in
@@ -31,14 +35,18 @@ one_turn m next old new j s job seat here waits adds =
     }
 
 -- no client waits: there is no next job
-unwanted_at : (m : Machine) (s : SeatRecord) (seats : List SeatRecord) (j : Job) (b : Bool) → is_waiting s ≡ b → (list_any is_waiting seats ≡ false → list_any (is_waiting_for m j) seats ≡ false) → list_any is_waiting (s ∷ seats) ≡ false → list_any (is_waiting_for m j) (s ∷ seats) ≡ false
+unwanted_at : (m : Machine) (s : SeatRecord) (seats : List SeatRecord) (j : Job) (b : Bool) → is_waiting s ≡ b
+    → (list_any is_waiting seats ≡ false → list_any (is_waiting_for m j) seats ≡ false) → list_any is_waiting (s ∷ seats) ≡ false
+    → list_any (is_waiting_for m j) (s ∷ seats) ≡ false
 unwanted_at m s seats j b e rest h = grind (arith, common_steps)
 
-unwanted : (m : Machine) (seats : List SeatRecord) (j : Job) → list_any is_waiting seats ≡ false → list_any (is_waiting_for m j) seats ≡ false
+unwanted : (m : Machine) (seats : List SeatRecord) (j : Job) → list_any is_waiting seats ≡ false
+    → list_any (is_waiting_for m j) seats ≡ false
 unwanted m [] j h = refl
 unwanted m (s ∷ seats) j h = unwanted_at m s seats j (is_waiting s) refl (unwanted m seats j) h
 
-none_wanted : (m : Machine) (jobs : List Job) → list_any is_waiting m.seats ≡ false → list_any (λ j. list_any (is_waiting_for m j) m.seats) jobs ≡ false
+none_wanted : (m : Machine) (jobs : List Job) → list_any is_waiting m.seats ≡ false
+    → list_any (λ j. list_any (is_waiting_for m j) m.seats) jobs ≡ false
 none_wanted m [] h = refl
 none_wanted m (j ∷ jobs) h = rw (unwanted m m.seats j h) (none_wanted m jobs h)
 
@@ -65,7 +73,8 @@ module _ (m : Machine) (id : ℕ) (job_is : Some id ≡ option_map (λ j. j.id) 
     pub somebody_waits : 0 < waiting_count m
     somebody_waits = omega (arith, waiting_falls m the_seat.0 waits.0 waits.1)
 
-    module _ (shared : Result (List ℕ) NoMemory) (body_is : IfOk shared (λ body. (j : Job) → next_job m ≡ Some j → body ≡ j.body)) (old new : Outbox) (last : Machine) (given : HandsOut m id number shared old new last) where
+    module _ (shared : Result (List ℕ) NoMemory) (body_is : IfOk shared (λ body. (j : Job) → next_job m ≡ Some j → body ≡ j.body))
+        (old new : Outbox) (last : Machine) (given : HandsOut m id number shared old new last) where
       hands : AddsHandOut m the_job.0 the_seat.0 old new last
       hands = given the_job.0 the_seat.0 the_job.2 the_seat.2 (IfOk-weaker shared _ _ (λ body told. told the_job.0 the_job.1) body_is)
 
@@ -79,35 +88,50 @@ pub refused_joined : (xs ys : List GivenAnswer) → has_refused_share (xs ++ ys)
 refused_joined [] ys = refl
 refused_joined (x ∷ xs) ys = grind (arith, common_steps, refused_joined xs ys)
 
-pub chain_joined : (Turn : Machine → GivenAnswer → Machine → Type 0) (first middle last : Machine) (xs ys : List GivenAnswer) → Chain Turn first xs middle → Chain Turn middle ys last → Chain Turn first (xs ++ ys) last
+pub chain_joined : (Turn : Machine → GivenAnswer → Machine → Type 0) (first middle last : Machine) (xs ys : List GivenAnswer)
+    → Chain Turn first xs middle → Chain Turn middle ys last → Chain Turn first (xs ++ ys) last
 chain_joined Turn first middle last [] ys a b = rw a at b
 chain_joined Turn first middle last (x ∷ xs) ys a b = (a.0, a.1, chain_joined Turn a.0 middle last xs ys a.2 b)
 
 -- no turn was taken
-pub gives_nothing : (Turn : Machine → GivenAnswer → Machine → Type 0) (refused : List GivenAnswer → Bool) → refused [] ≡ false → (m : Machine) (o : Outbox) → Gives Turn refused m m o o
+pub gives_nothing : (Turn : Machine → GivenAnswer → Machine → Type 0) (refused : List GivenAnswer → Bool) → refused [] ≡ false
+    → (m : Machine) (o : Outbox) → Gives Turn refused m m o o
 gives_nothing Turn refused none m o = grind (arith, common_steps, append-nil, or-false)
 
 -- first these turns were taken, and then those
-pub gives_joined : (Turn : Machine → GivenAnswer → Machine → Type 0) (refused : List GivenAnswer → Bool) → ((xs ys : List GivenAnswer) → refused (xs ++ ys) ≡ (refused xs || refused ys)) → (first middle last : Machine) (old between new : Outbox) → Gives Turn refused first middle old between → Gives Turn refused middle last between new → Gives Turn refused first last old new
+pub gives_joined : (Turn : Machine → GivenAnswer → Machine → Type 0) (refused : List GivenAnswer → Bool)
+    → ((xs ys : List GivenAnswer) → refused (xs ++ ys) ≡ (refused xs || refused ys))
+    → (first middle last : Machine) (old between new : Outbox) → Gives Turn refused first middle old between
+    → Gives Turn refused middle last between new → Gives Turn refused first last old new
 gives_joined Turn refused joined first middle last old between new a b = grind (arith, common_steps, chain_joined, length-append)
 
 -- turns in which a waiting client stops waiting for each answer keep the room that there was
-pub room_kept : (Turn : Machine → GivenAnswer → Machine → Type 0) (refused : List GivenAnswer → Bool) (more : ℕ) (first last : Machine) (old new : Outbox) → Gives Turn refused first last old new → HasRoom more first old → HasRoom more last new
+pub room_kept : (Turn : Machine → GivenAnswer → Machine → Type 0) (refused : List GivenAnswer → Bool) (more : ℕ) (first last : Machine)
+    (old new : Outbox) → Gives Turn refused first last old new → HasRoom more first old → HasRoom more last new
 room_kept Turn refused more first last old new gives room = grind (arith, common_steps, length-append)
 
 -- one end of a wait is a chain of them
-pub one_end : (m next : Machine) (old new : Outbox) (s : SeatRecord) → next_end m ≡ Some s → Contains m.seats s → is_waiting s ≡ true → AddsWaitEnd m s old new next → Gives WaitEndTurn none_refused m next old new
+pub one_end : (m next : Machine) (old new : Outbox) (s : SeatRecord) → next_end m ≡ Some s → Contains m.seats s → is_waiting s ≡ true
+    → AddsWaitEnd m s old new next → Gives WaitEndTurn none_refused m next old new
 one_end m next old new s is here waits adds = grind (arith, common_steps, or-false, waiting_falls)
 
 -- what was read at an index
 pub same_read : {A : Type 0} (xs : List A) (i : ℕ) (x y : A) → i < length xs → y ≡ get_or xs i y → slice_get xs i ≡ Some x → y ≡ x
 same_read xs i x y there read is = let here = slice_get_read xs (length xs) i y refl there read in cc
 
-pub shared_given : (m last : Machine) (id number : ℕ) (body : List ℕ) (j : Job) (s : SeatRecord) (old new : Outbox) → id ≡ j.id → number ≡ s.number → body ≡ j.body → last ≡ with_seat number without_wait (with_job id (reserved_by m.moment number) m) → new ≡ record old { given = old.given ++ (number, answers.Reserved id body) ∷ [] } → AddsHandOut m j s old new last
+pub shared_given : (m last : Machine) (id number : ℕ) (body : List ℕ) (j : Job) (s : SeatRecord) (old new : Outbox) → id ≡ j.id
+    → number ≡ s.number → body ≡ j.body → last ≡ with_seat number without_wait (with_job id (reserved_by m.moment number) m)
+    → new ≡ record old { given = old.given ++ (number, answers.Reserved id body) ∷ [] } → AddsHandOut m j s old new last
 shared_given m last id number body j s old new i n b after told = grind (arith, common_steps, or-false)
 
-pub refused_given : (m last : Machine) (number : ℕ) (j : Job) (s : SeatRecord) (old new : Outbox) → number ≡ s.number → last ≡ with_seat number without_wait m → new ≡ record old { given = old.given ++ (number, answers.OutOfMemory) ∷ []; unshared = true } → AddsHandOut m j s old new last
+pub refused_given : (m last : Machine) (number : ℕ) (j : Job) (s : SeatRecord) (old new : Outbox) → number ≡ s.number
+    → last ≡ with_seat number without_wait m → new ≡ record old { given = old.given ++ (number, answers.OutOfMemory) ∷ []; unshared = true }
+    → AddsHandOut m j s old new last
 refused_given m last number j s old new n after told = grind (arith, common_steps, or-true)
 
-pub ended_given : (m last : Machine) (k number : ℕ) (s t : SeatRecord) (answer : Answer) (old new : Outbox) → k < length m.seats → t ≡ get_or m.seats k t → slice_get m.seats k ≡ Some s → number ≡ t.number → answer ≡ end_of_wait m s → last ≡ with_seat number without_wait m → new ≡ record old { given = old.given ++ (number, answer) ∷ [] } → AddsWaitEnd m s old new last
-ended_given m last k number s t answer old new seat_there seat_read seat number_is answer_is after told = grind (arith, common_steps, same_read)
+pub ended_given : (m last : Machine) (k number : ℕ) (s t : SeatRecord) (answer : Answer) (old new : Outbox) → k < length m.seats
+    → t ≡ get_or m.seats k t → slice_get m.seats k ≡ Some s → number ≡ t.number → answer ≡ end_of_wait m s
+    → last ≡ with_seat number without_wait m → new ≡ record old { given = old.given ++ (number, answer) ∷ [] }
+    → AddsWaitEnd m s old new last
+ended_given m last k number s t answer old new seat_there seat_read seat number_is answer_is after told =
+    grind (arith, common_steps, same_read)

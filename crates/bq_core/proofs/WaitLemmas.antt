@@ -1,13 +1,18 @@
 -- The ends of waits, one waiting client after another in the order of their turns.
-use Rattle.std.proofs.Common.{◌&&◌, ◌<◌, ◌==◌, ◌||◌, ◌∙◌, ◌∷◌, ◌≡◌, ◌≤◌, if◌then◌else◌, Bool, List, None, Option, Some, [], ℕ, arith, false, inl, inr, length, map, not, refl, slice_get, subst, sym, true}
+use Rattle.std.proofs.Common.{◌&&◌, ◌<◌, ◌==◌, ◌||◌, ◌∙◌, ◌∷◌, ◌≡◌, ◌≤◌, if◌then◌else◌, Bool, List, None, Option, Some}
+use Rattle.std.proofs.Common.{[], ℕ, arith, false, inl, inr, length, map, not, refl, slice_get, subst, sym, true}
 use Rattle.std.proofs.lemmas.{Bool.{and_parts, cases_Bool, eq-eqb, eqb-true, Decides.nat_tests}, Grind.common_steps}
 use Rattle.std.proofs.Common.{map-id}
 use Rattle.std.specs.{List.{AllByRecursion as All, Contains, list_any}, Prelude.count_by}
-use Rattle.bq_job.specs.machine.{SeatRecord, WaitEndTurn, end_of_wait, ends_waiting, first_of, is_deadline_soon, is_pair_before, is_timed_out, is_wait_before, is_waiting, next_end, ticket_of, with_seat, without_wait, Machine.Machine}
+use Rattle.bq_job.specs.machine.{SeatRecord, WaitEndTurn, end_of_wait, ends_waiting, first_of, is_deadline_soon, is_pair_before}
+use Rattle.bq_job.specs.machine.{is_timed_out, is_wait_before, is_waiting, next_end, ticket_of, with_seat, without_wait, Machine.Machine}
 use Rattle.bq_job.specs.{beside.waiting_count, declared.answer.Answer.Answer}
 use Rattle.bq_job.specs.declared.answer.Answer.TheVariants as answers
-use Rattle.bq_job.proofs.{ChoiceLemmas.{first_of_contains, first_of_is, first_of_is_least, first_of_none, first_of_none_passes, first_of_passes, pair_order}, ComputedLemmas.waiting_falls, KeptLemmas.only_seat}
-use Rattle.bq_job.proofs.ListLemmas.{all_always, all_at, all_from_members, all_of_map, count_cons, found_passes, list_any_not, list_any_with, none_pass}
+use Rattle.bq_job.proofs.ChoiceLemmas.{first_of_contains, first_of_is, first_of_is_least, first_of_none}
+use Rattle.bq_job.proofs.ChoiceLemmas.{first_of_none_passes, first_of_passes, pair_order}
+use Rattle.bq_job.proofs.{ComputedLemmas.waiting_falls, KeptLemmas.only_seat}
+use Rattle.bq_job.proofs.ListLemmas.{all_always, all_at, all_from_members, all_of_map, count_cons}
+use Rattle.bq_job.proofs.ListLemmas.{found_passes, list_any_not, list_any_with, none_pass}
 use Rattle.bq_job.proofs.{ChoiceLemmas.pair_other, ListLemmas.one_or_none}
 use Rattle.bq_steps.specs.Outbox.{Outbox}
 use Rattle.bq_state.specs.declared.core_parts.CoreParts.{CoreParts}
@@ -20,14 +25,16 @@ use Rattle.bq_core.proofs.TurnLemmas.{gives_nothing, one_end}
 pub told_soon : (m : Machine) (s : SeatRecord) → is_deadline_soon m s ≡ true → Some answers.DeadlineSoon ≡ told_at_end m s
 told_soon m s h = rw h refl
 
-pub told_over : (m : Machine) (s : SeatRecord) → is_deadline_soon m s ≡ false → is_timed_out m s ≡ true → Some answers.TimedOut ≡ told_at_end m s
+pub told_over : (m : Machine) (s : SeatRecord) → is_deadline_soon m s ≡ false → is_timed_out m s ≡ true
+    → Some answers.TimedOut ≡ told_at_end m s
 told_over m s h i = rw (h, i) refl
 
 pub told_none : (m : Machine) (s : SeatRecord) → is_deadline_soon m s ≡ false → is_timed_out m s ≡ false → None ≡ told_at_end m s
 told_none m s h i = rw (h, i) refl
 
 -- a client that would be answered now is one whose wait ends now, with that answer
-pub told_is : (m : Machine) (s : SeatRecord) (answer : Answer) → is_waiting s ≡ true → Some answer ≡ told_at_end m s → (ends_waiting m s ≡ true) × (answer ≡ end_of_wait m s)
+pub told_is : (m : Machine) (s : SeatRecord) (answer : Answer) → is_waiting s ≡ true → Some answer ≡ told_at_end m s
+    → (ends_waiting m s ≡ true) × (answer ≡ end_of_wait m s)
 told_is m s answer waits told = grind (arith, common_steps)
 
 pub told_nothing : (m : Machine) (s : SeatRecord) → None ≡ told_at_end m s → ends_waiting m s ≡ false
@@ -41,7 +48,8 @@ pub all_left : (m : Machine) → left_after None m ≤ waiting_count m
 all_left m = grind (arith, common_steps, count_cons)
 
 -- no client is left: no wait ends
-pub none_left : (m : Machine) (last : Option (ℕ × ℕ)) → AreLookedAt m last → None ≡ first_of (waits_after last) is_wait_before m.seats → next_end m ≡ None
+pub none_left : (m : Machine) (last : Option (ℕ × ℕ)) → AreLookedAt m last
+    → None ≡ first_of (waits_after last) is_wait_before m.seats → next_end m ≡ None
 none_left m last looked none =
     first_of_none_passes (ends_waiting m) is_wait_before m.seats (list_any_not (ends_waiting m) m.seats
     (go m.seats looked (none_pass (waits_after last) m.seats (first_of_none (waits_after last) is_wait_before m.seats (sym none)))))
@@ -49,17 +57,21 @@ none_left m last looked none =
     one : (w e a : Bool) → (w && e ≡ true → a ≡ true) → (w && a) ≡ false → (w && e) ≡ false
     one w e a h i = grind (arith, common_steps)
 
-    go : (seats : List SeatRecord) → All (λ s. ends_waiting m s ≡ true → is_after last s ≡ true) seats → All (λ s. waits_after last s ≡ false) seats → All (λ s. ends_waiting m s ≡ false) seats
+    go : (seats : List SeatRecord) → All (λ s. ends_waiting m s ≡ true → is_after last s ≡ true) seats
+        → All (λ s. waits_after last s ≡ false) seats → All (λ s. ends_waiting m s ≡ false) seats
     go [] a b = tt
     go (s ∷ seats) a b = (one (is_waiting s) (is_deadline_soon m s || is_timed_out m s) (is_after last s) a.0 b.0, go seats a.1 b.1)
 
 -- the count falls if each change makes no element pass that did not, and one element no longer
 -- passes
-no_more : (p q : SeatRecord → Bool) (f : SeatRecord → SeatRecord) (xs : List SeatRecord) → All (λ x. q (f x) ≡ true → p x ≡ true) xs → count_by q (map f xs) ≤ count_by p xs
+no_more : (p q : SeatRecord → Bool) (f : SeatRecord → SeatRecord) (xs : List SeatRecord) → All (λ x. q (f x) ≡ true → p x ≡ true) xs
+    → count_by q (map f xs) ≤ count_by p xs
 no_more p q f [] w = omega arith
-no_more p q f (x ∷ xs) w = rw (count_cons q (f x) (map f xs), count_cons p x xs) (omega (arith, one_or_none (p x) (q (f x)) w.0, no_more p q f xs w.1))
+no_more p q f (x ∷ xs) w = rw (count_cons q (f x) (map f xs), count_cons p x xs)
+    (omega (arith, one_or_none (p x) (q (f x)) w.0, no_more p q f xs w.1))
 
-fewer : (p q : SeatRecord → Bool) (f : SeatRecord → SeatRecord) (xs : List SeatRecord) → All (λ x. q (f x) ≡ true → p x ≡ true) xs → list_any (λ x. p x && not (q (f x))) xs ≡ true → count_by q (map f xs) < count_by p xs
+fewer : (p q : SeatRecord → Bool) (f : SeatRecord → SeatRecord) (xs : List SeatRecord) → All (λ x. q (f x) ≡ true → p x ≡ true) xs
+    → list_any (λ x. p x && not (q (f x))) xs ≡ true → count_by q (map f xs) < count_by p xs
 fewer p q f [] w h = absurd cc
 fewer p q f (x ∷ xs) w h = grind (arith, common_steps, count_cons, no_more, fewer p q f xs)
 
@@ -68,7 +80,8 @@ pair_alone : (a i : ℕ) → is_pair_before a i a i ≡ false
 pair_alone a i = grind (arith, nat_tests)
 
 -- the next client that is checked
-module _ (st : CoreParts) (last : Option (ℕ × ℕ)) (looked : AreLookedAt (machine_of st) last) (k : ℕ) (there : k < length st.seats.items) (found : slice_get st.seats.items k ≡ first_of (waits_after last) is_wait_before st.seats.items) where
+module _ (st : CoreParts) (last : Option (ℕ × ℕ)) (looked : AreLookedAt (machine_of st) last) (k : ℕ) (there : k < length st.seats.items)
+    (found : slice_get st.seats.items k ≡ first_of (waits_after last) is_wait_before st.seats.items) where
   pub s : SeatRecord
   s = (some_at st.seats.items k there).0
 
@@ -89,7 +102,8 @@ module _ (st : CoreParts) (last : Option (ℕ × ℕ)) (looked : AreLookedAt (ma
   one_waits = omega (arith, waiting_falls (machine_of st) s member passes.0)
 
   number_is : s.number ≡ k
-  number_is = eqb-true s.number k ((found_passes (λ t. t.number == k) st.seats.items s (seat_read st.seats.items k s st.sound.numbered here)).0)
+  number_is =
+      eqb-true s.number k ((found_passes (λ t. t.number == k) st.seats.items s (seat_read st.seats.items k s st.sound.numbered here)).0)
 
   only : All (λ t. t.number ≡ k → t ≡ s) st.seats.items
   only = only_seat 0 (length st.seats.items) k st.seats.items s st.sound.numbered (seat_read st.seats.items k s st.sound.numbered here)
@@ -101,7 +115,8 @@ module _ (st : CoreParts) (last : Option (ℕ × ℕ)) (looked : AreLookedAt (ma
   not_sooner : (t : SeatRecord) → Contains st.seats.items t → waits_after last t ≡ true → is_wait_before t s ≡ false
   not_sooner t c w = first_of_is_least (waits_after last) (pair_order (λ u. ticket_of u.wait) (λ u. u.number)) st.seats.items s t chosen c w
 
-  comes_after : (t : SeatRecord) → Contains st.seats.items t → waits_after last t ≡ true → (t.number == s.number) ≡ false → is_after (Some (turn_of s)) t ≡ true
+  comes_after : (t : SeatRecord) → Contains st.seats.items t → waits_after last t ≡ true → (t.number == s.number) ≡ false
+      → is_after (Some (turn_of s)) t ≡ true
   comes_after t c w other = pair_other (ticket_of s.wait) s.number (ticket_of t.wait) t.number (not_sooner t c w) other
 
   next_is : ends_waiting (machine_of st) s ≡ true → next_end (machine_of st) ≡ Some s
@@ -125,17 +140,22 @@ module _ (st : CoreParts) (last : Option (ℕ × ℕ)) (looked : AreLookedAt (ma
         let is = looks s here passes.0 in
         elim (cases_Bool (ends_waiting (machine_of st) s)) [
           | inl e ↦ subst (λ (n : Machine). AreLookedAt n (Some (turn_of s))) (sym (is.ends e).ended) (
-              all_of_map (λ t. ends_waiting (with_seat s.number without_wait (machine_of st)) t ≡ true → is_after (Some (turn_of s)) t ≡ true) (λ t. if t.number == s.number then without_wait t else t) st.seats.items
+              all_of_map (λ t. ends_waiting (with_seat s.number without_wait (machine_of st)) t ≡ true
+              → is_after (Some (turn_of s)) t ≡ true) (λ t. if t.number == s.number then without_wait t else t) st.seats.items
               (all_from_members _ st.seats.items (λ t c. gone t c (t.number == s.number) refl))
               )
           | inr e ↦ subst (λ (n : Machine). AreLookedAt n (Some (turn_of s))) (sym (is.stays e).machine)
-              (all_from_members (λ t. ends_waiting (machine_of st) t ≡ true → is_after (Some (turn_of s)) t ≡ true) st.seats.items (λ t c h. stays t c e h (t.number == s.number) refl))
+              (all_from_members (λ t. ends_waiting (machine_of st) t ≡ true → is_after (Some (turn_of s)) t ≡ true) st.seats.items
+              (λ t c h. stays t c e h (t.number == s.number) refl))
         ]
       where
-        gone : (t : SeatRecord) → Contains st.seats.items t → (b : Bool) → (t.number == s.number) ≡ b → ends_waiting (with_seat s.number without_wait (machine_of st)) (if b then without_wait t else t) ≡ true → is_after (Some (turn_of s)) (if b then without_wait t else t) ≡ true
+        gone : (t : SeatRecord) → Contains st.seats.items t → (b : Bool) → (t.number == s.number) ≡ b
+            → ends_waiting (with_seat s.number without_wait (machine_of st)) (if b then without_wait t else t) ≡ true
+            → is_after (Some (turn_of s)) (if b then without_wait t else t) ≡ true
         gone t c b o h = grind (arith, common_steps, comes_after, is_left)
 
-        stays : (t : SeatRecord) → Contains st.seats.items t → ends_waiting (machine_of st) s ≡ false → ends_waiting (machine_of st) t ≡ true → (b : Bool) → (t.number == s.number) ≡ b → is_after (Some (turn_of s)) t ≡ true
+        stays : (t : SeatRecord) → Contains st.seats.items t → ends_waiting (machine_of st) s ≡ false
+            → ends_waiting (machine_of st) t ≡ true → (b : Bool) → (t.number == s.number) ≡ b → is_after (Some (turn_of s)) t ≡ true
         stays t c e h b o = grind (arith, common_steps, all_at, only, eqb-true, number_is, comes_after, is_left)
 
     pub look_falls : left_after (Some (turn_of s)) next < left_after last (machine_of st)
@@ -146,7 +166,8 @@ module _ (st : CoreParts) (last : Option (ℕ × ℕ)) (looked : AreLookedAt (ma
           | inl e ↦ subst (λ (n : Machine). left_after (Some (turn_of s)) n < left_after last (machine_of st)) (sym (is.ends e).ended)
               (fewer (waits_after last) q (λ t. if t.number == s.number then without_wait t else t) st.seats.items
               (all_always _ st.seats.items (λ t. less t (t.number == s.number)))
-              (list_any_with (λ t. waits_after last t && not (q (if t.number == s.number then without_wait t else t))) st.seats.items s member
+              (list_any_with (λ t. waits_after last t && not (q (if t.number == s.number then without_wait t else t)))
+              st.seats.items s member
               (rw (passes.0, passes.1) (out (s.number == s.number) (eq-eqb s.number s.number refl)))))
           | inr e ↦ subst (λ (n : Machine). left_after (Some (turn_of s)) n < left_after last (machine_of st)) (sym (is.stays e).machine)
               (subst (λ seats. count_by q seats < count_by (waits_after last) st.seats.items) (map-id st.seats.items)
@@ -159,7 +180,8 @@ module _ (st : CoreParts) (last : Option (ℕ × ℕ)) (looked : AreLookedAt (ma
         later : (t : SeatRecord) → waits_after (Some (turn_of s)) t ≡ true → waits_after last t ≡ true
         later t h = grind (arith, common_steps, and_parts, passes)
 
-        less : (t : SeatRecord) (b : Bool) → waits_after (Some (turn_of s)) (if b then without_wait t else t) ≡ true → waits_after last t ≡ true
+        less : (t : SeatRecord) (b : Bool) → waits_after (Some (turn_of s)) (if b then without_wait t else t) ≡ true
+            → waits_after last t ≡ true
         less t true h = absurd cc
         less t false h = later t h
 

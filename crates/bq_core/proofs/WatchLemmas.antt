@@ -1,9 +1,11 @@
 -- The tubes that waiting clients watch, as commands change the seats.
-use Rattle.std.proofs.{Common.{◌∙◌, ◌∷◌, ◌≡◌, ◌≤◌, List, [], ℕ, arith, false, length, map, subst, true}, lemmas.{Bool.eqb-true, Grind.common_steps, List.Sums.sum_by-cons}}
+use Rattle.std.proofs.Common.{◌∙◌, ◌∷◌, ◌≡◌, ◌≤◌, List, [], ℕ, arith, false, length, map, subst, true}
+use Rattle.std.proofs.lemmas.{Bool.eqb-true, Grind.common_steps, List.Sums.sum_by-cons}
 use Rattle.std.specs.{List.{AllByRecursion as All, sum_by}, Prelude.count_by}
 use Rattle.bq_job.specs.declared.{request.Request.Request, step.Step.Step}
 use Rattle.bq_job.specs.beside.{IsLawful, waiting_count, watches_once}
-use Rattle.bq_job.specs.machine.{Effect, Memory, SeatRecord, acted, after_close, after_connect, asked, empty_seat, is_waiting, numbers, with_end, with_seat, Machine.Machine}
+use Rattle.bq_job.specs.machine.{Effect, Memory, SeatRecord, acted, after_close, after_connect, asked}
+use Rattle.bq_job.specs.machine.{empty_seat, is_waiting, numbers, with_end, with_seat, Machine.Machine}
 use Rattle.bq_job.proofs.{CommandKinds.kind_of, EachEvent.{IsSeat, each_acted}, EffectKinds.Kind, KeptLemmas.only_seat}
 use Rattle.bq_job.proofs.ListLemmas.{all_always, all_pass, all_weaker, count_cons}
 use Rattle.bq_steps.specs.Cost.{tubes_watched, watched_tubes}
@@ -22,30 +24,40 @@ one_seat number s = grind (arith, common_steps)
 
 -- a waiting client is among those that wait or are at the seat
 pub waited_few : (number : ℕ) (m : Machine) → waited m ≤ watched_tubes number m
-waited_few number m = sum_no_more waited_tubes (tubes_watched number) m.seats (all_always (λ s. waited_tubes s ≤ tubes_watched number s) m.seats (one_seat number))
+waited_few number m = sum_no_more waited_tubes (tubes_watched number) m.seats
+    (all_always (λ s. waited_tubes s ≤ tubes_watched number s) m.seats (one_seat number))
 
 -- a change of one seat after which no more tubes are waited for than were watched there
-with_seat_few : (number : ℕ) (f : SeatRecord → SeatRecord) (m : Machine) → All (λ s. s.number ≡ number → waited_tubes (f s) ≤ length s.watched) m.seats → waited (with_seat number f m) ≤ watched_tubes number m
+with_seat_few : (number : ℕ) (f : SeatRecord → SeatRecord) (m : Machine)
+    → All (λ s. s.number ≡ number → waited_tubes (f s) ≤ length s.watched) m.seats → waited (with_seat number f m) ≤ watched_tubes number m
 with_seat_few number f m less = grind (arith, common_steps, sum_of_map, all_weaker, eqb-true)
 
-always_few : (number : ℕ) (f : SeatRecord → SeatRecord) (m : Machine) → ((s : SeatRecord) → waited_tubes (f s) ≤ length s.watched) → waited (with_seat number f m) ≤ watched_tubes number m
-always_few number f m less = with_seat_few number f m (all_always (λ s. s.number ≡ number → waited_tubes (f s) ≤ length s.watched) m.seats (λ s e. less s))
+always_few : (number : ℕ) (f : SeatRecord → SeatRecord) (m : Machine) → ((s : SeatRecord) → waited_tubes (f s) ≤ length s.watched)
+    → waited (with_seat number f m) ≤ watched_tubes number m
+always_few number f m less = with_seat_few number f m
+    (all_always (λ s. s.number ≡ number → waited_tubes (f s) ≤ length s.watched) m.seats (λ s e. less s))
 
 -- every kind of command
-kind_few : (request : Request) (m : Machine) (s : SeatRecord) {e : Effect} → Kind m s request e → All (λ t. t.number ≡ s.number → t ≡ s) m.seats → is_waiting s ≡ false → waited e.machine ≤ watched_tubes s.number m
+kind_few : (request : Request) (m : Machine) (s : SeatRecord) {e : Effect} → Kind m s request e
+    → All (λ t. t.number ≡ s.number → t ≡ s) m.seats → is_waiting s ≡ false → waited e.machine ≤ watched_tubes s.number m
 kind_few request m s h alone quiet = grind (arith, common_steps, waited_few, always_few, with_seat_few, all_weaker)
 
-alone_at : (m : Machine) (seat : ℕ) (s : SeatRecord) → map (λ s. s.number) m.seats ≡ numbers 0 m.settings.seats → IsSeat m seat s → All (λ t. t.number ≡ s.number → t ≡ s) m.seats
+alone_at : (m : Machine) (seat : ℕ) (s : SeatRecord) → map (λ s. s.number) m.seats ≡ numbers 0 m.settings.seats → IsSeat m seat s
+    → All (λ t. t.number ≡ s.number → t ≡ s) m.seats
 alone_at m seat s seated is =
-    all_weaker (λ t. t.number ≡ seat → t ≡ s) (λ t. t.number ≡ s.number → t ≡ s) m.seats (λ t only i. only (i ∙ is.number)) (only_seat 0 m.settings.seats seat m.seats s seated is.found)
+    all_weaker (λ t. t.number ≡ seat → t ≡ s) (λ t. t.number ≡ s.number → t ≡ s) m.seats (λ t only i. only (i ∙ is.number))
+    (only_seat 0 m.settings.seats seat m.seats s seated is.found)
 
 -- After the command's own effect, a waiting client is one that waited before it or the one that
 -- asked.
-pub acted_few : (memory : Memory) (m : Machine) (seat : ℕ) (what : Step) → map (λ s. s.number) m.seats ≡ numbers 0 m.settings.seats → waited (acted memory m seat what).machine ≤ watched_tubes seat m
+pub acted_few : (memory : Memory) (m : Machine) (seat : ℕ) (what : Step) → map (λ s. s.number) m.seats ≡ numbers 0 m.settings.seats
+    → waited (acted memory m seat what).machine ≤ watched_tubes seat m
 acted_few memory m seat what seated = each_acted m seat (λ what e. waited e.machine ≤ watched_tubes seat m) (record {
   nothing = λ what. waited_few seat m;
-  connects = λ s is. here (after_connect m s.number) is (always_few s.number (λ t. record (empty_seat t.number) { connected = true }) m (λ t. omega arith));
-  asks = λ request s is c w. here (asked request m s).machine is (kind_few request m s (kind_of request m s) (alone_at m seat s seated is) w);
+  connects = λ s is. here (after_connect m s.number) is
+      (always_few s.number (λ t. record (empty_seat t.number) { connected = true }) m (λ t. omega arith));
+  asks = λ request s is c w. here (asked request m s).machine is
+      (kind_few request m s (kind_of request m s) (alone_at m seat s seated is) w);
   ends = λ s is. here (with_seat s.number with_end m) is (always_few s.number with_end m (λ s. grind (arith, common_steps)));
   closes = λ s is. here (after_close m s.number) is (always_few s.number (λ t. empty_seat t.number) m (λ t. omega arith));
   drains = waited_few seat m;

@@ -1,7 +1,8 @@
 -- One job is handed out.
 use Rattle.std.specs.{Option.option_map, Prelude.{◌++◌, ◌||◌, ◌∷◌, ◌≡◌, IfOk, List, Result, Some, [], ℕ}}
 use Rattle.bq_job.specs.declared.{fault.NoMemory.NoMemory, job.Job.Job}
-use Rattle.bq_job.specs.machine.{GivenAnswer, IsHandOut, SeatRecord, is_out_of_memory, next_job, next_seat, reserved_by, with_job, with_seat, without_wait, Machine.Machine}
+use Rattle.bq_job.specs.machine.{GivenAnswer, IsHandOut, SeatRecord, is_out_of_memory, next_job, next_seat}
+use Rattle.bq_job.specs.machine.{reserved_by, with_job, with_seat, without_wait, Machine.Machine}
 use Rattle.bq_steps.specs.Outbox.{Outbox}
 
 -- the client at this seat gets the next job, if there is one

@@ -1,5 +1,6 @@
 -- Seats are served in turn: one acts, and the others stay as they were.
-use Rattle.std.proofs.Common.{◌≡◌, ◌≢◌, ℕ, ◌+◌, ◌<◌, List, [], ◌++◌, Option, length, refl, sym, ap, ◌∙◌, arith, subst, inl, inr, append-nil, append_assoc, slice_set, slice_index_or, nat_lt}
+use Rattle.std.proofs.Common.{◌≡◌, ◌≢◌, ℕ, ◌+◌, ◌<◌, List, [], ◌++◌, Option, length, refl, sym}
+use Rattle.std.proofs.Common.{ap, ◌∙◌, arith, subst, inl, inr, append-nil, append_assoc, slice_set, slice_index_or, nat_lt}
 use Rattle.std.specs.Prelude.{◌==◌}
 use Rattle.std.proofs.lemmas.Bool.{cases_Bool, eqb-true, eqb-false, ltb-true, ltb-false}
 use Rattle.std.proofs.lemmas.List.{get_or-set_other, get_or-set_same, length-set}
@@ -24,7 +25,8 @@ use Rattle.bq_line.specs.GivenReadings.{GaveReadings}
 use Rattle.bq_event_loop.proofs.HubLemmas.{hub_on, gave_none, gave_then, seat_none, steps_append, went_none}
 
 -- the result of a seat's calls at the hub
-went_by : {C K : Type 0} (machine : K → Machine) (compared : K → ℕ) (given : C → List (Option ℕ) → C → Type 0) (seat : ℕ) (old new : Hub C K) (submitted : List Step) (taken : List Answer)
+went_by : {C K : Type 0} (machine : K → Machine) (compared : K → ℕ) (given : C → List (Option ℕ) → C → Type 0) (seat : ℕ)
+    (old new : Hub C K) (submitted : List Step) (taken : List Answer)
     → Calls (WentAt machine compared given seat) old submitted taken new → WentAt machine compared given seat old submitted taken new
 went_by machine compared given seat old new submitted taken (inl w) = w
 went_by {C} {K} machine compared given seat old new submitted taken (inr same) =
@@ -34,9 +36,11 @@ went_by {C} {K} machine compared given seat old new submitted taken (inr same) =
 
 module _ {L D : Type 0} (seen : L → LineSeen) (at : D → DoorSeen) where
   -- One seat acted.
-  turn_served : (size : ℕ) (control : List Step) (first hub next : HubState) (readings reads : List (Option ℕ)) (seats : List (Attendant L)) (doors : List D) (i : ℕ) (a new : Attendant L) (d later : D) (submitted : List Step) (taken : List Answer)
+  turn_served : (size : ℕ) (control : List Step) (first hub next : HubState) (readings reads : List (Option ℕ)) (seats : List (Attendant L))
+      (doors : List D) (i : ℕ) (a new : Attendant L) (d later : D) (submitted : List Step) (taken : List Answer)
       → AreServed seen at size control first readings hub seats doors → i < length seats
-      → SeatWent i hub reads submitted taken next → Tends seen (slice_index_or seats i a) (at (slice_index_or doors i d)) submitted taken new (at later)
+      → SeatWent i hub reads submitted taken next
+      → Tends seen (slice_index_or seats i a) (at (slice_index_or doors i d)) submitted taken new (at later)
       → AreServed seen at size control first (readings ++ reads) next (slice_set seats i new) (slice_set doors i later)
   turn_served size control first hub next readings reads seats doors i a new d later submitted taken s below w tends = record {
     history = s.history ++ w.history;
@@ -54,38 +58,52 @@ module _ {L D : Type 0} (seen : L → LineSeen) (at : D → DoorSeen) where
 
       still : (t : ℕ) → t ≢ i → steps_at t (s.history ++ w.history) ≡ steps_at t s.history
       still t differs =
-          steps_append t s.history w.history ∙ ap (λ (xs : List Step). steps_at t s.history ++ xs) (w.others_still t differs) ∙ append-nil (steps_at t s.history)
+          steps_append t s.history w.history ∙ ap (λ (xs : List Step). steps_at t s.history ++ xs) (w.others_still t differs)
+          ∙ append-nil (steps_at t s.history)
 
-      own : (x : Attendant L) (y : D) → IsTended seen size (slice_index_or (slice_set seats i new) i x) (at (slice_index_or (slice_set doors i later) i y)) (steps_at i (s.history ++ w.history)) (s.took i ++ w.took i)
+      own : (x : Attendant L) (y : D) → IsTended seen size (slice_index_or (slice_set seats i new) i x)
+          (at (slice_index_or (slice_set doors i later) i y)) (steps_at i (s.history ++ w.history)) (s.took i ++ w.took i)
       own x y =
           let after = tends size (steps_at i s.history) (s.took i) (s.each i below a d) in
           let steps_are : steps_at i s.history ++ submitted ≡ steps_at i (s.history ++ w.history) =
           ap (λ (xs : List Step). steps_at i s.history ++ xs) (sym w.submitted_is) ∙ sym (steps_append i s.history w.history) in
           let took_is : s.took i ++ taken ≡ s.took i ++ w.took i = ap (λ (xs : List Answer). s.took i ++ xs) (sym w.taken_is) in
-          subst (λ (z : Attendant L). IsTended seen size z (at (slice_index_or (slice_set doors i later) i y)) (steps_at i (s.history ++ w.history)) (s.took i ++ w.took i)) (sym (get_or-set_same seats i new x below))
-          (subst (λ (z : D). IsTended seen size new (at z) (steps_at i (s.history ++ w.history)) (s.took i ++ w.took i)) (sym (get_or-set_same doors i later y below_doors))
+          subst (λ (z : Attendant L). IsTended seen size z (at (slice_index_or (slice_set doors i later) i y))
+          (steps_at i (s.history ++ w.history)) (s.took i ++ w.took i)) (sym (get_or-set_same seats i new x below))
+          (subst (λ (z : D). IsTended seen size new (at z) (steps_at i (s.history ++ w.history)) (s.took i ++ w.took i))
+          (sym (get_or-set_same doors i later y below_doors))
           (subst (λ (xs : List Step). IsTended seen size new (at later) xs (s.took i ++ w.took i)) steps_are
           (subst (λ (ys : List Answer). IsTended seen size new (at later) (steps_at i s.history ++ submitted) ys) took_is after)))
 
       other : (t : ℕ) → t ≢ i → t < length seats → (x : Attendant L) (y : D)
-          → IsTended seen size (slice_index_or (slice_set seats i new) t x) (at (slice_index_or (slice_set doors i later) t y)) (steps_at t (s.history ++ w.history)) (s.took t ++ w.took t)
+          → IsTended seen size (slice_index_or (slice_set seats i new) t x) (at (slice_index_or (slice_set doors i later) t y))
+          (steps_at t (s.history ++ w.history)) (s.took t ++ w.took t)
       other t differs here x y =
-          let took_is : s.took t ≡ s.took t ++ w.took t = sym (append-nil (s.took t)) ∙ ap (λ (xs : List Answer). s.took t ++ xs) (sym (w.others_took t differs)) in
-          subst (λ (z : Attendant L). IsTended seen size z (at (slice_index_or (slice_set doors i later) t y)) (steps_at t (s.history ++ w.history)) (s.took t ++ w.took t)) (sym (get_or-set_other seats i t new x differs))
-          (subst (λ (z : D). IsTended seen size (slice_index_or seats t x) (at z) (steps_at t (s.history ++ w.history)) (s.took t ++ w.took t)) (sym (get_or-set_other doors i t later y differs))
-          (subst (λ (xs : List Step). IsTended seen size (slice_index_or seats t x) (at (slice_index_or doors t y)) xs (s.took t ++ w.took t)) (sym (still t differs))
-          (subst (λ (ys : List Answer). IsTended seen size (slice_index_or seats t x) (at (slice_index_or doors t y)) (steps_at t s.history) ys) took_is (s.each t here x y))))
+          let took_is : s.took t ≡ s.took t ++ w.took t =
+          sym (append-nil (s.took t)) ∙ ap (λ (xs : List Answer). s.took t ++ xs) (sym (w.others_took t differs)) in
+          subst (λ (z : Attendant L). IsTended seen size z (at (slice_index_or (slice_set doors i later) t y))
+          (steps_at t (s.history ++ w.history)) (s.took t ++ w.took t)) (sym (get_or-set_other seats i t new x differs))
+          (subst (λ (z : D). IsTended seen size (slice_index_or seats t x) (at z) (steps_at t (s.history ++ w.history))
+          (s.took t ++ w.took t)) (sym (get_or-set_other doors i t later y differs))
+          (subst (λ (xs : List Step). IsTended seen size (slice_index_or seats t x) (at (slice_index_or doors t y)) xs
+          (s.took t ++ w.took t)) (sym (still t differs))
+          (subst (λ (ys : List Answer). IsTended seen size (slice_index_or seats t x) (at (slice_index_or doors t y))
+          (steps_at t s.history) ys) took_is (s.each t here x y))))
 
       each_at : (t : ℕ) → t < length seats → (x : Attendant L) (y : D)
-          → IsTended seen size (slice_index_or (slice_set seats i new) t x) (at (slice_index_or (slice_set doors i later) t y)) (steps_at t (s.history ++ w.history)) (s.took t ++ w.took t)
+          → IsTended seen size (slice_index_or (slice_set seats i new) t x) (at (slice_index_or (slice_set doors i later) t y))
+          (steps_at t (s.history ++ w.history)) (s.took t ++ w.took t)
       each_at t here x y = elim (cases_Bool (t == i)) [
         | inl e ↦
-            subst (λ (n : ℕ). IsTended seen size (slice_index_or (slice_set seats i new) n x) (at (slice_index_or (slice_set doors i later) n y)) (steps_at n (s.history ++ w.history)) (s.took n ++ w.took n)) (sym (eqb-true t i e)) (own x y)
+            subst (λ (n : ℕ). IsTended seen size (slice_index_or (slice_set seats i new) n x)
+            (at (slice_index_or (slice_set doors i later) n y)) (steps_at n (s.history ++ w.history)) (s.took n ++ w.took n))
+            (sym (eqb-true t i e)) (own x y)
         | inr e ↦ other t (eqb-false t i e) here x y
       ]
 
   -- A tick was taken, or none was due: no seat submitted or took anything.
-  time_served : (size : ℕ) (control : List Step) (first hub next : HubState) (readings reads : List (Option ℕ)) (seats : List (Attendant L)) (doors : List D) (i : ℕ)
+  time_served : (size : ℕ) (control : List Step) (first hub next : HubState) (readings reads : List (Option ℕ)) (seats : List (Attendant L))
+      (doors : List D) (i : ℕ)
       → AreServed seen at size control first readings hub seats doors → SeatWent i hub reads [] [] next
       → AreServed seen at size control first (readings ++ reads) next seats doors
   time_served size control first hub next readings reads seats doors i s w = record {
@@ -95,8 +113,10 @@ module _ {L D : Type 0} (seen : L → LineSeen) (at : D → DoorSeen) where
     mailed = s.mailed;
     doored = s.doored;
     each = λ t below a d.
-        subst (λ (xs : List Step). IsTended seen size (slice_index_or seats t a) (at (slice_index_or doors t d)) xs (s.took t ++ w.took t)) (sym (still t))
-        (subst (λ (ys : List Answer). IsTended seen size (slice_index_or seats t a) (at (slice_index_or doors t d)) (steps_at t s.history) ys) (took_still t) (s.each t below a d));
+        subst (λ (xs : List Step). IsTended seen size (slice_index_or seats t a) (at (slice_index_or doors t d)) xs
+        (s.took t ++ w.took t)) (sym (still t))
+        (subst (λ (ys : List Answer). IsTended seen size (slice_index_or seats t a) (at (slice_index_or doors t d))
+        (steps_at t s.history) ys) (took_still t) (s.each t below a d));
     control_is = still (length seats) ∙ s.control_is;
     nobody_else = λ t above. still t ∙ s.nobody_else t above;
   }
@@ -114,13 +134,15 @@ module _ {L D : Type 0} (seen : L → LineSeen) (at : D → DoorSeen) where
       ]
 
       still : (t : ℕ) → steps_at t (s.history ++ w.history) ≡ steps_at t s.history
-      still t = steps_append t s.history w.history ∙ ap (λ (xs : List Step). steps_at t s.history ++ xs) (none t) ∙ append-nil (steps_at t s.history)
+      still t = steps_append t s.history w.history ∙ ap (λ (xs : List Step). steps_at t s.history ++ xs) (none t)
+          ∙ append-nil (steps_at t s.history)
 
       took_still : (t : ℕ) → s.took t ≡ s.took t ++ w.took t
       took_still t = sym (append-nil (s.took t)) ∙ ap (λ (xs : List Answer). s.took t ++ xs) (sym (took_none t))
 
   -- The control line submitted these steps.
-  control_served : (size : ℕ) (control more : List Step) (first hub next : HubState) (readings reads : List (Option ℕ)) (seats : List (Attendant L)) (doors : List D)
+  control_served : (size : ℕ) (control more : List Step) (first hub next : HubState) (readings reads : List (Option ℕ))
+      (seats : List (Attendant L)) (doors : List D)
       → AreServed seen at size control first readings hub seats doors → SeatWent (length seats) hub reads more [] next
       → AreServed seen at size (control ++ more) first (readings ++ reads) next seats doors
   control_served size control more first hub next readings reads seats doors s w = record {
@@ -131,21 +153,28 @@ module _ {L D : Type 0} (seen : L → LineSeen) (at : D → DoorSeen) where
     doored = s.doored;
     each = λ t below a d.
         let differs : t ≢ length seats = λ e. omega arith in
-        subst (λ (xs : List Step). IsTended seen size (slice_index_or seats t a) (at (slice_index_or doors t d)) xs (s.took t ++ w.took t)) (sym (still t differs))
-        (subst (λ (ys : List Answer). IsTended seen size (slice_index_or seats t a) (at (slice_index_or doors t d)) (steps_at t s.history) ys) (took_still t differs) (s.each t below a d));
-    control_is = steps_append (length seats) s.history w.history ∙ ap (λ (xs : List Step). xs ++ steps_at (length seats) w.history) s.control_is ∙ ap (λ (xs : List Step). control ++ xs) w.submitted_is;
+        subst (λ (xs : List Step). IsTended seen size (slice_index_or seats t a) (at (slice_index_or doors t d)) xs (s.took t ++ w.took t))
+        (sym (still t differs))
+        (subst (λ (ys : List Answer). IsTended seen size (slice_index_or seats t a) (at (slice_index_or doors t d))
+        (steps_at t s.history) ys) (took_still t differs) (s.each t below a d));
+    control_is = steps_append (length seats) s.history w.history
+        ∙ ap (λ (xs : List Step). xs ++ steps_at (length seats) w.history) s.control_is
+        ∙ ap (λ (xs : List Step). control ++ xs) w.submitted_is;
     nobody_else = λ t above. still t (λ e. omega arith) ∙ s.nobody_else t above;
   }
     where
       still : (t : ℕ) → t ≢ length seats → steps_at t (s.history ++ w.history) ≡ steps_at t s.history
-      still t differs = steps_append t s.history w.history ∙ ap (λ (xs : List Step). steps_at t s.history ++ xs) (w.others_still t differs) ∙ append-nil (steps_at t s.history)
+      still t differs = steps_append t s.history w.history ∙ ap (λ (xs : List Step). steps_at t s.history ++ xs) (w.others_still t differs)
+          ∙ append-nil (steps_at t s.history)
 
       took_still : (t : ℕ) → t ≢ length seats → s.took t ≡ s.took t ++ w.took t
       took_still t differs = sym (append-nil (s.took t)) ∙ ap (λ (xs : List Answer). s.took t ++ xs) (sym (w.others_took t differs))
 
   -- The seats rested, whatever else was done with them and their doors.
-  rested_served : (same : D → D → Type 0) (size : ℕ) (control : List Step) (first hub : HubState) (readings : List (Option ℕ)) (seats later : List (Attendant L)) (doors after : List D)
-      → AllRested seen at same seats doors later after → AreServed seen at size control first readings hub seats doors → AreServed seen at size control first readings hub later after
+  rested_served : (same : D → D → Type 0) (size : ℕ) (control : List Step) (first hub : HubState) (readings : List (Option ℕ))
+      (seats later : List (Attendant L)) (doors after : List D)
+      → AllRested seen at same seats doors later after → AreServed seen at size control first readings hub seats doors
+      → AreServed seen at size control first readings hub later after
   rested_served same size control first hub readings seats later doors after r s = record {
     history = s.history;
     took = s.took;
@@ -154,14 +183,17 @@ module _ {L D : Type 0} (seen : L → LineSeen) (at : D → DoorSeen) where
     doored = r.doored ∙ s.doored ∙ sym r.many;
     each = λ t below a d.
         let here : t < length seats = let e = r.many in omega (arith, below) in
-        subst (λ (xs : List Step). IsTended seen size (slice_index_or later t a) (at (slice_index_or after t d)) xs (s.took t)) (append-nil (steps_at t s.history))
-        (subst (λ (ys : List Answer). IsTended seen size (slice_index_or later t a) (at (slice_index_or after t d)) (steps_at t s.history ++ []) ys) (append-nil (s.took t))
+        subst (λ (xs : List Step). IsTended seen size (slice_index_or later t a) (at (slice_index_or after t d)) xs (s.took t))
+        (append-nil (steps_at t s.history))
+        (subst (λ (ys : List Answer). IsTended seen size (slice_index_or later t a) (at (slice_index_or after t d))
+        (steps_at t s.history ++ []) ys) (append-nil (s.took t))
         (r.each t here a d size (steps_at t s.history) (s.took t) (s.each t here a d)));
     control_is = ap (λ n. steps_at n s.history) r.many ∙ s.control_is;
     nobody_else = λ t above. s.nobody_else t (let e = r.many in omega (arith, above));
   }
 
-  module _ {C K : Type 0} (machine : K → Machine) (compared : K → ℕ) (given : C → List (Option ℕ) → C → Type 0) (same : D → D → Type 0) where
+  module _ {C K : Type 0} (machine : K → Machine) (compared : K → ℕ) (given : C → List (Option ℕ) → C → Type 0)
+      (same : D → D → Type 0) where
     -- Nothing was served yet.
     pub serves_none : (hub : Hub C K) (row : Row L D) → ServesOn machine compared given seen at same hub row [] hub row
     serves_none hub row = record {
@@ -170,14 +202,17 @@ module _ {L D : Type 0} (seen : L → LineSeen) (at : D → DoorSeen) where
       mailed = refl;
       many = refl;
       served = λ size before first readings s.
-          subst (λ (rs : List (Option ℕ)). AreServed seen at size (before ++ []) first rs (state_of machine compared hub) row.seats.items row.doors.items) (sym (append-nil readings))
-          (subst (λ (xs : List Step). AreServed seen at size xs first readings (state_of machine compared hub) row.seats.items row.doors.items) (sym (append-nil before)) s);
+          subst (λ (rs : List (Option ℕ)). AreServed seen at size (before ++ []) first rs
+          (state_of machine compared hub) row.seats.items row.doors.items) (sym (append-nil readings))
+          (subst (λ (xs : List Step). AreServed seen at size xs first readings
+          (state_of machine compared hub) row.seats.items row.doors.items) (sym (append-nil before)) s);
       same_doors = λ handed_in h. h;
     }
 
     -- One thing after another.
     pub serves_then : (old hub new : Hub C K) (row mid later : Row L D) (control more : List Step)
-        → ServesOn machine compared given seen at same old row control hub mid → ServesOn machine compared given seen at same hub mid more new later
+        → ServesOn machine compared given seen at same old row control hub mid
+        → ServesOn machine compared given seen at same hub mid more new later
         → ServesOn machine compared given seen at same old row (control ++ more) new later
     serves_then old hub new row mid later control more a b = record {
       reads = a.reads ++ b.reads;
@@ -185,27 +220,33 @@ module _ {L D : Type 0} (seen : L → LineSeen) (at : D → DoorSeen) where
       mailed = b.mailed ∙ a.mailed;
       many = b.many ∙ a.many;
       served = λ size before first readings s.
-          subst (λ (rs : List (Option ℕ)). AreServed seen at size (before ++ (control ++ more)) first rs (state_of machine compared new) later.seats.items later.doors.items) (append_assoc readings a.reads b.reads)
-          (subst (λ (xs : List Step). AreServed seen at size xs first ((readings ++ a.reads) ++ b.reads) (state_of machine compared new) later.seats.items later.doors.items) (append_assoc before control more)
+          subst (λ (rs : List (Option ℕ)). AreServed seen at size (before ++ (control ++ more)) first rs
+          (state_of machine compared new) later.seats.items later.doors.items) (append_assoc readings a.reads b.reads)
+          (subst (λ (xs : List Step). AreServed seen at size xs first ((readings ++ a.reads) ++ b.reads)
+          (state_of machine compared new) later.seats.items later.doors.items) (append_assoc before control more)
           (b.served size (before ++ control) first (readings ++ a.reads) (a.served size before first readings s)));
       same_doors = λ handed_in h. b.same_doors handed_in (a.same_doors handed_in h);
     }
 
     -- The same if the second submitted no step of the control line.
     pub serves_on : (old hub new : Hub C K) (row mid later : Row L D) (control : List Step)
-        → ServesOn machine compared given seen at same old row control hub mid → ServesOn machine compared given seen at same hub mid [] new later
+        → ServesOn machine compared given seen at same old row control hub mid
+        → ServesOn machine compared given seen at same hub mid [] new later
         → ServesOn machine compared given seen at same old row control new later
     serves_on old hub new row mid later control a b =
-        subst (λ (xs : List Step). ServesOn machine compared given seen at same old row xs new later) (append-nil control) (serves_then old hub new row mid later control [] a b)
+        subst (λ (xs : List Step). ServesOn machine compared given seen at same old row xs new later) (append-nil control)
+        (serves_then old hub new row mid later control [] a b)
 
     -- One seat acted.
     pub serves_turn : (old new : Hub C K) (row later : Row L D) (i seat : ℕ) (a next : Attendant L) (d door : D)
-        → seat ≡ i → i < length row.seats.items → GoesOn (WentAt machine compared given seat) old new seen (slice_index_or row.seats.items i a) (at (slice_index_or row.doors.items i d)) next (at door)
+        → seat ≡ i → i < length row.seats.items → GoesOn (WentAt machine compared given seat) old new seen
+        (slice_index_or row.seats.items i a) (at (slice_index_or row.doors.items i d)) next (at door)
         → ((first : D) → same first (slice_index_or row.doors.items i d) → same first door)
         → later.seats.items ≡ slice_set row.seats.items i next → later.doors.items ≡ slice_set row.doors.items i door
         → ServesOn machine compared given seen at same old row [] new later
     serves_turn old new row later i seat a next d door is below goes on seats_are doors_are =
-        let w = subst (λ (n : ℕ). WentAt machine compared given n old goes.0 goes.1 new) is (went_by machine compared given seat old new goes.0 goes.1 goes.2) in
+        let w = subst (λ (n : ℕ). WentAt machine compared given n old goes.0 goes.1 new) is
+        (went_by machine compared given seat old new goes.0 goes.1 goes.2) in
         let so = slice_set row.seats.items i next in
         let ds = slice_set row.doors.items i door in
         record {
@@ -214,11 +255,17 @@ module _ {L D : Type 0} (seen : L → LineSeen) (at : D → DoorSeen) where
           mailed = w.2.went.many;
           many = ap length seats_are ∙ length-set row.seats.items i next;
           served = λ size before first readings s.
-              subst (λ (xs : List (Attendant L)). AreServed seen at size (before ++ []) first (readings ++ w.0) (state_of machine compared new) xs later.doors.items) (sym seats_are)
-              (subst (λ (xs : List D). AreServed seen at size (before ++ []) first (readings ++ w.0) (state_of machine compared new) so xs) (sym doors_are)
-              (subst (λ (xs : List Step). AreServed seen at size xs first (readings ++ w.0) (state_of machine compared new) so ds) (sym (append-nil before))
-              (turn_served size before first (state_of machine compared old) (state_of machine compared new) readings w.0 row.seats.items row.doors.items i a next d door goes.0 goes.1 s below w.2 goes.3)));
-          same_doors = λ handed_in h. subst (λ (xs : List D). AreSame same handed_in xs) (sym doors_are) (same_set same handed_in row.doors.items i d door on h);
+              subst (λ (xs : List (Attendant L)). AreServed seen at size (before ++ []) first (readings ++ w.0)
+              (state_of machine compared new) xs later.doors.items) (sym seats_are)
+              (subst (λ (xs : List D). AreServed seen at size (before ++ []) first (readings ++ w.0)
+              (state_of machine compared new) so xs) (sym doors_are)
+              (subst (λ (xs : List Step). AreServed seen at size xs first (readings ++ w.0) (state_of machine compared new) so ds)
+              (sym (append-nil before))
+              (turn_served size before first (state_of machine compared old)
+              (state_of machine compared new) readings w.0 row.seats.items row.doors.items i a next d door goes.0 goes.1 s
+              below w.2 goes.3)));
+          same_doors = λ handed_in h. subst (λ (xs : List D). AreSame same handed_in xs) (sym doors_are)
+              (same_set same handed_in row.doors.items i d door on h);
         }
 
     -- The same for a seat and a door that were looked up.
@@ -229,25 +276,30 @@ module _ {L D : Type 0} (seen : L → LineSeen) (at : D → DoorSeen) where
         → ServesOn machine compared given seen at same old row [] new later
     serves_acted old new row later i seat a next d door is below a_is d_is goes on seats_are doors_are =
         serves_turn old new row later i seat a next d door is below
-        (subst (λ (x : Attendant L). GoesOn (WentAt machine compared given seat) old new seen x (at (slice_index_or row.doors.items i d)) next (at door)) a_is
+        (subst (λ (x : Attendant L). GoesOn (WentAt machine compared given seat) old new seen x
+        (at (slice_index_or row.doors.items i d)) next (at door)) a_is
         (subst (λ (y : D). GoesOn (WentAt machine compared given seat) old new seen a (at y) next (at door)) d_is goes))
         (subst (λ (y : D). (first : D) → same first y → same first door) d_is on) seats_are doors_are
 
     -- A tick was taken, or answers moved to another place.
-    pub serves_time : (old new : Hub C K) (row : Row L D) (i : ℕ) → WentAt machine compared given i old [] [] new → ServesOn machine compared given seen at same old row [] new row
+    pub serves_time : (old new : Hub C K) (row : Row L D) (i : ℕ) → WentAt machine compared given i old [] [] new
+        → ServesOn machine compared given seen at same old row [] new row
     serves_time old new row i w = record {
       reads = w.0;
       gave = w.1;
       mailed = w.2.went.many;
       many = refl;
       served = λ size before first readings s.
-          subst (λ (xs : List Step). AreServed seen at size xs first (readings ++ w.0) (state_of machine compared new) row.seats.items row.doors.items) (sym (append-nil before))
-          (time_served size before first (state_of machine compared old) (state_of machine compared new) readings w.0 row.seats.items row.doors.items i s w.2);
+          subst (λ (xs : List Step). AreServed seen at size xs first (readings ++ w.0)
+          (state_of machine compared new) row.seats.items row.doors.items) (sym (append-nil before))
+          (time_served size before first (state_of machine compared old)
+          (state_of machine compared new) readings w.0 row.seats.items row.doors.items i s w.2);
       same_doors = λ handed_in h. h;
     }
 
     -- The control line submitted steps.
-    pub serves_control : (old new : Hub C K) (row : Row L D) (seat : ℕ) (more : List Step) → seat ≡ length row.seats.items → WentAt machine compared given seat old more [] new
+    pub serves_control : (old new : Hub C K) (row : Row L D) (seat : ℕ) (more : List Step) → seat ≡ length row.seats.items
+        → WentAt machine compared given seat old more [] new
         → ServesOn machine compared given seen at same old row more new row
     serves_control old new row seat more is w =
         let own = subst (λ (n : ℕ). SeatWent n (state_of machine compared old) w.0 more [] (state_of machine compared new)) is w.2 in
@@ -256,32 +308,43 @@ module _ {L D : Type 0} (seen : L → LineSeen) (at : D → DoorSeen) where
           gave = w.1;
           mailed = w.2.went.many;
           many = refl;
-          served = λ size before first readings s. control_served size before more first (state_of machine compared old) (state_of machine compared new) readings w.0 row.seats.items row.doors.items s own;
+          served = λ size before first readings s.
+              control_served size before more first (state_of machine compared old)
+              (state_of machine compared new) readings w.0 row.seats.items row.doors.items s own;
           same_doors = λ handed_in h. h;
         }
 
     -- The seats rested.
-    pub serves_rested : (hub : Hub C K) (row later : Row L D) → AllRested seen at same row.seats.items row.doors.items later.seats.items later.doors.items → ServesOn machine compared given seen at same hub row [] hub later
+    pub serves_rested : (hub : Hub C K) (row later : Row L D)
+        → AllRested seen at same row.seats.items row.doors.items later.seats.items later.doors.items
+        → ServesOn machine compared given seen at same hub row [] hub later
     serves_rested hub row later r = record {
       reads = [];
       gave = gave_none given hub.timed.time.clock;
       mailed = refl;
       many = r.many;
       served = λ size before first readings s.
-          subst (λ (rs : List (Option ℕ)). AreServed seen at size (before ++ []) first rs (state_of machine compared hub) later.seats.items later.doors.items) (sym (append-nil readings))
-          (subst (λ (xs : List Step). AreServed seen at size xs first readings (state_of machine compared hub) later.seats.items later.doors.items) (sym (append-nil before))
-          (rested_served same size before first (state_of machine compared hub) readings row.seats.items later.seats.items row.doors.items later.doors.items r s));
+          subst (λ (rs : List (Option ℕ)). AreServed seen at size (before ++ []) first rs
+          (state_of machine compared hub) later.seats.items later.doors.items) (sym (append-nil readings))
+          (subst (λ (xs : List Step). AreServed seen at size xs first readings
+          (state_of machine compared hub) later.seats.items later.doors.items) (sym (append-nil before))
+          (rested_served same size before first (state_of machine compared hub) readings row.seats.items later.seats.items row.doors.items
+          later.doors.items r s));
       same_doors = r.same_doors;
     }
 
     -- The same if the hub's state and clock have not changed.
-    pub serves_same : (old new : Hub C K) (row : Row L D) → state_of machine compared new ≡ state_of machine compared old → new.timed.time.clock ≡ old.timed.time.clock → ServesOn machine compared given seen at same old row [] new row
+    pub serves_same : (old new : Hub C K) (row : Row L D) → state_of machine compared new ≡ state_of machine compared old
+        → new.timed.time.clock ≡ old.timed.time.clock → ServesOn machine compared given seen at same old row [] new row
     serves_same old new row state clock = serves_time old new row 0 (
       [],
       subst (λ c. GaveReadings given old.timed.time.clock [] c) (sym clock) (gave_none given old.timed.time.clock),
-      subst (λ (d : HubState). SeatWent 0 (state_of machine compared old) [] [] [] d) (sym state) (seat_none (state_of machine compared old) 0),
+      subst (λ (d : HubState). SeatWent 0 (state_of machine compared old) [] [] [] d) (sym state)
+          (seat_none (state_of machine compared old) 0),
     )
 
     -- Some seats were woken.
-    pub serves_woken : (old new : Hub C K) (row : Row L D) → new ≡ record old { woken = new.woken } → ServesOn machine compared given seen at same old row [] new row
-    serves_woken old new row same = serves_same old new row (ap (state_of machine compared) same) (ap (λ (h : Hub C K). h.timed.time.clock) same)
+    pub serves_woken : (old new : Hub C K) (row : Row L D) → new ≡ record old { woken = new.woken }
+        → ServesOn machine compared given seen at same old row [] new row
+    serves_woken old new row same = serves_same old new row (ap (state_of machine compared) same)
+        (ap (λ (h : Hub C K). h.timed.time.clock) same)

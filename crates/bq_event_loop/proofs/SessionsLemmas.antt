@@ -1,5 +1,6 @@
 -- A run over doors, from its first hub to the end.
-use Rattle.std.proofs.Common.{◌≡◌, ◌≢◌, ℕ, suc, ◌+◌, ◌<◌, Bool, true, false, List, [], ◌∷◌, ◌++◌, Option, map, length, refl, sym, ap, ◌∙◌, arith, subst, inl, inr, add-zero, append-nil, slice_index_or, nat_le}
+use Rattle.std.proofs.Common.{◌≡◌, ◌≢◌, ℕ, suc, ◌+◌, ◌<◌, Bool, true, false, List, [], ◌∷◌, ◌++◌, Option}
+use Rattle.std.proofs.Common.{map, length, refl, sym, ap, ◌∙◌, arith, subst, inl, inr, add-zero, append-nil, slice_index_or, nat_le}
 use Rattle.std.specs.Prelude.{◌==◌}
 use Rattle.std.specs.List.{All, list_all}
 use Rattle.std.proofs.lemmas.List.{length-map}
@@ -34,13 +35,16 @@ use Rattle.bq_driver.specs.declared.attendant.LinePlace.TheVariants as places
 use Rattle.bq_driver.proofs.TendingLemmas.{tended_new}
 
 -- A seat that is done.
-tended_done : {L : Type 0} (seen : L → LineSeen) (size : ℕ) (a : Attendant L) (door : DoorSeen) (submitted : List Step) (taken : List Answer)
+tended_done : {L : Type 0} (seen : L → LineSeen) (size : ℕ) (a : Attendant L) (door : DoorSeen) (submitted : List Step)
+    (taken : List Answer)
     → a.place ≡ places.Done → IsTended seen size a door submitted taken → IsDoorServed size door submitted taken
 tended_done {L} seen size a door submitted taken e tended =
-    let t : IsTended seen size (attendant a.machine places.Done) door submitted taken = subst (λ (q : LinePlace L). IsTended seen size (attendant a.machine q) door submitted taken) e tended in
+    let t : IsTended seen size (attendant a.machine places.Done) door submitted taken =
+    subst (λ (q : LinePlace L). IsTended seen size (attendant a.machine q) door submitted taken) e tended in
     let did = t.attends in
     let at = did.at_place in
-    let lines_served = subst (AreLinesServed size door.lines_over did.before) (sym (did.taken_is ∙ ap (λ (xs : List Answer). did.got ++ xs) at.1 ∙ append-nil did.got)) did.of_lines in
+    let lines_served = subst (AreLinesServed size door.lines_over did.before)
+    (sym (did.taken_is ∙ ap (λ (xs : List Answer). did.got ++ xs) at.1 ∙ append-nil did.got)) did.of_lines in
     record {
       done = record {
         own = did.before;
@@ -52,16 +56,20 @@ tended_done {L} seen size a door submitted taken e tended =
     }
 
 abbrev pub StepsKeepSettings : Type 0
-StepsKeepSettings = (first last : Machine) (at seat : ℕ) (what : Step) (outcome : Outcome) (given : List GivenAnswer) → IsStep first at seat what outcome given last → last.settings ≡ first.settings
+StepsKeepSettings = (first last : Machine) (at seat : ℕ) (what : Step) (outcome : Outcome) (given : List GivenAnswer)
+    → IsStep first at seat what outcome given last → last.settings ≡ first.settings
 
 -- A run does not change the settings.
-run_keeps : StepsKeepSettings → (first : Machine) (taken : List Transition) (last : Machine) → GoesBy first taken last → last.settings ≡ first.settings
+run_keeps : StepsKeepSettings → (first : Machine) (taken : List Transition) (last : Machine) → GoesBy first taken last
+    → last.settings ≡ first.settings
 run_keeps law first [] last e = ap (λ (m : Machine). m.settings) e
 run_keeps law first (t ∷ taken) last g =
-    run_keeps law t.last taken last g.2 ∙ law t.first t.last t.entry.moment t.entry.seat t.entry.what t.outcome t.given g.1.step ∙ ap (λ (m : Machine). m.settings) g.0
+    run_keeps law t.last taken last g.2 ∙ law t.first t.last t.entry.moment t.entry.seat t.entry.what t.outcome t.given g.1.step
+    ∙ ap (λ (m : Machine). m.settings) g.0
 
 -- no step belongs to a seat above this one
-up_to : (seat : ℕ) (history : List Entry) → ((t : ℕ) → seat < t → steps_at t history ≡ []) → list_all (λ (e : Entry). nat_le e.seat seat) (without_ticks history) ≡ true
+up_to : (seat : ℕ) (history : List Entry) → ((t : ℕ) → seat < t → steps_at t history ≡ [])
+    → list_all (λ (e : Entry). nat_le e.seat seat) (without_ticks history) ≡ true
 up_to seat [] h = refl
 up_to seat (e ∷ history) h =
     elim (cases_Bool (is_tick e.what)) [
@@ -91,7 +99,8 @@ module _ {L D : Type 0} (seen : L → LineSeen) (at : D → DoorSeen) (settings 
   -- Nothing was served yet.
   pub begins_served : (seats : List (Attendant L)) (doors : List D)
       → IsNewHub settings first → length seats ≡ settings.seats → length doors ≡ settings.seats
-      → All (IsNewSeat settings.max_job_size) seats → All (λ d. IsNewDoor (at d)) doors → AreServed seen at settings.max_job_size [] first [] first seats doors
+      → All (IsNewSeat settings.max_job_size) seats → All (λ d. IsNewDoor (at d)) doors
+      → AreServed seen at settings.max_job_size [] first [] first seats doors
   begins_served seats doors new many doored seats_new doors_new =
       record {
         history = [];
@@ -101,17 +110,20 @@ module _ {L D : Type 0} (seen : L → LineSeen) (at : D → DoorSeen) (settings 
         doored = doored ∙ sym many;
         each = λ t below a d.
             let at_door : t < length doors = omega arith in
-            tended_new seen settings.max_job_size (slice_index_or seats t a) (at (slice_index_or doors t d)) (seats_new t a below) (doors_new t d at_door);
+            tended_new seen settings.max_job_size (slice_index_or seats t a) (at (slice_index_or doors t d)) (seats_new t a below)
+            (doors_new t d at_door);
         control_is = refl;
         nobody_else = λ t above. refl;
       }
 
   -- a door whose seat is done, and its answers
-  record IsDoorDone (history : List Entry) (took : ℕ → List Answer) (given : List GivenAnswer) (hub : HubState) (t : ℕ) (door : DoorSeen) : Type 0 where
+  record IsDoorDone (history : List Entry) (took : ℕ → List Answer) (given : List GivenAnswer) (hub : HubState) (t : ℕ)
+      (door : DoorSeen) : Type 0 where
     served : IsDoorServed settings.max_job_size door (steps_at t history) (took t)
     answers_are : answers_to t given ≡ took t ++ waiting t hub
 
-  module _ (control : List Step) (readings : List (Option ℕ)) (hub : HubState) (seats : List (Attendant L)) (doors : List D) (new : IsNewHub settings first) (many : length seats ≡ settings.seats)
+  module _ (control : List Step) (readings : List (Option ℕ)) (hub : HubState) (seats : List (Attendant L)) (doors : List D)
+      (new : IsNewHub settings first) (many : length seats ≡ settings.seats)
       (s : AreServed seen at settings.max_job_size control first readings hub seats doors) (all_done : AreDone seats) where
     door_done : (t : ℕ) → t < length doors → (d : D) → IsDoorDone s.history s.took s.went.given hub t (at (slice_index_or doors t d))
     door_done t below d =
@@ -119,8 +131,10 @@ module _ {L D : Type 0} (seen : L → LineSeen) (at : D → DoorSeen) (settings 
         let mailed : t < length first.mails = let e = s.mailed in omega arith in
         let some : Attendant L = slice_index_or seats t (first_of seats here) in
         record {
-          served = tended_done seen settings.max_job_size (slice_index_or seats t some) (at (slice_index_or doors t d)) (steps_at t s.history) (s.took t) (all_done t here some) (s.each t here some d);
-          answers_are = ap (λ (xs : List Answer). xs ++ answers_to t s.went.given) (sym (none_waits settings first t new)) ∙ s.went.tied t mailed;
+          served = tended_done seen settings.max_job_size (slice_index_or seats t some) (at (slice_index_or doors t d))
+              (steps_at t s.history) (s.took t) (all_done t here some) (s.each t here some d);
+          answers_are = ap (λ (xs : List Answer). xs ++ answers_to t s.went.given) (sym (none_waits settings first t new))
+              ∙ s.went.tied t mailed;
         }
       where
         first_of : (xs : List (Attendant L)) → t < length xs → Attendant L
@@ -128,12 +142,17 @@ module _ {L D : Type 0} (seen : L → LineSeen) (at : D → DoorSeen) (settings 
         first_of (x ∷ xs) h = x
 
     -- the doors from this seat on
-    doors_tied : (k : ℕ) (rest : List D) → ((j : ℕ) → j < length rest → (d : D) → IsDoorDone s.history s.took s.went.given hub (k + j) (at (slice_index_or rest j d)))
-        → AreTied settings.max_job_size k (map (λ (d : D). (at d).lines_over) rest) (λ t. steps_at t s.history) s.took (λ t. waiting t hub) s.history s.went.given
+    doors_tied : (k : ℕ) (rest : List D) → ((j : ℕ) → j < length rest → (d : D)
+        → IsDoorDone s.history s.took s.went.given hub (k + j) (at (slice_index_or rest j d)))
+        → AreTied settings.max_job_size k (map (λ (d : D). (at d).lines_over) rest) (λ t. steps_at t s.history) s.took
+        (λ t. waiting t hub) s.history s.went.given
     doors_tied k [] h = tt
     doors_tied k (d ∷ rest) h =
-        let more = doors_tied (suc k) rest (λ j below e. subst (λ (n : ℕ). IsDoorDone s.history s.took s.went.given hub n (at (slice_index_or rest j e))) (let e : k + suc j ≡ suc k + j = omega arith in e) (h (suc j) (omega (arith, below)) e)) in
-        let here : IsDoorDone s.history s.took s.went.given hub k (at d) = subst (λ (n : ℕ). IsDoorDone s.history s.took s.went.given hub n (at d)) (add-zero k) (h 0 (omega arith) d) in (
+        let more = doors_tied (suc k) rest (λ j below e.
+        subst (λ (n : ℕ). IsDoorDone s.history s.took s.went.given hub n (at (slice_index_or rest j e)))
+        (let e : k + suc j ≡ suc k + j = omega arith in e) (h (suc j) (omega (arith, below)) e)) in
+        let here : IsDoorDone s.history s.took s.went.given hub k (at d) =
+        subst (λ (n : ℕ). IsDoorDone s.history s.took s.went.given hub n (at d)) (add-zero k) (h 0 (omega arith) d) in (
           refl,
           here.answers_are,
           here.served.done,
@@ -151,7 +170,9 @@ module _ {L D : Type 0} (seen : L → LineSeen) (at : D → DoorSeen) (settings 
     pub ends_joined : (text : List ℕ) (failed : Bool) → IsControlDone text failed control
         → IsJoined settings (map (λ (d : D). (at d).lines_over) doors) text failed readings s.history s.went.given hub.core
     ends_joined text failed said =
-        let t = doors_tied 0 doors (λ j below d. subst (λ (n : ℕ). IsDoorDone s.history s.took s.went.given hub n (at (slice_index_or doors j d))) (let e : j ≡ 0 + j = omega arith in e) (door_done j below d)) in
+        let t = doors_tied 0 doors (λ j below d.
+        subst (λ (n : ℕ). IsDoorDone s.history s.took s.went.given hub n (at (slice_index_or doors j d)))
+        (let e : j ≡ 0 + j = omega arith in e) (door_done j below d)) in
         let control_is : steps_at settings.seats s.history ≡ control = ap (λ n. steps_at n s.history) (sym many) ∙ s.control_is in
         record {
           submitted = λ n. steps_at n s.history;
@@ -159,7 +180,8 @@ module _ {L D : Type 0} (seen : L → LineSeen) (at : D → DoorSeen) (settings 
           waiting = λ n. waiting n hub;
           run = record {
             runs = subst (λ (m : Machine). Run m s.history s.went.given hub.core) new.core s.went.runs;
-            timed = subst (λ (n : ℕ). ArePickedFrom (map (λ (e : Entry). e.moment) s.history) (moments_heard n readings)) new.heard s.went.timed.picked;
+            timed = subst (λ (n : ℕ). ArePickedFrom (map (λ (e : Entry). e.moment) s.history) (moments_heard n readings)) new.heard
+                s.went.timed.picked;
           };
           many = length-map doors (λ (d : D). (at d).lines_over) ∙ s.doored ∙ many;
           tied = t;
@@ -182,9 +204,12 @@ module _ {L D : Type 0} (seen : L → LineSeen) (at : D → DoorSeen) (settings 
             given = s.went.given;
             run = j.run;
             many = j.many;
-            of_doors = doors_owed settings settings.max_job_size 0 (map (λ (d : D). (at d).lines_over) doors) j.submitted j.taken j.waiting s.history s.went.given hub.core (let a = j.many in omega arith) j.run.runs j.tied;
+            of_doors = doors_owed settings settings.max_job_size 0
+                (map (λ (d : D). (at d).lines_over) doors) j.submitted j.taken j.waiting s.history s.went.given hub.core
+                (let a = j.many in omega arith) j.run.runs j.tied;
             of_control = j.control_tied ∙ j.control_done;
             of_nobody_else = j.of_nobody_else;
           };
-          compared = subst (λ (m : Machine). AreCompared m s.history s.went.given hub.core 0 hub.compared) new.core (compared_all first hub s.history s.went.given new.unknown new.none_compared s.went.compared);
+          compared = subst (λ (m : Machine). AreCompared m s.history s.went.given hub.core 0 hub.compared) new.core
+              (compared_all first hub s.history s.went.given new.unknown new.none_compared s.went.compared);
         }

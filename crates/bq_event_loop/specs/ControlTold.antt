@@ -34,21 +34,25 @@ pub record IsRead (first left : Option (List ℕ)) (may_fail : Bool) (seen : Con
 -- by the stage: this many drains were submitted, and this many of those that were asked for were
 -- not yet
 abbrev pub IsAtStage : Stage → Option (List ℕ) → Option (List ℕ) → Bool → ControlSeen → List ℕ → ℕ → ℕ → List Step → Type 0
-IsAtStage stages.Reads first left may_fail seen kept owed count told = (told ≡ replicate count Drain) × IsReading first left seen kept (count + owed)
-IsAtStage stages.Ended first left may_fail seen kept owed count told = (told ≡ replicate count Drain) × IsRead first left may_fail seen (count + owed)
+IsAtStage stages.Reads first left may_fail seen kept owed count told =
+    (told ≡ replicate count Drain) × IsReading first left seen kept (count + owed)
+IsAtStage stages.Ended first left may_fail seen kept owed count told =
+    (told ≡ replicate count Drain) × IsRead first left may_fail seen (count + owed)
 IsAtStage stages.Over first left may_fail seen kept owed count told =
     (owed ≡ 0) × (told ≡ replicate count Drain ++ Gone ∷ []) × IsRead first left may_fail seen count
 
 -- A control line whose reader at first had these bytes left and may fail or not, and which has
 -- submitted these steps.
-pub record HasTold {I : Type 0} (seen : I → ControlSeen) (left : I → Option (List ℕ)) (may_fail : I → Bool) (first : Option (List ℕ)) (may : Bool)
+pub record HasTold {I : Type 0} (seen : I → ControlSeen) (left : I → Option (List ℕ)) (may_fail : I → Bool)
+    (first : Option (List ℕ)) (may : Bool)
     (c : ControlTurns I) (told : List Step) : Type 0 where
   pub same : may_fail c.input ≡ may
   pub count : ℕ
   pub at_stage : IsAtStage c.stage first (left c.input) may (seen c.input) c.line (one_if c.owes_drain) count told
 
 -- Whatever was submitted before, these steps were submitted after it.
-abbrev pub TellsOn : {I : Type 0} → (I → ControlSeen) → (I → Option (List ℕ)) → (I → Bool) → ControlTurns I → List Step → ControlTurns I → Type 0
+abbrev pub TellsOn : {I : Type 0} → (I → ControlSeen) → (I → Option (List ℕ)) → (I → Bool) → ControlTurns I → List Step
+    → ControlTurns I → Type 0
 TellsOn seen left may_fail old more new =
     (first : Option (List ℕ)) (may : Bool) (before : List Step) → HasTold seen left may_fail first may old before
     → HasTold seen left may_fail first may new (before ++ more)

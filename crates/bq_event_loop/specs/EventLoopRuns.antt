@@ -16,7 +16,8 @@ use Rattle.bq_event_loop.specs.declared.run.EventLoopRun.{EventLoopRun}
 -- lines that the doors have served leads to the machine that the core represents. The core's
 -- comparisons of keys stayed within the bound of each of its steps, and of at most one query for
 -- the next due moment before each step and after the last.
-pub record IsEventLoopRun {D C I K : Type 0} (given : Gives C) (lines_over : D → List LineOver) (left : I → Option (List ℕ)) (may_fail : I → Bool)
+pub record IsEventLoopRun {D C I K : Type 0} (given : Gives C) (lines_over : D → List LineOver) (left : I → Option (List ℕ))
+    (may_fail : I → Bool)
     (machine : K → Machine) (comparisons : K → ℕ) (config : Settings) (clock : C) (control : I) (run : EventLoopRun D C I K) : Type 0 where
   pub readings : List (Option ℕ)
   pub gave : given clock readings run.clock

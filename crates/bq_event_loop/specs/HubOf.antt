@@ -24,7 +24,8 @@ state_of machine compared h = record {
 }
 
 -- What a seat did at a hub.
-abbrev pub WentAt : {C K : Type 0} → (K → Machine) → (K → ℕ) → (C → List (Option ℕ) → C → Type 0) → ℕ → Hub C K → List Step → List Answer → Hub C K → Type 0
+abbrev pub WentAt : {C K : Type 0} → (K → Machine) → (K → ℕ) → (C → List (Option ℕ) → C → Type 0) → ℕ → Hub C K → List Step
+    → List Answer → Hub C K → Type 0
 WentAt machine compared given seat old submitted taken new =
     (readings : List (Option ℕ)) × GaveReadings given old.timed.time.clock readings new.timed.time.clock
     × SeatWent seat (state_of machine compared old) readings submitted taken (state_of machine compared new)

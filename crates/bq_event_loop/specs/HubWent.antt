@@ -12,7 +12,8 @@ use Rattle.bq_event_loop.specs.HubState.{HubState, waiting}
 -- Along this history, counted from this many comparisons on, the core stayed within the bounds of
 -- its steps, and was asked for the next due moment at most once since the last step.
 abbrev pub HasCompared : Machine → List Entry → List GivenAnswer → ℕ → HubState → Type 0
-HasCompared start history given from d = (count : ℕ) × AreWithin start history given d.core from count × LooksOnce d.known d.core count d.compared
+HasCompared start history given from d = (count : ℕ) × AreWithin start history given d.core from count
+    × LooksOnce d.known d.core count d.compared
 
 -- The core took the steps of this history at moments of these readings, within its bounds of comparisons, and at each seat these
 -- answers were taken out.

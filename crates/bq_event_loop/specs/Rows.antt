@@ -17,7 +17,8 @@ pub record IsSomehowTended {L : Type 0} (seen : L → LineSeen) (a : Attendant L
 
 pub record AllTended {L D : Type 0} (seen : L → LineSeen) (at : D → DoorSeen) (seats : List (Attendant L)) (doors : List D) : Type 0 where
   pub doored : length doors ≡ length seats
-  pub each : (seat : ℕ) → seat < length seats → (a : Attendant L) (d : D) → IsSomehowTended seen (slice_index_or seats seat a) (at (slice_index_or doors seat d))
+  pub each : (seat : ℕ) → seat < length seats → (a : Attendant L) (d : D)
+      → IsSomehowTended seen (slice_index_or seats seat a) (at (slice_index_or doors seat d))
 
 -- Each seat has a door and has done something for the door's lines, by the rules.
 abbrev pub AreTended : {L D : Type 0} → (L → LineSeen) → (D → DoorSeen) → Row L D → Type 0
@@ -28,7 +29,8 @@ pub record AllRested {L D : Type 0} (seen : L → LineSeen) (at : D → DoorSeen
   pub many : length seats ≡ length firsts
   pub doored : length doors ≡ length first_doors
   pub each : (seat : ℕ) → seat < length firsts → (a : Attendant L) (d : D)
-      → Tends seen (slice_index_or firsts seat a) (at (slice_index_or first_doors seat d)) [] [] (slice_index_or seats seat a) (at (slice_index_or doors seat d))
+      → Tends seen (slice_index_or firsts seat a) (at (slice_index_or first_doors seat d)) [] [] (slice_index_or seats seat a)
+      (at (slice_index_or doors seat d))
   pub same_doors : (handed_in : List D) → AreSame same handed_in first_doors → AreSame same handed_in doors
 
 -- Between these two states no seat submitted a step or took an answer, whatever else was done with

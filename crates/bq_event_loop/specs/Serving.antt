@@ -41,5 +41,6 @@ pub record ServesOn {C K L D : Type 0} (machine : K → Machine) (compared : K �
   pub many : length later.seats.items ≡ length row.seats.items
   pub served : (max_job_size : ℕ) (before : List Step) (first : HubState) (readings : List (Option ℕ))
       → AreServed seen at max_job_size before first readings (state_of machine compared old) row.seats.items row.doors.items
-      → AreServed seen at max_job_size (before ++ control) first (readings ++ reads) (state_of machine compared new) later.seats.items later.doors.items
+      → AreServed seen at max_job_size (before ++ control) first (readings ++ reads)
+      (state_of machine compared new) later.seats.items later.doors.items
   pub same_doors : (doors : List D) → AreSame same doors row.doors.items → AreSame same doors later.doors.items

@@ -1,5 +1,6 @@
 -- How the count of a core's comparisons grows along a history.
-use Rattle.std.proofs.Common.{◌≡◌, ℕ, ◌+◌, ◌≤◌, Bool, true, false, List, [], ◌∷◌, ◌++◌, refl, sym, ap, ◌∙◌, subst, arith, append-nil, append_assoc}
+use Rattle.std.proofs.Common.{◌≡◌, ℕ, ◌+◌, ◌≤◌, Bool, true, false, List, [], ◌∷◌}
+use Rattle.std.proofs.Common.{◌++◌, refl, sym, ap, ◌∙◌, subst, arith, append-nil, append_assoc}
 use Rattle.bq_job.specs.machine.Dispatch.{GivenAnswer}
 use Rattle.bq_job.specs.machine.Machine.{Machine}
 use Rattle.bq_job.specs.promise.Runs.{Entry}
@@ -17,7 +18,8 @@ looked_within false m count now l = subst (λ (n : ℕ). IsLookWithin m count n)
 
 -- one more step within its bound
 pub within_on : (first middle next : Machine) (history : List Entry) (e : Entry) (given now : List GivenAnswer) (from count to : ℕ)
-    → AreWithin first history given middle from count → IsEntryWithin middle e now next count to → AreWithin first (history ++ e ∷ []) (given ++ now) next from to
+    → AreWithin first history given middle from count → IsEntryWithin middle e now next count to
+    → AreWithin first (history ++ e ∷ []) (given ++ now) next from to
 within_on first middle next [] e given now from count to (none, (same, still)) w = (
   next,
   now,
@@ -25,7 +27,10 @@ within_on first middle next [] e given now from count to (none, (same, still)) w
   to,
   (
     ap (λ (xs : List GivenAnswer). xs ++ now) none ∙ sym (append-nil now),
-    (subst (λ (m : Machine). IsEntryWithin m e now next from to) same (subst (λ (n : ℕ). IsEntryWithin middle e now next n to) still w), (refl, (refl, refl))),
+    (
+      subst (λ (m : Machine). IsEntryWithin m e now next from to) same (subst (λ (n : ℕ). IsEntryWithin middle e now next n to) still w),
+      (refl, (refl, refl)),
+    ),
   ),
 )
 within_on first middle next (f ∷ history) e given now from count to (second, own, more, n, rest) w = (

@@ -38,15 +38,19 @@ turned f xs x = ap reverse (map-append f xs (x ∷ [])) ∙ reverse-append (map 
 
 -- An element moves from the end of one list to the end of another, and the second list is read in
 -- reverse.
-pub put_behind : {X Y : Type 0} (f : X → Y) (all rest : List Y) (y : Y) (xs ys : List X) (x : X) → all ≡ rest ++ y ∷ [] → ys ≡ xs ++ x ∷ [] → f x ≡ y → rest ++ reverse (map f ys) ≡ all ++ reverse (map f xs)
+pub put_behind : {X Y : Type 0} (f : X → Y) (all rest : List Y) (y : Y) (xs ys : List X) (x : X) → all ≡ rest ++ y ∷ [] → ys ≡ xs ++ x ∷ []
+    → f x ≡ y → rest ++ reverse (map f ys) ≡ all ++ reverse (map f xs)
 put_behind f all rest y xs ys x all_is ys_are same =
-    let here : reverse (map f ys) ≡ y ∷ reverse (map f xs) = ap (λ zs. reverse (map f zs)) ys_are ∙ turned f xs x ∙ ap (λ z. z ∷ reverse (map f xs)) same in
+    let here : reverse (map f ys) ≡ y ∷ reverse (map f xs) =
+    ap (λ zs. reverse (map f zs)) ys_are ∙ turned f xs x ∙ ap (λ z. z ∷ reverse (map f xs)) same in
     ap (λ zs. rest ++ zs) here ∙ sym (append_assoc rest (y ∷ []) (reverse (map f xs))) ∙ ap (λ zs. zs ++ reverse (map f xs)) (sym all_is)
 
 -- An element is taken from the end of a list, and what represents it is appended to another list.
-pub handed_on : {X Y Z : Type 0} (f : X → Z) (g : Y → Z) (all rest : List X) (x : X) (ys more : List Y) (y : Y) → all ≡ rest ++ x ∷ [] → more ≡ ys ++ y ∷ [] → g y ≡ f x
+pub handed_on : {X Y Z : Type 0} (f : X → Z) (g : Y → Z) (all rest : List X) (x : X) (ys more : List Y) (y : Y) → all ≡ rest ++ x ∷ []
+    → more ≡ ys ++ y ∷ [] → g y ≡ f x
     → map g more ++ reverse (map f rest) ≡ map g ys ++ reverse (map f all)
 handed_on f g all rest x ys more y all_is more_are same =
     let there : reverse (map f all) ≡ f x ∷ reverse (map f rest) = ap (λ zs. reverse (map f zs)) all_is ∙ turned f rest x in
     let here : map g more ≡ map g ys ++ f x ∷ [] = ap (map g) more_are ∙ map-append g ys (y ∷ []) ∙ ap (λ z. map g ys ++ z ∷ []) same in
-    ap (λ zs. zs ++ reverse (map f rest)) here ∙ append_assoc (map g ys) (f x ∷ []) (reverse (map f rest)) ∙ ap (λ zs. map g ys ++ zs) (sym there)
+    ap (λ zs. zs ++ reverse (map f rest)) here ∙ append_assoc (map g ys) (f x ∷ []) (reverse (map f rest))
+    ∙ ap (λ zs. map g ys ++ zs) (sym there)

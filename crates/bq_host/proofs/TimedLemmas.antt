@@ -7,8 +7,10 @@ use Rattle.bq_host.specs.Compared.{LooksOnce}
 use Rattle.bq_host.specs.Timed.{HasLooked}
 use Rattle.bq_host.specs.declared.timed_core.TimedCore.{TimedCore}
 
-pub looked : {C K : Type 0} (machine : K → Machine) (compared : K → ℕ) (old new : TimedCore C K) (found : Option ℕ) → found ≡ next_due (machine old.core) → (new.due ≡ found) × (new.is_due_known ≡ true) → machine new.core ≡ machine old.core
-    → ((count : ℕ) → LooksOnce old.is_due_known (machine old.core) count (compared old.core) → IsLookWithin (machine old.core) count (compared new.core))
+pub looked : {C K : Type 0} (machine : K → Machine) (compared : K → ℕ) (old new : TimedCore C K) (found : Option ℕ)
+    → found ≡ next_due (machine old.core) → (new.due ≡ found) × (new.is_due_known ≡ true) → machine new.core ≡ machine old.core
+    → ((count : ℕ) → LooksOnce old.is_due_known (machine old.core) count (compared old.core)
+    → IsLookWithin (machine old.core) count (compared new.core))
     → new ≡ record old { core = new.core; due = new.due; is_due_known = true } → HasLooked machine compared old new
 looked {C} {K} machine compared old new found due known same once rest = record {
   known = known.1;

@@ -19,7 +19,8 @@ pub record HasHeard {C : Type 0} (given : Gives C) (old : HeardClock C) (reading
   pub heard : new.moment ≡ moment_heard old.moment reading
 
 -- A new core with its clock: it has this machine, nothing was compared, and no reading was taken.
-pub record IsNewTimed {C K : Type 0} (machine : K → Machine) (compared : K → ℕ) (settings : Settings) (clock : C) (t : TimedCore C K) : Type 0 where
+pub record IsNewTimed {C K : Type 0} (machine : K → Machine) (compared : K → ℕ) (settings : Settings) (clock : C)
+    (t : TimedCore C K) : Type 0 where
   pub core : machine t.core ≡ new_machine settings
   pub none_compared : compared t.core ≡ 0
   pub none_given : t.outs.given ≡ []

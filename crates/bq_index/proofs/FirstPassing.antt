@@ -1,5 +1,6 @@
 -- The first entry of a tree that passes a test, derived from its sides.
-use Rattle.std.proofs.Common.{◌≡◌, Bool, true, false, ◌&&◌, not, if◌then◌else◌, List, [], ◌∷◌, ◌++◌, Option, None, Some, refl, sym, ap, ◌∙◌, subst}
+use Rattle.std.proofs.Common.{◌≡◌, Bool, true, false, ◌&&◌, not, if◌then◌else◌, List, [], ◌∷◌}
+use Rattle.std.proofs.Common.{◌++◌, Option, None, Some, refl, sym, ap, ◌∙◌, subst}
 use Rattle.std.specs.Prelude.{find}
 use Rattle.std.proofs.lemmas.List.Folds.{find-append}
 use Rattle.std.specs.declared.cmp.Ordering.{Ordering}
@@ -20,7 +21,8 @@ module _ {K V : Type 0} (p : K × V → Bool) {t l r : Option (Node K V)} {x : K
   by_parts = ap (find p) c.is ∙ find-append p (entries_of l) (x ∷ entries_of r)
 
   -- An entry on the left passes.
-  pub found_left : {B : Type 0} (f : B → K × V) (o : Option B) → (o ≡ None → ⊥) → option_map f o ≡ find p (entries_of l) → option_map f o ≡ find p (entries_of t)
+  pub found_left : {B : Type 0} (f : B → K × V) (o : Option B) → (o ≡ None → ⊥) → option_map f o ≡ find p (entries_of l)
+      → option_map f o ≡ find p (entries_of t)
   found_left f None n e = absurd (n refl)
   found_left f (Some b) n e = sym (by_parts ∙ ap (λ o. option_or o (if p x then Some x else find p (entries_of r))) (sym e))
 
@@ -36,7 +38,8 @@ module _ {K V : Type 0} (p : K × V → Bool) {t l r : Option (Node K V)} {x : K
     found_here h = without_left true h
 
     -- or it is on the right.
-    pub found_right : {C : Type 0} → false ≡ p x → (g : C → K × V) (u : Option C) → option_map g u ≡ find p (entries_of r) → option_map g u ≡ find p (entries_of t)
+    pub found_right : {C : Type 0} → false ≡ p x → (g : C → K × V) (u : Option C) → option_map g u ≡ find p (entries_of r)
+        → option_map g u ≡ find p (entries_of t)
     found_right h g u i = i ∙ without_left false h
 
 module _ {K V : Type 0} {R : K → K → Ordering} (o : IsTotalOrder R) (k : K) (p : K → V → Bool) where
@@ -50,12 +53,14 @@ module _ {K V : Type 0} {R : K → K → Ordering} (o : IsTotalOrder R) (k : K) 
   all_beyond [] all = refl
   all_beyond (x ∷ es) all = rw (all.0, all_beyond es all.1) refl
 
-  module _ {t l r : Option (Node K V)} {x : K × V} (c : HasParts t l (Some x) r) (s : InOrder R (entries_of t)) (a : Ordering) (is : a ≡ R k x.0) where
+  module _ {t l r : Option (Node K V)} {x : K × V} (c : HasParts t l (Some x) r) (s : InOrder R (entries_of t)) (a : Ordering)
+      (is : a ≡ R k x.0) where
     whole_order : InOrder R (entries_of l ++ x ∷ entries_of r)
     whole_order = subst (InOrder R) c.is s
 
     -- the key of x is below k: the entry is on the right,
-    pub from_right : {C : Type 0} → true ≡ is_gt a → (g : C → K × V) (u : Option C) → option_map g u ≡ find (passes_from (R k) p) (entries_of r)
+    pub from_right : {C : Type 0} → true ≡ is_gt a → (g : C → K × V) (u : Option C)
+        → option_map g u ≡ find (passes_from (R k) p) (entries_of r)
         → option_map g u ≡ find (passes_from (R k) p) (entries_of t)
     from_right h g u i =
         let gt : is_gt (R k x.0) ≡ true = ap is_gt (sym is) ∙ sym h in
@@ -68,7 +73,8 @@ module _ {K V : Type 0} {R : K → K → Ordering} (o : IsTotalOrder R) (k : K) 
         greater Greater h = refl
 
     -- or it is not below k, and no entry on the left passes:
-    module _ (h : false ≡ is_gt a) {B : Type 0} (f : B → K × V) (u : Option B) (n : u ≡ None) (e : option_map f u ≡ find (passes_from (R k) p) (entries_of l)) where
+    module _ (h : false ≡ is_gt a) {B : Type 0} (f : B → K × V) (u : Option B) (n : u ≡ None)
+        (e : option_map f u ≡ find (passes_from (R k) p) (entries_of l)) where
       not_greater : is_gt (R k x.0) ≡ false
       not_greater = ap is_gt (sym is) ∙ sym h
 
@@ -80,7 +86,8 @@ module _ {K V : Type 0} {R : K → K → Ordering} (o : IsTotalOrder R) (k : K) 
       first_here i = found_here (passes_from (R k) p) c f u n e (passes_here true i)
 
       -- or it is the first one on the right.
-      pub first_right : {C : Type 0} → false ≡ p x.0 x.1 → (g : C → K × V) (w : Option C) → option_map g w ≡ find (passes_by p) (entries_of r)
+      pub first_right : {C : Type 0} → false ≡ p x.0 x.1 → (g : C → K × V) (w : Option C)
+          → option_map g w ≡ find (passes_by p) (entries_of r)
           → option_map g w ≡ find (passes_from (R k) p) (entries_of t)
       first_right i g w j =
           found_right (passes_from (R k) p) c f u n e (passes_here false i) g w

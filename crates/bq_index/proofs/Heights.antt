@@ -23,8 +23,10 @@ levels high before l r t known near changed low top exact =
 -- the rebuilt box, after the left side has changed,
 module _ {K V : Type 0} (l r : Option (Node K V)) (e : Option (K × V)) (n : Node K V) (high before : ℕ) where
   both_left : IsRebalanced l e r (Some n) → high ≡ max before (height_of r) + 1 → DifferByAtMost 1 before (height_of r)
-      → DifferByAtMost 1 before (height_of l) → (height_in n ≤ high + (height_of l - before)) × (high ≤ height_in n + (before - height_of l))
-  both_left b known near changed = levels high before (height_of l) (height_of r) (height_in n) known near changed b.not_lower b.not_higher b.near
+      → DifferByAtMost 1 before (height_of l) → (height_in n ≤ high + (height_of l - before))
+      × (high ≤ height_in n + (before - height_of l))
+  both_left b known near changed = levels high before (height_of l) (height_of r)
+      (height_in n) known near changed b.not_lower b.not_higher b.near
 
   pub left_not_higher : IsRebalanced l e r (Some n) → high ≡ max before (height_of r) + 1 → DifferByAtMost 1 before (height_of r)
       → DifferByAtMost 1 before (height_of l) → height_in n ≤ high + (height_of l - before)
@@ -36,11 +38,13 @@ module _ {K V : Type 0} (l r : Option (Node K V)) (e : Option (K × V)) (n : Nod
 
   -- or the right side
   both_right : IsRebalanced l e r (Some n) → high ≡ max before (height_of l) + 1 → DifferByAtMost 1 before (height_of l)
-      → DifferByAtMost 1 before (height_of r) → (height_in n ≤ high + (height_of r - before)) × (high ≤ height_in n + (before - height_of r))
+      → DifferByAtMost 1 before (height_of r) → (height_in n ≤ high + (height_of r - before))
+      × (high ≤ height_in n + (before - height_of r))
   both_right b known near changed =
       let low : max (height_of r) (height_of l) ≤ height_in n = omega (arith, b.not_lower) in
       let top : height_in n ≤ max (height_of r) (height_of l) + 1 = omega (arith, b.not_higher) in
-      levels high before (height_of r) (height_of l) (height_in n) known near changed low top (λ d. let is = b.near (d.1, d.0) in omega (arith, is))
+      levels high before (height_of r) (height_of l) (height_in n) known near changed low top
+      (λ d. let is = b.near (d.1, d.0) in omega (arith, is))
 
   pub right_not_higher : IsRebalanced l e r (Some n) → high ≡ max before (height_of l) + 1 → DifferByAtMost 1 before (height_of l)
       → DifferByAtMost 1 before (height_of r) → height_in n ≤ high + (height_of r - before)

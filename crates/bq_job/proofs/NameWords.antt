@@ -1,5 +1,6 @@
 -- The order of names, eight bytes at a time.
-use Rattle.std.proofs.Common.{◌++◌, ◌+◌, ◌*◌, ◌-◌, ◌%◌, ◌<◌, ◌≤◌, ◌^◌, ◌∙◌, ◌∷◌, ◌≡◌, ◌&&◌, Bool, List, [], ℕ, drop, get_or, zero, suc, ap, arith, false, inl, inr, length, refl, replicate, subst, sym, take, true}
+use Rattle.std.proofs.Common.{◌++◌, ◌+◌, ◌*◌, ◌-◌, ◌%◌, ◌<◌, ◌≤◌, ◌^◌, ◌∙◌, ◌∷◌, ◌≡◌, ◌&&◌, Bool, List, [], ℕ}
+use Rattle.std.proofs.Common.{drop, get_or, zero, suc, ap, arith, false, inl, inr, length, refl, replicate, subst, sym, take, true}
 use Rattle.std.specs.Prelude.{nat_le}
 use Rattle.std.proofs.lemmas.{Bool.{cases_order, Decides.nat_tests}, List.take-replicate, Nat.mul-le}
 use Rattle.std.proofs.Math.Seq.{take-append-add}
@@ -30,12 +31,14 @@ both_more k x y = elim (cases_order x y) [
 ]
 
 one_more_times : (a b p : ℕ) → a < b → a * p + p ≤ b * p
-one_more_times a b p h = let m = mul-le (a + 1) p b p (omega arith) (omega arith) in let d : (a + 1) * p ≡ a * p + p = grind arith in omega (arith, m, d)
+one_more_times a b p h = let m = mul-le (a + 1) p b p (omega arith) (omega arith) in
+    let d : (a + 1) * p ≡ a * p + p = grind arith in omega (arith, m, d)
 
 -- The leading digit decides the order of two numbers; if it is equal, the rest does.
 digit : (p a b x y : ℕ) → x < p → y < p → nat_cmp (a * p + x) (b * p + y) ≡ ordering_then (nat_cmp a b) (nat_cmp x y)
 digit p a b x y small others = elim (cases_order a b) [
-  | inl e ↦ subst (λ c. nat_cmp (a * p + x) (c * p + y) ≡ ordering_then (nat_cmp a c) (nat_cmp x y)) e (both_more (a * p) x y ∙ rw (same_is a) refl)
+  | inl e ↦ subst (λ c. nat_cmp (a * p + x) (c * p + y) ≡ ordering_then (nat_cmp a c) (nat_cmp x y)) e
+      (both_more (a * p) x y ∙ rw (same_is a) refl)
   | inr o ↦ elim o [
     | inl below ↦ rw (less_is a b below) (less_is (a * p + x) (b * p + y) (let m = one_more_times a b p below in omega (arith, m)))
     | inr above ↦ rw (more_is a b above) (more_is (a * p + x) (b * p + y) (let m = one_more_times b a p above in omega (arith, m)))
@@ -50,8 +53,10 @@ worth_of a b c d e f g h =
 word_is : (a b c d e f g h : ℕ) → from_be_bytes w64 (a ∷ b ∷ c ∷ d ∷ e ∷ f ∷ g ∷ h ∷ []) ≡ worth_of a b c d e f g h
 word_is a b c d e f g h = omega arith
 
-digits : (a b c d e f g h i j k l m n o p : ℕ) → a < 256 → b < 256 → c < 256 → d < 256 → e < 256 → f < 256 → g < 256 → h < 256 → i < 256 → j < 256 → k < 256 → l < 256 → m < 256 → n < 256 → o < 256 → p < 256
-    → nat_cmp (worth_of a b c d e f g h) (worth_of i j k l m n o p) ≡ slice_cmp nat_cmp (a ∷ b ∷ c ∷ d ∷ e ∷ f ∷ g ∷ h ∷ []) (i ∷ j ∷ k ∷ l ∷ m ∷ n ∷ o ∷ p ∷ [])
+digits : (a b c d e f g h i j k l m n o p : ℕ) → a < 256 → b < 256 → c < 256 → d < 256 → e < 256 → f < 256 → g < 256 → h < 256 → i < 256
+    → j < 256 → k < 256 → l < 256 → m < 256 → n < 256 → o < 256 → p < 256
+    → nat_cmp (worth_of a b c d e f g h) (worth_of i j k l m n o p) ≡ slice_cmp nat_cmp (a ∷ b ∷ c ∷ d ∷ e ∷ f ∷ g ∷ h ∷ [])
+    (i ∷ j ∷ k ∷ l ∷ m ∷ n ∷ o ∷ p ∷ [])
 digits a b c d e f g h i j k l m n o p sa sb sc sd se sf sg sh si sj sk sl sm sn so sp =
     digit 72057594037927936 a i _ _ (omega arith) (omega arith)
     ∙ ap (ordering_then (nat_cmp a i)) (digit 281474976710656 b j _ _ (omega arith) (omega arith)
@@ -73,17 +78,21 @@ then_assoc Equal q r = refl
 then_assoc Greater q r = refl
 
 -- two lists that begin with equally many elements
-seam : (xs ys rest others : List ℕ) → length xs ≡ length ys → slice_cmp nat_cmp (xs ++ rest) (ys ++ others) ≡ ordering_then (slice_cmp nat_cmp xs ys) (slice_cmp nat_cmp rest others)
+seam : (xs ys rest others : List ℕ) → length xs ≡ length ys
+    → slice_cmp nat_cmp (xs ++ rest) (ys ++ others) ≡ ordering_then (slice_cmp nat_cmp xs ys) (slice_cmp nat_cmp rest others)
 seam [] [] rest others e = refl
 seam [] (y ∷ ys) rest others e = absurd (omega arith)
 seam (x ∷ xs) [] rest others e = absurd (omega arith)
-seam (x ∷ xs) (y ∷ ys) rest others e = ap (ordering_then (nat_cmp x y)) (seam xs ys rest others (omega arith)) ∙ then_assoc (nat_cmp x y) (slice_cmp nat_cmp xs ys) (slice_cmp nat_cmp rest others)
+seam (x ∷ xs) (y ∷ ys) rest others e = ap (ordering_then (nat_cmp x y)) (seam xs ys rest others (omega arith))
+    ∙ then_assoc (nat_cmp x y) (slice_cmp nat_cmp xs ys) (slice_cmp nat_cmp rest others)
 
 -- the order of two lists: by their first eight bytes as numbers, and if these are equal, by the
 -- rest
-by_words : (a b c d e f g h i j k l m n o p : ℕ) (rest others : List ℕ) → a < 256 → b < 256 → c < 256 → d < 256 → e < 256 → f < 256 → g < 256 → h < 256 → i < 256 → j < 256 → k < 256 → l < 256 → m < 256 → n < 256 → o < 256 → p < 256
+by_words : (a b c d e f g h i j k l m n o p : ℕ) (rest others : List ℕ) → a < 256 → b < 256 → c < 256 → d < 256 → e < 256 → f < 256
+    → g < 256 → h < 256 → i < 256 → j < 256 → k < 256 → l < 256 → m < 256 → n < 256 → o < 256 → p < 256
     → slice_cmp nat_cmp (a ∷ b ∷ c ∷ d ∷ e ∷ f ∷ g ∷ h ∷ rest) (i ∷ j ∷ k ∷ l ∷ m ∷ n ∷ o ∷ p ∷ others)
-    ≡ ordering_then (nat_cmp (from_be_bytes w64 (a ∷ b ∷ c ∷ d ∷ e ∷ f ∷ g ∷ h ∷ [])) (from_be_bytes w64 (i ∷ j ∷ k ∷ l ∷ m ∷ n ∷ o ∷ p ∷ []))) (slice_cmp nat_cmp rest others)
+    ≡ ordering_then (nat_cmp (from_be_bytes w64 (a ∷ b ∷ c ∷ d ∷ e ∷ f ∷ g ∷ h ∷ []))
+    (from_be_bytes w64 (i ∷ j ∷ k ∷ l ∷ m ∷ n ∷ o ∷ p ∷ []))) (slice_cmp nat_cmp rest others)
 by_words a b c d e f g h i j k l m n o p rest others sa sb sc sd se sf sg sh si sj sk sl sm sn so sp =
     seam (a ∷ b ∷ c ∷ d ∷ e ∷ f ∷ g ∷ h ∷ []) (i ∷ j ∷ k ∷ l ∷ m ∷ n ∷ o ∷ p ∷ []) rest others refl
     ∙ ap (λ r. ordering_then r (slice_cmp nat_cmp rest others)) (
@@ -105,7 +114,8 @@ words_differ w v o apart = elim (cases_order w v) [
 ]
 
 -- the first eight bytes of a list, and the rest
-front_8 : (xs : List ℕ) → 8 ≤ length xs → xs ≡ get_or xs 0 0 ∷ get_or xs 1 0 ∷ get_or xs 2 0 ∷ get_or xs 3 0 ∷ get_or xs 4 0 ∷ get_or xs 5 0 ∷ get_or xs 6 0 ∷ get_or xs 7 0 ∷ drop 8 xs
+front_8 : (xs : List ℕ) → 8 ≤ length xs → xs ≡ get_or xs 0 0 ∷ get_or xs 1 0 ∷ get_or xs 2 0 ∷ get_or xs 3 0 ∷ get_or xs 4 0 ∷ get_or xs 5 0
+    ∷ get_or xs 6 0 ∷ get_or xs 7 0 ∷ drop 8 xs
 front_8 [] e = absurd (omega arith)
 front_8 (a ∷ []) e = absurd (omega arith)
 front_8 (a ∷ b ∷ []) e = absurd (omega arith)
@@ -117,29 +127,38 @@ front_8 (a ∷ b ∷ c ∷ d ∷ f ∷ g ∷ h ∷ []) e = absurd (omega arith)
 front_8 (a ∷ b ∷ c ∷ d ∷ f ∷ g ∷ h ∷ i ∷ rest) e = refl
 
 abbrev front_of : List ℕ → List ℕ
-front_of xs = get_or xs 0 0 ∷ get_or xs 1 0 ∷ get_or xs 2 0 ∷ get_or xs 3 0 ∷ get_or xs 4 0 ∷ get_or xs 5 0 ∷ get_or xs 6 0 ∷ get_or xs 7 0 ∷ []
+front_of xs = get_or xs 0 0 ∷ get_or xs 1 0 ∷ get_or xs 2 0 ∷ get_or xs 3 0 ∷ get_or xs 4 0 ∷ get_or xs 5 0 ∷ get_or xs 6 0
+    ∷ get_or xs 7 0 ∷ []
 
 abbrev word_of : List ℕ → ℕ
 word_of xs = from_be_bytes w64 (front_of xs)
 
-module _ (xs ys : List ℕ) (long : 8 ≤ length xs) (other_long : 8 ≤ length ys) (small : (i : ℕ) → get_or (front_of xs) i 0 < 256) (other_small : (i : ℕ) → get_or (front_of ys) i 0 < 256) where
+module _ (xs ys : List ℕ) (long : 8 ≤ length xs) (other_long : 8 ≤ length ys) (small : (i : ℕ) → get_or (front_of xs) i 0 < 256)
+    (other_small : (i : ℕ) → get_or (front_of ys) i 0 < 256) where
   split : slice_cmp nat_cmp xs ys ≡ ordering_then (nat_cmp (word_of xs) (word_of ys)) (slice_cmp nat_cmp (drop 8 xs) (drop 8 ys))
   split =
       ap (λ zs. slice_cmp nat_cmp zs ys) (front_8 xs long)
-      ∙ ap (slice_cmp nat_cmp (get_or xs 0 0 ∷ get_or xs 1 0 ∷ get_or xs 2 0 ∷ get_or xs 3 0 ∷ get_or xs 4 0 ∷ get_or xs 5 0 ∷ get_or xs 6 0 ∷ get_or xs 7 0 ∷ drop 8 xs)) (front_8 ys other_long)
-      ∙ by_words (get_or xs 0 0) (get_or xs 1 0) (get_or xs 2 0) (get_or xs 3 0) (get_or xs 4 0) (get_or xs 5 0) (get_or xs 6 0) (get_or xs 7 0)
-      (get_or ys 0 0) (get_or ys 1 0) (get_or ys 2 0) (get_or ys 3 0) (get_or ys 4 0) (get_or ys 5 0) (get_or ys 6 0) (get_or ys 7 0) (drop 8 xs) (drop 8 ys)
+      ∙ ap
+      (slice_cmp nat_cmp (get_or xs 0 0 ∷ get_or xs 1 0 ∷ get_or xs 2 0 ∷ get_or xs 3 0 ∷ get_or xs 4 0 ∷ get_or xs 5 0 ∷ get_or xs 6 0
+      ∷ get_or xs 7 0 ∷ drop 8 xs)) (front_8 ys other_long)
+      ∙ by_words (get_or xs 0 0) (get_or xs 1 0) (get_or xs 2 0) (get_or xs 3 0) (get_or xs 4 0) (get_or xs 5 0)
+      (get_or xs 6 0) (get_or xs 7 0)
+      (get_or ys 0 0) (get_or ys 1 0) (get_or ys 2 0) (get_or ys 3 0) (get_or ys 4 0) (get_or ys 5 0) (get_or ys 6 0) (get_or ys 7 0)
+      (drop 8 xs) (drop 8 ys)
       (small 0) (small 1) (small 2) (small 3) (small 4) (small 5) (small 6) (small 7)
       (other_small 0) (other_small 1) (other_small 2) (other_small 3) (other_small 4) (other_small 5) (other_small 6) (other_small 7)
 
   module _ (w v : ℕ) (r : Ordering) (word : w ≡ word_of xs) (other : v ≡ word_of ys) where
     words : slice_cmp nat_cmp xs ys ≡ ordering_then (nat_cmp w v) (slice_cmp nat_cmp (drop 8 xs) (drop 8 ys))
-    words = split ∙ ap (λ (o : Ordering). ordering_then o (slice_cmp nat_cmp (drop 8 xs) (drop 8 ys))) (ap (λ i. nat_cmp i (word_of ys)) (sym word) ∙ ap (nat_cmp w) (sym other))
+    words = split ∙ ap (λ (o : Ordering). ordering_then o (slice_cmp nat_cmp (drop 8 xs) (drop 8 ys)))
+        (ap (λ i. nat_cmp i (word_of ys)) (sym word) ∙ ap (nat_cmp w) (sym other))
 
     -- if the words are equal, the rest decides,
-    pub rest_decides : w ≡ v → (more others : List ℕ) → more ≡ drop 8 xs → others ≡ drop 8 ys → r ≡ slice_cmp nat_cmp more others → r ≡ slice_cmp nat_cmp xs ys
+    pub rest_decides : w ≡ v → (more others : List ℕ) → more ≡ drop 8 xs → others ≡ drop 8 ys → r ≡ slice_cmp nat_cmp more others
+        → r ≡ slice_cmp nat_cmp xs ys
     rest_decides same more others after other_after rest =
-        rest ∙ ap (λ zs. slice_cmp nat_cmp zs others) after ∙ ap (slice_cmp nat_cmp (drop 8 xs)) other_after ∙ sym (words_same w v (slice_cmp nat_cmp (drop 8 xs) (drop 8 ys)) same) ∙ sym words
+        rest ∙ ap (λ zs. slice_cmp nat_cmp zs others) after ∙ ap (slice_cmp nat_cmp (drop 8 xs)) other_after
+        ∙ sym (words_same w v (slice_cmp nat_cmp (drop 8 xs) (drop 8 ys)) same) ∙ sym words
 
     -- and otherwise they do
     pub words_decide : (w ≡ v → ⊥) → r ≡ nat_cmp w v → r ≡ slice_cmp nat_cmp xs ys
@@ -164,13 +183,15 @@ both : (p q : Bool) → (p && q) ≡ true → (p ≡ true) × (q ≡ true)
 both true q e = (refl, e)
 both false q e = absurd cc
 
-padded : (m n : ℕ) (a b : List ℕ) → length a + m ≡ length b + n → list_all name_byte a ≡ true → list_all name_byte b ≡ true → slice_cmp nat_cmp (a ++ replicate m 0) (b ++ replicate n 0) ≡ slice_cmp nat_cmp a b
+padded : (m n : ℕ) (a b : List ℕ) → length a + m ≡ length b + n → list_all name_byte a ≡ true → list_all name_byte b ≡ true
+    → slice_cmp nat_cmp (a ++ replicate m 0) (b ++ replicate n 0) ≡ slice_cmp nat_cmp a b
 padded m n [] [] e p q = let same : m ≡ n = omega arith in ap (λ k. slice_cmp nat_cmp (replicate m 0) (replicate k 0)) (sym same) ∙ zeros m
 padded zero n [] (y ∷ b) e p q = absurd (omega arith)
 padded (suc m) n [] (y ∷ b) e p q = rw (less_is 0 y (byte_pos y ((both (name_byte y) (list_all name_byte b) q).0))) refl
 padded m zero (x ∷ a) [] e p q = absurd (omega arith)
 padded m (suc n) (x ∷ a) [] e p q = rw (more_is x 0 (byte_pos x ((both (name_byte x) (list_all name_byte a) p).0))) refl
-padded m n (x ∷ a) (y ∷ b) e p q = ap (ordering_then (nat_cmp x y)) (padded m n a b (omega arith) ((both (name_byte x) (list_all name_byte a) p).1) ((both (name_byte y) (list_all name_byte b) q).1))
+padded m n (x ∷ a) (y ∷ b) e p q = ap (ordering_then (nat_cmp x y))
+    (padded m n a b (omega arith) ((both (name_byte x) (list_all name_byte a) p).1) ((both (name_byte y) (list_all name_byte b) q).1))
 
 -- the front of the array of a name
 front_is : (name : List ℕ) (k : ℕ) → length name ≤ k → k ≤ 200 → take k (filled_up name) ≡ name ++ replicate (k - length name) 0
@@ -184,7 +205,8 @@ bytes_of name is =
     (both (begins_name name && nat_le (length name) 200) (list_all name_byte name) is).1
 
 -- The arrays of two names are in the order of the names,
-pub wholes_compare : (a b bytes others : List ℕ) → bytes ≡ filled_up a → others ≡ filled_up b → is_tube_name a ≡ true → is_tube_name b ≡ true → length a ≤ 200 → length b ≤ 200
+pub wholes_compare : (a b bytes others : List ℕ) → bytes ≡ filled_up a → others ≡ filled_up b → is_tube_name a ≡ true
+    → is_tube_name b ≡ true → length a ≤ 200 → length b ≤ 200
     → slice_cmp nat_cmp bytes others ≡ slice_cmp nat_cmp a b
 wholes_compare a b bytes others is other_is named other_named long other_long =
     ap (λ xs. slice_cmp nat_cmp xs others) is
@@ -192,7 +214,8 @@ wholes_compare a b bytes others is other_is named other_named long other_long =
     ∙ padded (200 - length a) (200 - length b) a b (omega arith) (bytes_of a named) (bytes_of b other_named)
 
 -- and so are their fronts, as far as both names go.
-pub fronts_compare : (a b bytes others : List ℕ) (k : ℕ) → bytes ≡ filled_up a → others ≡ filled_up b → is_tube_name a ≡ true → is_tube_name b ≡ true → length a ≤ k → length b ≤ k → k ≤ 200
+pub fronts_compare : (a b bytes others : List ℕ) (k : ℕ) → bytes ≡ filled_up a → others ≡ filled_up b → is_tube_name a ≡ true
+    → is_tube_name b ≡ true → length a ≤ k → length b ≤ k → k ≤ 200
     → slice_cmp nat_cmp (take k bytes) (take k others) ≡ slice_cmp nat_cmp a b
 fronts_compare a b bytes others k is other_is named other_named long other_long fits =
     ap (λ xs. slice_cmp nat_cmp (take k xs) (take k others)) is

@@ -34,7 +34,8 @@ pub lookup_by_id : (id : ℕ) (jobs : List Job) → lookup (is_at (nat_cmp id)) 
 lookup_by_id id [] = refl
 lookup_by_id id (j ∷ jobs) = rw (is_eq_nat id j.id) (ap (λ o. cond (j.id == id) (Some j) o) (lookup_by_id id jobs))
 
-pub insert_by_id : (j : Job) (jobs : List Job) → job_with j.id jobs ≡ None → insert_entry nat_cmp (map with_id jobs) j.id j ≡ map with_id (with_added j jobs)
+pub insert_by_id : (j : Job) (jobs : List Job) → job_with j.id jobs ≡ None
+    → insert_entry nat_cmp (map with_id jobs) j.id j ≡ map with_id (with_added j jobs)
 insert_by_id j [] free = refl
 insert_by_id j (k ∷ jobs) free =
     elim (cases_Bool (k.id == j.id)) [
@@ -52,7 +53,8 @@ insert_by_id j (k ∷ jobs) free =
           ]
     ]
 
-pub remove_by_id : (low next id : ℕ) (jobs : List Job) → AreIdsWithin low jobs next → remove_entry (is_at (nat_cmp id)) (map with_id jobs) ≡ map with_id (without id jobs)
+pub remove_by_id : (low next id : ℕ) (jobs : List Job) → AreIdsWithin low jobs next
+    → remove_entry (is_at (nat_cmp id)) (map with_id jobs) ≡ map with_id (without id jobs)
 remove_by_id low next id [] h = refl
 remove_by_id low next id (k ∷ jobs) h =
     elim (cases_Bool (k.id == id)) [
@@ -64,7 +66,8 @@ remove_by_id low next id (k ∷ jobs) h =
     ]
 
 -- the changed job is filed under its id
-pub set_by_id : (low next id : ℕ) (f : Job → Job) (j : Job) (jobs : List Job) → AreIdsWithin low jobs next → job_with id jobs ≡ Some j → (f j).id ≡ id
+pub set_by_id : (low next id : ℕ) (f : Job → Job) (j : Job) (jobs : List Job) → AreIdsWithin low jobs next
+    → job_with id jobs ≡ Some j → (f j).id ≡ id
     → set_value (is_at (nat_cmp id)) (map with_id jobs) (f j) ≡ map with_id (with_changed id f jobs)
 set_by_id low next id f j [] h found same = refl
 set_by_id low next id f j (k ∷ jobs) h found same =
@@ -72,8 +75,11 @@ set_by_id low next id f j (k ∷ jobs) h found same =
       | inl out ↦
           let is : k ≡ j = (let e : Some k ≡ Some j = rw out at found in cc) in
           let at : k.id ≡ id = eqb-true k.id id out in
-          let rest = none_changed id f jobs (subst (λ n. All (λ i. (i.id == n) ≡ false) jobs) at (others_above k.id (suc k.id) next jobs (omega arith) h.1)) in
+          let rest = none_changed id f jobs (subst (λ n. All (λ i. (i.id == n) ≡ false) jobs) at
+          (others_above k.id (suc k.id) next jobs (omega arith) h.1)) in
           let own : (f j).id ≡ k.id = same ∙ sym at in
-          rw (is_eq_nat id k.id, out) (ap (λ n. (n, f j) ∷ map with_id jobs) (sym own) ∙ ap (λ z. with_id (f z) ∷ map with_id jobs) (sym is) ∙ ap (λ ks. with_id (f k) ∷ map with_id ks) (sym rest))
-      | inr kept ↦ rw (is_eq_nat id k.id, kept) (ap (λ es. with_id k ∷ es) (set_by_id (suc k.id) next id f j jobs h.1 (rw kept at found) same))
+          rw (is_eq_nat id k.id, out) (ap (λ n. (n, f j) ∷ map with_id jobs) (sym own) ∙ ap (λ z. with_id (f z) ∷ map with_id jobs) (sym is)
+          ∙ ap (λ ks. with_id (f k) ∷ map with_id ks) (sym rest))
+      | inr kept ↦ rw (is_eq_nat id k.id, kept)
+          (ap (λ es. with_id k ∷ es) (set_by_id (suc k.id) next id f j jobs h.1 (rw kept at found) same))
     ]

@@ -1,5 +1,6 @@
 -- Additions to and removals from lists of jobs in the order of their ids.
-use Rattle.std.proofs.Common.{◌≡◌, ℕ, suc, ◌+◌, ◌<◌, ◌≤◌, Bool, true, false, cond, List, [], ◌∷◌, ◌++◌, Some, None, map, length, arith, refl, sym, ap, ◌∙◌, subst, inl, inr}
+use Rattle.std.proofs.Common.{◌≡◌, ℕ, suc, ◌+◌, ◌<◌, ◌≤◌, Bool, true, false, cond, List, [], ◌∷◌}
+use Rattle.std.proofs.Common.{◌++◌, Some, None, map, length, arith, refl, sym, ap, ◌∙◌, subst, inl, inr}
 use Rattle.std.specs.Prelude.{◌==◌, nat_lt, count_by, if◌then◌else◌}
 use Rattle.std.specs.List.{AllByRecursion as All, Contains}
 use Rattle.std.proofs.lemmas.Bool.{cases_Bool, eqb-true}
@@ -21,8 +22,11 @@ low_below low next (j ∷ jobs) h = let i = low_below (suc j.id) next jobs h.1 i
 -- all ids are at least the lowest, and below the next one
 pub all_from_low : (low next : ℕ) (jobs : List Job) → AreIdsWithin low jobs next → All (λ j. low ≤ j.id) jobs
 all_from_low low next [] h = tt
-all_from_low low next (j ∷ jobs) h =
-    (h.0, all_weaker (λ k. suc j.id ≤ k.id) (λ k. low ≤ k.id) jobs (λ k l. let g = h.0 in omega arith) (all_from_low (suc j.id) next jobs h.1))
+all_from_low low next (j ∷ jobs) h = (
+  h.0,
+  all_weaker (λ k. suc j.id ≤ k.id) (λ k. low ≤ k.id) jobs (λ k l. let g = h.0 in omega arith)
+      (all_from_low (suc j.id) next jobs h.1),
+)
 
 pub all_below_next : (low next : ℕ) (jobs : List Job) → AreIdsWithin low jobs next → All (λ j. j.id < next) jobs
 all_below_next low next [] h = tt
@@ -37,16 +41,19 @@ pub all_kept : (id : ℕ) (jobs : List Job) → All (λ j. (j.id == id) ≡ fals
 all_kept id [] h = refl
 all_kept id (j ∷ jobs) h = rw h.0 (ap (λ ks. j ∷ ks) (all_kept id jobs h.1))
 
-pub none_changed : (id : ℕ) (f : Job → Job) (jobs : List Job) → All (λ j. (j.id == id) ≡ false) jobs → map (λ k. if k.id == id then f k else k) jobs ≡ jobs
+pub none_changed : (id : ℕ) (f : Job → Job) (jobs : List Job) → All (λ j. (j.id == id) ≡ false) jobs
+    → map (λ k. if k.id == id then f k else k) jobs ≡ jobs
 none_changed id f [] h = refl
 none_changed id f (j ∷ jobs) h = rw h.0 (ap (λ ks. j ∷ ks) (none_changed id f jobs h.1))
 
 pub others_above : (id low next : ℕ) (jobs : List Job) → id < low → AreIdsWithin low jobs next → All (λ j. (j.id == id) ≡ false) jobs
-others_above id low next jobs l h = all_weaker (λ j. low ≤ j.id) (λ j. (j.id == id) ≡ false) jobs (λ j m. grind (arith, nat_tests)) (all_from_low low next jobs h)
+others_above id low next jobs l h = all_weaker (λ j. low ≤ j.id) (λ j. (j.id == id) ≡ false) jobs (λ j m. grind (arith, nat_tests))
+    (all_from_low low next jobs h)
 
 pub next_is_free : NextIsFree
 next_is_free low next jobs h =
-    not_found next jobs (all_weaker (λ j. j.id < next) (λ j. (j.id == next) ≡ false) jobs (λ j m. grind (arith, nat_tests)) (all_below_next low next jobs h))
+    not_found next jobs (all_weaker (λ j. j.id < next) (λ j. (j.id == next) ≡ false) jobs (λ j m. grind (arith, nat_tests))
+    (all_below_next low next jobs h))
 
 -- a job that an id finds has this id
 pub found_id : (id : ℕ) (jobs : List Job) (j : Job) → job_with id jobs ≡ Some j → j.id ≡ id
@@ -70,11 +77,13 @@ all_found low next (j ∷ jobs) h =
     past : (j k : Job) (jobs : List Job) → suc j.id ≤ k.id → job_with k.id jobs ≡ Some k → job_with k.id (j ∷ jobs) ≡ Some k
     past j k jobs l h = let other : (j.id == k.id) ≡ false = grind (arith, nat_tests) in rw other h
 
-    all_past_in : (j : Job) (jobs ks : List Job) → All (λ k. suc j.id ≤ k.id) ks → All (λ k. job_with k.id jobs ≡ Some k) ks → All (λ k. job_with k.id (j ∷ jobs) ≡ Some k) ks
+    all_past_in : (j : Job) (jobs ks : List Job) → All (λ k. suc j.id ≤ k.id) ks → All (λ k. job_with k.id jobs ≡ Some k) ks
+        → All (λ k. job_with k.id (j ∷ jobs) ≡ Some k) ks
     all_past_in j jobs [] l h = tt
     all_past_in j jobs (k ∷ ks) l h = (past j k jobs l.0 h.0, all_past_in j jobs ks l.1 h.1)
 
-    all_past : (j : Job) (jobs : List Job) → All (λ k. suc j.id ≤ k.id) jobs → All (λ k. job_with k.id jobs ≡ Some k) jobs → All (λ k. job_with k.id (j ∷ jobs) ≡ Some k) jobs
+    all_past : (j : Job) (jobs : List Job) → All (λ k. suc j.id ≤ k.id) jobs → All (λ k. job_with k.id jobs ≡ Some k) jobs
+        → All (λ k. job_with k.id (j ∷ jobs) ≡ Some k) jobs
     all_past j jobs l h = all_past_in j jobs jobs l h
 
 pub found_by_id : (low next : ℕ) (jobs : List Job) (j : Job) → AreIdsWithin low jobs next → Contains jobs j → job_with j.id jobs ≡ Some j
@@ -112,7 +121,8 @@ found_among_added q j (k ∷ jobs) =
       ])
     ]
 
-pub added_within : (low next : ℕ) (j : Job) (jobs : List Job) → low ≤ j.id → j.id < next → job_with j.id jobs ≡ None → AreIdsWithin low jobs next → AreIdsWithin low (with_added j jobs) next
+pub added_within : (low next : ℕ) (j : Job) (jobs : List Job) → low ≤ j.id → j.id < next → job_with j.id jobs ≡ None
+    → AreIdsWithin low jobs next → AreIdsWithin low (with_added j jobs) next
 added_within low next j [] l u free h = (l, u)
 added_within low next j (k ∷ jobs) l u free h =
     elim (cases_Bool (k.id == j.id)) [
@@ -164,7 +174,8 @@ pub without_within : (low next id : ℕ) (jobs : List Job) → AreIdsWithin low 
 without_within low next id [] h = h
 without_within low next id (k ∷ jobs) h =
     elim (cases_Bool (k.id == id)) [
-      | inl out ↦ rw out (within_more (suc k.id) low next (without id jobs) (let m = h.0 in omega arith) (without_within (suc k.id) next id jobs h.1))
+      | inl out ↦ rw out (within_more (suc k.id) low next (without id jobs) (let m = h.0 in omega arith)
+          (without_within (suc k.id) next id jobs h.1))
       | inr kept ↦ rw kept (h.0, without_within (suc k.id) next id jobs h.1)
     ]
 
@@ -172,7 +183,8 @@ without_within low next id (k ∷ jobs) h =
 pub without_first : (low next : ℕ) (k : Job) (jobs : List Job) → AreIdsWithin low (k ∷ jobs) next → without k.id jobs ≡ jobs
 without_first low next k jobs h = all_kept k.id jobs (others_above k.id (suc k.id) next jobs (omega arith) h.1)
 
-pub count_without : (p : Job → Bool) (low next id : ℕ) (j : Job) (jobs : List Job) → AreIdsWithin low jobs next → job_with id jobs ≡ Some j → cond (p j) 1 0 + count_by p (without id jobs) ≡ count_by p jobs
+pub count_without : (p : Job → Bool) (low next id : ℕ) (j : Job) (jobs : List Job) → AreIdsWithin low jobs next → job_with id jobs ≡ Some j
+    → cond (p j) 1 0 + count_by p (without id jobs) ≡ count_by p jobs
 count_without p low next id j [] h found = absurd cc
 count_without p low next id j (k ∷ jobs) h found =
     elim (cases_Bool (k.id == id)) [
@@ -187,7 +199,8 @@ count_without p low next id j (k ∷ jobs) h found =
           rw kept (rw (count_cons p k (without id jobs), count_cons p k jobs) (omega (arith, i)))
     ]
 
-pub length_without : (low next id : ℕ) (j : Job) (jobs : List Job) → AreIdsWithin low jobs next → job_with id jobs ≡ Some j → suc (length (without id jobs)) ≡ length jobs
+pub length_without : (low next id : ℕ) (j : Job) (jobs : List Job) → AreIdsWithin low jobs next → job_with id jobs ≡ Some j
+    → suc (length (without id jobs)) ≡ length jobs
 length_without low next id j [] h found = absurd cc
 length_without low next id j (k ∷ jobs) h found =
     elim (cases_Bool (k.id == id)) [
@@ -207,7 +220,8 @@ without_none id (k ∷ jobs) h =
     ]
 
 -- a removal, and an addition of the changed job
-pub changed : (low next id : ℕ) (f : Job → Job) (j : Job) (jobs : List Job) → AreIdsWithin low jobs next → job_with id jobs ≡ Some j → (f j).id ≡ id → with_added (f j) (without id jobs) ≡ map (λ k. if k.id == id then f k else k) jobs
+pub changed : (low next id : ℕ) (f : Job → Job) (j : Job) (jobs : List Job) → AreIdsWithin low jobs next → job_with id jobs ≡ Some j
+    → (f j).id ≡ id → with_added (f j) (without id jobs) ≡ map (λ k. if k.id == id then f k else k) jobs
 changed low next id f j [] h found same = absurd cc
 changed low next id f j (k ∷ jobs) h found same =
     elim (cases_Bool (k.id == id)) [
@@ -226,7 +240,8 @@ changed low next id f j (k ∷ jobs) h found same =
           rw kept (rw above (ap (λ ks. k ∷ ks) (changed (suc k.id) next id f j jobs h.1 found_then same)))
     ]
   where
-    is_above : (k : Job) (id next : ℕ) (jobs : List Job) (j new : Job) → AreIdsWithin (suc k.id) jobs next → job_with id jobs ≡ Some j → new.id ≡ id → nat_lt k.id new.id ≡ true
+    is_above : (k : Job) (id next : ℕ) (jobs : List Job) (j new : Job) → AreIdsWithin (suc k.id) jobs next → job_with id jobs ≡ Some j
+        → new.id ≡ id → nat_lt k.id new.id ≡ true
     is_above k id next jobs j new h found same =
         elim (cases_Bool (nat_lt k.id new.id)) [
           | inl e ↦ e

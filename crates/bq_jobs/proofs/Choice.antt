@@ -75,7 +75,9 @@ pair_not_after a i b j h =
 
 module _ {K V : Type 0} {R : K → K → Ordering} (o : IsTotalOrder R) where
   -- the order of two tests is irrelevant if their keys differ
-  swapped : (q p x : K) (v w : V) (rest : Option V) → is_eq (R p x) ≡ false → cond (is_eq (R q x)) (Some w) (cond (is_eq (R q p)) (Some v) rest) ≡ cond (is_eq (R q p)) (Some v) (cond (is_eq (R q x)) (Some w) rest)
+  swapped : (q p x : K) (v w : V) (rest : Option V) → is_eq (R p x) ≡ false
+      → cond (is_eq (R q x)) (Some w) (cond (is_eq (R q p)) (Some v) rest) ≡ cond (is_eq (R q p)) (Some v)
+      (cond (is_eq (R q x)) (Some w) rest)
   swapped q p x v w rest apart =
       elim (cases_Bool (is_eq (R q p))) [
         | inr e ↦ rw e refl
@@ -86,27 +88,32 @@ module _ {K V : Type 0} {R : K → K → Ordering} (o : IsTotalOrder R) where
       ]
 
   inserted_cases : (q p : K) (v : V) (e : K × V) (es : List (K × V)) (a : Ordering) → R p e.0 ≡ a
-      → (lookup (is_at (R p)) es ≡ None → lookup (is_at (R q)) (insert_entry R es p v) ≡ cond (is_eq (R q p)) (Some v) (lookup (is_at (R q)) es))
+      → (lookup (is_at (R p)) es ≡ None → lookup (is_at (R q)) (insert_entry R es p v) ≡ cond (is_eq (R q p)) (Some v)
+      (lookup (is_at (R q)) es))
       → cond (is_eq a) (Some e.1) (lookup (is_at (R p)) es) ≡ None
-      → lookup (is_at (R q)) (match_ordering a ((p, v) ∷ e ∷ es) ((e.0, v) ∷ es) (e ∷ insert_entry R es p v)) ≡ cond (is_eq (R q p)) (Some v) (cond (is_eq (R q e.0)) (Some e.1) (lookup (is_at (R q)) es))
+      → lookup (is_at (R q)) (match_ordering a ((p, v) ∷ e ∷ es) ((e.0, v) ∷ es) (e ∷ insert_entry R es p v)) ≡ cond (is_eq (R q p))
+      (Some v) (cond (is_eq (R q e.0)) (Some e.1) (lookup (is_at (R q)) es))
   inserted_cases q p v e es Less h i absent = refl
   inserted_cases q p v e es Equal h i absent = absurd cc
   inserted_cases q p v e es Greater h i absent =
       ap (λ z. cond (is_eq (R q e.0)) (Some e.1) z) (i absent) ∙ swapped q p e.0 v e.1 (lookup (is_at (R q)) es) (ap is_eq h)
 
   -- lookup after an insertion
-  pub lookup_inserted : (q p : K) (v : V) (es : List (K × V)) → lookup (is_at (R p)) es ≡ None → lookup (is_at (R q)) (insert_entry R es p v) ≡ cond (is_eq (R q p)) (Some v) (lookup (is_at (R q)) es)
+  pub lookup_inserted : (q p : K) (v : V) (es : List (K × V)) → lookup (is_at (R p)) es ≡ None
+      → lookup (is_at (R q)) (insert_entry R es p v) ≡ cond (is_eq (R q p)) (Some v) (lookup (is_at (R q)) es)
   lookup_inserted q p v [] absent = refl
   lookup_inserted q p v (e ∷ es) absent = inserted_cases q p v e es (R p e.0) refl (lookup_inserted q p v es) absent
 
   -- lookup after a removal
-  pub lookup_removed : (q p : K) (es : List (K × V)) → InOrder R es → lookup (is_at (R q)) (remove_entry (is_at (R p)) es) ≡ cond (is_eq (R p q)) None (lookup (is_at (R q)) es)
+  pub lookup_removed : (q p : K) (es : List (K × V)) → InOrder R es
+      → lookup (is_at (R q)) (remove_entry (is_at (R p)) es) ≡ cond (is_eq (R p q)) None (lookup (is_at (R q)) es)
   lookup_removed q p es s =
       let laws = eq_by_cmp_equiv o in
       lookup-remove_entry laws (is_at (R p)) (λ x y h. laws.congr p x y h) q es (IsDistinct-from_sorted R (keys_of es) s)
 
   -- If all keys are above x, so is every key that is found.
-  found_above : (x q : K) (es : List (K × V)) → All (λ k. R x k ≡ Less) (keys_of es) → is_some (lookup (is_at (R q)) es) ≡ true → R x q ≡ Less
+  found_above : (x q : K) (es : List (K × V)) → All (λ k. R x k ≡ Less) (keys_of es)
+      → is_some (lookup (is_at (R q)) es) ≡ true → R x q ≡ Less
   found_above x q [] a h = absurd cc
   found_above x q (e ∷ es) a h =
       elim (cases_Bool (is_eq (R q e.0))) [
@@ -115,7 +122,8 @@ module _ {K V : Type 0} {R : K → K → Ordering} (o : IsTotalOrder R) where
       ]
 
   -- if there is no entry from f on, every key that is found is below f
-  pub found_below : (f q : K) (es : List (K × V)) → entry_from (R f) es ≡ None → is_some (lookup (is_at (R q)) es) ≡ true → is_gt (R f q) ≡ true
+  pub found_below : (f q : K) (es : List (K × V)) → entry_from (R f) es ≡ None → is_some (lookup (is_at (R q)) es) ≡ true
+      → is_gt (R f q) ≡ true
   found_below f q [] n h = absurd cc
   found_below f q (e ∷ es) n h =
       elim (cases_Bool (is_gt (R f e.0))) [
@@ -154,7 +162,8 @@ module _ {K V : Type 0} {R : K → K → Ordering} (o : IsTotalOrder R) where
             rw tie refl
       ]
 
-  pub from_least : (f q : K) (e : K × V) (es : List (K × V)) → InOrder R es → entry_from (R f) es ≡ Some e → is_some (lookup (is_at (R q)) es) ≡ true → is_gt (R f q) ≡ false → is_gt (R e.0 q) ≡ false
+  pub from_least : (f q : K) (e : K × V) (es : List (K × V)) → InOrder R es → entry_from (R f) es ≡ Some e
+      → is_some (lookup (is_at (R q)) es) ≡ true → is_gt (R f q) ≡ false → is_gt (R e.0 q) ≡ false
   unfolding IsStrictlySortedBy
   from_least f q e [] s n h l = absurd cc
   from_least f q e (x ∷ es) s n h l =

@@ -36,7 +36,9 @@ pub sum_rises : (a b by : ℕ) → a ≤ b → b ≤ a + by → (min a greatest 
 sum_rises a b by l u = (omega arith, omega arith)
 
 -- a call that compares keys at most as often as n searches
-pub few_more : (n : ℕ) (seen old : Kept) (sum new : ℕ) → seen ≡ old → seen.comparisons ≡ min sum greatest → sum ≤ new → new ≤ sum + n * search_bound seen.jobs
+pub few_more : (n : ℕ) (seen old : Kept) (sum new : ℕ) → seen ≡ old → seen.comparisons ≡ min sum greatest → sum ≤ new
+    → new ≤ sum + n * search_bound seen.jobs
     → (old.comparisons ≤ min new greatest) × (min new greatest ≤ old.comparisons + n * search_bound old.jobs)
 few_more n seen old sum new e is l u =
-    subst (λ (m : Kept). (m.comparisons ≤ min new greatest) × (min new greatest ≤ m.comparisons + n * search_bound m.jobs)) e (rw is (sum_rises sum new (n * search_bound seen.jobs) l u))
+    subst (λ (m : Kept). (m.comparisons ≤ min new greatest) × (min new greatest ≤ m.comparisons + n * search_bound m.jobs)) e
+    (rw is (sum_rises sum new (n * search_bound seen.jobs) l u))

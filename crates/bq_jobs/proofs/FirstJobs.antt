@@ -18,7 +18,9 @@ use Rattle.bq_jobs.specs.PlaceOrder.{first_rank}
 use Rattle.bq_jobs.specs.Places.{list_of, timer_place, group_place}
 use Rattle.bq_jobs.specs.Ranks.{first_by, first_held, first_timed, id_in, is_listed, is_of, is_timed, list_rank, moment_of, rank_of}
 use Rattle.bq_jobs.proofs.FirstOfGroup.{in_group, rank_is}
-use Rattle.bq_jobs.proofs.Firsts.{group_cmp, timer_cmp, group_own, timer_own, ready_grouped, delayed_grouped, buried_grouped, due_grouped, lease_grouped, held_grouped, ready_numbered, delayed_numbered, buried_numbered, due_numbered, lease_numbered, held_numbered}
+use Rattle.bq_jobs.proofs.Firsts.{group_cmp, timer_cmp, group_own, timer_own, ready_grouped, delayed_grouped}
+use Rattle.bq_jobs.proofs.Firsts.{buried_grouped, due_grouped, lease_grouped, held_grouped, ready_numbered, delayed_numbered}
+use Rattle.bq_jobs.proofs.Firsts.{buried_numbered, due_numbered, lease_numbered, held_numbered}
 use Rattle.bq_jobs.proofs.Shelved.{AreShelved}
 
 listed_grouped : (list : JobList) (tube : List ℕ) (j : Job) → is_listed list tube j ≡ in_group group_cmp (list_of tube list) (group_place j)
@@ -26,7 +28,8 @@ listed_grouped lists.Ready tube j = ready_grouped tube j.state j
 listed_grouped lists.Delayed tube j = delayed_grouped tube j.state j
 listed_grouped lists.Buried tube j = buried_grouped tube j.state j
 
-listed_numbered : (list : JobList) (tube : List ℕ) (j : Job) (p : ShelfPlace Holder) → group_place j ≡ Some p → is_listed list tube j ≡ true → p.at ≡ list_rank list j
+listed_numbered : (list : JobList) (tube : List ℕ) (j : Job) (p : ShelfPlace Holder) → group_place j ≡ Some p → is_listed list tube j ≡ true
+    → p.at ≡ list_rank list j
 listed_numbered lists.Ready tube j p e h = ready_numbered tube j.state j p e h
 listed_numbered lists.Delayed tube j p e h = delayed_numbered tube j.state j p e h
 listed_numbered lists.Buried tube j p e h = buried_numbered tube j.state j p e h
@@ -69,6 +72,7 @@ pub held_id : (g : Holder) (jobs : List Job) → id_in (first_held g jobs) ≡ o
 unfolding first_held id_in
 held_id g jobs = second_of (rank_of g) (first_by (is_of g) (rank_of g) jobs)
 
-pub timed_id : (t : Timer) (jobs : List Job) → id_in (first_timed t jobs) ≡ option_map (λ j. j.id) (first_by (is_timed t) (moment_of t) jobs)
+pub timed_id : (t : Timer) (jobs : List Job)
+    → id_in (first_timed t jobs) ≡ option_map (λ j. j.id) (first_by (is_timed t) (moment_of t) jobs)
 unfolding first_timed id_in
 timed_id t jobs = second_of (moment_of t) (first_by (is_timed t) (moment_of t) jobs)

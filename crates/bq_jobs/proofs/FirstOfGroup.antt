@@ -20,7 +20,8 @@ use Rattle.bq_jobs.specs.Inside.{IsOrderOf, Order, has_place, is_place}
 use Rattle.bq_jobs.specs.Kept.{ranked}
 use Rattle.bq_jobs.specs.PlaceOrder.{place_total, front, first_rank, holds_place, place_cmp, rank_in_group}
 use Rattle.bq_jobs.proofs.Changes.{found_by_id, found_id}
-use Rattle.bq_jobs.proofs.Choice.{equal_from, found_below, from_found, from_least, from_not_below, none_below, numbers_tie, pair_not_after, then_equal_first, then_equal_second, then_not_greater}
+use Rattle.bq_jobs.proofs.Choice.{equal_from, found_below, from_found, from_least, from_not_below, none_below}
+use Rattle.bq_jobs.proofs.Choice.{numbers_tie, pair_not_after, then_equal_first, then_equal_second, then_not_greater}
 use Rattle.bq_jobs.proofs.Orders.{held_place}
 
 -- whether a place is in the group
@@ -59,7 +60,8 @@ module _ {G : Type 0} {C : G → G → Ordering} (o : IsTotalOrder C) (g : G) wh
       (then_not_greater (nat_cmp 0 p.at) (nat_cmp 0 p.id) (none_below p.at) (none_below p.id))
 
   -- every place between the front and a place of the group is in the group
-  between : (k q : ShelfPlace G) → is_gt (place_cmp C (front C g) k) ≡ false → is_gt (place_cmp C k q) ≡ false → is_eq (C g q.group) ≡ true → is_eq (C g k.group) ≡ true
+  between : (k q : ShelfPlace G) → is_gt (place_cmp C (front C g) k) ≡ false → is_gt (place_cmp C k q) ≡ false → is_eq (C g q.group) ≡ true
+      → is_eq (C g k.group) ≡ true
   between k q l u h =
       elim (cases_Bool (is_eq (C g k.group))) [
         | inl e ↦ e
@@ -106,7 +108,9 @@ module _ {G : Type 0} {C : G → G → Ordering} (o : IsTotalOrder C) (g : G) wh
 
       none_passes : ((j : Job) → Contains jobs j → Placed j → ⊥) → first_of passes before jobs ≡ None
       none_passes never =
-          first_of_none_passes passes before jobs (list_any_not passes jobs (all_from_members (λ j. passes j ≡ false) jobs (λ j i. false_or (passes j) (λ t. never j i (placed j t)))))
+          first_of_none_passes passes before jobs
+          (list_any_not passes jobs (all_from_members (λ j. passes j ≡ false) jobs
+          (λ j i. false_or (passes j) (λ t. never j i (placed j t)))))
 
       -- there is no place from the front on
       none_first : entry_from (place_cmp C (front C g)) order.entries ≡ None → first_of passes before jobs ≡ None
@@ -116,9 +120,11 @@ module _ {G : Type 0} {C : G → G → Ordering} (o : IsTotalOrder C) (g : G) wh
           absurd (cc))
 
       -- the first place from the front on is in another group
-      none_of_group : (e : ShelfPlace G × Unit {0}) → entry_from (place_cmp C (front C g)) order.entries ≡ Some e → is_eq (C g e.0.group) ≡ false → first_of passes before jobs ≡ None
+      none_of_group : (e : ShelfPlace G × Unit {0}) → entry_from (place_cmp C (front C g)) order.entries ≡ Some e
+          → is_eq (C g e.0.group) ≡ false → first_of passes before jobs ≡ None
       none_of_group e n apart = none_passes (λ j i p.
-          let above = from_least (place_total o) (front C g) p.place e order.entries s n (held j i p.place p.is) (front_first p.place p.group) in
+          let above = from_least (place_total o) (front C g) p.place e order.entries s n (held j i p.place p.is)
+          (front_first p.place p.group) in
           let same = between e.0 p.place (from_not_below (place_total o) (front C g) e order.entries n) above p.group in
           absurd (cc))
 
@@ -130,7 +136,8 @@ module _ {G : Type 0} {C : G → G → Ordering} (o : IsTotalOrder C) (g : G) wh
         is : place_of job ≡ Some place
         ties : place_cmp C q place ≡ Equal
 
-      standing_at : (q : ShelfPlace G) (j : Job) (p : Option (ShelfPlace G)) → job_with q.id jobs ≡ Some j → place_of j ≡ p → is_place C q p ≡ true → Standing q
+      standing_at : (q : ShelfPlace G) (j : Job) (p : Option (ShelfPlace G)) → job_with q.id jobs ≡ Some j → place_of j ≡ p
+          → is_place C q p ≡ true → Standing q
       standing_at q j None found e t = absurd cc
       standing_at q j (Some p) found e t = record { job = j; found = found; place = p; is = e; ties = equal_from (place_cmp C q p) t }
 
@@ -150,29 +157,37 @@ module _ {G : Type 0} {C : G → G → Ordering} (o : IsTotalOrder C) (g : G) wh
           let found_then : job_with x.id jobs ≡ Some y = subst (λ n. job_with n jobs ≡ Some y) same (found_by_id low next jobs y ids i) in
           cc
 
-      one_of_group : (e : ShelfPlace G × Unit {0}) → entry_from (place_cmp C (front C g)) order.entries ≡ Some e → is_eq (C g e.0.group) ≡ true → option_map (ranked number) (first_of passes before jobs) ≡ Some (rank_at e)
+      one_of_group : (e : ShelfPlace G × Unit {0}) → entry_from (place_cmp C (front C g)) order.entries ≡ Some e
+          → is_eq (C g e.0.group) ≡ true → option_map (ranked number) (first_of passes before jobs) ≡ Some (rank_at e)
       one_of_group e n t =
           let st = standing e.0 (from_found (place_total o) (front C g) e order.entries n) in
           let x = st.job in
           let id : x.id ≡ e.0.id = found_id e.0.id jobs x st.found in
           let rest = ordering_then (nat_cmp e.0.at st.place.at) (nat_cmp e.0.id st.place.id) in
           let group : C e.0.group st.place.group ≡ Equal = then_equal_first (C e.0.group st.place.group) rest st.ties in
-          let within : is_eq (C g st.place.group) ≡ true = ap is_eq (o.congr g e.0.group st.place.group (equal_from (C g e.0.group) t) ∙ group) in
+          let within : is_eq (C g st.place.group) ≡ true =
+          ap is_eq (o.congr g e.0.group st.place.group (equal_from (C g e.0.group) t) ∙ group) in
           let pass : passes x ≡ true = grouped x ∙ ap (in_group C g) st.is ∙ within in
           let at : e.0.at ≡ number x =
-          numbers_tie e.0.at st.place.at (then_equal_first (nat_cmp e.0.at st.place.at) (nat_cmp e.0.id st.place.id) (then_equal_second (C e.0.group st.place.group) rest st.ties))
+          numbers_tie e.0.at st.place.at (then_equal_first (nat_cmp e.0.at st.place.at) (nat_cmp e.0.id st.place.id)
+          (then_equal_second (C e.0.group st.place.group) rest st.ties))
           ∙ numbered x st.place st.is pass in
           let found : job_with x.id jobs ≡ Some x = subst (λ m. job_with m jobs ≡ Some x) (sym id) st.found in
           let least : (y : Job) → Contains jobs y → passes y ≡ true → before y x ≡ false = λ y i u.
           let p = placed y u in
-          let above = from_least (place_total o) (front C g) p.place e order.entries s n (held y i p.place p.is) (front_first p.place p.group) in
-          let pairs = pair_not_after e.0.at e.0.id p.place.at p.place.id (then_tied (C e.0.group p.place.group) (ordering_then (nat_cmp e.0.at p.place.at) (nat_cmp e.0.id p.place.id)) (tied_group e.0 p.place t p.group) above) in
+          let above = from_least (place_total o) (front C g) p.place e order.entries s n (held y i p.place p.is)
+          (front_first p.place p.group) in
+          let pairs = pair_not_after e.0.at e.0.id p.place.at p.place.id
+          (then_tied (C e.0.group p.place.group) (ordering_then (nat_cmp e.0.at p.place.at) (nat_cmp e.0.id p.place.id))
+          (tied_group e.0 p.place t p.group) above) in
           same_pairs p.place.at p.place.id e.0.at e.0.id (number y) y.id (number x) x.id p.at p.id at (sym id) pairs in
           let pair : ranked number x ≡ rank_at e = cc in
-          ap (option_map (ranked number)) (first_of_is passes (pair_order number (λ j. j.id)) jobs x ((found_passes (λ j. j.id == e.0.id) jobs x st.found).1) pass least (λ y i a b. same_job x y found i a b))
+          ap (option_map (ranked number)) (first_of_is passes (pair_order number (λ j. j.id)) jobs x
+          ((found_passes (λ j. j.id == e.0.id) jobs x st.found).1) pass least (λ y i a b. same_job x y found i a b))
           ∙ ap Some pair
 
-      rank_by : (u : Option (ShelfPlace G × Unit {0})) → entry_from (place_cmp C (front C g)) order.entries ≡ u → option_and_then (rank_in_group C g) u ≡ option_map (ranked number) (first_of passes before jobs)
+      rank_by : (u : Option (ShelfPlace G × Unit {0})) → entry_from (place_cmp C (front C g)) order.entries ≡ u
+          → option_and_then (rank_in_group C g) u ≡ option_map (ranked number) (first_of passes before jobs)
       rank_by None n = sym (ap (option_map (ranked number)) (none_first n))
       rank_by (Some e) n =
           elim (cases_Bool (is_eq (C g e.0.group))) [
@@ -182,5 +197,6 @@ module _ {G : Type 0} {C : G → G → Ordering} (o : IsTotalOrder C) (g : G) wh
 
       -- the number and the id at the first place of the group are those of the first job that
       -- passes
-      pub rank_is : first_rank C g order.entries ≡ option_map (ranked number) (first_of passes (λ a b. is_pair_before (number a) a.id (number b) b.id) jobs)
+      pub rank_is : first_rank C g order.entries ≡ option_map (ranked number)
+          (first_of passes (λ a b. is_pair_before (number a) a.id (number b) b.id) jobs)
       rank_is = rank_by (entry_from (place_cmp C (front C g)) order.entries) refl

@@ -1,5 +1,6 @@
 -- The orders of places, and the jobs that pass the test of each.
-use Rattle.std.proofs.Common.{◌≡◌, ◌<◌, ◌+◌, ◌*◌, ℕ, suc, true, false, ◌&&◌, List, [], ◌∷◌, Option, Some, None, length, arith, refl, sym, ap, ◌∙◌, inl, inr}
+use Rattle.std.proofs.Common.{◌≡◌, ◌<◌, ◌+◌, ◌*◌, ℕ, suc, true, false, ◌&&◌, List, [], ◌∷◌}
+use Rattle.std.proofs.Common.{Option, Some, None, length, arith, refl, sym, ap, ◌∙◌, inl, inr}
 use Rattle.std.specs.Prelude.{◌==◌}
 use Rattle.std.specs.Option.{IfSome}
 use Rattle.std.specs.declared.cmp.Ordering.{Ordering}
@@ -67,7 +68,8 @@ then_second Equal b h = h
 then_second Greater b h = refl
 
 -- lists of one kind are the same exactly if their tubes are,
-list_ties : (k : ℕ) (a b : List ℕ) → is_same_name a b ≡ is_eq (ordering_then (nat_cmp (number_in a * 4 + k) (number_in b * 4 + k)) (name_cmp a b))
+list_ties : (k : ℕ) (a b : List ℕ) → is_same_name a b ≡ is_eq
+    (ordering_then (nat_cmp (number_in a * 4 + k) (number_in b * 4 + k)) (name_cmp a b))
 list_ties k a b =
     let m = number_in a * 4 + k in
     let n = number_in b * 4 + k in
@@ -116,21 +118,28 @@ pub timer_own : (j : Job) → IfSome (timer_place j) (λ p. p.id ≡ j.id)
 timer_own j = own_timer j.state j
 
 -- a job passes the test of a group exactly if its place is in the group
-pub ready_grouped : (tube : List ℕ) (s : JobState) (j : Job) → (is_ready_state s && is_same_name tube j.tube) ≡ in_group group_cmp (list_of tube lists.Ready) (in_groups s j)
+pub ready_grouped : (tube : List ℕ) (s : JobState) (j : Job)
+    → (is_ready_state s && is_same_name tube j.tube) ≡ in_group group_cmp (list_of tube lists.Ready) (in_groups s j)
 ready_grouped tube states.Ready j = list_ties 0 tube j.tube
-ready_grouped tube (states.Delayed due) j = apart (number_in tube) (number_in j.tube) 0 1 (name_cmp tube j.tube) (omega arith) (omega arith) refl
+ready_grouped tube (states.Delayed due) j =
+    apart (number_in tube) (number_in j.tube) 0 1 (name_cmp tube j.tube) (omega arith) (omega arith) refl
 ready_grouped tube (states.Reserved seat deadline) j = apart (number_in tube) seat 0 3 (name_cmp tube []) (omega arith) (omega arith) refl
-ready_grouped tube (states.Buried number) j = apart (number_in tube) (number_in j.tube) 0 2 (name_cmp tube j.tube) (omega arith) (omega arith) refl
+ready_grouped tube (states.Buried number) j =
+    apart (number_in tube) (number_in j.tube) 0 2 (name_cmp tube j.tube) (omega arith) (omega arith) refl
 
-pub delayed_grouped : (tube : List ℕ) (s : JobState) (j : Job) → (is_delayed s && is_same_name tube j.tube) ≡ in_group group_cmp (list_of tube lists.Delayed) (in_groups s j)
+pub delayed_grouped : (tube : List ℕ) (s : JobState) (j : Job)
+    → (is_delayed s && is_same_name tube j.tube) ≡ in_group group_cmp (list_of tube lists.Delayed) (in_groups s j)
 delayed_grouped tube states.Ready j = apart (number_in tube) (number_in j.tube) 1 0 (name_cmp tube j.tube) (omega arith) (omega arith) refl
 delayed_grouped tube (states.Delayed due) j = list_ties 1 tube j.tube
 delayed_grouped tube (states.Reserved seat deadline) j = apart (number_in tube) seat 1 3 (name_cmp tube []) (omega arith) (omega arith) refl
-delayed_grouped tube (states.Buried number) j = apart (number_in tube) (number_in j.tube) 1 2 (name_cmp tube j.tube) (omega arith) (omega arith) refl
+delayed_grouped tube (states.Buried number) j =
+    apart (number_in tube) (number_in j.tube) 1 2 (name_cmp tube j.tube) (omega arith) (omega arith) refl
 
-pub buried_grouped : (tube : List ℕ) (s : JobState) (j : Job) → (is_buried s && is_same_name tube j.tube) ≡ in_group group_cmp (list_of tube lists.Buried) (in_groups s j)
+pub buried_grouped : (tube : List ℕ) (s : JobState) (j : Job)
+    → (is_buried s && is_same_name tube j.tube) ≡ in_group group_cmp (list_of tube lists.Buried) (in_groups s j)
 buried_grouped tube states.Ready j = apart (number_in tube) (number_in j.tube) 2 0 (name_cmp tube j.tube) (omega arith) (omega arith) refl
-buried_grouped tube (states.Delayed due) j = apart (number_in tube) (number_in j.tube) 2 1 (name_cmp tube j.tube) (omega arith) (omega arith) refl
+buried_grouped tube (states.Delayed due) j =
+    apart (number_in tube) (number_in j.tube) 2 1 (name_cmp tube j.tube) (omega arith) (omega arith) refl
 buried_grouped tube (states.Reserved seat deadline) j = apart (number_in tube) seat 2 3 (name_cmp tube []) (omega arith) (omega arith) refl
 buried_grouped tube (states.Buried number) j = list_ties 2 tube j.tube
 
@@ -157,21 +166,24 @@ at_of : {G : Type 0} → Option (ShelfPlace G) → ℕ
 at_of None = 0
 at_of (Some p) = p.at
 
-pub ready_numbered : (tube : List ℕ) (s : JobState) (j : Job) (p : ShelfPlace Holder) → in_groups s j ≡ Some p → (is_ready_state s && is_same_name tube j.tube) ≡ true → p.at ≡ j.pri
+pub ready_numbered : (tube : List ℕ) (s : JobState) (j : Job) (p : ShelfPlace Holder) → in_groups s j ≡ Some p
+    → (is_ready_state s && is_same_name tube j.tube) ≡ true → p.at ≡ j.pri
 unfolding at_of
 ready_numbered tube states.Ready j p e h = sym (ap at_of e)
 ready_numbered tube (states.Delayed due) j p e h = absurd cc
 ready_numbered tube (states.Reserved seat deadline) j p e h = absurd cc
 ready_numbered tube (states.Buried number) j p e h = absurd cc
 
-pub delayed_numbered : (tube : List ℕ) (s : JobState) (j : Job) (p : ShelfPlace Holder) → in_groups s j ≡ Some p → (is_delayed s && is_same_name tube j.tube) ≡ true → p.at ≡ due_of s
+pub delayed_numbered : (tube : List ℕ) (s : JobState) (j : Job) (p : ShelfPlace Holder) → in_groups s j ≡ Some p
+    → (is_delayed s && is_same_name tube j.tube) ≡ true → p.at ≡ due_of s
 unfolding at_of
 delayed_numbered tube states.Ready j p e h = absurd cc
 delayed_numbered tube (states.Delayed due) j p e h = sym (ap at_of e)
 delayed_numbered tube (states.Reserved seat deadline) j p e h = absurd cc
 delayed_numbered tube (states.Buried number) j p e h = absurd cc
 
-pub buried_numbered : (tube : List ℕ) (s : JobState) (j : Job) (p : ShelfPlace Holder) → in_groups s j ≡ Some p → (is_buried s && is_same_name tube j.tube) ≡ true → p.at ≡ burial_of s
+pub buried_numbered : (tube : List ℕ) (s : JobState) (j : Job) (p : ShelfPlace Holder) → in_groups s j ≡ Some p
+    → (is_buried s && is_same_name tube j.tube) ≡ true → p.at ≡ burial_of s
 unfolding at_of
 buried_numbered tube states.Ready j p e h = absurd cc
 buried_numbered tube (states.Delayed due) j p e h = absurd cc
@@ -192,7 +204,8 @@ lease_numbered (states.Delayed due) j p e h = absurd cc
 lease_numbered (states.Reserved seat deadline) j p e h = sym (ap at_of e)
 lease_numbered (states.Buried number) j p e h = absurd cc
 
-pub held_numbered : (seat : ℕ) (s : JobState) (j : Job) (p : ShelfPlace Holder) → in_groups s j ≡ Some p → is_holder seat s ≡ true → p.at ≡ deadline_of s
+pub held_numbered : (seat : ℕ) (s : JobState) (j : Job) (p : ShelfPlace Holder) → in_groups s j ≡ Some p → is_holder seat s ≡ true
+    → p.at ≡ deadline_of s
 unfolding at_of
 held_numbered seat states.Ready j p e h = absurd cc
 held_numbered seat (states.Delayed due) j p e h = absurd cc

@@ -16,8 +16,10 @@ use Rattle.bq_jobs.specs.Places.{held_by, list_of}
 use Rattle.bq_jobs.specs.Ranks.{first_by, first_held, first_timed, is_in_list, is_listed, is_timed, list_rank, moment_of}
 use Rattle.bq_jobs.proofs.NamedJobs.{all_told, none_told}
 
-module _ (f : Job → Job) (passes test : Job → Bool) (before : Job → Job → Bool) (alike : (a b : Job) → before (f a) (f b) ≡ before a b) where
-  better_named : (j : Job) → passes (f j) ≡ test j → (o : Option Job) → better_of passes before (option_map f o) (f j) ≡ option_map f (better_of test before o j)
+module _ (f : Job → Job) (passes test : Job → Bool) (before : Job → Job → Bool)
+    (alike : (a b : Job) → before (f a) (f b) ≡ before a b) where
+  better_named : (j : Job) → passes (f j) ≡ test j → (o : Option Job)
+      → better_of passes before (option_map f o) (f j) ≡ option_map f (better_of test before o j)
   better_named j e None = elim (cases_Bool (test j)) [
     | inl t ↦ rw (e ∙ t, t) refl
     | inr t ↦ rw (e ∙ t, t) refl
@@ -33,7 +35,8 @@ module _ (f : Job → Job) (passes test : Job → Bool) (before : Job → Job �
   fold_named (j ∷ rows) all o =
       ap (λ b. fold (better_of passes before) b (map f rows)) (better_named j all.0 o) ∙ fold_named rows all.1 (better_of test before o j)
 
-  first_named : (rows : List Job) → All (λ j. passes (f j) ≡ test j) rows → first_of passes before (map f rows) ≡ option_map f (first_of test before rows)
+  first_named : (rows : List Job) → All (λ j. passes (f j) ≡ test j) rows
+      → first_of passes before (map f rows) ≡ option_map f (first_of test before rows)
   first_named rows all = fold_named rows all None
 
 -- Its number and its id are the same, if they do not depend on the name,
@@ -44,42 +47,52 @@ module _ (k : Numbering) (passes test : Job → Bool) (number : Job → ℕ) (sa
   first_told : (rows : List Job) → All (λ j. passes (named k j) ≡ test j) rows
       → option_map (ranked number) (first_by passes number (map (named k) rows)) ≡ option_map (ranked number) (first_by test number rows)
   first_told rows all =
-      ap (option_map (ranked number)) (first_named (named k) passes test (λ a b. is_pair_before (number a) a.id (number b) b.id) alike rows all) ∙ of (first_by test number rows)
+      ap (option_map (ranked number)) (first_named (named k) passes test
+      (λ a b. is_pair_before (number a) a.id (number b) b.id) alike rows all) ∙ of (first_by test number rows)
     where
       of : (o : Option Job) → option_map (ranked number) (option_map (named k) o) ≡ option_map (ranked number) o
       of None = refl
       of (Some j) = ap (λ n. Some (n, j.id)) (same j)
 
 -- as in a list of a registered tube,
-pub listed_told : (k : Numbering) (h : IsPaired k) (name : List ℕ) (n : ℕ) → number_of name k ≡ Some n → (list : JobList) (rows : List Job) → AreNumbered k rows
+pub listed_told : (k : Numbering) (h : IsPaired k) (name : List ℕ) (n : ℕ) → number_of name k ≡ Some n → (list : JobList) (rows : List Job)
+    → AreNumbered k rows
     → first_held (list_of name list) (map (named k) rows) ≡ first_held (list_of (n ∷ []) list) rows
 unfolding first_held
 listed_told k h name n own list rows all =
-    first_told k (is_listed list name) (is_listed list (n ∷ [])) (list_rank list) (λ j. refl) rows (all_told k h name n own (λ j. is_in_list list j.state) rows all)
+    first_told k (is_listed list name) (is_listed list (n ∷ [])) (list_rank list) (λ j. refl) rows
+    (all_told k h name n own (λ j. is_in_list list j.state) rows all)
 
 -- among those of a client, and among delays and leases.
 all_alike : (test : Job → Bool) (rows : List Job) → All (λ j. test j ≡ test j) rows
 all_alike test [] = tt
 all_alike test (j ∷ rows) = (refl, all_alike test rows)
 
-pub seat_told : (k : Numbering) (seat : ℕ) (rows : List Job) → first_held (held_by seat) (map (named k) rows) ≡ first_held (held_by seat) rows
+pub seat_told : (k : Numbering) (seat : ℕ) (rows : List Job)
+    → first_held (held_by seat) (map (named k) rows) ≡ first_held (held_by seat) rows
 unfolding first_held
-seat_told k seat rows = first_told k (is_held_by seat) (is_held_by seat) (λ j. deadline_of j.state) (λ j. refl) rows (all_alike (is_held_by seat) rows)
+seat_told k seat rows = first_told k (is_held_by seat) (is_held_by seat) (λ j. deadline_of j.state) (λ j. refl) rows
+    (all_alike (is_held_by seat) rows)
 
 pub timed_told : (k : Numbering) (t : Timer) (rows : List Job) → first_timed t (map (named k) rows) ≡ first_timed t rows
 unfolding first_timed
-timed_told k timers.Due rows = first_told k (is_timed timers.Due) (is_timed timers.Due) (moment_of timers.Due) (λ j. refl) rows (all_alike (is_timed timers.Due) rows)
-timed_told k timers.Lease rows = first_told k (is_timed timers.Lease) (is_timed timers.Lease) (moment_of timers.Lease) (λ j. refl) rows (all_alike (is_timed timers.Lease) rows)
+timed_told k timers.Due rows = first_told k (is_timed timers.Due) (is_timed timers.Due) (moment_of timers.Due) (λ j. refl) rows
+    (all_alike (is_timed timers.Due) rows)
+timed_told k timers.Lease rows = first_told k (is_timed timers.Lease) (is_timed timers.Lease) (moment_of timers.Lease) (λ j. refl) rows
+    (all_alike (is_timed timers.Lease) rows)
 
 -- A tube that is not registered has no first job.
 none_first : (f : Job → Job) (passes : Job → Bool) (before : Job → Job → Bool) (rows : List Job) → All (λ j. passes (f j) ≡ false) rows
     → first_of passes before (map f rows) ≡ None
 none_first f passes before [] all = refl
-none_first f passes before (j ∷ rows) all = ap (λ b. fold (better_of passes before) b (map f rows)) (rw all.0 refl) ∙ none_first f passes before rows all.1
+none_first f passes before (j ∷ rows) all =
+    ap (λ b. fold (better_of passes before) b (map f rows)) (rw all.0 refl) ∙ none_first f passes before rows all.1
 
-pub none_listed : (k : Numbering) (h : IsPaired k) (name : List ℕ) → number_of name k ≡ None → (list : JobList) (rows : List Job) → AreNumbered k rows
+pub none_listed : (k : Numbering) (h : IsPaired k) (name : List ℕ) → number_of name k ≡ None → (list : JobList) (rows : List Job)
+    → AreNumbered k rows
     → first_held (list_of name list) (map (named k) rows) ≡ None
 unfolding first_held
 none_listed k h name none list rows all =
     ap (option_map (ranked (list_rank list)))
-    (none_first (named k) (is_listed list name) (λ a b. is_pair_before (list_rank list a) a.id (list_rank list b) b.id) rows (none_told k h name none (λ j. is_in_list list j.state) rows all))
+    (none_first (named k) (is_listed list name) (λ a b. is_pair_before (list_rank list a) a.id (list_rank list b) b.id) rows
+    (none_told k h name none (λ j. is_in_list list j.state) rows all))

@@ -1,5 +1,6 @@
 -- Operations on jobs by the names of their tubes agree with those on records by numbers.
-use Rattle.std.proofs.Common.{◌≡◌, ◌+◌, ◌*◌, ◌≤◌, ℕ, suc, length, Bor, Bool, true, false, ◌&&◌, ◌||◌, List, [], ◌∷◌, Option, Some, None, is_some, map, refl, sym, ap, ◌∙◌, subst, inl, inr}
+use Rattle.std.proofs.Common.{◌≡◌, ◌+◌, ◌*◌, ◌≤◌, ℕ, suc, length, Bor, Bool, true, false, ◌&&◌, ◌||◌, List}
+use Rattle.std.proofs.Common.{[], ◌∷◌, Option, Some, None, is_some, map, refl, sym, ap, ◌∙◌, subst, inl, inr}
 use Rattle.std.specs.Prelude.{◌==◌, nat_lt, unwrap_or, if◌then◌else◌, is_ok, Result, Ok, Err, IfOk}
 use Rattle.std.specs.Cmp.Lexicographic.{bytes_decides}
 use Rattle.std.specs.List.{AllByRecursion as All, list_any}
@@ -16,7 +17,8 @@ use Rattle.bq_job.proofs.LookupLemmas.{job_in_map}
 use Rattle.bq_index.specs.Digits.{binary_digits}
 use Rattle.bq_jobs.specs.Kept.{ComparesAtMost, Kept, with_added, without}
 use Rattle.bq_jobs.specs.Changed.{IgnoresTube, moved_by, moved_in, row_moved_by, standing, with_changed}
-use Rattle.bq_jobs.specs.Numbering.{AreNumbered, IsNumbered, IsPaired, Numbering, kept_named, name_of, named, number_of, with_known, without_known}
+use Rattle.bq_jobs.specs.Numbering.{AreNumbered, IsNumbered, IsPaired, Numbering, kept_named}
+use Rattle.bq_jobs.specs.Numbering.{name_of, named, number_of, with_known, without_known}
 use Rattle.bq_jobs.specs.Names.{number_in}
 use Rattle.bq_jobs.specs.Told.{job_told, moved_told}
 use Rattle.bq_jobs.specs.Seen.{IsBodyOf, IsNumberOf, IsTubeOf, but_for_tube, in_tube}
@@ -55,11 +57,13 @@ module _ (k : Numbering) (h : IsPaired k) (name : List ℕ) where
       same_number : (n : ℕ) → (n == n) ≡ true
       same_number n = grind (arith, nat_tests)
 
-  tube_told : (n : ℕ) → number_of name k ≡ Some n → (j : Job) → IsNumbered k j → is_same_name name (named k j).tube ≡ is_same_name (n ∷ []) j.tube
+  tube_told : (n : ℕ) → number_of name k ≡ Some n → (j : Job) → IsNumbered k j
+      → is_same_name name (named k j).tube ≡ is_same_name (n ∷ []) j.tube
   tube_told n own j is = told_by n (number_in j.tube) own (name_of (number_in j.tube) k) refl is.1 ∙ ap (is_same_name (n ∷ [])) (sym is.0)
 
   -- and if no tube has the name, no number has it
-  not_told_by : number_of name k ≡ None → (m : ℕ) (o : Option (List ℕ)) → name_of m k ≡ o → is_some o ≡ true → is_same_name name (unwrap_or o []) ≡ false
+  not_told_by : number_of name k ≡ None → (m : ℕ) (o : Option (List ℕ)) → name_of m k ≡ o → is_some o ≡ true
+      → is_same_name name (unwrap_or o []) ≡ false
   not_told_by none m None its some = absurd cc
   not_told_by none m (Some other) its some = elim (cases_Bool (is_same_name name other)) [
     | inl same ↦ absurd (
@@ -81,7 +85,11 @@ module _ (k : Numbering) (h : IsPaired k) (name : List ℕ) where
   pub none_told : number_of name k ≡ None → (test : Job → Bool) (rows : List Job) → AreNumbered k rows
       → All (λ j. (test j && is_same_name name (named k j).tube) ≡ false) rows
   none_told none test [] all = tt
-  none_told none test (j ∷ rows) all = (ap (λ b. test j && b) (tube_not_told none j all.0) ∙ and_false (test j), none_told none test rows all.1)
+  none_told none test (j ∷ rows) all = (
+    ap (λ b. test j && b) (tube_not_told none j all.0)
+        ∙ and_false (test j),
+    none_told none test rows all.1,
+  )
     where
       and_false : (b : Bool) → (b && false) ≡ false
       and_false true = refl
@@ -105,12 +113,14 @@ without_named k id (r ∷ rows) = elim (cases_Bool (r.id == id)) [
 module _ (k : Numbering) (id : ℕ) (f : Job → Job) (ignores : IgnoresTube f) where
   -- a change does not depend on the name of the tube
   edited_named : (j : Job) → f (named k j) ≡ named k (f j)
-  edited_named j = ignores j (named k j).tube ∙ ap (λ tube. record (f j) { tube = unwrap_or (name_of (number_in tube) k) [] }) (sym (stays_in f ignores j))
+  edited_named j = ignores j (named k j).tube
+      ∙ ap (λ tube. record (f j) { tube = unwrap_or (name_of (number_in tube) k) [] }) (sym (stays_in f ignores j))
 
   pub changed_named : (rows : List Job) → with_changed id f (map (named k) rows) ≡ map (named k) (with_changed id f rows)
   changed_named [] = refl
   changed_named (r ∷ rows) = elim (cases_Bool (r.id == id)) [
-    | inl e ↦ rw e (ap (λ j. j ∷ with_changed id f (map (named k) rows)) (edited_named r) ∙ ap (λ ks. named k (f r) ∷ ks) (changed_named rows))
+    | inl e ↦ rw e (ap (λ j. j ∷ with_changed id f (map (named k) rows)) (edited_named r)
+        ∙ ap (λ ks. named k (f r) ∷ ks) (changed_named rows))
     | inr e ↦ rw e (ap (λ ks. named k r ∷ ks) (changed_named rows))
   ]
 
@@ -133,7 +143,8 @@ numbered_without k id (r ∷ rows) all = elim (cases_Bool (r.id == id)) [
   | inr e ↦ rw e (all.0, numbered_without k id rows all.1)
 ]
 
-pub numbered_changed : (k : Numbering) (id : ℕ) (f : Job → Job) → IgnoresTube f → (rows : List Job) → AreNumbered k rows → AreNumbered k (with_changed id f rows)
+pub numbered_changed : (k : Numbering) (id : ℕ) (f : Job → Job) → IgnoresTube f → (rows : List Job) → AreNumbered k rows
+    → AreNumbered k (with_changed id f rows)
 numbered_changed k id f ignores [] all = tt
 numbered_changed k id f ignores (r ∷ rows) all = elim (cases_Bool (r.id == id)) [
   | inl e ↦ rw e (
@@ -156,7 +167,8 @@ named_by : (j : Job) (o : Option (List ℕ)) → is_some o ≡ true → option_m
 named_by j None some = absurd cc
 named_by j (Some name) some = refl
 
-pub told_rows : (k : Numbering) (id : ℕ) (rows : List Job) → AreNumbered k rows → option_and_then (job_told k) (job_with id rows) ≡ job_with id (map (named k) rows)
+pub told_rows : (k : Numbering) (id : ℕ) (rows : List Job) → AreNumbered k rows
+    → option_and_then (job_told k) (job_with id rows) ≡ job_with id (map (named k) rows)
 told_rows k id rows all = of (job_with id rows) refl ∙ sym (job_named k id rows)
   where
     of : (o : Option Job) → job_with id rows ≡ o → option_and_then (job_told k) o ≡ option_map (named k) o
@@ -176,7 +188,8 @@ none_named k id rows e = of (job_with id rows) (sym (job_named k id rows) ∙ e)
     of (Some j) e = absurd cc
 
 -- the record of a job, with the number of its tube
-pub numbered_row : (k : Numbering) (h : IsPaired k) (j : Job) (n : ℕ) → number_of j.tube k ≡ Some n → IsNumbered k (record j { tube = n ∷ [] })
+pub numbered_row : (k : Numbering) (h : IsPaired k) (j : Job) (n : ℕ) → number_of j.tube k ≡ Some n
+    → IsNumbered k (record j { tube = n ∷ [] })
 numbered_row k h j n own = (refl, ap is_some (h.there j.tube n own))
 
 row_named : (k : Numbering) (h : IsPaired k) (j : Job) (n : ℕ) → number_of j.tube k ≡ Some n → named k (record j { tube = n ∷ [] }) ≡ j
@@ -184,31 +197,40 @@ row_named k h j n own = ap (λ o. record j { tube = unwrap_or o [] }) (h.there j
 
 pub row_added : (k : Numbering) (h : IsPaired k) (j : Job) (n : ℕ) → number_of j.tube k ≡ Some n → (rows : List Job)
     → with_added j (map (named k) rows) ≡ map (named k) (with_added (record j { tube = n ∷ [] }) rows)
-row_added k h j n own rows = ap (λ i. with_added i (map (named k) rows)) (sym (row_named k h j n own)) ∙ added_named k (record j { tube = n ∷ [] }) rows
+row_added k h j n own rows = ap (λ i. with_added i (map (named k) rows)) (sym (row_named k h j n own))
+    ∙ added_named k (record j { tube = n ∷ [] }) rows
 
 -- the report about a changed record is the report about its job
 module _ (k : Numbering) (id : ℕ) (f : Job → Job) (ignores : IgnoresTube f) where
   moved_by_name : (j : Job) (o : Option (List ℕ)) → is_some o ≡ true
-      → option_map (moved_in (row_moved_by f j)) o ≡ Some (record { tube = unwrap_or o []; from = standing j; to = standing (named k (f j)) })
+      → option_map (moved_in (row_moved_by f j)) o ≡ Some
+      (record { tube = unwrap_or o []; from = standing j; to = standing (named k (f j)) })
   moved_by_name j None some = absurd cc
   moved_by_name j (Some name) some = refl
 
   pub told_moved : (rows : List Job) → AreNumbered k rows
-      → option_and_then (moved_told k) (option_map (row_moved_by f) (job_with id rows)) ≡ option_map (moved_by f) (job_with id (map (named k) rows))
+      → option_and_then (moved_told k) (option_map (row_moved_by f) (job_with id rows)) ≡ option_map (moved_by f)
+      (job_with id (map (named k) rows))
   told_moved rows all = of (job_with id rows) refl ∙ ap (option_map (moved_by f)) (sym (job_named k id rows))
     where
-      of : (o : Option Job) → job_with id rows ≡ o → option_and_then (moved_told k) (option_map (row_moved_by f) o) ≡ option_map (moved_by f) (option_map (named k) o)
+      of : (o : Option Job) → job_with id rows ≡ o
+          → option_and_then (moved_told k) (option_map (row_moved_by f) o) ≡ option_map (moved_by f) (option_map (named k) o)
       of None there = refl
       of (Some j) there =
           moved_by_name j (name_of (number_in j.tube) k) ((numbered_there k id rows j all there).1)
           ∙ ap (λ i. Some (record { tube = (named k j).tube; from = standing j; to = standing i })) (sym (edited_named k id f ignores j))
 
 -- Registering a tube does not change the tubes of the jobs.
-pub numbered_known : (k : Numbering) (h : IsPaired k) (name : List ℕ) (rows : List Job) → AreNumbered k rows → AreNumbered (with_known name k) rows
+pub numbered_known : (k : Numbering) (h : IsPaired k) (name : List ℕ) (rows : List Job) → AreNumbered k rows
+    → AreNumbered (with_known name k) rows
 numbered_known k h name [] all = tt
-numbered_known k h name (j ∷ rows) all = ((all.0.0, ap is_some (name_kept k h name (number_in j.tube) all.0.1) ∙ all.0.1), numbered_known k h name rows all.1)
+numbered_known k h name (j ∷ rows) all = (
+  (all.0.0, ap is_some (name_kept k h name (number_in j.tube) all.0.1) ∙ all.0.1),
+  numbered_known k h name rows all.1,
+)
 
-pub named_known : (k : Numbering) (h : IsPaired k) (name : List ℕ) (rows : List Job) → AreNumbered k rows → map (named (with_known name k)) rows ≡ map (named k) rows
+pub named_known : (k : Numbering) (h : IsPaired k) (name : List ℕ) (rows : List Job) → AreNumbered k rows
+    → map (named (with_known name k)) rows ≡ map (named k) rows
 named_known k h name [] all = refl
 named_known k h name (j ∷ rows) all =
     ap (λ o. record j { tube = unwrap_or o [] } ∷ map (named (with_known name k)) rows) (name_kept k h name (number_in j.tube) all.0.1)
@@ -216,20 +238,24 @@ named_known k h name (j ∷ rows) all =
 
 -- Neither does removing a tube that has no jobs.
 module _ (k : Numbering) (h : IsPaired k) (name : List ℕ) where
-  stays_by : (m : ℕ) (o : Option (List ℕ)) → name_of m k ≡ o → is_some o ≡ true → is_same_name name (unwrap_or o []) ≡ false → name_of m (without_known name k) ≡ name_of m k
+  stays_by : (m : ℕ) (o : Option (List ℕ)) → name_of m k ≡ o → is_some o ≡ true → is_same_name name (unwrap_or o []) ≡ false
+      → name_of m (without_known name k) ≡ name_of m k
   stays_by m None its some apart = absurd cc
   stays_by m (Some other) its some apart = name_left k h name m other its apart
 
-  stays_named : (j : Job) → IsNumbered k j → is_same_name name (named k j).tube ≡ false → name_of (number_in j.tube) (without_known name k) ≡ name_of (number_in j.tube) k
+  stays_named : (j : Job) → IsNumbered k j → is_same_name name (named k j).tube ≡ false
+      → name_of (number_in j.tube) (without_known name k) ≡ name_of (number_in j.tube) k
   stays_named j is apart = stays_by (number_in j.tube) (name_of (number_in j.tube) k) refl is.1 apart
 
-  pub numbered_left : (rows : List Job) → AreNumbered k rows → list_any (λ j. is_same_name name j.tube) (map (named k) rows) ≡ false → AreNumbered (without_known name k) rows
+  pub numbered_left : (rows : List Job) → AreNumbered k rows → list_any (λ j. is_same_name name j.tube) (map (named k) rows) ≡ false
+      → AreNumbered (without_known name k) rows
   numbered_left [] all none = tt
   numbered_left (j ∷ rows) all none =
       let both = or_parts (is_same_name name (named k j).tube) (list_any (λ i. is_same_name name i.tube) (map (named k) rows)) none in
       ((all.0.0, ap is_some (stays_named j all.0 both.0) ∙ all.0.1), numbered_left rows all.1 both.1)
 
-  pub named_left : (rows : List Job) → AreNumbered k rows → list_any (λ j. is_same_name name j.tube) (map (named k) rows) ≡ false → map (named (without_known name k)) rows ≡ map (named k) rows
+  pub named_left : (rows : List Job) → AreNumbered k rows → list_any (λ j. is_same_name name j.tube) (map (named k) rows) ≡ false
+      → map (named (without_known name k)) rows ≡ map (named k) rows
   named_left [] all none = refl
   named_left (j ∷ rows) all none =
       let both = or_parts (is_same_name name (named k j).tube) (list_any (λ i. is_same_name name i.tube) (map (named k) rows)) none in
@@ -240,32 +266,39 @@ module _ (k : Numbering) (h : IsPaired k) (name : List ℕ) where
 abbrev pub known_if : Bool → List ℕ → Numbering → Numbering
 known_if b name k = if b then with_known name k else k
 
-pub numbered_if : (b : Bool) (k : Numbering) (h : IsPaired k) (name : List ℕ) (rows : List Job) → AreNumbered k rows → AreNumbered (known_if b name k) rows
+pub numbered_if : (b : Bool) (k : Numbering) (h : IsPaired k) (name : List ℕ) (rows : List Job) → AreNumbered k rows
+    → AreNumbered (known_if b name k) rows
 numbered_if true k h name rows all = numbered_known k h name rows all
 numbered_if false k h name rows all = all
 
-pub named_if : (b : Bool) (k : Numbering) (h : IsPaired k) (name : List ℕ) (rows : List Job) → AreNumbered k rows → map (named (known_if b name k)) rows ≡ map (named k) rows
+pub named_if : (b : Bool) (k : Numbering) (h : IsPaired k) (name : List ℕ) (rows : List Job) → AreNumbered k rows
+    → map (named (known_if b name k)) rows ≡ map (named k) rows
 named_if true k h name rows all = named_known k h name rows all
 named_if false k h name rows all = refl
 
-pub kept_if : (b : Bool) (k : Numbering) (h : IsPaired k) (name other : List ℕ) → is_some (number_of other k) ≡ true → is_some (number_of other (known_if b name k)) ≡ true
+pub kept_if : (b : Bool) (k : Numbering) (h : IsPaired k) (name other : List ℕ) → is_some (number_of other k) ≡ true
+    → is_some (number_of other (known_if b name k)) ≡ true
 kept_if true k h name other some = number_kept k h name other some
 kept_if false k h name other some = some
 
-pub others_if : (b : Bool) (k : Numbering) (h : IsPaired k) (name other : List ℕ) → is_same_name name other ≡ false → number_of other (known_if b name k) ≡ number_of other k
+pub others_if : (b : Bool) (k : Numbering) (h : IsPaired k) (name other : List ℕ) → is_same_name name other ≡ false
+    → number_of other (known_if b name k) ≡ number_of other k
 others_if true k h name other apart = other_numbers k h name other apart
 others_if false k h name other apart = refl
 
-pub known_of : {E : Type 0} (r : Result (Unit {0}) E) (k : Numbering) (h : IsPaired k) (name : List ℕ) → IfOk r (λ _. is_some (number_of name (known_if (is_ok r) name k)) ≡ true)
+pub known_of : {E : Type 0} (r : Result (Unit {0}) E) (k : Numbering) (h : IsPaired k) (name : List ℕ)
+    → IfOk r (λ _. is_some (number_of name (known_if (is_ok r) name k)) ≡ true)
 known_of (Ok x) k h name = is_known_then k h name
 known_of (Err e) k h name = tt
 
 -- the tube of a job is the name of its number
-pub tube_named : (k : Numbering) (id : ℕ) (rows : List Job) → AreNumbered k rows → (n : ℕ) → option_map (λ j. number_in j.tube) (job_with id rows) ≡ Some n
+pub tube_named : (k : Numbering) (id : ℕ) (rows : List Job) → AreNumbered k rows → (n : ℕ)
+    → option_map (λ j. number_in j.tube) (job_with id rows) ≡ Some n
     → name_of n k ≡ option_map (λ j. j.tube) (job_with id (map (named k) rows))
 tube_named k id rows all n e = of (job_with id rows) refl e ∙ ap (option_map (λ j. j.tube)) (sym (job_named k id rows))
   where
-    of : (o : Option Job) → job_with id rows ≡ o → option_map (λ j. number_in j.tube) o ≡ Some n → name_of n k ≡ option_map (λ j. j.tube) (option_map (named k) o)
+    of : (o : Option Job) → job_with id rows ≡ o → option_map (λ j. number_in j.tube) o ≡ Some n
+        → name_of n k ≡ option_map (λ j. j.tube) (option_map (named k) o)
     of None there e = absurd cc
     of (Some j) there e =
         let two : Some (number_in j.tube) ≡ Some n = e in
@@ -285,7 +318,8 @@ no_tube_named k id rows e = of (job_with id rows) e ∙ ap (option_map (λ j. j.
     of (Some j) e = absurd cc
 
 -- without its tube, a record is its job
-pub but_named : (k : Numbering) (id : ℕ) (rows : List Job) → option_map but_for_tube (job_with id rows) ≡ option_map but_for_tube (job_with id (map (named k) rows))
+pub but_named : (k : Numbering) (id : ℕ) (rows : List Job)
+    → option_map but_for_tube (job_with id rows) ≡ option_map but_for_tube (job_with id (map (named k) rows))
 but_named k id rows = of (job_with id rows) ∙ ap (option_map but_for_tube) (sym (job_named k id rows))
   where
     of : (o : Option Job) → option_map but_for_tube o ≡ option_map but_for_tube (option_map (named k) o)
@@ -317,7 +351,8 @@ named_from_by : (k : Numbering) (o : Option Job) (j : Job) → option_map (named
 named_from_by k None j e = absurd cc
 named_from_by k (Some row) j e = record { row = row; there = refl; is = (cc) }
 
-named_from : (k : Numbering) (id : ℕ) (rows : List Job) (j : Job) → job_with id (map (named k) rows) ≡ Some j → IsNamedFrom k (job_with id rows) j
+named_from : (k : Numbering) (id : ℕ) (rows : List Job) (j : Job) → job_with id (map (named k) rows) ≡ Some j
+    → IsNamedFrom k (job_with id rows) j
 named_from k id rows j e = named_from_by k (job_with id rows) j (sym (job_named k id rows) ∙ e)
 
 pub some_named : (k : Numbering) (id : ℕ) (rows : List Job) → is_some (job_with id rows) ≡ is_some (job_with id (map (named k) rows))
@@ -327,7 +362,8 @@ some_named k id rows = of (job_with id rows) ∙ ap is_some (sym (job_named k id
     of None = refl
     of (Some j) = refl
 
-pub no_name : (k : Numbering) (id : ℕ) (rows : List Job) → AreNumbered k rows → (n : ℕ) → true ≡ is_some (job_with id rows) → IsNumberOf (job_with id rows) n → name_of n k ≡ None → ⊥
+pub no_name : (k : Numbering) (id : ℕ) (rows : List Job) → AreNumbered k rows → (n : ℕ) → true ≡ is_some (job_with id rows)
+    → IsNumberOf (job_with id rows) n → name_of n k ≡ None → ⊥
 no_name k id rows all n some is none = of (job_with id rows) refl some is
   where
     of : (o : Option Job) → job_with id rows ≡ o → true ≡ is_some o → IsNumberOf o n → ⊥
@@ -338,18 +374,21 @@ no_name k id rows all n some is none = of (job_with id rows) refl some is
         let two : is_some (name_of (number_in j.tube) k) ≡ false = ap is_some gone in
         absurd cc
 
-pub tube_is : (k : Numbering) (id : ℕ) (rows : List Job) (n : ℕ) (tube : List ℕ) → IsNumberOf (job_with id rows) n → name_of n k ≡ Some tube → IsTubeOf (job_with id (map (named k) rows)) tube
+pub tube_is : (k : Numbering) (id : ℕ) (rows : List Job) (n : ℕ) (tube : List ℕ) → IsNumberOf (job_with id rows) n → name_of n k ≡ Some tube
+    → IsTubeOf (job_with id (map (named k) rows)) tube
 tube_is k id rows n tube is its j e =
     let from = named_from k id rows j e in
     let has : name_of (number_in from.row.tube) k ≡ Some tube = ap (λ i. name_of i k) (sym (is from.row from.there)) ∙ its in
     ap (λ o. unwrap_or o []) (sym has) ∙ ap (λ (i : Job). i.tube) (sym from.is)
 
-body_is : (k : Numbering) (id : ℕ) (rows : List Job) (body : List ℕ) → IsBodyOf (job_with id rows) body → IsBodyOf (job_with id (map (named k) rows)) body
+body_is : (k : Numbering) (id : ℕ) (rows : List Job) (body : List ℕ) → IsBodyOf (job_with id rows) body
+    → IsBodyOf (job_with id (map (named k) rows)) body
 body_is k id rows body is j e =
     let from = named_from k id rows j e in
     is from.row from.there ∙ ap (λ (i : Job). i.body) (sym from.is)
 
-pub body_told : {E : Type 0} (k : Numbering) (id : ℕ) (rows : List Job) (r : Result (List ℕ) E) → IfOk r (IsBodyOf (job_with id rows)) → IfOk r (IsBodyOf (job_with id (map (named k) rows)))
+pub body_told : {E : Type 0} (k : Numbering) (id : ℕ) (rows : List Job) (r : Result (List ℕ) E) → IfOk r (IsBodyOf (job_with id rows))
+    → IfOk r (IsBodyOf (job_with id (map (named k) rows)))
 body_told k id rows (Ok body) is = body_is k id rows body is
 body_told k id rows (Err e) is = tt
 

@@ -17,19 +17,23 @@ use Rattle.bq_jobs.proofs.Shelved.{AreShelved}
 abbrev pub parts : Inside → Parts
 parts s = record { by_id = s.by_id; groups = s.groups; timers = s.timers }
 
-pub found_in : (id : ℕ) (s : Inside) → AreShelved (parts s) → lookup (is_at (nat_cmp id)) s.by_id.entries ≡ job_with id (jobs_of s.by_id.entries)
+pub found_in : (id : ℕ) (s : Inside) → AreShelved (parts s)
+    → lookup (is_at (nat_cmp id)) s.by_id.entries ≡ job_with id (jobs_of s.by_id.entries)
 found_in id s h = of_rows.found_in id (parts s) h
 
 pub found_own : (id : ℕ) (s : Inside) → AreShelved (parts s) → (j : Job) → lookup (is_at (nat_cmp id)) s.by_id.entries ≡ Some j → j.id ≡ id
 found_own id s h j found = of_rows.found_own id (parts s) h j found
 
-pub jobs_added : (j : Job) (s : Inside) → AreShelved (parts s) → job_with j.id (jobs_of s.by_id.entries) ≡ None → jobs_of (insert_entry nat_cmp s.by_id.entries j.id j) ≡ with_added j (jobs_of s.by_id.entries)
+pub jobs_added : (j : Job) (s : Inside) → AreShelved (parts s) → job_with j.id (jobs_of s.by_id.entries) ≡ None
+    → jobs_of (insert_entry nat_cmp s.by_id.entries j.id j) ≡ with_added j (jobs_of s.by_id.entries)
 jobs_added j s h free = of_rows.jobs_added j (parts s) h free
 
-pub jobs_removed : (id : ℕ) (s : Inside) → AreShelved (parts s) → jobs_of (remove_entry (is_at (nat_cmp id)) s.by_id.entries) ≡ without id (jobs_of s.by_id.entries)
+pub jobs_removed : (id : ℕ) (s : Inside) → AreShelved (parts s)
+    → jobs_of (remove_entry (is_at (nat_cmp id)) s.by_id.entries) ≡ without id (jobs_of s.by_id.entries)
 jobs_removed id s h = of_rows.jobs_removed id (parts s) h
 
-pub gone_after : (id : ℕ) (s : Inside) → AreShelved (parts s) → job_with id (jobs_of (remove_entry (is_at (nat_cmp id)) s.by_id.entries)) ≡ None
+pub gone_after : (id : ℕ) (s : Inside) → AreShelved (parts s)
+    → job_with id (jobs_of (remove_entry (is_at (nat_cmp id)) s.by_id.entries)) ≡ None
 gone_after id s h = of_rows.gone_after id (parts s) h
 
 -- what the search takes for a removal

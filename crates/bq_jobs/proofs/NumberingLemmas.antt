@@ -1,5 +1,6 @@
 -- Consequences of the numbering of tubes.
-use Rattle.std.proofs.Common.{◌≡◌, ◌≤◌, ◌<◌, ◌+◌, ◌^◌, ℕ, Bool, true, false, cond, if◌then◌else◌, List, Option, Some, None, is_some, arith, refl, sym, ap, ◌∙◌, subst, inl, inr}
+use Rattle.std.proofs.Common.{◌≡◌, ◌≤◌, ◌<◌, ◌+◌, ◌^◌, ℕ, Bool, true, false, cond, if◌then◌else◌, List}
+use Rattle.std.proofs.Common.{Option, Some, None, is_some, arith, refl, sym, ap, ◌∙◌, subst, inl, inr}
 use Rattle.std.specs.Prelude.{nat_lt, IfSome}
 use Rattle.std.specs.BTreeMap.{is_at, insert_entry}
 use Rattle.std.specs.Cmp.{nat_cmp_total}
@@ -48,7 +49,8 @@ module _ (k : Numbering) (h : IsPaired k) (name : List ℕ) where
     -- a number that has a name keeps it
     pub names_stay : (n : ℕ) → is_some (name_of n k) ≡ true → name_of n (paired_with name k) ≡ name_of n k
     names_stay n some = elim (cases_Bool (is_eq (nat_cmp n k.next))) [
-      | inl e ↦ absurd (let is = tied_numbers n k.next e in let none : name_of n k ≡ None = ap (λ i. name_of i k) is ∙ free in let g = rw none at some in cc)
+      | inl e ↦ absurd (let is = tied_numbers n k.next e in let none : name_of n k ≡ None = ap (λ i. name_of i k) is ∙ free in
+          let g = rw none at some in cc)
       | inr e ↦ name_then n ∙ rw e refl
     ]
 
@@ -61,7 +63,8 @@ module _ (k : Numbering) (h : IsPaired k) (name : List ℕ) where
         | inl e ↦
             let is : q ≡ name = tied_names q name e in
             let next : Some k.next ≡ Some n = rw e at (sym (number_then q) ∙ own) in
-            let tie : is_eq (nat_cmp n k.next) ≡ true = is_eq_nat n k.next ∙ (let same : n ≡ k.next = sym (some_is k.next n next) in grind (arith, nat_tests)) in
+            let tie : is_eq (nat_cmp n k.next) ≡ true =
+            is_eq_nat n k.next ∙ (let same : n ≡ k.next = sym (some_is k.next n next) in grind (arith, nat_tests)) in
             name_then n ∙ rw tie (ap (λ (s : List ℕ). Some s) (sym is))
         | inr e ↦
             let was : number_of q k ≡ Some n = rw e at (sym (number_then q) ∙ own) in
@@ -79,7 +82,8 @@ module _ (k : Numbering) (h : IsPaired k) (name : List ℕ) where
             let was : name_of n k ≡ Some q = rw e at (sym (name_then n) ∙ its) in
             let own = h.back n q was in
             elim (cases_Bool (is_eq (slice_cmp nat_cmp q name))) [
-              | inl t ↦ absurd (let same = tied_names q name t in let none : number_of q k ≡ None = ap (λ s. number_of s k) same ∙ absent in cc)
+              | inl t ↦ absurd (let same = tied_names q name t in
+                  let none : number_of q k ≡ None = ap (λ s. number_of s k) same ∙ absent in cc)
               | inr t ↦ number_then q ∙ rw t own
             ]
       ];
@@ -89,10 +93,12 @@ module _ (k : Numbering) (h : IsPaired k) (name : List ℕ) where
       ];
     }
 
-  removed_then : (q : List ℕ) → lookup (is_at (slice_cmp nat_cmp q)) (remove_entry (is_at (slice_cmp nat_cmp name)) k.numbers) ≡ cond (is_eq (slice_cmp nat_cmp name q)) None (number_of q k)
+  removed_then : (q : List ℕ) → lookup (is_at (slice_cmp nat_cmp q)) (remove_entry (is_at (slice_cmp nat_cmp name)) k.numbers) ≡ cond
+      (is_eq (slice_cmp nat_cmp name q)) None (number_of q k)
   removed_then q = lookup_removed nat_list_cmp_total q name k.numbers h.by_name
 
-  taken_then : (m n : ℕ) → lookup (is_at (nat_cmp n)) (remove_entry (is_at (nat_cmp m)) k.names) ≡ cond (is_eq (nat_cmp m n)) None (name_of n k)
+  taken_then : (m n : ℕ) → lookup (is_at (nat_cmp n)) (remove_entry (is_at (nat_cmp m)) k.names) ≡ cond
+      (is_eq (nat_cmp m n)) None (name_of n k)
   taken_then m n = lookup_removed nat_cmp_total n m k.names h.by_number
 
   removed_by : (o : Option ℕ) → number_of name k ≡ o
@@ -105,7 +111,9 @@ module _ (k : Numbering) (h : IsPaired k) (name : List ℕ) where
       | inr e ↦ h.there q n (rw e at (sym (removed_then q) ∙ own))
     ];
     back = λ n q its. elim (cases_Bool (is_eq (slice_cmp nat_cmp name q))) [
-      | inl e ↦ absurd (let same = tied_names name q e in let some : number_of name k ≡ Some n = ap (λ s. number_of s k) same ∙ h.back n q its in let two : None ≡ Some n = sym none ∙ some in cc)
+      | inl e ↦ absurd (let same = tied_names name q e in
+          let some : number_of name k ≡ Some n = ap (λ s. number_of s k) same ∙ h.back n q its in
+          let two : None ≡ Some n = sym none ∙ some in cc)
       | inr e ↦ removed_then q ∙ rw e (h.back n q its)
     ];
     fresh = h.fresh;
@@ -152,12 +160,14 @@ module _ (k : Numbering) (h : IsPaired k) (name : List ℕ) where
 
 -- the same for any value with these lists
 pub paired_to : (k new : Numbering) (name : List ℕ) → IsPaired k → number_of name k ≡ None → k.next < 2 ^ 62
-    → new.numbers ≡ insert_entry (slice_cmp nat_cmp) k.numbers name k.next → new.names ≡ insert_entry nat_cmp k.names k.next name → new.next ≡ k.next + 1 → IsPaired new
+    → new.numbers ≡ insert_entry (slice_cmp nat_cmp) k.numbers name k.next → new.names ≡ insert_entry nat_cmp k.names k.next name
+    → new.next ≡ k.next + 1 → IsPaired new
 paired_to k new name h absent few numbers names next =
     subst IsPaired (λ i. record { numbers = sym numbers i; names = sym names i; next = sym next i }) (added_is_paired k h name absent few)
 
 pub removed_to : (k new : Numbering) (name : List ℕ) (o : Option ℕ) → IsPaired k → number_of name k ≡ o
-    → new.numbers ≡ remove_entry (is_at (slice_cmp nat_cmp name)) k.numbers → new.names ≡ names_without o k.names → new.next ≡ k.next → IsPaired new
+    → new.numbers ≡ remove_entry (is_at (slice_cmp nat_cmp name)) k.numbers → new.names ≡ names_without o k.names
+    → new.next ≡ k.next → IsPaired new
 removed_to k new name o h own numbers names next =
     subst IsPaired (λ i. record { numbers = sym numbers i; names = sym names i; next = sym next i }) (removed_by k h name o own)
 
@@ -171,14 +181,16 @@ number_few k name (Some n) h own = elim (cases_Bool (nat_lt n k.next)) [
 
 -- The other tubes keep their names and numbers.
 module _ (k : Numbering) (h : IsPaired k) (name : List ℕ) where
-  kept_by : (b : Bool) → is_some (number_of name k) ≡ b → (n : ℕ) → is_some (name_of n k) ≡ true → name_of n (if b then k else paired_with name k) ≡ name_of n k
+  kept_by : (b : Bool) → is_some (number_of name k) ≡ b → (n : ℕ) → is_some (name_of n k) ≡ true
+      → name_of n (if b then k else paired_with name k) ≡ name_of n k
   kept_by true e n some = refl
   kept_by false e n some = names_stay k h name (none_by (number_of name k) e) n some
 
   pub name_kept : (n : ℕ) → is_some (name_of n k) ≡ true → name_of n (with_known name k) ≡ name_of n k
   name_kept n some = kept_by (is_some (number_of name k)) refl n some
 
-  known_by : (b : Bool) → is_some (number_of name k) ≡ b → (other : List ℕ) → is_some (number_of other k) ≡ true → is_some (number_of other (if b then k else paired_with name k)) ≡ true
+  known_by : (b : Bool) → is_some (number_of name k) ≡ b → (other : List ℕ) → is_some (number_of other k) ≡ true
+      → is_some (number_of other (if b then k else paired_with name k)) ≡ true
   known_by true e other some = some
   known_by false e other some = elim (cases_Bool (is_eq (slice_cmp nat_cmp other name))) [
     | inl t ↦ ap is_some (number_then k h name (none_by (number_of name k) e) other) ∙ rw t refl
@@ -188,7 +200,8 @@ module _ (k : Numbering) (h : IsPaired k) (name : List ℕ) where
   pub number_kept : (other : List ℕ) → is_some (number_of other k) ≡ true → is_some (number_of other (with_known name k)) ≡ true
   number_kept other some = known_by (is_some (number_of name k)) refl other some
 
-  others_by : (b : Bool) → is_some (number_of name k) ≡ b → (other : List ℕ) → is_same_name name other ≡ false → number_of other (if b then k else paired_with name k) ≡ number_of other k
+  others_by : (b : Bool) → is_some (number_of name k) ≡ b → (other : List ℕ) → is_same_name name other ≡ false
+      → number_of other (if b then k else paired_with name k) ≡ number_of other k
   others_by true e other apart = refl
   others_by false e other apart = elim (cases_Bool (is_eq (slice_cmp nat_cmp other name))) [
     | inl t ↦ absurd (let same : is_same_name name other ≡ true = (bytes_decides name other).1 (sym (tied_names other name t)) in cc)
@@ -217,12 +230,14 @@ module _ (k : Numbering) (h : IsPaired k) (name : List ℕ) where
   ]
 
   -- when a tube is removed, the others keep their names
-  pub name_left : (m : ℕ) (other : List ℕ) → name_of m k ≡ Some other → is_same_name name other ≡ false → name_of m (without_known name k) ≡ name_of m k
+  pub name_left : (m : ℕ) (other : List ℕ) → name_of m k ≡ Some other → is_same_name name other ≡ false
+      → name_of m (without_known name k) ≡ name_of m k
   name_left = left_by (number_of name k) refl
 
   -- and their numbers,
   pub number_left : (other : List ℕ) → is_same_name name other ≡ false → number_of other (without_known name k) ≡ number_of other k
-  number_left other apart = removed_then k h name other ∙ (let t : is_eq (slice_cmp nat_cmp name other) ≡ false = sym (texts_ties name other) ∙ apart in rw t refl)
+  number_left other apart = removed_then k h name other
+      ∙ (let t : is_eq (slice_cmp nat_cmp name other) ≡ false = sym (texts_ties name other) ∙ apart in rw t refl)
 
   -- and the removed one has no number.
   pub number_gone : number_of name (without_known name k) ≡ None

@@ -1,5 +1,6 @@
 -- What additions and removals of jobs do to an order of places.
-use Rattle.std.proofs.Common.{◌≡◌, ℕ, ◌+◌, ◌*◌, ◌<◌, ◌≤◌, Bool, true, false, cond, List, [], ◌∷◌, Option, Some, None, length, arith, refl, sym, ap, ◌∙◌, subst, inl, inr}
+use Rattle.std.proofs.Common.{◌≡◌, ℕ, ◌+◌, ◌*◌, ◌<◌, ◌≤◌, Bool, true, false, cond, List, [], ◌∷◌}
+use Rattle.std.proofs.Common.{Option, Some, None, length, arith, refl, sym, ap, ◌∙◌, subst, inl, inr}
 use Rattle.std.specs.Prelude.{is_some, ◌==◌, count_by}
 use Rattle.std.specs.declared.cmp.Ordering.{Ordering}
 use Rattle.std.specs.Cmp.{IsTotalOrder}
@@ -21,7 +22,8 @@ use Rattle.bq_jobs.specs.declared.places.ShelfPlace.{ShelfPlace}
 use Rattle.bq_jobs.specs.Inside.{IsOrderOf, Order, has_place, is_place}
 use Rattle.bq_jobs.specs.Kept.{search_bound, with_added, without}
 use Rattle.bq_jobs.specs.PlaceOrder.{place_cmp, place_total, holds_place, with_place, without_place}
-use Rattle.bq_jobs.proofs.Changes.{count_added, count_without, found_among_added, found_id, found_without, length_added, length_without, not_there}
+use Rattle.bq_jobs.proofs.Changes.{count_added, count_without, found_among_added, found_id}
+use Rattle.bq_jobs.proofs.Changes.{found_without, length_added, length_without, not_there}
 use Rattle.bq_jobs.proofs.Counting.{search_is_bounded}
 use Rattle.bq_jobs.proofs.Choice.{equal_from, lookup_inserted, lookup_removed, numbers_tie, then_equal_second}
 
@@ -34,8 +36,10 @@ count_few p (j ∷ jobs) = rw (count_cons p j jobs) (elim (cases_Bool (p j)) [
 ])
 
 -- a search in an order of places
-pub order_search : {G : Type 0} (C : G → G → Ordering) (place_of : Job → Option (ShelfPlace G)) (jobs : List Job) (room : ℕ) (order : Order G) → IsOrderOf C place_of jobs room order → 2 * binary_digits (length order.entries + 1) ≤ search_bound jobs
-order_search C place_of jobs room order h = search_is_bounded jobs (length order.entries) (omega (arith, h.counted, count_few (λ j. is_some (place_of j)) jobs))
+pub order_search : {G : Type 0} (C : G → G → Ordering) (place_of : Job → Option (ShelfPlace G)) (jobs : List Job) (room : ℕ)
+    (order : Order G) → IsOrderOf C place_of jobs room order → 2 * binary_digits (length order.entries + 1) ≤ search_bound jobs
+order_search C place_of jobs room order h =
+    search_is_bounded jobs (length order.entries) (omega (arith, h.counted, count_few (λ j. is_some (place_of j)) jobs))
 
 some_unit : (u : Option (Unit {0})) → is_some u ≡ true → u ≡ Some tt
 some_unit None h = absurd cc
@@ -53,7 +57,8 @@ fewer_entries test (e ∷ es) = elim (cases_Bool (test e.0)) [
 ]
 
 -- removing a place, if there is one, does not add any
-pub fewer_places : {G : Type 0} (C : G → G → Ordering) (place : Option (ShelfPlace G)) (es : List (ShelfPlace G × Unit {0})) → length (without_place C place es) ≤ length es
+pub fewer_places : {G : Type 0} (C : G → G → Ordering) (place : Option (ShelfPlace G)) (es : List (ShelfPlace G × Unit {0}))
+    → length (without_place C place es) ≤ length es
 fewer_places C None es = omega arith
 fewer_places C (Some p) es = fewer_entries (is_at (place_cmp C p)) es
 
@@ -64,14 +69,16 @@ pub record CanMove {G : Type 0} (C : G → G → Ordering) (from to : Option (Sh
   pub spare : (p : ShelfPlace G) → to ≡ Some p → 0 < order.spare + cond (is_some from) 1 0
   pub absent : (p : ShelfPlace G) → to ≡ Some p → holds_place C p (without_place C from order.entries) ≡ None
 
-own_id : {G : Type 0} (j : Job) (place : Option (ShelfPlace G)) → IfSome place (λ p. p.id ≡ j.id) → (p : ShelfPlace G) → place ≡ Some p → p.id ≡ j.id
+own_id : {G : Type 0} (j : Job) (place : Option (ShelfPlace G)) → IfSome place (λ p. p.id ≡ j.id) → (p : ShelfPlace G)
+    → place ≡ Some p → p.id ≡ j.id
 own_id j None h p e = absurd cc
 own_id j (Some q) h p e = let is : q ≡ p = (cc) in subst (λ z. z.id ≡ j.id) is h
 
 module _ {G : Type 0} {C : G → G → Ordering} (o : IsTotalOrder C) where
   -- places that compare equal belong to one job
   pub same_id : (p q : ShelfPlace G) → is_eq (place_cmp C p q) ≡ true → p.id ≡ q.id
-  same_id p q h = numbers_tie p.id q.id (then_equal_second (nat_cmp p.at q.at) (nat_cmp p.id q.id) (then_equal_second (C p.group q.group) (ordering_then (nat_cmp p.at q.at) (nat_cmp p.id q.id)) (equal_from (place_cmp C p q) h)))
+  same_id p q h = numbers_tie p.id q.id (then_equal_second (nat_cmp p.at q.at) (nat_cmp p.id q.id)
+      (then_equal_second (C p.group q.group) (ordering_then (nat_cmp p.at q.at) (nat_cmp p.id q.id)) (equal_from (place_cmp C p q) h)))
 
   other_id : (p q : ShelfPlace G) → (p.id == q.id) ≡ false → is_eq (place_cmp C p q) ≡ false
   other_id p q h =
@@ -96,30 +103,36 @@ module _ {G : Type 0} {C : G → G → Ordering} (o : IsTotalOrder C) where
     has_spare jobs room order h r = omega (arith, h.roomy, h.counted, count_few (λ j. is_some (place_of j)) jobs, r)
 
     -- if a job is absent, its places are free
-    pub absent_place : (j : Job) (jobs : List Job) (room : ℕ) (order : Order G) → IsOrderOf C place_of jobs room order → job_with j.id jobs ≡ None → (p : ShelfPlace G) → p.id ≡ j.id → holds_place C p order.entries ≡ None
+    pub absent_place : (j : Job) (jobs : List Job) (room : ℕ) (order : Order G) → IsOrderOf C place_of jobs room order
+        → job_with j.id jobs ≡ None → (p : ShelfPlace G) → p.id ≡ j.id → holds_place C p order.entries ≡ None
     absent_place j jobs room order h free p same =
         let found : job_with p.id jobs ≡ None = rw same free in
         none_from (holds_place C p order.entries) (h.places p ∙ ap (has_place C place_of p) found)
 
     -- if a job is present, its place is taken
-    pub held_place : (id : ℕ) (j : Job) (jobs : List Job) (room : ℕ) (order : Order G) → IsOrderOf C place_of jobs room order → job_with id jobs ≡ Some j → (p : ShelfPlace G) → place_of j ≡ Some p → is_some (holds_place C p order.entries) ≡ true
+    pub held_place : (id : ℕ) (j : Job) (jobs : List Job) (room : ℕ) (order : Order G) → IsOrderOf C place_of jobs room order
+        → job_with id jobs ≡ Some j → (p : ShelfPlace G) → place_of j ≡ Some p → is_some (holds_place C p order.entries) ≡ true
     held_place id j jobs room order h found p e =
         let same : p.id ≡ id = own_id j (place_of j) (own j) p e ∙ found_id id jobs j found in
         let found_then : job_with p.id jobs ≡ Some j = rw same found in
         h.places p ∙ ap (has_place C place_of p) found_then ∙ ap (is_place C p) e ∙ ap is_eq (tied_itself (place_total o) p)
 
     -- places stay ordered when one is added or removed
-    sorted_with : (place : Option (ShelfPlace G)) (es : List (ShelfPlace G × Unit {0})) → InOrder (place_cmp C) es → InOrder (place_cmp C) (with_place C place es)
+    sorted_with : (place : Option (ShelfPlace G)) (es : List (ShelfPlace G × Unit {0})) → InOrder (place_cmp C) es
+        → InOrder (place_cmp C) (with_place C place es)
     sorted_with None es s = s
     sorted_with (Some p) es s = order_insert (place_total o) p tt es s
 
-    sorted_without : (place : Option (ShelfPlace G)) (es : List (ShelfPlace G × Unit {0})) → InOrder (place_cmp C) es → InOrder (place_cmp C) (without_place C place es)
+    sorted_without : (place : Option (ShelfPlace G)) (es : List (ShelfPlace G × Unit {0})) → InOrder (place_cmp C) es
+        → InOrder (place_cmp C) (without_place C place es)
     sorted_without None es s = s
     sorted_without (Some p) es s = order_remove (place_cmp C) (is_at (place_cmp C p)) es s
 
     -- after an addition
-    added_places : (j : Job) (place : Option (ShelfPlace G)) (jobs : List Job) (room : ℕ) (order : Order G) → place_of j ≡ place → IfSome place (λ p. p.id ≡ j.id) → IsOrderOf C place_of jobs room order → job_with j.id jobs ≡ None
-        → (q : ShelfPlace G) → is_some (holds_place C q (with_place C place order.entries)) ≡ has_place C place_of q (cond (j.id == q.id) (Some j) (job_with q.id jobs))
+    added_places : (j : Job) (place : Option (ShelfPlace G)) (jobs : List Job) (room : ℕ) (order : Order G) → place_of j ≡ place
+        → IfSome place (λ p. p.id ≡ j.id) → IsOrderOf C place_of jobs room order → job_with j.id jobs ≡ None
+        → (q : ShelfPlace G) → is_some (holds_place C q (with_place C place order.entries)) ≡ has_place C place_of q
+        (cond (j.id == q.id) (Some j) (job_with q.id jobs))
     added_places j None jobs room order e own h free q =
         elim (cases_Bool (j.id == q.id)) [
           | inr other ↦ rw other (h.places q)
@@ -146,26 +159,33 @@ module _ {G : Type 0} {C : G → G → Ordering} (o : IsTotalOrder C) where
         here_only true u h = refl
         here_only false u h = h
 
-    added_length : (j : Job) (place : Option (ShelfPlace G)) (jobs : List Job) (room : ℕ) (order : Order G) → IfSome place (λ p. p.id ≡ j.id) → IsOrderOf C place_of jobs room order → job_with j.id jobs ≡ None
+    added_length : (j : Job) (place : Option (ShelfPlace G)) (jobs : List Job) (room : ℕ) (order : Order G)
+        → IfSome place (λ p. p.id ≡ j.id) → IsOrderOf C place_of jobs room order → job_with j.id jobs ≡ None
         → length (with_place C place order.entries) ≡ cond (is_some place) 1 0 + length order.entries
     added_length j None jobs room order own h free = omega arith
     added_length j (Some p) jobs room order own h free =
         omega (arith, length_inserted (place_cmp C) p tt order.entries (absent_place j jobs room order h free p own))
 
-    pub order_added : (j : Job) (jobs : List Job) (room less : ℕ) (order new : Order G) → IsOrderOf C place_of jobs room order → job_with j.id jobs ≡ None → less + 1 ≡ room
-        → new.entries ≡ with_place C (place_of j) order.entries → new.spare + cond (is_some (place_of j)) 1 0 ≡ order.spare → IsOrderOf C place_of (with_added j jobs) less new
+    pub order_added : (j : Job) (jobs : List Job) (room less : ℕ) (order new : Order G) → IsOrderOf C place_of jobs room order
+        → job_with j.id jobs ≡ None → less + 1 ≡ room
+        → new.entries ≡ with_place C (place_of j) order.entries → new.spare + cond (is_some (place_of j)) 1 0 ≡ order.spare
+        → IsOrderOf C place_of (with_added j jobs) less new
     order_added j jobs room less order new h free l entries spare =
         let long = ap length entries ∙ added_length j (place_of j) jobs room order (own j) h free in
         record {
-          places = λ q. ap (λ es. is_some (holds_place C q es)) entries ∙ added_places j (place_of j) jobs room order refl (own j) h free q ∙ sym (ap (has_place C place_of q) (found_among_added q.id j jobs));
+          places = λ q. ap (λ es. is_some (holds_place C q es)) entries ∙ added_places j (place_of j) jobs room order refl (own j) h free q
+              ∙ sym (ap (has_place C place_of q) (found_among_added q.id j jobs));
           counted = omega (arith, long, h.counted, count_added (λ k. is_some (place_of k)) j jobs);
           roomy = omega (arith, long, spare, h.roomy, length_added j jobs, l);
           sorted = subst (InOrder (place_cmp C)) (sym entries) (sorted_with (place_of j) order.entries h.sorted);
         }
 
     -- after a removal
-    removed_places : (id : ℕ) (j : Job) (place : Option (ShelfPlace G)) (jobs : List Job) (room : ℕ) (order : Order G) → place_of j ≡ place → IfSome place (λ p. p.id ≡ j.id) → IsOrderOf C place_of jobs room order → job_with id jobs ≡ Some j → InOrder (place_cmp C) order.entries
-        → (q : ShelfPlace G) → is_some (holds_place C q (without_place C place order.entries)) ≡ has_place C place_of q (cond (id == q.id) None (job_with q.id jobs))
+    removed_places : (id : ℕ) (j : Job) (place : Option (ShelfPlace G)) (jobs : List Job) (room : ℕ) (order : Order G) → place_of j ≡ place
+        → IfSome place (λ p. p.id ≡ j.id) → IsOrderOf C place_of jobs room order → job_with id jobs ≡ Some j
+        → InOrder (place_cmp C) order.entries
+        → (q : ShelfPlace G) → is_some (holds_place C q (without_place C place order.entries)) ≡ has_place C place_of q
+        (cond (id == q.id) None (job_with q.id jobs))
     removed_places id j None jobs room order e own h found s q =
         elim (cases_Bool (id == q.id)) [
           | inr other ↦ rw other (h.places q)
@@ -192,20 +212,25 @@ module _ {G : Type 0} {C : G → G → Ordering} (o : IsTotalOrder C) where
         gone_now true u h = refl
         gone_now false u h = h
 
-    removed_length : (id : ℕ) (j : Job) (place : Option (ShelfPlace G)) (jobs : List Job) (room : ℕ) (order : Order G) → place_of j ≡ place → IsOrderOf C place_of jobs room order → job_with id jobs ≡ Some j
+    removed_length : (id : ℕ) (j : Job) (place : Option (ShelfPlace G)) (jobs : List Job) (room : ℕ) (order : Order G) → place_of j ≡ place
+        → IsOrderOf C place_of jobs room order → job_with id jobs ≡ Some j
         → cond (is_some place) 1 0 + length (without_place C place order.entries) ≡ length order.entries
     removed_length id j None jobs room order e h found = omega arith
     removed_length id j (Some p) jobs room order e h found =
         let held = some_unit (holds_place C p order.entries) (held_place id j jobs room order h found p e) in
         omega (arith, length_removed (is_at (place_cmp C p)) order.entries (Some (p, tt)) refl (sym held))
 
-    pub order_removed : (low next id : ℕ) (j : Job) (jobs : List Job) (room more : ℕ) (order new : Order G) → IsOrderOf C place_of jobs room order → AreIdsWithin low jobs next → job_with id jobs ≡ Some j → more ≡ room + 1
-        → new.entries ≡ without_place C (place_of j) order.entries → new.spare ≡ order.spare + cond (is_some (place_of j)) 1 0 → IsOrderOf C place_of (without id jobs) more new
+    pub order_removed : (low next id : ℕ) (j : Job) (jobs : List Job) (room more : ℕ) (order new : Order G)
+        → IsOrderOf C place_of jobs room order → AreIdsWithin low jobs next → job_with id jobs ≡ Some j → more ≡ room + 1
+        → new.entries ≡ without_place C (place_of j) order.entries → new.spare ≡ order.spare + cond (is_some (place_of j)) 1 0
+        → IsOrderOf C place_of (without id jobs) more new
     order_removed low next id j jobs room more order new h ids found m entries spare =
         let long = removed_length id j (place_of j) jobs room order refl h found in
         let now = ap length entries in
         record {
-          places = λ q. ap (λ es. is_some (holds_place C q es)) entries ∙ removed_places id j (place_of j) jobs room order refl (own j) h found h.sorted q ∙ sym (ap (has_place C place_of q) (found_without q.id id jobs));
+          places = λ q. ap (λ es. is_some (holds_place C q es)) entries
+              ∙ removed_places id j (place_of j) jobs room order refl (own j) h found h.sorted q
+              ∙ sym (ap (has_place C place_of q) (found_without q.id id jobs));
           counted = omega (arith, long, now, h.counted, count_without (λ k. is_some (place_of k)) low next id j jobs ids found);
           roomy = omega (arith, long, now, spare, h.roomy, length_without low next id j jobs ids found, m);
           sorted = subst (InOrder (place_cmp C)) (sym entries) (sorted_without (place_of j) order.entries h.sorted);
@@ -215,7 +240,11 @@ module _ {G : Type 0} {C : G → G → Ordering} (o : IsTotalOrder C) where
     module _ (low next id : ℕ) (j k : Job) (jobs : List Job) (room : ℕ) (order : Order G) (h : IsOrderOf C place_of jobs room order)
         (ids : AreIdsWithin low jobs next) (found : job_with id jobs ≡ Some j) (same : k.id ≡ id) where
       abbrev left : Order G
-      left = record { entries = without_place C (place_of j) order.entries; spare = order.spare + cond (is_some (place_of j)) 1 0; comparisons = order.comparisons }
+      left = record {
+        entries = without_place C (place_of j) order.entries;
+        spare = order.spare + cond (is_some (place_of j)) 1 0;
+        comparisons = order.comparisons;
+      }
 
       -- the order after the job has left its place
       once_left : IsOrderOf C place_of (without id jobs) (room + 1) left
@@ -239,5 +268,6 @@ module _ {G : Type 0} {C : G → G → Ordering} (o : IsTotalOrder C) where
       }
 
       pub order_moved : (new : Order G) → new.entries ≡ with_place C (place_of k) (without_place C (place_of j) order.entries)
-          → new.spare + cond (is_some (place_of k)) 1 0 ≡ order.spare + cond (is_some (place_of j)) 1 0 → IsOrderOf C place_of (with_added k (without id jobs)) room new
+          → new.spare + cond (is_some (place_of k)) 1 0 ≡ order.spare + cond (is_some (place_of j)) 1 0
+          → IsOrderOf C place_of (with_added k (without id jobs)) room new
       order_moved new entries spare = order_added k (without id jobs) (room + 1) room left new once_left free_then refl entries spare

@@ -1,5 +1,6 @@
 -- What is kept after additions, removals and allocations.
-use Rattle.std.proofs.Common.{◌≡◌, ℕ, suc, ◌+◌, ◌<◌, ◌≤◌, ◌^◌, ◌*◌, List, [], ◌∷◌, Some, None, map, length, cond, arith, refl, sym, ap, ◌∙◌, subst, inl, inr}
+use Rattle.std.proofs.Common.{◌≡◌, ℕ, suc, ◌+◌, ◌<◌, ◌≤◌, ◌^◌, ◌*◌, List, [], ◌∷◌, Some}
+use Rattle.std.proofs.Common.{None, map, length, cond, arith, refl, sym, ap, ◌∙◌, subst, inl, inr}
 use Rattle.std.specs.Prelude.{is_some, ◌==◌}
 use Rattle.std.specs.Ordering.{nat_cmp}
 use Rattle.std.specs.Map.{lookup, remove_entry, set_value}
@@ -60,16 +61,20 @@ found_in id s h = ap (lookup (is_at (nat_cmp id))) h.by_own_id ∙ lookup_by_id 
 pub found_own : (id : ℕ) (s : Parts) → AreShelved s → (j : Job) → lookup (is_at (nat_cmp id)) s.by_id.entries ≡ Some j → j.id ≡ id
 found_own id s h j found = found_id id (jobs_of s.by_id.entries) j (sym (found_in id s h) ∙ found)
 
-pub entries_added : (j : Job) (s : Parts) → AreShelved s → job_with j.id (jobs_of s.by_id.entries) ≡ None → insert_entry nat_cmp s.by_id.entries j.id j ≡ map with_id (with_added j (jobs_of s.by_id.entries))
+pub entries_added : (j : Job) (s : Parts) → AreShelved s → job_with j.id (jobs_of s.by_id.entries) ≡ None
+    → insert_entry nat_cmp s.by_id.entries j.id j ≡ map with_id (with_added j (jobs_of s.by_id.entries))
 entries_added j s h free = ap (λ es. insert_entry nat_cmp es j.id j) h.by_own_id ∙ insert_by_id j (jobs_of s.by_id.entries) free
 
-pub jobs_added : (j : Job) (s : Parts) → AreShelved s → job_with j.id (jobs_of s.by_id.entries) ≡ None → jobs_of (insert_entry nat_cmp s.by_id.entries j.id j) ≡ with_added j (jobs_of s.by_id.entries)
+pub jobs_added : (j : Job) (s : Parts) → AreShelved s → job_with j.id (jobs_of s.by_id.entries) ≡ None
+    → jobs_of (insert_entry nat_cmp s.by_id.entries j.id j) ≡ with_added j (jobs_of s.by_id.entries)
 jobs_added j s h free = ap jobs_of (entries_added j s h free) ∙ same_jobs (with_added j (jobs_of s.by_id.entries))
 
-pub entries_removed : (id : ℕ) (s : Parts) → AreShelved s → remove_entry (is_at (nat_cmp id)) s.by_id.entries ≡ map with_id (without id (jobs_of s.by_id.entries))
+pub entries_removed : (id : ℕ) (s : Parts) → AreShelved s
+    → remove_entry (is_at (nat_cmp id)) s.by_id.entries ≡ map with_id (without id (jobs_of s.by_id.entries))
 entries_removed id s h = ap (remove_entry (is_at (nat_cmp id))) h.by_own_id ∙ remove_by_id 0 (2 ^ 64) id (jobs_of s.by_id.entries) h.ids
 
-pub jobs_removed : (id : ℕ) (s : Parts) → AreShelved s → jobs_of (remove_entry (is_at (nat_cmp id)) s.by_id.entries) ≡ without id (jobs_of s.by_id.entries)
+pub jobs_removed : (id : ℕ) (s : Parts) → AreShelved s
+    → jobs_of (remove_entry (is_at (nat_cmp id)) s.by_id.entries) ≡ without id (jobs_of s.by_id.entries)
 jobs_removed id s h = ap jobs_of (entries_removed id s h) ∙ same_jobs (without id (jobs_of s.by_id.entries))
 
 -- after an addition
@@ -81,14 +86,17 @@ pub record Added (j : Job) (s n : Parts) : Type 0 where
   pub timers : n.timers.entries ≡ with_place timer_cmp (timer_place j) s.timers.entries
   pub timer_spare : n.timers.spare + cond (is_some (timer_place j)) 1 0 ≡ s.timers.spare
 
-pub shelved_added : (j : Job) (s n : Parts) → AreShelved s → j.id < 2 ^ 64 → job_with j.id (jobs_of s.by_id.entries) ≡ None → Added j s n → AreShelved n
+pub shelved_added : (j : Job) (s n : Parts) → AreShelved s → j.id < 2 ^ 64 → job_with j.id (jobs_of s.by_id.entries) ≡ None
+    → Added j s n → AreShelved n
 shelved_added j s n h l free a =
     let jobs = jobs_of s.by_id.entries in
     shelved_from n (with_added j jobs) (record {
       own = a.by_id ∙ entries_added j s h free;
       ids = added_within 0 (2 ^ 64) j jobs (omega arith) l free h.ids;
-      tubes = order_added group_laws.total-law group_place group_own j jobs s.by_id.spare n.by_id.spare s.groups n.groups h.in_groups free a.room a.groups a.group_spare;
-      timed = order_added timer_laws.total-law timer_place timer_own j jobs s.by_id.spare n.by_id.spare s.timers n.timers h.in_timers free a.room a.timers a.timer_spare;
+      tubes = order_added group_laws.total-law group_place group_own j jobs s.by_id.spare n.by_id.spare s.groups n.groups h.in_groups free
+          a.room a.groups a.group_spare;
+      timed = order_added timer_laws.total-law timer_place timer_own j jobs s.by_id.spare n.by_id.spare s.timers n.timers h.in_timers free
+          a.room a.timers a.timer_spare;
     })
 
 -- after a removal
@@ -100,14 +108,17 @@ pub record Removed (id : ℕ) (j : Job) (s n : Parts) : Type 0 where
   pub timers : n.timers.entries ≡ without_place timer_cmp (timer_place j) s.timers.entries
   pub timer_spare : n.timers.spare ≡ s.timers.spare + cond (is_some (timer_place j)) 1 0
 
-pub shelved_removed : (id : ℕ) (j : Job) (s n : Parts) → AreShelved s → job_with id (jobs_of s.by_id.entries) ≡ Some j → Removed id j s n → AreShelved n
+pub shelved_removed : (id : ℕ) (j : Job) (s n : Parts) → AreShelved s → job_with id (jobs_of s.by_id.entries) ≡ Some j
+    → Removed id j s n → AreShelved n
 shelved_removed id j s n h found a =
     let jobs = jobs_of s.by_id.entries in
     shelved_from n (without id jobs) (record {
       own = a.by_id ∙ entries_removed id s h;
       ids = without_within 0 (2 ^ 64) id jobs h.ids;
-      tubes = order_removed group_laws.total-law group_place group_own 0 (2 ^ 64) id j jobs s.by_id.spare n.by_id.spare s.groups n.groups h.in_groups h.ids found a.room a.groups a.group_spare;
-      timed = order_removed timer_laws.total-law timer_place timer_own 0 (2 ^ 64) id j jobs s.by_id.spare n.by_id.spare s.timers n.timers h.in_timers h.ids found a.room a.timers a.timer_spare;
+      tubes = order_removed group_laws.total-law group_place group_own 0
+          (2 ^ 64) id j jobs s.by_id.spare n.by_id.spare s.groups n.groups h.in_groups h.ids found a.room a.groups a.group_spare;
+      timed = order_removed timer_laws.total-law timer_place timer_own 0
+          (2 ^ 64) id j jobs s.by_id.spare n.by_id.spare s.timers n.timers h.in_timers h.ids found a.room a.timers a.timer_spare;
     })
 
 -- the comparisons of a search in each order
@@ -119,7 +130,9 @@ module _ (s : Parts) (h : AreShelved s) where
   timer_search = order_search timer_cmp timer_place (jobs_of s.by_id.entries) s.by_id.spare s.timers h.in_timers
 
 -- if an id finds nothing, nothing is removed
-pub shelved_same : (id : ℕ) (s : Parts) (by_id : ById) → AreShelved s → lookup (is_at (nat_cmp id)) s.by_id.entries ≡ None → by_id.entries ≡ remove_entry (is_at (nat_cmp id)) s.by_id.entries → by_id.spare ≡ s.by_id.spare → AreShelved (record s { by_id = by_id })
+pub shelved_same : (id : ℕ) (s : Parts) (by_id : ById) → AreShelved s → lookup (is_at (nat_cmp id)) s.by_id.entries ≡ None
+    → by_id.entries ≡ remove_entry (is_at (nat_cmp id)) s.by_id.entries → by_id.spare ≡ s.by_id.spare
+    → AreShelved (record s { by_id = by_id })
 shelved_same id s by_id h none entries spare =
     let jobs = jobs_of s.by_id.entries in
     let same = without_none id jobs (sym (found_in id s h) ∙ none) in
@@ -145,12 +158,14 @@ pub record Changed (j k : Job) (s n : Parts) : Type 0 where
   pub timers : n.timers.entries ≡ with_place timer_cmp (timer_place k) (without_place timer_cmp (timer_place j) s.timers.entries)
   pub timer_spare : n.timers.spare + cond (is_some (timer_place k)) 1 0 ≡ s.timers.spare + cond (is_some (timer_place j)) 1 0
 
-module _ (id : ℕ) (f : Job → Job) (keeps : KeepsId f) (s : Parts) (h : AreShelved s) (j : Job) (found : job_with id (jobs_of s.by_id.entries) ≡ Some j) where
+module _ (id : ℕ) (f : Job → Job) (keeps : KeepsId f) (s : Parts) (h : AreShelved s) (j : Job)
+    (found : job_with id (jobs_of s.by_id.entries) ≡ Some j) where
   id_then : (f j).id ≡ id
   id_then = keeps j ∙ found_id id (jobs_of s.by_id.entries) j found
 
   pub entries_changed : set_value (is_at (nat_cmp id)) s.by_id.entries (f j) ≡ map with_id (with_changed id f (jobs_of s.by_id.entries))
-  entries_changed = ap (λ es. set_value (is_at (nat_cmp id)) es (f j)) h.by_own_id ∙ set_by_id 0 (2 ^ 64) id f j (jobs_of s.by_id.entries) h.ids found id_then
+  entries_changed = ap (λ es. set_value (is_at (nat_cmp id)) es (f j)) h.by_own_id
+      ∙ set_by_id 0 (2 ^ 64) id f j (jobs_of s.by_id.entries) h.ids found id_then
 
   pub jobs_changed : jobs_of (set_value (is_at (nat_cmp id)) s.by_id.entries (f j)) ≡ with_changed id f (jobs_of s.by_id.entries)
   jobs_changed = ap jobs_of entries_changed ∙ same_jobs (with_changed id f (jobs_of s.by_id.entries))
@@ -158,7 +173,8 @@ module _ (id : ℕ) (f : Job → Job) (keeps : KeepsId f) (s : Parts) (h : AreSh
   changed_keeps : (k : Job) → (cond (k.id == id) (f k) k).id ≡ k.id
   changed_keeps k = elim (cases_Bool (k.id == id)) [ inl e ↦ rw e (keeps k) | inr e ↦ rw e refl ]
 
-  pub shelved_changed : (n : Parts) → n.by_id.entries ≡ set_value (is_at (nat_cmp id)) s.by_id.entries (f j) → Changed j (f j) s n → AreShelved n
+  pub shelved_changed : (n : Parts) → n.by_id.entries ≡ set_value (is_at (nat_cmp id)) s.by_id.entries (f j)
+      → Changed j (f j) s n → AreShelved n
   shelved_changed n entries a =
       let jobs = jobs_of s.by_id.entries in
       let room = s.by_id.spare in
@@ -166,8 +182,12 @@ module _ (id : ℕ) (f : Job → Job) (keeps : KeepsId f) (s : Parts) (h : AreSh
       shelved_from n (with_changed id f jobs) (record {
         own = entries ∙ entries_changed;
         ids = ids_of_map (λ k. cond (k.id == id) (f k) k) 0 (2 ^ 64) jobs changed_keeps h.ids;
-        tubes = subst (λ r. IsOrderOf group_cmp group_place (with_changed id f jobs) r n.groups) (sym a.room) (subst (λ js. IsOrderOf group_cmp group_place js room n.groups) made
-            (order_moved group_laws.total-law group_place group_own 0 (2 ^ 64) id j (f j) jobs room s.groups h.in_groups h.ids found id_then n.groups a.groups a.group_spare));
-        timed = subst (λ r. IsOrderOf timer_cmp timer_place (with_changed id f jobs) r n.timers) (sym a.room) (subst (λ js. IsOrderOf timer_cmp timer_place js room n.timers) made
-            (order_moved timer_laws.total-law timer_place timer_own 0 (2 ^ 64) id j (f j) jobs room s.timers h.in_timers h.ids found id_then n.timers a.timers a.timer_spare));
+        tubes = subst (λ r. IsOrderOf group_cmp group_place (with_changed id f jobs) r n.groups) (sym a.room)
+            (subst (λ js. IsOrderOf group_cmp group_place js room n.groups) made
+            (order_moved group_laws.total-law group_place group_own 0 (2 ^ 64) id j
+            (f j) jobs room s.groups h.in_groups h.ids found id_then n.groups a.groups a.group_spare));
+        timed = subst (λ r. IsOrderOf timer_cmp timer_place (with_changed id f jobs) r n.timers) (sym a.room)
+            (subst (λ js. IsOrderOf timer_cmp timer_place js room n.timers) made
+            (order_moved timer_laws.total-law timer_place timer_own 0 (2 ^ 64) id j
+            (f j) jobs room s.timers h.in_timers h.ids found id_then n.timers a.timers a.timer_spare));
       })

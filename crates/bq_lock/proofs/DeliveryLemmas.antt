@@ -12,11 +12,13 @@ use Rattle.bq_lock.specs.LockedState.{AreFew, outbox_at}
 use Rattle.bq_lock.specs.LockedSteps.{AreDelivered}
 use Rattle.bq_lock.proofs.LastPartLemmas.{last_are_few, last_then}
 
-pub items_of_ok : {X E : Type 0} (result : Result X E) (x : X) (items pushed kept : List ℕ) → items ≡ (if is_ok result then pushed else kept) → result ≡ Ok x → items ≡ pushed
+pub items_of_ok : {X E : Type 0} (result : Result X E) (x : X) (items pushed kept : List ℕ)
+    → items ≡ (if is_ok result then pushed else kept) → result ≡ Ok x → items ≡ pushed
 items_of_ok {X} {E} result x items pushed kept is ok = is ∙ ap (λ (r : Result X E). if is_ok r then pushed else kept) ok
 
 -- Of the given answers these are left, and the others are in the outboxes.
-pub record IsDelivering (given : List GivenAnswer) (old : List (List Answer)) (left : List GivenAnswer) (answered : List ℕ) (new : List (List Answer)) : Type 0 where
+pub record IsDelivering (given : List GivenAnswer) (old : List (List Answer)) (left : List GivenAnswer) (answered : List ℕ)
+    (new : List (List Answer)) : Type 0 where
   pub done : List GivenAnswer
   pub given_is : given ≡ done ++ left
   pub delivered : AreDelivered done old new
@@ -29,11 +31,14 @@ outbox_past outboxes seat past = get_or_past outboxes seat [] past
 pub few_delivered : (given : List GivenAnswer) (old new : List (List Answer)) → AreDelivered given old new → AreFew new
 few_delivered given old new d seat =
     elim (cases_lt seat (length old)) [
-      | inl here ↦ subst (λ (xs : List Answer). length xs ≤ 4) (sym (d.each seat here)) (last_are_few 4 (outbox_at seat old ++ answers_to seat given))
-      | inr past ↦ subst (λ (xs : List Answer). length xs ≤ 4) (sym (outbox_past new seat (let m = d.many in omega (arith, m, past)))) (omega arith)
+      | inl here ↦ subst (λ (xs : List Answer). length xs ≤ 4) (sym (d.each seat here))
+          (last_are_few 4 (outbox_at seat old ++ answers_to seat given))
+      | inr past ↦ subst (λ (xs : List Answer). length xs ≤ 4)
+          (sym (outbox_past new seat (let m = d.many in omega (arith, m, past)))) (omega arith)
     ]
 
-delivered_then : (done more : List GivenAnswer) (old next new : List (List Answer)) → AreDelivered done old next → AreDelivered more next new → AreDelivered (done ++ more) old new
+delivered_then : (done more : List GivenAnswer) (old next new : List (List Answer)) → AreDelivered done old next
+    → AreDelivered more next new → AreDelivered (done ++ more) old new
 delivered_then done more old next new a b = record {
   many = b.many ∙ a.many;
   each = λ seat here.
@@ -45,8 +50,10 @@ delivered_then done more old next new a b = record {
 }
 
 -- the next answer went into its outbox
-pub delivering_one : (given : List GivenAnswer) (old : List (List Answer)) (g : GivenAnswer) (left rest : List GivenAnswer) (answered : List ℕ) (next new : List (List Answer))
-    → IsDelivering given old left answered next → left ≡ g ∷ rest → AreDelivered (g ∷ []) next new → IsDelivering given old rest (answered ++ g.0 ∷ []) new
+pub delivering_one : (given : List GivenAnswer) (old : List (List Answer)) (g : GivenAnswer) (left rest : List GivenAnswer)
+    (answered : List ℕ) (next new : List (List Answer))
+    → IsDelivering given old left answered next → left ≡ g ∷ rest → AreDelivered (g ∷ []) next new
+    → IsDelivering given old rest (answered ++ g.0 ∷ []) new
 delivering_one given old g left rest answered next new d is one = record {
   done = d.done ++ g ∷ [];
   given_is = d.given_is ∙ ap (λ (xs : List GivenAnswer). d.done ++ xs) is ∙ sym (append_assoc d.done (g ∷ []) rest);

@@ -16,7 +16,8 @@ false_is_not_true e = cc
 -- A run with a door for each seat, for which the content of the lock could be created, is not
 -- rejected for its configuration.
 pub well_configured : {A T : Type 0} (result : Result T RunFault) (config : Settings) (doors : ℕ) (made : A)
-    → (IsErrOf {T = A} {E = RunFault} (Ok made) BadConfiguration ↔ IsTrue (not (are_in_range config))) → doors ≡ config.seats → (IsErrOf result BadConfiguration → ⊥)
+    → (IsErrOf {T = A} {E = RunFault} (Ok made) BadConfiguration ↔ IsTrue (not (are_in_range config))) → doors ≡ config.seats
+    → (IsErrOf result BadConfiguration → ⊥)
     → IsErrOf result BadConfiguration ↔ IsTrue (not (are_in_range config && doors == config.seats))
 well_configured result config doors made bad many other =
     let fits : (doors == config.seats) ≡ true = eq-eqb doors config.seats many in (
@@ -33,7 +34,9 @@ size_of_all true false jobs e = absurd (false_is_not_true e)
 size_of_all false size jobs e = absurd (false_is_not_true e)
 
 -- If the content of the lock could be created, the limit of body sizes is in its range.
-pub size_fits : {A : Type 0} (config : Settings) (made : A) → (IsErrOf {T = A} {E = RunFault} (Ok made) BadConfiguration ↔ IsTrue (not (are_in_range config))) → IsTrue (is_body_size config.max_job_size)
+pub size_fits : {A : Type 0} (config : Settings) (made : A)
+    → (IsErrOf {T = A} {E = RunFault} (Ok made) BadConfiguration ↔ IsTrue (not (are_in_range config)))
+    → IsTrue (is_body_size config.max_job_size)
 size_fits config made bad =
     elim (cases_Bool (are_in_range config)) [
       | inl good ↦ size_of_all (is_seat_count config.seats) (is_body_size config.max_job_size) (is_job_limit config.max_jobs) good

@@ -29,7 +29,8 @@ ends_with_none xs = (xs, sym (append-nil xs))
 
 -- A last part of a last part is a last part.
 pub ends_with_then : {X : Type 0} (xs part last : List X) → EndsWith xs part → EndsWith part last → EndsWith xs last
-ends_with_then xs part last (front, is) (more, then_is) = (front ++ more, is ∙ ap (λ zs. front ++ zs) then_is ∙ sym (append_assoc front more last))
+ends_with_then xs part last (front, is) (more, then_is) =
+    (front ++ more, is ∙ ap (λ zs. front ++ zs) then_is ∙ sym (append_assoc front more last))
 
 pub ends_with_more : {X : Type 0} (xs part ys : List X) → EndsWith xs part → EndsWith (xs ++ ys) (part ++ ys)
 ends_with_more xs part ys (front, is) = (front, ap (λ zs. zs ++ ys) is ∙ append_assoc front part ys)

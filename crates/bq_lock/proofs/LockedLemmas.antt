@@ -1,8 +1,10 @@
 -- The invariant of the lock's content holds after each operation.
-use Rattle.std.proofs.Common.{◌≡◌, ℕ, ◌<◌, ◌≤◌, ◌⊎◌, Bool, true, false, not, ◌&&◌, List, [], ◌∷◌, ◌++◌, Option, Some, None, drop, length, refl, sym, ap, ◌∙◌, arith, subst, inl, inr, replicate}
+use Rattle.std.proofs.Common.{◌≡◌, ℕ, ◌<◌, ◌≤◌, ◌⊎◌, Bool, true, false, not, ◌&&◌, List, [], ◌∷◌, ◌++◌}
+use Rattle.std.proofs.Common.{Option, Some, None, drop, length, refl, sym, ap, ◌∙◌, arith, subst, inl, inr, replicate}
 use Rattle.std.specs.Prelude.{◌==◌, IfSome, IsNone, IsSome, IsTrue}
 use Rattle.std.proofs.lemmas.Bool.{cases_Bool, cases_lt, eqb-true, eqb-false, false≢true}
-use Rattle.std.proofs.lemmas.List.{get_or_past, get_or-replicate, get_or-set_other, get_or-set_same, length-append, length-replicate, length-set, set_past}
+use Rattle.std.proofs.lemmas.List.{get_or_past, get_or-replicate, get_or-set_other, get_or-set_same}
+use Rattle.std.proofs.lemmas.List.{length-append, length-replicate, length-set, set_past}
 use Rattle.bq_job.specs.declared.answer.Answer.{Answer}
 use Rattle.bq_job.specs.declared.journal.Entry.{Entry}
 use Rattle.bq_job.specs.declared.settings.Settings.{Settings}
@@ -54,29 +56,36 @@ ends_delivered so_far given old new seat d ends =
       | inl here ↦
           let whole : List Answer = outbox_at seat old ++ answers_to seat given in
           let joined : EndsWith (answers_to seat (so_far ++ given)) whole =
-          subst (λ (xs : List Answer). EndsWith xs whole) (sym (answers_append seat so_far given)) (ends_with_more (answers_to seat so_far) (outbox_at seat old) (answers_to seat given) ends) in
+          subst (λ (xs : List Answer). EndsWith xs whole) (sym (answers_append seat so_far given))
+          (ends_with_more (answers_to seat so_far) (outbox_at seat old) (answers_to seat given) ends) in
           subst (λ (xs : List Answer). EndsWith (answers_to seat (so_far ++ given)) xs) (sym (d.each seat here))
           (ends_with_then (answers_to seat (so_far ++ given)) whole (last_part 4 whole) joined (ends_with_last 4 whole))
       | inr past ↦
-          subst (λ (xs : List Answer). EndsWith (answers_to seat (so_far ++ given)) xs) (sym (outbox_past new seat (let m = d.many in omega (arith, m, past))))
+          subst (λ (xs : List Answer). EndsWith (answers_to seat (so_far ++ given)) xs)
+          (sym (outbox_past new seat (let m = d.many in omega (arith, m, past))))
           (ends_with_none (answers_to seat (so_far ++ given)))
     ]
 
 -- The journal after a step, by whether there was a copy of the step for its entry.
-pub noted_of : (copy : Option Step) (old : JournalState) (at seat : ℕ) (what : Step) (told_left told_unshared left_out unshared : Bool) (new : JournalState)
+pub noted_of : (copy : Option Step) (old : JournalState) (at seat : ℕ) (what : Step) (told_left told_unshared left_out unshared : Bool)
+    (new : JournalState)
     → told_left ≡ left_out → told_unshared ≡ unshared
-    → IfSome copy (λ step. step ≡ what) → (IsSome copy → length old.entries < old.capacity) → (IsNone copy → length old.entries < old.capacity → IsTrue (has_body what))
-    → (IsNone copy → new ≡ without_entry old) → IfSome copy (λ step. new ≡ with_entry (record { moment = at; seat = seat; step = step; left_out = told_left }) told_unshared old)
+    → IfSome copy (λ step. step ≡ what) → (IsSome copy → length old.entries < old.capacity)
+    → (IsNone copy → length old.entries < old.capacity → IsTrue (has_body what))
+    → (IsNone copy → new ≡ without_entry old)
+    → IfSome copy (λ step. new ≡ with_entry (record { moment = at; seat = seat; step = step; left_out = told_left }) told_unshared old)
     → IsAdded old (record { moment = at; seat = seat; step = what; left_out = left_out }) unshared new ⊎ IsLeftOut old what new
-noted_of None old at seat what told_left told_unshared left_out unshared new left shared same room refused without added = inr (record { had_body = refused refl; new_is = without refl })
-noted_of (Some step) old at seat what told_left told_unshared left_out unshared new left shared same room refused without added = inl (record {
-  had_room = room refl;
-  new_is =
-      added
-      ∙ ap (λ (s : Step). with_entry (record { moment = at; seat = seat; step = s; left_out = told_left }) told_unshared old) same
-      ∙ ap (λ (b : Bool). with_entry (record { moment = at; seat = seat; step = what; left_out = b }) told_unshared old) left
-      ∙ ap (λ (b : Bool). with_entry (record { moment = at; seat = seat; step = what; left_out = left_out }) b old) shared;
-})
+noted_of None old at seat what told_left told_unshared left_out unshared new left shared same room refused without added =
+    inr (record { had_body = refused refl; new_is = without refl })
+noted_of (Some step) old at seat what told_left told_unshared left_out unshared new left shared same room refused without
+    added = inl (record {
+      had_room = room refl;
+      new_is =
+          added
+          ∙ ap (λ (s : Step). with_entry (record { moment = at; seat = seat; step = s; left_out = told_left }) told_unshared old) same
+          ∙ ap (λ (b : Bool). with_entry (record { moment = at; seat = seat; step = what; left_out = b }) told_unshared old) left
+          ∙ ap (λ (b : Bool). with_entry (record { moment = at; seat = seat; step = what; left_out = left_out }) b old) shared;
+    })
 
 -- If the journal is complete after a step, it was complete before it, and no reference to a body
 -- failed to be allocated in the step.
@@ -90,7 +99,8 @@ false_of_not true h = absurd cc
 false_of_not false h = refl
 
 step_replayed : (old : LockedState) (at seat : ℕ) (what : Step) (new : LockedState) (outcome : Outcome) (given : List GivenAnswer)
-    → IsStep old.machine at seat what outcome given new.machine → AreDelivered given old.outboxes new.outboxes → new.machine.settings ≡ old.machine.settings
+    → IsStep old.machine at seat what outcome given new.machine → AreDelivered given old.outboxes new.outboxes
+    → new.machine.settings ≡ old.machine.settings
     → (old.journal.whole ≡ true → IsReplayed old)
     → IsAdded old.journal (record { moment = at; seat = seat; step = what; left_out = outcome.left_out }) outcome.unshared new.journal
     → new.journal.whole ≡ true → IsReplayed new
@@ -100,7 +110,8 @@ step_replayed old at seat what new outcome given step delivered settings replaye
     let shared : outcome.unshared ≡ false = false_of_not outcome.unshared both.1 in
     let r = replayed both.0 in
     let named : outcome ≡ outcome_of entry = ap (λ (b : Bool). record { left_out = outcome.left_out; unshared = b }) shared in
-    let step' : IsStep old.machine at seat what (outcome_of entry) given new.machine = subst (λ (o : Outcome). IsStep old.machine at seat what o given new.machine) named step in
+    let step' : IsStep old.machine at seat what (outcome_of entry) given new.machine =
+    subst (λ (o : Outcome). IsStep old.machine at seat what o given new.machine) named step in
     let entries : new.journal.entries ≡ old.journal.entries ++ entry ∷ [] = ap (λ (j : JournalState). j.entries) added.new_is in
     let goes_on : Replay old.machine.settings (old.journal.entries ++ entry ∷ []) (r.given ++ given) new.machine =
     replay_more old.machine.settings old.journal.entries entry r.given given old.machine new.machine r.replay step' in
@@ -113,7 +124,8 @@ step_replayed old at seat what new outcome given step delivered settings replaye
     }
 
 -- a step preserves the invariant
-pub hold_step : (old : LockedState) (at seat : ℕ) (what : Step) (new : LockedState) → IsLawfulHold old → IsLawful new.machine → new.machine.settings ≡ old.machine.settings
+pub hold_step : (old : LockedState) (at seat : ℕ) (what : Step) (new : LockedState) → IsLawfulHold old → IsLawful new.machine
+    → new.machine.settings ≡ old.machine.settings
     → TakesStep old at seat what new → IsLawfulHold new
 hold_step old at seat what new h lawful settings taken = record {
   lawful = lawful;
@@ -125,23 +137,30 @@ hold_step old at seat what new h lawful settings taken = record {
     entry : Entry
     entry = record { moment = at; seat = seat; step = what; left_out = taken.outcome.left_out }
 
-    by_journal : IsAdded old.journal entry taken.outcome.unshared new.journal ⊎ IsLeftOut old.journal what new.journal → new.journal.whole ≡ true → IsReplayed new
-    by_journal (inl added) whole = step_replayed old at seat what new taken.outcome taken.given taken.step taken.delivered settings h.replayed added whole
+    by_journal : IsAdded old.journal entry taken.outcome.unshared new.journal ⊎ IsLeftOut old.journal what new.journal
+        → new.journal.whole ≡ true → IsReplayed new
+    by_journal (inl added) whole = step_replayed old at seat what new taken.outcome taken.given taken.step taken.delivered settings
+        h.replayed added whole
     by_journal (inr left) whole = absurd (false≢true (sym (ap (λ (j : JournalState). j.whole) left.new_is) ∙ whole))
 
-ends_fetched : (outboxes : List (List Answer)) (seat other : ℕ) → EndsWith (outbox_at other outboxes) (outbox_at other (without_oldest seat outboxes))
+ends_fetched : (outboxes : List (List Answer)) (seat other : ℕ)
+    → EndsWith (outbox_at other outboxes) (outbox_at other (without_oldest seat outboxes))
 ends_fetched outboxes seat other =
     elim (cases_lt seat (length outboxes)) [
       | inl here ↦ elim (cases_Bool (other == seat)) [
         | inl e ↦
             subst (λ (t : ℕ). EndsWith (outbox_at t outboxes) (outbox_at t (without_oldest seat outboxes))) (sym (eqb-true other seat e))
-            (subst (λ (xs : List Answer). EndsWith (outbox_at seat outboxes) xs) (sym (get_or-set_same outboxes seat (drop 1 (outbox_at seat outboxes)) [] here)) (ends_with_drop 1 (outbox_at seat outboxes)))
+            (subst (λ (xs : List Answer). EndsWith (outbox_at seat outboxes) xs)
+            (sym (get_or-set_same outboxes seat (drop 1 (outbox_at seat outboxes)) [] here))
+            (ends_with_drop 1 (outbox_at seat outboxes)))
         | inr e ↦
-            subst (λ (xs : List Answer). EndsWith (outbox_at other outboxes) xs) (sym (get_or-set_other outboxes seat other (drop 1 (outbox_at seat outboxes)) [] (eqb-false other seat e)))
+            subst (λ (xs : List Answer). EndsWith (outbox_at other outboxes) xs)
+            (sym (get_or-set_other outboxes seat other (drop 1 (outbox_at seat outboxes)) [] (eqb-false other seat e)))
             ([], refl)
       ]
       | inr past ↦
-          subst (λ (bs : List (List Answer)). EndsWith (outbox_at other outboxes) (outbox_at other bs)) (sym (set_past outboxes seat (drop 1 (outbox_at seat outboxes)) past)) ([], refl)
+          subst (λ (bs : List (List Answer)). EndsWith (outbox_at other outboxes) (outbox_at other bs))
+          (sym (set_past outboxes seat (drop 1 (outbox_at seat outboxes)) past)) ([], refl)
     ]
 
 few_of_part : (xs part : List Answer) → EndsWith xs part → length xs ≤ 4 → length part ≤ 4
@@ -156,12 +175,14 @@ hold_fetch l seat h = record {
   replayed = λ whole. record {
     given = (h.replayed whole).given;
     replay = (h.replayed whole).replay;
-    last_parts = λ other. ends_with_then (answers_to other (h.replayed whole).given) (outbox_at other l.outboxes) _ ((h.replayed whole).last_parts other) (ends_fetched l.outboxes seat other);
+    last_parts = λ other. ends_with_then (answers_to other (h.replayed whole).given) (outbox_at other l.outboxes) _
+        ((h.replayed whole).last_parts other) (ends_fetched l.outboxes seat other);
   };
 }
 
 -- the same for the parts of the lock's content when it is created
-pub hold_first : (settings : Settings) (room : ℕ) (machine : Machine) (outboxes : List (List Answer)) (answered : List ℕ) (journal : JournalState)
+pub hold_first : (settings : Settings) (room : ℕ) (machine : Machine) (outboxes : List (List Answer)) (answered : List ℕ)
+    (journal : JournalState)
     → machine ≡ new_machine settings → outboxes ≡ replicate settings.seats [] → answered ≡ [] → journal ≡ (new_locked settings room).journal
     → IsLawfulHold (locked_of machine outboxes answered journal)
 hold_first settings room machine outboxes answered journal m o a j =

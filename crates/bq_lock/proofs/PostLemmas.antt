@@ -9,8 +9,10 @@ use Rattle.bq_driver.specs.declared.attendant.Attendant.{Attendant}
 use Rattle.bq_driver.specs.declared.attendant.LinePlace.TheVariants as places
 use Rattle.bq_driver.proofs.TendingLemmas.{tended_new}
 
-pub tended_first : {L D : Type 0} (seen : L → LineSeen) (is_out is_at_end : D → Bool) (lines_over : D → List LineOver) (a : Attendant L) (door : D)
+pub tended_first : {L D : Type 0} (seen : L → LineSeen) (is_out is_at_end : D → Bool) (lines_over : D → List LineOver)
+    (a : Attendant L) (door : D)
     → a.place ≡ places.Between → awaited a.machine ≡ Awaited.ALine → is_out door ≡ false → is_at_end door ≡ false → lines_over door ≡ []
     → IsTended seen a.machine.reader.max_job_size a (door_seen is_out is_at_end lines_over door) [] []
 tended_first seen is_out is_at_end lines_over a door at waits inside more over =
-    tended_new seen a.machine.reader.max_job_size a (door_seen is_out is_at_end lines_over door) (record { place = at; awaits = waits; limit = refl }) (record { inside = inside; more = more; none_over = over })
+    tended_new seen a.machine.reader.max_job_size a (door_seen is_out is_at_end lines_over door)
+    (record { place = at; awaits = waits; limit = refl }) (record { inside = inside; more = more; none_over = over })

@@ -5,7 +5,8 @@ use Rattle.std.proofs.lemmas.Bool.{cases_Bool, eqb-true}
 use Rattle.bq_lock.specs.Rung.{others}
 
 -- A seat other than the thread's own comes after this many others.
-pub more_others : (own : ℕ) (seats : List ℕ) (place many : ℕ) → length (others own (take place seats)) ≡ many → place < length seats → (slice_index_or seats place 0 ≡ own → ⊥) → many < length (others own seats)
+pub more_others : (own : ℕ) (seats : List ℕ) (place many : ℕ) → length (others own (take place seats)) ≡ many → place < length seats
+    → (slice_index_or seats place 0 ≡ own → ⊥) → many < length (others own seats)
 more_others own [] place many e below differs = absurd (omega arith)
 more_others own (s ∷ seats) zero many e below differs =
     elim (cases_Bool (s == own)) [
@@ -15,5 +16,7 @@ more_others own (s ∷ seats) zero many e below differs =
 more_others own (s ∷ seats) (suc place) many e below differs =
     elim (cases_Bool (s == own)) [
       | inl same ↦ rw same (more_others own seats place many (rw same at e) (omega (arith, below)) differs)
-      | inr other ↦ rw other (let taken : suc (length (others own (take place seats))) ≡ many = rw other at e in let more = more_others own seats place (length (others own (take place seats))) refl (omega (arith, below)) differs in omega arith)
+      | inr other ↦ rw other (let taken : suc (length (others own (take place seats))) ≡ many = rw other at e in
+          let more = more_others own seats place (length (others own (take place seats))) refl
+          (omega (arith, below)) differs in omega arith)
     ]

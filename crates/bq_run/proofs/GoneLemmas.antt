@@ -1,5 +1,6 @@
 -- An end whose Gone was taken has nothing waiting.
-use Rattle.std.proofs.Common.{◌≡◌, ℕ, zero, suc, Bool, true, false, List, [], ◌∷◌, ◌++◌, map, replicate, refl, sym, ap, ◌∙◌, subst, inl, inr}
+use Rattle.std.proofs.Common.{◌≡◌, ℕ, zero, suc, Bool, true, false, List, [], ◌∷◌}
+use Rattle.std.proofs.Common.{◌++◌, map, replicate, refl, sym, ap, ◌∙◌, subst, inl, inr}
 use Rattle.bq_job.specs.declared.answer.Answer.{Answer}
 use Rattle.bq_job.specs.declared.request.Request.{Request}
 use Rattle.bq_job.specs.declared.step.Step.{Step}
@@ -34,7 +35,11 @@ goneless_drains (suc n) = (refl, goneless_drains n)
 goneless_line : (size : ℕ) (line : LineOver) (own : List Step) (answers : List Answer) → IsLineOwed size line own answers → IsGoneless own
 goneless_line size line own answers l =
     let s = l.steps in
-    subst IsGoneless (sym s.steps_are) (refl, goneless_both (map steps.Ask s.asked ++ s.end_steps) (steps.Close ∷ []) (goneless_both (map steps.Ask s.asked) s.end_steps (goneless_asks s.asked) ends) (refl, tt))
+    subst IsGoneless (sym s.steps_are) (
+      refl,
+      goneless_both (map steps.Ask s.asked ++ s.end_steps) (steps.Close ∷ [])
+          (goneless_both (map steps.Ask s.asked) s.end_steps (goneless_asks s.asked) ends) (refl, tt),
+    )
   where
     ends : IsGoneless l.steps.end_steps
     ends = elim l.steps.ends [
@@ -42,9 +47,12 @@ goneless_line size line own answers l =
       | inr one ↦ subst IsGoneless (sym one.0) (refl, tt)
     ]
 
-goneless_lines : (size : ℕ) (lines : List LineOver) (own : List Step) (taken : List Answer) → AreLinesServed size lines own taken → IsGoneless own
+goneless_lines : (size : ℕ) (lines : List LineOver) (own : List Step) (taken : List Answer)
+    → AreLinesServed size lines own taken → IsGoneless own
 goneless_lines size [] own taken h = subst IsGoneless (sym h.0) tt
-goneless_lines size (line ∷ lines) own taken h = subst IsGoneless (sym h.5) (goneless_both h.0 h.1 (goneless_line size line h.0 h.4.own h.4.line_owed) (goneless_lines size lines h.1 h.3 h.7))
+goneless_lines size (line ∷ lines) own taken h =
+    subst IsGoneless (sym h.5) (goneless_both h.0 h.1 (goneless_line size line h.0 h.4.own h.4.line_owed)
+    (goneless_lines size lines h.1 h.3 h.7))
 
 -- An end submits Gone once, as its last step.
 pub record EndsByGone (submitted : List Step) : Type 0 where
@@ -52,19 +60,26 @@ pub record EndsByGone (submitted : List Step) : Type 0 where
   pub goneless : IsGoneless own
   pub submitted_is : submitted ≡ own ++ steps.Gone ∷ []
 
-pub seat_ends_by_gone : (size : ℕ) (lines : List LineOver) (submitted : List Step) (taken : List Answer) → IsSeatDone size lines submitted taken → EndsByGone submitted
-seat_ends_by_gone size lines submitted taken d = record { own = d.own; goneless = goneless_lines size lines d.own taken d.of_lines; submitted_is = d.submitted_is }
+pub seat_ends_by_gone : (size : ℕ) (lines : List LineOver) (submitted : List Step) (taken : List Answer)
+    → IsSeatDone size lines submitted taken → EndsByGone submitted
+seat_ends_by_gone size lines submitted taken d =
+    record { own = d.own; goneless = goneless_lines size lines d.own taken d.of_lines; submitted_is = d.submitted_is }
 
-pub control_ends_by_gone : (text : List ℕ) (failed : Bool) (submitted : List Step) → IsControlDone text failed submitted → EndsByGone submitted
-control_ends_by_gone text failed submitted d = record { own = replicate (drains text failed) steps.Drain; goneless = goneless_drains (drains text failed); submitted_is = d }
+pub control_ends_by_gone : (text : List ℕ) (failed : Bool) (submitted : List Step) → IsControlDone text failed submitted
+    → EndsByGone submitted
+control_ends_by_gone text failed submitted d =
+    record { own = replicate (drains text failed) steps.Drain; goneless = goneless_drains (drains text failed); submitted_is = d }
 
-behind_gone : (own before after waiting : List Step) → IsGoneless own → own ++ steps.Gone ∷ [] ≡ (before ++ steps.Gone ∷ after) ++ waiting → waiting ≡ []
+behind_gone : (own before after waiting : List Step) → IsGoneless own
+    → own ++ steps.Gone ∷ [] ≡ (before ++ steps.Gone ∷ after) ++ waiting → waiting ≡ []
 behind_gone [] [] [] waiting g e = cc
 behind_gone [] [] (x ∷ after) waiting g e = absurd cc
 behind_gone [] (x ∷ []) after waiting g e = absurd cc
 behind_gone [] (x ∷ y ∷ before) after waiting g e = absurd cc
-behind_gone (o ∷ own) [] after waiting g e = let same : o ≡ steps.Gone = cc in let no : is_gone steps.Gone ≡ false = subst (λ (s : Step). is_gone s ≡ false) same g.0 in absurd cc
-behind_gone (o ∷ own) (x ∷ before) after waiting g e = behind_gone own before after waiting g.1 (let rest : own ++ steps.Gone ∷ [] ≡ (before ++ steps.Gone ∷ after) ++ waiting = cc in rest)
+behind_gone (o ∷ own) [] after waiting g e = let same : o ≡ steps.Gone = cc in
+    let no : is_gone steps.Gone ≡ false = subst (λ (s : Step). is_gone s ≡ false) same g.0 in absurd cc
+behind_gone (o ∷ own) (x ∷ before) after waiting g e =
+    behind_gone own before after waiting g.1 (let rest : own ++ steps.Gone ∷ [] ≡ (before ++ steps.Gone ∷ after) ++ waiting = cc in rest)
 
 -- If the core took these steps of the end, including Gone, no step of the end waits.
 pub none_waits : (submitted taken waiting : List Step) → EndsByGone submitted → HasGone taken → submitted ≡ taken ++ waiting → waiting ≡ []

@@ -1,5 +1,6 @@
 -- What the threads of a run did, combined along the core's history.
-use Rattle.std.proofs.Common.{◌≡◌, ℕ, zero, suc, ◌+◌, ◌<◌, ◌≤◌, Bool, true, false, cond, List, [], ◌∷◌, ◌++◌, Option, map, filter, length, refl, sym, ap, ◌∙◌, arith, subst, inl, inr, append-nil, add-zero, slice_index_or, not, nat_le}
+use Rattle.std.proofs.Common.{◌≡◌, ℕ, zero, suc, ◌+◌, ◌<◌, ◌≤◌, Bool, true, false, cond, List, [], ◌∷◌, ◌++◌, Option, map, filter, length}
+use Rattle.std.proofs.Common.{refl, sym, ap, ◌∙◌, arith, subst, inl, inr, append-nil, add-zero, slice_index_or, not, nat_le}
 use Rattle.std.specs.Prelude.{◌==◌}
 use Rattle.std.specs.List.{All, list_all}
 use Rattle.std.proofs.lemmas.List.{length-append, length-map}
@@ -34,12 +35,16 @@ abbrev pairs : List Entry → List (ℕ × Step)
 pairs entries = map (λ (e : Entry). (e.seat, e.what)) entries
 
 -- the steps at a seat can be picked after the pairs are made
-of_pairs : (seat : ℕ) (entries : List Entry) → map (λ (e : Entry). e.what) (filter (λ (e : Entry). e.seat == seat) entries) ≡ steps_of seat (pairs entries)
+of_pairs : (seat : ℕ) (entries : List Entry)
+    → map (λ (e : Entry). e.what) (filter (λ (e : Entry). e.seat == seat) entries) ≡ steps_of seat (pairs entries)
 of_pairs seat [] = refl
 of_pairs seat (e ∷ entries) = picked (of_pairs seat entries) (e.seat == seat)
   where
-    picked : map (λ (e : Entry). e.what) (filter (λ (e : Entry). e.seat == seat) entries) ≡ steps_of seat (pairs entries) → (own : Bool) → map (λ (e : Entry). e.what) (cond own (e ∷ filter (λ (e : Entry). e.seat == seat) entries) (filter (λ (e : Entry). e.seat == seat) entries))
-        ≡ map (λ (t : ℕ × Step). t.1) (cond own ((e.seat, e.what) ∷ filter (λ (t : ℕ × Step). t.0 == seat) (pairs entries)) (filter (λ (t : ℕ × Step). t.0 == seat) (pairs entries)))
+    picked : map (λ (e : Entry). e.what) (filter (λ (e : Entry). e.seat == seat) entries) ≡ steps_of seat (pairs entries) → (own : Bool)
+        → map (λ (e : Entry). e.what) (cond own (e ∷ filter (λ (e : Entry). e.seat == seat) entries)
+        (filter (λ (e : Entry). e.seat == seat) entries))
+        ≡ map (λ (t : ℕ × Step). t.1) (cond own ((e.seat, e.what) ∷ filter (λ (t : ℕ × Step). t.0 == seat) (pairs entries))
+        (filter (λ (t : ℕ × Step). t.0 == seat) (pairs entries)))
     picked more true = ap (λ (xs : List Step). e.what ∷ xs) more
     picked more false = more
 
@@ -53,7 +58,8 @@ tickless_whole [] h = refl
 tickless_whole (x ∷ xs) h = rw h.0 (ap (λ (ys : List (ℕ × Step)). x ∷ ys) (tickless_whole xs h.1))
 
 -- No entry belongs to a seat above this one.
-seats_below : (seats : ℕ) (entries : List Entry) → AreBelow (seats + 1) (pairs entries) → list_all (λ (e : Entry). nat_le e.seat seats) entries ≡ true
+seats_below : (seats : ℕ) (entries : List Entry) → AreBelow (seats + 1) (pairs entries)
+    → list_all (λ (e : Entry). nat_le e.seat seats) entries ≡ true
 seats_below seats [] h = refl
 seats_below seats (e ∷ entries) h = let here : nat_le e.seat seats ≡ true = below e.seat h.0 in rw here (seats_below seats entries h.1)
   where
@@ -71,13 +77,15 @@ waiting_at [] place = []
 waiting_at (e ∷ ends) zero = e.waiting
 waiting_at (e ∷ ends) (suc place) = waiting_at ends place
 
-taken_there : (ends : List SeatState) (place : ℕ) (d : SeatState) → place < length ends → taken_at ends place ≡ (slice_index_or ends place d).taken
+taken_there : (ends : List SeatState) (place : ℕ) (d : SeatState) → place < length ends
+    → taken_at ends place ≡ (slice_index_or ends place d).taken
 unfolding taken_at
 taken_there [] place d h = absurd (omega (arith, h))
 taken_there (e ∷ ends) zero d h = refl
 taken_there (e ∷ ends) (suc place) d h = taken_there ends place d (omega (arith, h))
 
-waiting_there : (ends : List SeatState) (place : ℕ) (d : SeatState) → place < length ends → waiting_at ends place ≡ (slice_index_or ends place d).waiting
+waiting_there : (ends : List SeatState) (place : ℕ) (d : SeatState) → place < length ends
+    → waiting_at ends place ≡ (slice_index_or ends place d).waiting
 unfolding waiting_at
 waiting_there [] place d h = absurd (omega (arith, h))
 waiting_there (e ∷ ends) zero d h = refl
@@ -89,16 +97,19 @@ some_end (e ∷ ends) place h = e
 
 -- All threads have ended: that of each seat with its door, that of the core, and the control line.
 -- The ends were compared with the core's.
-pub record AreAllDone {D : Type 0} (at : D → DoorSeen) (settings : Settings) (readings : List (Option ℕ)) (text : List ℕ) (failed : Bool) (core : CoreState) (last : Machine) (to : ℕ) (ends : List SeatState) (doors : List D) : Type 0 where
+pub record AreAllDone {D : Type 0} (at : D → DoorSeen) (settings : Settings) (readings : List (Option ℕ)) (text : List ℕ) (failed : Bool)
+    (core : CoreState) (last : Machine) (to : ℕ) (ends : List SeatState) (doors : List D) : Type 0 where
   pub many : length ends ≡ settings.seats + 1
   pub doored : length doors ≡ settings.seats
   pub core_done : IsCoreDone settings readings core last 0 to
   pub settled : AreSettled core ends
   pub served : (place : ℕ) (d : D) (e : SeatState) → place < length doors
-      → IsDoorServed settings.max_job_size (at (slice_index_or doors place d)) (slice_index_or ends place e).submitted (slice_index_or ends place e).taken
+      → IsDoorServed settings.max_job_size (at (slice_index_or doors place d)) (slice_index_or ends place e).submitted
+      (slice_index_or ends place e).taken
   pub control_done : (e : SeatState) → IsControlDone text failed (slice_index_or ends settings.seats e).submitted
 
-module _ {D : Type 0} (at : D → DoorSeen) (settings : Settings) (readings : List (Option ℕ)) (text : List ℕ) (failed : Bool) (core : CoreState) (last : Machine) (to : ℕ) (ends : List SeatState) (doors : List D)
+module _ {D : Type 0} (at : D → DoorSeen) (settings : Settings) (readings : List (Option ℕ)) (text : List ℕ) (failed : Bool)
+    (core : CoreState) (last : Machine) (to : ℕ) (ends : List SeatState) (doors : List D)
     (a : AreAllDone at settings readings text failed core last to ends doors) where
   abbrev history : List Entry
   history = a.core_done.history
@@ -124,13 +135,16 @@ module _ {D : Type 0} (at : D → DoorSeen) (settings : Settings) (readings : Li
   door_ends_by_gone place e less =
       let d = some_door doors place less in
       let s = a.served place d e less in
-      seat_ends_by_gone settings.max_job_size (at (slice_index_or doors place d)).lines_over (end_at place e).submitted (end_at place e).taken s.done
+      seat_ends_by_gone settings.max_job_size (at (slice_index_or doors place d)).lines_over (end_at place e).submitted
+      (end_at place e).taken s.done
 
   ends_by_gone : (place : ℕ) (e : SeatState) → place < length ends → EndsByGone (end_at place e).submitted
   ends_by_gone place e below = elim (cases_Bool (place == settings.seats)) [
-    | inl same ↦ rw (eqb-true place settings.seats same) (control_ends_by_gone text failed (end_at settings.seats e).submitted (a.control_done e))
+    | inl same ↦ rw (eqb-true place settings.seats same)
+        (control_ends_by_gone text failed (end_at settings.seats e).submitted (a.control_done e))
     | inr other ↦
-        let less : place < length doors = let m = a.many in let d = a.doored in let n = eqb-false place settings.seats other in omega (arith, below) in
+        let less : place < length doors = let m = a.many in let d = a.doored in let n = eqb-false place settings.seats other in
+        omega (arith, below) in
         door_ends_by_gone place e less
   ]
 
@@ -138,8 +152,11 @@ module _ {D : Type 0} (at : D → DoorSeen) (settings : Settings) (readings : Li
   submitted_is place e below =
       let s = a.settled place e below in
       let within : place < settings.seats + 1 = let m = a.many in omega (arith, below) in
-      let none : steps_of place s.waiting ≡ [] = none_waits (end_at place e).submitted (steps_of place core.taken) (steps_of place s.waiting) (ends_by_gone place e below) (a.core_done.all_gone place within) s.submitted_is in
-      of_pairs place (without_ticks history) ∙ ap (steps_of place) taken_is ∙ sym (s.submitted_is ∙ ap (λ (xs : List Step). steps_of place core.taken ++ xs) none ∙ append-nil (steps_of place core.taken))
+      let none : steps_of place s.waiting ≡ [] =
+      none_waits (end_at place e).submitted (steps_of place core.taken) (steps_of place s.waiting) (ends_by_gone place e below)
+      (a.core_done.all_gone place within) s.submitted_is in
+      of_pairs place (without_ticks history) ∙ ap (steps_of place) taken_is
+      ∙ sym (s.submitted_is ∙ ap (λ (xs : List Step). steps_of place core.taken ++ xs) none ∙ append-nil (steps_of place core.taken))
 
   end_of : (place : ℕ) (e : SeatState) → place < length ends → IsEndOf history given core place (end_at place e)
   end_of place e below =
@@ -178,15 +195,20 @@ module _ {D : Type 0} (at : D → DoorSeen) (settings : Settings) (readings : Li
 
   -- the doors from this place on
   doors_tied : (from : ℕ) (rest : List D) → ((j : ℕ) → j < length rest → (d : D) → IsDoorTied (from + j) (at (slice_index_or rest j d)))
-      → AreTied settings.max_job_size from (map lines_of rest) (λ place. steps_at place history) (taken_at ends) (waiting_at ends) history given
+      → AreTied settings.max_job_size from (map lines_of rest) (λ place. steps_at place history) (taken_at ends)
+      (waiting_at ends) history given
   doors_tied from [] h = tt
   doors_tied from (d ∷ rest) h =
-      let more = doors_tied (suc from) rest (λ j below e. subst (λ (n : ℕ). IsDoorTied n (at (slice_index_or rest j e))) (let e : from + suc j ≡ suc from + j = omega arith in e) (h (suc j) (omega (arith, below)) e)) in
+      let more = doors_tied (suc from) rest (λ j below e.
+      subst (λ (n : ℕ). IsDoorTied n (at (slice_index_or rest j e))) (let e : from + suc j ≡ suc from + j = omega arith in e)
+      (h (suc j) (omega (arith, below)) e)) in
       let here : IsDoorTied from (at d) = subst (λ (n : ℕ). IsDoorTied n (at d)) (add-zero from) (h 0 (omega arith) d) in
       (refl, here.answers_are, here.done, more)
 
-  all_tied : AreTied settings.max_job_size 0 (map lines_of doors) (λ place. steps_at place history) (taken_at ends) (waiting_at ends) history given
-  all_tied = doors_tied 0 doors (λ j below d. subst (λ (n : ℕ). IsDoorTied n (at (slice_index_or doors j d))) (let e : j ≡ 0 + j = omega arith in e) (door_tied j below d))
+  all_tied : AreTied settings.max_job_size 0 (map lines_of doors) (λ place. steps_at place history) (taken_at ends)
+      (waiting_at ends) history given
+  all_tied = doors_tied 0 doors (λ j below d.
+      subst (λ (n : ℕ). IsDoorTied n (at (slice_index_or doors j d))) (let e : j ≡ 0 + j = omega arith in e) (door_tied j below d))
 
   control_tied : IsControlDone text failed (steps_at settings.seats history)
   control_tied =
@@ -195,7 +217,8 @@ module _ {D : Type 0} (at : D → DoorSeen) (settings : Settings) (readings : Li
       subst (λ (steps : List Step). IsControlDone text failed steps) (sym (submitted_is settings.seats e here)) (a.control_done e)
 
   nobody_else : list_all (λ (e : Entry). nat_le e.seat settings.seats) (without_ticks history) ≡ true
-  nobody_else = seats_below settings.seats (without_ticks history) (subst (λ (xs : List (ℕ × Step)). AreBelow (settings.seats + 1) xs) (sym taken_is) a.core_done.numbers)
+  nobody_else = seats_below settings.seats (without_ticks history)
+      (subst (λ (xs : List (ℕ × Step)). AreBelow (settings.seats + 1) xs) (sym taken_is) a.core_done.numbers)
 
   -- One history of all threads.
   pub record IsJoinedRun : Type 0 where
@@ -212,7 +235,8 @@ module _ {D : Type 0} (at : D → DoorSeen) (settings : Settings) (readings : Li
           given = given;
           run = a.core_done.run;
           many = many;
-          of_doors = doors_owed settings settings.max_job_size 0 (map lines_of doors) (λ place. steps_at place history) (taken_at ends) (waiting_at ends) history given last (omega arith) a.core_done.run.runs all_tied;
+          of_doors = doors_owed settings settings.max_job_size 0 (map lines_of doors) (λ place. steps_at place history) (taken_at ends)
+              (waiting_at ends) history given last (omega arith) a.core_done.run.runs all_tied;
           of_control = control_tied;
           of_nobody_else = nobody_else;
         };
@@ -228,7 +252,8 @@ module _ {D : Type 0} (at : D → DoorSeen) (settings : Settings) (readings : Li
       (s.inside, s.at_end)
 
 -- The core's end has taken nothing and sent nothing since.
-pub core_done_still : (settings : Settings) (readings : List (Option ℕ)) (first last : CoreState) (machine : Machine) (to : ℕ) → IsCoreStill first last → IsCoreDone settings readings first machine 0 to
+pub core_done_still : (settings : Settings) (readings : List (Option ℕ)) (first last : CoreState) (machine : Machine) (to : ℕ)
+    → IsCoreStill first last → IsCoreDone settings readings first machine 0 to
     → IsCoreDone settings readings last machine 0 to
 core_done_still settings readings first last machine to s c = record {
   history = c.history;
@@ -242,12 +267,16 @@ core_done_still settings readings first last machine to s c = record {
 }
 
 -- Everything that was done, from what the threads returned.
-pub all_done : {D C I : Type 0} (at : D → DoorSeen) (gives : C → List (Option ℕ) → C → Type 0) (left : I → Option (List ℕ)) (may_fail : I → Bool) (settings : Settings) (doors : List D)
-    (core core_back core_last : CoreState) (firsts lasts ends : List SeatState) (first last : SeatState) (clock after : C) (control : I) (read : ControlLine I) (machine : Machine) (to : ℕ)
-    → length doors ≡ settings.seats → AreServed at settings.max_job_size firsts lasts doors → (o : IsCoreOver gives settings core clock core_back machine to after) → (k : IsControlOver left may_fail first control last read)
+pub all_done : {D C I : Type 0} (at : D → DoorSeen) (gives : C → List (Option ℕ) → C → Type 0) (left : I → Option (List ℕ))
+    (may_fail : I → Bool) (settings : Settings) (doors : List D)
+    (core core_back core_last : CoreState) (firsts lasts ends : List SeatState) (first last : SeatState) (clock after : C) (control : I)
+    (read : ControlLine I) (machine : Machine) (to : ℕ)
+    → length doors ≡ settings.seats → AreServed at settings.max_job_size firsts lasts doors
+    → (o : IsCoreOver gives settings core clock core_back machine to after) → (k : IsControlOver left may_fail first control last read)
     → IsCoreStill core_back core_last → AreStill (lasts ++ last ∷ []) ends → AreSettled core_last ends
     → AreAllDone at settings o.readings read.read read.failed core_last machine to ends doors
-all_done at gives left may_fail settings doors core core_back core_last firsts lasts ends first last clock after control read machine to doored served o k still kept settled =
+all_done at gives left may_fail settings doors core core_back core_last firsts lasts ends first last clock after control read machine to
+    doored served o k still kept settled =
     let m = lasts_many at settings.max_job_size firsts lasts doors served in
     let many : length lasts ≡ settings.seats = m.0 ∙ sym m.1 ∙ doored in
     let all : length (lasts ++ last ∷ []) ≡ settings.seats + 1 = omega (arith, many, length-append lasts (last ∷ [])) in
@@ -258,26 +287,32 @@ all_done at gives left may_fail settings doors core core_back core_last firsts l
       settled = settled;
       served = λ place d e below.
           let within : place < length (lasts ++ last ∷ []) = omega (arith, below) in
-          rw ((kept.each place e within).1, (kept.each place e within).2) (served_at at settings.max_job_size firsts lasts doors last served place d e below);
+          rw ((kept.each place e within).1, (kept.each place e within).2)
+          (served_at at settings.max_job_size firsts lasts doors last served place d e below);
       control_done = λ e.
           let within : settings.seats < length (lasts ++ last ∷ []) = omega arith in
-          let is : slice_index_or (lasts ++ last ∷ []) settings.seats e ≡ last = ap (λ (n : ℕ). slice_index_or (lasts ++ last ∷ []) n e) (sym many) ∙ last_at lasts last e in
+          let is : slice_index_or (lasts ++ last ∷ []) settings.seats e ≡ last =
+          ap (λ (n : ℕ). slice_index_or (lasts ++ last ∷ []) n e) (sym many) ∙ last_at lasts last e in
           rw ((kept.each settings.seats e within).1, is) k.done;
     }
 
 -- The parts of what the threads returned, at the values that they began with.
-pub core_over_of : {C : Type 0} (gives : C → List (Option ℕ) → C → Type 0) (settings from : Settings) (core begun : CoreState) (clock first : C) (last : CoreState) (machine : Machine) (to : ℕ) (after : C)
-    → from ≡ settings → begun ≡ core → first ≡ clock → IsCoreOver gives from begun first last machine to after → IsCoreOver gives settings core clock last machine to after
+pub core_over_of : {C : Type 0} (gives : C → List (Option ℕ) → C → Type 0) (settings from : Settings) (core begun : CoreState)
+    (clock first : C) (last : CoreState) (machine : Machine) (to : ℕ) (after : C)
+    → from ≡ settings → begun ≡ core → first ≡ clock → IsCoreOver gives from begun first last machine to after
+    → IsCoreOver gives settings core clock last machine to after
 core_over_of {C} gives settings from core begun clock first last machine to after a b d o =
     subst (λ (s : Settings). IsCoreOver gives s core clock last machine to after) a
     (subst (λ (k : CoreState). IsCoreOver gives from k clock last machine to after) b
     (subst (λ (x : C). IsCoreOver gives from begun x last machine to after) d o))
 
-pub served_of : {D : Type 0} (at : D → DoorSeen) (size limit : ℕ) (firsts lasts : List SeatState) (doors : List D) → limit ≡ size → AreServed at limit firsts lasts doors → AreServed at size firsts lasts doors
+pub served_of : {D : Type 0} (at : D → DoorSeen) (size limit : ℕ) (firsts lasts : List SeatState) (doors : List D) → limit ≡ size
+    → AreServed at limit firsts lasts doors → AreServed at size firsts lasts doors
 served_of at size limit firsts lasts doors e s = subst (λ (n : ℕ). AreServed at n firsts lasts doors) e s
 
 -- There is still a door for each seat.
-pub still_doored : {D : Type 0} (at : D → DoorSeen) (size seats : ℕ) (all firsts lasts : List SeatState) (doors : List D) (first : SeatState)
+pub still_doored : {D : Type 0} (at : D → DoorSeen) (size seats : ℕ) (all firsts lasts : List SeatState)
+    (doors : List D) (first : SeatState)
     → firsts ++ first ∷ [] ≡ all → length all ≡ seats + 1 → AreServed at size firsts lasts doors → length doors ≡ seats
 still_doored at size seats all firsts lasts doors first whole many s =
     let m = (lasts_many at size firsts lasts doors s).1 in
@@ -286,13 +321,17 @@ still_doored at size seats all firsts lasts doors first whole many s =
     omega arith
 
 abbrev pub StepsKeepSettings : Type 0
-StepsKeepSettings = (first last : Machine) (at seat : ℕ) (what : Step) (outcome : Outcome) (given : List GivenAnswer) → IsStep first at seat what outcome given last → last.settings ≡ first.settings
+StepsKeepSettings = (first last : Machine) (at seat : ℕ) (what : Step) (outcome : Outcome) (given : List GivenAnswer)
+    → IsStep first at seat what outcome given last → last.settings ≡ first.settings
 
-run_keeps : StepsKeepSettings → (first : Machine) (taken : List Transition) (last : Machine) → GoesBy first taken last → last.settings ≡ first.settings
+run_keeps : StepsKeepSettings → (first : Machine) (taken : List Transition) (last : Machine) → GoesBy first taken last
+    → last.settings ≡ first.settings
 run_keeps law first [] last e = ap (λ (m : Machine). m.settings) e
 run_keeps law first (t ∷ taken) last g =
-    run_keeps law t.last taken last g.2 ∙ law t.first t.last t.entry.moment t.entry.seat t.entry.what t.outcome t.given g.1.step ∙ ap (λ (m : Machine). m.settings) g.0
+    run_keeps law t.last taken last g.2 ∙ law t.first t.last t.entry.moment t.entry.seat t.entry.what t.outcome t.given g.1.step
+    ∙ ap (λ (m : Machine). m.settings) g.0
 
 -- A run does not change the settings.
-pub core_keeps : StepsKeepSettings → (settings : Settings) (readings : List (Option ℕ)) (core : CoreState) (last : Machine) (to : ℕ) → IsCoreDone settings readings core last 0 to → last.settings ≡ settings
+pub core_keeps : StepsKeepSettings → (settings : Settings) (readings : List (Option ℕ)) (core : CoreState) (last : Machine) (to : ℕ)
+    → IsCoreDone settings readings core last 0 to → last.settings ≡ settings
 core_keeps law settings readings core last to d = run_keeps law (new_machine settings) d.run.runs.1.taken last d.run.runs.1.goes

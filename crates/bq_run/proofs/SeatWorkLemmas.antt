@@ -20,7 +20,8 @@ calls_at old new submitted taken (inr (same, none, nil)) = (
 
 -- what a seat did is what its end shows, and this does not change
 pub tended_on : {L : Type 0} (seen : L → LineSeen) (size : ℕ) (old new : SeatState) (a b : Attendant L) (door next : DoorSeen)
-    → GoesOn EndWent old new seen a door b next → IsTended seen size a door old.submitted old.taken → IsTended seen size b next new.submitted new.taken
+    → GoesOn EndWent old new seen a door b next → IsTended seen size a door old.submitted old.taken
+    → IsTended seen size b next new.submitted new.taken
 tended_on seen size old new a b door next h t =
     let c = calls_at old new h.0 h.1 h.2 in
     subst (λ (xs : List Step). IsTended seen size b next xs new.taken) c.0

@@ -15,11 +15,13 @@ use Rattle.bq_run.specs.declared.core_work.core_driver.CoreDriver.{CoreDriver}
 use Rattle.bq_run.proofs.WorkedLemmas.{pending_on, worked_heard, worked_looked, worked_tick}
 
 -- Nothing was done.
-pub on_still : {C K : Type 0} (given : Gives C) (machine : K → Machine) (compared : K → ℕ) (h : CoreDriver C K) → IsInOrder machine h → WorksOn given machine compared h h
+pub on_still : {C K : Type 0} (given : Gives C) (machine : K → Machine) (compared : K → ℕ) (h : CoreDriver C K) → IsInOrder machine h
+    → WorksOn given machine compared h h
 on_still given machine compared h order = record { order = order; end = (refl, refl); settings = refl; work = λ settings from first w. w }
 
 -- One thing was done, and then another.
-pub on_both : {C K : Type 0} (given : Gives C) (machine : K → Machine) (compared : K → ℕ) (old mid new : CoreDriver C K) → WorksOn given machine compared old mid → WorksOn given machine compared mid new
+pub on_both : {C K : Type 0} (given : Gives C) (machine : K → Machine) (compared : K → ℕ) (old mid new : CoreDriver C K)
+    → WorksOn given machine compared old mid → WorksOn given machine compared mid new
     → WorksOn given machine compared old new
 on_both given machine compared old mid new a b = record {
   order = b.order;
@@ -29,16 +31,22 @@ on_both given machine compared old mid new a b = record {
 }
 
 -- The core was asked for the next due moment, if it was not known.
-looked_on : {C K : Type 0} (machine : K → Machine) (compared : K → ℕ) (old : CoreDriver C K) (t looked : TimedCore C K) → HasLooked machine compared old.timed looked → t ≡ looked
-    → (settings : Settings) (from : ℕ) (readings : List (Option ℕ)) → HasWorked settings from readings (driver_state machine compared old) → HasWorked settings from readings (driver_state machine compared (record old { timed = t }))
+looked_on : {C K : Type 0} (machine : K → Machine) (compared : K → ℕ) (old : CoreDriver C K) (t looked : TimedCore C K)
+    → HasLooked machine compared old.timed looked → t ≡ looked
+    → (settings : Settings) (from : ℕ) (readings : List (Option ℕ)) → HasWorked settings from readings (driver_state machine compared old)
+    → HasWorked settings from readings (driver_state machine compared (record old { timed = t }))
 looked_on machine compared old t looked l e settings from readings w =
     worked_looked settings from readings (driver_state machine compared old) (driver_state machine compared (record old { timed = t })) w
-    (ap (λ (x : TimedCore _ _). machine x.core) e ∙ l.same) (ap (λ (x : TimedCore _ _). x.time.moment) e ∙ ap (λ (h : HeardClock _). h.moment) l.time) refl
-    (ap (λ (x : TimedCore _ _). old.sender.kept.items ++ x.outs.given) e ∙ ap (λ (o : Outbox). old.sender.kept.items ++ o.given) l.outs) refl (ap (λ (x : TimedCore _ _). x.is_due_known) e ∙ l.known)
-    (λ count k. subst (λ (n : ℕ). IsLookWithin (machine old.timed.core) count n) (sym (ap (λ (x : TimedCore _ _). compared x.core) e)) (l.once count k))
+    (ap (λ (x : TimedCore _ _). machine x.core) e ∙ l.same)
+    (ap (λ (x : TimedCore _ _). x.time.moment) e ∙ ap (λ (h : HeardClock _). h.moment) l.time) refl
+    (ap (λ (x : TimedCore _ _). old.sender.kept.items ++ x.outs.given) e ∙ ap (λ (o : Outbox). old.sender.kept.items ++ o.given) l.outs)
+    refl (ap (λ (x : TimedCore _ _). x.is_due_known) e ∙ l.known)
+    (λ count k. subst (λ (n : ℕ). IsLookWithin (machine old.timed.core) count n)
+    (sym (ap (λ (x : TimedCore _ _). compared x.core) e)) (l.once count k))
 
 -- Time passed, and no step was taken.
-pub on_over : {C K : Type 0} (given : Gives C) (machine : K → Machine) (compared : K → ℕ) (old : CoreDriver C K) (t : TimedCore C K) → IsInOrder machine old → IsReady machine t → PassesOver given machine compared old.timed t
+pub on_over : {C K : Type 0} (given : Gives C) (machine : K → Machine) (compared : K → ℕ) (old : CoreDriver C K) (t : TimedCore C K)
+    → IsInOrder machine old → IsReady machine t → PassesOver given machine compared old.timed t
     → WorksOn given machine compared old (record old { timed = t })
 on_over {C} {K} given machine compared old t order ready (looked, l, rest) = record {
   order = record { ready = ready; sender = order.sender; many = order.many; all = order.all };
@@ -56,15 +64,19 @@ on_over {C} {K} given machine compared old t order ready (looked, l, rest) = rec
     | inr h ↦ (
       w.0 ++ h.0 ∷ [],
       h.1.gave first w.0 (subst (λ (x : HeardClock C). given first w.0 x.clock) (sym l.time) w.1),
-      worked_heard settings from w.0 (driver_state machine compared (record old { timed = looked })) (driver_state machine compared (record old { timed = t })) h.0
-          (looked_on machine compared old looked looked l refl settings from w.0 w.2) (ap (λ (x : TimedCore C K). machine x.core) h.2) h.1.heard refl
-          (ap (λ (x : TimedCore C K). old.sender.kept.items ++ x.outs.given) h.2) refl (ap (λ (x : TimedCore C K). x.is_due_known) h.2) (ap (λ (x : TimedCore C K). compared x.core) h.2),
+      worked_heard settings from w.0 (driver_state machine compared (record old { timed = looked }))
+          (driver_state machine compared (record old { timed = t })) h.0
+          (looked_on machine compared old looked looked l refl settings from w.0 w.2)
+          (ap (λ (x : TimedCore C K). machine x.core) h.2) h.1.heard refl
+          (ap (λ (x : TimedCore C K). old.sender.kept.items ++ x.outs.given) h.2) refl (ap (λ (x : TimedCore C K). x.is_due_known) h.2)
+          (ap (λ (x : TimedCore C K). compared x.core) h.2),
     )
   ];
 }
 
 -- Time passed, and the core took a tick.
-pub on_ticked : {C K : Type 0} (given : Gives C) (machine : K → Machine) (compared : K → ℕ) (old : CoreDriver C K) (t : TimedCore C K) → IsInOrder machine old → IsReady machine t → old.timed.outs.given ≡ [] → LooksAndSteps given machine compared old.timed 0 Tick t
+pub on_ticked : {C K : Type 0} (given : Gives C) (machine : K → Machine) (compared : K → ℕ) (old : CoreDriver C K) (t : TimedCore C K)
+    → IsInOrder machine old → IsReady machine t → old.timed.outs.given ≡ [] → LooksAndSteps given machine compared old.timed 0 Tick t
     → WorksOn given machine compared old (record old { timed = t })
 on_ticked {C} {K} given machine compared old t order ready none (looked, l, s) = record {
   order = record { ready = ready; sender = order.sender; many = order.many; all = order.all };
@@ -73,26 +85,33 @@ on_ticked {C} {K} given machine compared old t order ready none (looked, l, s) =
   work = λ settings from first w. (
     w.0 ++ s.reading ∷ [],
     s.time.gave first w.0 (subst (λ (x : HeardClock C). given first w.0 x.clock) (sym l.time) w.1),
-    worked_tick settings from w.0 (driver_state machine compared (record old { timed = looked })) (driver_state machine compared (record old { timed = t })) s.reading s.outcome t.outs.given
+    worked_tick settings from w.0 (driver_state machine compared (record old { timed = looked }))
+        (driver_state machine compared (record old { timed = t })) s.reading s.outcome t.outs.given
         (looked_on machine compared old looked looked l refl settings from w.0 w.2) s.step s.time.heard refl
-        (pending_on old.sender.kept.items old.sender.kept.items looked.outs.given t.outs.given refl (ap (λ (o : Outbox). o.given) l.outs ∙ none)) refl s.unknown,
+        (pending_on old.sender.kept.items old.sender.kept.items looked.outs.given t.outs.given refl
+        (ap (λ (o : Outbox). o.given) l.outs ∙ none)) refl s.unknown,
   );
 }
 
-pub on_passed : {C K : Type 0} (given : Gives C) (machine : K → Machine) (compared : K → ℕ) (old : CoreDriver C K) (t : TimedCore C K) (ticks : Bool) → IsInOrder machine old → IsReady machine t → old.timed.outs.given ≡ []
-    → (ticks ≡ false → PassesOver given machine compared old.timed t) → (ticks ≡ true → LooksAndSteps given machine compared old.timed 0 Tick t)
+pub on_passed : {C K : Type 0} (given : Gives C) (machine : K → Machine) (compared : K → ℕ) (old : CoreDriver C K) (t : TimedCore C K)
+    (ticks : Bool) → IsInOrder machine old → IsReady machine t → old.timed.outs.given ≡ []
+    → (ticks ≡ false → PassesOver given machine compared old.timed t)
+    → (ticks ≡ true → LooksAndSteps given machine compared old.timed 0 Tick t)
     → WorksOn given machine compared old (record old { timed = t })
-on_passed given machine compared old t true order ready none over ticked = on_ticked given machine compared old t order ready none (ticked refl)
+on_passed given machine compared old t true order ready none over ticked =
+    on_ticked given machine compared old t order ready none (ticked refl)
 on_passed given machine compared old t false order ready none over ticked = on_over given machine compared old t order ready (over refl)
 
 -- If no step was taken, the machine is the same.
-pub still_over : {C K : Type 0} (given : Gives C) (machine : K → Machine) (compared : K → ℕ) (old t : TimedCore C K) → PassesOver given machine compared old t → machine t.core ≡ machine old.core
+pub still_over : {C K : Type 0} (given : Gives C) (machine : K → Machine) (compared : K → ℕ) (old t : TimedCore C K)
+    → PassesOver given machine compared old t → machine t.core ≡ machine old.core
 still_over {C} {K} given machine compared old t (looked, l, rest) = elim rest [
   | inl e ↦ ap (λ (x : TimedCore C K). machine x.core) e ∙ l.same
   | inr h ↦ ap (λ (x : TimedCore C K). machine x.core) h.2 ∙ l.same
 ]
 
-pub has_ticked : {C K : Type 0} (given : Gives C) (machine : K → Machine) (compared : K → ℕ) (old : CoreDriver C K) (t : TimedCore C K) → LooksAndSteps given machine compared old.timed 0 Tick t → HasTicked machine old (record old { timed = t })
+pub has_ticked : {C K : Type 0} (given : Gives C) (machine : K → Machine) (compared : K → ℕ) (old : CoreDriver C K) (t : TimedCore C K)
+    → LooksAndSteps given machine compared old.timed 0 Tick t → HasTicked machine old (record old { timed = t })
 has_ticked given machine compared old t (looked, l, s) = record {
   outcome = s.outcome;
   step = subst (λ (m : Machine). IsStep m t.time.moment 0 Tick s.outcome t.outs.given (machine t.core)) l.same s.step.step;

@@ -64,7 +64,8 @@ pub record HasWorked (settings : Settings) (from : ℕ) (readings : List (Option
 -- the same with the clock, which gave these readings from the first on
 abbrev pub IsAtWork : {C K : Type 0} → Gives C → (K → Machine) → (K → ℕ) → Settings → ℕ → C → CoreDriver C K → Type 0
 IsAtWork given machine compared settings from first driver =
-    (readings : List (Option ℕ)) × given first readings driver.timed.time.clock × HasWorked settings from readings (driver_state machine compared driver)
+    (readings : List (Option ℕ)) × given first readings driver.timed.time.clock
+    × HasWorked settings from readings (driver_state machine compared driver)
 
 -- It is known for each end whether it has gone.
 pub record KnowsAll (gone : GoneEnds) : Type 0 where

@@ -1,5 +1,6 @@
 -- A lone line is served at a desk.
-use Rattle.std.proofs.Common.{◌≡◌, ◌≢◌, ℕ, zero, suc, ◌<◌, true, false, true≢false, List, [], ◌∷◌, ◌++◌, Option, length, replicate, refl, sym, ap, ◌∙◌, arith, subst, inl, inr, append-nil, map}
+use Rattle.std.proofs.Common.{◌≡◌, ◌≢◌, ℕ, zero, suc, ◌<◌, true, false, true≢false, List, [], ◌∷◌, ◌++◌}
+use Rattle.std.proofs.Common.{Option, length, replicate, refl, sym, ap, ◌∙◌, arith, subst, inl, inr, append-nil, map}
 use Rattle.std.specs.Prelude.{◌==◌, slice_index_or}
 use Rattle.std.specs.List.{list_all}
 use Rattle.std.proofs.lemmas.Bool.{cases_Bool, eq-eqb, eqb-true, eqb-false}
@@ -25,7 +26,8 @@ use Rattle.bq_driver.proofs.CarriedLemmas.{none_begun}
 use Rattle.bq_driver.proofs.SeatLemmas.{carried_on, line_served}
 
 -- Starting from a new desk, only this seat did anything, and it served its line.
-pub record IsServingAlone (settings : Settings) (seat : ℕ) (readings : List (Option ℕ)) (desk : DeskState) (machine : SeatMachine) (seen : LineSeen) (action : Action) (sent : ℕ) : Type 0 where
+pub record IsServingAlone (settings : Settings) (seat : ℕ) (readings : List (Option ℕ)) (desk : DeskState) (machine : SeatMachine)
+    (seen : LineSeen) (action : Action) (sent : ℕ) : Type 0 where
   pub first : DeskState
   pub submitted : List Step
   pub taken : List Answer
@@ -35,22 +37,37 @@ pub record IsServingAlone (settings : Settings) (seat : ℕ) (readings : List (O
   pub part : seen ≡ with_part action sent before
   pub on_line : IsOnLine settings.max_job_size machine before action submitted taken
 
-pub begins_alone : (settings : Settings) (seat : ℕ) (desk : DeskState) (machine : SeatMachine) (seen : LineSeen) (action : Action) → IsNewDesk settings desk → IsOnLine settings.max_job_size machine seen action [] [] → IsServingAlone settings seat [] desk machine seen action 0
-begins_alone settings seat desk machine seen action new on = record { first = desk; submitted = []; taken = []; new = new; went = seat_none desk seat; before = seen; part = none_begun action seen; on_line = on }
+pub begins_alone : (settings : Settings) (seat : ℕ) (desk : DeskState) (machine : SeatMachine) (seen : LineSeen) (action : Action)
+    → IsNewDesk settings desk → IsOnLine settings.max_job_size machine seen action [] []
+    → IsServingAlone settings seat [] desk machine seen action 0
+begins_alone settings seat desk machine seen action new on =
+    record {
+      first = desk;
+      submitted = [];
+      taken = [];
+      new = new;
+      went = seat_none desk seat;
+      before = seen;
+      part = none_begun action seen;
+      on_line = on;
+    }
 
-pub goes_on_alone : (settings : Settings) (seat : ℕ) (readings reads : List (Option ℕ)) (desk next : DeskState) (old new : SeatMachine) (seen later : LineSeen) (action then_action : Action) (sent now : ℕ) (submitted : List Step) (taken : List Answer)
-    → IsServingAlone settings seat readings desk old seen action sent → SeatWent seat desk reads submitted taken next → CarriesOn old seen action sent new later then_action now submitted taken
+pub goes_on_alone : (settings : Settings) (seat : ℕ) (readings reads : List (Option ℕ)) (desk next : DeskState) (old new : SeatMachine)
+    (seen later : LineSeen) (action then_action : Action) (sent now : ℕ) (submitted : List Step) (taken : List Answer)
+    → IsServingAlone settings seat readings desk old seen action sent → SeatWent seat desk reads submitted taken next
+    → CarriesOn old seen action sent new later then_action now submitted taken
     → IsServingAlone settings seat (readings ++ reads) next new later then_action now
-goes_on_alone settings seat readings reads desk next old new seen later action then_action sent now submitted taken s w carries = let c = carries s.before s.part in record {
-  first = s.first;
-  submitted = s.submitted ++ submitted;
-  taken = s.taken ++ taken;
-  new = s.new;
-  went = seat_on s.first desk next seat readings reads s.submitted submitted s.taken taken s.went w;
-  before = c.0;
-  part = c.1;
-  on_line = carried_on settings.max_job_size old new s.before c.0 action then_action s.submitted submitted s.taken taken c.2 s.on_line;
-}
+goes_on_alone settings seat readings reads desk next old new seen later action then_action sent now submitted taken s w carries =
+    let c = carries s.before s.part in record {
+      first = s.first;
+      submitted = s.submitted ++ submitted;
+      taken = s.taken ++ taken;
+      new = s.new;
+      went = seat_on s.first desk next seat readings reads s.submitted submitted s.taken taken s.went w;
+      before = c.0;
+      part = c.1;
+      on_line = carried_on settings.max_job_size old new s.before c.0 action then_action s.submitted submitted s.taken taken c.2 s.on_line;
+    }
 
 -- a new desk has no mail
 abbrev the_empty : List Answer
@@ -80,7 +97,8 @@ none_waits settings d seat new =
     ∙ ap (answers_to seat) new.pending
 
 -- steps at one seat only
-alone_there : (seat : ℕ) (history : List Entry) → ((other : ℕ) → other ≢ seat → steps_at other history ≡ []) → list_all (λ (e : Entry). e.seat == seat) (without_ticks history) ≡ true
+alone_there : (seat : ℕ) (history : List Entry) → ((other : ℕ) → other ≢ seat → steps_at other history ≡ [])
+    → list_all (λ (e : Entry). e.seat == seat) (without_ticks history) ≡ true
 alone_there seat [] h = refl
 alone_there seat (e ∷ history) h =
     elim (cases_Bool (is_tick e.what)) [
@@ -94,7 +112,8 @@ alone_there seat (e ∷ history) h =
     tick_none : (other : ℕ) → is_tick e.what ≡ true → steps_at other (e ∷ history) ≡ [] → steps_at other history ≡ []
     tick_none other x g = rw x at g
 
-    own_none : (other : ℕ) → is_tick e.what ≡ false → (e.seat == seat) ≡ true → other ≢ seat → steps_at other (e ∷ history) ≡ [] → steps_at other history ≡ []
+    own_none : (other : ℕ) → is_tick e.what ≡ false → (e.seat == seat) ≡ true → other ≢ seat → steps_at other (e ∷ history) ≡ []
+        → steps_at other history ≡ []
     own_none other x y differs g =
         elim (cases_Bool (e.seat == other)) [
           | inl z ↦ absurd (differs (sym (eqb-true e.seat other z) ∙ eqb-true e.seat seat y))
@@ -107,8 +126,10 @@ alone_there seat (e ∷ history) h =
         let no : e.what ∷ steps_at e.seat history ≡ [] = rw (x, same) at g in cc
 
 -- A line that has ended: what its seat and the core did, and how it fits together.
-pub over_alone : (settings : Settings) (seat : ℕ) (readings : List (Option ℕ)) (desk : DeskState) (machine : SeatMachine) (seen : LineSeen) (end : LineEnd) (sent : ℕ) (s : IsServingAlone settings seat readings desk machine seen (actions.LineOver end) sent)
-    → seat < settings.seats → length s.first.mails ≡ settings.seats → IsLineJoined settings seat (record { seen = seen; over = end }) readings s.went.history s.went.went.given desk.core
+pub over_alone : (settings : Settings) (seat : ℕ) (readings : List (Option ℕ)) (desk : DeskState) (machine : SeatMachine) (seen : LineSeen)
+    (end : LineEnd) (sent : ℕ) (s : IsServingAlone settings seat readings desk machine seen (actions.LineOver end) sent)
+    → seat < settings.seats → length s.first.mails ≡ settings.seats
+    → IsLineJoined settings seat (record { seen = seen; over = end }) readings s.went.history s.went.went.given desk.core
 over_alone settings seat readings desk machine seen end sent s within many =
     let w = s.went in
     let d = w.went in
@@ -122,10 +143,12 @@ over_alone settings seat readings desk machine seen end sent s within many =
       within = within;
       run = record {
         runs = subst (λ (m : Machine). Run m w.history d.given desk.core) s.new.core d.runs;
-        timed = subst (λ (n : ℕ). ArePickedFrom (map (λ (e : Entry). e.moment) w.history) (moments_heard n readings)) s.new.heard d.timed.picked;
+        timed = subst (λ (n : ℕ). ArePickedFrom (map (λ (e : Entry). e.moment) w.history) (moments_heard n readings))
+            s.new.heard d.timed.picked;
       };
       served = (s.submitted, [], s.taken, [], line, w.submitted_is ∙ sym (append-nil s.submitted), sym (append-nil s.taken), (refl, refl));
       answers_are =
-          ap (λ (xs : List Answer). xs ++ answers_to seat d.given) (sym none) ∙ d.tied seat (omega arith) ∙ ap (λ (xs : List Answer). xs ++ waiting seat desk) w.taken_is;
+          ap (λ (xs : List Answer). xs ++ answers_to seat d.given) (sym none) ∙ d.tied seat (omega arith)
+          ∙ ap (λ (xs : List Answer). xs ++ waiting seat desk) w.taken_is;
       of_nobody_else = alone_there seat w.history w.others_still;
     }

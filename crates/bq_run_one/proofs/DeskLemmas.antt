@@ -1,5 +1,6 @@
 -- What happens at a desk, step by step.
-use Rattle.std.proofs.Common.{◌≡◌, ◌≢◌, ◌<◌, ℕ, Bool, true, false, List, [], ◌∷◌, ◌++◌, Option, map, length, refl, sym, ap, ◌∙◌, arith, subst, inl, inr, append-nil, append_assoc}
+use Rattle.std.proofs.Common.{◌≡◌, ◌≢◌, ◌<◌, ℕ, Bool, true, false, List, [], ◌∷◌, ◌++◌, Option}
+use Rattle.std.proofs.Common.{map, length, refl, sym, ap, ◌∙◌, arith, subst, inl, inr, append-nil, append_assoc}
 use Rattle.std.specs.Prelude.{◌==◌, if◌then◌else◌}
 use Rattle.std.specs.Option.{option_to_list}
 use Rattle.std.proofs.lemmas.Bool.{cases_Bool, eq-eqb, eqb-true}
@@ -37,7 +38,8 @@ steps_append t (x ∷ xs) ys =
       ]
     ]
 
-moments_append : (last : ℕ) (xs ys : List (Option ℕ)) → moments_heard last (xs ++ ys) ≡ moments_heard last xs ++ moments_heard (last_heard last xs) ys
+moments_append : (last : ℕ) (xs ys : List (Option ℕ))
+    → moments_heard last (xs ++ ys) ≡ moments_heard last xs ++ moments_heard (last_heard last xs) ys
 moments_append last [] ys = refl
 moments_append last (x ∷ xs) ys = ap (λ ms. moment_heard last x ∷ ms) (moments_append (moment_heard last x) xs ys)
 
@@ -56,19 +58,23 @@ picked_append (x ∷ xs) ys [] ns h i = absurd h
 picked_append (x ∷ xs) ys (m ∷ ms) ns (inl h) i = inl (h.0, picked_append xs ys ms ns h.1 i)
 picked_append (x ∷ xs) ys (m ∷ ms) ns (inr h) i = inr (picked_append (x ∷ xs) ys ms ns h i)
 
-map_append : (xs ys : List Entry) → map (λ (e : Entry). e.moment) (xs ++ ys) ≡ map (λ (e : Entry). e.moment) xs ++ map (λ (e : Entry). e.moment) ys
+map_append : (xs ys : List Entry) → map (λ (e : Entry). e.moment) (xs ++ ys) ≡ map (λ (e : Entry). e.moment) xs
+    ++ map (λ (e : Entry). e.moment) ys
 map_append [] ys = refl
 map_append (x ∷ xs) ys = ap (λ ms. x.moment ∷ ms) (map_append xs ys)
 
 -- two consecutive parts of a history are timed by the readings of both
-timed_on : (first next last : ℕ) (readings reads : List (Option ℕ)) (history more : List Entry) → IsTimedFrom first readings history next → IsTimedFrom next reads more last → IsTimedFrom first (readings ++ reads) (history ++ more) last
+timed_on : (first next last : ℕ) (readings reads : List (Option ℕ)) (history more : List Entry) → IsTimedFrom first readings history next
+    → IsTimedFrom next reads more last → IsTimedFrom first (readings ++ reads) (history ++ more) last
 timed_on first next last readings reads history more a b = record {
   picked =
       let later_timed : ArePickedFrom (map (λ (e : Entry). e.moment) more) (moments_heard (last_heard first readings) reads) =
       subst (λ (n : ℕ). ArePickedFrom (map (λ (e : Entry). e.moment) more) (moments_heard n reads)) a.last_is b.picked in
       subst (λ (ms : List ℕ). ArePickedFrom ms (moments_heard first (readings ++ reads))) (sym (map_append history more))
-      (subst (λ (ms : List ℕ). ArePickedFrom (map (λ (e : Entry). e.moment) history ++ map (λ (e : Entry). e.moment) more) ms) (sym (moments_append first readings reads))
-      (picked_append (map (λ (e : Entry). e.moment) history) (map (λ (e : Entry). e.moment) more) (moments_heard first readings) (moments_heard (last_heard first readings) reads) a.picked later_timed));
+      (subst (λ (ms : List ℕ). ArePickedFrom (map (λ (e : Entry). e.moment) history ++ map (λ (e : Entry). e.moment) more) ms)
+      (sym (moments_append first readings reads))
+      (picked_append (map (λ (e : Entry). e.moment) history) (map (λ (e : Entry). e.moment) more) (moments_heard first readings)
+      (moments_heard (last_heard first readings) reads) a.picked later_timed));
   last_is = b.last_is ∙ ap (λ (n : ℕ). last_heard n reads) a.last_is ∙ sym (heard_append first readings reads);
 }
 
@@ -93,11 +99,14 @@ desk_on first next last readings reads history more took later a b = record {
   runs = run_append first.core next.core last.core history more a.given b.given a.runs b.runs;
   timed = timed_on first.heard next.heard last.heard readings reads history more a.timed b.timed;
   many = b.many ∙ a.many;
-  tied = λ t below. tied_on t first next last a.given b.given (took t) (later t) (a.tied t below) (b.tied t (let m = a.many in omega arith));
+  tied = λ t below. tied_on t first next last a.given b.given (took t) (later t) (a.tied t below)
+      (b.tied t (let m = a.many in omega arith));
 }
 
 -- the steps of an entry at a seat
-entry_steps : (t at seat : ℕ) (what : Step) → steps_at t (record { moment = at; seat = seat; what = what } ∷ []) ≡ (if is_tick what then [] else (if seat == t then what ∷ [] else []))
+entry_steps : (t at seat : ℕ) (what : Step)
+    → steps_at t (record { moment = at; seat = seat; what = what } ∷ []) ≡
+    (if is_tick what then [] else (if seat == t then what ∷ [] else []))
 entry_steps t at seat what =
     elim (cases_Bool (is_tick what)) [
       | inl e ↦ rw e refl
@@ -117,7 +126,8 @@ none_held (x ∷ xs) ys h = absurd cc
 
 -- The core took one step, at the moment of one reading.
 pub one_step : (d n : DeskState) (seat : ℕ) (what : Step) (reading : Option ℕ) (outcome : Outcome) (given : List GivenAnswer)
-    → IsStep d.core (moment_heard d.heard reading) seat what outcome given n.core → n.heard ≡ moment_heard d.heard reading → n.mails ≡ d.mails → d.pending ≡ [] → n.pending ≡ given
+    → IsStep d.core (moment_heard d.heard reading) seat what outcome given n.core → n.heard ≡ moment_heard d.heard reading
+    → n.mails ≡ d.mails → d.pending ≡ [] → n.pending ≡ given
     → SeatWent seat d (reading ∷ []) (if is_tick what then [] else what ∷ []) [] n
 one_step d n seat what reading outcome given step heard mails empty full =
     let at = moment_heard d.heard reading in
@@ -127,14 +137,18 @@ one_step d n seat what reading outcome given step heard mails empty full =
       took = λ t. [];
       went = record {
         given = given;
-        runs = subst (λ (xs : List GivenAnswer). Run d.core (entry ∷ []) xs n.core) (append-nil given) (run_from d.core n.core n.core entry [] outcome given [] step (run_none n.core));
+        runs = subst (λ (xs : List GivenAnswer). Run d.core (entry ∷ []) xs n.core) (append-nil given)
+            (run_from d.core n.core n.core entry [] outcome given [] step (run_none n.core));
         timed = record { picked = inl (refl, tt); last_is = heard };
         many = ap length mails;
         tied = λ t below. tied_at t;
       };
-      submitted_is = entry_steps seat at seat what ∙ ap (λ (b : Bool). if is_tick what then [] else (if b then what ∷ [] else [])) (eq-eqb seat seat refl);
+      submitted_is = entry_steps seat at seat what
+          ∙ ap (λ (b : Bool). if is_tick what then [] else (if b then what ∷ [] else [])) (eq-eqb seat seat refl);
       taken_is = refl;
-      others_still = λ t differs. entry_steps t at seat what ∙ ap (λ (b : Bool). if is_tick what then [] else (if b then what ∷ [] else [])) (not_equal seat t (λ e. differs (sym e))) ∙ neither;
+      others_still = λ t differs. entry_steps t at seat what
+          ∙ ap (λ (b : Bool). if is_tick what then [] else (if b then what ∷ [] else []))
+          (not_equal seat t (λ e. differs (sym e))) ∙ neither;
       others_took = λ t differs. refl;
     }
   where
@@ -152,7 +166,8 @@ one_step d n seat what reading outcome given step heard mails empty full =
     neither = elim (cases_Bool (is_tick what)) [ inl e ↦ rw e refl | inr e ↦ rw e refl ]
 
 -- The clock was read, and no step was taken.
-pub seat_heard : (d n : DeskState) (seat : ℕ) (reading : Option ℕ) → n.core ≡ d.core → n.heard ≡ moment_heard d.heard reading → n.mails ≡ d.mails → n.pending ≡ d.pending
+pub seat_heard : (d n : DeskState) (seat : ℕ) (reading : Option ℕ) → n.core ≡ d.core → n.heard ≡ moment_heard d.heard reading
+    → n.mails ≡ d.mails → n.pending ≡ d.pending
     → SeatWent seat d (reading ∷ []) [] [] n
 seat_heard d n seat reading core heard mails pending = record {
   history = [];
@@ -178,22 +193,33 @@ pub seat_none : (d : DeskState) (seat : ℕ) → SeatWent seat d [] [] [] d
 seat_none d seat = record {
   history = [];
   took = λ t. [];
-  went = record { given = []; runs = run_none d.core; timed = record { picked = tt; last_is = refl }; many = refl; tied = λ t below. append-nil (waiting t d) };
+  went = record {
+    given = [];
+    runs = run_none d.core;
+    timed = record { picked = tt; last_is = refl };
+    many = refl;
+    tied = λ t below.
+        append-nil (waiting t d);
+  };
   submitted_is = refl;
   taken_is = refl;
   others_still = λ t differs. refl;
   others_took = λ t differs. refl;
 }
 
-pub seat_on : (first next last : DeskState) (seat : ℕ) (readings reads : List (Option ℕ)) (submitted more : List Step) (taken later : List Answer)
-    → SeatWent seat first readings submitted taken next → SeatWent seat next reads more later last → SeatWent seat first (readings ++ reads) (submitted ++ more) (taken ++ later) last
+pub seat_on : (first next last : DeskState) (seat : ℕ) (readings reads : List (Option ℕ)) (submitted more : List Step)
+    (taken later : List Answer)
+    → SeatWent seat first readings submitted taken next → SeatWent seat next reads more later last
+    → SeatWent seat first (readings ++ reads) (submitted ++ more) (taken ++ later) last
 seat_on first next last seat readings reads submitted more taken later a b = record {
   history = a.history ++ b.history;
   took = λ t. a.took t ++ b.took t;
   went = desk_on first next last readings reads a.history b.history a.took b.took a.went b.went;
-  submitted_is = steps_append seat a.history b.history ∙ ap (λ (xs : List Step). xs ++ steps_at seat b.history) a.submitted_is ∙ ap (λ (xs : List Step). submitted ++ xs) b.submitted_is;
+  submitted_is = steps_append seat a.history b.history ∙ ap (λ (xs : List Step). xs ++ steps_at seat b.history) a.submitted_is
+      ∙ ap (λ (xs : List Step). submitted ++ xs) b.submitted_is;
   taken_is = ap (λ (xs : List Answer). xs ++ b.took seat) a.taken_is ∙ ap (λ (xs : List Answer). taken ++ xs) b.taken_is;
-  others_still = λ t differs. steps_append t a.history b.history ∙ ap (λ (xs : List Step). xs ++ steps_at t b.history) (a.others_still t differs) ∙ b.others_still t differs;
+  others_still = λ t differs. steps_append t a.history b.history
+      ∙ ap (λ (xs : List Step). xs ++ steps_at t b.history) (a.others_still t differs) ∙ b.others_still t differs;
   others_took = λ t differs. ap (λ (xs : List Answer). xs ++ b.took t) (a.others_took t differs) ∙ b.others_took t differs;
 }
 
@@ -219,15 +245,19 @@ seat_sorted d n seat s = record {
 pub gave_none : {C : Type 0} (given : C → List (Option ℕ) → C → Type 0) (clock : C) → GaveReadings given clock [] clock
 gave_none given clock first before h = subst (λ (rs : List (Option ℕ)). given first rs clock) (sym (append-nil before)) h
 
-pub gave_then : {C : Type 0} (given : C → List (Option ℕ) → C → Type 0) (a b c : C) (readings reads : List (Option ℕ)) → GaveReadings given a readings b → GaveReadings given b reads c → GaveReadings given a (readings ++ reads) c
+pub gave_then : {C : Type 0} (given : C → List (Option ℕ) → C → Type 0) (a b c : C) (readings reads : List (Option ℕ))
+    → GaveReadings given a readings b → GaveReadings given b reads c → GaveReadings given a (readings ++ reads) c
 gave_then given a b c readings reads h i first before g =
-    subst (λ (rs : List (Option ℕ)). given first rs c) (append_assoc before readings reads) (i first (before ++ readings) (h first before g))
+    subst (λ (rs : List (Option ℕ)). given first rs c) (append_assoc before readings reads)
+    (i first (before ++ readings) (h first before g))
 
 pub went_none : {C : Type 0} (given : C → List (Option ℕ) → C → Type 0) (seat : ℕ) (desk : Desk C) → WentAt given seat desk [] [] desk
 went_none given seat desk = ([], gave_none given desk.timed.time.clock, seat_none (state_of desk) seat)
 
-pub went_then : {C : Type 0} (given : C → List (Option ℕ) → C → Type 0) (seat other : ℕ) (first next last : Desk C) (submitted more : List Step) (taken later : List Answer)
-    → other ≡ seat → WentAt given seat first submitted taken next → WentAt given other next more later last → WentAt given seat first (submitted ++ more) (taken ++ later) last
+pub went_then : {C : Type 0} (given : C → List (Option ℕ) → C → Type 0) (seat other : ℕ) (first next last : Desk C)
+    (submitted more : List Step) (taken later : List Answer)
+    → other ≡ seat → WentAt given seat first submitted taken next → WentAt given other next more later last
+    → WentAt given seat first (submitted ++ more) (taken ++ later) last
 went_then given seat other first next last submitted more taken later same a b =
     let b' = subst (λ (n : ℕ). WentAt given n next more later last) same b in (
       a.0 ++ b'.0,
@@ -235,9 +265,13 @@ went_then given seat other first next last submitted more taken later same a b =
       seat_on (state_of first) (state_of next) (state_of last) seat a.0 b'.0 submitted more taken later a.2 b'.2,
     )
 
-pub went_sorted : {C : Type 0} (given : C → List (Option ℕ) → C → Type 0) (seat : ℕ) (first last : Desk C) → IsSorted (state_of first) (state_of last) → last.timed.time.clock ≡ first.timed.time.clock → WentAt given seat first [] [] last
-went_sorted given seat first last s same =
-    ([], subst (λ c. GaveReadings given first.timed.time.clock [] c) (sym same) (gave_none given first.timed.time.clock), seat_sorted (state_of first) (state_of last) seat s)
+pub went_sorted : {C : Type 0} (given : C → List (Option ℕ) → C → Type 0) (seat : ℕ) (first last : Desk C)
+    → IsSorted (state_of first) (state_of last) → last.timed.time.clock ≡ first.timed.time.clock → WentAt given seat first [] [] last
+went_sorted given seat first last s same = (
+  [],
+  subst (λ c. GaveReadings given first.timed.time.clock [] c) (sym same) (gave_none given first.timed.time.clock),
+  seat_sorted (state_of first) (state_of last) seat s,
+)
 
 -- the machine of a core, and its comparisons
 abbrev pub machine_of : CoreState → Machine
@@ -247,29 +281,36 @@ abbrev pub compared_of : CoreState → ℕ
 compared_of k = k.comparisons
 
 -- The core took a step, while all answers so far were in the mail.
-pub went_step : {C : Type 0} (given : C → List (Option ℕ) → C → Type 0) (seat : ℕ) (what : Step) (first : Desk C) (t : TimedCore C CoreState)
+pub went_step : {C : Type 0} (given : C → List (Option ℕ) → C → Type 0) (seat : ℕ) (what : Step) (first : Desk C)
+    (t : TimedCore C CoreState)
     → TakesStep given machine_of compared_of first.timed seat what t → (state_of first).pending ≡ []
     → WentAt given seat first (if is_tick what then [] else what ∷ []) [] (record first { timed = t })
 went_step given seat what first t s empty =
     let last = record first { timed = t } in
-    let step = subst (λ (n : ℕ). IsStep first.timed.core.machine n seat what s.outcome t.outs.given t.core.machine) s.time.heard s.step.step in
+    let step = subst (λ (n : ℕ). IsStep first.timed.core.machine n seat what s.outcome t.outs.given t.core.machine)
+    s.time.heard s.step.step in
     let none : option_to_list first.held ≡ [] = none_held (option_to_list first.held) first.timed.outs.given empty in (
       s.reading ∷ [],
       s.time.gave,
-      one_step (state_of first) (state_of last) seat what s.reading s.outcome t.outs.given step s.time.heard refl empty (ap (λ (xs : List GivenAnswer). xs ++ t.outs.given) none),
+      one_step (state_of first) (state_of last) seat what s.reading s.outcome t.outs.given step s.time.heard refl empty
+          (ap (λ (xs : List GivenAnswer). xs ++ t.outs.given) none),
     )
 
 -- The core was asked for the next due moment, if it was not known: no seat notices it.
-went_looked : {C : Type 0} (given : C → List (Option ℕ) → C → Type 0) (seat : ℕ) (first : Desk C) (t looked : TimedCore C CoreState) → HasLooked machine_of compared_of first.timed looked → t ≡ looked
+went_looked : {C : Type 0} (given : C → List (Option ℕ) → C → Type 0) (seat : ℕ) (first : Desk C) (t looked : TimedCore C CoreState)
+    → HasLooked machine_of compared_of first.timed looked → t ≡ looked
     → WentAt given seat first [] [] (record first { timed = t })
 went_looked given seat first t looked l e =
     let time = ap (λ (x : TimedCore _ _). x.time) e ∙ l.time in
     let state = state_of first in
     let last = state_of (record first { timed = t }) in
     let core : last.core ≡ state.core = ap (λ (x : TimedCore _ _). x.core.machine) e ∙ l.same in
-    let pending : last.pending ≡ state.pending = ap (λ (x : TimedCore _ _). option_to_list first.held ++ x.outs.given) e ∙ ap (λ (o : Outbox). option_to_list first.held ++ o.given) l.outs in (
+    let pending : last.pending ≡ state.pending =
+    ap (λ (x : TimedCore _ _). option_to_list first.held ++ x.outs.given) e
+    ∙ ap (λ (o : Outbox). option_to_list first.held ++ o.given) l.outs in (
       [],
-      subst (λ c. GaveReadings given first.timed.time.clock [] c) (sym (ap (λ (h : HeardClock _). h.clock) time)) (gave_none given first.timed.time.clock),
+      subst (λ c. GaveReadings given first.timed.time.clock [] c) (sym (ap (λ (h : HeardClock _). h.clock) time))
+          (gave_none given first.timed.time.clock),
       record {
         history = [];
         took = λ t. [];
@@ -278,7 +319,8 @@ went_looked given seat first t looked l e =
           runs = subst (λ (m : Machine). Run state.core [] [] m) (sym core) (run_none state.core);
           timed = record { picked = tt; last_is = ap (λ (h : HeardClock _). h.moment) time };
           many = refl;
-          tied = λ s below. append-nil (waiting s state) ∙ ap (λ (xs : List GivenAnswer). slice_index_or state.mails s [] ++ answers_to s xs) (sym pending);
+          tied = λ s below. append-nil (waiting s state)
+              ∙ ap (λ (xs : List GivenAnswer). slice_index_or state.mails s [] ++ answers_to s xs) (sym pending);
         };
         submitted_is = refl;
         taken_is = refl;
@@ -288,7 +330,8 @@ went_looked given seat first t looked l e =
     )
 
 -- Time passed, and no step was taken.
-pub went_over : {C : Type 0} (given : C → List (Option ℕ) → C → Type 0) (seat : ℕ) (first : Desk C) (t : TimedCore C CoreState) → PassesOver given machine_of compared_of first.timed t
+pub went_over : {C : Type 0} (given : C → List (Option ℕ) → C → Type 0) (seat : ℕ) (first : Desk C) (t : TimedCore C CoreState)
+    → PassesOver given machine_of compared_of first.timed t
     → WentAt given seat first [] [] (record first { timed = t })
 went_over {C} given seat first t (looked, l, rest) = elim rest [
   | inl e ↦ went_looked given seat first t looked l e
@@ -298,21 +341,25 @@ went_over {C} given seat first t (looked, l, rest) = elim rest [
       let heard : WentAt given seat at [] [] last = (
         h.0 ∷ [],
         h.1.gave,
-        seat_heard (state_of at) (state_of last) seat h.0 (ap (λ (x : TimedCore C CoreState). x.core.machine) h.2) h.1.heard refl (ap (λ (x : TimedCore C CoreState). option_to_list first.held ++ x.outs.given) h.2),
+        seat_heard (state_of at) (state_of last) seat h.0 (ap (λ (x : TimedCore C CoreState). x.core.machine) h.2) h.1.heard refl
+            (ap (λ (x : TimedCore C CoreState). option_to_list first.held ++ x.outs.given) h.2),
       ) in
       went_then given seat seat first at last [] [] [] [] refl (went_looked given seat first looked looked l refl) heard
 ]
 
 -- Time passed, and the core took a tick if something was due.
-pub went_passed : {C : Type 0} (given : C → List (Option ℕ) → C → Type 0) (seat : ℕ) (first : Desk C) (t : TimedCore C CoreState) (ticks : Bool) → (state_of first).pending ≡ []
-    → (ticks ≡ false → PassesOver given machine_of compared_of first.timed t) → (ticks ≡ true → LooksAndSteps given machine_of compared_of first.timed seat Tick t)
+pub went_passed : {C : Type 0} (given : C → List (Option ℕ) → C → Type 0) (seat : ℕ) (first : Desk C) (t : TimedCore C CoreState)
+    (ticks : Bool) → (state_of first).pending ≡ []
+    → (ticks ≡ false → PassesOver given machine_of compared_of first.timed t)
+    → (ticks ≡ true → LooksAndSteps given machine_of compared_of first.timed seat Tick t)
     → WentAt given seat first [] [] (record first { timed = t })
 went_passed given seat first t false empty over ticked = went_over given seat first t (over refl)
 went_passed given seat first t true empty over ticked =
     let (looked, l, s) = ticked refl in
     let at = record first { timed = looked } in
     let none : (state_of at).pending ≡ [] = ap (λ (o : Outbox). option_to_list first.held ++ o.given) l.outs ∙ empty in
-    went_then given seat seat first at (record first { timed = t }) [] [] [] [] refl (went_looked given seat first looked looked l refl) (went_step given seat Tick at t s none)
+    went_then given seat seat first at (record first { timed = t }) [] [] [] [] refl (went_looked given seat first looked looked l refl)
+    (went_step given seat Tick at t s none)
 
 -- A desk whose answers only moved stays in order.
 pub mails_sorted : (d n : DeskState) → IsSorted d n → HasMails d → HasMails n

@@ -1,5 +1,6 @@
 -- An answer is put into the mail of a seat, or taken out of it.
-use Rattle.std.proofs.Common.{◌≡◌, ◌≢◌, ℕ, ◌<◌, Bool, false, List, [], ◌∷◌, ◌++◌, length, refl, sym, ap, ◌∙◌, subst, inl, inr, append-nil, append_assoc, slice_set}
+use Rattle.std.proofs.Common.{◌≡◌, ◌≢◌, ℕ, ◌<◌, Bool, false, List, [], ◌∷◌, ◌++◌, length}
+use Rattle.std.proofs.Common.{refl, sym, ap, ◌∙◌, subst, inl, inr, append-nil, append_assoc, slice_set}
 use Rattle.std.specs.Prelude.{◌==◌, if◌then◌else◌, slice_index_or}
 use Rattle.std.proofs.lemmas.Bool.{cases_Bool, eq-eqb, eqb-true, eqb-false}
 use Rattle.std.proofs.lemmas.List.{get_or-set_other, get_or-set_same, get_or_default, length-set, set-get_or}
@@ -12,7 +13,8 @@ use Rattle.bq_run_one.specs.DeskWent.{SeatWent}
 not_equal : (a b : ℕ) → a ≢ b → (a == b) ≡ false
 not_equal a b h = elim (cases_Bool (a == b)) [ inl e ↦ absurd (h (eqb-true a b e)) | inr e ↦ e ]
 
-pub posted_at : (items : List (List Answer)) (i seat : ℕ) (old new : List Answer) (answer : Answer) → i ≡ seat → i < length items → old ≡ slice_index_or items i old → new ≡ old ++ answer ∷ []
+pub posted_at : (items : List (List Answer)) (i seat : ℕ) (old new : List Answer) (answer : Answer) → i ≡ seat → i < length items
+    → old ≡ slice_index_or items i old → new ≡ old ++ answer ∷ []
     → (t : ℕ) → slice_index_or (slice_set items i new) t [] ≡ slice_index_or items t [] ++ answers_to t ((seat, answer) ∷ [])
 posted_at items i seat old new answer same below at is t =
     elim (cases_Bool (seat == t)) [
@@ -27,15 +29,18 @@ posted_at items i seat old new answer same below at is t =
       | inr e ↦
           let there : t ≢ i = λ h. eqb-false seat t e (sym same ∙ sym h) in
           let told : answers_to t ((seat, answer) ∷ []) ≡ [] = rw e refl in
-          get_or-set_other items i t new [] there ∙ sym (append-nil (slice_index_or items t [])) ∙ ap (λ (xs : List Answer). slice_index_or items t [] ++ xs) (sym told)
+          get_or-set_other items i t new [] there ∙ sym (append-nil (slice_index_or items t []))
+          ∙ ap (λ (xs : List Answer). slice_index_or items t [] ++ xs) (sym told)
     ]
 
-pub still_at : (items : List (List Answer)) (i : ℕ) (old new : List Answer) → i < length items → old ≡ slice_index_or items i old → new ≡ old → slice_set items i new ≡ items
+pub still_at : (items : List (List Answer)) (i : ℕ) (old new : List Answer) → i < length items → old ≡ slice_index_or items i old
+    → new ≡ old → slice_set items i new ≡ items
 still_at items i old new below at is =
     ap (λ (x : List Answer). slice_set items i x) (is ∙ at) ∙ set-get_or items i old
 
 -- the seat took its oldest answer
-pub seat_takes : (d n : DeskState) (seat i : ℕ) (old rest taken : List Answer) → i ≡ seat → i < length d.mails → old ≡ slice_index_or d.mails i old → old ≡ taken ++ rest
+pub seat_takes : (d n : DeskState) (seat i : ℕ) (old rest taken : List Answer) → i ≡ seat → i < length d.mails
+    → old ≡ slice_index_or d.mails i old → old ≡ taken ++ rest
     → n.core ≡ d.core → n.heard ≡ d.heard → n.pending ≡ d.pending → n.mails ≡ slice_set d.mails i rest → SeatWent seat d [] [] taken n
 seat_takes d n seat i old rest taken same below at is core heard pending mails = record {
   history = [];
@@ -64,14 +69,19 @@ seat_takes d n seat i old rest taken same below at is core heard pending mails =
       | inl e ↦
           let here : t ≡ i = eqb-true t seat e ∙ sym same in
           let before : slice_index_or d.mails i [] ≡ taken ++ rest = get_or_default d.mails i [] old below ∙ sym at ∙ is in
-          let after : slice_index_or n.mails i [] ≡ rest = ap (λ (ms : List (List Answer)). slice_index_or ms i []) mails ∙ get_or-set_same d.mails i rest [] below in
+          let after : slice_index_or n.mails i [] ≡ rest =
+          ap (λ (ms : List (List Answer)). slice_index_or ms i []) mails ∙ get_or-set_same d.mails i rest [] below in
           let whole : waiting i d ≡ taken ++ waiting i n =
           ap (λ (xs : List Answer). xs ++ answers_to i d.pending) before ∙ append_assoc taken rest (answers_to i d.pending)
-          ∙ ap (λ (xs : List Answer). taken ++ (rest ++ xs)) (pending_at i) ∙ ap (λ (xs : List Answer). taken ++ (xs ++ answers_to i n.pending)) (sym after) in
-          subst (λ (n' : ℕ). waiting n' d ≡ taken ++ waiting n' n) (sym here) whole ∙ ap (λ (b : Bool). (if b then taken else []) ++ waiting t n) (sym e)
+          ∙ ap (λ (xs : List Answer). taken ++ (rest ++ xs)) (pending_at i)
+          ∙ ap (λ (xs : List Answer). taken ++ (xs ++ answers_to i n.pending)) (sym after) in
+          subst (λ (n' : ℕ). waiting n' d ≡ taken ++ waiting n' n) (sym here) whole
+          ∙ ap (λ (b : Bool). (if b then taken else []) ++ waiting t n) (sym e)
       | inr e ↦
           let there : t ≢ i = λ h. eqb-false t seat e (h ∙ same) in
-          let after : slice_index_or n.mails t [] ≡ slice_index_or d.mails t [] = ap (λ (ms : List (List Answer)). slice_index_or ms t []) mails ∙ get_or-set_other d.mails i t rest [] there in
-          ap (λ (xs : List Answer). xs ++ answers_to t d.pending) (sym after) ∙ ap (λ (xs : List Answer). slice_index_or n.mails t [] ++ xs) (pending_at t)
+          let after : slice_index_or n.mails t [] ≡ slice_index_or d.mails t [] =
+          ap (λ (ms : List (List Answer)). slice_index_or ms t []) mails ∙ get_or-set_other d.mails i t rest [] there in
+          ap (λ (xs : List Answer). xs ++ answers_to t d.pending) (sym after)
+          ∙ ap (λ (xs : List Answer). slice_index_or n.mails t [] ++ xs) (pending_at t)
           ∙ ap (λ (b : Bool). (if b then taken else []) ++ waiting t n) (sym e)
     ]

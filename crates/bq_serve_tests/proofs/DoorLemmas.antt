@@ -13,6 +13,7 @@ pub all_pushed : {X : Type 0} (xs ys : List X) (x : X) (P : X → Type 0) → ys
 all_pushed xs ys x P e h p = subst (All P) (sym e) (one_more P xs x h p)
 
 -- The same if the list may have had no room.
-pub all_pushed_if : {X : Type 0} (pushed : Bool) (xs ys : List X) (x : X) (P : X → Type 0) → ys ≡ (if pushed then xs ++ x ∷ [] else xs) → All P xs → P x → All P ys
+pub all_pushed_if : {X : Type 0} (pushed : Bool) (xs ys : List X) (x : X) (P : X → Type 0) → ys ≡ (if pushed then xs ++ x ∷ [] else xs)
+    → All P xs → P x → All P ys
 all_pushed_if true xs ys x P e h p = all_pushed xs ys x P e h p
 all_pushed_if false xs ys x P e h p = subst (All P) (sym e) h

@@ -1,14 +1,20 @@
 -- The client counts of tubes are parallel to their entries.
-use Rattle.std.proofs.{Common.{◌&&◌, ◌||◌, ◌∙◌, ◌∷◌, ◌≡◌, Bool, List, [], ℕ, ap, false, inl, inr, map, refl, sym, true}, lemmas.{Bool.cases_Bool, List.{drop-map, map-append, take-map}}}
+use Rattle.std.proofs.Common.{◌&&◌, ◌||◌, ◌∙◌, ◌∷◌, ◌≡◌, Bool, List, [], ℕ, ap, false, inl, inr, map, refl, sym, true}
+use Rattle.std.proofs.lemmas.{Bool.cases_Bool, List.{drop-map, map-append, take-map}}
 use Rattle.std.proofs.{Common.arith, lemmas.Grind.common_steps}
 use Rattle.std.specs.{List.{AllByRecursion as All, insert, list_any, prefix_len}, Prelude.{count_by, nat_lt}}
 use Rattle.bq_job.specs.declared.job.Job.{Job}
-use Rattle.bq_job.specs.{machine.{SeatRecord, TubeRecord, default_tube, empty_seat, fresh_tube, is_name_before, is_seated_at}, reading.TubeName.is_same_name}
+use Rattle.bq_job.specs.machine.{SeatRecord, TubeRecord, default_tube, empty_seat, fresh_tube, is_name_before, is_seated_at}
+use Rattle.bq_job.specs.{reading.TubeName.is_same_name}
 use Rattle.bq_job.proofs.ListLemmas.{all_weaker, count_all_not, list_any_not, none_pass}
 use Rattle.bq_state.specs.declared.{known.{Clients.Clients, Tally.Tally}, tubes.entry.Crowd.Crowd}
-use Rattle.bq_state.specs.{Clients.clients_of, Crowds.{AreCrowds, IsSeated, crowd_at, crowd_in, crowd_of, crowds_of, crowds_provided, has_seats, is_user, is_waiter, is_watcher, no_crowd}, Tallies.{has_jobs, tallies_of, tally_at}}
+use Rattle.bq_state.specs.{Clients.clients_of}
+use Rattle.bq_state.specs.Crowds.{AreCrowds, IsSeated, crowd_at, crowd_in, crowd_of, crowds_of}
+use Rattle.bq_state.specs.Crowds.{crowds_provided, has_seats, is_user, is_waiter, is_watcher, no_crowd}
+use Rattle.bq_state.specs.Tallies.{has_jobs, tallies_of, tally_at}
 use Rattle.bq_state.specs.TubeEntries.{AreEntries, HasTubes, has_entry, is_tube_by, is_tube_of, provided}
-use Rattle.bq_state.proofs.{ClientLemmas.some_pass, CrowdLemmas.has_seats_of, TallyPlaces.{has_jobs_in, tally_there}, TubeLemmas.{provided_new, same_name}}
+use Rattle.bq_state.proofs.{ClientLemmas.some_pass, CrowdLemmas.has_seats_of}
+use Rattle.bq_state.proofs.{TallyPlaces.{has_jobs_in, tally_there}, TubeLemmas.{provided_new, same_name}}
 
 -- counts of 0
 pub nobody_counted : (c : Crowd) → (c.using ≡ 0) × ((c.watching ≡ 0) × (c.waiting ≡ 0)) → c ≡ no_crowd
@@ -20,7 +26,8 @@ module _ (name : List ℕ) (es : List TubeRecord) (missing : has_entry name es �
   at_none [] all = refl
   at_none (n ∷ names) all = go (is_same_name name n) refl (at_none names all.1)
     where
-      go : (b : Bool) → is_same_name name n ≡ b → list_any (is_same_name name) names ≡ false → b || list_any (is_same_name name) names ≡ false
+      go : (b : Bool) → is_same_name name n ≡ b → list_any (is_same_name name) names ≡ false
+          → b || list_any (is_same_name name) names ≡ false
       go true e rest = absurd (let there : has_entry name es ≡ true = ap (λ m. has_entry m es) (same_name name n e) ∙ all.0 in cc)
       go false e rest = rest
 
@@ -28,7 +35,8 @@ module _ (name : List ℕ) (es : List TubeRecord) (missing : has_entry name es �
   not_using s has = go s.connected refl (is_same_name name s.used) refl
     where
       go : (c : Bool) → s.connected ≡ c → (b : Bool) → is_same_name name s.used ≡ b → c && b ≡ false
-      go true is true e = absurd (let there : has_entry name es ≡ true = ap (λ m. has_entry m es) (same_name name s.used e) ∙ has.used is in cc)
+      go true is true e = absurd (let there : has_entry name es ≡ true = ap (λ m. has_entry m es) (same_name name s.used e)
+          ∙ has.used is in cc)
       go true is false e = refl
       go false is b e = refl
 
@@ -41,13 +49,15 @@ module _ (name : List ℕ) (es : List TubeRecord) (missing : has_entry name es �
   nobody_there seats has is = grind (arith, none_of, count_all_not)
 
 -- the list parallel to the entries, when one is added
-inserted_beside : {A : Type 0} (f : TubeRecord → A) (es : List TubeRecord) (n : ℕ) (x : TubeRecord) → insert (map f es) n (f x) ≡ map f (insert es n x)
+inserted_beside : {A : Type 0} (f : TubeRecord → A) (es : List TubeRecord) (n : ℕ) (x : TubeRecord)
+    → insert (map f es) n (f x) ≡ map f (insert es n x)
 inserted_beside f es n x = grind (arith, take-map, drop-map, map-append)
 
 -- a tube gets an entry
 pub crowds_of_provided : (name : List ℕ) (crowds : List Crowd) (seats : List SeatRecord) (es : List TubeRecord) → All (HasTubes es) seats
     → AreCrowds crowds seats es → AreCrowds (crowds_provided name es crowds) seats (provided name es)
-crowds_of_provided name crowds seats es has was = record { each = ap (crowds_provided name es) was.each ∙ go (has_entry name es) refl; seated = was.seated }
+crowds_of_provided name crowds seats es has was =
+    record { each = ap (crowds_provided name es) was.each ∙ go (has_entry name es) refl; seated = was.seated }
   where
     go : (b : Bool) → has_entry name es ≡ b → crowds_provided name es (crowds_of seats es) ≡ crowds_of seats (provided name es)
     go true e = rw e refl
@@ -63,7 +73,8 @@ crowds_of_provided name crowds seats es has was = record { each = ap (crowds_pro
         )
 
 -- an entry changes, but not its name
-pub crowds_kept : (f : TubeRecord → TubeRecord) → ((t : TubeRecord) → (f t).name ≡ t.name) → (crowds : List Crowd) (seats : List SeatRecord) (es : List TubeRecord)
+pub crowds_kept : (f : TubeRecord → TubeRecord) → ((t : TubeRecord) → (f t).name ≡ t.name)
+    → (crowds : List Crowd) (seats : List SeatRecord) (es : List TubeRecord)
     → AreCrowds crowds seats es → AreCrowds crowds seats (map f es)
 crowds_kept f same crowds seats es was = record { each = was.each ∙ stay es; seated = was.seated }
   where
@@ -72,7 +83,8 @@ crowds_kept f same crowds seats es was = record { each = was.each ∙ stay es; s
     stay (t ∷ es) = λ i. crowd_of seats (sym (same t) i) ∷ stay es i
 
 -- The counts found under a name are those of its clients.
-pub named_crowd : (name : List ℕ) (g : List ℕ → Crowd) (es : List TubeRecord) → has_entry name es ≡ true → crowd_at name es (map (λ t. g t.name) es) ≡ g name
+pub named_crowd : (name : List ℕ) (g : List ℕ → Crowd) (es : List TubeRecord) → has_entry name es ≡ true
+    → crowd_at name es (map (λ t. g t.name) es) ≡ g name
 named_crowd name g [] h = absurd cc
 named_crowd name g (t ∷ es) h =
     elim (cases_Bool (is_same_name name t.name)) [
@@ -80,11 +92,13 @@ named_crowd name g (t ∷ es) h =
       | inr e ↦ rw e (named_crowd name g es (rw e at h))
     ]
 
-crowd_missing : (name : List ℕ) (seats : List SeatRecord) (es : List TubeRecord) → has_entry name es ≡ false → crowd_at name es (crowds_of seats es) ≡ no_crowd
+crowd_missing : (name : List ℕ) (seats : List SeatRecord) (es : List TubeRecord) → has_entry name es ≡ false
+    → crowd_at name es (crowds_of seats es) ≡ no_crowd
 crowd_missing name seats [] h = refl
 crowd_missing name seats (t ∷ es) h = grind (arith, common_steps, cases_Bool, crowd_missing name seats es)
 
-pub crowd_there : (name : List ℕ) (crowds : List Crowd) (seats : List SeatRecord) (es : List TubeRecord) → All (HasTubes es) seats → AreCrowds crowds seats es
+pub crowd_there : (name : List ℕ) (crowds : List Crowd) (seats : List SeatRecord) (es : List TubeRecord) → All (HasTubes es) seats
+    → AreCrowds crowds seats es
     → crowd_at name es crowds ≡ crowd_of seats name
 crowd_there name crowds seats es has was = ap (crowd_at name es) was.each ∙ go (has_entry name es) refl
   where
@@ -93,29 +107,42 @@ crowd_there name crowds seats es has was = ap (crowd_at name es) was.each ∙ go
     go false e = crowd_missing name seats es e ∙ sym (nobody_there name es e seats has was.seated)
 
 -- A client that waits for jobs of a tube is counted.
-pub waiters_counted : (name : List ℕ) (clients : Clients) (crowds : List Crowd) (seats : List SeatRecord) (entries : List TubeRecord) → All (HasTubes entries) seats → AreCrowds crowds seats entries → clients ≡ clients_of seats
+pub waiters_counted : (name : List ℕ) (clients : Clients) (crowds : List Crowd) (seats : List SeatRecord) (entries : List TubeRecord)
+    → All (HasTubes entries) seats → AreCrowds crowds seats entries → clients ≡ clients_of seats
     → (nat_lt 0 clients.waiting && nat_lt 0 (crowd_at name entries crowds).waiting) ≡ list_any (is_waiter name) seats
 waiters_counted name clients crowds seats entries of_seats are is =
     grind (arith, crowd_there, some_pass, list_any_not, all_weaker, none_pass)
 
 -- The count of a tube's jobs decides whether it has jobs.
-pub jobs_there : (name : List ℕ) (tallies : List Tally) (jobs : List Job) (es : List TubeRecord) → All (λ j. has_entry j.tube es ≡ true) jobs
+pub jobs_there : (name : List ℕ) (tallies : List Tally) (jobs : List Job) (es : List TubeRecord)
+    → All (λ j. has_entry j.tube es ≡ true) jobs
     → tallies ≡ tallies_of jobs es → has_jobs (tally_at name es tallies) ≡ list_any (λ j. is_same_name name j.tube) jobs
-jobs_there name tallies jobs es of_jobs counted = ap has_jobs (ap (tally_at name es) counted ∙ tally_there name jobs es of_jobs) ∙ has_jobs_in name jobs
+jobs_there name tallies jobs es of_jobs counted =
+    ap has_jobs (ap (tally_at name es) counted ∙ tally_there name jobs es of_jobs) ∙ has_jobs_in name jobs
 
 -- The counts of a tube decide whether it exists.
-pub exists_by_counts : (jobs : List Job) (seats : List SeatRecord) (name : List ℕ) (some seated : Bool) → some ≡ list_any (λ j. is_same_name name j.tube) jobs → seated ≡ list_any (is_seated_at name) seats
+pub exists_by_counts : (jobs : List Job) (seats : List SeatRecord) (name : List ℕ) (some seated : Bool)
+    → some ≡ list_any (λ j. is_same_name name j.tube) jobs → seated ≡ list_any (is_seated_at name) seats
     → is_tube_by some seated name ≡ is_tube_of jobs seats name
 exists_by_counts jobs seats name some seated e f = λ i. is_tube_by (e i) (f i) name
 
-pub tube_there : (name : List ℕ) (tallies : List Tally) (crowds : List Crowd) (jobs : List Job) (seats : List SeatRecord) (es : List TubeRecord) → AreEntries jobs seats es
+pub tube_there : (name : List ℕ) (tallies : List Tally) (crowds : List Crowd) (jobs : List Job) (seats : List SeatRecord)
+    (es : List TubeRecord) → AreEntries jobs seats es
     → tallies ≡ tallies_of jobs es → AreCrowds crowds seats es
     → is_tube_by (has_jobs (tally_at name es tallies)) (has_seats (crowd_at name es crowds)) name ≡ is_tube_of jobs seats name
 tube_there name tallies crowds jobs seats es entries counted was = grind (arith, jobs_there, crowd_there, has_seats_of)
 
 -- at first there are no clients
 pub first_crowds : (ns : List ℕ) → AreCrowds (no_crowd ∷ []) (map empty_seat ns) (fresh_tube default_tube ∷ [])
-first_crowds ns = record { each = (λ i. sym (nobody_counted (crowd_of (map empty_seat ns) default_tube) (none (is_user default_tube) (λ n. refl) ns, (none (is_watcher default_tube) (λ n. refl) ns, none (is_waiter default_tube) (λ n. refl) ns))) i ∷ []); seated = all_seated ns }
+first_crowds ns =
+    record {
+      each =
+          (λ i. sym (nobody_counted (crowd_of (map empty_seat ns) default_tube) (
+            none (is_user default_tube) (λ n. refl) ns,
+            (none (is_watcher default_tube) (λ n. refl) ns, none (is_waiter default_tube) (λ n. refl) ns),
+          )) i ∷ []);
+      seated = all_seated ns;
+    }
   where
     passes : (p : SeatRecord → Bool) → ((n : ℕ) → p (empty_seat n) ≡ false) → (ns : List ℕ) → All (λ s. p s ≡ false) (map empty_seat ns)
     passes p fails [] = tt

@@ -1,16 +1,21 @@
 -- Counts of the clients at tubes after a client watches one more tube, or one fewer.
-use Rattle.std.proofs.Common.{◌&&◌, ◌++◌, ◌==◌, ◌||◌, ◌∙◌, ◌∷◌, ◌≡◌, ◌≤◌, if◌then◌else◌, Bool, List, Some, [], ℕ, ap, false, filter, length, map, not, refl, set, slice_get, sym, true}
+use Rattle.std.proofs.Common.{◌&&◌, ◌++◌, ◌==◌, ◌||◌, ◌∙◌, ◌∷◌, ◌≡◌, ◌≤◌, if◌then◌else◌, Bool, List, Some, []}
+use Rattle.std.proofs.Common.{ℕ, ap, false, filter, length, map, not, refl, set, slice_get, sym, true}
 use Rattle.std.proofs.{Common.arith, lemmas.Grind.common_steps, Math.Bool.{and-false, or-false}}
 use Rattle.std.specs.{List.list_any, Prelude.count_by}
 use Rattle.bq_job.specs.{machine.{SeatRecord, TubeRecord, greatest, is_waiting, watches, watching}, reading.TubeName.is_same_name}
 use Rattle.bq_job.proofs.WatchedLemmas.{none_twice_behind, none_twice_filter}
 use Rattle.bq_state.specs.declared.tubes.entry.Crowd.{Crowd}
-use Rattle.bq_state.specs.{Crowds.{AreCrowds, IsSeated, crowd_in, crowd_of, crowd_with, crowd_without, crowds_at, is_user, is_waiter, is_watcher, share_of_watcher, share_of_watching}, SeatChanges.AreNumbered}
+use Rattle.bq_state.specs.Crowds.{AreCrowds, IsSeated, crowd_in, crowd_of, crowd_with, crowd_without}
+use Rattle.bq_state.specs.Crowds.{crowds_at, is_user, is_waiter, is_watcher, share_of_watcher, share_of_watching}
+use Rattle.bq_state.specs.{SeatChanges.AreNumbered}
 use Rattle.bq_state.specs.{Tallies.{count_with, count_without}, TubeEntries.AreInOrder}
-use Rattle.bq_state.proofs.{ClientLemmas.{count_changed, count_unchanged}, CrowdLemmas.{at_named, map_same, same_turned}, PartsLemmas.{all_read, all_set, changed_there, seat_read, watching_numbered}, TubeLemmas.same_name}
+use Rattle.bq_state.proofs.{ClientLemmas.{count_changed, count_unchanged}, CrowdLemmas.{at_named, map_same, same_turned}}
+use Rattle.bq_state.proofs.{PartsLemmas.{all_read, all_set, changed_there, seat_read, watching_numbered}, TubeLemmas.same_name}
 
 -- a name in a list with one more name
-any_with : (name more : List ℕ) (names : List (List ℕ)) → list_any (is_same_name name) (names ++ more ∷ []) ≡ list_any (is_same_name name) names || is_same_name name more
+any_with : (name more : List ℕ) (names : List (List ℕ))
+    → list_any (is_same_name name) (names ++ more ∷ []) ≡ list_any (is_same_name name) names || is_same_name name more
 any_with name more [] = or-false (is_same_name name more)
 any_with name more (n ∷ names) = grind (arith, any_with name more names)
 
@@ -20,11 +25,13 @@ left_without : (lost name : List ℕ) (names : List (List ℕ)) → is_same_name
 left_without lost name [] apart = refl
 left_without lost name (n ∷ names) apart = grind (arith, same_name, same_turned, left_without lost name names apart)
 
-gone_without : (lost : List ℕ) (names : List (List ℕ)) → list_any (is_same_name lost) (filter (λ other. not (is_same_name lost other)) names) ≡ false
+gone_without : (lost : List ℕ) (names : List (List ℕ))
+    → list_any (is_same_name lost) (filter (λ other. not (is_same_name lost other)) names) ≡ false
 gone_without lost [] = refl
 gone_without lost (n ∷ names) = grind (arith, gone_without lost names)
 
-module _ (names : List (List ℕ)) (i : ℕ) (s : SeatRecord) (seats : List SeatRecord) (found : slice_get seats i ≡ Some s) (h : AreNumbered seats) (fits : length seats ≤ greatest) where
+module _ (names : List (List ℕ)) (i : ℕ) (s : SeatRecord) (seats : List SeatRecord) (found : slice_get seats i ≡ Some s)
+    (h : AreNumbered seats) (fits : length seats ≤ greatest) where
   abbrev new : List SeatRecord
   new = set seats i (watching names s)
 
@@ -38,7 +45,8 @@ module _ (names : List (List ℕ)) (i : ℕ) (s : SeatRecord) (seats : List Seat
   moved p = count_changed p i (watching names) (λ t. refl) s seats h numbered fits (seat_read seats i s h found) ∙ ap (count_by p) changed
 
   same : (p : SeatRecord → Bool) → p (watching names s) ≡ p s → count_by p seats ≡ count_by p new
-  same p e = sym (count_unchanged p i (watching names) (λ t. refl) s seats h numbered (seat_read seats i s h found) e) ∙ ap (count_by p) changed
+  same p e = sym (count_unchanged p i (watching names) (λ t. refl) s seats h numbered (seat_read seats i s h found) e)
+      ∙ ap (count_by p) changed
 
   -- the counts of a tube that the client watches as before,
   crowd_same : (name : List ℕ) → list_any (is_same_name name) names ≡ watches name s → crowd_of seats name ≡ crowd_of new name
@@ -48,18 +56,22 @@ module _ (names : List (List ℕ)) (i : ℕ) (s : SeatRecord) (seats : List Seat
   and_true : (b : Bool) → b && true ≡ b
   and_true b = grind (arith, common_steps)
 
-  crowd_more : (name : List ℕ) → watches name s ≡ false → list_any (is_same_name name) names ≡ true → crowd_with (share_of_watcher s) (crowd_of seats name) ≡ crowd_of new name
+  crowd_more : (name : List ℕ) → watches name s ≡ false → list_any (is_same_name name) names ≡ true
+      → crowd_with (share_of_watcher s) (crowd_of seats name) ≡ crowd_of new name
   crowd_more name none some = λ k. record {
     using = same (is_user name) refl k;
     watching = (one s.connected (count_by (is_watcher name) seats) ∙ moved (is_watcher name)) k;
     waiting = (one (is_waiting s) (count_by (is_waiter name) seats) ∙ moved (is_waiter name)) k;
   }
     where
-      one : (b : Bool) (n : ℕ) → count_with b n ≡ count_with (b && list_any (is_same_name name) names) (count_without (b && watches name s) n)
-      one b n = λ k. count_with ((sym (and_true b) ∙ ap (λ c. b && c) (sym some)) k) (count_without ((sym (and-false b) ∙ ap (λ c. b && c) (sym none)) k) n)
+      one : (b : Bool) (n : ℕ) → count_with b n ≡ count_with (b && list_any (is_same_name name) names)
+          (count_without (b && watches name s) n)
+      one b n = λ k. count_with ((sym (and_true b) ∙ ap (λ c. b && c) (sym some)) k)
+          (count_without ((sym (and-false b) ∙ ap (λ c. b && c) (sym none)) k) n)
 
   -- or that it no longer watches
-  crowd_fewer : (name : List ℕ) → list_any (is_same_name name) names ≡ false → crowd_without (share_of_watching name s) (crowd_of seats name) ≡ crowd_of new name
+  crowd_fewer : (name : List ℕ) → list_any (is_same_name name) names ≡ false
+      → crowd_without (share_of_watching name s) (crowd_of seats name) ≡ crowd_of new name
   crowd_fewer name none = λ k. record {
     using = same (is_user name) refl k;
     watching = (one s.connected (count_without (is_watcher name s) (count_by (is_watcher name) seats)) ∙ moved (is_watcher name)) k;
@@ -70,8 +82,10 @@ module _ (names : List (List ℕ)) (i : ℕ) (s : SeatRecord) (seats : List Seat
       one b n = λ k. count_with ((sym (and-false b) ∙ ap (λ c. b && c) (sym none)) k) n
 
 -- A client watches one more tube,
-pub crowds_watching : (more : List ℕ) (i : ℕ) (s : SeatRecord) (crowds : List Crowd) (seats : List SeatRecord) (es : List TubeRecord) → slice_get seats i ≡ Some s → AreNumbered seats → length seats ≤ greatest
-    → AreInOrder es → watches more s ≡ false → AreCrowds crowds seats es → AreCrowds (crowds_at more (crowd_with (share_of_watcher s)) es crowds) (set seats i (watching (s.watched ++ more ∷ []) s)) es
+pub crowds_watching : (more : List ℕ) (i : ℕ) (s : SeatRecord) (crowds : List Crowd) (seats : List SeatRecord) (es : List TubeRecord)
+    → slice_get seats i ≡ Some s → AreNumbered seats → length seats ≤ greatest
+    → AreInOrder es → watches more s ≡ false → AreCrowds crowds seats es
+    → AreCrowds (crowds_at more (crowd_with (share_of_watcher s)) es crowds) (set seats i (watching (s.watched ++ more ∷ []) s)) es
 crowds_watching more i s crowds seats es found h fits order none was =
     let is = all_read IsSeated seats i s was.seated found in
     record {
@@ -79,22 +93,28 @@ crowds_watching more i s crowds seats es found h fits order none was =
           ap (crowds_at more (crowd_with (share_of_watcher s)) es) was.each
           ∙ at_named (crowd_with (share_of_watcher s)) more (crowd_in seats) es order
           ∙ map_same _ _ es (λ t. at t.name (is_same_name more t.name) refl);
-      seated = all_set IsSeated seats i (watching (s.watched ++ more ∷ []) s) was.seated (record { waits = is.waits; once = none_twice_behind more s.watched none is.once });
+      seated = all_set IsSeated seats i (watching (s.watched ++ more ∷ []) s) was.seated
+          (record { waits = is.waits; once = none_twice_behind more s.watched none is.once });
     }
   where
     names : List (List ℕ)
     names = s.watched ++ more ∷ []
 
-    at : (name : List ℕ) (b : Bool) → is_same_name more name ≡ b → (if b then crowd_with (share_of_watcher s) (crowd_of seats name) else crowd_of seats name) ≡ crowd_of (set seats i (watching names s)) name
+    at : (name : List ℕ) (b : Bool) → is_same_name more name ≡ b
+        → (if b then crowd_with (share_of_watcher s) (crowd_of seats name) else crowd_of seats name) ≡ crowd_of
+        (set seats i (watching names s)) name
     at name true e = grind (arith, same_name more name e, crowd_more, any_with name more s.watched)
     at name false e =
         let apart : is_same_name name more ≡ false = same_turned name more ∙ e in
-        crowd_same names i s seats found h fits name (any_with name more s.watched ∙ ap (λ b. watches name s || b) apart ∙ or-false (watches name s))
+        crowd_same names i s seats found h fits name
+        (any_with name more s.watched ∙ ap (λ b. watches name s || b) apart ∙ or-false (watches name s))
 
 -- or one fewer.
-pub crowds_ignoring : (lost : List ℕ) (i : ℕ) (s : SeatRecord) (crowds : List Crowd) (seats : List SeatRecord) (es : List TubeRecord) → slice_get seats i ≡ Some s → AreNumbered seats → length seats ≤ greatest
+pub crowds_ignoring : (lost : List ℕ) (i : ℕ) (s : SeatRecord) (crowds : List Crowd) (seats : List SeatRecord) (es : List TubeRecord)
+    → slice_get seats i ≡ Some s → AreNumbered seats → length seats ≤ greatest
     → AreInOrder es → AreCrowds crowds seats es
-    → AreCrowds (crowds_at lost (crowd_without (share_of_watching lost s)) es crowds) (set seats i (watching (filter (λ other. not (is_same_name lost other)) s.watched) s)) es
+    → AreCrowds (crowds_at lost (crowd_without (share_of_watching lost s)) es crowds)
+    (set seats i (watching (filter (λ other. not (is_same_name lost other)) s.watched) s)) es
 crowds_ignoring lost i s crowds seats es found h fits order was =
     let is = all_read IsSeated seats i s was.seated found in
     record {
@@ -102,13 +122,16 @@ crowds_ignoring lost i s crowds seats es found h fits order was =
           ap (crowds_at lost (crowd_without (share_of_watching lost s)) es) was.each
           ∙ at_named (crowd_without (share_of_watching lost s)) lost (crowd_in seats) es order
           ∙ map_same _ _ es (λ t. at t.name (is_same_name lost t.name) refl);
-      seated = all_set IsSeated seats i (watching names s) was.seated (record { waits = is.waits; once = none_twice_filter (λ other. not (is_same_name lost other)) s.watched is.once });
+      seated = all_set IsSeated seats i (watching names s) was.seated
+          (record { waits = is.waits; once = none_twice_filter (λ other. not (is_same_name lost other)) s.watched is.once });
     }
   where
     names : List (List ℕ)
     names = filter (λ other. not (is_same_name lost other)) s.watched
 
-    at : (name : List ℕ) (b : Bool) → is_same_name lost name ≡ b → (if b then crowd_without (share_of_watching lost s) (crowd_of seats name) else crowd_of seats name) ≡ crowd_of (set seats i (watching names s)) name
+    at : (name : List ℕ) (b : Bool) → is_same_name lost name ≡ b
+        → (if b then crowd_without (share_of_watching lost s) (crowd_of seats name) else crowd_of seats name) ≡ crowd_of
+        (set seats i (watching names s)) name
     at name true e =
         let is = same_name lost name e in
         ap (λ n. crowd_without (share_of_watching n s) (crowd_of seats name)) is

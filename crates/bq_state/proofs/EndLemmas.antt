@@ -1,15 +1,19 @@
 -- The ends of pauses: lookups after a change, and the first end.
-use Rattle.std.proofs.Common.{◌&&◌, ◌||◌, ◌∙◌, ◌∷◌, ◌≡◌, ◌≤◌, Bool, List, None, Option, Some, [], ℕ, ap, arith, cond, false, inl, inr, is_some, map, refl, sym, true}
+use Rattle.std.proofs.Common.{◌&&◌, ◌||◌, ◌∙◌, ◌∷◌, ◌≡◌, ◌≤◌, Bool, List, None, Option, Some, []}
+use Rattle.std.proofs.Common.{ℕ, ap, arith, cond, false, inl, inr, is_some, map, refl, sym, true}
 use Rattle.std.proofs.{lemmas.{Bool.{cases_Bool, or_parts, Decides.nat_tests}, Cmp.alike_right}, Math.Bool.or-true}
 use Rattle.std.proofs.lemmas.Grind.{common_steps}
-use Rattle.std.specs.{Cmp.Lexicographic.slice_cmp, declared.cmp.Ordering.{Ordering, TheVariants.Less}, List.{AllByRecursion as All, list_any, Sorted.IsStrictlySortedBy}, Map.keys_of, Option.option_map}
+use Rattle.std.specs.{Cmp.Lexicographic.slice_cmp, declared.cmp.Ordering.{Ordering, TheVariants.Less}}
+use Rattle.std.specs.{List.{AllByRecursion as All, list_any, Sorted.IsStrictlySortedBy}, Map.keys_of, Option.option_map}
 use Rattle.std.specs.{Ordering.{is_eq, nat_cmp, ordering_then}, Prelude.{◌==◌, fold, nat_le}}
 use Rattle.bq_index.specs.{Catalog.CatalogSeen, Order.InOrder}
 use Rattle.bq_job.specs.{beside.{dues_of_pause, earliest}, machine.{Pause as PauseRecord, TubeRecord}, reading.TubeName.is_same_name}
 use Rattle.bq_jobs.proofs.Choice.{equal_from, lookup_inserted, lookup_removed}
 use Rattle.bq_state.specs.declared.tubes.pauses.PauseEnd.{PauseEnd}
-use Rattle.bq_state.specs.{Dues.{earlier_of_both, first_pause_end, is_end_over, with_tube_due}, KeptTubes.{KeptTubes, Named, record_at, tubes_kept}}
-use Rattle.bq_state.specs.PauseEnds.{AreEnds, Ends, end_cmp, end_total, ends_at, first_end, found_end, has_end, if_over, is_end_in, is_end_of, with_end, without_end}
+use Rattle.bq_state.specs.Dues.{earlier_of_both, first_pause_end, is_end_over, with_tube_due}
+use Rattle.bq_state.specs.KeptTubes.{KeptTubes, Named, record_at, tubes_kept}
+use Rattle.bq_state.specs.PauseEnds.{AreEnds, Ends, end_cmp, end_total, ends_at, first_end, found_end}
+use Rattle.bq_state.specs.PauseEnds.{has_end, if_over, is_end_in, is_end_of, with_end, without_end}
 use Rattle.bq_state.proofs.{NamedLemmas.ties, TubeLemmas.same_itself}
 
 -- an end of another tube
@@ -20,10 +24,12 @@ ends_apart e f h = grind (arith, ties)
 pub ends_alike : (e f : PauseEnd) → is_same_name e.name f.name ≡ true → is_eq (end_cmp e f) ≡ (e.until == f.until)
 ends_alike e f h = grind (arith, ties)
 
-pub has_entered : (q e : PauseEnd) (ends : Ends) → found_end e ends ≡ None → has_end q (with_end (Some e) ends) ≡ (is_eq (end_cmp q e) || has_end q ends)
+pub has_entered : (q e : PauseEnd) (ends : Ends) → found_end e ends ≡ None
+    → has_end q (with_end (Some e) ends) ≡ (is_eq (end_cmp q e) || has_end q ends)
 has_entered q e ends absent = ap is_some (lookup_inserted end_total q e tt ends absent) ∙ (grind (arith, common_steps))
 
-pub has_left : (q e : PauseEnd) (ends : Ends) → InOrder end_cmp ends → has_end q (without_end (Some e) ends) ≡ cond (is_eq (end_cmp e q)) false (has_end q ends)
+pub has_left : (q e : PauseEnd) (ends : Ends) → InOrder end_cmp ends
+    → has_end q (without_end (Some e) ends) ≡ cond (is_eq (end_cmp e q)) false (has_end q ends)
 has_left q e ends s = ap is_some (lookup_removed end_total q e ends s) ∙ (grind (arith, common_steps))
 
 -- The first end is the earliest.
@@ -37,10 +43,12 @@ above x q (e ∷ ends) a h = elim (cases_Bool (is_eq (end_cmp q e.0))) [
   | inr t ↦ above x q ends a.1 (rw t at h)
 ]
 
-least_end : (x : PauseEnd × Unit {0}) (ends : Ends) → InOrder end_cmp (x ∷ ends) → (q : PauseEnd) → has_end q (x ∷ ends) ≡ true → x.0.until ≤ q.until
+least_end : (x : PauseEnd × Unit {0}) (ends : Ends) → InOrder end_cmp (x ∷ ends) → (q : PauseEnd) → has_end q (x ∷ ends) ≡ true
+    → x.0.until ≤ q.until
 unfolding IsStrictlySortedBy
 least_end x ends s q h = elim (cases_Bool (is_eq (end_cmp q x.0))) [
-  | inl t ↦ let same = first_of_both (q.until == x.0.until) (is_same_name q.name x.0.name) (sym (grind (arith, ties)) ∙ t) in grind (arith, nat_tests)
+  | inl t ↦ let same = first_of_both (q.until == x.0.until) (is_same_name q.name x.0.name) (sym (grind (arith, ties)) ∙ t) in
+      grind (arith, nat_tests)
   | inr t ↦ not_later x.0.until q.until (slice_cmp nat_cmp x.0.name q.name) (above x.0 q ends s.0 (rw t at h))
 ]
   where
@@ -57,7 +65,8 @@ own_end t p e = rw (same_itself t.name, e) (same_moment p.until)
 no_pause : (t : TubeRecord) (p : Option PauseRecord) → t.pause ≡ p → ((e : PauseEnd) → is_end_of e t ≡ false) → t.pause ≡ None
 no_pause t None e none = e
 no_pause t (Some p) e none =
-    absurd (let end : PauseEnd = record { until = p.until; name = t.name } in let g : is_end_of end t ≡ true = own_end t p e in let h : is_end_of end t ≡ false = none end in cc)
+    absurd (let end : PauseEnd = record { until = p.until; name = t.name } in let g : is_end_of end t ≡ true = own_end t p e in
+    let h : is_end_of end t ≡ false = none end in cc)
 
 none_stays : (ts : List TubeRecord) (best : Option ℕ) → ((e : PauseEnd) → is_end_in e ts ≡ false) → fold with_tube_due best ts ≡ best
 none_stays [] best none = refl
@@ -78,7 +87,8 @@ abbrev IsFrom : ℕ → Option ℕ → Type 0
 IsFrom m None = Unit {0}
 IsFrom m (Some b) = m ≤ b
 
-due_from : (m : ℕ) (t : TubeRecord) (ts : List TubeRecord) → AreFrom m (t ∷ ts) → (p : Option PauseRecord) → t.pause ≡ p → IsFrom m (earliest (dues_of_pause p))
+due_from : (m : ℕ) (t : TubeRecord) (ts : List TubeRecord) → AreFrom m (t ∷ ts) → (p : Option PauseRecord) → t.pause ≡ p
+    → IsFrom m (earliest (dues_of_pause p))
 due_from m t ts all None e = tt
 due_from m t ts all (Some p) e =
     let end : PauseEnd = record { until = p.until; name = t.name } in
@@ -99,15 +109,19 @@ least_stays m (t ∷ ts) all =
     ap (λ o. fold with_tube_due o ts) (stays_least m (earliest (dues_of_pause t.pause)) (due_from m t ts all t.pause refl))
     ∙ least_stays m ts (rest_from m t ts all)
 
-becomes_least : (m : ℕ) (best : Option ℕ) (p : Option PauseRecord) → IsFrom m best → ends_at m p ≡ true → earlier_of_both best (earliest (dues_of_pause p)) ≡ Some m
+becomes_least : (m : ℕ) (best : Option ℕ) (p : Option PauseRecord) → IsFrom m best → ends_at m p ≡ true
+    → earlier_of_both best (earliest (dues_of_pause p)) ≡ Some m
 becomes_least m best p h at = grind (arith, common_steps)
 
-least_found : (m : ℕ) (ts : List TubeRecord) (best : Option ℕ) → IsFrom m best → AreFrom m ts → list_any (λ t. ends_at m t.pause) ts ≡ true → fold with_tube_due best ts ≡ Some m
+least_found : (m : ℕ) (ts : List TubeRecord) (best : Option ℕ) → IsFrom m best → AreFrom m ts → list_any (λ t. ends_at m t.pause) ts ≡ true
+    → fold with_tube_due best ts ≡ Some m
 least_found m [] best h all hit = absurd cc
 least_found m (t ∷ ts) best h all hit = elim (cases_Bool (ends_at m t.pause)) [
   | inl at ↦ ap (λ o. fold with_tube_due o ts) (becomes_least m best t.pause h at) ∙ least_stays m ts (rest_from m t ts all)
   | inr other ↦
-      least_found m ts (earlier_of_both best (earliest (dues_of_pause t.pause))) (both_from m best (earliest (dues_of_pause t.pause)) h (due_from m t ts all t.pause refl)) (rest_from m t ts all) (rw other at hit)
+      least_found m ts (earlier_of_both best (earliest (dues_of_pause t.pause)))
+      (both_from m best (earliest (dues_of_pause t.pause)) h (due_from m t ts all t.pause refl))
+      (rest_from m t ts all) (rw other at hit)
 ]
 
 hit_of : (e : PauseEnd) (ts : List TubeRecord) → is_end_in e ts ≡ true → list_any (λ t. ends_at e.until t.pause) ts ≡ true
@@ -115,10 +129,12 @@ hit_of e [] h = absurd cc
 hit_of e (t ∷ ts) h = grind (arith, common_steps, cases_Bool, or-true, hit_of e ts)
 
 first_there : (x : PauseEnd × Unit {0}) (ends : Ends) → has_end x.0 (x ∷ ends) ≡ true
-first_there x ends = ap (λ b. is_some (cond b (Some x.1) (found_end x.0 ends))) ((grind (arith, ties)) ∙ (λ i. (same_moment x.0.until i) && (same_itself x.0.name i)))
+first_there x ends = ap (λ b. is_some (cond b (Some x.1) (found_end x.0 ends)))
+    ((grind (arith, ties)) ∙ (λ i. (same_moment x.0.until i) && (same_itself x.0.name i)))
 
 -- The first due end is one of the ends, and is due.
-pub one_over : (moment : ℕ) (e : PauseEnd) (ends : Ends) → Some e ≡ if_over moment (first_end ends) → (has_end e ends ≡ true) × (nat_le e.until moment ≡ true)
+pub one_over : (moment : ℕ) (e : PauseEnd) (ends : Ends) → Some e ≡ if_over moment (first_end ends)
+    → (has_end e ends ≡ true) × (nat_le e.until moment ≡ true)
 one_over moment e ends h = grind (arith, first_there)
 
 -- If none is due, no pause has ended.
@@ -126,15 +142,19 @@ pub none_over_yet : (moment : ℕ) (o : Option PauseEnd) → None ≡ if_over mo
 none_over_yet moment o h = grind (arith, common_steps)
 
 -- The first pause ends at the first of the ends.
-pub first_is : (entries : List TubeRecord) (ends : CatalogSeen PauseEnd (Unit {0})) → AreEnds entries ends → InOrder end_cmp ends.entries → option_map (λ e. e.until) (first_end ends.entries) ≡ first_pause_end entries
+pub first_is : (entries : List TubeRecord) (ends : CatalogSeen PauseEnd (Unit {0})) → AreEnds entries ends → InOrder end_cmp ends.entries
+    → option_map (λ e. e.until) (first_end ends.entries) ≡ first_pause_end entries
 first_is entries ends h s = go ends.entries h.known s
   where
-    go : (es : Ends) → ((e : PauseEnd) → has_end e es ≡ is_end_in e entries) → InOrder end_cmp es → option_map (λ e. e.until) (first_end es) ≡ first_pause_end entries
+    go : (es : Ends) → ((e : PauseEnd) → has_end e es ≡ is_end_in e entries) → InOrder end_cmp es
+        → option_map (λ e. e.until) (first_end es) ≡ first_pause_end entries
     go [] known s = sym (none_stays entries None (λ e. sym (known e)))
     go (x ∷ es) known s =
-        sym (least_found x.0.until entries None tt (λ e g. least_end x es s e (known e ∙ g)) (hit_of x.0 entries (sym (known x.0) ∙ first_there x es)))
+        sym (least_found x.0.until entries None tt (λ e g. least_end x es s e (known e ∙ g))
+        (hit_of x.0 entries (sym (known x.0) ∙ first_there x es)))
 
 -- The first of the ends is the first end of a pause, as contracts see the tubes.
-pub first_seen : (es : List Named) (ends : CatalogSeen PauseEnd (Unit {0})) (k : KeptTubes) (r : Option ℕ) → r ≡ option_map (λ e. e.until) (first_end ends.entries)
+pub first_seen : (es : List Named) (ends : CatalogSeen PauseEnd (Unit {0})) (k : KeptTubes) (r : Option ℕ)
+    → r ≡ option_map (λ e. e.until) (first_end ends.entries)
     → AreEnds (map record_at es) ends → InOrder end_cmp ends.entries → tubes_kept es ≡ k → r ≡ first_pause_end k.entries
 first_seen es ends k r is h s seen = is ∙ first_is (map record_at es) ends h s ∙ ap (λ (k : KeptTubes). first_pause_end k.entries) seen

@@ -1,27 +1,38 @@
 -- The tubes that may no longer exist after a seat changes: those that its client left, except those
 -- that exist by their counts.
-use Rattle.std.proofs.{Common.{◌∙◌, ◌∷◌, ◌≡◌, ◌≤◌, ◌⊎◌, Bool, List, None, Option, Some, [], ℕ, ap, false, inl, inr, length, map, refl, sym, true}, lemmas.Bool.{or_cases, or_left, or_right}}
+use Rattle.std.proofs.Common.{◌∙◌, ◌∷◌, ◌≡◌, ◌≤◌, ◌⊎◌, Bool, List, None, Option, Some, []}
+use Rattle.std.proofs.Common.{ℕ, ap, false, inl, inr, length, map, refl, sym, true}
+use Rattle.std.proofs.lemmas.Bool.{or_cases, or_left, or_right}
 use Rattle.std.proofs.{Common.arith, lemmas.{Bool.cases_Bool, Grind.common_steps}}
 use Rattle.std.specs.List.{AllByRecursion as All, list_any}
 use Rattle.bq_job.specs.declared.job.Job.{Job}
 use Rattle.bq_job.specs.{machine.{SeatRecord, TubeRecord, greatest, is_seated_at, seat_with, watches}, reading.TubeName.is_same_name}
 use Rattle.bq_job.proofs.ListLemmas.{all_at, all_from_members, list_any_with}
-use Rattle.bq_state.specs.declared.{known.Loss.Loss, seats.SeatChange.SeatChange, tubes.entry.{Crowd.Crowd, Moving.TheVariants.Goes, Share.Share}}
-use Rattle.bq_state.specs.{Crowds.{IsSeated, crowd_at, crowd_in, crowd_of, crowd_with, crowd_without, crowds_of, crowds_recounted, crowds_recounted_for, has_seats, touched}, KeptTubes.KeptTubes}
-use Rattle.bq_state.specs.{Leaving.{exists_in, loss_of, lost_all, lost_if, lost_unless}, Losses.{AreAlive, is_accounted, may_be_gone}, SeatChanges.{AreNumbered, seat_changed, seat_changed_at}}
+use Rattle.bq_state.specs.declared.{known.Loss.Loss, seats.SeatChange.SeatChange}
+use Rattle.bq_state.specs.declared.tubes.entry.{Crowd.Crowd, Moving.TheVariants.Goes, Share.Share}
+use Rattle.bq_state.specs.Crowds.{IsSeated, crowd_at, crowd_in, crowd_of, crowd_with, crowd_without}
+use Rattle.bq_state.specs.Crowds.{crowds_of, crowds_recounted, crowds_recounted_for, has_seats, touched}
+use Rattle.bq_state.specs.{KeptTubes.KeptTubes}
+use Rattle.bq_state.specs.{Leaving.{exists_in, loss_of, lost_all, lost_if, lost_unless}, Losses.{AreAlive, is_accounted, may_be_gone}}
+use Rattle.bq_state.specs.SeatChanges.{AreNumbered, seat_changed, seat_changed_at}
 use Rattle.bq_state.specs.{Tallies.{has_jobs, tallies_of, tally_at}, TubeEntries.{AreInOrder, has_entry, is_tube_of}}
-use Rattle.bq_state.proofs.{CrowdLemmas.{all_recounted, crowd_moved, has_seats_of, none_changed, share_at}, CrowdPlaces.named_crowd, LossLemmas.{any_set, by_job, by_loss, by_seat, still_accounted, still_lost}}
-use Rattle.bq_state.proofs.{PartsLemmas.{all_read, changed_there, seat_there}, TallyPlaces.{has_jobs_in, tally_there}, TubeLemmas.{same_itself, same_name}}
+use Rattle.bq_state.proofs.{CrowdLemmas.{all_recounted, crowd_moved, has_seats_of, none_changed, share_at}, CrowdPlaces.named_crowd}
+use Rattle.bq_state.proofs.LossLemmas.{any_set, by_job, by_loss, by_seat, still_accounted, still_lost}
+use Rattle.bq_state.proofs.{PartsLemmas.{all_read, changed_there, seat_there}, TallyPlaces.{has_jobs_in, tally_there}}
+use Rattle.bq_state.proofs.TubeLemmas.{same_itself, same_name}
 
 module _ (k : KeptTubes) where
-  all_keeps : (names : List (List ℕ)) (name : List ℕ) (loss : Loss) → may_be_gone loss name ≡ true → may_be_gone (lost_all k names loss) name ≡ true
+  all_keeps : (names : List (List ℕ)) (name : List ℕ) (loss : Loss) → may_be_gone loss name ≡ true
+      → may_be_gone (lost_all k names loss) name ≡ true
   all_keeps [] name loss h = h
   all_keeps (n ∷ ns) name loss h = all_keeps ns name (lost_unless (exists_in k n) n loss) (grind (arith, still_lost))
 
-  if_keeps : (b : Bool) (names : List (List ℕ)) (name : List ℕ) (loss : Loss) → may_be_gone loss name ≡ true → may_be_gone (lost_if b k names loss) name ≡ true
+  if_keeps : (b : Bool) (names : List (List ℕ)) (name : List ℕ) (loss : Loss) → may_be_gone loss name ≡ true
+      → may_be_gone (lost_if b k names loss) name ≡ true
   if_keeps b names name loss h = grind (arith, all_keeps)
 
-  all_lost : (names : List (List ℕ)) (name : List ℕ) (loss : Loss) → list_any (is_same_name name) names ≡ true → exists_in k name ≡ false → may_be_gone (lost_all k names loss) name ≡ true
+  all_lost : (names : List (List ℕ)) (name : List ℕ) (loss : Loss) → list_any (is_same_name name) names ≡ true → exists_in k name ≡ false
+      → may_be_gone (lost_all k names loss) name ≡ true
   all_lost [] name loss there gone = absurd cc
   all_lost (n ∷ ns) name loss there gone =
       elim (or_cases (is_same_name name n) (list_any (is_same_name name) ns) there) [
@@ -38,17 +49,22 @@ still_seats share c h = grind (arith)
 
 -- the shares of a seat at a tube after a change
 abbrev IsLeft : SeatChange → SeatRecord → List ℕ → Type 0
-IsLeft what s name = (((touched what).using ≡ true) × (is_same_name name s.used ≡ true)) ⊎ (((touched what).watching ≡ true) × (watches name s ≡ true))
+IsLeft what s name = (((touched what).using ≡ true) × (is_same_name name s.used ≡ true))
+    ⊎ (((touched what).watching ≡ true) × (watches name s ≡ true))
 
-leaves : (what : SeatChange) (s : SeatRecord) (name : List ℕ) → is_seated_at name s ≡ true → (is_seated_at name (seat_changed what s) ≡ true) ⊎ IsLeft what s name
+leaves : (what : SeatChange) (s : SeatRecord) (name : List ℕ) → is_seated_at name s ≡ true
+    → (is_seated_at name (seat_changed what s) ≡ true) ⊎ IsLeft what s name
 leaves what s name h = grind (arith)
 
-module _ (n : ℕ) (what : SeatChange) (loss : Loss) (jobs : List Job) (seats : List SeatRecord) (es : List TubeRecord) (k : KeptTubes) (h : AreNumbered seats) (fits : length seats ≤ greatest) (order : AreInOrder es)
-    (of_jobs : All (λ j. has_entry j.tube es ≡ true) jobs) (seated : All IsSeated seats) (same_entries : k.entries ≡ es) (counted : k.tallies ≡ tallies_of jobs es) where
+module _ (n : ℕ) (what : SeatChange) (loss : Loss) (jobs : List Job) (seats : List SeatRecord) (es : List TubeRecord) (k : KeptTubes)
+    (h : AreNumbered seats) (fits : length seats ≤ greatest) (order : AreInOrder es)
+    (of_jobs : All (λ j. has_entry j.tube es ≡ true) jobs) (seated : All IsSeated seats) (same_entries : k.entries ≡ es)
+    (counted : k.tallies ≡ tallies_of jobs es) where
   abbrev new : List SeatRecord
   new = map (seat_changed_at n what) seats
 
-  module _ (s : SeatRecord) (found : seat_with n seats ≡ Some s) (left : k.crowds ≡ crowds_recounted Goes (touched what) s es (crowds_of seats es)) where
+  module _ (s : SeatRecord) (found : seat_with n seats ≡ Some s)
+      (left : k.crowds ≡ crowds_recounted Goes (touched what) s es (crowds_of seats es)) where
     -- A tube that exists by its counts without the seat still exists afterwards.
     exists_then : (name : List ℕ) → has_entry name es ≡ true → exists_in k name ≡ true → is_tube_of jobs new name ≡ true
     exists_then name there e =
@@ -56,24 +72,29 @@ module _ (n : ℕ) (what : SeatChange) (loss : Loss) (jobs : List Job) (seats : 
         let mid : crowd_at name k.entries k.crowds ≡ crowd_without (share_at (touched what) s name) (crowd_of seats name) =
         (λ i. crowd_at name (same_entries i) ((left ∙ all_recounted Goes (touched what) s (crowd_in seats) es order once) i))
         ∙ named_crowd name (λ m. crowd_without (share_at (touched what) s m) (crowd_of seats m)) es there in
-        let some : has_jobs (tally_at name k.entries k.tallies) ≡ list_any (λ j. is_same_name name j.tube) jobs = grind (arith, common_steps, tally_there, has_jobs_in) in
+        let some : has_jobs (tally_at name k.entries k.tallies) ≡ list_any (λ j. is_same_name name j.tube) jobs =
+        grind (arith, common_steps, tally_there, has_jobs_in) in
         let now : has_seats (crowd_at name k.entries k.crowds) ≡ true → list_any (is_seated_at name) new ≡ true =
         λ has. sym (ap has_seats (crowd_moved n what s seats h fits found name) ∙ has_seats_of new name)
-        ∙ still_seats (share_at (touched what) (seat_changed what s) name) (crowd_without (share_at (touched what) s name) (crowd_of seats name)) (ap has_seats (sym mid) ∙ has) in
+        ∙ still_seats (share_at (touched what) (seat_changed what s) name)
+        (crowd_without (share_at (touched what) s name) (crowd_of seats name)) (ap has_seats (sym mid) ∙ has) in
         grind (arith, common_steps, cases_Bool, or_cases, or_left, or_right)
 
-    gone_then : (name : List ℕ) → IsLeft what s name → exists_in k name ≡ false → may_be_gone (loss_of (touched what) k (Some s) loss) name ≡ true
+    gone_then : (name : List ℕ) → IsLeft what s name → exists_in k name ≡ false
+        → may_be_gone (loss_of (touched what) k (Some s) loss) name ≡ true
     gone_then name is gone = elim is [
       | inl used ↦
           let one = all_lost k (s.used ∷ []) name loss (or_left (is_same_name name s.used) false used.1) gone in
-          let here : may_be_gone (lost_if (touched what).using k (s.used ∷ []) loss) name ≡ true = ap (λ b. may_be_gone (lost_if b k (s.used ∷ []) loss) name) used.0 ∙ one in
+          let here : may_be_gone (lost_if (touched what).using k (s.used ∷ []) loss) name ≡ true =
+          ap (λ b. may_be_gone (lost_if b k (s.used ∷ []) loss) name) used.0 ∙ one in
           if_keeps k (touched what).watching s.watched name (lost_if (touched what).using k (s.used ∷ []) loss) here
       | inr watched ↦
           let before = lost_if (touched what).using k (s.used ∷ []) loss in
           ap (λ b. may_be_gone (lost_if b k s.watched before) name) watched.0 ∙ all_lost k s.watched name before watched.1 gone
     ]
 
-    by_leaving : (name : List ℕ) → has_entry name es ≡ true → IsLeft what s name → is_accounted (loss_of (touched what) k (Some s) loss) jobs new name ≡ true
+    by_leaving : (name : List ℕ) → has_entry name es ≡ true → IsLeft what s name
+        → is_accounted (loss_of (touched what) k (Some s) loss) jobs new name ≡ true
     by_leaving name there is = go (exists_in k name) refl
       where
         go : (b : Bool) → exists_in k name ≡ b → is_accounted (loss_of (touched what) k (Some s) loss) jobs new name ≡ true
@@ -81,21 +102,25 @@ module _ (n : ℕ) (what : SeatChange) (loss : Loss) (jobs : List Job) (seats : 
         go false e = by_loss (loss_of (touched what) k (Some s) loss) jobs new name (gone_then name is e)
 
     still_gone : (name : List ℕ) → may_be_gone loss name ≡ true → may_be_gone (loss_of (touched what) k (Some s) loss) name ≡ true
-    still_gone name g = if_keeps k (touched what).watching s.watched name (lost_if (touched what).using k (s.used ∷ []) loss) (if_keeps k (touched what).using (s.used ∷ []) name loss g)
+    still_gone name g = if_keeps k (touched what).watching s.watched name (lost_if (touched what).using k (s.used ∷ []) loss)
+        (if_keeps k (touched what).using (s.used ∷ []) name loss g)
 
-    entry_accounted : (name : List ℕ) → has_entry name es ≡ true → is_accounted loss jobs seats name ≡ true → is_accounted (loss_of (touched what) k (Some s) loss) jobs new name ≡ true
+    entry_accounted : (name : List ℕ) → has_entry name es ≡ true → is_accounted loss jobs seats name ≡ true
+        → is_accounted (loss_of (touched what) k (Some s) loss) jobs new name ≡ true
     entry_accounted name there is =
         let after = loss_of (touched what) k (Some s) loss in
         let place = seat_there seats n s h found in
         still_accounted loss after jobs jobs seats new name (by_job after jobs new name)
         (λ some. elim (any_set (is_seated_at name) (IsLeft what s name) seats n s (seat_changed what s) place (leaves what s name) some) [
-          | inl still ↦ by_seat after jobs new name (ap (list_any (is_seated_at name)) (changed_there seats n s (seat_changed what) h place) ∙ still)
+          | inl still ↦ by_seat after jobs new name
+              (ap (list_any (is_seated_at name)) (changed_there seats n s (seat_changed what) h place) ∙ still)
           | inr left ↦ by_leaving name there left
         ])
         (λ g. by_loss after jobs new name (still_gone name g))
         is
 
-  pub alive_left : k.crowds ≡ crowds_recounted_for Goes (touched what) (seat_with n seats) es (crowds_of seats es) → AreAlive loss jobs seats es
+  pub alive_left : k.crowds ≡ crowds_recounted_for Goes (touched what) (seat_with n seats) es (crowds_of seats es)
+      → AreAlive loss jobs seats es
       → AreAlive (loss_of (touched what) k (seat_with n seats) loss) jobs (map (seat_changed_at n what) seats) es
   alive_left crowds all = go (seat_with n seats) refl
     where

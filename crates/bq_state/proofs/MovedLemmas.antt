@@ -1,17 +1,21 @@
 -- What a change of a job keeps.
-use Rattle.std.proofs.{Common.{◌&&◌, ◌==◌, ◌∙◌, ◌∷◌, ◌≡◌, ◌≤◌, if◌then◌else◌, Bool, List, Some, [], ℕ, ap, arith, length, map, refl}, lemmas.List.length-map}
+use Rattle.std.proofs.Common.{◌&&◌, ◌==◌, ◌∙◌, ◌∷◌, ◌≡◌, ◌≤◌, if◌then◌else◌, Bool, List, Some, [], ℕ, ap, arith, length, map, refl}
+use Rattle.std.proofs.{lemmas.List.length-map}
 use Rattle.std.proofs.lemmas.Grind.{common_steps}
 use Rattle.std.specs.List.{list_any}
 use Rattle.bq_job.specs.declared.job.Job.{Job}
-use Rattle.bq_job.specs.{beside.AreIdsWithin, machine.{SeatRecord, TubeRecord, greatest, is_ready_state, job_with}, reading.TubeName.is_same_name}
+use Rattle.bq_job.specs.{beside.AreIdsWithin, machine.{SeatRecord, TubeRecord, greatest, is_ready_state, job_with}}
+use Rattle.bq_job.specs.{reading.TubeName.is_same_name}
 use Rattle.bq_jobs.specs.declared.row.Moved.{Moved}
 use Rattle.bq_jobs.specs.{Changed.{IgnoresTube, KeepsId, KeepsTube, moved_by, with_changed}, Kept.{with_added, without}}
 use Rattle.bq_jobs.proofs.Changes.{changed as changed_by_id, found_id}
 use Rattle.bq_state.specs.declared.{job_store.JobChange.JobChange, known.{Loss.Loss, Stir.Stir, Tally.Tally, Warns.Warns}}
 use Rattle.bq_state.specs.{Crowds.is_waiter, JobChanges.changed, Losses.AreAlive, SeatChanges.AreNumbered, Stirs.{AreKnown, with_stirred}}
-use Rattle.bq_state.specs.{Tallies.{AreCounted, tallies_at, tallies_without, tally_moved, tally_of, tally_with, tally_without}, TubeEntries.{AreEntries, AreInOrder}}
+use Rattle.bq_state.specs.Tallies.{AreCounted, tallies_at, tallies_without, tally_moved, tally_of, tally_with, tally_without}
+use Rattle.bq_state.specs.TubeEntries.{AreEntries, AreInOrder}
 use Rattle.bq_state.specs.Warnings.{AreWarned, has_waiting_holder, with_holder_of}
-use Rattle.bq_state.proofs.{PartsLemmas.{all_filtered, all_kept}, StirLemmas.known_added, TallyPlaces.{counted_added, counted_taken}, WarningLemmas.warned_added}
+use Rattle.bq_state.proofs.{PartsLemmas.{all_filtered, all_kept}, StirLemmas.known_added}
+use Rattle.bq_state.proofs.{TallyPlaces.{counted_added, counted_taken}, WarningLemmas.warned_added}
 use Rattle.bq_state.proofs.PartsLemmas.{same_id}
 
 -- no change depends on the tube
@@ -31,14 +35,17 @@ module _ (id : ℕ) (f : Job → Job) where
   one_tube stays k = grind (arith, common_steps)
 
 module _ (g : Job → Job) (stays : KeepsTube g) where
-  pub entries_of_changed : (jobs : List Job) (seats : List SeatRecord) (entries : List TubeRecord) → AreEntries jobs seats entries → AreEntries (map g jobs) seats entries
+  pub entries_of_changed : (jobs : List Job) (seats : List SeatRecord) (entries : List TubeRecord) → AreEntries jobs seats entries
+      → AreEntries (map g jobs) seats entries
   entries_of_changed jobs seats entries e = grind (arith, all_kept)
 
-  any_kept : (name : List ℕ) (jobs : List Job) → list_any (λ j. is_same_name name j.tube) (map g jobs) ≡ list_any (λ j. is_same_name name j.tube) jobs
+  any_kept : (name : List ℕ) (jobs : List Job)
+      → list_any (λ j. is_same_name name j.tube) (map g jobs) ≡ list_any (λ j. is_same_name name j.tube) jobs
   any_kept name [] = refl
   any_kept name (j ∷ jobs) = grind (arith, any_kept name jobs)
 
-  pub alive_changed : (loss : Loss) (jobs : List Job) (seats : List SeatRecord) (entries : List TubeRecord) → AreAlive loss jobs seats entries → AreAlive loss (map g jobs) seats entries
+  pub alive_changed : (loss : Loss) (jobs : List Job) (seats : List SeatRecord) (entries : List TubeRecord)
+      → AreAlive loss jobs seats entries → AreAlive loss (map g jobs) seats entries
   alive_changed loss jobs seats [] all = tt
   alive_changed loss jobs seats (t ∷ entries) all = grind (arith, any_kept, alive_changed loss jobs seats entries all.1)
 
@@ -50,27 +57,34 @@ at_once name g h (t ∷ es) [] = refl
 at_once name g h (t ∷ es) (x ∷ tallies) = grind (arith, at_once name g h es tallies)
 
 -- the standing of a job changes
-pub counted_moved : (low next id : ℕ) (f : Job → Job) → KeepsId f → KeepsTube f → (j : Job) (m : Moved) → m ≡ moved_by f j → (tally : Tally) (tallies : List Tally) (jobs : List Job) (es : List TubeRecord)
+pub counted_moved : (low next id : ℕ) (f : Job → Job) → KeepsId f → KeepsTube f → (j : Job) (m : Moved) → m ≡ moved_by f j
+    → (tally : Tally) (tallies : List Tally) (jobs : List Job) (es : List TubeRecord)
     → AreIdsWithin low jobs next → job_with id jobs ≡ Some j → AreInOrder es → length jobs ≤ greatest
-    → AreCounted tally tallies jobs es → AreCounted (tally_moved m tally) (tallies_at m.tube (tally_moved m) es tallies) (with_changed id f jobs) es
+    → AreCounted tally tallies jobs es → AreCounted (tally_moved m tally) (tallies_at m.tube (tally_moved m) es tallies)
+    (with_changed id f jobs) es
 counted_moved low next id f keeps stays j m is tally tallies jobs es ids found order fits was =
-    let made : with_added (f j) (without id jobs) ≡ with_changed id f jobs = changed_by_id low next id f j jobs ids found (keeps j ∙ found_id id jobs j found) in
+    let made : with_added (f j) (without id jobs) ≡ with_changed id f jobs =
+    changed_by_id low next id f j jobs ids found (keeps j ∙ found_id id jobs j found) in
     let as_many : length (with_added (f j) (without id jobs)) ≡ length jobs = ap length made ∙ length-map jobs _ in
     let fits_then : length (with_added (f j) (without id jobs)) ≤ greatest = omega (arith, as_many, fits) in
-    let after = counted_added (f j) (tally_without j tally) (tallies_without j es tallies) (without id jobs) es fits_then order (counted_taken low next id j tally tallies jobs es ids found order was) in
+    let after = counted_added (f j) (tally_without j tally) (tallies_without j es tallies) (without id jobs) es fits_then order
+    (counted_taken low next id j tally tallies jobs es ids found order was) in
     record {
       whole = ap (λ (n : Moved). tally_moved n tally) is ∙ after.whole ∙ ap tally_of made;
       each = grind (arith, common_steps, at_once j.tube (tally_with (f j)) (tally_without j) es tallies);
     }
 
-module _ (low next id : ℕ) (f : Job → Job) (keeps : KeepsId f) (stays : KeepsTube f) (j : Job) (m : Moved) (is : m ≡ moved_by f j) (jobs : List Job) (ids : AreIdsWithin low jobs next) (found : job_with id jobs ≡ Some j) where
+module _ (low next id : ℕ) (f : Job → Job) (keeps : KeepsId f) (stays : KeepsTube f) (j : Job) (m : Moved) (is : m ≡ moved_by f j)
+    (jobs : List Job) (ids : AreIdsWithin low jobs next) (found : job_with id jobs ≡ Some j) where
   made_of : with_added (f j) (without id jobs) ≡ with_changed id f jobs
   made_of = changed_by_id low next id f j jobs ids found (keeps j ∙ found_id id jobs j found)
 
-  pub known_moved : (stir : Stir) (seats : List SeatRecord) (tubes : List TubeRecord) (b : Bool) → b ≡ (is_ready_state m.to.state && list_any (is_waiter m.tube) seats) → AreKnown stir jobs seats tubes
+  pub known_moved : (stir : Stir) (seats : List SeatRecord) (tubes : List TubeRecord) (b : Bool)
+      → b ≡ (is_ready_state m.to.state && list_any (is_waiter m.tube) seats) → AreKnown stir jobs seats tubes
       → AreKnown (if b then with_stirred m.tube stir else stir) (with_changed id f jobs) seats tubes
   known_moved stir seats tubes b e was = grind (arith, known_added, all_filtered, made_of)
 
-  pub warned_moved : (warns : Warns) (seats : List SeatRecord) (b : Bool) → AreNumbered seats → b ≡ has_waiting_holder m.to.state seats → AreWarned warns jobs seats
+  pub warned_moved : (warns : Warns) (seats : List SeatRecord) (b : Bool) → AreNumbered seats → b ≡ has_waiting_holder m.to.state seats
+      → AreWarned warns jobs seats
       → AreWarned (if b then with_holder_of m.to.state warns else warns) (with_changed id f jobs) seats
   warned_moved warns seats b numbered e was = grind (arith, warned_added, all_filtered, made_of)

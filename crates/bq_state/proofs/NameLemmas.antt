@@ -1,22 +1,33 @@
 -- The names of the tubes that exist.
-use Rattle.std.proofs.{Common.{◌&&◌, ◌++◌, ◌+◌, ◌||◌, ◌∙◌, ◌∷◌, ◌≡◌, ◌⊎◌, if◌then◌else◌, Bool, List, Option, [], ℕ, ap, arith, codes, cond, false, inl, inr, map, refl, sym, true}, lemmas.Bool.or_cases}
+use Rattle.std.proofs.Common.{◌&&◌, ◌++◌, ◌+◌, ◌||◌, ◌∙◌, ◌∷◌, ◌≡◌, ◌⊎◌, if◌then◌else◌, Bool, List, Option, []}
+use Rattle.std.proofs.Common.{ℕ, ap, arith, codes, cond, false, inl, inr, map, refl, sym, true}
+use Rattle.std.proofs.{lemmas.Bool.or_cases}
 use Rattle.std.proofs.lemmas.Grind.{common_steps}
-use Rattle.std.specs.{Borrow.Bor, List.{AllByRecursion as All, insert, list_any, prefix_len, slice_get}, Option.option_map, Prelude.{IsOk, Result, filter, find, flat_map, is_ok, unwrap_or}}
-use Rattle.bq_job.specs.{beside.is_in_order, machine.{TubeRecord, default_tube, fresh_tube, in_name_order, is_name_before, is_tube, name_list, seated_tubes, tubes, with_name, Machine.Machine}, reading.TubeName.is_same_name}
+use Rattle.std.specs.{Borrow.Bor, List.{AllByRecursion as All, insert, list_any, prefix_len, slice_get}}
+use Rattle.std.specs.{Option.option_map, Prelude.{IsOk, Result, filter, find, flat_map, is_ok, unwrap_or}}
+use Rattle.bq_job.specs.{beside.is_in_order}
+use Rattle.bq_job.specs.machine.{TubeRecord, default_tube, fresh_tube, in_name_order, is_name_before, is_tube}
+use Rattle.bq_job.specs.machine.{name_list, seated_tubes, tubes, with_name, Machine.Machine}
+use Rattle.bq_job.specs.{reading.TubeName.is_same_name}
 use Rattle.bq_job.specs.texts.Yaml.{name_line}
 use Rattle.bq_job.proofs.NameOrderLemmas.{after, first_of_order, in_order_fold, in_order_from, listed, not_before, not_same, rest_in_order}
 use Rattle.bq_job.proofs.NameOrderLemmas.{stays_fold}
-use Rattle.bq_state.specs.{Names.{is_named, names_of}, TubeEntries.{AreEntries, AreInOrder, IsFreshUnlessCounted, counted, has_entry, is_counted, is_tube_of, names_alive}}
-use Rattle.bq_state.proofs.{PartsLemmas.tube_has_entry, TubeLemmas.{before_differs, none_found, none_later, order_filtered, same_itself, same_name}}
+use Rattle.bq_state.specs.Names.{is_named, names_of}
+use Rattle.bq_state.specs.TubeEntries.{AreEntries, AreInOrder, IsFreshUnlessCounted, counted}
+use Rattle.bq_state.specs.TubeEntries.{has_entry, is_counted, is_tube_of, names_alive}
+use Rattle.bq_state.proofs.{PartsLemmas.tube_has_entry}
+use Rattle.bq_state.proofs.TubeLemmas.{before_differs, none_found, none_later, order_filtered, same_itself, same_name}
 use Rattle.std.proofs.lemmas.Bool.{cases_Bool}
 
 -- a name differs from all names that come after it
-none_listed : (name : List ℕ) (names : List (List ℕ)) → All (λ n. is_name_before name n ≡ true) names → list_any (is_same_name name) names ≡ false
+none_listed : (name : List ℕ) (names : List (List ℕ)) → All (λ n. is_name_before name n ≡ true) names
+    → list_any (is_same_name name) names ≡ false
 none_listed name [] all = refl
 none_listed name (n ∷ names) all = rw (before_differs name n all.0) (none_listed name names all.1)
 
 -- a name in an ordered list is the first one, or comes after it
-first_or_later : (name first : List ℕ) (names : List (List ℕ)) → All (λ n. is_name_before first n ≡ true) names → list_any (is_same_name name) (first ∷ names) ≡ true
+first_or_later : (name first : List ℕ) (names : List (List ℕ)) → All (λ n. is_name_before first n ≡ true) names
+    → list_any (is_same_name name) (first ∷ names) ≡ true
     → (name ≡ first) ⊎ (is_name_before first name ≡ true)
 first_or_later name first names all h =
     elim (or_cases (is_same_name name first) (list_any (is_same_name name) names) h) [
@@ -24,7 +35,8 @@ first_or_later name first names all h =
       | inr more ↦ inr (behind names all more)
     ]
   where
-    behind : (names : List (List ℕ)) → All (λ n. is_name_before first n ≡ true) names → list_any (is_same_name name) names ≡ true → is_name_before first name ≡ true
+    behind : (names : List (List ℕ)) → All (λ n. is_name_before first n ≡ true) names → list_any (is_same_name name) names ≡ true
+        → is_name_before first name ≡ true
     behind [] all h = absurd cc
     behind (n ∷ names) all h = elim (or_cases (is_same_name name n) (list_any (is_same_name name) names) h) [
       | inl same ↦ ap (is_name_before first) (same_name name n same) ∙ all.0
@@ -66,7 +78,8 @@ same_order (x ∷ xs) (y ∷ ys) h k same =
     tail name false e = grind (arith, common_steps, cases_Bool, head)
 
 -- the names of entries in order
-later_names : (name : List ℕ) (entries : List TubeRecord) → All (λ u. is_name_before name u.name ≡ true) entries → All (λ n. is_name_before name n ≡ true) (map (λ t. t.name) entries)
+later_names : (name : List ℕ) (entries : List TubeRecord) → All (λ u. is_name_before name u.name ≡ true) entries
+    → All (λ n. is_name_before name n ≡ true) (map (λ t. t.name) entries)
 later_names name [] all = tt
 later_names name (t ∷ entries) all = (all.0, later_names name entries all.1)
 
@@ -86,7 +99,8 @@ among p name (t ∷ entries) = go (is_same_name name t.name) (p t.name) refl ref
 
     go : (same pass : Bool) → is_same_name name t.name ≡ same → p t.name ≡ pass
         → list_any (is_same_name name) some ≡ (p name && has_entry name entries)
-        → list_any (is_same_name name) (map (λ t. t.name) (if pass then t ∷ filter (λ t. p t.name) entries else filter (λ t. p t.name) entries))
+        → list_any (is_same_name name) (map (λ t. t.name)
+        (if pass then t ∷ filter (λ t. p t.name) entries else filter (λ t. p t.name) entries))
         ≡ (p name && (same || has_entry name entries))
     go same pass e f rest = grind (arith, same_name)
 
@@ -94,10 +108,12 @@ pub tubes_in_order : (m : Machine) → is_in_order (tubes m) ≡ true
 tubes_in_order m = in_order_fold (default_tube ∷ map (λ j. j.tube) m.jobs ++ flat_map seated_tubes m.seats) [] refl
 
 -- The tubes are those that have an entry and exist.
-pub alive_are_tubes : (m : Machine) (entries : List TubeRecord) → AreEntries m.jobs m.seats entries → names_alive m.jobs m.seats entries ≡ tubes m
+pub alive_are_tubes : (m : Machine) (entries : List TubeRecord) → AreEntries m.jobs m.seats entries
+    → names_alive m.jobs m.seats entries ≡ tubes m
 alive_are_tubes m entries e =
     same_order (names_alive m.jobs m.seats entries) (tubes m)
-    (names_in_order (filter (λ t. is_tube_of m.jobs m.seats t.name) entries) (order_filtered (λ t. is_tube_of m.jobs m.seats t.name) entries e.order))
+    (names_in_order (filter (λ t. is_tube_of m.jobs m.seats t.name) entries)
+    (order_filtered (λ t. is_tube_of m.jobs m.seats t.name) entries e.order))
     (tubes_in_order m)
     (λ name. among (is_tube_of m.jobs m.seats) name entries ∙ go name (is_tube_of m.jobs m.seats name) refl ∙ sym (listed name m))
   where
@@ -105,10 +121,13 @@ alive_are_tubes m entries e =
     go name b h = grind (arith, tube_has_entry)
 
 -- The record of a tube is its entry.
-entry_at : (name : List ℕ) (t : TubeRecord) (entries : List TubeRecord) (same kept : Bool) → is_same_name name t.name ≡ same → is_counted t ≡ kept
+entry_at : (name : List ℕ) (t : TubeRecord) (entries : List TubeRecord) (same kept : Bool) → is_same_name name t.name ≡ same
+    → is_counted t ≡ kept
     → IsFreshUnlessCounted t → All (λ u. is_name_before t.name u.name ≡ true) entries
-    → unwrap_or (find (λ t. is_same_name name t.name) (counted entries)) (fresh_tube name) ≡ unwrap_or (find (λ t. is_same_name name t.name) entries) (fresh_tube name)
-    → unwrap_or (find (λ t. is_same_name name t.name) (counted (t ∷ entries))) (fresh_tube name) ≡ unwrap_or (find (λ t. is_same_name name t.name) (t ∷ entries)) (fresh_tube name)
+    → unwrap_or (find (λ t. is_same_name name t.name) (counted entries)) (fresh_tube name) ≡ unwrap_or
+    (find (λ t. is_same_name name t.name) entries) (fresh_tube name)
+    → unwrap_or (find (λ t. is_same_name name t.name) (counted (t ∷ entries))) (fresh_tube name) ≡ unwrap_or
+    (find (λ t. is_same_name name t.name) (t ∷ entries)) (fresh_tube name)
 entry_at name t entries true true e k fresh later rest = rw (k, e) refl
 entry_at name t entries true false e k fresh later rest =
     grind (arith, same_name name t.name e, none_later t.name entries later, none_found)
@@ -116,10 +135,12 @@ entry_at name t entries false true e k fresh later rest = rw (k, e) rest
 entry_at name t entries false false e k fresh later rest = rw (k, e) rest
 
 pub record_of_entry : (name : List ℕ) (entries : List TubeRecord) → AreInOrder entries → All IsFreshUnlessCounted entries
-    → unwrap_or (find (λ t. is_same_name name t.name) (counted entries)) (fresh_tube name) ≡ unwrap_or (find (λ t. is_same_name name t.name) entries) (fresh_tube name)
+    → unwrap_or (find (λ t. is_same_name name t.name) (counted entries)) (fresh_tube name) ≡ unwrap_or
+    (find (λ t. is_same_name name t.name) entries) (fresh_tube name)
 record_of_entry name [] order fresh = refl
 record_of_entry name (t ∷ entries) order fresh =
-    entry_at name t entries (is_same_name name t.name) (is_counted t) refl refl fresh.0 order.0 (record_of_entry name entries order.1 fresh.1)
+    entry_at name t entries (is_same_name name t.name) (is_counted t) refl refl fresh.0 order.0
+    (record_of_entry name entries order.1 fresh.1)
 
 -- A name at the place of the first name that does not come before it.
 module _ (name : List ℕ) where
@@ -127,13 +148,16 @@ module _ (name : List ℕ) where
   place names = prefix_len (λ other. is_name_before other.now name) names
 
   -- The name is already there,
-  pub place_kept : (names : List (Bor (List ℕ))) → is_named name (slice_get names (prefix_len (λ other. is_name_before other.now name) names)) ≡ true
+  pub place_kept : (names : List (Bor (List ℕ)))
+      → is_named name (slice_get names (prefix_len (λ other. is_name_before other.now name) names)) ≡ true
       → names_of names ≡ with_name (names_of names) name
   place_kept [] h = absurd cc
   place_kept (o ∷ names) h = go (is_name_before o.now name) refl (place_kept names) h
     where
-      go : (b : Bool) → is_name_before o.now name ≡ b → (is_named name (slice_get names (place names)) ≡ true → names_of names ≡ with_name (names_of names) name)
-          → is_named name (slice_get (o ∷ names) (cond b (1 + place names) 0)) ≡ true → names_of (o ∷ names) ≡ with_name (names_of (o ∷ names)) name
+      go : (b : Bool) → is_name_before o.now name ≡ b
+          → (is_named name (slice_get names (place names)) ≡ true → names_of names ≡ with_name (names_of names) name)
+          → is_named name (slice_get (o ∷ names) (cond b (1 + place names) 0)) ≡ true
+          → names_of (o ∷ names) ≡ with_name (names_of (o ∷ names)) name
       go b e rest h = grind (arith, not_before)
 
   -- or it is inserted there.
@@ -144,7 +168,8 @@ module _ (name : List ℕ) where
   place_new x is (o ∷ names) h = go (is_name_before o.now name) refl (place_new x is names) h
     where
       go : (b : Bool) → is_name_before o.now name ≡ b
-          → (is_named name (slice_get names (place names)) ≡ false → names_of (insert names (place names) x) ≡ with_name (names_of names) name)
+          → (is_named name (slice_get names (place names)) ≡ false
+          → names_of (insert names (place names) x) ≡ with_name (names_of names) name)
           → is_named name (slice_get (o ∷ names) (cond b (1 + place names) 0)) ≡ false
           → names_of (insert (o ∷ names) (cond b (1 + place names) 0) x) ≡ with_name (names_of (o ∷ names)) name
       go true e rest h = grind (arith, not_same o.now name (is_same_name name o.now) refl e, not_before o.now name e)
@@ -155,7 +180,8 @@ pub when_ok : {T E X : Type 0} (r : Result T E) (a b : X) → IsOk r → (if is_
 when_ok r a b h = rw h refl
 
 -- a lent value, or a default
-pub lent_or : {A B : Type 0} (f : A → B) (o : Option (Bor A)) (other : Bor A) (x : Option B) → option_map (λ b. f b.now) o ≡ x → f (unwrap_or o other).now ≡ unwrap_or x (f other.now)
+pub lent_or : {A B : Type 0} (f : A → B) (o : Option (Bor A)) (other : Bor A) (x : Option B) → option_map (λ b. f b.now) o ≡ x
+    → f (unwrap_or o other).now ≡ unwrap_or x (f other.now)
 lent_or f o other x h = grind (arith, common_steps)
 
 -- Names in order are listed unchanged.

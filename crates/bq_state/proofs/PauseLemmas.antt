@@ -5,15 +5,18 @@ use Rattle.std.specs.{List.list_any, Prelude.fold}
 use Rattle.bq_job.specs.{beside.{dues_of_pause, earliest}, machine.{TubeRecord, fresh_tube, tube_after_timers, with_record}}
 use Rattle.bq_job.proofs.ListLemmas.{all_of_filter, all_weaker, list_any_not, map_all_same, none_pass}
 use Rattle.bq_state.specs.declared.tubes.entry.TubeChange.{TubeChange}
-use Rattle.bq_state.specs.{Dues.{earlier_of_both, first_pause_end, is_end_over, pause_end_after, with_tube_due}, TubeEntries.{counted, has_entry, is_pause_over, provided, tube_changed_at}}
+use Rattle.bq_state.specs.Dues.{earlier_of_both, first_pause_end, is_end_over, pause_end_after, with_tube_due}
+use Rattle.bq_state.specs.TubeEntries.{counted, has_entry, is_pause_over, provided, tube_changed_at}
 use Rattle.bq_state.proofs.WarningLemmas.{no_other}
 
 -- changes that keep the pauses
-pub end_after_change : (name : List ℕ) (what : TubeChange) (entries : List TubeRecord) (last : Option ℕ) → last ≡ first_pause_end entries → pause_end_after (map (tube_changed_at name what) entries) what last ≡ first_pause_end (map (tube_changed_at name what) entries)
+pub end_after_change : (name : List ℕ) (what : TubeChange) (entries : List TubeRecord) (last : Option ℕ) → last ≡ first_pause_end entries
+    → pause_end_after (map (tube_changed_at name what) entries) what last ≡ first_pause_end (map (tube_changed_at name what) entries)
 end_after_change name what entries last h = grind (arith, common_steps)
 
 -- a new entry has no pause
-fresh_adds_none : (name : List ℕ) (entries : List TubeRecord) (best : Option ℕ) → has_entry name entries ≡ false → fold with_tube_due best (with_record (fresh_tube name) entries) ≡ fold with_tube_due best entries
+fresh_adds_none : (name : List ℕ) (entries : List TubeRecord) (best : Option ℕ) → has_entry name entries ≡ false
+    → fold with_tube_due best (with_record (fresh_tube name) entries) ≡ fold with_tube_due best entries
 fresh_adds_none name [] best h = no_other best
 fresh_adds_none name (t ∷ entries) best h =
     grind (arith, common_steps, or_parts, fresh_adds_none name entries (earlier_of_both best (earliest (dues_of_pause t.pause))))
@@ -22,17 +25,21 @@ pub end_provided : (name : List ℕ) (entries : List TubeRecord) → first_pause
 end_provided name entries = grind (arith, fresh_adds_none)
 
 -- If the first end is not due yet, no pause is.
-all_to_come : (moment : ℕ) (best : Option ℕ) (entries : List TubeRecord) → is_end_over moment (fold with_tube_due best entries) ≡ false → (is_end_over moment best ≡ false) × (list_any (is_pause_over moment) entries ≡ false)
+all_to_come : (moment : ℕ) (best : Option ℕ) (entries : List TubeRecord) → is_end_over moment (fold with_tube_due best entries) ≡ false
+    → (is_end_over moment best ≡ false) × (list_any (is_pause_over moment) entries ≡ false)
 all_to_come moment best [] h = (h, refl)
 all_to_come moment best (t ∷ entries) h =
     grind (arith, all_to_come moment (earlier_of_both best (earliest (dues_of_pause t.pause))) entries h)
 
-pub none_over : (moment : ℕ) (entries : List TubeRecord) → is_end_over moment (first_pause_end entries) ≡ false → list_any (is_pause_over moment) entries ≡ false
+pub none_over : (moment : ℕ) (entries : List TubeRecord) → is_end_over moment (first_pause_end entries) ≡ false
+    → list_any (is_pause_over moment) entries ≡ false
 none_over moment entries h = (all_to_come moment None entries h).1
 
 -- no pause has ended
-pub none_counted : (moment : ℕ) (entries : List TubeRecord) → list_any (is_pause_over moment) entries ≡ false → list_any (is_pause_over moment) (counted entries) ≡ false
+pub none_counted : (moment : ℕ) (entries : List TubeRecord) → list_any (is_pause_over moment) entries ≡ false
+    → list_any (is_pause_over moment) (counted entries) ≡ false
 none_counted moment entries h = grind (arith, list_any_not, all_weaker, all_of_filter, none_pass)
 
-pub no_pause_ends : (moment : ℕ) (tubes : List TubeRecord) → list_any (is_pause_over moment) tubes ≡ false → map (tube_after_timers moment) tubes ≡ tubes
+pub no_pause_ends : (moment : ℕ) (tubes : List TubeRecord) → list_any (is_pause_over moment) tubes ≡ false
+    → map (tube_after_timers moment) tubes ≡ tubes
 no_pause_ends moment tubes h = grind (arith, map_all_same, all_weaker, none_pass (is_pause_over moment) tubes h)

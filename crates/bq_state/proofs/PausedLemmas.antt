@@ -14,7 +14,8 @@ none_counted name (t ∷ ts) e =
     let rest = none_counted name ts in
     grind (arith, common_steps)
 
-pub none_paused : (name : List ℕ) (es : List Named) (ends : CatalogSeen PauseEnd (Unit {0})) (k : KeptTubes) (n : ℕ) → n ≡ length ends.entries
+pub none_paused : (name : List ℕ) (es : List Named) (ends : CatalogSeen PauseEnd (Unit {0})) (k : KeptTubes) (n : ℕ)
+    → n ≡ length ends.entries
     → AreEnds (map record_at es) ends → tubes_kept es ≡ k → n ≡ 0
     → false ≡ list_any (λ (t : TubeRecord). is_same_name name t.name && is_some t.pause) k.entries
 none_paused name es ends k n len are seen none =

@@ -1,20 +1,29 @@
 -- What is known about the jobs that waiting clients may receive.
-use Rattle.std.proofs.{Common.{◌&&◌, ◌==◌, ◌||◌, ◌∙◌, ◌∷◌, ◌≡◌, if◌then◌else◌, Bool, List, None, Option, Some, [], ℕ, ap, false, filter, find, inl, inr, is_some, map, not, refl, set, slice_get, subst, sym, true}, lemmas.Bool.cases_Bool}
+use Rattle.std.proofs.Common.{◌&&◌, ◌==◌, ◌||◌, ◌∙◌, ◌∷◌, ◌≡◌, if◌then◌else◌, Bool, List, None, Option, Some, [], ℕ, ap}
+use Rattle.std.proofs.Common.{false, filter, find, inl, inr, is_some, map, not, refl, set, slice_get, subst, sym, true}
+use Rattle.std.proofs.{lemmas.Bool.cases_Bool}
 use Rattle.std.proofs.{Common.arith, lemmas.Grind.common_steps}
 use Rattle.std.specs.{List.{AllByRecursion as All, Contains, list_any}, Prelude.unwrap_or}
 use Rattle.bq_job.specs.declared.job.Job.{Job}
-use Rattle.bq_job.specs.machine.{Pause, SeatRecord, TubeRecord, forgetting, fresh_tube, is_job_before, is_name_before, is_paused, is_ready, is_tube, is_waiting, is_waiting_for, later, next_job, tube_record, watches, watching}
-use Rattle.bq_job.specs.{machine.{with_delete, with_pause, with_put, with_record, with_tube, Machine.Machine}, reading.TubeName.is_same_name}
-use Rattle.bq_job.proofs.{ChoiceLemmas.{first_of_none, first_of_none_passes}, ListLemmas.{all_always, all_at, all_from_members, all_of_map, all_weaker, find_in_filter, found_passes, list_any_not, none_pass}}
+use Rattle.bq_job.specs.machine.{Pause, SeatRecord, TubeRecord, forgetting, fresh_tube, is_job_before, is_name_before, is_paused, is_ready}
+use Rattle.bq_job.specs.machine.{is_tube, is_waiting, is_waiting_for, later, next_job, tube_record, watches, watching}
+use Rattle.bq_job.specs.machine.{with_delete, with_pause, with_put, with_record, with_tube, Machine.Machine}
+use Rattle.bq_job.specs.{reading.TubeName.is_same_name}
+use Rattle.bq_job.proofs.ChoiceLemmas.{first_of_none, first_of_none_passes}
+use Rattle.bq_job.proofs.ListLemmas.{all_always, all_at, all_from_members, all_of_map, all_weaker}
+use Rattle.bq_job.proofs.ListLemmas.{find_in_filter, found_passes, list_any_not, none_pass}
 use Rattle.bq_jobs.specs.Kept.{with_added}
 use Rattle.bq_state.specs.declared.{known.Stir.{Stir, TheVariants.{Any, Client, Nothing, Tube}}, seats.SeatChange.SeatChange}
 use Rattle.bq_state.specs.declared.tubes.entry.TubeChange.{TubeChange, TheVariants.{CountDelete, CountPut, Pause as PauseFor}}
 use Rattle.bq_state.specs.{Crowds.is_waiter, SeatChanges.seat_changed_at}
-use Rattle.bq_state.specs.{Stirs.{AreKnown, IsKnown, is_nothing, is_paused_by, is_wanted_by, may_get, stirred_by_change, stirred_by_seat, with_anything, with_stirred}, TubeEntries.tube_changed}
+use Rattle.bq_state.specs.Stirs.{AreKnown, IsKnown, is_nothing, is_paused_by, is_wanted_by}
+use Rattle.bq_state.specs.Stirs.{may_get, stirred_by_change, stirred_by_seat, with_anything, with_stirred}
+use Rattle.bq_state.specs.{TubeEntries.tube_changed}
 use Rattle.bq_state.proofs.{PartsLemmas.{all_added, all_read, all_set}, TubeLemmas.{same_itself, same_name}}
 
 -- a job that a client could receive can still be received
-still_stirred : (name : List ℕ) (stir : Stir) (tube : List ℕ) (seat : ℕ) → may_get stir tube seat ≡ true → may_get (with_stirred name stir) tube seat ≡ true
+still_stirred : (name : List ℕ) (stir : Stir) (tube : List ℕ) (seat : ℕ) → may_get stir tube seat ≡ true
+    → may_get (with_stirred name stir) tube seat ≡ true
 still_stirred name Nothing tube seat h = absurd cc
 still_stirred name (Tube stirred) tube seat h = elim (cases_Bool (is_same_name stirred name)) [
   | inl same ↦ rw same (subst (λ n. is_same_name n tube ≡ true) (same_name stirred name same) h)
@@ -25,28 +34,35 @@ still_stirred name Any tube seat h = refl
 
 -- what is known about each job and client after a change
 known_then : (stir stir' : Stir) (jobs : List Job) (seats : List SeatRecord) (tubes tubes' : List TubeRecord)
-    → ((j : Job) → Contains jobs j → (s : SeatRecord) → IsKnown stir tubes j s → IsKnown stir' tubes' j s) → AreKnown stir jobs seats tubes → AreKnown stir' jobs seats tubes'
+    → ((j : Job) → Contains jobs j → (s : SeatRecord) → IsKnown stir tubes j s → IsKnown stir' tubes' j s) → AreKnown stir jobs seats tubes
+    → AreKnown stir' jobs seats tubes'
 known_then stir stir' jobs seats tubes tubes' goes known =
     all_from_members (λ j. All (IsKnown stir' tubes' j) seats) jobs
-    (λ j c. all_weaker (IsKnown stir tubes j) (IsKnown stir' tubes' j) seats (goes j c) (all_at (λ k. All (IsKnown stir tubes k) seats) jobs j known c))
+    (λ j c. all_weaker (IsKnown stir tubes j) (IsKnown stir' tubes' j) seats (goes j c)
+    (all_at (λ k. All (IsKnown stir tubes k) seats) jobs j known c))
 
-pub parts_of : (tubes : List TubeRecord) (j : Job) (s : SeatRecord) → is_wanted_by tubes j s ≡ true → (is_waiting s ≡ true) × (is_ready j ≡ true) × (watches j.tube s ≡ true) × (is_paused_by tubes j.tube ≡ false)
+pub parts_of : (tubes : List TubeRecord) (j : Job) (s : SeatRecord) → is_wanted_by tubes j s ≡ true
+    → (is_waiting s ≡ true) × (is_ready j ≡ true) × (watches j.tube s ≡ true) × (is_paused_by tubes j.tube ≡ false)
 parts_of tubes j s h = grind (arith, common_steps)
 
 -- a tube that stays paused gives no job
-paused_then : (stir stir' : Stir) (tubes tubes' : List TubeRecord) (j : Job) (s : SeatRecord) → (may_get stir j.tube s.number ≡ true → may_get stir' j.tube s.number ≡ true)
+paused_then : (stir stir' : Stir) (tubes tubes' : List TubeRecord) (j : Job) (s : SeatRecord)
+    → (may_get stir j.tube s.number ≡ true → may_get stir' j.tube s.number ≡ true)
     → (is_paused_by tubes j.tube ≡ true → is_paused_by tubes' j.tube ≡ true) → IsKnown stir tubes j s → IsKnown stir' tubes' j s
 paused_then stir stir' tubes tubes' j s more stays known wanted = grind (arith)
 
 pub known_any : (jobs : List Job) (seats : List SeatRecord) (tubes : List TubeRecord) → AreKnown Any jobs seats tubes
-known_any jobs seats tubes = all_always (λ j. All (IsKnown Any tubes j) seats) jobs (λ j. all_always (IsKnown Any tubes j) seats (λ s w. refl))
+known_any jobs seats tubes = all_always (λ j. All (IsKnown Any tubes j) seats) jobs
+    (λ j. all_always (IsKnown Any tubes j) seats (λ s w. refl))
 
 -- there is no next job
 pub known_nothing : (m : Machine) → next_job m ≡ None → AreKnown Nothing m.jobs m.seats m.tubes
 known_nothing m none =
     all_weaker (λ j. list_any (is_waiting_for m j) m.seats ≡ false) (λ j. All (IsKnown Nothing m.tubes j) m.seats) m.jobs
-    (λ j no. all_weaker (λ s. is_waiting_for m j s ≡ false) (IsKnown Nothing m.tubes j) m.seats (λ s f w. sym f ∙ w) (none_pass (is_waiting_for m j) m.seats no))
-    (none_pass (λ j. list_any (is_waiting_for m j) m.seats) m.jobs (first_of_none (λ j. list_any (is_waiting_for m j) m.seats) is_job_before m.jobs none))
+    (λ j no. all_weaker (λ s. is_waiting_for m j s ≡ false) (IsKnown Nothing m.tubes j) m.seats (λ s f w. sym f ∙ w)
+    (none_pass (is_waiting_for m j) m.seats no))
+    (none_pass (λ j. list_any (is_waiting_for m j) m.seats) m.jobs
+    (first_of_none (λ j. list_any (is_waiting_for m j) m.seats) is_job_before m.jobs none))
 
 -- there is no next job if no client may receive one
 pub none_known : (stir : Stir) (m : Machine) → is_nothing stir ≡ true → AreKnown stir m.jobs m.seats m.tubes → next_job m ≡ None
@@ -64,24 +80,28 @@ none_known (Client asker) m e known = absurd cc
 none_known Any m e known = absurd cc
 
 -- a job is added
-pub known_added : (j : Job) (stir : Stir) (jobs : List Job) (seats : List SeatRecord) (tubes : List TubeRecord) → AreKnown stir jobs seats tubes
+pub known_added : (j : Job) (stir : Stir) (jobs : List Job) (seats : List SeatRecord) (tubes : List TubeRecord)
+    → AreKnown stir jobs seats tubes
     → AreKnown (if is_ready j && list_any (is_waiter j.tube) seats then with_stirred j.tube stir else stir) (with_added j jobs) seats tubes
 known_added j stir jobs seats tubes known = go (is_ready j && list_any (is_waiter j.tube) seats) refl
   where
     unwanted : (is_ready j && list_any (is_waiter j.tube) seats) ≡ false → (s : SeatRecord) → Contains seats s → IsKnown stir tubes j s
     unwanted none s c wanted = grind (arith, common_steps)
 
-    go : (b : Bool) → (is_ready j && list_any (is_waiter j.tube) seats) ≡ b → AreKnown (if b then with_stirred j.tube stir else stir) (with_added j jobs) seats tubes
+    go : (b : Bool) → (is_ready j && list_any (is_waiter j.tube) seats) ≡ b
+        → AreKnown (if b then with_stirred j.tube stir else stir) (with_added j jobs) seats tubes
     go true e = grind (arith, all_added, all_always, same_itself, known_then, still_stirred)
     go false e = all_added (λ k. All (IsKnown stir tubes k) seats) j jobs (all_from_members (IsKnown stir tubes j) seats (unwanted e)) known
 
 -- a seat is changed
-pub known_of_seat : (number : ℕ) (what : SeatChange) (stir : Stir) (jobs : List Job) (seats : List SeatRecord) (tubes : List TubeRecord) → AreKnown stir jobs seats tubes
+pub known_of_seat : (number : ℕ) (what : SeatChange) (stir : Stir) (jobs : List Job) (seats : List SeatRecord) (tubes : List TubeRecord)
+    → AreKnown stir jobs seats tubes
     → AreKnown (stirred_by_seat number what stir) jobs (map (seat_changed_at number what) seats) tubes
 known_of_seat number what stir jobs seats tubes known = grind (arith, all_weaker, all_of_map)
 
 -- a client watches other tubes: it may receive any job if it waits
-pub known_watching : (names : List (List ℕ)) (i : ℕ) (s : SeatRecord) (stir : Stir) (jobs : List Job) (seats : List SeatRecord) (tubes : List TubeRecord) → AreKnown stir jobs seats tubes
+pub known_watching : (names : List (List ℕ)) (i : ℕ) (s : SeatRecord) (stir : Stir) (jobs : List Job) (seats : List SeatRecord)
+    (tubes : List TubeRecord) → AreKnown stir jobs seats tubes
     → AreKnown (if is_waiting s then with_anything stir else stir) jobs (set seats i (watching names s)) tubes
 known_watching names i s stir jobs seats tubes known = grind (arith, all_weaker, all_set)
 
@@ -90,26 +110,34 @@ any_left : (p q : List ℕ → Bool) (names : List (List ℕ)) → list_any p (f
 any_left p q [] h = absurd cc
 any_left p q (name ∷ names) h = go (p name) (q name) refl h (any_left p q names)
   where
-    go : (b c : Bool) → p name ≡ b → list_any p (if c then name ∷ filter q names else filter q names) ≡ true → (list_any p (filter q names) ≡ true → list_any p names ≡ true) → (b || list_any p names) ≡ true
+    go : (b c : Bool) → p name ≡ b → list_any p (if c then name ∷ filter q names else filter q names) ≡ true
+        → (list_any p (filter q names) ≡ true → list_any p names ≡ true) → (b || list_any p names) ≡ true
     go b c e h rest = grind (arith, common_steps)
 
-pub known_ignoring : (q : List ℕ → Bool) (i : ℕ) (s : SeatRecord) (stir : Stir) (jobs : List Job) (seats : List SeatRecord) (tubes : List TubeRecord) → slice_get seats i ≡ Some s → AreKnown stir jobs seats tubes
+pub known_ignoring : (q : List ℕ → Bool) (i : ℕ) (s : SeatRecord) (stir : Stir) (jobs : List Job) (seats : List SeatRecord)
+    (tubes : List TubeRecord) → slice_get seats i ≡ Some s → AreKnown stir jobs seats tubes
     → AreKnown stir jobs (set seats i (watching (filter q s.watched) s)) tubes
 known_ignoring q i s stir jobs seats tubes here known =
-    all_weaker (λ j. All (IsKnown stir tubes j) seats) (λ j. All (IsKnown stir tubes j) (set seats i (watching (filter q s.watched) s))) jobs
-    (λ j all. all_set (IsKnown stir tubes j) seats i (watching (filter q s.watched) s) all (fewer j (all_read (IsKnown stir tubes j) seats i s all here))) known
+    all_weaker (λ j. All (IsKnown stir tubes j) seats)
+    (λ j. All (IsKnown stir tubes j) (set seats i (watching (filter q s.watched) s))) jobs
+    (λ j all. all_set (IsKnown stir tubes j) seats i (watching (filter q s.watched) s) all
+    (fewer j (all_read (IsKnown stir tubes j) seats i s all here))) known
   where
     fewer : (j : Job) → IsKnown stir tubes j s → IsKnown stir tubes j (watching (filter q s.watched) s)
     fewer j k w = grind (arith, any_left)
 
 -- a record whose pause does not end leaves all tubes paused
-paused_kept : (name : List ℕ) (t : TubeRecord) (tubes : List TubeRecord) → (is_same_name name t.name ≡ true → is_some (unwrap_or (find (λ u. is_same_name name u.name) tubes) (fresh_tube name)).pause ≡ true → is_some t.pause ≡ true)
-    → is_some (unwrap_or (find (λ u. is_same_name name u.name) tubes) (fresh_tube name)).pause ≡ true → is_some (unwrap_or (find (λ u. is_same_name name u.name) (with_record t tubes)) (fresh_tube name)).pause ≡ true
+paused_kept : (name : List ℕ) (t : TubeRecord) (tubes : List TubeRecord)
+    → (is_same_name name t.name ≡ true → is_some (unwrap_or (find (λ u. is_same_name name u.name) tubes) (fresh_tube name)).pause ≡ true
+    → is_some t.pause ≡ true)
+    → is_some (unwrap_or (find (λ u. is_same_name name u.name) tubes) (fresh_tube name)).pause ≡ true
+    → is_some (unwrap_or (find (λ u. is_same_name name u.name) (with_record t tubes)) (fresh_tube name)).pause ≡ true
 paused_kept name t [] same = λ h. absurd cc
 paused_kept name t (u ∷ us) same = elim (cases_Bool (is_same_name t.name u.name)) [
   | inl a ↦ elim (cases_Bool (is_same_name name t.name)) [
     | inl e ↦ rw (a, e) (same e)
-    | inr e ↦ let other : is_same_name name u.name ≡ false = ap (is_same_name name) (sym (same_name t.name u.name a)) ∙ e in rw (a, e, other) (λ h. h)
+    | inr e ↦ let other : is_same_name name u.name ≡ false = ap (is_same_name name) (sym (same_name t.name u.name a)) ∙ e in
+        rw (a, e, other) (λ h. h)
   ]
   | inr a ↦ elim (cases_Bool (is_name_before t.name u.name)) [
     | inl b ↦ elim (cases_Bool (is_same_name name t.name)) [ inl e ↦ rw (a, b, e) (same e) | inr e ↦ rw (a, b, e) (λ h. h) ]
@@ -128,26 +156,32 @@ named name m = go (find (λ t. is_same_name name t.name) m.tubes) refl
     go (Some t) e = sym (same_name name t.name ((found_passes (λ u. is_same_name name u.name) m.tubes t e).0))
 
 -- a change of one tube that does not end its pause
-pub pauses_kept : (tube : List ℕ) (f : TubeRecord → TubeRecord) (m : Machine) → ((t : TubeRecord) → (f t).name ≡ t.name) → (is_paused tube m ≡ true → is_some (f (tube_record tube m)).pause ≡ true) → (name : List ℕ) → is_paused name m ≡ true → is_paused name (with_tube tube f m) ≡ true
+pub pauses_kept : (tube : List ℕ) (f : TubeRecord → TubeRecord) (m : Machine) → ((t : TubeRecord) → (f t).name ≡ t.name)
+    → (is_paused tube m ≡ true → is_some (f (tube_record tube m)).pause ≡ true) → (name : List ℕ) → is_paused name m ≡ true
+    → is_paused name (with_tube tube f m) ≡ true
 pauses_kept tube f m keeps stays name =
     paused_kept name (f (tube_record tube m)) m.tubes (λ e h.
     let is : name ≡ tube = same_name name (f (tube_record tube m)).name e ∙ keeps (tube_record tube m) ∙ named tube m in
     stays (subst (λ n. is_paused n m ≡ true) is h))
 
 -- a tube changes: only the end of its pause allows its jobs to be received
-other_paused : (name tube : List ℕ) (f : TubeRecord → TubeRecord) (m : Machine) → ((t : TubeRecord) → (f t).name ≡ t.name) → is_same_name tube name ≡ false → is_paused name m ≡ true → is_paused name (with_tube tube f m) ≡ true
+other_paused : (name tube : List ℕ) (f : TubeRecord → TubeRecord) (m : Machine) → ((t : TubeRecord) → (f t).name ≡ t.name)
+    → is_same_name tube name ≡ false → is_paused name m ≡ true → is_paused name (with_tube tube f m) ≡ true
 other_paused name tube f m keeps other =
     paused_kept name (f (tube_record tube m)) m.tubes (λ e h.
     let is : name ≡ tube = same_name name (f (tube_record tube m)).name e ∙ keeps (tube_record tube m) ∙ named tube m in
     absurd (let same : is_same_name tube name ≡ true = ap (is_same_name tube) is ∙ same_itself tube in cc))
 
-pub known_of_change : (tube : List ℕ) (what : TubeChange) (m : Machine) (stir : Stir) → AreKnown stir m.jobs m.seats m.tubes → AreKnown (stirred_by_change tube what stir) m.jobs m.seats (with_tube tube (tube_changed what) m).tubes
+pub known_of_change : (tube : List ℕ) (what : TubeChange) (m : Machine) (stir : Stir) → AreKnown stir m.jobs m.seats m.tubes
+    → AreKnown (stirred_by_change tube what stir) m.jobs m.seats (with_tube tube (tube_changed what) m).tubes
 known_of_change tube CountPut m stir known =
     known_then stir stir m.jobs m.seats m.tubes (with_tube tube with_put m).tubes
-    (λ j c s k. paused_then stir stir m.tubes (with_tube tube with_put m).tubes j s (λ h. h) (pauses_kept tube with_put m (λ t. refl) (λ p. p) j.tube) k) known
+    (λ j c s k. paused_then stir stir m.tubes (with_tube tube with_put m).tubes j s (λ h. h)
+    (pauses_kept tube with_put m (λ t. refl) (λ p. p) j.tube) k) known
 known_of_change tube CountDelete m stir known =
     known_then stir stir m.jobs m.seats m.tubes (with_tube tube with_delete m).tubes
-    (λ j c s k. paused_then stir stir m.tubes (with_tube tube with_delete m).tubes j s (λ h. h) (pauses_kept tube with_delete m (λ t. refl) (λ p. p) j.tube) k) known
+    (λ j c s k. paused_then stir stir m.tubes (with_tube tube with_delete m).tubes j s (λ h. h)
+    (pauses_kept tube with_delete m (λ t. refl) (λ p. p) j.tube) k) known
 known_of_change tube (PauseFor seconds moment) m stir known = go (seconds == 0) refl
   where
     after : List TubeRecord
@@ -158,22 +192,29 @@ known_of_change tube (PauseFor seconds moment) m stir known = go (seconds == 0) 
 
     one : (j : Job) (s : SeatRecord) → IsKnown stir m.tubes j s → IsKnown (with_stirred tube stir) after j s
     one j s k = elim (cases_Bool (is_same_name tube j.tube)) [
-      | inl same ↦ λ w. subst (λ n. may_get (with_stirred tube stir) n s.number ≡ true) (same_name tube j.tube same) (grind (arith, same_itself))
-      | inr other ↦ paused_then stir (with_stirred tube stir) m.tubes after j s (still_stirred tube stir j.tube s.number) (other_paused j.tube tube (with_pause seconds moment) m (λ t. refl) other) k
+      | inl same ↦ λ w. subst (λ n. may_get (with_stirred tube stir) n s.number ≡ true) (same_name tube j.tube same)
+          (grind (arith, same_itself))
+      | inr other ↦ paused_then stir (with_stirred tube stir) m.tubes after j s (still_stirred tube stir j.tube s.number)
+          (other_paused j.tube tube (with_pause seconds moment) m (λ t. refl) other) k
     ]
 
     go : (b : Bool) → (seconds == 0) ≡ b → AreKnown (if b then with_stirred tube stir else stir) m.jobs m.seats after
     go true e = known_then stir (with_stirred tube stir) m.jobs m.seats m.tubes after (λ j c s k. one j s k) known
     go false e =
         known_then stir stir m.jobs m.seats m.tubes after
-        (λ j c s k. paused_then stir stir m.tubes after j s (λ h. h) (pauses_kept tube (with_pause seconds moment) m (λ t. refl) (λ p. stays (seconds == 0) (record { seconds = seconds; until = later moment seconds }) e) j.tube) k) known
+        (λ j c s k. paused_then stir stir m.tubes after j s (λ h. h)
+        (pauses_kept tube (with_pause seconds moment) m (λ t. refl)
+        (λ p. stays (seconds == 0) (record { seconds = seconds; until = later moment seconds }) e) j.tube) k) known
 
 -- an entry that is dropped belongs to no tube with a job
 pub known_forgotten : (m : Machine) (stir : Stir) → AreKnown stir m.jobs m.seats m.tubes → AreKnown stir m.jobs m.seats (forgetting m).tubes
 known_forgotten m stir known =
     known_then stir stir m.jobs m.seats m.tubes (forgetting m).tubes
-    (λ j c s k. subst (λ (p : Option TubeRecord). (is_waiting s && (is_ready j && watches j.tube s && not (is_some (unwrap_or p (fresh_tube j.tube)).pause))) ≡ true → may_get stir j.tube s.number ≡ true)
-    (sym (find_in_filter (λ t. is_same_name j.tube t.name) (λ t. is_tube t.name m) m.tubes (all_always (λ t. is_same_name j.tube t.name ≡ true → is_tube t.name m ≡ true) m.tubes (λ t e. stays j c t e)))) k) known
+    (λ j c s k. subst (λ (p : Option TubeRecord).
+    (is_waiting s && (is_ready j && watches j.tube s && not (is_some (unwrap_or p (fresh_tube j.tube)).pause))) ≡ true
+    → may_get stir j.tube s.number ≡ true)
+    (sym (find_in_filter (λ t. is_same_name j.tube t.name) (λ t. is_tube t.name m) m.tubes
+    (all_always (λ t. is_same_name j.tube t.name ≡ true → is_tube t.name m ≡ true) m.tubes (λ t e. stays j c t e)))) k) known
   where
     stays : (j : Job) → Contains m.jobs j → (t : TubeRecord) → is_same_name j.tube t.name ≡ true → is_tube t.name m ≡ true
     stays j c t e = grind (arith, common_steps, same_name j.tube t.name e)

@@ -26,7 +26,8 @@ module _ (chosen passes : Job → Bool) where
   some_added j jobs fits e = grind (arith, common_steps, both_count, count_added)
 
   module _ (low next id : ℕ) (j : Job) (jobs : List Job) (ids : AreIdsWithin low jobs next) (found : job_with id jobs ≡ Some j) where
-    some_taken : chosen j ≡ true → count_by passes (filter chosen (without id jobs)) ≡ count_without (passes j) (count_by passes (filter chosen jobs))
+    some_taken : chosen j ≡ true → count_by passes (filter chosen (without id jobs)) ≡ count_without (passes j)
+        (count_by passes (filter chosen jobs))
     some_taken e =
         let taken = count_taken (λ k. chosen k && passes k) low next id j jobs ids found in
         let a = ap (λ n. cond (passes j) 1 0 + n) (both_count (without id jobs)) in
@@ -49,7 +50,8 @@ pub tally_stays_added : (chosen : Job → Bool) (j : Job) (jobs : List Job) → 
 tally_stays_added chosen j jobs e = grind (arith, both_count, count_added)
 
 -- The same after a chosen job is removed.
-pub tally_taken : (chosen : Job → Bool) (low next id : ℕ) (j : Job) (jobs : List Job) → AreIdsWithin low jobs next → job_with id jobs ≡ Some j
+pub tally_taken : (chosen : Job → Bool) (low next id : ℕ) (j : Job) (jobs : List Job) → AreIdsWithin low jobs next
+    → job_with id jobs ≡ Some j
     → chosen j ≡ true → tally_of (filter chosen (without id jobs)) ≡ tally_without j (tally_of (filter chosen jobs))
 tally_taken chosen low next id j jobs ids found e = λ i. record {
   urgent = some_taken chosen is_urgent low next id j jobs ids found e i;
@@ -60,7 +62,8 @@ tally_taken chosen low next id j jobs ids found e = λ i. record {
 }
 
 -- The same after another job is removed.
-pub tally_stays_taken : (chosen : Job → Bool) (low next id : ℕ) (j : Job) (jobs : List Job) → AreIdsWithin low jobs next → job_with id jobs ≡ Some j
+pub tally_stays_taken : (chosen : Job → Bool) (low next id : ℕ) (j : Job) (jobs : List Job) → AreIdsWithin low jobs next
+    → job_with id jobs ≡ Some j
     → chosen j ≡ false → tally_of (filter chosen (without id jobs)) ≡ tally_of (filter chosen jobs)
 tally_stays_taken chosen low next id j jobs ids found e = λ i. record {
   urgent = none_taken chosen is_urgent low next id j jobs ids found e i;
@@ -75,9 +78,11 @@ all_chosen [] = refl
 all_chosen (j ∷ jobs) = ap (λ ks. j ∷ ks) (all_chosen jobs)
 
 -- The counts of all jobs after one is added or removed.
-pub whole_added : (j : Job) (jobs : List Job) → length (with_added j jobs) ≤ greatest → tally_of (with_added j jobs) ≡ tally_with j (tally_of jobs)
+pub whole_added : (j : Job) (jobs : List Job) → length (with_added j jobs) ≤ greatest
+    → tally_of (with_added j jobs) ≡ tally_with j (tally_of jobs)
 whole_added j jobs fits =
-    sym (ap tally_of (all_chosen (with_added j jobs))) ∙ tally_added (λ k. true) j jobs fits refl ∙ ap (λ ks. tally_with j (tally_of ks)) (all_chosen jobs)
+    sym (ap tally_of (all_chosen (with_added j jobs))) ∙ tally_added (λ k. true) j jobs fits refl
+    ∙ ap (λ ks. tally_with j (tally_of ks)) (all_chosen jobs)
 
 pub whole_taken : (low next id : ℕ) (j : Job) (jobs : List Job) → AreIdsWithin low jobs next → job_with id jobs ≡ Some j
     → tally_of (without id jobs) ≡ tally_without j (tally_of jobs)

@@ -1,20 +1,26 @@
 -- The counts of tubes are at the places of their entries.
-use Rattle.std.proofs.{Common.{◌+◌, ◌∙◌, ◌∷◌, ◌≡◌, ◌≤◌, Bool, List, Some, [], ℕ, ap, arith, false, inl, inr, length, map, refl, sym, true}, lemmas.{Bool.{cases_Bool, lt-ltb}, List.{drop-map, map-append, take-map}}}
+use Rattle.std.proofs.Common.{◌+◌, ◌∙◌, ◌∷◌, ◌≡◌, ◌≤◌, Bool, List, Some, [], ℕ, ap, arith, false, inl, inr, length, map, refl, sym, true}
+use Rattle.std.proofs.lemmas.{Bool.{cases_Bool, lt-ltb}, List.{drop-map, map-append, take-map}}
 use Rattle.std.proofs.lemmas.Grind.{common_steps}
 use Rattle.std.specs.{Cmp.Lexicographic.bytes_decides, List.{AllByRecursion as All, list_any}, Prelude.{count_by, filter, nat_lt}}
 use Rattle.bq_job.specs.declared.job.Job.{Job}
-use Rattle.bq_job.specs.{beside.AreIdsWithin, machine.{TubeRecord, greatest, is_delayed, is_name_before, is_reserved, job_with}, reading.TubeName.is_same_name}
+use Rattle.bq_job.specs.{beside.AreIdsWithin, machine.{TubeRecord, greatest, is_delayed, is_name_before, is_reserved, job_with}}
+use Rattle.bq_job.specs.{reading.TubeName.is_same_name}
 use Rattle.bq_job.proofs.{ListLemmas.count_cons, NameOrderLemmas.not_same}
 use Rattle.bq_jobs.specs.Kept.{with_added, without}
 use Rattle.bq_state.specs.declared.known.Tally.{Tally}
-use Rattle.bq_state.specs.{Tallies.{AreCounted, has_jobs, tallies_at, tallies_of, tallies_provided, tallies_with, tallies_without, tally_at, tally_in, tally_of, tally_with, tally_without}, TubeEntries.{AreInOrder, has_entry, provided}}
-use Rattle.bq_state.proofs.{TallyLemmas.{tally_added, tally_stays_added, tally_stays_taken, tally_taken, whole_added, whole_taken}, TubeLemmas.provided_new}
+use Rattle.bq_state.specs.Tallies.{AreCounted, has_jobs, tallies_at, tallies_of, tallies_provided, tallies_with}
+use Rattle.bq_state.specs.Tallies.{tallies_without, tally_at, tally_in, tally_of, tally_with, tally_without}
+use Rattle.bq_state.specs.TubeEntries.{AreInOrder, has_entry, provided}
+use Rattle.bq_state.proofs.TallyLemmas.{tally_added, tally_stays_added, tally_stays_taken, tally_taken, whole_added, whole_taken}
+use Rattle.bq_state.proofs.{TubeLemmas.provided_new}
 
 module _ (j : Job) (old new : List Job) (f : Tally → Tally)
     (here : (t : TubeRecord) → is_same_name t.name j.tube ≡ true → tally_in new t ≡ f (tally_in old t))
     (elsewhere : (t : TubeRecord) → is_same_name t.name j.tube ≡ false → tally_in new t ≡ tally_in old t) where
   -- no later entry has the name of the first one
-  later_stay : (t : TubeRecord) → j.tube ≡ t.name → (es : List TubeRecord) → All (λ u. is_name_before t.name u.name ≡ true) es → tallies_of old es ≡ tallies_of new es
+  later_stay : (t : TubeRecord) → j.tube ≡ t.name → (es : List TubeRecord) → All (λ u. is_name_before t.name u.name ≡ true) es
+      → tallies_of old es ≡ tallies_of new es
   later_stay t is [] all = refl
   later_stay t is (u ∷ es) all =
       grind (arith, not_same t.name u.name (is_same_name u.name t.name) refl all.0, later_stay t is es all.1)
@@ -34,26 +40,31 @@ module _ (j : Job) (old new : List Job) (f : Tally → Tally)
     where
       turned : (b : Bool) → is_same_name t.name j.tube ≡ b → is_same_name j.tube t.name ≡ false → b ≡ false
       turned false g e = refl
-      turned true g e = let back : is_same_name j.tube t.name ≡ true = (bytes_decides j.tube t.name).1 (sym ((bytes_decides t.name j.tube).0 g)) in cc
+      turned true g e = let back : is_same_name j.tube t.name ≡ true = (bytes_decides j.tube t.name).1
+          (sym ((bytes_decides t.name j.tube).0 g)) in cc
 
 -- or removed
-pub tallies_taken : (low next id : ℕ) (j : Job) (jobs : List Job) → AreIdsWithin low jobs next → job_with id jobs ≡ Some j → (es : List TubeRecord) → AreInOrder es
+pub tallies_taken : (low next id : ℕ) (j : Job) (jobs : List Job) → AreIdsWithin low jobs next → job_with id jobs ≡ Some j
+    → (es : List TubeRecord) → AreInOrder es
     → tallies_without j es (tallies_of jobs es) ≡ tallies_of (without id jobs) es
 tallies_taken low next id j jobs ids found = followed j jobs (without id jobs) (tally_without j)
     (λ t e. tally_taken (λ k. is_same_name t.name k.tube) low next id j jobs ids found e)
     (λ t e. tally_stays_taken (λ k. is_same_name t.name k.tube) low next id j jobs ids found e)
 
 -- the counts of a tube depend on its name only
-same_tallies : (f : TubeRecord → TubeRecord) → ((t : TubeRecord) → (f t).name ≡ t.name) → (jobs : List Job) (es : List TubeRecord) → tallies_of jobs es ≡ tallies_of jobs (map f es)
+same_tallies : (f : TubeRecord → TubeRecord) → ((t : TubeRecord) → (f t).name ≡ t.name) → (jobs : List Job) (es : List TubeRecord)
+    → tallies_of jobs es ≡ tallies_of jobs (map f es)
 same_tallies f same jobs [] = refl
 same_tallies f same jobs (t ∷ es) = grind (arith, same_tallies f same jobs es)
 
-pub counted_kept : (f : TubeRecord → TubeRecord) → ((t : TubeRecord) → (f t).name ≡ t.name) → (tally : Tally) (tallies : List Tally) (jobs : List Job) (es : List TubeRecord)
+pub counted_kept : (f : TubeRecord → TubeRecord) → ((t : TubeRecord) → (f t).name ≡ t.name)
+    → (tally : Tally) (tallies : List Tally) (jobs : List Job) (es : List TubeRecord)
     → AreCounted tally tallies jobs es → AreCounted tally tallies jobs (map f es)
 counted_kept f same tally tallies jobs es was = record { whole = was.whole; each = was.each ∙ same_tallies f same jobs es }
 
 -- a tube that gets an entry has no job
-no_job_there : (name : List ℕ) (jobs : List Job) (es : List TubeRecord) → has_entry name es ≡ false → All (λ j. has_entry j.tube es ≡ true) jobs → filter (λ j. is_same_name name j.tube) jobs ≡ []
+no_job_there : (name : List ℕ) (jobs : List Job) (es : List TubeRecord) → has_entry name es ≡ false
+    → All (λ j. has_entry j.tube es ≡ true) jobs → filter (λ j. is_same_name name j.tube) jobs ≡ []
 no_job_there name [] es none all = refl
 no_job_there name (j ∷ jobs) es none all =
     elim (cases_Bool (is_same_name name j.tube)) [
@@ -64,16 +75,19 @@ no_job_there name (j ∷ jobs) es none all =
       | inr e ↦ rw e (no_job_there name jobs es none all.1)
     ]
 
-pub counted_provided : (name : List ℕ) (tally : Tally) (tallies : List Tally) (jobs : List Job) (es : List TubeRecord) → All (λ j. has_entry j.tube es ≡ true) jobs
+pub counted_provided : (name : List ℕ) (tally : Tally) (tallies : List Tally) (jobs : List Job) (es : List TubeRecord)
+    → All (λ j. has_entry j.tube es ≡ true) jobs
     → AreCounted tally tallies jobs es → AreCounted tally (tallies_provided name es tallies) jobs (provided name es)
-counted_provided name tally tallies jobs es all was = record { whole = was.whole; each = ap (tallies_provided name es) was.each ∙ go (has_entry name es) refl }
+counted_provided name tally tallies jobs es all was =
+    record { whole = was.whole; each = ap (tallies_provided name es) was.each ∙ go (has_entry name es) refl }
   where
     go : (b : Bool) → has_entry name es ≡ b → tallies_provided name es (tallies_of jobs es) ≡ tallies_of jobs (provided name es)
     go true e = rw e refl
     go false e = grind (arith, no_job_there name jobs es e all, take-map, drop-map, map-append, provided_new name es e)
 
 -- a job is added,
-pub counted_added : (j : Job) (tally : Tally) (tallies : List Tally) (jobs : List Job) (es : List TubeRecord) → length (with_added j jobs) ≤ greatest → AreInOrder es
+pub counted_added : (j : Job) (tally : Tally) (tallies : List Tally) (jobs : List Job) (es : List TubeRecord)
+    → length (with_added j jobs) ≤ greatest → AreInOrder es
     → AreCounted tally tallies jobs es → AreCounted (tally_with j tally) (tallies_with j es tallies) (with_added j jobs) es
 counted_added j tally tallies jobs es fits order was = grind (arith, whole_added, followed, tally_added, tally_stays_added)
 
@@ -106,7 +120,8 @@ has_one : (j : Job) (jobs : List Job) → has_jobs (tally_of (j ∷ jobs)) ≡ t
 has_one j jobs = grind (arith, common_steps)
 
 -- a tube has jobs by its counts if and only if it has a job
-pub has_jobs_in : (name : List ℕ) (jobs : List Job) → has_jobs (tally_of (filter (λ j. is_same_name name j.tube) jobs)) ≡ list_any (λ j. is_same_name name j.tube) jobs
+pub has_jobs_in : (name : List ℕ) (jobs : List Job)
+    → has_jobs (tally_of (filter (λ j. is_same_name name j.tube) jobs)) ≡ list_any (λ j. is_same_name name j.tube) jobs
 has_jobs_in name [] = refl
 has_jobs_in name (j ∷ jobs) = grind (arith, has_one, has_jobs_in name jobs)
 
@@ -121,7 +136,8 @@ tally_named name jobs (t ∷ es) h =
       | inr e ↦ rw e (tally_named name jobs es (rw e at h))
     ]
 
-tally_missing : (name : List ℕ) (jobs : List Job) (es : List TubeRecord) → has_entry name es ≡ false → tally_at name es (tallies_of jobs es) ≡ tally_of []
+tally_missing : (name : List ℕ) (jobs : List Job) (es : List TubeRecord) → has_entry name es ≡ false
+    → tally_at name es (tallies_of jobs es) ≡ tally_of []
 tally_missing name jobs [] h = refl
 tally_missing name jobs (t ∷ es) h = grind (arith, common_steps, cases_Bool, tally_missing name jobs es)
 

@@ -1,11 +1,15 @@
 -- The records of the tubes that have an entry.
-use Rattle.std.specs.{Borrow.Bor, BTreeMap.is_at, Cmp.Lexicographic.slice_cmp, Map.{lookup, remove_entry, set_value}, Ordering.{is_gt, nat_cmp}}
+use Rattle.std.specs.{Borrow.Bor, BTreeMap.is_at, Cmp.Lexicographic.slice_cmp}
+use Rattle.std.specs.{Map.{lookup, remove_entry, set_value}, Ordering.{is_gt, nat_cmp}}
 use Rattle.std.specs.Prelude.{◌&&◌, ◌++◌, ◌∷◌, if◌then◌else◌, Bool, List, None, Option, Some, [], ℕ, false, is_some, map, not, true}
 use Rattle.bq_job.specs.declared.job.Job.{Job}
 use Rattle.bq_job.specs.machine.{Pause, TubeRecord, default_tube, fresh_tube, pause_after_timers, raised, tube_after_timers}
 use Rattle.bq_jobs.specs.declared.row.Moved.{Moved}
-use Rattle.bq_state.specs.declared.{known.Tally.Tally, tubes.entry.{Crowd.Crowd, Moving.Moving, Share.Share, TubeChange.{TubeChange, TheVariants.{CountDelete, CountPut}}}}
-use Rattle.bq_state.specs.{Crowds.{has_seats, no_crowd, recounted}, Tallies.{has_jobs, tally_moved, tally_of, tally_with, tally_without}, TubeEntries.{is_tube_by, tube_changed}}
+use Rattle.bq_state.specs.declared.{known.Tally.Tally}
+use Rattle.bq_state.specs.declared.tubes.entry.{Crowd.Crowd, Moving.Moving}
+use Rattle.bq_state.specs.declared.tubes.entry.{Share.Share, TubeChange.{TubeChange, TheVariants.{CountDelete, CountPut}}}
+use Rattle.bq_state.specs.{Crowds.{has_seats, no_crowd, recounted}, Tallies.{has_jobs, tally_moved, tally_of, tally_with, tally_without}}
+use Rattle.bq_state.specs.TubeEntries.{is_tube_by, tube_changed}
 
 -- the entries and, parallel to them, the counts of the tubes' jobs and of their clients
 pub record KeptTubes : Type 0 where

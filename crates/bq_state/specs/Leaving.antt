@@ -2,7 +2,8 @@
 use Rattle.std.specs.Prelude.{◌∷◌, Bool, List, None, Option, Some, [], ℕ, false, fold, true}
 use Rattle.bq_job.specs.machine.{SeatRecord}
 use Rattle.bq_state.specs.declared.{known.Loss.Loss, tubes.entry.Share.Share}
-use Rattle.bq_state.specs.{Crowds.{crowd_at, has_seats}, KeptTubes.KeptTubes, Losses.with_lost, Tallies.{has_jobs, tally_at}, TubeEntries.is_tube_by}
+use Rattle.bq_state.specs.{Crowds.{crowd_at, has_seats}, KeptTubes.KeptTubes, Losses.with_lost}
+use Rattle.bq_state.specs.{Tallies.{has_jobs, tally_at}, TubeEntries.is_tube_by}
 
 -- the tube exists, according to its counts
 abbrev pub exists_in : KeptTubes → List ℕ → Bool

@@ -2,7 +2,8 @@
 use Rattle.std.specs.List.{insert, prefix_len}
 use Rattle.std.specs.Prelude.{◌&&◌, ◌-◌, ◌||◌, ◌∷◌, ◌≡◌, if◌then◌else◌, Bool, List, [], ℕ, count_by, false, filter, map, nat_lt, true}
 use Rattle.bq_job.specs.declared.job.Job.{Job}
-use Rattle.bq_job.specs.machine.{TubeRecord, is_buried, is_delayed, is_name_before, is_ready, is_ready_state, is_reserved, is_urgent, raised}
+use Rattle.bq_job.specs.machine.{TubeRecord, is_buried, is_delayed, is_name_before, is_ready}
+use Rattle.bq_job.specs.machine.{is_ready_state, is_reserved, is_urgent, raised}
 use Rattle.bq_job.specs.reading.TubeName.{is_same_name}
 use Rattle.bq_jobs.specs.declared.row.{Moved.Moved, Standing.Standing}
 use Rattle.bq_state.specs.{declared.known.Tally.Tally, TubeEntries.has_entry}

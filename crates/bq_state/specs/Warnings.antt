@@ -1,9 +1,11 @@
 -- Which clients wait while they hold a job: they get DEADLINE_SOON when its time to run ends soon.
-use Rattle.std.specs.{List.{AllByRecursion, list_any}, Prelude.{◌&&◌, ◌==◌, ◌||◌, ◌≡◌, if◌then◌else◌, Bool, List, None, Option, Some, ℕ, false, not, true}}
+use Rattle.std.specs.List.{AllByRecursion, list_any}
+use Rattle.std.specs.Prelude.{◌&&◌, ◌==◌, ◌||◌, ◌≡◌, if◌then◌else◌, Bool, List, None, Option, Some, ℕ, false, not, true}
 use Rattle.bq_job.specs.declared.job.{Job.Job, JobState.JobState}
 use Rattle.bq_job.specs.declared.job.JobState.TheVariants as states
 use Rattle.bq_job.specs.machine.{SeatRecord, is_held_by, is_waiting, seat_with}
-use Rattle.bq_state.specs.declared.{known.Warns.{Warns, TheVariants.{Any, Client, Nobody}}, seats.SeatChange.{SeatChange, TheVariants.{Clear, StopWaiting, Wait}}}
+use Rattle.bq_state.specs.declared.known.Warns.{Warns, TheVariants.{Any, Client, Nobody}}
+use Rattle.bq_state.specs.declared.seats.SeatChange.{SeatChange, TheVariants.{Clear, StopWaiting, Wait}}
 
 -- the client at this seat may hold a job while it waits
 abbrev pub may_warn : Warns → ℕ → Bool

@@ -19,8 +19,10 @@ pub returns-clause-reply : goal.returns-clause-reply
 returns-clause-reply c =
     let m = machine_of c.args.state.now in
     closed_connected m c.args.seat (sym c.if-not-is_connected.ensures)
-    ∙ ap (λ (s : JobState). telling answers.Closed (with_seat c.args.seat (seat_changed Clear) (after_giving_back s c.args.seat m))) (sym c.state_once_left-becomes.ensures)
-    ∙ ap (telling answers.Closed) (sym (c.change_seat.ensures.after ∙ ap (with_seat c.args.seat (seat_changed Clear)) c.give_back_all.ensures.after))
+    ∙ ap (λ (s : JobState). telling answers.Closed (with_seat c.args.seat (seat_changed Clear) (after_giving_back s c.args.seat m)))
+    (sym c.state_once_left-becomes.ensures)
+    ∙ ap (telling answers.Closed) (sym (c.change_seat.ensures.after
+    ∙ ap (with_seat c.args.seat (seat_changed Clear)) c.give_back_all.ensures.after))
 
 pub returns-clause-asks : goal.returns-clause-asks
 returns-clause-asks c =

@@ -14,14 +14,19 @@ returns-then-reserve c = c.if-reserve.ensures.given refl
 pub act-requires : goal.act-requires
 act-requires c =
     let same = c.if-reserve.ensures.same refl in
-    record { room = subst (λ (x : Machine). HasRoom 1 x c.reserve.new.outs) (sym same.0) (subst (λ (o : Outbox). HasRoom 1 (machine_of c.args.state.now) o) (sym same.1) c.requires.room) }
+    record {
+      room = subst (λ (x : Machine). HasRoom 1 x c.reserve.new.outs) (sym same.0)
+          (subst (λ (o : Outbox). HasRoom 1 (machine_of c.args.state.now) o) (sym same.1) c.requires.room);
+    }
 
 pub returns : goal.returns
 returns c =
     let same = c.if-reserve.ensures.same refl in
     let left = machine_of c.forget_tubes.new.state in
-    let asks = subst (λ (k : Kept). AsksAsChanged c.reserve.new.state.jobs k) (sym c.forget_tubes.ensures.jobs) (record { stays = c.act.ensures.asks.stays; rise = c.act.ensures.asks.rise }) in
-    let looked = looked_then c.args.state.now.jobs c.reserve.new.state.jobs c.forget_tubes.new.state.jobs same.2 (ap (λ (x : Machine). x.jobs) same.0) asks in
+    let asks = subst (λ (k : Kept). AsksAsChanged c.reserve.new.state.jobs k) (sym c.forget_tubes.ensures.jobs)
+    (record { stays = c.act.ensures.asks.stays; rise = c.act.ensures.asks.rise }) in
+    let looked = looked_then c.args.state.now.jobs c.reserve.new.state.jobs c.forget_tubes.new.state.jobs same.2
+    (ap (λ (x : Machine). x.jobs) same.0) asks in
     let gives = gives_nothing DispatchTurn has_refused_share refl left c.act.new.outs in
     let none = asks_more (length gives.given * (waited left + 9)) (omega arith) (asks_none c.forget_tubes.new.state.jobs) in
     record {
@@ -29,7 +34,9 @@ returns c =
       left = left;
       told = c.act.new.outs;
       comparisons = c.forget_tubes.new.state.jobs.comparisons;
-      acts = subst (λ (x : Machine). Acts x c.args.seat c.args.what.now c.args.outs.now c.act.new.outs (machine_of c.act.new.state)) same.0 (subst (λ (o : Outbox). Acts (machine_of c.reserve.new.state) c.args.seat c.args.what.now o c.act.new.outs (machine_of c.act.new.state)) same.1 c.act.ensures.acts);
+      acts = subst (λ (x : Machine). Acts x c.args.seat c.args.what.now c.args.outs.now c.act.new.outs (machine_of c.act.new.state)) same.0
+          (subst (λ (o : Outbox). Acts (machine_of c.reserve.new.state) c.args.seat c.args.what.now o c.act.new.outs
+          (machine_of c.act.new.state)) same.1 c.act.ensures.acts);
       forgotten = c.forget_tubes.ensures.after;
       turns = gives;
       asks = record { stays = looked.stays; rise = looked.rise };

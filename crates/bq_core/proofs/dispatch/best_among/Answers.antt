@@ -11,8 +11,10 @@ loop-i-preserved c =
     let tubes = c.args.tubes.now.entries in
     let name = c.index-names-i.result in
     record {
-      best = folded_more (with_offer c.args.jobs.now.jobs tubes) c.args.first _ _ name c.loop-i.best _ c.loop-i-test.true c.index-names-i.is was.best
-          (c.better-best.ensures ∙ ap (better_rank c.loop-i.best) (c.offer_of.ensures.offer ∙ ap (λ (k : Kept). offered k.jobs tubes name) was.same));
+      best = folded_more (with_offer c.args.jobs.now.jobs tubes) c.args.first _ _ name c.loop-i.best _ c.loop-i-test.true
+          c.index-names-i.is was.best
+          (c.better-best.ensures ∙ ap (better_rank c.loop-i.best)
+          (c.offer_of.ensures.offer ∙ ap (λ (k : Kept). offered k.jobs tubes name) was.same));
       same = c.offer_of.ensures.same ∙ ap (λ (k : Kept). record k { comparisons = c.offer_of.new.jobs.comparisons }) was.same;
       asks = asks_then was.asks c.offer_of.ensures.asks;
     }

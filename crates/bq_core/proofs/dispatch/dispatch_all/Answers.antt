@@ -2,7 +2,9 @@ use Rattle.std.proofs.{Common.{◌-◌, ap, arith, length, refl}, lemmas.Grind.c
 use Rattle.bq_job.specs.machine.{DispatchTurn, has_refused_share}
 use Rattle.bq_steps.specs.Outbox.{Outbox}
 use Rattle.bq_state.specs.{CoreParts.machine_of, Cost.{waited, waited_tubes}}
-use Rattle.bq_core.proofs.{AskLemmas.{asks_more, asks_none, asks_then}, CostLemmas.{handed_stop, no_shorter, one_longer, one_more_turn, waited_less}, TurnLemmas.{gives_joined, gives_nothing, refused_joined, room_kept}}
+use Rattle.bq_core.proofs.AskLemmas.{asks_more, asks_none, asks_then}
+use Rattle.bq_core.proofs.CostLemmas.{handed_stop, no_shorter, one_longer, one_more_turn, waited_less}
+use Rattle.bq_core.proofs.TurnLemmas.{gives_joined, gives_nothing, refused_joined, room_kept}
 use Rattle.bq_core.proofs.dispatch.dispatch_all.Goals as goal
 
 pub loop-init : goal.loop-init
@@ -16,11 +18,13 @@ loop-preserved c =
     let so_far = machine_of c.loop.state in
     let waits = handed_stop waited_tubes waited_less first was.given.given so_far was.given.turns in
     let before = no_shorter DispatchTurn has_refused_share first so_far c.args.outs.now c.loop.outs was.given in
-    let longer = one_longer DispatchTurn has_refused_share so_far (machine_of c.turn.new.state) c.loop.outs c.turn.new.outs given (c.loop-test.ensures.fewer refl) in
+    let longer = one_longer DispatchTurn has_refused_share so_far (machine_of c.turn.new.state) c.loop.outs c.turn.new.outs given
+    (c.loop-test.ensures.fewer refl) in
     record {
       given = gives_joined DispatchTurn has_refused_share refused_joined _ _ _ _ _ _ was.given given;
       asks = asks_more _
-          (one_more_turn (length c.loop.outs.given - length c.args.outs.now.given) (length c.turn.new.outs.given - length c.args.outs.now.given) (waited first) (waited so_far) (omega arith) waits)
+          (one_more_turn (length c.loop.outs.given - length c.args.outs.now.given)
+          (length c.turn.new.outs.given - length c.args.outs.now.given) (waited first) (waited so_far) (omega arith) waits)
           (asks_then was.asks c.loop-test.ensures.asks);
       room = room_kept DispatchTurn has_refused_share 0 so_far (machine_of c.turn.new.state) c.loop.outs c.turn.new.outs given was.room;
     }

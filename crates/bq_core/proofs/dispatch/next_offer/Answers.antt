@@ -4,9 +4,11 @@ use Rattle.bq_job.specs.machine.{is_job_before, is_paused, is_ready_in, is_waiti
 use Rattle.bq_job.proofs.{ChoiceLemmas.first_of_none_passes, ListLemmas.{all_always, list_any_not}}
 use Rattle.bq_jobs.specs.Kept.{ranked}
 use Rattle.bq_state.specs.declared.{core_parts.CoreParts.CoreParts, known.Stir.{Stir, TheVariants.Nothing}}
-use Rattle.bq_state.specs.{CoreParts.machine_of, Crowds.is_waiter, Offers.{is_waited_at, next_rank, offered, these, with_offers}, Stirs.AreKnown}
+use Rattle.bq_state.specs.{CoreParts.machine_of, Crowds.is_waiter}
+use Rattle.bq_state.specs.{Offers.{is_waited_at, next_rank, offered, these, with_offers}, Stirs.AreKnown}
 use Rattle.bq_state.proofs.{ClientLemmas.some_pass, CrowdPlaces.crowd_there, StirLemmas.none_known, TubeLemmas.paused_is}
-use Rattle.bq_core.proofs.{AskLemmas.asks_more, DispatchLemmas.{next_offer, offered_is}, SearchLemmas.{client_entries, client_waits, rank_agrees, tube_entries, tube_waits}}
+use Rattle.bq_core.proofs.{AskLemmas.asks_more, DispatchLemmas.{next_offer, offered_is}}
+use Rattle.bq_core.proofs.SearchLemmas.{client_entries, client_waits, rank_agrees, tube_entries, tube_waits}
 use Rattle.bq_core.proofs.dispatch.next_offer.Goals as goal
 use Rattle.std.proofs.lemmas.Grind.{common_steps}
 
@@ -26,19 +28,22 @@ returns-in-Tube-clause-next c =
     c.offer_to.ensures.offer ∙ go (is_waited_at c.in-Tube.name st.tubes) (sym (counted_there c.in-Tube.name st))
   where
     go : (w : Bool) → list_any (is_waiter c.in-Tube.name) (machine_of c.args.state.now).seats ≡ w
-        → (if w then offered c.args.state.now.jobs.jobs c.args.state.now.tubes.entries c.in-Tube.name else None) ≡ next_rank (machine_of c.args.state.now)
+        → (if w then offered c.args.state.now.jobs.jobs c.args.state.now.tubes.entries c.in-Tube.name else None) ≡ next_rank
+        (machine_of c.args.state.now)
     go false e =
         let m = machine_of c.args.state.now in
         let known = subst (λ (f : Stir). AreKnown f m.jobs m.seats m.tubes) c.in-Tube.is c.args.state.now.sound.known.stirs in
         sym
         (rank_agrees m (λ j. false) (tube_waits m c.in-Tube.name false e known)
-        ∙ ap (option_map (ranked (λ j. j.pri))) (first_of_none_passes (λ j. false) is_job_before m.jobs (list_any_not (λ j. false) m.jobs (all_always (λ j. false ≡ false) m.jobs (λ j. refl)))))
+        ∙ ap (option_map (ranked (λ j. j.pri))) (first_of_none_passes (λ j. false) is_job_before m.jobs
+        (list_any_not (λ j. false) m.jobs (all_always (λ j. false ≡ false) m.jobs (λ j. refl)))))
     go true e =
         let st = c.args.state.now in
         let m = machine_of st in
         let name = c.in-Tube.name in
         let known = subst (λ (f : Stir). AreKnown f m.jobs m.seats m.tubes) c.in-Tube.is c.args.state.now.sound.known.stirs in
-        offered_is m.next_id m.jobs c.args.state.now.sound.ids st.tubes.entries (λ n. is_paused n m) (λ n. sym (paused_is n st.tubes.entries c.args.state.now.sound.entries.order c.args.state.now.sound.entries.fresh)) name
+        offered_is m.next_id m.jobs c.args.state.now.sound.ids st.tubes.entries (λ n. is_paused n m)
+        (λ n. sym (paused_is n st.tubes.entries c.args.state.now.sound.entries.order c.args.state.now.sound.entries.fresh)) name
         ∙ sym (rank_agrees m (λ j. is_ready_in name j && not (is_paused name m)) (tube_waits m name true e known))
 
 pub returns-in-Tube-clause-kept : goal.returns-in-Tube-clause-kept
@@ -51,9 +56,13 @@ returns-in-Client-clause-next c =
     let o = seat_with c.in-Client.seat m.seats in
     let known = subst (λ (f : Stir). AreKnown f m.jobs m.seats m.tubes) c.in-Client.is c.args.state.now.sound.known.stirs in
     c.best_of_client.ensures.best
-    ∙ ap (λ seats. fold (with_offers st.jobs.jobs st.tubes.entries) None (these (seat_with c.in-Client.seat seats))) c.as_slice.ensures.value
-    ∙ next_offer m.next_id m.jobs c.args.state.now.sound.ids st.tubes.entries (λ name. is_paused name m) (λ name. sym (paused_is name st.tubes.entries c.args.state.now.sound.entries.order c.args.state.now.sound.entries.fresh)) m (λ name. refl) (these o)
-    ∙ sym (rank_agrees m (λ j. list_any (is_waiting_for m j) (these o)) (client_waits m c.in-Client.seat o c.args.state.now.sound.numbered refl known))
+    ∙ ap (λ seats. fold (with_offers st.jobs.jobs st.tubes.entries) None (these (seat_with c.in-Client.seat seats)))
+    c.as_slice.ensures.value
+    ∙ next_offer m.next_id m.jobs c.args.state.now.sound.ids st.tubes.entries (λ name. is_paused name m)
+    (λ name. sym (paused_is name st.tubes.entries c.args.state.now.sound.entries.order c.args.state.now.sound.entries.fresh)) m
+    (λ name. refl) (these o)
+    ∙ sym (rank_agrees m (λ j. list_any (is_waiting_for m j) (these o))
+    (client_waits m c.in-Client.seat o c.args.state.now.sound.numbered refl known))
 
 pub returns-in-Client-clause-kept : goal.returns-in-Client-clause-kept
 returns-in-Client-clause-kept c = grind (arith, common_steps, client_entries, asks_more)
@@ -64,4 +73,6 @@ returns-in-Any-clause-next c =
     let m = machine_of st in
     c.best_offer.ensures.best
     ∙ ap (fold (with_offers st.jobs.jobs st.tubes.entries) None) c.as_slice-in-Any.ensures.value
-    ∙ next_offer m.next_id m.jobs c.args.state.now.sound.ids st.tubes.entries (λ name. is_paused name m) (λ name. sym (paused_is name st.tubes.entries c.args.state.now.sound.entries.order c.args.state.now.sound.entries.fresh)) m (λ name. refl) m.seats
+    ∙ next_offer m.next_id m.jobs c.args.state.now.sound.ids st.tubes.entries (λ name. is_paused name m)
+    (λ name. sym (paused_is name st.tubes.entries c.args.state.now.sound.entries.order c.args.state.now.sound.entries.fresh)) m
+    (λ name. refl) m.seats

@@ -2,7 +2,8 @@ use Rattle.std.proofs.{Common.{◌∙◌, ◌≡◌, Some, ap, sym}, lemmas.Resu
 use Rattle.std.specs.Prelude.{is_some, option_map}
 use Rattle.bq_job.specs.{declared.job.Job.Job, machine.{SeatRecord, job_with}}
 use Rattle.bq_state.specs.CoreParts.{machine_of}
-use Rattle.bq_core.proofs.{ActLemmas.{none_there, some_there}, DispatchLemmas.{next_is, next_there, seat_at_tube, some_at_tube, taker_known, takers_known}}
+use Rattle.bq_core.proofs.ActLemmas.{none_there, some_there}
+use Rattle.bq_core.proofs.DispatchLemmas.{next_is, next_there, seat_at_tube, some_at_tube, taker_known, takers_known}
 use Rattle.bq_core.proofs.dispatch.pick.Goals as goal
 
 pub returns-in_err-shared-in-Client-clause-some : goal.returns-in_err-shared-in-Client-clause-some
@@ -15,7 +16,8 @@ pub returns-in_ok-shared-in-Client-clause-picked : goal.returns-in_ok-shared-in-
 returns-in_ok-shared-in-Client-clause-picked c j is =
     let m = machine_of c.args.state.now in
     let stir = c.args.state.now.known.stir in
-    let known = taker_known c.in-Client.seat stir j.tube m.seats c.in-Client.is (some_at_tube m j is) (takers_known m stir j is c.args.state.now.sound.known.stirs) in
+    let known = taker_known c.in-Client.seat stir j.tube m.seats c.in-Client.is (some_at_tube m j is)
+    (takers_known m stir j is c.args.state.now.sound.known.stirs) in
     known ∙ ap (option_map (λ (s : SeatRecord). s.number)) (seat_at_tube m j is)
 
 pub returns-in_ok-shared-in-Client-clause-share : goal.returns-in_ok-shared-in-Client-clause-share
@@ -24,4 +26,6 @@ returns-in_ok-shared-in-Client-clause-share c =
     let there = some_there (job_with c.args.id m.jobs) (sym c.in_ok-shared-in-Client.ensures.none) in
     let x = there.0 in
     let next = next_is m c.args.id x c.args.state.now.sound.ids c.requires.next there.1 in
-    IfOk-weaker c.in_ok-shared-in-Client.shared _ _ (λ body h j is. let two : Some x ≡ Some j = sym next ∙ is in let same : x ≡ j = (cc) in h x there.1 ∙ ap (λ (k : Job). k.body) same) c.in_ok-shared-in-Client.ensures.body
+    IfOk-weaker c.in_ok-shared-in-Client.shared _ _
+    (λ body h j is. let two : Some x ≡ Some j = sym next ∙ is in let same : x ≡ j = (cc) in
+    h x there.1 ∙ ap (λ (k : Job). k.body) same) c.in_ok-shared-in-Client.ensures.body

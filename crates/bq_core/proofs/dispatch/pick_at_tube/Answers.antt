@@ -21,10 +21,13 @@ returns-in_err-seat-clause-some c =
     let seat = next_has_seat m x next in
     let none : None ≡ option_map (λ (s : SeatRecord). s.number) (next_seat m x) =
     c.in_err-seat.ensures
-    ∙ ap (λ seats. option_map (λ (s : SeatRecord). s.number) (first_of (waits_at c.in_ok-tube.tube) is_wait_before seats)) c.as_slice.ensures.value
-    ∙ ap (λ t. option_map (λ (s : SeatRecord). s.number) (first_of (waits_at t) is_wait_before m.seats)) (c.in_ok-tube.ensures.tube x there.1)
+    ∙ ap (λ seats. option_map (λ (s : SeatRecord). s.number) (first_of (waits_at c.in_ok-tube.tube) is_wait_before seats))
+    c.as_slice.ensures.value
+    ∙ ap (λ t. option_map (λ (s : SeatRecord). s.number) (first_of (waits_at t) is_wait_before m.seats))
+    (c.in_ok-tube.ensures.tube x there.1)
     ∙ ap (option_map (λ (s : SeatRecord). s.number)) (seat_at_tube m x next) in
-    let some : option_map (λ (s : SeatRecord). s.number) (next_seat m x) ≡ Some seat.0.number = ap (option_map (λ (s : SeatRecord). s.number)) seat.1 in
+    let some : option_map (λ (s : SeatRecord). s.number) (next_seat m x) ≡ Some seat.0.number =
+    ap (option_map (λ (s : SeatRecord). s.number)) seat.1 in
     absurd (let e = none ∙ some in cc)
 
 pub returns-clause-picked : goal.returns-clause-picked
@@ -35,8 +38,10 @@ returns-clause-picked c j is =
     let next = next_is m c.args.id x c.args.state.now.sound.ids c.requires.next there.1 in
     let same : x ≡ j = (let two : Some x ≡ Some j = sym next ∙ is in cc) in
     c.in_ok-seat.ensures
-    ∙ ap (λ seats. option_map (λ (s : SeatRecord). s.number) (first_of (waits_at c.in_ok-tube.tube) is_wait_before seats)) c.as_slice.ensures.value
-    ∙ ap (λ t. option_map (λ (s : SeatRecord). s.number) (first_of (waits_at t) is_wait_before m.seats)) (c.in_ok-tube.ensures.tube x there.1)
+    ∙ ap (λ seats. option_map (λ (s : SeatRecord). s.number) (first_of (waits_at c.in_ok-tube.tube) is_wait_before seats))
+    c.as_slice.ensures.value
+    ∙ ap (λ t. option_map (λ (s : SeatRecord). s.number) (first_of (waits_at t) is_wait_before m.seats))
+    (c.in_ok-tube.ensures.tube x there.1)
     ∙ ap (option_map (λ (s : SeatRecord). s.number)) (seat_at_tube m x next)
     ∙ ap (λ k. option_map (λ (s : SeatRecord). s.number) (next_seat m k)) same
 
@@ -46,4 +51,5 @@ returns-clause-share c =
     let there = some_there (job_with c.args.id m.jobs) (sym c.in_ok-tube.ensures.none) in
     let x = there.0 in
     let next = next_is m c.args.id x c.args.state.now.sound.ids c.requires.next there.1 in
-    IfOk-weaker c.in_ok-tube.shared _ _ (λ body h j is. let two : Some x ≡ Some j = sym next ∙ is in let same : x ≡ j = (cc) in h x there.1 ∙ ap (λ (k : Job). k.body) same) c.in_ok-tube.ensures.body
+    IfOk-weaker c.in_ok-tube.shared _ _ (λ body h j is. let two : Some x ≡ Some j = sym next ∙ is in let same : x ≡ j = (cc) in
+    h x there.1 ∙ ap (λ (k : Job). k.body) same) c.in_ok-tube.ensures.body

@@ -11,8 +11,17 @@ returns-then-not-has_waiter-clause-done c _ = (no_next_job (machine_of c.args.st
 pub hand_out-requires : goal.hand_out-requires
 hand_out-requires c =
     let number = c.in-Some-pick.number in
-    let picked = subst (λ (x : Machine). (j : Job) → next_job x ≡ Some j → Some number ≡ option_map (λ (s : SeatRecord). s.number) (next_seat x j)) (ap machine_held c.in-Some.ensures.kept.same) c.in-Some-pick.ensures.picked in
-    record { room = omega (arith, somebody_waits (machine_of c.args.state.now) c.in-Some.id c.in-Some.ensures.id number picked, c.requires.room) }
+    let picked = subst (λ (x : Machine). (j : Job) → next_job x ≡ Some j
+    → Some number ≡ option_map (λ (s : SeatRecord). s.number) (next_seat x j))
+    (ap machine_held c.in-Some.ensures.kept.same) c.in-Some-pick.ensures.picked in
+    record {
+      room = omega (
+        arith,
+        somebody_waits
+            (machine_of c.args.state.now) c.in-Some.id c.in-Some.ensures.id number picked,
+        c.requires.room,
+      );
+    }
 
 pub returns-clause-given : goal.returns-clause-given
 returns-clause-given c _ =
@@ -20,10 +29,14 @@ returns-clause-given c _ =
     let shared = c.in-Some-pick.shared in
     let first = ap machine_held c.in-Some.ensures.kept.same in
     let second = ap machine_held c.in-Some-pick.ensures.kept.same in
-    let picked = subst (λ (x : Machine). (j : Job) → next_job x ≡ Some j → Some number ≡ option_map (λ (s : SeatRecord). s.number) (next_seat x j)) first c.in-Some-pick.ensures.picked in
-    let body = subst (λ (x : Machine). IfOk shared (λ body. (j : Job) → next_job x ≡ Some j → body ≡ j.body)) first c.in-Some-pick.ensures.share in
-    turn_given (machine_of c.args.state.now) c.in-Some.id c.in-Some.ensures.id number picked shared body c.args.outs.now c.hand_out.new.outs (machine_of c.hand_out.new.state)
-    (subst (λ (x : Machine). HandsOut x c.in-Some.id number shared c.args.outs.now c.hand_out.new.outs (machine_of c.hand_out.new.state)) (second ∙ first) c.hand_out.ensures.given)
+    let picked = subst (λ (x : Machine). (j : Job) → next_job x ≡ Some j
+    → Some number ≡ option_map (λ (s : SeatRecord). s.number) (next_seat x j)) first c.in-Some-pick.ensures.picked in
+    let body = subst (λ (x : Machine). IfOk shared (λ body. (j : Job) → next_job x ≡ Some j → body ≡ j.body)) first
+    c.in-Some-pick.ensures.share in
+    turn_given (machine_of c.args.state.now) c.in-Some.id c.in-Some.ensures.id number picked shared body c.args.outs.now c.hand_out.new.outs
+    (machine_of c.hand_out.new.state)
+    (subst (λ (x : Machine). HandsOut x c.in-Some.id number shared c.args.outs.now c.hand_out.new.outs (machine_of c.hand_out.new.state))
+    (second ∙ first) c.hand_out.ensures.given)
 
 pub returns-clause-fewer : goal.returns-clause-fewer
 returns-clause-fewer c _ =
@@ -31,7 +44,11 @@ returns-clause-fewer c _ =
     let shared = c.in-Some-pick.shared in
     let first = ap machine_held c.in-Some.ensures.kept.same in
     let second = ap machine_held c.in-Some-pick.ensures.kept.same in
-    let picked = subst (λ (x : Machine). (j : Job) → next_job x ≡ Some j → Some number ≡ option_map (λ (s : SeatRecord). s.number) (next_seat x j)) first c.in-Some-pick.ensures.picked in
-    let body = subst (λ (x : Machine). IfOk shared (λ body. (j : Job) → next_job x ≡ Some j → body ≡ j.body)) first c.in-Some-pick.ensures.share in
-    turn_falls (machine_of c.args.state.now) c.in-Some.id c.in-Some.ensures.id number picked shared body c.args.outs.now c.hand_out.new.outs (machine_of c.hand_out.new.state)
-    (subst (λ (x : Machine). HandsOut x c.in-Some.id number shared c.args.outs.now c.hand_out.new.outs (machine_of c.hand_out.new.state)) (second ∙ first) c.hand_out.ensures.given)
+    let picked = subst (λ (x : Machine). (j : Job) → next_job x ≡ Some j
+    → Some number ≡ option_map (λ (s : SeatRecord). s.number) (next_seat x j)) first c.in-Some-pick.ensures.picked in
+    let body = subst (λ (x : Machine). IfOk shared (λ body. (j : Job) → next_job x ≡ Some j → body ≡ j.body)) first
+    c.in-Some-pick.ensures.share in
+    turn_falls (machine_of c.args.state.now) c.in-Some.id c.in-Some.ensures.id number picked shared body c.args.outs.now c.hand_out.new.outs
+    (machine_of c.hand_out.new.state)
+    (subst (λ (x : Machine). HandsOut x c.in-Some.id number shared c.args.outs.now c.hand_out.new.outs (machine_of c.hand_out.new.state))
+    (second ∙ first) c.hand_out.ensures.given)

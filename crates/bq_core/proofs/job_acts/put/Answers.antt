@@ -1,7 +1,8 @@
 use Rattle.std.proofs.Common.{◌++◌, ◌+◌, ◌==◌, ◌∙◌, ◌∷◌, ◌≡◌, Some, [], ap, arith, subst, sym}
 use Rattle.bq_job.specs.declared.job.Job.{Job}
 use Rattle.bq_job.specs.declared.answer.Answer.TheVariants as answers
-use Rattle.bq_job.specs.{beside.AreIdsWithin, machine.{SeatRecord, job_with, new_job, seat_with, telling, with_put, with_tube, Machine.Machine}}
+use Rattle.bq_job.specs.{beside.AreIdsWithin}
+use Rattle.bq_job.specs.machine.{SeatRecord, job_with, new_job, seat_with, telling, with_put, with_tube, Machine.Machine}
 use Rattle.bq_job.proofs.ListLemmas.{all_at, found_passes}
 use Rattle.bq_jobs.specs.Kept.{Kept, with_added}
 use Rattle.bq_state.specs.{Asking.Asks, CoreParts.{Held, machine_of}, TubeEntries.{HasTubes, has_entry}}
@@ -35,7 +36,8 @@ pub add-requires-clause-entry : goal.add-requires-clause-entry
 add-requires-clause-entry c =
     let st = c.args.state.now in
     let s = c.in-Some.client.now in
-    let found : seat_with c.args.seat st.seats.items ≡ Some s = ap (seat_with c.args.seat) (sym c.as_slice.ensures.value) ∙ sym c.in-Some.ensures in
+    let found : seat_with c.args.seat st.seats.items ≡ Some s =
+    ap (seat_with c.args.seat) (sym c.as_slice.ensures.value) ∙ sym c.in-Some.ensures in
     let connected = asker_connected c.args.seat st.seats.items s found c.requires.asks in
     let here = found_passes (λ s. s.number == c.args.seat) st.seats.items s found in
     let has : HasTubes st.tubes.entries s = all_at (HasTubes st.tubes.entries) st.seats.items s st.sound.entries.of_seats here.1 in
@@ -49,7 +51,8 @@ returns-clause-reply c s found =
     let m = machine_of c.args.state.now in
     let tube = c.used.result.now in
     let job = c.new_job-job.result in
-    let here : seat_with c.args.seat m.seats ≡ Some c.in-Some.client.now = ap (seat_with c.args.seat) (sym c.as_slice.ensures.value) ∙ sym c.in-Some.ensures in
+    let here : seat_with c.args.seat m.seats ≡ Some c.in-Some.client.now =
+    ap (seat_with c.args.seat) (sym c.as_slice.ensures.value) ∙ sym c.in-Some.ensures in
     let same : c.in-Some.client.now ≡ s = cc in
     let used : s.used ≡ tube = sym (c.used.ensures ∙ ap (λ (r : SeatRecord). r.used) same) in
     let body : c.in-Ok.shared ≡ c.args.body.now = c.in-Ok.ensures in
@@ -57,8 +60,10 @@ returns-clause-reply c s found =
     c.new_job-job.ensures s used ∙ ap (λ b. new_job m s c.args.new.pri c.args.new.delay c.args.new.ttr b) body in
     let at : job.tube ≡ tube = ap (λ (j : Job). j.tube) is ∙ used in
     let id : job.id ≡ m.next_id = ap (λ (j : Job). j.id) is in
-    let given : machine_of c.count_put.new.state ≡ after_given m = c.count_put.ensures.after ∙ ap after_given c.in-Ok-make_room.ensures.after in
-    let last : with_added job m.jobs ≡ m.jobs ++ job ∷ [] = c.adds_at_the_end.ensures 1 m.jobs job (subst (AreIdsWithin 1 m.jobs) (sym id) c.args.state.now.sound.ids) in
+    let given : machine_of c.count_put.new.state ≡ after_given m =
+    c.count_put.ensures.after ∙ ap after_given c.in-Ok-make_room.ensures.after in
+    let last : with_added job m.jobs ≡ m.jobs ++ job ∷ [] =
+    c.adds_at_the_end.ensures 1 m.jobs job (subst (AreIdsWithin 1 m.jobs) (sym id) c.args.state.now.sound.ids) in
     let done : machine_of c.add.new.state ≡ record (after_given (with_tube tube with_put m)) { jobs = m.jobs ++ job ∷ [] } =
     c.add.ensures.after ∙ ap (λ (x : Machine). record (with_tube job.tube with_put x) { jobs = with_added job x.jobs }) given
     ∙ ap (λ n. record (with_tube n with_put (after_given m)) { jobs = with_added job m.jobs }) at
@@ -70,4 +75,5 @@ returns-clause-reply c s found =
 pub returns-clause-asks : goal.returns-clause-asks
 returns-clause-asks c =
     let same : c.count_put.new.state.jobs ≡ c.make_room.new.state.jobs = ap (λ (h : Held). h.jobs) c.count_put.ensures.same in
-    asked_before 0 4 (omega arith) (subst (λ (k : Kept). Asks 0 c.args.state.now.jobs k) (sym same) c.in-Ok-make_room.ensures.asks) c.add.ensures.asks
+    asked_before 0 4 (omega arith) (subst (λ (k : Kept). Asks 0 c.args.state.now.jobs k)
+    (sym same) c.in-Ok-make_room.ensures.asks) c.add.ensures.asks

@@ -18,7 +18,8 @@ returns-clause-reply c s at =
     let told = if_ok c.in-Some.shared c.in-Ok.body _ c.in-Ok.is c.in-Some.ensures.share in
     let body : c.in-Ok.body ≡ j.body = told j (ap (λ (x : Machine). job_with id x.jobs) first ∙ there.1) in
     let free : is_reserved j.state ≡ false = not-true (is_reserved j.state) there.2 in
-    let done : machine_of c.change_job.new.state ≡ with_job id (reserved_by m.moment seat) m = c.change_job.ensures.after ∙ ap (λ (x : Machine). with_job id (reserved_by x.moment seat) x) second in
+    let done : machine_of c.change_job.new.state ≡ with_job id (reserved_by m.moment seat) m =
+    c.change_job.ensures.after ∙ ap (λ (x : Machine). with_job id (reserved_by x.moment seat) x) second in
     reserve_job_done m s seat id j at there.1 free
     ∙ ap (λ b. telling (answers.Reserved id b) (with_job id (reserved_by m.moment seat) m)) (sym body)
     ∙ ap (telling (answers.Reserved id c.in-Ok.body)) (sym done)

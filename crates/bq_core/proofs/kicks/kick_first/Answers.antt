@@ -12,10 +12,12 @@ returns-in_default-clause-none c _ = grind (arith, common_steps, none_of_kind, n
 pub returns-clause-kicked : goal.returns-clause-kicked
 returns-clause-kicked c _ =
     let m = machine_of c.args.state.now in
-    let one = chosen (is_of c.args.kind c.args.tube.now) (is_before_of c.args.kind) 1 m.next_id m.jobs c.in-Some.id c.args.state.now.sound.ids c.in-Some.ensures.id in
+    let one = chosen (is_of c.args.kind c.args.tube.now)
+    (is_before_of c.args.kind) 1 m.next_id m.jobs c.in-Some.id c.args.state.now.sound.ids c.in-Some.ensures.id in
     let jobs : (machine_of c.change_job.new.state).jobs ≡ map (λ k. if k.id == one.job.id then kicked k else k) m.jobs =
     ap (λ (x : Machine). x.jobs) c.change_job.ensures.after
-    ∙ ap (λ (x : Machine). map (λ (k : Job). if k.id == c.in-Some.id then kicked k else k) x.jobs) (ap machine_held c.in-Some.ensures.kept.same)
+    ∙ ap (λ (x : Machine). map (λ (k : Job). if k.id == c.in-Some.id then kicked k else k) x.jobs)
+    (ap machine_held c.in-Some.ensures.kept.same)
     ∙ ap (λ n. map (λ (k : Job). if k.id == n then kicked k else k) m.jobs) one.id_is in
     subst (KicksFirst c.args.kind c.args.tube.now m.jobs) (sym jobs)
     (kicks_first c.args.kind c.args.tube.now 1 m.next_id m.jobs one.job c.requires.out c.args.state.now.sound.ids one.first)
@@ -30,6 +32,8 @@ returns-clause-fewer c _ =
     let one = chosen p (is_before_of c.args.kind) 1 m.next_id m.jobs c.in-Some.id c.args.state.now.sound.ids c.in-Some.ensures.id in
     let jobs : (machine_of c.change_job.new.state).jobs ≡ map (λ k. if k.id == c.in-Some.id then kicked k else k) m.jobs =
     ap (λ (x : Machine). x.jobs) c.change_job.ensures.after
-    ∙ ap (λ (x : Machine). map (λ (k : Job). if k.id == c.in-Some.id then kicked k else k) x.jobs) (ap machine_held c.in-Some.ensures.kept.same) in
-    let fewer = one_fewer p kicked c.in-Some.id 1 m.next_id m.jobs one.job c.args.state.now.sound.ids one.found one.passes_is (c.requires.out one.job) in
+    ∙ ap (λ (x : Machine). map (λ (k : Job). if k.id == c.in-Some.id then kicked k else k) x.jobs)
+    (ap machine_held c.in-Some.ensures.kept.same) in
+    let fewer = one_fewer p kicked c.in-Some.id 1 m.next_id m.jobs one.job c.args.state.now.sound.ids one.found one.passes_is
+    (c.requires.out one.job) in
     omega (arith, fewer, ap (count_by p) jobs)

@@ -8,7 +8,10 @@ use Rattle.bq_core.proofs.CostLemmas.{kicked_changed}
 use Rattle.bq_core.proofs.kicks.kick_in.Goals as goal
 
 pub invariant_of-state : goal.invariant_of-state
-invariant_of-state c = record { sound = compared_sound c.args.state.now _ c.kind_to_kick-kind.ensures.same; numbered = compared_numbered c.args.state.now _ c.kind_to_kick-kind.ensures.same }
+invariant_of-state c = record {
+  sound = compared_sound c.args.state.now _ c.kind_to_kick-kind.ensures.same;
+  numbered = compared_numbered c.args.state.now _ c.kind_to_kick-kind.ensures.same;
+}
 
 pub returns-clause-kicked : goal.returns-clause-kicked
 returns-clause-kicked c = grind (arith, common_steps)
@@ -24,7 +27,9 @@ returns-clause-changed c =
     let tube = c.args.tube.now in
     let same : c.kind_to_kick-kind.new.jobs.jobs ≡ m.jobs = ap (λ (k : Kept). k.jobs) c.kind_to_kick-kind.ensures.same in
     let chosen = take c.args.bound (jobs_of kind tube c.kind_to_kick-kind.new.jobs.jobs) in
-    let made : c.kick_some.new.state.jobs.jobs ≡ all_kicked chosen m.jobs = ap (λ (x : Machine). x.jobs) c.kick_some.ensures.kicked ∙ ap (all_kicked chosen) same in
+    let made : c.kick_some.new.state.jobs.jobs ≡ all_kicked chosen m.jobs =
+    ap (λ (x : Machine). x.jobs) c.kick_some.ensures.kicked ∙ ap (all_kicked chosen) same in
     let fewer = c.kick_some.ensures.fewer in
-    rw made (kicked_changed kind tube c.kind_to_kick-kind.ensures.out chosen 1 m.next_id c.kick_some.result m.jobs c.args.state.now.sound.ids
+    rw made (kicked_changed kind tube c.kind_to_kick-kind.ensures.out chosen 1 m.next_id c.kick_some.result m.jobs
+    c.args.state.now.sound.ids
     (omega (arith, ap (count_by (is_of kind tube)) made, ap (count_by (is_of kind tube)) same)))

@@ -21,7 +21,9 @@ loop-done-preserved c =
       count = λ n. ap (λ k. length (take k first)) (one_on d n) ∙ was.count (suc n) ∙ (let e = one.count n in omega (arith, e));
       others = c.kick_first.ensures.others ∙ ap (λ (x : Machine). record x { jobs = (machine_of c.kick_first.new.state).jobs }) was.others;
       fewer = (let few = was.fewer in let falls = c.kick_first.ensures.fewer c.if-not-kick_first.false in omega arith);
-      asks = asks_more _ (omega arith) (asks_then was.asks (subst (λ b. Asks (if b then 9 else 1) c.loop-done.state.jobs c.kick_first.new.state.jobs) c.if-not-kick_first.false c.kick_first.ensures.asks));
+      asks = asks_more _ (omega arith) (asks_then was.asks
+          (subst (λ b. Asks (if b then 9 else 1) c.loop-done.state.jobs c.kick_first.new.state.jobs) c.if-not-kick_first.false
+          c.kick_first.ensures.asks));
     }
 
 pub returns-then-not-kick_first-clause-kicked : goal.returns-then-not-kick_first-clause-kicked
@@ -36,7 +38,8 @@ returns-clause-kicked c =
     let d = c.loop-done.done in
     let jobs = (machine_of c.loop-done.state).jobs in
     let whole : c.args.bound ≡ d + 0 = omega arith in
-    let kicked : all_kicked (take c.args.bound first) start ≡ jobs = ap (λ k. all_kicked (take k first) start) whole ∙ was.kicked 0 ∙ none_kicked jobs in
+    let kicked : all_kicked (take c.args.bound first) start ≡ jobs =
+    ap (λ k. all_kicked (take k first) start) whole ∙ was.kicked 0 ∙ none_kicked jobs in
     was.others ∙ ap (λ js. record m { jobs = js }) (sym kicked)
 
 pub returns-then-not-kick_first-clause-fewer : goal.returns-then-not-kick_first-clause-fewer

@@ -6,8 +6,10 @@ use Rattle.bq_core.proofs.kicks.kick_some.Given as goal
 
 abbrev pub invariant-loop-done : goal.invariant-loop-done
 invariant-loop-done l = record {
-  kicked : (n : ℕ) → all_kicked (take (l.done + n) (jobs_of l.kind l.tube (machine_of l.fn.state).jobs)) (machine_of l.fn.state).jobs ≡ all_kicked (take n (jobs_of l.kind l.tube (machine_of l.state).jobs)) (machine_of l.state).jobs;
-  count : (n : ℕ) → length (take (l.done + n) (jobs_of l.kind l.tube (machine_of l.fn.state).jobs)) ≡ l.done + length (take n (jobs_of l.kind l.tube (machine_of l.state).jobs));
+  kicked : (n : ℕ) → all_kicked (take (l.done + n) (jobs_of l.kind l.tube (machine_of l.fn.state).jobs))
+      (machine_of l.fn.state).jobs ≡ all_kicked (take n (jobs_of l.kind l.tube (machine_of l.state).jobs)) (machine_of l.state).jobs;
+  count : (n : ℕ) → length (take (l.done + n) (jobs_of l.kind l.tube (machine_of l.fn.state).jobs)) ≡ l.done + length
+      (take n (jobs_of l.kind l.tube (machine_of l.state).jobs));
   others : machine_of l.state ≡ record (machine_of l.fn.state) { jobs = (machine_of l.state).jobs };
   fewer : count_by (is_of l.kind l.tube) (machine_of l.state).jobs + l.done ≤ count_by (is_of l.kind l.tube) (machine_of l.fn.state).jobs;
   asks : Asks (9 * l.done) l.fn.state.jobs l.state.jobs;

@@ -12,7 +12,8 @@ pub loop-preserved : goal.loop-preserved
 loop-preserved c =
     let was = c.loop.invariant in
     let at : c.loop.state.moment ≡ c.args.state.now.moment = ap (λ (x : Machine). x.moment) was.left in
-    let falls = subst (λ t. count_by (is_ripe t) (machine_of c.fire_one.new.state).jobs < count_by (is_ripe t) (machine_of c.loop.state).jobs) at (c.loop-test.ensures.fewer refl) in
+    let falls = subst (λ t. count_by (is_ripe t) (machine_of c.fire_one.new.state).jobs < count_by (is_ripe t)
+    (machine_of c.loop.state).jobs) at (c.loop-test.ensures.fewer refl) in
     let most = was.fewer in
     record {
       left = c.loop-test.ensures.fired ∙ was.left;

@@ -7,8 +7,11 @@ use Rattle.bq_core.proofs.timers.fire_jobs.Given as goal
 abbrev pub invariant-loop : goal.invariant-loop
 invariant-loop l = record {
   left : after_job_timers (machine_of l.state) ≡ after_job_timers (machine_of l.fn.state);
-  asks : Asks (10 * (count_by (is_ripe l.fn.state.moment) (machine_of l.fn.state).jobs - count_by (is_ripe l.fn.state.moment) (machine_of l.state).jobs)) l.fn.state.jobs l.state.jobs;
-  fewer : count_by (is_ripe l.fn.state.moment) (machine_of l.state).jobs ≤ count_by (is_ripe l.fn.state.moment) (machine_of l.fn.state).jobs;
+  asks : Asks
+      (10 * (count_by (is_ripe l.fn.state.moment) (machine_of l.fn.state).jobs - count_by (is_ripe l.fn.state.moment)
+      (machine_of l.state).jobs)) l.fn.state.jobs l.state.jobs;
+  fewer : count_by (is_ripe l.fn.state.moment) (machine_of l.state).jobs ≤ count_by (is_ripe l.fn.state.moment)
+      (machine_of l.fn.state).jobs;
 }
 
 abbrev pub decreases-loop : goal.decreases-loop

@@ -8,7 +8,8 @@ use Rattle.bq_core.proofs.timers.give_back_all.Given as goal
 abbrev pub invariant-loop-becomes : goal.invariant-loop-becomes
 invariant-loop-becomes l = record {
   left : after_giving_back l.becomes l.seat (machine_of l.state) ≡ after_giving_back l.becomes l.seat (machine_of l.fn.state);
-  asks : Asks (9 * (count_by (is_held_by l.seat) (machine_of l.fn.state).jobs - count_by (is_held_by l.seat) (machine_of l.state).jobs)) l.fn.state.jobs l.state.jobs;
+  asks : Asks (9 * (count_by (is_held_by l.seat) (machine_of l.fn.state).jobs - count_by (is_held_by l.seat) (machine_of l.state).jobs))
+      l.fn.state.jobs l.state.jobs;
   fewer : count_by (is_held_by l.seat) (machine_of l.state).jobs ≤ count_by (is_held_by l.seat) (machine_of l.fn.state).jobs;
 }
 

@@ -22,7 +22,8 @@ returns-clause-due c =
     let jobs : earlier_of_both c.jobs_due-jobs.result c.warnings_due-warning.result ≡ earliest (flat_map of_job st.jobs.jobs) =
     (λ i. earlier_of_both (c.jobs_due-jobs.ensures.due i) (warning i)) ∙ jobs_due_is m in
     let tubes : st.known.pause_end ≡ earliest (flat_map of_tube (counted st.tubes.entries)) =
-    c.args.state.now.sound.known.pauses ∙ earliest_of_all of_tube st.tubes.entries ∙ ap earliest (pauses_counted st.tubes.entries c.args.state.now.sound.entries.fresh) in
+    c.args.state.now.sound.known.pauses ∙ earliest_of_all of_tube st.tubes.entries
+    ∙ ap earliest (pauses_counted st.tubes.entries c.args.state.now.sound.entries.fresh) in
     let seats : c.seats_due-seats.result ≡ earliest (flat_map of_seat st.seats.items) =
     c.seats_due-seats.ensures ∙ ap (fold with_seat_due None) c.as_slice-3.ensures.value ∙ earliest_of_all of_seat st.seats.items in
     c.earlier_of-3.ensures

@@ -13,6 +13,8 @@ pub returns-clause-reply : goal.returns-clause-reply
 returns-clause-reply c s found =
     let here = c.in-Some.ensures in
     let same : c.in-Some.client.now ≡ s = cc in
-    ignored_now (machine_of c.args.state.now) s c.args.seat c.args.tube.now found (ap (λ (r : SeatRecord). list_any (λ name. not (is_same_name c.args.tube.now name)) r.watched) (sym same) ∙ sym c.if-not-watches_other.ensures)
+    ignored_now (machine_of c.args.state.now) s c.args.seat c.args.tube.now found
+    (ap (λ (r : SeatRecord). list_any (λ name. not (is_same_name c.args.tube.now name)) r.watched) (sym same)
+    ∙ sym c.if-not-watches_other.ensures)
     ∙ ap (telling (answers.Watching _)) (sym (c.ignore_tube-count.ensures.after s found))
     ∙ ap (λ n. telling (answers.Watching n) (machine_of c.ignore_tube-count.new.state)) (sym (c.ignore_tube-count.ensures.count s found))

@@ -13,7 +13,8 @@ returns-in-Some-clause-looked c s found waits =
     let m = machine_of c.args.state.now in
     let same = ap machine_held c.in-Some.ensures.kept.same in
     let told = told_is m s c.in-Some.answer waits (c.in-Some.ensures.told s found) in
-    let given = subst (λ (x : Machine). EndsWait x c.args.k c.in-Some.answer c.args.outs.now c.end_wait.new.outs (machine_of c.end_wait.new.state)) same c.end_wait.ensures.given in
+    let given = subst (λ (x : Machine). EndsWait x c.args.k c.in-Some.answer c.args.outs.now c.end_wait.new.outs
+    (machine_of c.end_wait.new.state)) same c.end_wait.ensures.given in
     record {
       ends = λ e. given s found told.1;
       stays = λ e. absurd (let x = told.0 in cc);

@@ -12,11 +12,15 @@ pub returns-clause-none : goal.returns-clause-none
 returns-clause-none c none =
     let m = machine_of c.args.state.now in
     let soon : list_any (is_lease_short m.moment) m.jobs ≡ false =
-    ap (λ (h : Held). list_any (is_lease_short h.moment) h.jobs.jobs) (sym c.if-is_some_wait_over.ensures.same) ∙ sym c.is_some_deadline_soon.ensures.soon ∙ none in
+    ap (λ (h : Held). list_any (is_lease_short h.moment) h.jobs.jobs) (sym c.if-is_some_wait_over.ensures.same)
+    ∙ sym c.is_some_deadline_soon.ensures.soon ∙ none in
     none_ends m (sym c.if-is_some_wait_over.ensures.over) soon
 
 pub returns-clause-same : goal.returns-clause-same
 returns-clause-same c = grind (arith, common_steps)
 
 pub invariant_of-state : goal.invariant_of-state
-invariant_of-state c = record { sound = compared_sound c.is_some_wait_over.new.state _ c.is_some_deadline_soon.ensures.same; numbered = compared_numbered c.is_some_wait_over.new.state _ c.is_some_deadline_soon.ensures.same }
+invariant_of-state c = record {
+  sound = compared_sound c.is_some_wait_over.new.state _ c.is_some_deadline_soon.ensures.same;
+  numbered = compared_numbered c.is_some_wait_over.new.state _ c.is_some_deadline_soon.ensures.same;
+}

@@ -9,11 +9,15 @@ returns-in-None-clause-least c = grind (arith, common_steps, none_first, next_tu
 pub returns-in-Some-clause-bound : goal.returns-in-Some-clause-bound
 returns-in-Some-clause-bound c =
     let st = c.args.state.now in
-    let found = c.in-Some.ensures ∙ ap (find (is_turn_after c.args.last)) c.args.state.now.sound.waiting.turns ∙ next_turn c.args.last st.seats.items c.args.state.now.sound.numbered in
-    subst (λ k. k < length st.seats.items) (sym c.from.ensures) (first_read (waits_after c.args.last) st.seats.items c.args.state.now.sound.numbered c.in-Some.turn found).1
+    let found = c.in-Some.ensures ∙ ap (find (is_turn_after c.args.last)) c.args.state.now.sound.waiting.turns
+    ∙ next_turn c.args.last st.seats.items c.args.state.now.sound.numbered in
+    subst (λ k. k < length st.seats.items) (sym c.from.ensures)
+    (first_read (waits_after c.args.last) st.seats.items c.args.state.now.sound.numbered c.in-Some.turn found).1
 
 pub returns-in-Some-clause-least : goal.returns-in-Some-clause-least
 returns-in-Some-clause-least c =
     let st = c.args.state.now in
-    let found = c.in-Some.ensures ∙ ap (find (is_turn_after c.args.last)) c.args.state.now.sound.waiting.turns ∙ next_turn c.args.last st.seats.items c.args.state.now.sound.numbered in
-    ap (slice_get st.seats.items) c.from.ensures ∙ (first_read (waits_after c.args.last) st.seats.items c.args.state.now.sound.numbered c.in-Some.turn found).0
+    let found = c.in-Some.ensures ∙ ap (find (is_turn_after c.args.last)) c.args.state.now.sound.waiting.turns
+    ∙ next_turn c.args.last st.seats.items c.args.state.now.sound.numbered in
+    ap (slice_get st.seats.items) c.from.ensures
+    ∙ (first_read (waits_after c.args.last) st.seats.items c.args.state.now.sound.numbered c.in-Some.turn found).0

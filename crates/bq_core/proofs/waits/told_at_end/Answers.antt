@@ -10,7 +10,8 @@ returns-then-is_deadline_soon-clause-told c s found =
     let m = machine_of c.args.state.now in
     let same = same_read m.seats c.args.k s c.index.result.now c.requires.seat c.index.ensures found in
     let number = c.number-number.ensures ∙ ap (λ r. r.number) same in
-    told_soon m s (ap (λ n. list_any (λ j. is_ending_lease m.moment n j.state) m.jobs) (sym number) ∙ sym c.is_deadline_soon.ensures.soon ∙ c.if-is_deadline_soon.true)
+    told_soon m s (ap (λ n. list_any (λ j. is_ending_lease m.moment n j.state) m.jobs) (sym number) ∙ sym c.is_deadline_soon.ensures.soon
+    ∙ c.if-is_deadline_soon.true)
 
 pub returns-then-is_over-clause-told : goal.returns-then-is_over-clause-told
 returns-then-is_over-clause-told c s found =
@@ -18,7 +19,8 @@ returns-then-is_over-clause-told c s found =
     let same = same_read m.seats c.args.k s c.index.result.now c.requires.seat c.index.ensures found in
     let again = same_read m.seats c.args.k s c.index-2.result.now c.requires.seat c.index-2.ensures found in
     let number = c.number-number.ensures ∙ ap (λ r. r.number) same in
-    told_over m s (ap (λ n. list_any (λ j. is_ending_lease m.moment n j.state) m.jobs) (sym number) ∙ sym c.is_deadline_soon.ensures.soon ∙ c.if-is_deadline_soon.false)
+    told_over m s (ap (λ n. list_any (λ j. is_ending_lease m.moment n j.state) m.jobs) (sym number) ∙ sym c.is_deadline_soon.ensures.soon
+    ∙ c.if-is_deadline_soon.false)
     (ap (is_timed_out_at m.moment) (sym again) ∙ sym c.is_timed_out-is_over.ensures ∙ c.if-is_over.true)
 
 pub returns-else-is_over-clause-told : goal.returns-else-is_over-clause-told
@@ -27,5 +29,6 @@ returns-else-is_over-clause-told c s found =
     let same = same_read m.seats c.args.k s c.index.result.now c.requires.seat c.index.ensures found in
     let again = same_read m.seats c.args.k s c.index-2.result.now c.requires.seat c.index-2.ensures found in
     let number = c.number-number.ensures ∙ ap (λ r. r.number) same in
-    told_none m s (ap (λ n. list_any (λ j. is_ending_lease m.moment n j.state) m.jobs) (sym number) ∙ sym c.is_deadline_soon.ensures.soon ∙ c.if-is_deadline_soon.false)
+    told_none m s (ap (λ n. list_any (λ j. is_ending_lease m.moment n j.state) m.jobs) (sym number) ∙ sym c.is_deadline_soon.ensures.soon
+    ∙ c.if-is_deadline_soon.false)
     (ap (is_timed_out_at m.moment) (sym again) ∙ sym c.is_timed_out-is_over.ensures ∙ c.if-is_over.false)

@@ -40,7 +40,8 @@ returns-clause-looked c _ =
     let k = c.in-Some.k in
     let there = c.in-Some.ensures.bound in
     let found = c.in-Some.ensures.least in
-    let read = same_read st.seats.items k (s st last c.requires.looked k there found) c.index.result.now there c.index.ensures (here st last c.requires.looked k there found) in
+    let read = same_read st.seats.items k (s st last c.requires.looked k there found) c.index.result.now there c.index.ensures
+    (here st last c.requires.looked k there found) in
     let is : turn_of (s st last c.requires.looked k there found) ≡ c.turn.result = sym (c.turn.ensures ∙ ap turn_of read) in
     subst (λ (t : ℕ × ℕ). AreLookedAt (machine_of c.look_at.new.state) (Some t)) is
     (look_passed st last c.requires.looked k there found
@@ -53,7 +54,8 @@ returns-clause-fewer c _ =
     let k = c.in-Some.k in
     let there = c.in-Some.ensures.bound in
     let found = c.in-Some.ensures.least in
-    let read = same_read st.seats.items k (s st last c.requires.looked k there found) c.index.result.now there c.index.ensures (here st last c.requires.looked k there found) in
+    let read = same_read st.seats.items k (s st last c.requires.looked k there found) c.index.result.now there c.index.ensures
+    (here st last c.requires.looked k there found) in
     let is : turn_of (s st last c.requires.looked k there found) ≡ c.turn.result = sym (c.turn.ensures ∙ ap turn_of read) in
     subst (λ (t : ℕ × ℕ). left_after (Some t) (machine_of c.look_at.new.state) < left_after last (machine_of st)) is
     (look_falls st last c.requires.looked k there found

@@ -8,5 +8,6 @@ invariant-loop-event g l =
     (goal.iterator-loop-event g).can_next l.event-iterator ×
     (goal.iterator-loop-event g).is_finite l.event-iterator ×
     AreTended g.L.Line.seen (door_seen g.D.Door.is_out g.D.Door.is_at_end g.D.Door.lines_over) l.row ×
-    ((first : Row _ _) → RestsSince g.L.Line.seen (door_seen g.D.Door.is_out g.D.Door.is_at_end g.D.Door.lines_over) g.D.Door.same first l.fn.row
+    ((first : Row _ _) → RestsSince g.L.Line.seen
+    (door_seen g.D.Door.is_out g.D.Door.is_at_end g.D.Door.lines_over) g.D.Door.same first l.fn.row
     → RestsSince g.L.Line.seen (door_seen g.D.Door.is_out g.D.Door.is_at_end g.D.Door.lines_over) g.D.Door.same first l.row)

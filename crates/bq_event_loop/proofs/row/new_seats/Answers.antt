@@ -10,6 +10,7 @@ loop-preserved g c =
     let size = c.args.max_job_size in
     record {
       many = let e = c.in-Ok-push.ensures.len in let h = c.loop.invariant.many in omega arith;
-      new = subst (λ (xs : List (Attendant g.row.L.Denot)). All (IsNewSeat size) xs) (sym c.in-Ok-push.ensures.items) (all_more (IsNewSeat size) c.loop.all.items c.in_ok-seat.seat c.loop.invariant.new c.in_ok-seat.ensures);
+      new = subst (λ (xs : List (Attendant g.row.L.Denot)). All (IsNewSeat size) xs) (sym c.in-Ok-push.ensures.items)
+          (all_more (IsNewSeat size) c.loop.all.items c.in_ok-seat.seat c.loop.invariant.new c.in_ok-seat.ensures);
       within = let h = c.loop-test.true in omega arith;
     }

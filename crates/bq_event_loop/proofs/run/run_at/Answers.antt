@@ -13,7 +13,8 @@ use Rattle.bq_event_loop.proofs.run.run_at.Goals as goal
 pub serve-requires-clause-tended : goal.serve-requires-clause-tended
 serve-requires-clause-tended g c =
     let at = door_seen g.D.Door.is_out g.D.Door.is_at_end g.D.Door.lines_over in
-    tended_at_first g.L.Line.seen at c.args.config.max_job_size c.args.seats.items c.args.doors.items (c.requires.doored ∙ sym c.requires.many) c.requires.new_seats c.requires.new_doors
+    tended_at_first g.L.Line.seen at c.args.config.max_job_size c.args.seats.items c.args.doors.items
+    (c.requires.doored ∙ sym c.requires.many) c.requires.new_seats c.requires.new_doors
 
 pub serve-requires-clause-mailed : goal.serve-requires-clause-mailed
 serve-requires-clause-mailed g c =
@@ -30,18 +31,25 @@ returns-clause-served g c =
     let w = c.serve.ensures.served in
     let on = w.2 in
     let s : AreServed g.L.Line.seen at settings.max_job_size w.0 first on.reads last seats doors =
-    on.served settings.max_job_size [] first [] (begins_served g.L.Line.seen at settings first c.args.seats.items c.args.doors.items c.requires.made c.requires.many c.requires.doored c.requires.new_seats c.requires.new_doors) in
+    on.served settings.max_job_size [] first []
+    (begins_served g.L.Line.seen at settings first c.args.seats.items c.args.doors.items c.requires.made c.requires.many
+    c.requires.doored c.requires.new_seats c.requires.new_doors) in
     let many : length seats ≡ settings.seats = on.many ∙ c.requires.many in
     let control = c.serve.new.control in
-    let told = told_all (λ (line : ControlLine g.row.I.Denot). record { text = line.read; ended = line.ended; failed = line.failed }) (λ line. g.I.Read.remaining line.reader) (λ line. g.I.ControlReader.may_fail line.reader) _ _ control w.0 c.serve.ensures.over
+    let told = told_all (λ (line : ControlLine g.row.I.Denot). record { text = line.read; ended = line.ended; failed = line.failed })
+    (λ line. g.I.Read.remaining line.reader) (λ line. g.I.ControlReader.may_fail line.reader) _ _ control w.0 c.serve.ensures.over
     (w.1 _ _ [] c.new-control.ensures) in
-    let j = ends_history g.L.Line.seen at settings first w.0 on.reads last seats doors c.requires.made many s c.serve.ensures.done control.input.read control.input.failed told.done in
+    let j = ends_history g.L.Line.seen at settings first w.0 on.reads last seats doors c.requires.made many s c.serve.ensures.done
+    control.input.read control.input.failed told.done in
     record {
       readings = on.reads;
       gave = on.gave c.args.hub.timed.time.clock [] (g.met.C.Clock.none_given c.args.hub.timed.time.clock);
       over = told.over;
-      read = subst (λ (line : ControlLine g.row.I.Denot). IsReadToEnd (g.I.Read.remaining line.reader) (g.I.Read.remaining control.input.reader) control.input.read control.input.failed) c.new.ensures told.read;
-      fault = subst (λ (line : ControlLine g.row.I.Denot). control.input.failed ≡ true → g.I.ControlReader.may_fail line.reader ≡ true) c.new.ensures told.fault;
+      read = subst (λ (line : ControlLine g.row.I.Denot).
+          IsReadToEnd (g.I.Read.remaining line.reader) (g.I.Read.remaining control.input.reader) control.input.read control.input.failed)
+          c.new.ensures told.read;
+      fault = subst (λ (line : ControlLine g.row.I.Denot). control.input.failed ≡ true → g.I.ControlReader.may_fail line.reader ≡ true)
+          c.new.ensures told.fault;
       history = j.history;
       compared = j.compared;
     }
@@ -57,7 +65,9 @@ returns-clause-at_end g c =
     let w = c.serve.ensures.served in
     let on = w.2 in
     let s : AreServed g.L.Line.seen at settings.max_job_size w.0 first on.reads last seats doors =
-    on.served settings.max_job_size [] first [] (begins_served g.L.Line.seen at settings first c.args.seats.items c.args.doors.items c.requires.made c.requires.many c.requires.doored c.requires.new_seats c.requires.new_doors) in
+    on.served settings.max_job_size [] first []
+    (begins_served g.L.Line.seen at settings first c.args.seats.items c.args.doors.items c.requires.made c.requires.many
+    c.requires.doored c.requires.new_seats c.requires.new_doors) in
     let many : length seats ≡ settings.seats = on.many ∙ c.requires.many in
     ends_closed g.L.Line.seen at settings first w.0 on.reads last seats doors c.requires.made many s c.serve.ensures.done
 
@@ -76,6 +86,9 @@ returns-clause-settings g c =
     let w = c.serve.ensures.served in
     let on = w.2 in
     let s : AreServed g.L.Line.seen at settings.max_job_size w.0 first on.reads last seats doors =
-    on.served settings.max_job_size [] first [] (begins_served g.L.Line.seen at settings first c.args.seats.items c.args.doors.items c.requires.made c.requires.many c.requires.doored c.requires.new_seats c.requires.new_doors) in
+    on.served settings.max_job_size [] first []
+    (begins_served g.L.Line.seen at settings first c.args.seats.items c.args.doors.items c.requires.made c.requires.many
+    c.requires.doored c.requires.new_seats c.requires.new_doors) in
     let many : length seats ≡ settings.seats = on.many ∙ c.requires.many in
-    ends_settings g.L.Line.seen at settings first w.0 on.reads last seats doors c.requires.made many s c.serve.ensures.done c.steps_keep_settings.ensures
+    ends_settings g.L.Line.seen at settings first w.0 on.reads last seats doors c.requires.made many s c.serve.ensures.done
+    c.steps_keep_settings.ensures

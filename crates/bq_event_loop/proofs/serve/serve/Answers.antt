@@ -18,7 +18,8 @@ loop-init g c =
       served = (
         [],
         tells_none g.I.ControlInput.seen g.I.ControlInput.remaining g.I.ControlInput.may_fail c.args.control.now,
-        serves_none g.L.Line.seen at g.K.QueueCore.machine g.K.QueueCore.comparisons g.C.Clock.given g.D.Door.same c.args.hub.now c.args.row.now,
+        serves_none g.L.Line.seen at g.K.QueueCore.machine g.K.QueueCore.comparisons g.C.Clock.given g.D.Door.same
+            c.args.hub.now c.args.row.now,
       );
     }
 
@@ -45,11 +46,14 @@ returns-then-take_turn-clause-served g c =
     let rests = c.next-turn.ensures.rests row (rested_none g.L.Line.seen at g.D.Door.same row.seats.items row.doors.items) in
     let i = c.loop.invariant.served in
     let t = c.take_turn.ensures.served in
-    let rested = serves_on g.L.Line.seen at machine compared g.C.Clock.given g.D.Door.same c.args.hub.now c.loop.hub c.loop.hub c.args.row.now row c.next-turn.new.row i.0 i.2
+    let rested = serves_on g.L.Line.seen at machine compared g.C.Clock.given g.D.Door.same c.args.hub.now c.loop.hub c.loop.hub
+    c.args.row.now row c.next-turn.new.row i.0 i.2
     (serves_rested g.L.Line.seen at machine compared g.C.Clock.given g.D.Door.same c.loop.hub row c.next-turn.new.row rests) in (
       i.0 ++ t.0,
-      tells_then g.I.ControlInput.seen g.I.ControlInput.remaining g.I.ControlInput.may_fail c.args.control.now c.loop.control c.take_turn.new.control i.0 t.0 i.1 t.1,
-      serves_then g.L.Line.seen at machine compared g.C.Clock.given g.D.Door.same c.args.hub.now c.loop.hub c.take_turn.new.hub c.args.row.now c.next-turn.new.row c.take_turn.new.row i.0 t.0 rested t.2,
+      tells_then g.I.ControlInput.seen g.I.ControlInput.remaining g.I.ControlInput.may_fail c.args.control.now c.loop.control
+          c.take_turn.new.control i.0 t.0 i.1 t.1,
+      serves_then g.L.Line.seen at machine compared g.C.Clock.given g.D.Door.same c.args.hub.now c.loop.hub c.take_turn.new.hub
+          c.args.row.now c.next-turn.new.row c.take_turn.new.row i.0 t.0 rested t.2,
     )
 
 pub loop-preserved : goal.loop-preserved
@@ -65,10 +69,13 @@ loop-preserved g c =
     let later = c.take_turn.new.row in
     let woken = c.wake_all.new.hub in
     let same = c.wake_all.ensures in
-    let rested = serves_on g.L.Line.seen at machine compared g.C.Clock.given g.D.Door.same c.args.hub.now c.loop.hub c.loop.hub c.args.row.now row c.next-turn.new.row i.0 i.2
+    let rested = serves_on g.L.Line.seen at machine compared g.C.Clock.given g.D.Door.same c.args.hub.now c.loop.hub c.loop.hub
+    c.args.row.now row c.next-turn.new.row i.0 i.2
     (serves_rested g.L.Line.seen at machine compared g.C.Clock.given g.D.Door.same c.loop.hub row c.next-turn.new.row rests) in
-    let turned = serves_then g.L.Line.seen at machine compared g.C.Clock.given g.D.Door.same c.args.hub.now c.loop.hub hub c.args.row.now c.next-turn.new.row later i.0 t.0 rested t.2 in
-    let all = serves_on g.L.Line.seen at machine compared g.C.Clock.given g.D.Door.same c.args.hub.now hub woken c.args.row.now later later (i.0 ++ t.0) turned
+    let turned = serves_then g.L.Line.seen at machine compared g.C.Clock.given g.D.Door.same c.args.hub.now c.loop.hub hub c.args.row.now
+    c.next-turn.new.row later i.0 t.0 rested t.2 in
+    let all = serves_on g.L.Line.seen at machine compared g.C.Clock.given g.D.Door.same c.args.hub.now hub woken c.args.row.now later
+    later (i.0 ++ t.0) turned
     (serves_woken g.L.Line.seen at machine compared g.C.Clock.given g.D.Door.same hub woken later same) in
     record {
       iterator = (tt, tt);
@@ -78,7 +85,8 @@ loop-preserved g c =
       few = subst (λ n. n ≤ 65535) (sym all.many) c.requires.few;
       served = (
         i.0 ++ t.0,
-        tells_then g.I.ControlInput.seen g.I.ControlInput.remaining g.I.ControlInput.may_fail c.args.control.now c.loop.control c.take_turn.new.control i.0 t.0 i.1 t.1,
+        tells_then g.I.ControlInput.seen g.I.ControlInput.remaining g.I.ControlInput.may_fail c.args.control.now c.loop.control
+            c.take_turn.new.control i.0 t.0 i.1 t.1,
         all,
       );
     }

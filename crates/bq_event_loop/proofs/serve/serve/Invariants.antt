@@ -15,7 +15,9 @@ invariant-loop g l = record {
   tended : AreTended g.L.Line.seen (door_seen g.D.Door.is_out g.D.Door.is_at_end g.D.Door.lines_over) l.row;
   mailed : length l.hub.mails.items ≡ length l.row.seats.items;
   few : length l.row.seats.items ≤ 65535;
-  served : (told : List Step) × TellsOn g.I.ControlInput.seen g.I.ControlInput.remaining g.I.ControlInput.may_fail l.fn.control told l.control
-      × ServesOn g.K.QueueCore.machine g.K.QueueCore.comparisons g.C.Clock.given g.L.Line.seen (door_seen g.D.Door.is_out g.D.Door.is_at_end g.D.Door.lines_over) g.D.Door.same
+  served : (told : List Step) × TellsOn g.I.ControlInput.seen g.I.ControlInput.remaining g.I.ControlInput.may_fail
+      l.fn.control told l.control
+      × ServesOn g.K.QueueCore.machine g.K.QueueCore.comparisons g.C.Clock.given g.L.Line.seen
+      (door_seen g.D.Door.is_out g.D.Door.is_at_end g.D.Door.lines_over) g.D.Door.same
       l.fn.hub l.fn.row told l.hub l.row;
 }

@@ -20,8 +20,10 @@ returns-then-not-submit_owed-clause-served g c =
     let i = c.loop.invariant.served in
     let s = c.submit_owed.ensures.served in (
       i.0 ++ s.0,
-      tells_then g.I.ControlInput.seen g.I.ControlInput.remaining g.I.ControlInput.may_fail c.args.control.now c.loop.control c.submit_owed.new.control i.0 s.0 i.1 s.1,
-      went_then g.K.QueueCore.machine g.K.QueueCore.comparisons g.C.Clock.given (length c.args.hub.now.mails.items) (length c.loop.hub.mails.items) c.args.hub.now c.loop.hub c.submit_owed.new.hub i.0 s.0 [] [] c.loop.invariant.many i.2 s.2,
+      tells_then g.I.ControlInput.seen g.I.ControlInput.remaining g.I.ControlInput.may_fail c.args.control.now c.loop.control
+          c.submit_owed.new.control i.0 s.0 i.1 s.1,
+      went_then g.K.QueueCore.machine g.K.QueueCore.comparisons g.C.Clock.given (length c.args.hub.now.mails.items)
+          (length c.loop.hub.mails.items) c.args.hub.now c.loop.hub c.submit_owed.new.hub i.0 s.0 [] [] c.loop.invariant.many i.2 s.2,
     )
 
 pub returns-then-stops-clause-served : goal.returns-then-stops-clause-served
@@ -29,8 +31,10 @@ returns-then-stops-clause-served g c =
     let i = c.loop.invariant.served in
     let s = c.submit_owed.ensures.served in (
       i.0 ++ s.0,
-      tells_then g.I.ControlInput.seen g.I.ControlInput.remaining g.I.ControlInput.may_fail c.args.control.now c.loop.control c.submit_owed.new.control i.0 s.0 i.1 s.1,
-      went_then g.K.QueueCore.machine g.K.QueueCore.comparisons g.C.Clock.given (length c.args.hub.now.mails.items) (length c.loop.hub.mails.items) c.args.hub.now c.loop.hub c.submit_owed.new.hub i.0 s.0 [] [] c.loop.invariant.many i.2 s.2,
+      tells_then g.I.ControlInput.seen g.I.ControlInput.remaining g.I.ControlInput.may_fail c.args.control.now c.loop.control
+          c.submit_owed.new.control i.0 s.0 i.1 s.1,
+      went_then g.K.QueueCore.machine g.K.QueueCore.comparisons g.C.Clock.given (length c.args.hub.now.mails.items)
+          (length c.loop.hub.mails.items) c.args.hub.now c.loop.hub c.submit_owed.new.hub i.0 s.0 [] [] c.loop.invariant.many i.2 s.2,
     )
 
 pub loop-preserved : goal.loop-preserved
@@ -43,8 +47,11 @@ loop-preserved g c =
       many = c.submit_owed.ensures.many ∙ c.loop.invariant.many;
       served = (
         i.0 ++ s.0,
-        tells_on g.I.ControlInput.seen g.I.ControlInput.remaining g.I.ControlInput.may_fail c.args.control.now c.submit_owed.new.control c.read.new.self (i.0 ++ s.0)
-            (tells_then g.I.ControlInput.seen g.I.ControlInput.remaining g.I.ControlInput.may_fail c.args.control.now c.loop.control c.submit_owed.new.control i.0 s.0 i.1 s.1) c.read.ensures,
-        went_then g.K.QueueCore.machine g.K.QueueCore.comparisons g.C.Clock.given (length c.args.hub.now.mails.items) (length c.loop.hub.mails.items) c.args.hub.now c.loop.hub c.submit_owed.new.hub i.0 s.0 [] [] c.loop.invariant.many i.2 s.2,
+        tells_on g.I.ControlInput.seen g.I.ControlInput.remaining g.I.ControlInput.may_fail c.args.control.now c.submit_owed.new.control
+            c.read.new.self (i.0 ++ s.0)
+            (tells_then g.I.ControlInput.seen g.I.ControlInput.remaining g.I.ControlInput.may_fail c.args.control.now c.loop.control
+            c.submit_owed.new.control i.0 s.0 i.1 s.1) c.read.ensures,
+        went_then g.K.QueueCore.machine g.K.QueueCore.comparisons g.C.Clock.given (length c.args.hub.now.mails.items)
+            (length c.loop.hub.mails.items) c.args.hub.now c.loop.hub c.submit_owed.new.hub i.0 s.0 [] [] c.loop.invariant.many i.2 s.2,
       );
     }

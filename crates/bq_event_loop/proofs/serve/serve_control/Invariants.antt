@@ -10,6 +10,7 @@ invariant-loop g l = record {
   iterator : (goal.iterator-loop g).can_next l.iterator' × (goal.iterator-loop g).is_finite l.iterator';
   order : IsInOrder (state_of g.K.QueueCore.machine g.K.QueueCore.comparisons l.hub);
   many : length l.hub.mails.items ≡ length l.fn.hub.mails.items;
-  served : (told : List Step) × TellsOn g.I.ControlInput.seen g.I.ControlInput.remaining g.I.ControlInput.may_fail l.fn.control told l.control
+  served : (told : List Step) × TellsOn g.I.ControlInput.seen g.I.ControlInput.remaining g.I.ControlInput.may_fail
+      l.fn.control told l.control
       × WentAt g.K.QueueCore.machine g.K.QueueCore.comparisons g.C.Clock.given (length l.fn.hub.mails.items) l.fn.hub told [] l.hub;
 }

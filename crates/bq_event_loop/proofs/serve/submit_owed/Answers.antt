@@ -8,6 +8,8 @@ returns-clause-served g c =
     let a = c.submit_one.ensures in
     let b = c.submit_one-2.ensures in (
       a.served.0 ++ b.served.0,
-      tells_then g.I.ControlInput.seen g.I.ControlInput.remaining g.I.ControlInput.may_fail c.args.control.now c.submit_one.new.control c.submit_one-2.new.control a.served.0 b.served.0 a.served.1 b.served.1,
-      went_then g.K.QueueCore.machine g.K.QueueCore.comparisons g.C.Clock.given _ _ c.args.hub.now c.submit_one.new.hub c.submit_one-2.new.hub a.served.0 b.served.0 [] [] a.many a.served.2 b.served.2,
+      tells_then g.I.ControlInput.seen g.I.ControlInput.remaining g.I.ControlInput.may_fail c.args.control.now c.submit_one.new.control
+          c.submit_one-2.new.control a.served.0 b.served.0 a.served.1 b.served.1,
+      went_then g.K.QueueCore.machine g.K.QueueCore.comparisons g.C.Clock.given _ _ c.args.hub.now c.submit_one.new.hub
+          c.submit_one-2.new.hub a.served.0 b.served.0 [] [] a.many a.served.2 b.served.2,
     )

@@ -12,7 +12,8 @@ remove_below-requires g t c κs within =
     let same : left_in c.args.here.now ≡ Some c.in-Both.left.value = ap left_in c.in-Both.is in
     let lower : height_in c.in-Both.left.value < height_in c.args.here.now = omega (arith, p.high, ap height_of same) in
     let high : 1 < height_in c.in-Both.left.value = search (rules, ap height_of same) in
-    let order : InOrder g.K.Ord.cmp (entries_in c.in-Both.left.value) = subst (λ o. InOrder g.K.Ord.cmp (entries_of o)) same (left_in_order g.K.Ord.cmp p c.requires.in_order) in
+    let order : InOrder g.K.Ord.cmp (entries_in c.in-Both.left.value) =
+    subst (λ o. InOrder g.K.Ord.cmp (entries_of o)) same (left_in_order g.K.Ord.cmp p c.requires.in_order) in
     let level : IsLevel c.in-Both.left.value = subst IsBalancedFrom same p.left_balanced in
     let e : c.deref_mut.result.now ≡ c.in-Both.left.value = search rules in
     search rules
@@ -23,7 +24,8 @@ remove_below-requires-in-Both-here g t c κs within =
     let same : right_in c.args.here.now ≡ Some c.in-Both-here.right.value = ap right_in c.in-Both-here.is in
     let lower : height_in c.in-Both-here.right.value < height_in c.args.here.now = omega (arith, p.high, ap height_of same) in
     let high : 1 < height_in c.in-Both-here.right.value = search (rules, ap height_of same) in
-    let order : InOrder g.K.Ord.cmp (entries_in c.in-Both-here.right.value) = subst (λ o. InOrder g.K.Ord.cmp (entries_of o)) same (right_in_order g.K.Ord.cmp p c.requires.in_order) in
+    let order : InOrder g.K.Ord.cmp (entries_in c.in-Both-here.right.value) =
+    subst (λ o. InOrder g.K.Ord.cmp (entries_of o)) same (right_in_order g.K.Ord.cmp p c.requires.in_order) in
     let level : IsLevel c.in-Both-here.right.value = subst IsBalancedFrom same p.right_balanced in
     let e : c.deref_mut-in-Both-here.result.now ≡ c.in-Both-here.right.value = search rules in
     search rules
@@ -34,7 +36,9 @@ returns-in-Both-clause-is g t c =
     let w = is_below g.met.K.Ord.total c.args.key.now p c.requires.in_order c.compare_to.ensures.answer c.in-Less.is in
     let e : c.deref_mut.result.now ≡ c.in-Both.left.value = search rules in
     let low = c.remove_below.ensures.is ∙ ap (λ n. remove_entry (is_at (g.K.Ord.cmp c.args.key.now)) (entries_in n)) e in
-    changed_left (remove_entry (is_at (g.K.Ord.cmp c.args.key.now))) c.args.here.now w.removed c.mend_left.new.node c.in-Both.left.value c.remove_below.new.here (Some (c.in-Both.key, c.in-Both.value)) (Some c.in-Both.right.value) (ap left_in c.in-Both.is) (ap entry_in c.in-Both.is) (ap right_in c.in-Both.is) low c.mend_left.ensures.is
+    changed_left (remove_entry (is_at (g.K.Ord.cmp c.args.key.now))) c.args.here.now w.removed c.mend_left.new.node c.in-Both.left.value
+    c.remove_below.new.here (Some (c.in-Both.key, c.in-Both.value)) (Some c.in-Both.right.value) (ap left_in c.in-Both.is)
+    (ap entry_in c.in-Both.is) (ap right_in c.in-Both.is) low c.mend_left.ensures.is
 
 pub returns-in-Both-clause-found : goal.returns-in-Both-clause-found
 returns-in-Both-clause-found g t c =
@@ -42,7 +46,8 @@ returns-in-Both-clause-found g t c =
     let w = is_below g.met.K.Ord.total c.args.key.now p c.requires.in_order c.compare_to.ensures.answer c.in-Less.is in
     let e : c.deref_mut.result.now ≡ c.in-Both.left.value = search rules in
     let same : left_in c.args.here.now ≡ Some c.in-Both.left.value = ap left_in c.in-Both.is in
-    c.remove_below.ensures.found ∙ ap (λ n. lookup (is_at (g.K.Ord.cmp c.args.key.now)) (entries_in n)) e ∙ sym (w.looked_up ∙ ap (λ o. lookup (is_at (g.K.Ord.cmp c.args.key.now)) (entries_of o)) same)
+    c.remove_below.ensures.found ∙ ap (λ n. lookup (is_at (g.K.Ord.cmp c.args.key.now)) (entries_in n)) e
+    ∙ sym (w.looked_up ∙ ap (λ o. lookup (is_at (g.K.Ord.cmp c.args.key.now)) (entries_of o)) same)
 
 pub returns-in-Both-here-clause-is : goal.returns-in-Both-here-clause-is
 returns-in-Both-here-clause-is g t c =
@@ -50,7 +55,10 @@ returns-in-Both-here-clause-is g t c =
     let w = is_above g.met.K.Ord.total c.args.key.now p c.requires.in_order c.compare_to.ensures.answer c.in-Greater.is in
     let e : c.deref_mut-in-Both-here.result.now ≡ c.in-Both-here.right.value = search rules in
     let low = c.remove_below-in-Both-here.ensures.is ∙ ap (λ n. remove_entry (is_at (g.K.Ord.cmp c.args.key.now)) (entries_in n)) e in
-    changed_right (remove_entry (is_at (g.K.Ord.cmp c.args.key.now))) c.args.here.now w.removed c.mend_right.new.node (Some c.in-Both-here.left.value) (Some (c.in-Both-here.key, c.in-Both-here.value)) c.in-Both-here.right.value c.remove_below-in-Both-here.new.here (ap left_in c.in-Both-here.is) (ap entry_in c.in-Both-here.is) (ap right_in c.in-Both-here.is) low c.mend_right.ensures.is
+    changed_right (remove_entry (is_at (g.K.Ord.cmp c.args.key.now))) c.args.here.now w.removed c.mend_right.new.node
+    (Some c.in-Both-here.left.value) (Some (c.in-Both-here.key, c.in-Both-here.value)) c.in-Both-here.right.value
+    c.remove_below-in-Both-here.new.here (ap left_in c.in-Both-here.is) (ap entry_in c.in-Both-here.is)
+    (ap right_in c.in-Both-here.is) low c.mend_right.ensures.is
 
 pub returns-in-Both-here-clause-found : goal.returns-in-Both-here-clause-found
 returns-in-Both-here-clause-found g t c =
@@ -58,16 +66,19 @@ returns-in-Both-here-clause-found g t c =
     let w = is_above g.met.K.Ord.total c.args.key.now p c.requires.in_order c.compare_to.ensures.answer c.in-Greater.is in
     let e : c.deref_mut-in-Both-here.result.now ≡ c.in-Both-here.right.value = search rules in
     let same : right_in c.args.here.now ≡ Some c.in-Both-here.right.value = ap right_in c.in-Both-here.is in
-    c.remove_below-in-Both-here.ensures.found ∙ ap (λ n. lookup (is_at (g.K.Ord.cmp c.args.key.now)) (entries_in n)) e ∙ sym (w.looked_up ∙ ap (λ o. lookup (is_at (g.K.Ord.cmp c.args.key.now)) (entries_of o)) same)
+    c.remove_below-in-Both-here.ensures.found ∙ ap (λ n. lookup (is_at (g.K.Ord.cmp c.args.key.now)) (entries_in n)) e
+    ∙ sym (w.looked_up ∙ ap (λ o. lookup (is_at (g.K.Ord.cmp c.args.key.now)) (entries_of o)) same)
 
 pub returns-in-Equal-clause-is : goal.returns-in-Equal-clause-is
 returns-in-Equal-clause-is g t c =
-    let w = is_at_entry g.met.K.Ord.total c.args.key.now (come_apart c.args.here.now c.requires.here_level) c.requires.in_order c.compare_to.ensures.answer c.in-Equal.is in
+    let w = is_at_entry g.met.K.Ord.total c.args.key.now
+    (come_apart c.args.here.now c.requires.here_level) c.requires.in_order c.compare_to.ensures.answer c.in-Equal.is in
     c.take_out.ensures.is ∙ sym w.removed
 
 pub returns-in-Equal-clause-found : goal.returns-in-Equal-clause-found
 returns-in-Equal-clause-found g t c =
-    let w = is_at_entry g.met.K.Ord.total c.args.key.now (come_apart c.args.here.now c.requires.here_level) c.requires.in_order c.compare_to.ensures.answer c.in-Equal.is in
+    let w = is_at_entry g.met.K.Ord.total c.args.key.now
+    (come_apart c.args.here.now c.requires.here_level) c.requires.in_order c.compare_to.ensures.answer c.in-Equal.is in
     c.take_out.ensures.value ∙ sym w.looked_up
 
 pub cut_left-requires-clause-in_order : goal.cut_left-requires-clause-in_order
@@ -75,12 +86,14 @@ cut_left-requires-clause-in_order g t c = left_in_order g.K.Ord.cmp (come_apart 
 
 pub returns-then-before-le1-clause-is : goal.returns-then-before-le1-clause-is
 returns-then-before-le1-clause-is g t c =
-    let w = is_below g.met.K.Ord.total c.args.key.now (come_apart c.args.here.now c.requires.here_level) c.requires.in_order c.compare_to.ensures.answer c.in-Less.is in
+    let w = is_below g.met.K.Ord.total c.args.key.now
+    (come_apart c.args.here.now c.requires.here_level) c.requires.in_order c.compare_to.ensures.answer c.in-Less.is in
     c.cut_left.ensures.is ∙ sym w.removed
 
 pub returns-then-before-le1-clause-found : goal.returns-then-before-le1-clause-found
 returns-then-before-le1-clause-found g t c =
-    let w = is_below g.met.K.Ord.total c.args.key.now (come_apart c.args.here.now c.requires.here_level) c.requires.in_order c.compare_to.ensures.answer c.in-Less.is in
+    let w = is_below g.met.K.Ord.total c.args.key.now
+    (come_apart c.args.here.now c.requires.here_level) c.requires.in_order c.compare_to.ensures.answer c.in-Less.is in
     c.cut_left.ensures.found ∙ sym w.looked_up
 
 pub cut_right-requires-clause-in_order : goal.cut_right-requires-clause-in_order
@@ -88,10 +101,12 @@ cut_right-requires-clause-in_order g t c = right_in_order g.K.Ord.cmp (come_apar
 
 pub returns-then-before-le1-2-clause-is : goal.returns-then-before-le1-2-clause-is
 returns-then-before-le1-2-clause-is g t c =
-    let w = is_above g.met.K.Ord.total c.args.key.now (come_apart c.args.here.now c.requires.here_level) c.requires.in_order c.compare_to.ensures.answer c.in-Greater.is in
+    let w = is_above g.met.K.Ord.total c.args.key.now
+    (come_apart c.args.here.now c.requires.here_level) c.requires.in_order c.compare_to.ensures.answer c.in-Greater.is in
     c.cut_right.ensures.is ∙ sym w.removed
 
 pub returns-then-before-le1-2-clause-found : goal.returns-then-before-le1-2-clause-found
 returns-then-before-le1-2-clause-found g t c =
-    let w = is_above g.met.K.Ord.total c.args.key.now (come_apart c.args.here.now c.requires.here_level) c.requires.in_order c.compare_to.ensures.answer c.in-Greater.is in
+    let w = is_above g.met.K.Ord.total c.args.key.now
+    (come_apart c.args.here.now c.requires.here_level) c.requires.in_order c.compare_to.ensures.answer c.in-Greater.is in
     c.cut_right.ensures.found ∙ sym w.looked_up

@@ -4,7 +4,8 @@ use Rattle.bq_index.specs.Tree.{height_of, IsBalancedFrom}
 use Rattle.bq_index.proofs.change.cut_left.Goals as goal
 
 pub with_left-requires-clause-right_balanced : goal.with_left-requires-clause-right_balanced
-with_left-requires-clause-right_balanced g c = subst IsBalancedFrom (sym c.take_parts-left.ensures.right) (come_apart c.args.here.now c.requires.here_level).right_balanced
+with_left-requires-clause-right_balanced g c =
+    subst IsBalancedFrom (sym c.take_parts-left.ensures.right) (come_apart c.args.here.now c.requires.here_level).right_balanced
 
 pub with_left-requires-clause-known : goal.with_left-requires-clause-known
 with_left-requires-clause-known g c =

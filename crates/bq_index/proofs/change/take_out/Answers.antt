@@ -24,5 +24,7 @@ returns-clause-not_lower g c =
     let l = ap height_of c.take_parts-left.ensures.left in
     let r = ap height_of c.take_parts-left.ensures.right in
     let f = c.in-Some.ensures.first in
-    let lower = right_not_lower _ _ _ _ (height_in c.args.here.now) (height_of (right_in c.args.here.now)) c.balance.ensures (omega (arith, p.high, l)) (omega (arith, p.near.1, l), omega (arith, p.near.0, l)) (omega (arith, f.not_lower, r), omega (arith, f.not_higher, r)) in
+    let lower = right_not_lower _ _ _ _ (height_in c.args.here.now) (height_of (right_in c.args.here.now)) c.balance.ensures
+    (omega (arith, p.high, l)) (omega (arith, p.near.1, l), omega (arith, p.near.0, l))
+    (omega (arith, f.not_lower, r), omega (arith, f.not_higher, r)) in
     omega (arith, lower, f.not_lower, r)

@@ -12,7 +12,8 @@ found_below None x met = refl
 found_below (Some y) x met = refl
 
 -- or else it is the entry here
-further_or_here : {A : Type 0} (whole here down : Option A) (x : A) (met : Option A) → whole ≡ option_or here met → here ≡ option_or down (Some x) → whole ≡ option_or down (Some x)
+further_or_here : {A : Type 0} (whole here down : Option A) (x : A) (met : Option A) → whole ≡ option_or here met
+    → here ≡ option_or down (Some x) → whole ≡ option_or down (Some x)
 further_or_here whole here down x met e d = e ∙ ap (λ z. option_or z met) d ∙ found_below down x met
 
 pub loop-left-preserved-in-Less : goal.loop-left-preserved-in-Less
@@ -22,7 +23,8 @@ loop-left-preserved-in-Less g c =
     record {
       balanced = p.left_balanced;
       in_order = left_in_order g.K.Ord.cmp p i.in_order;
-      same = further_or_here _ _ _ _ _ i.same (from_below g.met.K.Ord.total c.args.key.now p i.in_order (sym c.compare.ensures.answer ∙ c.in-Less.is));
+      same = further_or_here _ _ _ _ _ i.same (from_below g.met.K.Ord.total c.args.key.now p i.in_order
+          (sym c.compare.ensures.answer ∙ c.in-Less.is));
       more = omega (arith, i.more, c.compare.ensures.counted.0);
       few = omega (arith, i.few, c.compare.ensures.counted.1, p.high);
     }
@@ -34,7 +36,8 @@ loop-left-preserved g c =
     record {
       balanced = p.right_balanced;
       in_order = right_in_order g.K.Ord.cmp p i.in_order;
-      same = further _ _ _ _ i.same (from_above g.met.K.Ord.total c.args.key.now p i.in_order (sym c.compare.ensures.answer ∙ c.in-Greater.is));
+      same = further _ _ _ _ i.same (from_above g.met.K.Ord.total c.args.key.now p i.in_order
+          (sym c.compare.ensures.answer ∙ c.in-Greater.is));
       more = omega (arith, i.more, c.compare.ensures.counted.0);
       few = omega (arith, i.few, c.compare.ensures.counted.1, p.high);
     }

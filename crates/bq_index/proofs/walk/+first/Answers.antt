@@ -4,13 +4,16 @@ use Rattle.bq_index.proofs.walk.+first.Goals as goal
 
 pub returns-then-passes : goal.returns-then-passes
 returns-then-passes g t c =
-    found_here (passes_by (g.T.Test.passed c.args.test.now)) c.in_ok-left.ensures.parts entry_of c.first.result c.in-None.is c.first.ensures c.if-passes.ensures
+    found_here (passes_by (g.T.Test.passed c.args.test.now)) c.in_ok-left.ensures.parts entry_of c.first.result c.in-None.is
+    c.first.ensures c.if-passes.ensures
 
 pub returns-else-passes : goal.returns-else-passes
 returns-else-passes g t c =
-    found_right (passes_by (g.T.Test.passed c.args.test.now)) c.in_ok-left.ensures.parts entry_of c.first.result c.in-None.is c.first.ensures
+    found_right (passes_by (g.T.Test.passed c.args.test.now)) c.in_ok-left.ensures.parts entry_of c.first.result
+    c.in-None.is c.first.ensures
     c.if-passes.ensures entry_of c.first-else-passes.result c.first-else-passes.ensures
 
 pub returns-in_default : goal.returns-in_default
 returns-in_default g t c =
-    found_left (passes_by (g.T.Test.passed c.args.test.now)) c.in_ok-left.ensures.parts entry_of c.first.result c.in_default.not-None c.first.ensures
+    found_left (passes_by (g.T.Test.passed c.args.test.now)) c.in_ok-left.ensures.parts entry_of c.first.result
+    c.in_default.not-None c.first.ensures

@@ -18,20 +18,25 @@ first_from-requires-2 g t c =
 
 pub returns-then-is_gt : goal.returns-then-is_gt
 returns-then-is_gt g t c =
-    from_right g.met.K.Ord.total c.args.from.now (g.T.Test.passed c.args.test.now) c.in_ok-left.ensures.parts c.requires.in_order c.cmp.result c.cmp.ensures
+    from_right g.met.K.Ord.total c.args.from.now
+    (g.T.Test.passed c.args.test.now) c.in_ok-left.ensures.parts c.requires.in_order c.cmp.result c.cmp.ensures
     c.if-is_gt.ensures entry_of c.first_from.result c.first_from.ensures
 
 pub returns-then-passes : goal.returns-then-passes
 returns-then-passes g t c =
-    first_here g.met.K.Ord.total c.args.from.now (g.T.Test.passed c.args.test.now) c.in_ok-left.ensures.parts c.requires.in_order c.cmp.result c.cmp.ensures
+    first_here g.met.K.Ord.total c.args.from.now
+    (g.T.Test.passed c.args.test.now) c.in_ok-left.ensures.parts c.requires.in_order c.cmp.result c.cmp.ensures
     c.if-is_gt.ensures entry_of c.first_from-2.result c.in-None.is c.first_from-2.ensures c.if-passes.ensures
 
 pub returns-else-passes : goal.returns-else-passes
 returns-else-passes g t c =
-    first_right g.met.K.Ord.total c.args.from.now (g.T.Test.passed c.args.test.now) c.in_ok-left.ensures.parts c.requires.in_order c.cmp.result c.cmp.ensures
-    c.if-is_gt.ensures entry_of c.first_from-2.result c.in-None.is c.first_from-2.ensures c.if-passes.ensures entry_of c.first.result c.first.ensures
+    first_right g.met.K.Ord.total c.args.from.now
+    (g.T.Test.passed c.args.test.now) c.in_ok-left.ensures.parts c.requires.in_order c.cmp.result c.cmp.ensures
+    c.if-is_gt.ensures entry_of c.first_from-2.result c.in-None.is c.first_from-2.ensures c.if-passes.ensures entry_of
+    c.first.result c.first.ensures
 
 pub returns-in_default : goal.returns-in_default
 returns-in_default g t c =
-    found_left (passes_from (g.K.Ord.cmp c.args.from.now) (g.T.Test.passed c.args.test.now)) c.in_ok-left.ensures.parts entry_of c.first_from-2.result
+    found_left (passes_from (g.K.Ord.cmp c.args.from.now) (g.T.Test.passed c.args.test.now)) c.in_ok-left.ensures.parts entry_of
+    c.first_from-2.result
     c.in_default.not-None c.first_from-2.ensures

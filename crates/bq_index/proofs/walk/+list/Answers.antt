@@ -22,8 +22,15 @@ list-requires-2 g t c =
 
 pub returns-clause-items : goal.returns-clause-items
 returns-clause-items g t c =
-    listed_parts entry_of c.in-Some.ensures.parts c.args.listed.now.items c.list.new.listed.items c.push_reserved.new.self.items c.list-2.new.listed.items
+    listed_parts entry_of c.in-Some.ensures.parts c.args.listed.now.items c.list.new.listed.items c.push_reserved.new.self.items
+    c.list-2.new.listed.items
     (c.in-Some.key, c.in-Some.value) refl c.list.ensures.items c.push_reserved.ensures.items c.list-2.ensures.items
 
 pub returns-clause-len : goal.returns-clause-len
-returns-clause-len g t c = omega (arith, as_many c.in-Some.ensures.parts, c.list.ensures.len, c.push_reserved.ensures.len, c.list-2.ensures.len)
+returns-clause-len g t c = omega (
+  arith,
+  as_many c.in-Some.ensures.parts,
+  c.list.ensures.len,
+  c.push_reserved.ensures.len,
+  c.list-2.ensures.len,
+)

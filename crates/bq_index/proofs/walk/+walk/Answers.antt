@@ -4,5 +4,6 @@ use Rattle.bq_index.proofs.walk.+walk.Goals as goal
 
 pub returns : goal.returns
 returns g t c =
-    seen_parts (seen_by g.T.Visitor.after) c.in-Some.ensures.parts c.args.visitor.now c.walk.new.visitor c.visit.new.self c.walk-2.new.visitor
+    seen_parts (seen_by g.T.Visitor.after) c.in-Some.ensures.parts c.args.visitor.now c.walk.new.visitor c.visit.new.self
+    c.walk-2.new.visitor
     c.walk.ensures c.visit.ensures c.walk-2.ensures

@@ -16,11 +16,16 @@ loop-post-init g c =
 
 pub loop-post-preserved : goal.loop-post-preserved
 loop-post-preserved g c =
-    let limit = popped_passes c.loop-post.posts.items _ c.in-Some.post (λ p. p.max_job_size ≡ c.args.max_job_size) c.in-Some.ensures.items c.loop-post.invariant.limits in
+    let limit = popped_passes c.loop-post.posts.items _ c.in-Some.post
+    (λ p. p.max_job_size ≡ c.args.max_job_size) c.in-Some.ensures.items c.loop-post.invariant.limits in
     record {
       many = let h = c.loop-post.invariant.many in let e = c.in-Some.ensures.len in let p = c.in-Ok-push.ensures.len in omega arith;
-      doors = handed_on (λ post. post.door) (λ thread. thread.promise.door.value) c.loop-post.posts.items _ c.in-Some.post c.loop-post.threads.items _ c.in-Ok.thread c.in-Some.ensures.items c.in-Ok-push.ensures.items
+      doors = handed_on (λ post. post.door) (λ thread. thread.promise.door.value) c.loop-post.posts.items _ c.in-Some.post
+          c.loop-post.threads.items _ c.in-Ok.thread c.in-Some.ensures.items c.in-Ok-push.ensures.items
           (ap (λ promise. promise.door.value) c.in-Ok.ensures.ok ∙ c.of.ensures) ∙ c.loop-post.invariant.doors;
-      limits = all_taken (vec_len c.loop-post.posts - 1) c.loop-post.posts.items _ (λ p. p.max_job_size ≡ c.args.max_job_size) c.pop.ensures.rest c.loop-post.invariant.limits;
-      promised = all_pushed c.loop-post.threads.items _ c.in-Ok.thread (λ t. t.promise.max_job_size ≡ c.args.max_job_size) c.in-Ok-push.ensures.items c.loop-post.invariant.promised (ap (λ promise. promise.max_job_size) c.in-Ok.ensures.ok ∙ limit);
+      limits = all_taken (vec_len c.loop-post.posts - 1) c.loop-post.posts.items _
+          (λ p. p.max_job_size ≡ c.args.max_job_size) c.pop.ensures.rest c.loop-post.invariant.limits;
+      promised = all_pushed c.loop-post.threads.items _ c.in-Ok.thread
+          (λ t. t.promise.max_job_size ≡ c.args.max_job_size) c.in-Ok-push.ensures.items c.loop-post.invariant.promised
+          (ap (λ promise. promise.max_job_size) c.in-Ok.ensures.ok ∙ limit);
     }

@@ -6,7 +6,8 @@ use Rattle.bq_lock.proofs.doors_served.start_threads.Given as goal
 abbrev pub invariant-loop-post : goal.invariant-loop-post
 invariant-loop-post g l = record {
   many : vec_len l.threads + vec_len l.posts ≡ vec_len l.fn.posts;
-  doors : map (λ thread. thread.promise.door.value) l.threads.items ++ reverse (map (λ post. post.door) l.posts.items) ≡ reverse (map (λ post. post.door) l.fn.posts.items);
+  doors : map (λ thread. thread.promise.door.value) l.threads.items
+      ++ reverse (map (λ post. post.door) l.posts.items) ≡ reverse (map (λ post. post.door) l.fn.posts.items);
   limits : All (λ post. post.max_job_size ≡ l.fn.max_job_size) l.posts.items;
   promised : All (λ thread. thread.promise.max_job_size ≡ l.fn.max_job_size) l.threads.items;
 }

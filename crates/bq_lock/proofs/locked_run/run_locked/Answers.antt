@@ -15,10 +15,12 @@ pub returns-in-Err-clause-bad_configuration : goal.returns-in-Err-clause-bad_con
 returns-in-Err-clause-bad_configuration g c =
     well_configured _ c.args.config (vec_len c.args.doors) c.in_ok-locked.locked c.in_ok-locked.ensures.bad_configuration
     (let b = c.if-len-from.false in let d = c.len.ensures in let e = c.from.ensures in omega arith)
-    (λ e. let same : c.in-Err.fault ≡ BadConfiguration = cc in absurd (c.serve_at_desk-served.ensures.fault (c.in-Err.is ∙ ap (λ f. Err f) same)))
+    (λ e. let same : c.in-Err.fault ≡ BadConfiguration = cc in
+    absurd (c.serve_at_desk-served.ensures.fault (c.in-Err.is ∙ ap (λ f. Err f) same)))
 
 pub serve_at_desk-served-requires-clause-size : goal.serve_at_desk-served-requires-clause-size
-serve_at_desk-served-requires-clause-size g c κs within = size_fits c.args.config c.in_ok-locked.locked c.in_ok-locked.ensures.bad_configuration
+serve_at_desk-served-requires-clause-size g c κs within =
+    size_fits c.args.config c.in_ok-locked.locked c.in_ok-locked.ensures.bad_configuration
 
 pub serve_at_desk-served-requires-send-K : goal.serve_at_desk-served-requires-send-K
 serve_at_desk-served-requires-send-K g c κs within = param_send 3 _ (arg_send _ no _ (desk_sends _ c.type_bounds.send-C))

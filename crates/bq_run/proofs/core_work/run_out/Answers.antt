@@ -25,9 +25,13 @@ returns-then-turn-clause-ran g c settings from first w rings =
     let over = c.turn.ensures.over c.if-turn.true in
     let work = on.work settings from first w in
     let ends : length driver.sender.end.rings ≡ settings.seats + 1 = ap length on.end.1 ∙ rings in
-    let done = worked_all settings from work.0 (driver_state g.K.QueueCore.machine g.K.QueueCore.comparisons driver) work.2 over.none_pending ends (order.many ∙ sym order.sender.places.ends ∙ ends) over.all_gone in (
+    let done = worked_all settings from work.0
+    (driver_state g.K.QueueCore.machine g.K.QueueCore.comparisons driver) work.2 over.none_pending ends
+    (order.many ∙ sym order.sender.places.ends ∙ ends) over.all_gone in (
       work.0,
       subst (λ clock. g.C.Clock.given first work.0 clock) (sym parts.2) work.1,
-      subst (λ (e : CoreState). IsCoreDone settings work.0 e (g.K.QueueCore.machine c.into_parts.result.1) from (g.K.QueueCore.comparisons c.into_parts.result.1)) (sym parts.0)
-          (subst (λ (k : _). IsCoreDone settings work.0 driver.sender.end (g.K.QueueCore.machine k) from (g.K.QueueCore.comparisons k)) (sym parts.1) done),
+      subst (λ (e : CoreState). IsCoreDone settings work.0 e (g.K.QueueCore.machine c.into_parts.result.1) from
+          (g.K.QueueCore.comparisons c.into_parts.result.1)) (sym parts.0)
+          (subst (λ (k : _). IsCoreDone settings work.0 driver.sender.end (g.K.QueueCore.machine k) from (g.K.QueueCore.comparisons k))
+          (sym parts.1) done),
     )

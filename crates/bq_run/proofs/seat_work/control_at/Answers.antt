@@ -7,7 +7,12 @@ use Rattle.bq_run.proofs.seat_work.control_at.Goals as goal
 pub returns-clause-done : goal.returns-clause-done
 returns-clause-done g c =
     let h = c.submit_control.ensures.done in
-    let first : SeatLink _ = record { rt = c.args.rt; intake = c.args.intake; end = record { ref_ptr = c.args.end.ref_ptr; ghost_name = c.link-1.given; now = c.args.end.now }; pace = c.new.result } in
+    let first : SeatLink _ = record {
+      rt = c.args.rt;
+      intake = c.args.intake;
+      end = record { ref_ptr = c.args.end.ref_ptr; ghost_name = c.link-1.given; now = c.args.end.now };
+      pace = c.new.result;
+    } in
     let p = h.2 first [] (refl, refl, end_still c.args.end.now) in (
       h.0,
       h.1,

@@ -13,10 +13,12 @@ serve_line-requires-clause-desk g c =
 
 pub serve_line-requires-clause-lone : goal.serve_line-requires-clause-lone
 serve_line-requires-clause-lone g c =
-    let seats : c.args.config.seats ≡ 1 = c.if-config-ne1.false in ap (λ (m : Machine). m.settings.seats) c.in_ok-desk.ensures.made.core ∙ seats
+    let seats : c.args.config.seats ≡ 1 = c.if-config-ne1.false in
+    ap (λ (m : Machine). m.settings.seats) c.in_ok-desk.ensures.made.core ∙ seats
 
 pub serve_line-requires-clause-limit : goal.serve_line-requires-clause-limit
-serve_line-requires-clause-limit g c = c.in-Ok.ensures.limit ∙ sym (ap (λ (m : Machine). m.settings.max_job_size) c.in_ok-desk.ensures.made.core)
+serve_line-requires-clause-limit g c = c.in-Ok.ensures.limit
+    ∙ sym (ap (λ (m : Machine). m.settings.max_job_size) c.in_ok-desk.ensures.made.core)
 
 pub returns-clause-served : goal.returns-clause-served
 returns-clause-served g c =
@@ -24,5 +26,6 @@ returns-clause-served g c =
     let one = c.serve_line.result in (
       s.0,
       subst (λ clock. g.C.Clock.given clock s.0 one.clock) c.in_ok-desk.ensures.clock s.1,
-      subst (λ (n : Settings). IsHistoryOfLine n 0 (record { seen = g.L.Line.seen one.line; over = one.end }) s.0) (ap (λ (m : Machine). m.settings) c.in_ok-desk.ensures.made.core) s.2,
+      subst (λ (n : Settings). IsHistoryOfLine n 0 (record { seen = g.L.Line.seen one.line; over = one.end }) s.0)
+          (ap (λ (m : Machine). m.settings) c.in_ok-desk.ensures.made.core) s.2,
     )

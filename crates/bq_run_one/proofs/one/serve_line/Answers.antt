@@ -20,7 +20,8 @@ loop-init g c =
         [],
         g.met.C.Clock.none_given desk.timed.time.clock,
         begins_alone settings 0 (state_of desk) c.on-action.new.self (g.L.Line.seen c.args.line) c.on-action.result made
-            (opened_on settings.max_job_size _ c.on-action.new.self c.on-action.result (g.L.Line.seen c.args.line) c.requires.awaits c.requires.limit c.on-action.ensures c.requires.new),
+            (opened_on settings.max_job_size _ c.on-action.new.self c.on-action.result
+            (g.L.Line.seen c.args.line) c.requires.awaits c.requires.limit c.on-action.ensures c.requires.new),
       );
       stays = λ first over. over;
       mails = mails_of_new settings (state_of desk) made;
@@ -45,7 +46,9 @@ loop-preserved g c =
       serves = (
         i.0 ++ w.0,
         w.1 c.args.desk.timed.time.clock i.0 i.1,
-        goes_on_alone c.args.desk.timed.core.machine.settings 0 i.0 w.0 (state_of c.loop.desk) next c.loop.machine c.act-moved.new.machine (g.L.Line.seen c.loop.line) (g.L.Line.seen c.act-moved.new.line) c.loop.action c.act-moved.new.action c.loop.sent c.act-moved.new.sent h.0 h.1 i.2 w.2 h.3.1,
+        goes_on_alone c.args.desk.timed.core.machine.settings 0 i.0 w.0 (state_of c.loop.desk) next c.loop.machine c.act-moved.new.machine
+            (g.L.Line.seen c.loop.line) (g.L.Line.seen c.act-moved.new.line) c.loop.action c.act-moved.new.action c.loop.sent
+            c.act-moved.new.sent h.0 h.1 i.2 w.2 h.3.1,
       );
       stays = λ first over. c.act-moved.ensures.stays first (c.loop.invariant.stays first over);
       mails = c.act-moved.ensures.mails;
@@ -56,11 +59,15 @@ pub returns-in-LineOver-clause-served : goal.returns-in-LineOver-clause-served
 returns-in-LineOver-clause-served g c =
     let i = c.loop.invariant.serves in
     let settings = c.args.desk.timed.core.machine.settings in
-    let s : IsServingAlone settings 0 i.0 (state_of c.loop.desk) c.loop.machine (g.L.Line.seen c.loop.line) (actions.LineOver c.in-LineOver.end) c.loop.sent =
-    subst (λ (a : Action). IsServingAlone settings 0 i.0 (state_of c.loop.desk) c.loop.machine (g.L.Line.seen c.loop.line) a c.loop.sent) c.in-LineOver.is i.2 in
+    let s : IsServingAlone settings 0 i.0 (state_of c.loop.desk) c.loop.machine (g.L.Line.seen c.loop.line)
+    (actions.LineOver c.in-LineOver.end) c.loop.sent =
+    subst (λ (a : Action). IsServingAlone settings 0 i.0 (state_of c.loop.desk) c.loop.machine (g.L.Line.seen c.loop.line) a c.loop.sent)
+    c.in-LineOver.is i.2 in
     let seats = c.requires.lone in (
       i.0,
       subst (λ clock. g.C.Clock.given c.args.desk.timed.time.clock i.0 clock) (sym c.into_clock.ensures) i.1,
-      line_joined settings 0 (record { seen = g.L.Line.seen c.loop.line; over = c.in-LineOver.end }) i.0 s.went.history s.went.went.given c.loop.desk.timed.core.machine
-          (over_alone settings 0 i.0 (state_of c.loop.desk) c.loop.machine (g.L.Line.seen c.loop.line) c.in-LineOver.end c.loop.sent s (omega (arith, seats)) (new_mails_are settings s.first s.new)),
+      line_joined settings 0 (record { seen = g.L.Line.seen c.loop.line; over = c.in-LineOver.end }) i.0 s.went.history s.went.went.given
+          c.loop.desk.timed.core.machine
+          (over_alone settings 0 i.0 (state_of c.loop.desk) c.loop.machine (g.L.Line.seen c.loop.line) c.in-LineOver.end c.loop.sent s
+          (omega (arith, seats)) (new_mails_are settings s.first s.new)),
     )

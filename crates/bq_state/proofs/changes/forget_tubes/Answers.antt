@@ -9,8 +9,10 @@ returns-clause-after c =
     let s = c.args.state.now in
     ap (λ (k : Kept). record (machine_of s) { jobs = k.jobs; tubes = counted c.forget_lost.new.self.entries }) c.forget_lost.ensures.jobs
     ∙ ap (λ tubes. record (machine_of s) { tubes = counted tubes })
-    (c.forget_lost.ensures.after s.jobs.jobs s.seats.items c.args.state.now.sound.entries.order c.args.state.now.sound.known.alive c.args.state.now.sound.known.counts.each c.args.state.now.sound.known.crowds.each)
-    ∙ ap (λ tubes. record (machine_of s) { tubes = tubes }) (filters_swap is_counted (λ t. is_tube_of s.jobs.jobs s.seats.items t.name) s.tubes.entries)
+    (c.forget_lost.ensures.after s.jobs.jobs s.seats.items c.args.state.now.sound.entries.order c.args.state.now.sound.known.alive
+    c.args.state.now.sound.known.counts.each c.args.state.now.sound.known.crowds.each)
+    ∙ ap (λ tubes. record (machine_of s) { tubes = tubes })
+    (filters_swap is_counted (λ t. is_tube_of s.jobs.jobs s.seats.items t.name) s.tubes.entries)
 
 pub invariant_of-state : goal.invariant_of-state
 invariant_of-state c =
@@ -20,7 +22,9 @@ invariant_of-state c =
     c.forget_lost.ensures.after s.jobs.jobs s.seats.items was.entries.order was.known.alive was.known.counts.each was.known.crowds.each in
     let same = ap (λ (k : Kept). k.jobs) c.forget_lost.ensures.jobs in
     record {
-      sound = subst (λ jobs. Soundness jobs s.seats.items c.forget_lost.new.self s.waiting c.forget_tubes.new.self s.next_id s.draining) (sym same)
+      sound =
+          subst (λ jobs. Soundness jobs s.seats.items c.forget_lost.new.self s.waiting c.forget_tubes.new.self s.next_id s.draining)
+          (sym same)
           (record {
             entries = rw left (entries_forgotten s.jobs.jobs s.seats.items s.tubes.entries was.entries);
             numbered = was.numbered;
@@ -29,7 +33,8 @@ invariant_of-state c =
             waiting = was.waiting;
             known =
                 rw c.forget_tubes.ensures
-                (so_forgotten s c.forget_lost.new.self c.len-entries.result (omega (arith, c.len-entries.ensures)) left (c.forget_lost.ensures.kept s.jobs.jobs s.seats.items was.known.counts.each was.known.crowds.each));
+                (so_forgotten s c.forget_lost.new.self c.len-entries.result (omega (arith, c.len-entries.ensures)) left
+                (c.forget_lost.ensures.kept s.jobs.jobs s.seats.items was.known.counts.each was.known.crowds.each));
           });
       numbered = c.forget_lost.ensures.numbered;
     }

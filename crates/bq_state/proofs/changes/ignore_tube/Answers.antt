@@ -1,8 +1,11 @@
-use Rattle.std.proofs.{Common.{◌∙◌, ◌≡◌, ◌≤◌, List, ℕ, ap, arith, filter, get_or, length, not, refl, sym}, lemmas.Option.{slice_get_read, slice_get_within}}
+use Rattle.std.proofs.Common.{◌∙◌, ◌≡◌, ◌≤◌, List, ℕ, ap, arith, filter, get_or, length, not, refl, sym}
+use Rattle.std.proofs.lemmas.Option.{slice_get_read, slice_get_within}
 use Rattle.bq_job.specs.{machine.{greatest, watching}, reading.TubeName.is_same_name}
 use Rattle.bq_state.specs.declared.tubes.entry.Moving.TheVariants.{Goes}
 use Rattle.bq_state.specs.{CoreParts.machine_of, Counting.with_crowds_at, Crowds.recounted, KeptTubes.KeptTubes, TubeEntries.counted}
-use Rattle.bq_state.proofs.{KnowledgeLemmas.so_ignoring, PartsLemmas.{changed_there, seat_read, seat_there, watching_fewer, watching_numbered}, WaitingLemmas.in_turn_watching}
+use Rattle.bq_state.proofs.{KnowledgeLemmas.so_ignoring}
+use Rattle.bq_state.proofs.PartsLemmas.{changed_there, seat_read, seat_there, watching_fewer, watching_numbered}
+use Rattle.bq_state.proofs.{WaitingLemmas.in_turn_watching}
 use Rattle.bq_state.proofs.changes.ignore_tube.Goals as goal
 use Rattle.std.proofs.lemmas.Grind.{common_steps}
 
@@ -14,9 +17,11 @@ returns-then-from-len-clause-after c s found =
     let old = c.args.state.now in
     let there = seat_there old.seats.items c.args.seat s c.args.state.now.sound.numbered found in
     let names = filter (λ other. not (is_same_name c.args.tube.now other)) s.watched in
-    ap (λ entries. record (machine_of old) { seats = c.ignore.new.seats.items; tubes = counted entries }) (ap (λ (k : KeptTubes). k.entries) c.recount.ensures)
+    ap (λ entries. record (machine_of old) { seats = c.ignore.new.seats.items; tubes = counted entries })
+    (ap (λ (k : KeptTubes). k.entries) c.recount.ensures)
     ∙ ap (λ seats. record (machine_of old) { seats = seats })
-    (c.ignore.ensures.ignored s there ∙ sym (changed_there old.seats.items c.args.seat s (watching names) c.args.state.now.sound.numbered there))
+    (c.ignore.ensures.ignored s there ∙ sym (changed_there old.seats.items c.args.seat s
+    (watching names) c.args.state.now.sound.numbered there))
 
 pub invariant_of-state : goal.invariant_of-state
 invariant_of-state c =

@@ -7,7 +7,8 @@ use Rattle.bq_state.proofs.changes.tube_names.Goals as goal
 pub returns-clause-names : goal.returns-clause-names
 returns-clause-names c =
     let s = c.args.state.now in
-    subst (λ list. IfOk c.names_alive.result (λ names. names_of names.items ≡ list)) (alive_are_tubes (machine_of s) s.tubes.entries s.sound.entries)
+    subst (λ list. IfOk c.names_alive.result (λ names. names_of names.items ≡ list))
+    (alive_are_tubes (machine_of s) s.tubes.entries s.sound.entries)
     (c.names_alive.ensures s.jobs.jobs s.seats.items s.sound.known.counts.each s.sound.known.crowds.each)
 
 pub returns-clause-ordered : goal.returns-clause-ordered

@@ -1,8 +1,13 @@
-use Rattle.std.proofs.{Common.{◌++◌, ◌∙◌, ◌∷◌, ◌≡◌, ◌≤◌, if◌then◌else◌, Some, [], ap, arith, false, get_or, length, refl, set, slice_get, sym}, lemmas.Option.{slice_get_read, slice_get_within}}
+use Rattle.std.proofs.Common.{◌++◌, ◌∙◌, ◌∷◌, ◌≡◌, ◌≤◌, if◌then◌else◌, Some, [], ap}
+use Rattle.std.proofs.Common.{arith, false, get_or, length, refl, set, slice_get, sym}
+use Rattle.std.proofs.lemmas.Option.{slice_get_read, slice_get_within}
 use Rattle.bq_job.specs.machine.{greatest, is_waiting, seat_with, watching, Machine.Machine}
 use Rattle.bq_state.specs.declared.tubes.entry.{Moving.TheVariants.Comes, Share.Share}
-use Rattle.bq_state.specs.{CoreParts.machine_of, Counting.with_crowds_at, Crowds.recounted, KeptTubes.KeptTubes, Stirs.with_anything, TubeEntries.counted}
-use Rattle.bq_state.proofs.{KnowledgeLemmas.so_watching, PartsLemmas.{changed_there, seat_read, seat_there, watching_more, watching_numbered}, WaitingLemmas.in_turn_watching}
+use Rattle.bq_state.specs.{CoreParts.machine_of, Counting.with_crowds_at, Crowds.recounted}
+use Rattle.bq_state.specs.{KeptTubes.KeptTubes, Stirs.with_anything, TubeEntries.counted}
+use Rattle.bq_state.proofs.{KnowledgeLemmas.so_watching}
+use Rattle.bq_state.proofs.PartsLemmas.{changed_there, seat_read, seat_there, watching_more, watching_numbered}
+use Rattle.bq_state.proofs.{WaitingLemmas.in_turn_watching}
 use Rattle.bq_state.proofs.changes.watch_tube.Goals as goal
 use Rattle.std.proofs.lemmas.Grind.{common_steps}
 
@@ -22,8 +27,10 @@ returns-in-Ok-clause-watched c s found =
     let old = c.args.state.now in
     let p = c.in_ok-provide_tube.ensures in
     let here = seat_there old.seats.items c.args.seat s c.args.state.now.sound.numbered found in
-    let there : slice_get c.provide_tube.new.state.seats.items c.args.seat ≡ Some s = ap (λ v. slice_get v.items c.args.seat) p.seats ∙ here in
-    ap (λ entries. record (machine_of c.provide_tube.new.state) { seats = c.watch.new.seats.items; tubes = counted entries }) (ap (λ (k : KeptTubes). k.entries) c.recount.ensures)
+    let there : slice_get c.provide_tube.new.state.seats.items c.args.seat ≡ Some s =
+    ap (λ v. slice_get v.items c.args.seat) p.seats ∙ here in
+    ap (λ entries. record (machine_of c.provide_tube.new.state) { seats = c.watch.new.seats.items; tubes = counted entries })
+    (ap (λ (k : KeptTubes). k.entries) c.recount.ensures)
     ∙ ap (λ (m : Machine). record m { seats = c.watch.new.seats.items }) p.after
     ∙ ap (λ seats. record (machine_of old) { seats = seats })
     (c.in-Ok.ensures.watched s there
@@ -44,7 +51,8 @@ returns-in-Ok-clause-stir c s found rests =
     let there : slice_get mid.seats.items n ≡ Some s =
     ap (λ v. slice_get v.items n) c.in_ok-provide_tube.ensures.seats ∙ seat_there old.seats.items n s old.sound.numbered found in
     let same : t ≡ s = (cc) in
-    let none : c.of_watcher-share.result.waiting ≡ false = ap (λ (share : Share). share.waiting) c.of_watcher-share.ensures ∙ ap is_waiting same ∙ rests in
+    let none : c.of_watcher-share.result.waiting ≡ false =
+    ap (λ (share : Share). share.waiting) c.of_watcher-share.ensures ∙ ap is_waiting same ∙ rests in
     c.stir_all_if.ensures ∙ ap (λ b. if b then with_anything mid.known.stir else mid.known.stir) none ∙ c.in_ok-provide_tube.ensures.stir
 
 pub invariant_of-state : goal.invariant_of-state

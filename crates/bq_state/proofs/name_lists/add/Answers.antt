@@ -17,7 +17,8 @@ returns-then-not-is_at-clause-names c =
     let i = c.place_of-i.ensures ∙ ap place c.as_slice.ensures.value in
     let absent : is_named name (slice_get names (place names)) ≡ false =
     (λ k. is_named name (slice_get (sym c.as_slice-2.ensures.value k) (sym i k))) ∙ sym c.if-not-is_at.ensures in
-    ap names_of (c.insert-fits.ensures.items ∙ when_ok c.insert-fits.result (insert names c.place_of-i.result c.args.name) names (c.insert-fits.ensures.succeeds c.requires))
+    ap names_of (c.insert-fits.ensures.items ∙ when_ok c.insert-fits.result (insert names c.place_of-i.result c.args.name) names
+    (c.insert-fits.ensures.succeeds c.requires))
     ∙ ap (λ k. names_of (insert names k c.args.name)) i
     ∙ place_new name c.args.name refl names absent
 

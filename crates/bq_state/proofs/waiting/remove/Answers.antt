@@ -11,4 +11,5 @@ returns-in-Some-clause-turns c = grind (arith, common_steps, removed_found)
 
 pub returns-in_default-clause-turns : goal.returns-in_default-clause-turns
 returns-in_default-clause-turns c =
-    sym (removed_missed c.args.number c.args.turns.now.items (c.in_default.ensures ∙ ap (position (λ t. t.1 == c.args.number)) c.as_slice.ensures.value))
+    sym (removed_missed c.args.number c.args.turns.now.items
+    (c.in_default.ensures ∙ ap (position (λ t. t.1 == c.args.number)) c.as_slice.ensures.value))

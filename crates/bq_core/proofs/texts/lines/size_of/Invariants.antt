@@ -3,4 +3,5 @@ use Rattle.std.proofs.Common.{◌++◌, ◌+◌, ◌≡◌, codes, drop, flat_ma
 use Rattle.bq_core.proofs.texts.lines.size_of.Given as goal
 
 abbrev pub invariant-loop-line : goal.invariant-loop-line
-invariant-loop-line g l = l.size + length (flat_map g.L.Line.line (drop l.line-index l.lines)) ≡ length (codes "---\n" ++ flat_map g.L.Line.line l.lines)
+invariant-loop-line g l = l.size + length (flat_map g.L.Line.line (drop l.line-index l.lines)) ≡ length
+    (codes "---\n" ++ flat_map g.L.Line.line l.lines)

@@ -13,7 +13,8 @@ returns c =
     let lines = λ (m : Machine) (j : Job). job_statistics m (in_tube j c.args.tube.now) in
     told_of _ _ (λ m. m.moment ≡ c.args.moment) (λ m. lines m c.args.job.now) c.statistics_text.ensures (λ m at.
     let age = c.seconds_between.ensures ∙ sym (ap (seconds_between row.put_at) at) in
-    let left = c.time_left.ensures ∙ ap (time_left c.args.moment) (c.state-2.ensures ∙ same) ∙ sym (ap (λ moment. time_left moment (state_of row.stage row.seat row.at)) at) in
+    let left = c.time_left.ensures ∙ ap (time_left c.args.moment) (c.state-2.ensures ∙ same)
+    ∙ sym (ap (λ moment. time_left moment (state_of row.stage row.seat row.at)) at) in
     let id = with_number _ _ _ _ c.number.ensures (c.requires.id ∙ sym (ap (λ (j : Job). j.id) c.job.view_is)) in
     let tube = with_word _ _ _ _ c.word.ensures c.as_slice.ensures.bytes in
     let state = with_word _ _ _ _ c.word-2.ensures (c.state_word.ensures ∙ ap state_word (c.state.ensures ∙ same)) in
@@ -23,4 +24,5 @@ returns c =
     let ttr = with_number _ _ _ _ c.number-5.ensures c.from-3.ensures in
     let time = with_number _ _ _ _ c.number-6.ensures left in
     (λ i. statistics_text (id i ∷ tube i ∷ state i ∷ pri i ∷ aged i ∷ delay i ∷ ttr i ∷ time i
-    ∷ c.number-7.ensures i ∷ c.number-8.ensures i ∷ c.number-9.ensures i ∷ c.number-10.ensures i ∷ c.number-11.ensures i ∷ [])) ∙ ap (lines m) c.job.view_is)
+    ∷ c.number-7.ensures i ∷ c.number-8.ensures i ∷ c.number-9.ensures i ∷ c.number-10.ensures i ∷ c.number-11.ensures i ∷ []))
+    ∙ ap (lines m) c.job.view_is)

@@ -5,7 +5,8 @@ use Rattle.bq_event_loop.proofs.hub.Hub.deliver.Given as goal
 
 abbrev pub invariant-loop-seat : goal.invariant-loop-seat
 invariant-loop-seat g l = record {
-  sorted : IsSorted (state_of g.K.QueueCore.machine g.K.QueueCore.comparisons l.fn.self) (state_of g.K.QueueCore.machine g.K.QueueCore.comparisons l.self);
+  sorted : IsSorted (state_of g.K.QueueCore.machine g.K.QueueCore.comparisons l.fn.self)
+      (state_of g.K.QueueCore.machine g.K.QueueCore.comparisons l.self);
   clock : l.self.timed.time.clock ≡ l.fn.self.timed.time.clock;
 }
 

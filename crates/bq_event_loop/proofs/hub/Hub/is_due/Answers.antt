@@ -15,4 +15,5 @@ returns-clause-order g c =
 pub returns-clause-went : goal.returns-clause-went
 returns-clause-went g c =
     let old = c.args.self.now in
-    went_over g.K.QueueCore.machine g.K.QueueCore.comparisons g.C.Clock.given 0 old (record old { timed = c.is_due.new.self }) c.is_due.ensures.over refl refl
+    went_over g.K.QueueCore.machine g.K.QueueCore.comparisons g.C.Clock.given 0 old
+    (record old { timed = c.is_due.new.self }) c.is_due.ensures.over refl refl

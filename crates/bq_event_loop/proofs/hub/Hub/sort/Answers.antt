@@ -9,4 +9,5 @@ returns-then-self-clause-went g c = went_none g.K.QueueCore.machine g.K.QueueCor
 
 pub returns-clause-went : goal.returns-clause-went
 returns-clause-went g c =
-    went_sorted g.K.QueueCore.machine g.K.QueueCore.comparisons g.C.Clock.given c.args.seat c.args.self.now c.sort_out.new.self c.sort_out.ensures.sorted c.sort_out.ensures.clock
+    went_sorted g.K.QueueCore.machine g.K.QueueCore.comparisons g.C.Clock.given c.args.seat c.args.self.now c.sort_out.new.self
+    c.sort_out.ensures.sorted c.sort_out.ensures.clock

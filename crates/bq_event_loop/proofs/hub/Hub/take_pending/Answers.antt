@@ -10,7 +10,8 @@ use Rattle.bq_event_loop.proofs.hub.Hub.take_pending.Goals as goal
 pub returns-in_default-clause-went : goal.returns-in_default-clause-went
 returns-in_default-clause-went g c =
     let h = c.next_pending.ensures in
-    went_still g.K.QueueCore.machine g.K.QueueCore.comparisons g.C.Clock.given c.args.seat c.args.self.now c.next_pending.new.self h.core h.mails (sym c.in_default.ensures.pending) h.heard h.most h.due.0 h.due.1 h.clock
+    went_still g.K.QueueCore.machine g.K.QueueCore.comparisons g.C.Clock.given c.args.seat c.args.self.now c.next_pending.new.self h.core
+    h.mails (sym c.in_default.ensures.pending) h.heard h.most h.due.0 h.due.1 h.clock
 
 pub returns-then-first-seat-clause-went : goal.returns-then-first-seat-clause-went
 returns-then-first-seat-clause-went g c =
@@ -22,7 +23,8 @@ returns-then-first-seat-clause-went g c =
     subst (λ (n : ℕ). (state old).pending ≡ (n, c.in-Some.answer) ∷ (state new).pending) c.if-first-seat.true c.in-Some.ensures.pending in (
       [],
       subst (λ x. GaveReadings g.C.Clock.given old.timed.time.clock [] x) (sym h.clock) (gave_none g.C.Clock.given old.timed.time.clock),
-      seat_takes_pending (state old) (state new) c.args.seat c.in-Some.answer c.requires.empty first_is (ap g.K.QueueCore.machine h.core) h.due.0 (ap g.K.QueueCore.comparisons h.core) h.heard (ap (λ ms. ms.items) h.mails),
+      seat_takes_pending (state old) (state new) c.args.seat c.in-Some.answer c.requires.empty first_is
+          (ap g.K.QueueCore.machine h.core) h.due.0 (ap g.K.QueueCore.comparisons h.core) h.heard (ap (λ ms. ms.items) h.mails),
     )
 
 pub returns-clause-went : goal.returns-clause-went
@@ -41,6 +43,9 @@ returns-clause-went g c =
     ∙ ap (λ (xs : List GivenAnswer). (c.in-Some.first, c.in-Some.answer) ∷ (xs ++ popped.timed.outs.given)) (sym h.held)
     ∙ sym c.in-Some.ensures.pending in
     let still : WentAt machine compared given c.args.seat old [] [] back =
-    went_still machine compared given c.args.seat old back (b.core ∙ h.core) (b.mails ∙ h.mails) pending (b.heard ∙ h.heard) (ap (λ o. o.most) b.outs ∙ h.most) (b.due.0 ∙ h.due.0) (b.due.1 ∙ h.due.1) (b.clock ∙ h.clock) in
-    went_then machine compared given c.args.seat c.args.seat old back c.take_mail.new.self [] [] [] (option_to_list c.take_mail.result) refl still
-    (went_then machine compared given c.args.seat c.args.seat back c.sort-all.new.self c.take_mail.new.self [] [] [] (option_to_list c.take_mail.result) refl c.sort-all.ensures.went c.take_mail.ensures.went)
+    went_still machine compared given c.args.seat old back (b.core ∙ h.core) (b.mails ∙ h.mails) pending (b.heard ∙ h.heard)
+    (ap (λ o. o.most) b.outs ∙ h.most) (b.due.0 ∙ h.due.0) (b.due.1 ∙ h.due.1) (b.clock ∙ h.clock) in
+    went_then machine compared given c.args.seat c.args.seat old back c.take_mail.new.self [] [] []
+    (option_to_list c.take_mail.result) refl still
+    (went_then machine compared given c.args.seat c.args.seat back c.sort-all.new.self c.take_mail.new.self [] [] []
+    (option_to_list c.take_mail.result) refl c.sort-all.ensures.went c.take_mail.ensures.went)

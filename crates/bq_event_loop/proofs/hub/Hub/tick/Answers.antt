@@ -15,4 +15,5 @@ pub returns-clause-went : goal.returns-clause-went
 returns-clause-went g c =
     let t = c.tick_if_due-ticks in
     let old = c.args.self.now in
-    went_passed g.K.QueueCore.machine g.K.QueueCore.comparisons g.C.Clock.given 0 old (record old { timed = t.new.self; is_sorted = not t.result }) t.result t.ensures.over t.ensures.ticked refl refl c.requires.empty
+    went_passed g.K.QueueCore.machine g.K.QueueCore.comparisons g.C.Clock.given 0 old
+    (record old { timed = t.new.self; is_sorted = not t.result }) t.result t.ensures.over t.ensures.ticked refl refl c.requires.empty

@@ -7,16 +7,27 @@ pub look_at-requires : goal.look_at-requires
 look_at-requires g c =
     let at = door_seen g.D.Door.is_out g.D.Door.is_at_end g.D.Door.lines_over in
     let row = c.args.self.now in
-    record { placed = placed_there g.L.Line.seen at row.seats.items row.doors.items c.args.seat c.index_mut.result.now c.index_mut-2.result.now (let e = c.len.ensures in let b = c.if-seat-len.false in omega arith) c.requires.tended c.index_mut.ensures.value c.index_mut-2.ensures.value }
+    record {
+      placed = placed_there g.L.Line.seen at row.seats.items row.doors.items c.args.seat c.index_mut.result.now
+          c.index_mut-2.result.now (let e = c.len.ensures in let b = c.if-seat-len.false in
+          omega arith) c.requires.tended c.index_mut.ensures.value c.index_mut-2.ensures.value;
+    }
 
 pub returns-clause-tended : goal.returns-clause-tended
 returns-clause-tended g c =
     let at = door_seen g.D.Door.is_out g.D.Door.is_at_end g.D.Door.lines_over in
     let row = c.args.self.now in
-    tended_there g.L.Line.seen at row.seats.items row.doors.items c.args.seat c.index_mut.result.now c.look_at.new.seat c.index_mut-2.result.now c.look_at.new.door (let e = c.len.ensures in let b = c.if-seat-len.false in omega arith) c.requires.tended c.index_mut.ensures.value c.index_mut-2.ensures.value c.look_at.ensures.went
+    tended_there g.L.Line.seen at row.seats.items row.doors.items c.args.seat c.index_mut.result.now c.look_at.new.seat
+    c.index_mut-2.result.now c.look_at.new.door
+    (let e = c.len.ensures in let b = c.if-seat-len.false in
+    omega arith) c.requires.tended c.index_mut.ensures.value c.index_mut-2.ensures.value c.look_at.ensures.went
 
 pub returns-clause-rests : goal.returns-clause-rests
 returns-clause-rests g c first rests =
     let at = door_seen g.D.Door.is_out g.D.Door.is_at_end g.D.Door.lines_over in
     let row = c.args.self.now in
-    rested_there g.L.Line.seen at g.D.Door.same first.seats.items row.seats.items first.doors.items row.doors.items c.args.seat c.index_mut.result.now c.look_at.new.seat c.index_mut-2.result.now c.look_at.new.door (let e = c.len.ensures in let b = c.if-seat-len.false in omega arith) c.requires.tended.doored c.index_mut.ensures.value c.index_mut-2.ensures.value c.look_at.ensures.went c.look_at.ensures.same rests
+    rested_there g.L.Line.seen at g.D.Door.same first.seats.items row.seats.items first.doors.items row.doors.items c.args.seat
+    c.index_mut.result.now c.look_at.new.seat c.index_mut-2.result.now c.look_at.new.door
+    (let e = c.len.ensures in let b = c.if-seat-len.false in
+    omega arith) c.requires.tended.doored c.index_mut.ensures.value c.index_mut-2.ensures.value c.look_at.ensures.went
+    c.look_at.ensures.same rests

@@ -7,7 +7,8 @@ pub returns-clause-ready : goal.returns-clause-ready
 returns-clause-ready g c =
     let s = c.step_in_place in
     record {
-      room = subst (λ n. (g.K.QueueCore.machine s.new.self).settings.seats < n) (sym s.ensures.most) (subst (λ (x : Settings). x.seats < c.args.self.now.outs.most) (sym s.ensures.settings) c.requires.ready.room);
+      room = subst (λ n. (g.K.QueueCore.machine s.new.self).settings.seats < n) (sym s.ensures.most)
+          (subst (λ (x : Settings). x.seats < c.args.self.now.outs.most) (sym s.ensures.settings) c.requires.ready.room);
       due = λ known. absurd (false≢true known);
     }
 

@@ -11,5 +11,14 @@ returns-clause-ready g c =
 pub returns-clause-taken : goal.returns-clause-taken
 returns-clause-taken g c =
     let t = c.step.ensures.taken in
-    subst (λ (new : TimedCore _ _). TakesStep g.C.Clock.given g.K.QueueCore.machine g.K.QueueCore.comparisons c.args.self.now c.args.seat c.args.what.now new) (sym c.tell.ensures)
-    (record { reading = t.reading; outcome = t.outcome; time = t.time; step = t.step; unknown = t.unknown; most = t.most; settings = t.settings })
+    subst (λ (new : TimedCore _ _). TakesStep g.C.Clock.given g.K.QueueCore.machine g.K.QueueCore.comparisons c.args.self.now c.args.seat
+    c.args.what.now new) (sym c.tell.ensures)
+    (record {
+      reading = t.reading;
+      outcome = t.outcome;
+      time = t.time;
+      step = t.step;
+      unknown = t.unknown;
+      most = t.most;
+      settings = t.settings;
+    })

@@ -10,7 +10,8 @@ pub returns-clause-ready : goal.returns-clause-ready
 returns-clause-ready g c =
     let s = c.step_in_place in
     record {
-      room = subst (λ n. (g.K.QueueCore.machine s.new.self).settings.seats < n) (sym s.ensures.most) (subst (λ (x : Settings). x.seats < c.args.self.now.outs.most) (sym s.ensures.settings) c.requires.ready.room);
+      room = subst (λ n. (g.K.QueueCore.machine s.new.self).settings.seats < n) (sym s.ensures.most)
+          (subst (λ (x : Settings). x.seats < c.args.self.now.outs.most) (sym s.ensures.settings) c.requires.ready.room);
       due = λ known. absurd (false≢true known);
     }
 
@@ -24,7 +25,9 @@ returns-clause-ticked g c first h =
       reading = h.0;
       outcome = record { left_out = s.new.outs.left_out; unshared = s.new.outs.unshared };
       time = h.1;
-      step = subst (λ k. IsStepWithin (machine k) old.time.moment c.args.seat Tick (record { left_out = s.new.outs.left_out; unshared = s.new.outs.unshared }) s.new.outs.given (machine s.new.self) (compared k) (compared s.new.self))
+      step = subst (λ k. IsStepWithin (machine k) old.time.moment c.args.seat Tick
+          (record { left_out = s.new.outs.left_out; unshared = s.new.outs.unshared }) s.new.outs.given (machine s.new.self) (compared k)
+          (compared s.new.self))
           (ap (λ (t : TimedCore _ _). t.core) h.2) s.ensures.comparisons;
       unknown = refl;
       most = s.ensures.most ∙ ap (λ (t : TimedCore _ _). t.outs.most) h.2;

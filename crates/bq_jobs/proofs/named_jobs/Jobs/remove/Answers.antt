@@ -16,27 +16,35 @@ pub invariant_of-self : goal.invariant_of-self
 invariant_of-self c =
     let was = c.in_err-job.was in
     let spare = ap (λ o. c.self.inside.by_id.spare + cond (is_some o) 1 0) was in
-    shelved_same c.args.id (parts c.self.inside) c.remove.new.self c.self.invariant (sym c.remove.ensures.value ∙ was) c.remove.ensures.entries (omega (arith, c.remove.ensures.spare, spare))
+    shelved_same c.args.id (parts c.self.inside) c.remove.new.self c.self.invariant
+    (sym c.remove.ensures.value ∙ was) c.remove.ensures.entries (omega (arith, c.remove.ensures.spare, spare))
 
 pub returns-in_err-job-clause-comparisons : goal.returns-in_err-job-clause-comparisons
 returns-in_err-job-clause-comparisons c =
     let s = parts c.self.inside in
     let few = c.remove.ensures.comparisons in
-    few_more 4 (kept_in s.by_id s.groups s.timers) c.args.self.now _ _ c.self.view_is refl (omega (arith, few)) (omega (arith, few, id_search s.by_id))
+    few_more 4 (kept_in s.by_id s.groups s.timers) c.args.self.now _ _ c.self.view_is refl (omega (arith, few))
+    (omega (arith, few, id_search s.by_id))
 
 pub leave-requires : goal.leave-requires
 leave-requires c =
     let s = parts c.self.inside in
     let h = c.self.invariant in
     let found = sym (found_in c.args.id s h) ∙ sym c.remove.ensures.value ∙ c.in_ok-job.was in
-    record { held = λ p e. held_place group_laws.total-law group_place group_own c.args.id c.in_ok-job.job (jobs_of s.by_id.entries) s.by_id.spare s.groups h.in_groups found p (sym c.place_of.ensures ∙ e) }
+    record {
+      held = λ p e. held_place group_laws.total-law group_place group_own c.args.id c.in_ok-job.job
+          (jobs_of s.by_id.entries) s.by_id.spare s.groups h.in_groups found p (sym c.place_of.ensures ∙ e);
+    }
 
 pub leave-requires-2 : goal.leave-requires-2
 leave-requires-2 c =
     let s = parts c.self.inside in
     let h = c.self.invariant in
     let found = sym (found_in c.args.id s h) ∙ sym c.remove.ensures.value ∙ c.in_ok-job.was in
-    record { held = λ p e. held_place timer_laws.total-law timer_place timer_own c.args.id c.in_ok-job.job (jobs_of s.by_id.entries) s.by_id.spare s.timers h.in_timers found p (sym c.timer_place_of.ensures ∙ e) }
+    record {
+      held = λ p e. held_place timer_laws.total-law timer_place timer_own c.args.id c.in_ok-job.job
+          (jobs_of s.by_id.entries) s.by_id.spare s.timers h.in_timers found p (sym c.timer_place_of.ensures ∙ e);
+    }
 
 pub invariant_of-self-2 : goal.invariant_of-self-2
 invariant_of-self-2 c =
@@ -44,7 +52,8 @@ invariant_of-self-2 c =
     let h = c.self.invariant in
     let was = c.in_ok-job.was in
     let spare = ap (λ o. s.by_id.spare + cond (is_some o) 1 0) was in
-    shelved_removed c.args.id c.in_ok-job.job s (record { by_id = c.remove.new.self; groups = c.leave.new.order; timers = c.leave-2.new.order })
+    shelved_removed c.args.id c.in_ok-job.job s
+    (record { by_id = c.remove.new.self; groups = c.leave.new.order; timers = c.leave-2.new.order })
     h (sym (found_in c.args.id s h) ∙ sym c.remove.ensures.value ∙ was) (record {
       by_id = c.remove.ensures.entries;
       room = omega (arith, c.remove.ensures.spare, spare);
@@ -60,7 +69,15 @@ returns-clause-comparisons c =
     let h = c.self.invariant in
     few_more 4 (kept_in s.by_id s.groups s.timers) c.args.self.now _ _ c.self.view_is refl
     (omega (arith, c.remove.ensures.comparisons, c.leave.ensures.comparisons, c.leave-2.ensures.comparisons))
-    (omega (arith, c.remove.ensures.comparisons, c.leave.ensures.comparisons, c.leave-2.ensures.comparisons, id_search s.by_id, group_search s h, timer_search s h))
+    (omega (
+      arith,
+      c.remove.ensures.comparisons,
+      c.leave.ensures.comparisons,
+      c.leave-2.ensures.comparisons,
+      id_search s.by_id,
+      group_search s h,
+      timer_search s h,
+    ))
 
 pub returns-clause-id : goal.returns-clause-id
 returns-clause-id c = found_own c.args.id c.self.inside c.self.invariant c.in_ok-job.job (sym c.remove.ensures.value ∙ c.in_ok-job.was)

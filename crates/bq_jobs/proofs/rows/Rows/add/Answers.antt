@@ -35,4 +35,12 @@ returns-clause-comparisons c =
     let h = c.self.invariant in
     few_more 4 (kept_in s.by_id s.groups s.timers) c.args.self.now _ _ c.self.view_is refl
     (omega (arith, c.insert.ensures.comparisons, c.enter.ensures.comparisons, c.enter-2.ensures.comparisons))
-    (omega (arith, c.insert.ensures.comparisons, c.enter.ensures.comparisons, c.enter-2.ensures.comparisons, id_search s.by_id, group_search s h, timer_search s h))
+    (omega (
+      arith,
+      c.insert.ensures.comparisons,
+      c.enter.ensures.comparisons,
+      c.enter-2.ensures.comparisons,
+      id_search s.by_id,
+      group_search s h,
+      timer_search s h,
+    ))

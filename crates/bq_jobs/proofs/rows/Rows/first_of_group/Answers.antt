@@ -16,4 +16,5 @@ pub returns-clause-comparisons : goal.returns-clause-comparisons
 returns-clause-comparisons c =
     let s = c.self.inside in
     let few = c.first_rank.ensures.comparisons in
-    few_more 1 (kept_in s.by_id s.groups s.timers) c.args.self.now _ _ c.self.view_is refl (omega (arith, few)) (omega (arith, few, group_search s c.self.invariant))
+    few_more 1 (kept_in s.by_id s.groups s.timers) c.args.self.now _ _ c.self.view_is refl (omega (arith, few))
+    (omega (arith, few, group_search s c.self.invariant))

@@ -18,7 +18,8 @@ returns c =
           ap jobs_of left.0 ∙ ap (λ (m : Kept). m.jobs) c.self.view_is,
           left.1 ∙ ap (λ (m : Kept). m.room) c.self.view_is,
           ap (λ (m : Kept). m.tubes) c.self.view_is,
-          few_more 1 (kept_in s.by_id s.groups s.timers) c.args.self.now _ _ c.self.view_is refl (omega (arith, few)) (omega (arith, few, id_search s.by_id)),
+          few_more 1 (kept_in s.by_id s.groups s.timers) c.args.self.now _ _ c.self.view_is refl (omega (arith, few))
+              (omega (arith, few, id_search s.by_id)),
         ),
       ),
       record {

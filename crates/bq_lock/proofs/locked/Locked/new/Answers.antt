@@ -10,7 +10,8 @@ invariant_of-result c =
     let seats : c.in_ok-core.core.machine.settings.seats ≡ c.args.config.seats = ap (λ (m : Machine). m.settings.seats) machine in
     let most : c.in_ok-core.outs.most ≡ c.args.config.seats + 1 = made.room in
     let room = c.in-Ok.ensures.room in (
-      hold_first c.args.config c.args.capacity c.in_ok-core.core.machine c.in-Ok.outboxes.mails.items c.in-Ok.outboxes.answered.items c.in-Ok-new.journal
+      hold_first c.args.config c.args.capacity c.in_ok-core.core.machine c.in-Ok.outboxes.mails.items
+          c.in-Ok.outboxes.answered.items c.in-Ok-new.journal
           machine c.in-Ok.ensures.mails c.in-Ok.ensures.answered c.in-Ok-new.ensures,
       omega (arith, seats, most),
       omega (arith, seats, room),

@@ -8,7 +8,8 @@ use Rattle.bq_lock.proofs.LockedLemmas.{hold_step, noted_of}
 use Rattle.bq_lock.proofs.locked.Locked.step.Goals as goal
 
 abbrev before : goal.After-note → LockedState
-before c = locked_of c.self.inside.core.machine c.self.inside.outboxes.mails.items c.self.inside.outboxes.answered.items c.self.inside.journal
+before c = locked_of c.self.inside.core.machine c.self.inside.outboxes.mails.items c.self.inside.outboxes.answered.items
+    c.self.inside.journal
 
 abbrev after : goal.After-note → LockedState
 after c = locked_of c.step.new.self.machine c.deliver.new.self.mails.items c.deliver.new.self.answered.items c.note.new.self
@@ -20,22 +21,27 @@ taken c = record {
   step = c.step.ensures.step;
   delivered = c.deliver.ensures.delivered;
   answered = c.deliver.ensures.answered;
-  noted = noted_of c.copy-copy.result c.self.inside.journal c.args.at c.args.seat c.args.what c.left_out.result c.unshared.result c.step.new.outs.left_out c.step.new.outs.unshared c.note.new.self
-      (c.left_out.ensures ∙ ap (λ (o : Outbox). o.left_out) c.deliver.ensures.taken) (c.unshared.ensures ∙ ap (λ (o : Outbox). o.unshared) c.deliver.ensures.taken)
+  noted = noted_of c.copy-copy.result c.self.inside.journal c.args.at c.args.seat c.args.what c.left_out.result c.unshared.result
+      c.step.new.outs.left_out c.step.new.outs.unshared c.note.new.self
+      (c.left_out.ensures ∙ ap (λ (o : Outbox). o.left_out) c.deliver.ensures.taken)
+      (c.unshared.ensures ∙ ap (λ (o : Outbox). o.unshared) c.deliver.ensures.taken)
       c.copy-copy.ensures.same c.copy-copy.ensures.room c.copy-copy.ensures.refused c.note.ensures.without c.note.ensures.added;
 }
 
 abbrev holds : (c : goal.After-note) → IsLawfulHold (after c)
-holds c = hold_step (before c) c.args.at c.args.seat c.args.what (after c) c.self.invariant.0 c.step.ensures.lawful c.step.ensures.settings (taken c)
+holds c = hold_step (before c) c.args.at c.args.seat c.args.what
+    (after c) c.self.invariant.0 c.step.ensures.lawful c.step.ensures.settings (taken c)
 
 pub deliver-requires-clause-room : goal.deliver-requires-clause-room
 deliver-requires-clause-room c =
-    let few = few_answers c.self.inside.core.machine c.step.new.self.machine c.args.at c.args.seat c.args.what _ c.step.new.outs.given c.self.invariant.0.lawful c.step.ensures.step in
+    let few = few_answers c.self.inside.core.machine c.step.new.self.machine c.args.at c.args.seat c.args.what _ c.step.new.outs.given
+    c.self.invariant.0.lawful c.step.ensures.step in
     let room = c.self.invariant.2 in omega (arith, few, room)
 
 pub invariant_of-self : goal.invariant_of-self
 invariant_of-self c =
-    let seats : c.step.new.self.machine.settings.seats ≡ c.self.inside.core.machine.settings.seats = ap (λ (s : Settings). s.seats) c.step.ensures.settings in
+    let seats : c.step.new.self.machine.settings.seats ≡ c.self.inside.core.machine.settings.seats =
+    ap (λ (s : Settings). s.seats) c.step.ensures.settings in
     let most = ap (λ (o : Outbox). o.most) c.deliver.ensures.taken ∙ c.step.ensures.most in
     let outs = c.self.invariant.1 in
     let room = c.deliver.ensures.room in

@@ -8,6 +8,7 @@ abbrev pub invariant-loop : goal.invariant-loop
 invariant-loop g l = record {
   iterator : (goal.iterator-loop g).can_next l.iterator' × (goal.iterator-loop g).is_finite l.iterator';
   tended : (before : List Step) × (got : List Answer)
-      × IsTended (g.L.Line.seen) l.fn.self.max_job_size l.attendant (door_seen (g.D.Door.is_out) (g.D.Door.is_at_end) (g.D.Door.lines_over) l.door) before got;
+      × IsTended (g.L.Line.seen) l.fn.self.max_job_size l.attendant
+      (door_seen (g.D.Door.is_out) (g.D.Door.is_at_end) (g.D.Door.lines_over) l.door) before got;
   same : g.D.Door.same l.fn.self.door l.door;
 }

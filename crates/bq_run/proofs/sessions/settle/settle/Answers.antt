@@ -17,7 +17,8 @@ pub settle_one-requires-clause-pair : goal.settle_one-requires-clause-pair
 settle_one-requires-clause-pair c =
     let l = c.loop-place in
     let below : l.place < length l.ends = let e = l.auto.ends in let h = c.loop-place-test.true in omega arith in
-    (pair_at c.args.core.now l.core c.args.ends.now l.ends l.place c.index-ends-place.result c.requires.pairs l.invariant.core l.invariant.ends below).1
+    (pair_at c.args.core.now l.core c.args.ends.now l.ends l.place c.index-ends-place.result c.requires.pairs l.invariant.core
+    l.invariant.ends below).1
 
 pub loop-place-preserved : goal.loop-place-preserved
 loop-place-preserved c =
@@ -30,5 +31,6 @@ loop-place-preserved c =
     record {
       core = core_still_on c.args.core.now l.core new.core l.invariant.core done.core;
       ends = still_set c.args.ends.now l.ends l.place x new.end below l.invariant.ends done.end;
-      settled = settled_more l.core new.core l.ends l.place new.end below done.core l.invariant.settled (subst (λ (n : ℕ). IsSettled new.core n new.end) at.0 done.settled);
+      settled = settled_more l.core new.core l.ends l.place new.end below done.core l.invariant.settled
+          (subst (λ (n : ℕ). IsSettled new.core n new.end) at.0 done.settled);
     }

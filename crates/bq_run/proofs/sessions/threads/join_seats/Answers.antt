@@ -12,7 +12,8 @@ loop-thread-preserved g c =
     let limits = c.loop-thread.invariant.limits in
     let before = c.loop-thread.invariant.served in
     let step = c.in-Some.ensures.steps in
-    let limit = first_passes c.loop-thread.thread-iterator.rest.items _ c.in-Some.thread (λ t. t.promise.max_job_size ≡ size) step.0 limits in
+    let limit = first_passes c.loop-thread.thread-iterator.rest.items _ c.in-Some.thread
+    (λ t. t.promise.max_job_size ≡ size) step.0 limits in
     let here = rw (c.in-Some-join.is, limit) at c.join.ensures.0 in
     let same = rw c.in-Some-join.is at c.join.ensures.1 in
     let end = c.in-Some-join.end in
@@ -21,13 +22,17 @@ loop-thread-preserved g c =
     let rest_many = ap length step.0 in
     record {
       limits = rest_passes c.loop-thread.thread-iterator.rest.items _ c.in-Some.thread (λ t. t.promise.max_job_size ≡ size) step.0 limits;
-      for_ends = let h = c.loop-thread.invariant.for_ends in let a = c.push_reserved.ensures.len in let b = c.push_reserved.ensures.capacity in let n = rest_many in omega arith;
-      for_doors = let h = c.loop-thread.invariant.for_doors in let a = c.push_reserved-in-loop-thread.ensures.len in let b = c.push_reserved-in-loop-thread.ensures.capacity in let n = rest_many in omega arith;
+      for_ends = let h = c.loop-thread.invariant.for_ends in let a = c.push_reserved.ensures.len in
+          let b = c.push_reserved.ensures.capacity in let n = rest_many in omega arith;
+      for_doors = let h = c.loop-thread.invariant.for_doors in let a = c.push_reserved-in-loop-thread.ensures.len in
+          let b = c.push_reserved-in-loop-thread.ensures.capacity in let n = rest_many in omega arith;
       served = (
         before.0 ++ first ∷ [],
         joined_first (λ t. t.promise.end.value) before.0 c.loop-thread.thread-iterator.rest.items _ c.in-Some.thread step.0 ∙ before.1,
         rw (c.push_reserved.ensures.items, c.push_reserved-in-loop-thread.ensures.items)
             (served_more at size before.0 c.loop-thread.ends.items c.loop-thread.doors.items first end door before.2 here.0 here.1),
       );
-      back = one_back g.D.Door.same (λ t. t.promise.door.value) c.args.threads.items c.loop-thread.thread-iterator.rest.items _ c.in-Some.thread c.loop-thread.doors.items _ door step.0 c.push_reserved-in-loop-thread.ensures.items same c.loop-thread.invariant.back;
+      back = one_back g.D.Door.same (λ t. t.promise.door.value) c.args.threads.items c.loop-thread.thread-iterator.rest.items _
+          c.in-Some.thread c.loop-thread.doors.items _ door step.0 c.push_reserved-in-loop-thread.ensures.items same
+          c.loop-thread.invariant.back;
     }

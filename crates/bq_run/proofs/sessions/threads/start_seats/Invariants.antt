@@ -8,8 +8,10 @@ invariant-loop-post g l = record {
   limits : All (λ post. post.max_job_size ≡ l.fn.max_job_size) l.posts.items;
   promised : All (λ t. t.promise.max_job_size ≡ l.fn.max_job_size) l.threads.items;
   count : vec_len l.threads + vec_len l.posts ≡ vec_len l.fn.posts;
-  whole : map (λ t. t.promise.end.value) l.threads.items ++ reverse (map (λ p. p.end) l.posts.items) ≡ reverse (map (λ p. p.end) l.fn.posts.items);
-  doors : map (λ t. t.promise.door.value) l.threads.items ++ reverse (map (λ p. p.door) l.posts.items) ≡ reverse (map (λ p. p.door) l.fn.posts.items);
+  whole : map (λ t. t.promise.end.value) l.threads.items
+      ++ reverse (map (λ p. p.end) l.posts.items) ≡ reverse (map (λ p. p.end) l.fn.posts.items);
+  doors : map (λ t. t.promise.door.value) l.threads.items
+      ++ reverse (map (λ p. p.door) l.posts.items) ≡ reverse (map (λ p. p.door) l.fn.posts.items);
 }
 
 abbrev pub decreases-loop-post : goal.decreases-loop-post

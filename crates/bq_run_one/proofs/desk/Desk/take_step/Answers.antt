@@ -6,7 +6,12 @@ use Rattle.bq_run_one.proofs.desk.Desk.take_step.Goals as goal
 pub returns-clause-mails : goal.returns-clause-mails
 returns-clause-mails g c =
     let t = c.take_step.ensures in
-    record { many = c.requires.mails.many ∙ ap (λ (s : Settings). s.seats) (sym t.taken.settings); room = t.ready.room; due_is = t.ready.due }
+    record {
+      many = c.requires.mails.many ∙ ap (λ (s : Settings). s.seats) (sym t.taken.settings);
+      room = t.ready.room;
+      due_is = t.ready.due;
+    }
 
 pub returns-clause-went : goal.returns-clause-went
-returns-clause-went g c = went_step g.C.Clock.given c.args.seat c.args.what c.args.self.now c.take_step.new.self c.take_step.ensures.taken c.requires.empty
+returns-clause-went g c = went_step g.C.Clock.given c.args.seat c.args.what c.args.self.now c.take_step.new.self
+    c.take_step.ensures.taken c.requires.empty

@@ -10,7 +10,15 @@ IsNew d = IsNewDoor (record { is_out = d.door.is_out; is_at_end = d.door.is_at_e
 
 pub invariant_of-self : goal.invariant_of-self
 invariant_of-self c =
-    let is_new : IsNewDoor (record { is_out = c.args.door.is_out; is_at_end = c.args.door.is_at_end; lines_over = map line_over c.args.door.over.items }) = record { inside = c.requires.inside; more = c.requires.more; none_over = c.requires.none_over } in
+    let is_new : IsNewDoor (record {
+      is_out = c.args.door.is_out;
+      is_at_end = c.args.door.is_at_end;
+      lines_over = map line_over c.args.door.over.items;
+    }) = record {
+      inside = c.requires.inside;
+      more = c.requires.more;
+      none_over = c.requires.none_over;
+    } in
     record {
       new = all_pushed_if _ c.args.self.now.all.items _ _ IsNew c.push.ensures.items c.args.self.now.new is_new;
     }

@@ -9,4 +9,5 @@ use Rattle.bq_serve_tests.proofs.sessions.core_at_work.submits.Goals as goal
 pub submit-requires-clause-may : goal.submit-requires-clause-may
 submit-requires-clause-may g c taken waiting room h =
     let t : ℕ × Step = (c.args.end.now.number, c.args.step) in
-    subst (λ (all : List (ℕ × Step)). IsTickless all) (append_assoc taken waiting (t ∷ [])) (all_push (λ (x : ℕ × Step). is_tick x.1 ≡ false) (taken ++ waiting) t h c.requires.no_tick)
+    subst (λ (all : List (ℕ × Step)). IsTickless all) (append_assoc taken waiting (t ∷ []))
+    (all_push (λ (x : ℕ × Step). is_tick x.1 ≡ false) (taken ++ waiting) t h c.requires.no_tick)

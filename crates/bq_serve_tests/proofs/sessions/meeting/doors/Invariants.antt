@@ -11,7 +11,8 @@ use Rattle.bq_serve_tests.specs.declared.sessions.meeting.guest_door.GuestDoor.{
 use Rattle.bq_serve_tests.proofs.sessions.meeting.doors.Given as goal
 
 abbrev over_of : IoLine Guest × LineEnd → LineOver
-over_of over = record { seen = record { read = over.0.read; written = over.0.written; ended = over.0.ended; fault = over.0.fault }; over = over.1 }
+over_of over =
+    record { seen = record { read = over.0.read; written = over.0.written; ended = over.0.ended; fault = over.0.fault }; over = over.1 }
 
 -- the door was not used yet
 abbrev pub IsNewGuest : GuestDoor → Type 0

@@ -7,10 +7,13 @@ use Rattle.bq_state.proofs.tubes.Tubes.add_job.Goals as goal
 pub returns : goal.returns
 returns c =
     let j = c.args.job.now in
-    job_counted CountPut j.tube (kept_with j) (tally_with j) c.self.inside.kept.entries _ c.args.self.now c.add_job.ensures.entries c.self.view_is c.add_job.ensures.ordered (change_kept CountPut) (λ t. refl) (λ t. refl)
+    job_counted CountPut j.tube (kept_with j)
+    (tally_with j) c.self.inside.kept.entries _ c.args.self.now c.add_job.ensures.entries c.self.view_is c.add_job.ensures.ordered
+    (change_kept CountPut) (λ t. refl) (λ t. refl)
 
 pub invariant_of-self : goal.invariant_of-self
 invariant_of-self c =
     let j = c.args.job.now in
     let es = c.self.inside.kept.entries in
-    edit_stays j.tube (kept_with j) (tube_changed CountPut) (change_kept CountPut) (tube_name_kept CountPut) es _ (in_order es c.add_job.ensures.ordered) c.add_job.ensures.entries (λ t. refl) c.self.inside.ends c.self.invariant
+    edit_stays j.tube (kept_with j) (tube_changed CountPut) (change_kept CountPut) (tube_name_kept CountPut) es _
+    (in_order es c.add_job.ensures.ordered) c.add_job.ensures.entries (λ t. refl) c.self.inside.ends c.self.invariant

@@ -5,7 +5,8 @@ use Rattle.bq_state.specs.KeptTubes.{KeptTube, KeptTubes, record_of}
 use Rattle.bq_state.proofs.NamedLemmas.{found_crowd, found_entry, found_pause, found_tally, in_order}
 use Rattle.bq_state.proofs.tubes.Tubes.entry_of.Goals as goal
 
-read : {B : Type 0} (f : KeptTube → B) (o : Option (Bor KeptTube)) {x : Option KeptTube} → option_map (λ (t : Bor KeptTube). t.now) o ≡ x → option_map (λ (t : Bor KeptTube). f t.now) o ≡ option_map f x
+read : {B : Type 0} (f : KeptTube → B) (o : Option (Bor KeptTube)) {x : Option KeptTube} → option_map (λ (t : Bor KeptTube). t.now) o ≡ x
+    → option_map (λ (t : Bor KeptTube). f t.now) o ≡ option_map f x
 read f o e = grind (arith, common_steps)
 
 pub returns-clause-entry : goal.returns-clause-entry

@@ -4,4 +4,6 @@ use Rattle.bq_state.proofs.EditLemmas.{ends_stay}
 use Rattle.bq_state.proofs.tubes.Tubes.recount.Goals as goal
 
 pub invariant_of-self : goal.invariant_of-self
-invariant_of-self c = ends_stay c.args.name.now (kept_recounted c.args.moving c.args.share) c.self.inside.kept.entries _ c.self.inside.ends c.recount.ensures (λ n t. refl) c.self.invariant
+invariant_of-self c = ends_stay c.args.name.now
+    (kept_recounted c.args.moving c.args.share) c.self.inside.kept.entries _ c.self.inside.ends c.recount.ensures
+    (λ n t. refl) c.self.invariant

@@ -6,7 +6,8 @@ use Rattle.bq_state.proofs.tubes.pauses.end_all.Given as goal
 
 abbrev pub invariant-loop : goal.invariant-loop
 invariant-loop l = record {
-  records : map (tube_after_timers l.moment) (map record_at l.kept.entries) ≡ map (tube_after_timers l.moment) (map record_at l.fn.kept.entries);
+  records : map (tube_after_timers l.moment) (map record_at l.kept.entries) ≡ map (tube_after_timers l.moment)
+      (map record_at l.fn.kept.entries);
   tallies : map tally_kept l.kept.entries ≡ map tally_kept l.fn.kept.entries;
   crowds : map crowd_kept l.kept.entries ≡ map crowd_kept l.fn.kept.entries;
   ends : AreEnds (map record_at l.kept.entries) l.ends;

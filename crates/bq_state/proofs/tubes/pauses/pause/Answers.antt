@@ -10,7 +10,8 @@ leave-requires c x is =
     let es = c.args.kept.now.entries in
     let new = edited name (kept_changed c.args.what) (lookup (is_named_at name) es) es in
     let m = change_moves name c.args.what es new (in_order es c.end_of-from.ensures.ordered) refl in
-    end_held name (pause_at name (map record_at es)) (pause_at name (map record_at new)) (map record_at es) (map record_at new) c.args.ends.now c.requires m x (sym c.end_of-from.ensures.end ∙ is)
+    end_held name (pause_at name (map record_at es)) (pause_at name (map record_at new)) (map record_at es)
+    (map record_at new) c.args.ends.now c.requires m x (sym c.end_of-from.ensures.end ∙ is)
 
 pub enter-requires-clause-spare : goal.enter-requires-clause-spare
 enter-requires-clause-spare c x is =
@@ -20,7 +21,9 @@ enter-requires-clause-spare c x is =
     let m = change_moves name c.args.what es new (in_order es c.end_of-from.ensures.ordered) c.change.ensures.entries in
     let from = pause_at name (map record_at es) in
     let one = one_box name from c.end_of-from.result c.end_of-from.ensures.end in
-    end_fits name from (pause_at name (map record_at new)) (map record_at es) (map record_at new) c.args.ends.now c.requires m c.leave.new.ends.spare (omega (arith, c.leave.ensures.spare, one)) x (sym c.end_of-to.ensures.end ∙ is)
+    end_fits name from (pause_at name (map record_at new)) (map record_at es)
+    (map record_at new) c.args.ends.now c.requires m c.leave.new.ends.spare (omega (arith, c.leave.ensures.spare, one)) x
+    (sym c.end_of-to.ensures.end ∙ is)
 
 pub enter-requires-clause-absent : goal.enter-requires-clause-absent
 enter-requires-clause-absent c x is =
@@ -29,7 +32,9 @@ enter-requires-clause-absent c x is =
     let new = c.change.new.catalog.entries in
     let m = change_moves name c.args.what es new (in_order es c.end_of-from.ensures.ordered) c.change.ensures.entries in
     ap (found_end x) (c.leave.ensures.entries ∙ ap (λ o. without_end o c.args.ends.now.entries) c.end_of-from.ensures.end)
-    ∙ end_absent name (pause_at name (map record_at es)) (pause_at name (map record_at new)) (map record_at es) (map record_at new) c.args.ends.now c.requires m (λ x is. c.leave.ensures.ordered x (c.end_of-from.ensures.end ∙ is)) x (sym c.end_of-to.ensures.end ∙ is)
+    ∙ end_absent name (pause_at name (map record_at es)) (pause_at name (map record_at new)) (map record_at es)
+    (map record_at new) c.args.ends.now c.requires m (λ x is. c.leave.ensures.ordered x (c.end_of-from.ensures.end ∙ is)) x
+    (sym c.end_of-to.ensures.end ∙ is)
 
 pub returns-clause-ends : goal.returns-clause-ends
 returns-clause-ends c =
@@ -42,6 +47,7 @@ returns-clause-ends c =
     let one = one_box name from c.end_of-from.result c.end_of-from.ensures.end in
     let other = one_box name to c.end_of-to.result c.end_of-to.ensures.end in
     let left = c.leave.ensures.entries ∙ ap (λ o. without_end o c.args.ends.now.entries) c.end_of-from.ensures.end in
-    ends_moved name from to (map record_at es) (map record_at new) c.args.ends.now c.requires m (λ x is. c.leave.ensures.ordered x (c.end_of-from.ensures.end ∙ is)) c.enter.new.ends
+    ends_moved name from to (map record_at es) (map record_at new) c.args.ends.now c.requires m
+    (λ x is. c.leave.ensures.ordered x (c.end_of-from.ensures.end ∙ is)) c.enter.new.ends
     (c.enter.ensures.entries ∙ (λ i. with_end (c.end_of-to.ensures.end i) (left i)))
     (omega (arith, c.enter.ensures.spare, c.leave.ensures.spare, one, other))

@@ -17,11 +17,13 @@ loop-name-init c =
 
 pub drop_tube-requires-clause-none : goal.drop_tube-requires-clause-none
 drop_tube-requires-clause-none c =
-    found_has_none c.loop-name.jobs.jobs c.loop-name.last c.in-Some.name c.loop-name.catalog.entries c.loop-name.invariant.tallies (sym c.in-Some.ensures)
+    found_has_none c.loop-name.jobs.jobs c.loop-name.last c.in-Some.name c.loop-name.catalog.entries c.loop-name.invariant.tallies
+    (sym c.in-Some.ensures)
 
 pub loop-name-smaller : goal.loop-name-smaller
 loop-name-smaller c =
-    let removed = name_removed c.loop-name.last c.in-Some.name c.loop-name.catalog.entries c.drop_tube.ensures.ordered (sym c.in-Some.ensures) c.loop-name.invariant.before in
+    let removed = name_removed c.loop-name.last c.in-Some.name c.loop-name.catalog.entries c.drop_tube.ensures.ordered
+    (sym c.in-Some.ensures) c.loop-name.invariant.before in
     let left = ap length c.drop_tube.ensures.kept in
     omega (arith, left, removed.fewer)
 
@@ -29,7 +31,8 @@ pub loop-name-preserved : goal.loop-name-preserved
 loop-name-preserved c =
     let was = c.loop-name.invariant in
     let kept = c.drop_tube.ensures.kept in
-    let removed = name_removed c.loop-name.last c.in-Some.name c.loop-name.catalog.entries c.drop_tube.ensures.ordered (sym c.in-Some.ensures) was.before in
+    let removed = name_removed c.loop-name.last c.in-Some.name c.loop-name.catalog.entries c.drop_tube.ensures.ordered
+    (sym c.in-Some.ensures) was.before in
     let same = ap (λ (k : Kept). k.jobs) c.drop_tube.ensures.jobs in
     record {
       left = ap (filter is_alive_at) kept ∙ removed.left ∙ was.left;

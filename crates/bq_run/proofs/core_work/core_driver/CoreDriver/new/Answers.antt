@@ -14,7 +14,8 @@ returns-clause-order g c =
     let over = c.over.ensures in
     record {
       ready = record {
-        room = subst (λ k. (machine k).settings.seats < c.over.result.outs.most) (sym over.core) (subst (λ (o : Outbox). (machine c.args.core).settings.seats < o.most) (sym over.outs) c.requires.outs);
+        room = subst (λ k. (machine k).settings.seats < c.over.result.outs.most) (sym over.core)
+            (subst (λ (o : Outbox). (machine c.args.core).settings.seats < o.most) (sym over.outs) c.requires.outs);
         due = λ known. absurd (true≢false (sym known ∙ over.unknown));
       };
       sender = record {
@@ -36,7 +37,10 @@ returns-clause-work g c =
     let over = c.over.ensures in (
       [],
       subst (λ clock. g.C.Clock.given c.args.clock [] clock) (sym over.clock) (g.met.C.Clock.none_given c.args.clock),
-      worked_none (machine c.args.core).settings (g.K.QueueCore.comparisons c.args.core) _ ((machine c.args.core).settings.seats + 1) (ap machine over.core ∙ c.requires.core) over.none_heard c.requires.ends
-          (none_pending c.args.room.kept.items c.over.result.outs.given c.requires.room.none_kept (ap (λ (o : Outbox). o.given) over.outs ∙ c.requires.none_given)) (ap (λ v. v.items) c.none.ensures.flags ∙ c.requires.room.none_gone) over.unknown
+      worked_none (machine c.args.core).settings (g.K.QueueCore.comparisons c.args.core) _ ((machine c.args.core).settings.seats + 1)
+          (ap machine over.core ∙ c.requires.core) over.none_heard c.requires.ends
+          (none_pending c.args.room.kept.items c.over.result.outs.given c.requires.room.none_kept
+          (ap (λ (o : Outbox). o.given) over.outs ∙ c.requires.none_given))
+          (ap (λ v. v.items) c.none.ensures.flags ∙ c.requires.room.none_gone) over.unknown
           (ap g.K.QueueCore.comparisons over.core),
     )

@@ -20,13 +20,17 @@ returns-in-Some-clause-on g c =
       work = λ settings from first w. (
         w.0 ++ t.reading ∷ [],
         t.time.gave first w.0 w.1,
-        worked_step settings from w.0 (state old) (state new) c.in-Some.taken.0 c.in-Some.taken.1 t.reading t.outcome new.timed.outs.given c.in-Some.ensures.number w.2 t.step t.time.heard
+        worked_step settings from w.0 (state old)
+            (state new) c.in-Some.taken.0 c.in-Some.taken.1 t.reading t.outcome new.timed.outs.given c.in-Some.ensures.number
+            w.2 t.step t.time.heard
             end
-            (pending_on new.sender.kept.items old.sender.kept.items old.timed.outs.given new.timed.outs.given (ap (λ (s : Sender). s.kept.items) sender) c.requires.none) c.take_step.ensures.marked t.unknown,
+            (pending_on new.sender.kept.items old.sender.kept.items old.timed.outs.given new.timed.outs.given
+            (ap (λ (s : Sender). s.kept.items) sender) c.requires.none) c.take_step.ensures.marked t.unknown,
       );
     }
 
 pub returns-in-None-clause-on : goal.returns-in-None-clause-on
 returns-in-None-clause-on g c =
-    subst (λ (s : Sender). WorksOn g.C.Clock.given g.K.QueueCore.machine g.K.QueueCore.comparisons (record c.args.self.now { sender = s }) c.tick_if_due.new.self) c.in-None.ensures.none.0
+    subst (λ (s : Sender). WorksOn g.C.Clock.given g.K.QueueCore.machine g.K.QueueCore.comparisons
+    (record c.args.self.now { sender = s }) c.tick_if_due.new.self) c.in-None.ensures.none.0
     c.tick_if_due.ensures.on

@@ -6,5 +6,6 @@ use Rattle.bq_run.proofs.core_work.core_driver.CoreDriver.take_step.Goals as goa
 
 pub returns-clause-taken : goal.returns-clause-taken
 returns-clause-taken g c =
-    subst (λ (t : TimedCore _ _). TakesStep g.C.Clock.given g.K.QueueCore.machine g.K.QueueCore.comparisons t c.args.seat c.args.what.now c.take_step.new.self) (ap (λ (h : CoreDriver _ _). h.timed) c.mark.ensures.rest)
+    subst (λ (t : TimedCore _ _). TakesStep g.C.Clock.given g.K.QueueCore.machine g.K.QueueCore.comparisons t c.args.seat c.args.what.now
+    c.take_step.new.self) (ap (λ (h : CoreDriver _ _). h.timed) c.mark.ensures.rest)
     c.take_step.ensures.taken

@@ -23,5 +23,6 @@ returns-else-can_send-clause-sent c =
     let mid = c.can_send.new.self in
     let more = (c.args.seat, c.args.answer) ∷ [] in
     let kept : mid.kept.items ≡ old.kept.items = ap (λ (s : Sender). s.kept.items) c.can_send.ensures.rest in
-    subst (λ left. AreSent old.end (old.kept.items ++ more) mid.end left) (sym (c.push_back_reserved.ensures.items ∙ ap (λ xs. xs ++ more) kept))
+    subst (λ left. AreSent old.end (old.kept.items ++ more) mid.end left)
+    (sym (c.push_back_reserved.ensures.items ∙ ap (λ xs. xs ++ more) kept))
     (sent_before old.end mid.end old.kept.items old.kept.items more c.can_send.ensures.unsent)
