@@ -7,6 +7,8 @@ same load on each (load.c, which is built with cc). The output is a table of rat
 median over the rounds with its quartiles. --engine measures only one engine. --save FILE keeps every round as a line of
 a table, and --plot FILE draws the medians from such a table (with --from FILE: from a table of an earlier run, without
 measuring). --pin LIST binds servers and load to these processors.
+
+--count counts instructions instead, with valgrind (count.py).
 """
 import argparse
 import os
@@ -17,6 +19,8 @@ import subprocess
 import sys
 import tempfile
 import time
+
+import count
 
 HERE = pathlib.Path(__file__).resolve().parent
 MOST_BYTES = 1048576
@@ -87,12 +91,17 @@ def measured(load, words_of, told, span, pin):
         server.stop()
 
 
-def measure(chosen, save):
-    rows = []
+def servers_of(chosen):
+    """Returns the servers to measure, each with what gives the words that start it at a port."""
     servers = {"beanstalkd": lambda port: [chosen.beanstalkd, "-l", "127.0.0.1", "-p", str(port), "-z", str(MOST_BYTES)]}
     for engine, words in ENGINES.items():
         if chosen.engine in (None, engine):
             servers[engine] = lambda port, words=words: [chosen.bqd, "--listen", f"127.0.0.1:{port}", "--seats", "256", "-z", str(MOST_BYTES), *words]
+    return servers
+
+
+def measure(chosen, save):
+    rows, servers = [], servers_of(chosen)
     with tempfile.TemporaryDirectory() as folder:
         load = os.path.join(folder, "load")
         subprocess.run(["cc", "-O2", "-o", load, str(HERE / "load.c")], check=True)
@@ -174,7 +183,11 @@ def main():
     words.add_argument("--save", metavar="FILE")
     words.add_argument("--from", dest="kept", metavar="FILE")
     words.add_argument("--plot", metavar="FILE")
+    words.add_argument("--count", action="store_true", help="count instructions with valgrind")
     chosen = words.parse_args()
+    if chosen.count:
+        count.table(servers_of(chosen), free_port)
+        return
     if chosen.kept:
         rows = read_rows(chosen.kept)
     else:
