@@ -1,5 +1,5 @@
-//! Tests of the core. They use public calls only, and expect answers that were found by hand from
-//! the rules of the queue.
+//! Tests of the core, and of the jobs and shelves below it. They use public calls only, and expect
+//! answers that were found by hand from the rules of the queue.
 #![tactic(auto)]
 
 #[cfg(test)]
@@ -14,6 +14,8 @@ mod crowds;
 mod each_answer;
 #[cfg(test)]
 mod holders;
+#[cfg(test)]
+mod jobs;
 #[cfg(test)]
 mod limits;
 #[cfg(test)]

@@ -8,8 +8,6 @@ pub mod control;
 pub mod doors;
 pub mod drains;
 #[cfg(test)]
-mod event_loop;
-#[cfg(test)]
 mod lock;
 pub mod notation;
 pub mod refused;

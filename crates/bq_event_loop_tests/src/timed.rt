@@ -1,10 +1,10 @@
 //! Runs with a clock that advances: what is due happens, even if no client sends anything.
 
-use crate::clients::ROOM;
-use crate::event_loop::order::RULES;
-use crate::event_loop::runs::{PLAIN, comes_out};
-use crate::worked::Example;
+use crate::order::RULES;
+use crate::runs::{PLAIN, comes_out};
 use bq_job::{LineEnd, Moment};
+use bq_serve_tests::clients::ROOM;
+use bq_serve_tests::worked::Example;
 
 /// Two readings a second, one of which fails.
 pub const HALVES: &[Option<Moment>] = &[

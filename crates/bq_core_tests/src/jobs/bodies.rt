@@ -1,6 +1,6 @@
 //! Another reference to a job's body.
 
-use crate::putting::{job, put, tube};
+use crate::jobs::putting::{job, put, tube};
 use bq_job::{JobId, JobState};
 use bq_jobs::NumberedJobs;
 use std::test::Fail;

@@ -1,12 +1,12 @@
 //! Runs that are rejected: they open no door.
 
-use crate::event_loop::order::{Order, Rule};
-use crate::event_loop::runs::{PLAIN, ran};
-use crate::event_loop::together::Together;
-use crate::refused::{ONE, REFUSED, Refused, opens_of};
-use crate::settings::config;
+use crate::order::{Order, Rule};
+use crate::runs::{PLAIN, ran};
+use crate::together::Together;
 use bq_event_loop::{ControlReads, TurnsFault};
 use bq_host::RunFault;
+use bq_serve_tests::refused::{ONE, REFUSED, Refused, opens_of};
+use bq_serve_tests::settings::config;
 use std::alloc::Global;
 use std::sync::Wait;
 

@@ -2,7 +2,7 @@
 ghost use Rattle.bq_driver.specs.Tending.{door_seen};
 ghost use Rattle.bq_event_loop.specs.Rows.{AreTended, RestsSince};
 
-use crate::event_loop::together::Together;
+use crate::together::Together;
 use bq_event_loop::{ControlReads, News, Row, Turn, Turns};
 use bq_line::Door;
 use bq_line::line::Line;

@@ -1,9 +1,9 @@
 //! Jobs with the names of their tubes: the same as those with numbers, through the calls that a
 //! program would use.
 
-use crate::boxes::Refusing;
-use crate::firsts::{FIRSTS, JOBS, Kind};
-use crate::putting::{job, tube};
+use crate::jobs::boxes::Refusing;
+use crate::jobs::firsts::{FIRSTS, JOBS, Kind};
+use crate::jobs::putting::{job, tube};
 use bq_job::{Job, JobId, JobState, NoMemory, TubeName};
 use bq_jobs::Jobs;
 use std::alloc::Global;

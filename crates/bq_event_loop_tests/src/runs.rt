@@ -1,19 +1,19 @@
 //! Runs of doors in memory.
 
-use crate::clients::{Client, Outcome, STILL, clock};
-use crate::control::{Control, Gives, control};
-use crate::event_loop::flow::FREE;
-use crate::event_loop::order::{Order, Rule};
-use crate::event_loop::script::Limits;
-use crate::event_loop::script_door::{Cut, ScriptDoor, doors};
-use crate::event_loop::together::Together;
-use crate::settings::config;
-use crate::worked::opens_of;
+use crate::flow::FREE;
+use crate::order::{Order, Rule};
+use crate::script::Limits;
+use crate::script_door::{Cut, ScriptDoor, doors};
+use crate::together::Together;
 use bq_core::Core;
 use bq_event_loop::{ControlReads, EventLoopRun, TurnsFault, run_turns};
 use bq_host::RunFault;
 use bq_job::{Moment, USUAL_BODY};
 use bq_line::clock::ScriptClock;
+use bq_serve_tests::clients::{Client, Outcome, STILL, clock};
+use bq_serve_tests::control::{Control, Gives, control};
+use bq_serve_tests::settings::config;
+use bq_serve_tests::worked::opens_of;
 use bq_steps::Config;
 use std::alloc::Global;
 use std::sync::Wait;

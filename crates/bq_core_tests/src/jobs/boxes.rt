@@ -1,7 +1,7 @@
 //! The three boxes of a job. The allocation of any of them may fail, and they return to the heap
 //! after a peak.
 
-use crate::putting::{job, put, tube};
+use crate::jobs::putting::{job, put, tube};
 use bq_index::{BoxSource, NoMemory as Refused};
 use bq_job::{JobId, JobState, NoMemory, TubeName};
 use bq_jobs::NumberedJobs;

@@ -1,11 +1,11 @@
 //! Lines that read and write a few bytes at a time.
 
-use crate::event_loop::flow::{FREE, Pace};
-use crate::event_loop::order::{RULES, Rule};
-use crate::event_loop::runs::{PLAIN, Setting, comes_out};
-use crate::event_loop::script::Limits;
-use crate::event_loop::worked::MORE;
-use crate::worked::{EXAMPLES, Example};
+use crate::flow::{FREE, Pace};
+use crate::order::{RULES, Rule};
+use crate::runs::{PLAIN, Setting, comes_out};
+use crate::script::Limits;
+use crate::worked::MORE;
+use bq_serve_tests::worked::{EXAMPLES, Example};
 use std::alloc::Global;
 use std::sync::Wait;
 

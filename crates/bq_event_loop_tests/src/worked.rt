@@ -1,11 +1,11 @@
 //! Runs of several doors with known results, in each order. What each client receives does not
 //! depend on the order.
 
-use crate::clients::ROOM;
-use crate::event_loop::order::RULES;
-use crate::event_loop::runs::{PLAIN, comes_out};
-use crate::worked::{EXAMPLES, Example};
+use crate::order::RULES;
+use crate::runs::{PLAIN, comes_out};
 use bq_job::LineEnd;
+use bq_serve_tests::clients::ROOM;
+use bq_serve_tests::worked::{EXAMPLES, Example};
 
 /// Runs with known results, besides those of `crate::worked`.
 pub static MORE: &[Example] = &[

@@ -1,6 +1,6 @@
 use Rattle.std.proofs.Common.{refl}
 use Rattle.bq_index.specs.Digits.{binary_digits}
-use Rattle.bq_jobs_tests.proofs.shelves.comparisons.digits_by_hand.Goals as goal
+use Rattle.bq_core_tests.proofs.jobs.shelves.comparisons.digits_by_hand.Goals as goal
 
 pub returns-clause-none : goal.returns-clause-none
 unfolding binary_digits

@@ -1,11 +1,11 @@
 //! Long answers in pieces, and clients that read nothing for a while without holding up others.
 
-use crate::event_loop::flow::Pace;
-use crate::event_loop::order::{RULES, Rule};
-use crate::event_loop::runs::{PLAIN, comes_out};
-use crate::event_loop::script::Limits;
-use crate::worked::Example;
+use crate::flow::Pace;
+use crate::order::{RULES, Rule};
+use crate::runs::{PLAIN, comes_out};
+use crate::script::Limits;
 use bq_job::LineEnd;
+use bq_serve_tests::worked::Example;
 use std::alloc::Global;
 use std::sync::Wait;
 

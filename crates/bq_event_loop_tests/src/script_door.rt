@@ -4,14 +4,14 @@ ghost use Rattle.std.specs.Vec.{vec_capacity};
 ghost use Rattle.std.specs.List.{All};
 ghost use Rattle.bq_driver.specs.Tending.{IsNewDoor};
 
-use crate::clients::{Client, Outcome};
-use crate::event_loop::parts::parts_of;
-use crate::event_loop::script::{Limits, Script};
-use crate::event_loop::together::Together;
-use crate::notation::bytes_of;
+use crate::parts::parts_of;
+use crate::script::{Limits, Script};
+use crate::together::Together;
 use bq_job::{LineEnd, NoMemory};
 use bq_line::line::{IoLine, Line};
 use bq_line::{Door, DoorFault, Opening};
+use bq_serve_tests::clients::{Client, Outcome};
+use bq_serve_tests::notation::bytes_of;
 use std::alloc::Global;
 use std::collections::VecDeque;
 

@@ -1,12 +1,12 @@
 //! Lines that fail while others are served without damage. Only the last answer of a line that
 //! fails may be cut off.
 
-use crate::clients::{Client, Outcome, ROOM};
-use crate::event_loop::flow::{FREE, Pace};
-use crate::event_loop::order::{RULES, Rule};
-use crate::event_loop::runs::{PLAIN, Setting, comes_out};
-use crate::event_loop::script::Limits;
+use crate::flow::{FREE, Pace};
+use crate::order::{RULES, Rule};
+use crate::runs::{PLAIN, Setting, comes_out};
+use crate::script::Limits;
 use bq_job::LineEnd;
+use bq_serve_tests::clients::{Client, Outcome, ROOM};
 use std::alloc::Global;
 use std::sync::Wait;
 

@@ -1,12 +1,12 @@
 //! Control lines that drain, which are read before the seats act, or between their turns.
 
-use crate::clients::{Client, Outcome, ROOM};
-use crate::control::Gives;
-use crate::drains::EXAMPLES;
-use crate::event_loop::runs::{PLAIN, Setting, comes_out};
-use crate::event_loop::timed::HALVES;
+use crate::runs::{PLAIN, Setting, comes_out};
+use crate::timed::HALVES;
 use bq_event_loop::ControlReads;
 use bq_job::LineEnd;
+use bq_serve_tests::clients::{Client, Outcome, ROOM};
+use bq_serve_tests::control::Gives;
+use bq_serve_tests::drains::EXAMPLES;
 use std::alloc::Global;
 use std::sync::Wait;
 

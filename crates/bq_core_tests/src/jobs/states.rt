@@ -1,6 +1,6 @@
 //! A job that goes from state to state in the room of one job.
 
-use crate::putting::{change, job, put, tube};
+use crate::jobs::putting::{change, job, put, tube};
 use bq_job::{JobState, TubeName};
 use bq_jobs::NumberedJobs;
 use std::test::Fail;

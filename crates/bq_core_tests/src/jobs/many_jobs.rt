@@ -1,6 +1,6 @@
 //! More jobs than in any other test.
 
-use crate::putting::{job, put, tube};
+use crate::jobs::putting::{job, put, tube};
 use bq_job::{JobState, NoMemory, TubeName};
 use bq_jobs::NumberedJobs;
 use std::alloc::Global;

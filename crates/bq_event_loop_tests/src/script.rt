@@ -2,9 +2,9 @@
 ghost use Rattle.std.specs.Prelude.{◌≤◌, IfOk, IsErr};
 ghost use Rattle.std.specs.Io.{ReadsAtMost};
 
-use crate::event_loop::flow::{Flow, Pace};
-use crate::event_loop::parts::Part;
-use crate::event_loop::together::Together;
+use crate::flow::{Flow, Pace};
+use crate::parts::Part;
+use crate::together::Together;
 use bq_line::line::Duplex;
 use std::alloc::Global;
 use std::io;

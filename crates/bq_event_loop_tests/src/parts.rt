@@ -3,7 +3,7 @@
 //! bytes; `all 9`, where it waits until all clients together have received 9 bytes; `stops 9`, where
 //! it receives no bytes until then; or `fails`, where its line fails.
 
-use crate::notation::bytes_of;
+use bq_serve_tests::notation::bytes_of;
 use std::alloc::{AllocError, Global};
 
 /// A part of what a client does.

@@ -1,6 +1,6 @@
 //! The first job of each kind, by hand.
 
-use crate::putting::{job, put, tube};
+use crate::jobs::putting::{job, put, tube};
 use bq_job::{JobId, JobState, Pri, Seat};
 use bq_jobs::NumberedJobs;
 use std::alloc::Global;

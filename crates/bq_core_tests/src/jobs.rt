@@ -1,0 +1,10 @@
+//! Tests of shelves, and of the jobs of a queue, which are kept in shelves.
+
+mod bodies;
+mod boxes;
+mod firsts;
+mod many_jobs;
+mod named;
+mod putting;
+mod shelves;
+mod states;

@@ -1,0 +1,33 @@
+//! Tests of the run by an event loop, over doors in memory, by public functions alone. The tests
+//! choose the order in which the seats act, and lines read and write a few bytes at a time. Clients,
+//! doors and the sessions that every run has to pass are those of `bq_serve_tests`.
+#![tactic(auto)]
+
+#[cfg(test)]
+mod control_lines;
+#[cfg(test)]
+mod failing_lines;
+#[cfg(test)]
+mod flow;
+#[cfg(test)]
+mod long_answers;
+#[cfg(test)]
+mod order;
+#[cfg(test)]
+mod parts;
+#[cfg(test)]
+mod pieces;
+#[cfg(test)]
+mod refused;
+#[cfg(test)]
+mod runs;
+#[cfg(test)]
+mod script;
+#[cfg(test)]
+mod script_door;
+#[cfg(test)]
+mod timed;
+#[cfg(test)]
+mod together;
+#[cfg(test)]
+mod worked;
