@@ -26,8 +26,10 @@ use Rattle.bq_seat.specs.declared.machine.Event.{Event}
 use Rattle.bq_seat.specs.declared.machine.Event.TheVariants as events
 use Rattle.bq_seat.specs.declared.machine.SeatMachine.{SeatMachine}
 use Rattle.bq_driver.specs.Attending.{IsOnLine, IsWrittenSo}
-use Rattle.bq_driver.specs.Carried.{Carried, IsLeft, IsReadAs}
+use Rattle.bq_driver.specs.Carried.{Carried, IsLeft, IsPolledAs, IsReadAs, IsSubmittedAs, IsWrittenAs}
 use Rattle.bq_driver.specs.Links.{as_submitted}
+use Rattle.bq_driver.specs.declared.progress.Progress.{Progress}
+use Rattle.bq_driver.specs.declared.progress.Progress.TheVariants as results
 use Rattle.bq_line.specs.LineCalls.{new_line}
 use Rattle.bq_driver.specs.Writing.{BreaksOff, with_written}
 use Rattle.bq_seat.proofs.OrderlyLemmas.{orderly}
@@ -163,8 +165,8 @@ broke_on size old new seen later answer next submitted taken broke move s =
     (unbroken p.fault p.written s.written s.found.1 s.writes) broke.is_beginning)
 
 read_fault_on : (size : ℕ) (old new : SeatMachine) (seen later : LineSeen) (next : Action) (submitted : List Step) (taken : List Answer)
-    → IsReadAs seen events.ReadFault later → IsMove old events.ReadFault next new → IsOnLine size old seen actions.Read submitted taken
-    → IsOnLine size new later next submitted taken
+    → IsReadAs results.Moved seen events.ReadFault later → IsMove old events.ReadFault next new
+    → IsOnLine size old seen actions.Read submitted taken → IsOnLine size new later next submitted taken
 read_fault_on size old new seen later next submitted taken told move s =
     let p = s.past in
     let awaited_is : awaited old ≡ Awaited.AReading = let a = s.awaits in cc in
@@ -174,28 +176,28 @@ read_fault_on size old new seen later next submitted taken told move s =
     (s.taken_is ∙ sym (mail_at_fault faults.Read p)) (writes_still p s.written s.writes)
 
 -- A read of the line resulted in this event.
-read_on : (size : ℕ) (old new : SeatMachine) (seen later : LineSeen) (event : Event) (next : Action) (submitted : List Step)
-    (taken : List Answer)
-    → IsReadAs seen event later → IsMove old event next new → IsOnLine size old seen actions.Read submitted taken
+read_on : (result : Progress) (size : ℕ) (old new : SeatMachine) (seen later : LineSeen) (event : Event) (next : Action)
+    (submitted : List Step) (taken : List Answer)
+    → IsReadAs result seen event later → IsMove old event next new → IsOnLine size old seen actions.Read submitted taken
     → IsOnLine size new later next submitted taken
-read_on size old new seen later (events.Bytes piece) next submitted taken told move s =
+read_on results.Moved size old new seen later (events.Bytes piece) next submitted taken told move s =
     let awaited_is : awaited old ≡ Awaited.AReading = let a = s.awaits in cc in
     goes_on size old new seen later s.written (events.Bytes piece) actions.Read next submitted taken submitted taken s move
     (ap (answers (events.Bytes piece)) awaited_is)
     (told ∙ ap (λ (x : LineSeen). record x { read = x.read ++ piece.now }) s.seen_is) s.submitted_is s.taken_is s.writes
-read_on size old new seen later events.EndOfInput next submitted taken told move s =
+read_on results.Moved size old new seen later events.EndOfInput next submitted taken told move s =
     let awaited_is : awaited old ≡ Awaited.AReading = let a = s.awaits in cc in
     goes_on size old new seen later s.written events.EndOfInput actions.Read next submitted taken submitted taken s move
     (ap (answers events.EndOfInput) awaited_is)
     (told ∙ ap (λ (x : LineSeen). record x { ended = true }) s.seen_is) s.submitted_is s.taken_is s.writes
-read_on size old new seen later events.NothingYet next submitted taken told move s =
+read_on results.NoBytes size old new seen later events.NothingYet next submitted taken told move s =
     let awaited_is : awaited old ≡ Awaited.AReading = let a = s.awaits in cc in
     goes_on size old new seen later s.written events.NothingYet actions.Read next submitted taken submitted taken s move
     (ap (answers events.NothingYet) awaited_is)
     (told ∙ s.seen_is) s.submitted_is s.taken_is s.writes
-read_on size old new seen later events.ReadFault next submitted taken told move s =
+read_on results.Moved size old new seen later events.ReadFault next submitted taken told move s =
     read_fault_on size old new seen later next submitted taken told move s
-read_on size old new seen later _ next submitted taken told move s = absurd told
+read_on _ size old new seen later _ next submitted taken told move s = absurd told
 
 -- what was written of the answers given for writing, depending on how the line ended
 written_of : (end : LineEnd) (fault : Option LineFault) (asked : List Request) (own : List Answer) (written : List ℕ) → IsFaultOf end fault
@@ -249,11 +251,11 @@ nothing_more size new later next submitted more taken got none none_got s =
     (sym (ap (λ (xs : List Step). submitted ++ xs) none ∙ append-nil submitted))
     (subst (IsOnLine size new later next submitted) (sym (ap (λ (xs : List Answer). taken ++ xs) none_got ∙ append-nil taken)) s)
 
-left_on : (size : ℕ) (old new : SeatMachine) (seen later : LineSeen) (action next : Action) (submitted more : List Step)
+left_on : (result : Progress) (size : ℕ) (old new : SeatMachine) (seen later : LineSeen) (action next : Action) (submitted more : List Step)
     (taken got : List Answer)
-    → IsLeft old seen action new later next more got → IsOnLine size old seen action submitted taken
+    → IsLeft result old seen action new later next more got → IsOnLine size old seen action submitted taken
     → IsOnLine size new later next (submitted ++ more) (taken ++ got)
-left_on size old new seen later action next submitted more taken got h s =
+left_on result size old new seen later action next submitted more taken got h s =
     nothing_more size new later next submitted more taken got h.none_submitted h.none_taken
     (subst (λ (a : Action). IsOnLine size new later a submitted taken) (sym h.action_is)
     (subst (λ (x : LineSeen). IsOnLine size new x action submitted taken) (sym h.line)
@@ -270,62 +272,60 @@ turn_counts steps.Tick taken mail h = absurd h
 turn_counts steps.Gone taken mail h = refl
 
 -- The line continues with each action that was carried out.
-pub carried_on : (size : ℕ) (old new : SeatMachine) (seen later : LineSeen) (action next : Action) (submitted more : List Step)
-    (taken got : List Answer)
-    → Carried old seen action new later next more got → IsOnLine size old seen action submitted taken
+pub carried_on : (result : Progress) (size : ℕ) (old new : SeatMachine) (seen later : LineSeen) (action next : Action)
+    (submitted more : List Step) (taken got : List Answer)
+    → Carried result old seen action new later next more got → IsOnLine size old seen action submitted taken
     → IsOnLine size new later next (submitted ++ more) (taken ++ got)
-carried_on size old new seen later (actions.Submit step) next submitted more taken got h s =
+carried_on result size old new seen later (actions.Submit step) next submitted more taken got h s =
     with_lists (submitted ++ more) (taken ++ got)
-    (subst (λ (x : LineSeen). IsOnLine size new x next (submitted ++ more) taken) (sym h.0) (by_turn h.2))
+    (subst (λ (x : LineSeen). IsOnLine size new x next (submitted ++ more) taken) (sym h.0) (by_turn result h.2))
     (ap (λ (xs : List Answer). taken ++ xs) h.1 ∙ append-nil taken)
   where
     with_lists : (s : List Step) (t : List Answer) → IsOnLine size new later next s taken → t ≡ taken → IsOnLine size new later next s t
     with_lists s t o e = subst (IsOnLine size new later next s) (sym e) o
 
-    by_turn : ((more ≡ as_submitted step) × IsMove old events.Submitted next new)
-        ⊎ ((more ≡ []) × (next ≡ actions.Submit step) × (new ≡ old)) → IsOnLine size new seen next (submitted ++ more) taken
-    by_turn (inl m) =
+    by_turn : (r : Progress) → IsSubmittedAs r old step new next more → IsOnLine size new seen next (submitted ++ more) taken
+    by_turn results.Moved m =
         let counted : more ≡ step ∷ [] = m.0 ∙ turn_counts step s.past.steps s.past.mail s.found in
         subst (λ (xs : List Step). IsOnLine size new seen next (submitted ++ xs) taken) (sym counted)
         (submitted_on size old new seen step next submitted taken m.1 s)
-    by_turn (inr m) =
+    by_turn results.NotAccepted m =
         let same : submitted ++ more ≡ submitted = ap (λ (xs : List Step). submitted ++ xs) m.0 ∙ append-nil submitted in
         subst (λ (xs : List Step). IsOnLine size new seen next xs taken) (sym same)
         (subst (λ (a : Action). IsOnLine size new seen a submitted taken) (sym m.1)
         (subst (λ (x : SeatMachine). IsOnLine size x seen (actions.Submit step) submitted taken) (sym m.2) s))
-carried_on size old new seen later actions.Read next submitted more taken got h s =
+    by_turn _ m = absurd m
+carried_on result size old new seen later actions.Read next submitted more taken got h s =
     nothing_more size new later next submitted more taken got h.0 h.1
-    (read_on size old new seen later h.2.0 next submitted taken h.2.1 h.2.2 s)
-carried_on size old new seen later (actions.Write answer) next submitted more taken got h s =
-    nothing_more size new later next submitted more taken got h.0 h.1 (by_turn h.2)
+    (read_on result size old new seen later h.2.0 next submitted taken h.2.1 h.2.2 s)
+carried_on result size old new seen later (actions.Write answer) next submitted more taken got h s =
+    nothing_more size new later next submitted more taken got h.0 h.1 (by_turn result h.2)
   where
-    by_turn : ((later ≡ with_written (answer_text answer) seen) × IsMove old events.WriteDone next new)
-        ⊎ (BreaksOff (answer_text answer) seen later × IsMove old events.WriteFault next new)
-        ⊎ ((later ≡ seen) × (next ≡ actions.Write answer) × (new ≡ old)) → IsOnLine size new later next submitted taken
-    by_turn (inl m) = wrote_on size old new seen later answer next submitted taken m.0 m.1 s
-    by_turn (inr (inl m)) = broke_on size old new seen later answer next submitted taken m.0 m.1 s
-    by_turn (inr (inr m)) =
+    by_turn : (r : Progress) → IsWrittenAs r old seen answer new later next → IsOnLine size new later next submitted taken
+    by_turn results.Moved (inl m) = wrote_on size old new seen later answer next submitted taken m.0 m.1 s
+    by_turn results.Moved (inr m) = broke_on size old new seen later answer next submitted taken m.0 m.1 s
+    by_turn results.NoRoom m =
         subst (λ (a : Action). IsOnLine size new later a submitted taken) (sym m.1)
         (subst (λ (x : LineSeen). IsOnLine size new x (actions.Write answer) submitted taken) (sym m.0)
         (subst (λ (n : SeatMachine). IsOnLine size n seen (actions.Write answer) submitted taken) (sym m.2) s))
-carried_on size old new seen later actions.PollMail next submitted more taken got h s =
+    by_turn _ m = absurd m
+carried_on result size old new seen later actions.PollMail next submitted more taken got h s =
     subst (λ (xs : List Step). IsOnLine size new later next xs (taken ++ got))
     (sym (ap (λ (xs : List Step). submitted ++ xs) h.1 ∙ append-nil submitted))
-    (subst (λ (x : LineSeen). IsOnLine size new x next submitted (taken ++ got)) (sym h.0) (by_turn h.2))
+    (subst (λ (x : LineSeen). IsOnLine size new x next submitted (taken ++ got)) (sym h.0) (by_turn result h.2))
   where
-    by_turn : ((got ≡ []) × IsMove old events.NothingYet next new)
-        ⊎ ((answer : Answer) × (got ≡ answer ∷ []) × IsMove old (events.Mail answer) next new)
-        → IsOnLine size new seen next submitted (taken ++ got)
-    by_turn (inl m) =
+    by_turn : (r : Progress) → IsPolledAs r old new next got → IsOnLine size new seen next submitted (taken ++ got)
+    by_turn results.NoMail m =
         subst (IsOnLine size new seen next submitted) (sym (ap (λ (xs : List Answer). taken ++ xs) m.0 ∙ append-nil taken))
         (none_mailed_on size old new seen next submitted taken m.1 s)
-    by_turn (inr m) =
+    by_turn results.Moved m =
         subst (λ (xs : List Answer). IsOnLine size new seen next submitted (taken ++ xs)) (sym m.1)
         (mailed_on size old new seen m.0 next submitted taken m.2 s)
-carried_on size old new seen later (actions.LineOver end) next submitted more taken got h s =
-    left_on size old new seen later (actions.LineOver end) next submitted more taken got h s
-carried_on size old new seen later actions.Stray next submitted more taken got h s =
-    left_on size old new seen later actions.Stray next submitted more taken got h s
+    by_turn _ m = absurd m
+carried_on result size old new seen later (actions.LineOver end) next submitted more taken got h s =
+    left_on result size old new seen later (actions.LineOver end) next submitted more taken got h s
+carried_on result size old new seen later actions.Stray next submitted more taken got h s =
+    left_on result size old new seen later actions.Stray next submitted more taken got h s
 
 -- An unused line is opened.
 pub opened_on : (size : ℕ) (old new : SeatMachine) (action : Action) (seen : LineSeen) → awaited old ≡ Awaited.ALine

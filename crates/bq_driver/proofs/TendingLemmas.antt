@@ -15,6 +15,7 @@ use Rattle.bq_seat.specs.declared.machine.Event.TheVariants as events
 use Rattle.bq_seat.specs.declared.machine.SeatMachine.{SeatMachine}
 use Rattle.bq_driver.specs.Attending.{IsOnLine}
 use Rattle.bq_driver.specs.Carried.{CarriedPart, CarriesOn, HasGone}
+use Rattle.bq_driver.specs.declared.progress.Progress.{Progress}
 use Rattle.bq_line.specs.LineCalls.{new_line}
 use Rattle.bq_driver.specs.Links.{Calls}
 use Rattle.bq_driver.specs.Tending.{DoorSeen, GoesOn, IsNewDoor, IsNewSeat, IsTended, Tends, attendant}
@@ -106,11 +107,11 @@ tends_shut seen machine line end sent door next left inside still size before go
     })
 
 -- An action of the line was carried out, or a part of it.
-tends_carried : {L : Type 0} (seen : L → LineSeen) (old new : SeatMachine) (line later : L) (action next : Action) (sent now : ℕ)
-    (submitted : List Step) (taken : List Answer) (door : DoorSeen)
-    → CarriesOn old (seen line) action sent new (seen later) next now submitted taken
+tends_carried : {L : Type 0} (result : Progress) (seen : L → LineSeen) (old new : SeatMachine) (line later : L)
+    (action next : Action) (sent now : ℕ) (submitted : List Step) (taken : List Answer) (door : DoorSeen)
+    → CarriesOn result old (seen line) action sent new (seen later) next now submitted taken
     → Tends seen (attendant old (places.On line action sent)) door submitted taken (attendant new (places.On later next now)) door
-tends_carried seen old new line later action next sent now submitted taken door carries size before got t =
+tends_carried result seen old new line later action next sent now submitted taken door carries size before got t =
     let a = t.attends in
     let at = a.at_place in
     let c = carries at.0 at.1 in
@@ -121,7 +122,7 @@ tends_carried seen old new line later action next sent now submitted taken door 
         got = a.got;
         getting = a.getting ++ taken;
         of_lines = a.of_lines;
-        at_place = (c.0, c.1, carried_on size old new at.0 c.0 action next a.now submitted a.getting taken c.2 at.2);
+        at_place = (c.0, c.1, carried_on result size old new at.0 c.0 action next a.now submitted a.getting taken c.2 at.2);
         submitted_is = ap (λ (xs : List Step). xs ++ submitted) a.submitted_is ∙ append_assoc a.before a.now submitted;
         taken_is = ap (λ (xs : List Answer). xs ++ taken) a.taken_is ∙ append_assoc a.got a.getting taken;
       };
@@ -129,15 +130,17 @@ tends_carried seen old new line later action next sent now submitted taken door 
     }
 
 -- the same with the link's calls
-pub tends_acted : {K L : Type 0} (went : K → List Step → List Answer → K → Type 0) (first last : K) (seen : L → LineSeen)
-    (old new : SeatMachine) (line later : L) (action next : Action) (sent now : ℕ) (submitted : List Step) (taken : List Answer)
-    → HasGone went first action submitted taken last → CarriedPart old (seen line) action sent new (seen later) next now submitted taken
+pub tends_acted : {K L : Type 0} (went : K → List Step → List Answer → K → Type 0) (result : Progress) (first last : K)
+    (seen : L → LineSeen) (old new : SeatMachine) (line later : L) (action next : Action) (sent now : ℕ)
+    (submitted : List Step) (taken : List Answer)
+    → HasGone went first action submitted taken last
+    → CarriedPart result old (seen line) action sent new (seen later) next now submitted taken
     → (Calls went first submitted taken last)
     × ((door : DoorSeen) → Tends seen (attendant old (places.On line action sent)) door submitted taken
     (attendant new (places.On later next now)) door)
-tends_acted went first last seen old new line later action next sent now submitted taken h carried = (
-  gone went (λ s t. Calls went first s t last) first last action submitted taken (λ s t w. inl w) (λ e. inr (e, refl, refl)) h carried.0,
-  λ door. tends_carried seen old new line later action next sent now submitted taken door carried.1,
+tends_acted went result first last seen old new line later action next sent now submitted taken h carried = (
+  gone went (λ s t. Calls went first s t last) first last action submitted taken (λ s t w. inl w) (λ e. inr (e, refl, refl)) h carried.1,
+  λ door. tends_carried result seen old new line later action next sent now submitted taken door carried.2,
 )
 
 -- A new seat at a new door.

@@ -1,5 +1,5 @@
 -- A seat that attends to a door, and what it does at each of its turns.
-use Rattle.std.specs.Prelude.{ℕ, ◌≡◌, Bool, true, false, List, [], ◌∷◌, ◌++◌}
+use Rattle.std.specs.Prelude.{ℕ, ◌≡◌, ◌⊎◌, Bool, true, false, List, [], ◌∷◌, ◌++◌}
 use Rattle.bq_job.specs.declared.answer.Answer.{Answer}
 use Rattle.bq_job.specs.declared.step.Step.{Step}
 use Rattle.bq_job.specs.promise.History.{LineOver}
@@ -9,10 +9,14 @@ use Rattle.bq_seat.specs.Past.{Awaited}
 use Rattle.bq_seat.specs.SeatStands.{awaited}
 use Rattle.bq_seat.specs.declared.machine.SeatMachine.{SeatMachine}
 use Rattle.bq_driver.specs.Attending.{IsAttending}
+use Rattle.bq_driver.specs.Carried.{CanEnd}
 use Rattle.bq_driver.specs.Links.{Calls}
 use Rattle.bq_driver.specs.declared.attendant.Attendant.{Attendant}
 use Rattle.bq_driver.specs.declared.attendant.LinePlace.{LinePlace}
 use Rattle.bq_driver.specs.declared.attendant.LinePlace.TheVariants as places
+use Rattle.bq_driver.specs.declared.progress.Progress.{Progress}
+use Rattle.bq_driver.specs.declared.progress.Progress.TheVariants as results
+use Rattle.bq_seat.specs.declared.machine.Action.TheVariants as actions
 
 abbrev pub attendant : {L : Type 0} → SeatMachine → LinePlace L → Attendant L
 attendant machine place = record { machine = machine; place = place }
@@ -59,6 +63,14 @@ abbrev pub GoesOn : {K L : Type 0} → (K → List Step → List Answer → K �
 GoesOn went first last seen old at_old new at_new =
     (submitted : List Step) × (taken : List Answer) × Calls went first submitted taken last
     × Tends seen old at_old submitted taken new at_new
+
+-- The results that an action of a seat at this place can have.
+abbrev pub MayEndAt : {L : Type 0} → Progress → LinePlace L → Type 0
+MayEndAt result places.Between = result ≡ results.Moved
+MayEndAt result (places.On line (actions.LineOver end) sent) = result ≡ results.Moved
+MayEndAt result (places.On line action sent) = CanEnd result action
+MayEndAt result places.Leaving = (result ≡ results.Moved) ⊎ (result ≡ results.NotAccepted)
+MayEndAt result places.Done = result ≡ results.NothingToDo
 
 -- A new seat.
 pub record IsNewSeat {L : Type 0} (max_job_size : ℕ) (a : Attendant L) : Type 0 where

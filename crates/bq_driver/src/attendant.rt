@@ -5,7 +5,7 @@ ghost use Rattle.bq_seat.specs.Outstanding.{ReadsWith};
 ghost use Rattle.bq_seat.specs.Past.{Awaited};
 ghost use Rattle.bq_seat.specs.SeatStands.{awaited};
 ghost use Rattle.bq_seat.specs.declared.machine.SeatMachine.{SeatMachine};
-ghost use Rattle.bq_driver.specs.Tending.{DoorSeen, GoesOn, IsPlaced, Tends, attendant, door_seen};
+ghost use Rattle.bq_driver.specs.Tending.{DoorSeen, GoesOn, IsPlaced, MayEndAt, Tends, attendant, door_seen};
 ghost use Rattle.std.specs.Io.{ReadsAtMost};
 ghost use Rattle.bq_job.specs.declared.answer.Answer.{Answer};
 ghost use Rattle.bq_job.specs.declared.step.Step.{Step};
@@ -13,8 +13,10 @@ ghost use Rattle.bq_job.specs.promise.LineSteps.{LineSeen};
 ghost use Rattle.bq_line.specs.LineCalls.{after_fill, after_read};
 ghost use Rattle.bq_line.specs.Streams.{StaysOver};
 ghost use Rattle.bq_driver.specs.Carried.{Carried, CarriedPart, HasGone};
+ghost use Rattle.bq_driver.specs.Links.{Calls};
 
 use crate::link::Link;
+use crate::progress::Progress;
 use crate::room::{Room, Wrote, write_answer};
 use bq_job::{LARGEST_BODY, LineEnd, NoMemory, Step};
 use bq_line::line::{Line, ReadBuffer, Readiness, is_nothing_yet};
@@ -218,19 +220,23 @@ impl<L: Line + Drop> Attendant<L> {
         }
     }
 
-    /// Carries out one action of the seat, and returns true if something moved. A step that was not
-    /// accepted is submitted again at the next call.
+    /// Carries out one action of the seat. A step that was not accepted is submitted again at the
+    /// next call.
     pub fn go_on<D: Door<Line = L>, K: Link>(
         &mut self,
         alloc: Global,
         door: &mut D,
         link: &mut K,
         room: &mut Room,
-    ) -> bool
+    ) -> Progress
         requires placed { IsPlaced self.old.place
             (door_seen D.is_out D.is_at_end D.lines_over door.old) }
         requires ready { K.is_ready link.old }
         ensures ready { K.is_ready link.new }
+        // The result is one that this place can have. Unless something moved, the seat submitted
+        // nothing and took nothing.
+        ensures progress { MayEndAt result self.old.place }
+        ensures still { (result ≡ Progress.Moved → ⊥) → Calls K.went link.old [] [] link.new }
         // Whatever it did before, it continued with the steps that it submitted and the answers
         // that it took.
         ensures went { let at = door_seen D.is_out D.is_at_end D.lines_over in
@@ -244,16 +250,16 @@ impl<L: Line + Drop> Attendant<L> {
                 Action::LineOver(end) => {
                     let end = *end;
                     shut_line(&mut self.place, door, end);
-                    true
+                    Progress::Moved
                 }
                 other => carry_out(alloc, &mut self.machine, other, sent, line, link, room),
             },
             LinePlace::Between => {
                 open_in_place(alloc, &mut self.machine, &mut self.place, door);
-                true
+                Progress::Moved
             }
             LinePlace::Leaving => leave(&mut self.place, link),
-            LinePlace::Done => false,
+            LinePlace::Done => Progress::NothingToDo,
         }
     }
 }
@@ -317,18 +323,20 @@ fn shut_line<L: Line + Drop, D: Door<Line = L>>(
 }
 
 // Submits that no more lines come.
-fn leave<L: Line + Drop, K: Link>(place: &mut LinePlace<L>, link: &mut K) -> bool
+fn leave<L: Line + Drop, K: Link>(place: &mut LinePlace<L>, link: &mut K) -> Progress
     requires leaving { place.old ≡ LinePlace.Leaving }
     requires ready { K.is_ready link.old }
     ensures ready { K.is_ready link.new }
+    ensures progress { MayEndAt result place.old }
+    ensures still { (result ≡ Progress.Moved → ⊥) → K.went link.old [] [] link.new }
     ensures went { (machine : SeatMachine) (door : DoorSeen)
         → GoesOn K.went link.old link.new L.seen (attendant machine place.old) door (attendant machine place.new) door }
 {
     if link.submit(&mut Step::Gone) {
         *place = LinePlace::Done;
-        true
+        Progress::Moved
     } else {
-        false
+        Progress::NotAccepted
     }
 }
 
@@ -339,8 +347,8 @@ fn leave<L: Line + Drop, K: Link>(place: &mut LinePlace<L>, link: &mut K) -> boo
 /// If the action writes an answer, `sent` is the number of its bytes that were written before.
 /// Bytes for which the line has no room remain to be written.
 ///
-/// Returns true if something moved. Nothing moved if a step was not accepted, there was no mail, or
-/// the line had no bytes or no room yet; the same action can then be tried again later.
+/// The result says what moved or what was missing: a step was not accepted, there was no mail, or
+/// the line had no bytes or no room yet. The same action can then be tried again later.
 pub fn carry_out<L: Line, K: Link>(
     alloc: Global,
     machine: &mut SeatMachine,
@@ -349,11 +357,11 @@ pub fn carry_out<L: Line, K: Link>(
     line: &mut L,
     link: &mut K,
     room: &mut Room,
-) -> bool
+) -> Progress
     requires ready { K.is_ready link.old }
     ensures ready { K.is_ready link.new }
     ensures carried { (submitted : List Step) × (taken : List Answer) × HasGone K.went link.old action.old submitted taken link.new
-        × CarriedPart machine.old (L.seen line.old) action.old sent.old machine.new (L.seen line.new) action.new sent.new submitted taken }
+        × CarriedPart result machine.old (L.seen line.old) action.old sent.old machine.new (L.seen line.new) action.new sent.new submitted taken }
     ensures stays { StaysOver L.lies_over line.old line.new }
 {
     match action {
@@ -363,13 +371,13 @@ pub fn carry_out<L: Line, K: Link>(
                 Wrote::Whole => {
                     *sent = 0;
                     machine.write_done(alloc, action);
-                    true
+                    Progress::Moved
                 }
-                Wrote::NotYet => false,
+                Wrote::NotYet => Progress::NoRoom,
                 Wrote::Fault => {
                     *sent = 0;
                     machine.write_fault(action);
-                    true
+                    Progress::Moved
                 }
             }
         }
@@ -388,37 +396,37 @@ fn act<L: Line, K: Link>(
     line: &mut L,
     link: &mut K,
     room: &mut Room,
-) -> bool
+) -> Progress
     requires ready { K.is_ready link.old }
     ensures ready { K.is_ready link.new }
     ensures carried { (submitted : List Step) × (taken : List Answer) × HasGone K.went link.old action.old submitted taken link.new ×
-        Carried machine.old (L.seen line.old) action.old machine.new (L.seen line.new) action.new submitted taken }
+        Carried result machine.old (L.seen line.old) action.old machine.new (L.seen line.new) action.new submitted taken }
     ensures stays { StaysOver L.lies_over line.old line.new }
 {
     match action {
         Action::Submit(step) => {
             if link.submit(step) {
                 machine.submitted(alloc, action);
-                true
+                Progress::Moved
             } else {
-                false
+                Progress::NotAccepted
             }
         }
         Action::Read => read(alloc, machine, action, line, &mut room.piece),
         Action::PollMail => {
             if link.mail(action) {
                 machine.mail(action);
-                true
+                Progress::Moved
             } else {
                 // The answer may take long.
                 line.expect_more(false);
                 machine.nothing_yet(action);
-                false
+                Progress::NoMail
             }
         }
-        Action::Write(_) => false,
-        Action::LineOver(_) => false,
-        Action::Stray => false,
+        Action::Write(_) => Progress::NoRoom,
+        Action::LineOver(_) => Progress::NothingToDo,
+        Action::Stray => Progress::NothingToDo,
     }
 }
 
@@ -430,9 +438,9 @@ fn read<L: Line>(
     next: &mut Action,
     line: &mut L,
     room: &mut [u8],
-) -> bool
+) -> Progress
     requires { length room.old ≡ PIECE_ROOM }
-    ensures carried { Carried machine.old (L.seen line.old) Action.Read machine.new
+    ensures carried { Carried result machine.old (L.seen line.old) Action.Read machine.new
         (L.seen line.new) next.new [] [] }
     ensures stays { StaysOver L.lies_over line.old line.new }
 {
@@ -449,9 +457,9 @@ fn hand_on<L: Line>(
     next: &mut Action,
     line: &mut L,
     room: &mut [u8],
-) -> bool
+) -> Progress
     requires { length room.old ≡ PIECE_ROOM }
-    ensures carried { Carried machine.old (L.seen line.old) Action.Read machine.new
+    ensures carried { Carried result machine.old (L.seen line.old) Action.Read machine.new
         (L.seen line.new) next.new [] [] }
     ensures stays { StaysOver L.lies_over line.old line.new }
 {
@@ -461,7 +469,7 @@ fn hand_on<L: Line>(
     }
     machine.bytes(alloc, &line.unread()[..count], next);
     line.take_unread(count);
-    true
+    Progress::Moved
 }
 
 fn read_piece<L: Line>(
@@ -470,37 +478,42 @@ fn read_piece<L: Line>(
     next: &mut Action,
     line: &mut L,
     room: &mut [u8],
-) -> bool
+) -> Progress
     requires { length room.old ≡ PIECE_ROOM }
-    ensures carried { Carried machine.old (L.seen line.old) Action.Read machine.new
+    ensures carried { Carried result machine.old (L.seen line.old) Action.Read machine.new
         (L.seen line.new) next.new [] [] }
     ensures stays { StaysOver L.lies_over line.old line.new }
 {
     match read_line(machine, line, room) {
         Ok(0) => {
             machine.end_of_input(next);
-            true
+            Progress::Moved
         }
         Ok(count) => {
             machine.bytes(alloc, &room[..count], next);
-            true
+            Progress::Moved
         }
         Err(e) => tell_error(alloc, machine, next, &e),
     }
 }
 
 // There are no bytes yet, or the read failed.
-fn tell_error(alloc: Global, machine: &mut SeatMachine, next: &mut Action, e: &io::Error) -> bool
+fn tell_error(
+    alloc: Global,
+    machine: &mut SeatMachine,
+    next: &mut Action,
+    e: &io::Error,
+) -> Progress
     ensures { (seen : LineSeen)
-        → Carried machine.old seen Action.Read machine.new
+        → Carried result machine.old seen Action.Read machine.new
         (after_fill (Err e.now) seen) next.new [] [] }
 {
     if is_nothing_yet(e) {
         machine.nothing_yet(next);
-        false
+        Progress::NoBytes
     } else {
         machine.read_fault(next);
-        true
+        Progress::Moved
     }
 }
 

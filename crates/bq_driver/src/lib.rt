@@ -9,4 +9,5 @@ pub mod control;
 pub mod control_line;
 pub mod control_reader;
 pub mod link;
+pub mod progress;
 pub mod room;

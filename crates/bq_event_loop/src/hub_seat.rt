@@ -2,13 +2,14 @@
 ghost use Rattle.std.specs.Prelude.{◌≡◌, ◌<◌, ℕ, List, length};
 ghost use Rattle.bq_job.specs.declared.answer.Answer.{Answer};
 ghost use Rattle.bq_job.specs.declared.step.Step.{Step};
-ghost use Rattle.bq_driver.specs.Tending.{GoesOn, IsPlaced, door_seen};
+ghost use Rattle.bq_driver.specs.Tending.{GoesOn, IsPlaced, MayEndAt, door_seen};
 ghost use Rattle.bq_event_loop.specs.HubOf.{WentAt, state_of};
 ghost use Rattle.bq_event_loop.specs.HubState.{IsInOrder};
 
 use crate::hub::Hub;
 use bq_driver::attendant::Attendant;
 use bq_driver::link::Link;
+use bq_driver::progress::Progress;
 use bq_driver::room::Room;
 use bq_job::{Seat, Step};
 use bq_line::Door;
@@ -46,19 +47,22 @@ impl<'a, C: Clock + Drop, K: QueueCore + Drop> Link for HubSeat<'a, C, K> {
     }
 }
 
-/// Does one action of a seat that attends to a door, at the hub. Returns true if something moved.
+/// Does one action of a seat that attends to a door, at the hub. Returns what moved or what was
+/// missing.
 pub fn attend<L: Line + Drop, D: Door<Line = L>, C: Clock + Drop, K: QueueCore + Drop>(
     attendant: &mut Attendant<L>,
     door: &mut D,
     hub: &mut Hub<C, K>,
     seat: Seat,
     room: &mut Room,
-) -> bool
+) -> Progress
     requires placed { IsPlaced attendant.old.place
         (door_seen D.is_out D.is_at_end D.lines_over door.old) }
     requires order { IsInOrder (state_of K.machine K.comparisons hub.old) }
     requires within { seat < length hub.old.mails.items }
     ensures order { IsInOrder (state_of K.machine K.comparisons hub.new) }
+    // The result is one that this place can have.
+    ensures progress { MayEndAt result attendant.old.place }
     ensures went { let at = door_seen D.is_out D.is_at_end D.lines_over in
         GoesOn (WentAt K.machine K.comparisons C.given seat) hub.old hub.new L.seen attendant.old (at door.old) attendant.new (at door.new) }
     ensures same { (first : D) → D.same first door.old → D.same first door.new }

@@ -13,6 +13,7 @@ use crate::row::Row;
 use crate::turns::{ControlReads, ControlStands, News, Turn, Turns, TurnsFault};
 use accepts::Accepts;
 use bq_driver::attendant::Looked;
+use bq_driver::progress::Progress;
 use bq_line::Door;
 use bq_line::line::{Line, ReadBuffer, Readiness};
 use control_watch::ControlWatch;
@@ -251,7 +252,7 @@ impl<'r, R: rt::Clock> Poller<'r, R> {
         alloc: Global,
         row: &mut Row<L, D>,
         part: Part,
-        moved: bool,
+        progress: Progress,
     ) -> Turn
         requires tended { AreTended L.seen (door_seen D.is_out D.is_at_end D.lines_over) row.old }
         ensures tended { AreTended L.seen (door_seen D.is_out D.is_at_end D.lines_over) row.new }
@@ -259,7 +260,7 @@ impl<'r, R: rt::Clock> Poller<'r, R> {
             → RestsSince L.seen (door_seen D.is_out D.is_at_end D.lines_over) D.same first row.new }
     {
         if self.is_visiting {
-            self.visit.note(moved);
+            self.visit.note(progress);
             if self.goes_on(alloc, row) {
                 return Turn::Seat(self.visit.seat());
             }
@@ -431,7 +432,7 @@ impl<'r, R: rt::Clock> Turns for Poller<'r, R> {
                 self.look_at_next(alloc, row)
             }
             Stage::Doors => self.look_at_next(alloc, row),
-            Stage::Visits(part) => self.go_on(alloc, row, part, news.moved),
+            Stage::Visits(part) => self.go_on(alloc, row, part, news.progress),
             Stage::Wait => {
                 self.wait(row, news);
                 self.control_turn(alloc, row, news)

@@ -15,6 +15,7 @@ use crate::hub_seat::attend;
 use crate::row::Row;
 use crate::turns::{ControlReads, News, Turn, Turns};
 use bq_driver::control_line::ControlInput;
+use bq_driver::progress::Progress;
 use bq_driver::room::Room;
 use bq_job::Seat;
 use bq_line::Door;
@@ -51,7 +52,7 @@ pub fn serve<
         hub.old row.old told hub.new row.new }
 {
     let mut news = News {
-        moved: false,
+        progress: Progress::NothingToDo,
         due: None,
         control: control.stands(),
     };
@@ -96,7 +97,7 @@ fn take_turn<
 {
     match turn {
         Turn::Seat(seat) => {
-            news.moved = serve_seat(row, hub, seat, room);
+            news.progress = serve_seat(row, hub, seat, room);
             false
         }
         Turn::Control(reads) => {
@@ -136,14 +137,14 @@ fn wake_all<T: Turns, C: Clock + Drop, K: QueueCore + Drop>(turns: &mut T, hub: 
     }
 }
 
-// Does one action of a seat, and returns true if something moved. All answers are then put into the
-// mail, unless this seat takes its own next.
+// Does one action of a seat, and returns what moved or what was missing. All answers are then put
+// into the mail, unless this seat takes its own next.
 fn serve_seat<L: Line + Drop, D: Door<Line = L>, C: Clock + Drop, K: QueueCore + Drop>(
     row: &mut Row<L, D>,
     hub: &mut Hub<C, K>,
     seat: usize,
     room: &mut Room,
-) -> bool
+) -> Progress
     requires order { IsInOrder (state_of K.machine K.comparisons hub.old) }
     requires tended { AreTended L.seen (door_seen D.is_out D.is_at_end D.lines_over) row.old }
     requires mailed { length hub.old.mails.items ≡ length row.old.seats.items }
@@ -154,13 +155,13 @@ fn serve_seat<L: Line + Drop, D: Door<Line = L>, C: Clock + Drop, K: QueueCore +
         hub.old row.old [] hub.new row.new }
 {
     if seat >= row.seats.len() {
-        return false;
+        return Progress::NothingToDo;
     }
-    let moved = act_and_poll(row, hub, seat, room);
+    let progress = act_and_poll(row, hub, seat, room);
     if !row.seats[seat].polls_mail() {
         let _all = hub.sort(0);
     }
-    moved
+    progress
 }
 
 // One action of a seat. If it submitted a step, the seat looks for the answer at once: mostly the core gave it.
@@ -169,7 +170,7 @@ fn act_and_poll<L: Line + Drop, D: Door<Line = L>, C: Clock + Drop, K: QueueCore
     hub: &mut Hub<C, K>,
     seat: usize,
     room: &mut Room,
-) -> bool
+) -> Progress
     requires order { IsInOrder (state_of K.machine K.comparisons hub.old) }
     requires tended { AreTended L.seen (door_seen D.is_out D.is_at_end D.lines_over) row.old }
     requires mailed { length hub.old.mails.items ≡ length row.old.seats.items }
@@ -180,11 +181,11 @@ fn act_and_poll<L: Line + Drop, D: Door<Line = L>, C: Clock + Drop, K: QueueCore
     ensures served { ServesOn K.machine K.comparisons C.given L.seen (door_seen D.is_out D.is_at_end D.lines_over) D.same
         hub.old row.old [] hub.new row.new }
 {
-    let moved = act(row, hub, seat, room);
-    if moved && row.seats[seat].polls_mail() {
+    let progress = act(row, hub, seat, room);
+    if progress.has_moved() && row.seats[seat].polls_mail() {
         return act(row, hub, seat, room);
     }
-    moved
+    progress
 }
 
 fn act<L: Line + Drop, D: Door<Line = L>, C: Clock + Drop, K: QueueCore + Drop>(
@@ -192,7 +193,7 @@ fn act<L: Line + Drop, D: Door<Line = L>, C: Clock + Drop, K: QueueCore + Drop>(
     hub: &mut Hub<C, K>,
     seat: usize,
     room: &mut Room,
-) -> bool
+) -> Progress
     requires order { IsInOrder (state_of K.machine K.comparisons hub.old) }
     requires tended { AreTended L.seen (door_seen D.is_out D.is_at_end D.lines_over) row.old }
     requires mailed { length hub.old.mails.items ≡ length row.old.seats.items }

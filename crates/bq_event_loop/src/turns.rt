@@ -4,6 +4,7 @@ ghost use Rattle.bq_driver.specs.Tending.{door_seen};
 ghost use Rattle.bq_event_loop.specs.Rows.{AreTended, RestsSince};
 
 use crate::row::Row;
+use bq_driver::progress::Progress;
 use bq_host::RunFault;
 use bq_line::Door;
 use bq_line::line::Line;
@@ -47,8 +48,8 @@ pub enum ControlStands {
 /// What has happened since the last turn.
 #[derive(Clone, Copy, Debug, PartialEq, Eq)]
 pub struct News {
-    /// Whether the last action of a seat moved something.
-    pub moved: bool,
+    /// What the last action of a seat moved, or what was missing.
+    pub progress: Progress,
     /// In how many milliseconds something is due, as of the last `Turn::Time`. `None` if nothing
     /// is.
     pub due: Option<u64>,

@@ -201,7 +201,7 @@ impl<'t> Turns for Order<'t> {
         row: &mut Row<L, D>,
         news: News,
     ) -> Turn {
-        self.note(news.moved);
+        self.note(news.progress.has_moved());
         self.count();
         if self.stage != Stage::Seats {
             return self.turn(None);

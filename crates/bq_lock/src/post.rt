@@ -10,6 +10,7 @@ ghost use Rattle.bq_driver.specs.Tending.{IsNewDoor, door_seen};
 use crate::bells::Bells;
 use crate::shared_desk::{SharedDesk, SharedSeat};
 use bq_driver::attendant::{Attendant, LinePlace};
+use bq_driver::progress::Progress;
 use bq_driver::room::Room;
 use bq_host::Start;
 use bq_job::{NoMemory, Seat};
@@ -100,11 +101,19 @@ impl<L: Line + Drop, D: Door<Line = L> + Drop> Post<L, D> {
             if attendant.is_done() {
                 return Some(door);
             }
-            if !attendant.go_on(alloc, &mut door, &mut link, &mut room) {
-                thread::yield_now();
-            }
+            let progress = attendant.go_on(alloc, &mut door, &mut link, &mut room);
+            yield_after(progress);
         }
         unreachable!()
+    }
+}
+
+// Lets other threads run if the line had no bytes or no room, or a step was not accepted. If no
+// answer has come, the next look for mail sleeps.
+fn yield_after(progress: Progress) {
+    match progress {
+        Progress::NotAccepted | Progress::NoBytes | Progress::NoRoom => thread::yield_now(),
+        Progress::Moved | Progress::NoMail | Progress::NothingToDo => {}
     }
 }
 

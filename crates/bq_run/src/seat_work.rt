@@ -2,7 +2,7 @@
 ghost use Rattle.std.specs.Prelude.{◌≡◌, [], List, false, true};
 ghost use Rattle.bq_seat.specs.Past.{Awaited};
 ghost use Rattle.bq_seat.specs.SeatStands.{awaited};
-ghost use Rattle.bq_driver.specs.Tending.{IsDoorServed, IsNewDoor, door_seen, GoesOn, IsPlaced};
+ghost use Rattle.bq_driver.specs.Tending.{IsDoorServed, IsNewDoor, door_seen, GoesOn, IsPlaced, MayEndAt};
 ghost use Rattle.bq_link.specs.EndStates.{IsSameSeat, WasFull};
 ghost use Rattle.bq_run.specs.Ends.{IsNewEnd, EndWent, LinkWent};
 ghost use Rattle.bq_job.specs.promise.ControlDid.{IsControlDone};
@@ -17,6 +17,7 @@ use bq_driver::attendant::{Attendant, LinePlace};
 use bq_driver::control::{ControlLink, submit_control};
 use bq_driver::control_line::ControlInput;
 use bq_driver::link::Link;
+use bq_driver::progress::Progress;
 use bq_driver::room::Room;
 use bq_job::{Request, Step};
 use bq_line::Door;
@@ -29,8 +30,8 @@ use std::sync::Wait;
 use std::time::Duration;
 use std::{mem, thread};
 
-/// How long a seat sleeps, in milliseconds, when its line had no bytes and the read did not wait
-/// for any.
+/// How long a seat sleeps, in milliseconds, when its line had no bytes or no room and the call did
+/// not wait for any.
 const LINE_REST: u64 = 10;
 
 /// How long a seat sleeps, in milliseconds, when the intake was full. It soon has room again.
@@ -70,7 +71,7 @@ pub fn seat_work<R: Wait, L: Line + Drop, D: Door<Line = L> + Drop>(
         if attendant.is_done() {
             return (end, door);
         }
-        if !attend_at(
+        let progress = attend_at(
             rt,
             alloc,
             intake,
@@ -79,29 +80,28 @@ pub fn seat_work<R: Wait, L: Line + Drop, D: Door<Line = L> + Drop>(
             &mut door,
             &mut room,
             &mut pace,
-        ) {
-            pause(
-                rt,
-                intake,
-                &mut end,
-                pause_after(attendant.awaits_line(), pace),
-            );
-        }
+        );
+        let most = pause_after(progress, attendant.awaits_line());
+        pause(rt, intake, &mut end, most);
     }
     unreachable!()
 }
 
-// Returns how many milliseconds a seat sleeps if nothing moved. It does not sleep here if its next
-// poll of its mail does so, as its pace says. Otherwise its line had no bytes, or the intake was
-// full.
-fn pause_after(awaits_line: bool, pace: Pace) -> u64 {
-    if awaits_line {
-        LINE_REST
-    } else if pace.rests() {
-        0
-    } else {
-        INTAKE_REST
+// Returns how many milliseconds a seat sleeps after an action. If no answer has come, its next poll
+// of its mail sleeps.
+fn pause_after(progress: Progress, awaits_line: bool) -> u64 {
+    match progress {
+        Progress::NotAccepted => INTAKE_REST,
+        Progress::NoBytes => rest_without_bytes(awaits_line),
+        Progress::NoRoom => LINE_REST,
+        Progress::Moved | Progress::NoMail | Progress::NothingToDo => 0,
     }
+}
+
+// The same if no bytes have come. If an answer is outstanding, the seat does not only await its
+// line, and polls its mail next.
+fn rest_without_bytes(awaits_line: bool) -> u64 {
+    if awaits_line { LINE_REST } else { 0 }
 }
 
 fn pause<R: Wait>(rt: &R, intake: &Intake<NoTicks>, end: &mut SeatEnd, most: u64)
@@ -347,8 +347,8 @@ fn look(end: &mut SeatEnd, place: &mut Action) -> bool
     true
 }
 
-/// Does one action of a seat that attends to a door, at its end of the links. Returns true if
-/// something moved. The pace is kept from one action to the next.
+/// Does one action of a seat that attends to a door, at its end of the links. Returns what moved or
+/// what was missing. The pace is kept from one action to the next.
 pub fn attend_at<R: Wait, L: Line + Drop, D: Door<Line = L>>(
     rt: &R,
     alloc: Global,
@@ -358,11 +358,15 @@ pub fn attend_at<R: Wait, L: Line + Drop, D: Door<Line = L>>(
     door: &mut D,
     room: &mut Room,
     pace: &mut Pace,
-) -> bool
+) -> Progress
     requires intake { end.old.intake ≡ intake.now.id }
     requires placed { IsPlaced attendant.old.place
         (door_seen D.is_out D.is_at_end D.lines_over door.old) }
     ensures same { IsSameSeat end.old end.new }
+    // The result is one that this place can have. Unless something moved, the seat submitted
+    // nothing and took nothing.
+    ensures progress { MayEndAt result attendant.old.place }
+    ensures still { (result ≡ Progress.Moved → ⊥) → EndWent end.old [] [] end.new }
     ensures went { let at = door_seen D.is_out D.is_at_end D.lines_over in
         GoesOn EndWent end.old end.new L.seen attendant.old (at door.old) attendant.new (at door.new) }
     ensures door { (first : D) → D.same first door.old → D.same first door.new }
@@ -373,9 +377,9 @@ pub fn attend_at<R: Wait, L: Line + Drop, D: Door<Line = L>>(
         end,
         pace: *pace,
     };
-    let moved = attendant.go_on(alloc, door, &mut link, room);
+    let progress = attendant.go_on(alloc, door, &mut link, room);
     *pace = link.pace;
-    moved
+    progress
 }
 
 /// Serves the control line at its end of the links.

@@ -19,6 +19,7 @@ use Rattle.bq_seat.specs.declared.machine.Action.TheVariants as actions
 use Rattle.bq_seat.specs.declared.machine.SeatMachine.{SeatMachine}
 use Rattle.bq_driver.specs.Attending.{IsOnLine}
 use Rattle.bq_driver.specs.Carried.{CarriesOn, with_part}
+use Rattle.bq_driver.specs.declared.progress.Progress.{Progress}
 use Rattle.bq_run_one.specs.DeskState.{DeskState, HasMails, IsNewDesk, waiting}
 use Rattle.bq_run_one.specs.DeskWent.{SeatWent}
 use Rattle.bq_run_one.proofs.DeskLemmas.{seat_none, seat_on}
@@ -52,12 +53,13 @@ begins_alone settings seat desk machine seen action new on =
       on_line = on;
     }
 
-pub goes_on_alone : (settings : Settings) (seat : ℕ) (readings reads : List (Option ℕ)) (desk next : DeskState) (old new : SeatMachine)
-    (seen later : LineSeen) (action then_action : Action) (sent now : ℕ) (submitted : List Step) (taken : List Answer)
+pub goes_on_alone : (result : Progress) (settings : Settings) (seat : ℕ) (readings reads : List (Option ℕ)) (desk next : DeskState)
+    (old new : SeatMachine) (seen later : LineSeen) (action then_action : Action) (sent now : ℕ)
+    (submitted : List Step) (taken : List Answer)
     → IsServingAlone settings seat readings desk old seen action sent → SeatWent seat desk reads submitted taken next
-    → CarriesOn old seen action sent new later then_action now submitted taken
+    → CarriesOn result old seen action sent new later then_action now submitted taken
     → IsServingAlone settings seat (readings ++ reads) next new later then_action now
-goes_on_alone settings seat readings reads desk next old new seen later action then_action sent now submitted taken s w carries =
+goes_on_alone result settings seat readings reads desk next old new seen later action then_action sent now submitted taken s w carries =
     let c = carries s.before s.part in record {
       first = s.first;
       submitted = s.submitted ++ submitted;
@@ -66,7 +68,8 @@ goes_on_alone settings seat readings reads desk next old new seen later action t
       went = seat_on s.first desk next seat readings reads s.submitted submitted s.taken taken s.went w;
       before = c.0;
       part = c.1;
-      on_line = carried_on settings.max_job_size old new s.before c.0 action then_action s.submitted submitted s.taken taken c.2 s.on_line;
+      on_line = carried_on result settings.max_job_size old new s.before c.0 action then_action s.submitted submitted s.taken taken
+          c.2 s.on_line;
     }
 
 -- a new desk has no mail

@@ -10,6 +10,7 @@ ghost use Rattle.bq_run_one.specs.DeskState.{HasMails};
 use crate::desk::Desk;
 use bq_driver::attendant::carry_out;
 use bq_driver::link::Link;
+use bq_driver::progress::Progress;
 use bq_driver::room::Room;
 use bq_job::{Seat, Step};
 use bq_line::clock::Clock;
@@ -53,7 +54,7 @@ impl<'a, C: Clock + Drop> Link for DeskSeat<'a, C> {
 }
 
 /// Carries out one action of a seat's machine at the desk, and replaces it by the machine's next
-/// action. Returns true if something moved.
+/// action. Returns what moved or what was missing.
 pub fn act<L: Line, C: Clock + Drop>(
     machine: &mut SeatMachine,
     action: &mut Action,
@@ -62,12 +63,12 @@ pub fn act<L: Line, C: Clock + Drop>(
     desk: &mut Desk<C>,
     seat: Seat,
     room: &mut Room,
-) -> bool
+) -> Progress
     requires mails { HasMails (state_of desk.old) }
     requires within { seat < length (state_of desk.old).mails }
     ensures mails { HasMails (state_of desk.new) }
     ensures carried { (submitted : List Step) × (taken : List Answer) × WentAt C.given seat desk.old submitted taken desk.new ×
-        CarriedPart machine.old (L.seen line.old) action.old sent.old machine.new (L.seen line.new) action.new sent.new submitted taken }
+        CarriedPart result machine.old (L.seen line.old) action.old sent.old machine.new (L.seen line.new) action.new sent.new submitted taken }
     ensures stays { StaysOver L.lies_over line.old line.new }
 {
     let alloc = desk.timed.alloc;

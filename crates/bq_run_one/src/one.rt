@@ -11,6 +11,7 @@ ghost use Rattle.bq_run_one.specs.RunSettings.{is_lone};
 use crate::desk::Desk;
 use crate::desk_seat::act;
 use bq_core::Config;
+use bq_driver::progress::Progress;
 use bq_driver::room::Room;
 use bq_host::RunFault;
 use bq_job::{LineEnd, Seat};
@@ -103,8 +104,7 @@ fn serve_line<R: Wait, L: Line + Drop, C: Clock + Drop>(
                 clock: desk.into_clock(),
             };
         }
-        let looked = is_look(&action);
-        let _moved = act(
+        let progress = act(
             &mut machine,
             &mut action,
             &mut sent,
@@ -113,19 +113,15 @@ fn serve_line<R: Wait, L: Line + Drop, C: Clock + Drop>(
             ONLY_SEAT,
             &mut room,
         );
-        rest_between_looks(rt, &bell, looked, &action);
+        rest_after(rt, &bell, progress, &action);
     }
     unreachable!()
 }
 
-fn is_look(action: &Action) -> bool {
-    matches!(action, Action::PollMail)
-}
-
-// Sleeps for a moment if the mail was empty and the next action checks it again: nothing can happen
-// before time has passed.
-fn rest_between_looks<R: Wait>(rt: &R, bell: &Parker, looked: bool, next: &Action) {
-    if looked && is_look(next) {
+// Sleeps for a moment if no answer has come and the next action checks the mail again: nothing can
+// happen before time has passed.
+fn rest_after<R: Wait>(rt: &R, bell: &Parker, progress: Progress, next: &Action) {
+    if progress == Progress::NoMail && matches!(next, Action::PollMail) {
         bell.park_timeout(rt, Duration::from_millis(REST));
     }
 }

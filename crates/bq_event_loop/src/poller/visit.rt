@@ -1,6 +1,7 @@
 //! A visit of a seat: the actions that it does without waiting, before other seats have their turn.
 
 use bq_driver::attendant::Attendant;
+use bq_driver::progress::Progress;
 use bq_line::line::Line;
 
 /// The largest number of turns in a visit: those of some 32 commands that came together. Each takes
@@ -60,7 +61,8 @@ pub struct Visit {
     part: Part,
     // How many more actions it may do.
     left: u32,
-    // How many of its last actions moved nothing.
+    // The result of its last action, and how many of its last actions moved nothing.
+    last: Progress,
     unmoved: u32,
     // Whether its line has the shared buffer.
     is_lent: bool,
@@ -73,6 +75,7 @@ impl Visit {
             seat,
             part,
             left: MOST,
+            last: Progress::Moved,
             unmoved: 0,
             is_lent: true,
         }
@@ -93,10 +96,11 @@ impl Visit {
         self.seat
     }
 
-    /// Notes another action, which moved something or not.
-    pub fn note(&mut self, moved: bool) {
+    /// Notes the result of another action.
+    pub fn note(&mut self, progress: Progress) {
         self.left = self.left.saturating_sub(1);
-        self.unmoved = if moved {
+        self.last = progress;
+        self.unmoved = if progress.has_moved() {
             0
         } else {
             self.unmoved.saturating_add(1)
@@ -112,7 +116,7 @@ impl Visit {
     }
 
     fn end_of_part<L: Line + Drop>(&self, part: Part, seat: &Attendant<L>) -> Option<Pause> {
-        if self.left == 0 || self.is_stuck(seat) || ends_part(part, seat) {
+        if self.left == 0 || self.is_stuck() || ends_part(part, seat) {
             Some(Pause::PartDone)
         } else {
             None
@@ -127,7 +131,7 @@ impl Visit {
             Some(Pause::IsDone)
         } else if seat.awaits_bytes() {
             Some(Pause::Rests)
-        } else if self.is_stuck(seat) {
+        } else if self.is_stuck() {
             Some(self.rest(seat))
         } else if self.left == 0 {
             Some(Pause::GoesOn)
@@ -139,7 +143,7 @@ impl Visit {
     // If nothing moves, it rests, unless a step was rejected and is submitted again, or a call of
     // the line was interrupted and is made again.
     fn rest<L: Line + Drop>(&self, seat: &Attendant<L>) -> Pause {
-        if seat.submits() || seat.tries_again() {
+        if self.last == Progress::NotAccepted || seat.tries_again() {
             Pause::GoesOn
         } else {
             Pause::Rests
@@ -148,8 +152,12 @@ impl Visit {
 
     // Returns true if nothing moves now. A seat whose answer is outstanding alternately polls its
     // mail and reads: if neither moves anything, it rests.
-    fn is_stuck<L: Line + Drop>(&self, seat: &Attendant<L>) -> bool {
-        self.unmoved > 1 || (self.unmoved > 0 && (seat.writes() || seat.submits()))
+    fn is_stuck(&self) -> bool {
+        match self.last {
+            Progress::Moved => false,
+            Progress::NotAccepted | Progress::NoRoom => true,
+            Progress::NoMail | Progress::NoBytes | Progress::NothingToDo => self.unmoved > 1,
+        }
     }
 }
 

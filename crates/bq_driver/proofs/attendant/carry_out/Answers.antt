@@ -17,4 +17,4 @@ returns-in-Fault-clause-carried g c =
     (rw (c.in-Fault.is, c.expect_answers.ensures.seen) at c.write_answer.ensures.text) c.write_fault.ensures
 
 pub returns-in_default-clause-carried : goal.returns-in_default-clause-carried
-returns-in_default-clause-carried g c = at_once g.K.Link.went _ _ _ _ _ _ _ _ _ c.in_default.not-Write c.act.ensures.carried
+returns-in_default-clause-carried g c = at_once g.K.Link.went _ _ _ _ _ _ _ _ _ _ c.in_default.not-Write c.act.ensures.carried

@@ -23,34 +23,20 @@ loop-init g c =
       door = g.met.D.Door.same_self c.args.door;
     }
 
-pub loop-preserved-then-not-attend_at : goal.loop-preserved-then-not-attend_at
-loop-preserved-then-not-attend_at g c =
+pub loop-preserved : goal.loop-preserved
+loop-preserved g c =
     let at = door_seen g.D.Door.is_out g.D.Door.is_at_end g.D.Door.lines_over in
     let size = c.args.machine.reader.max_job_size in
-    let new = c.attend_at.new in
+    let new = c.attend_at-progress.new in
     let before = c.loop.invariant.same in
-    let same = c.attend_at.ensures.same in
+    let same = c.attend_at-progress.ensures.same in
     let on = tended_on g.L.Line.seen size c.loop.end new.end c.loop.attendant new.attendant (at c.loop.door)
-    (at new.door) c.attend_at.ensures.went c.loop.invariant.tended in
+    (at new.door) c.attend_at-progress.ensures.went c.loop.invariant.tended in
     record {
       iterator = (tt, tt);
       same = subst (λ (e : SeatState). IsSameSeat c.args.end e) (sym c.pause.ensures)
           (same.0 ∙ before.0, same.1 ∙ before.1, same.2 ∙ before.2);
       tended = subst (λ (e : SeatState). IsTended g.L.Line.seen size new.attendant (at new.door) e.submitted e.taken)
           (sym c.pause.ensures) on;
-      door = c.attend_at.ensures.door c.args.door c.loop.invariant.door;
-    }
-
-pub loop-preserved : goal.loop-preserved
-loop-preserved g c =
-    let at = door_seen g.D.Door.is_out g.D.Door.is_at_end g.D.Door.lines_over in
-    let new = c.attend_at.new in
-    let before = c.loop.invariant.same in
-    let same = c.attend_at.ensures.same in
-    record {
-      iterator = (tt, tt);
-      same = (same.0 ∙ before.0, same.1 ∙ before.1, same.2 ∙ before.2);
-      tended = tended_on g.L.Line.seen c.args.machine.reader.max_job_size c.loop.end new.end c.loop.attendant new.attendant (at c.loop.door)
-          (at new.door) c.attend_at.ensures.went c.loop.invariant.tended;
-      door = c.attend_at.ensures.door c.args.door c.loop.invariant.door;
+      door = c.attend_at-progress.ensures.door c.args.door c.loop.invariant.door;
     }

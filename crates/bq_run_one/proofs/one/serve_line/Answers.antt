@@ -28,8 +28,8 @@ loop-init g c =
       within = omega (arith, many, seats);
     }
 
-pub act-moved-requires : goal.act-moved-requires
-act-moved-requires g c =
+pub act-progress-requires : goal.act-progress-requires
+act-progress-requires g c =
     record {
       mails = c.loop.invariant.mails;
       within = c.loop.invariant.within;
@@ -38,20 +38,21 @@ act-moved-requires g c =
 pub loop-preserved : goal.loop-preserved
 loop-preserved g c =
     let i = c.loop.invariant.serves in
-    let h = c.act-moved.ensures.carried in
+    let h = c.act-progress.ensures.carried in
     let w = h.2 in
-    let next = state_of c.act-moved.new.desk in
+    let next = state_of c.act-progress.new.desk in
     record {
       iterator = (tt, tt);
       serves = (
         i.0 ++ w.0,
         w.1 c.args.desk.timed.time.clock i.0 i.1,
-        goes_on_alone c.args.desk.timed.core.machine.settings 0 i.0 w.0 (state_of c.loop.desk) next c.loop.machine c.act-moved.new.machine
-            (g.L.Line.seen c.loop.line) (g.L.Line.seen c.act-moved.new.line) c.loop.action c.act-moved.new.action c.loop.sent
-            c.act-moved.new.sent h.0 h.1 i.2 w.2 h.3.1,
+        goes_on_alone c.act-progress.result c.args.desk.timed.core.machine.settings 0 i.0 w.0 (state_of c.loop.desk) next
+            c.loop.machine c.act-progress.new.machine (g.L.Line.seen c.loop.line) (g.L.Line.seen c.act-progress.new.line)
+            c.loop.action c.act-progress.new.action c.loop.sent
+            c.act-progress.new.sent h.0 h.1 i.2 w.2 h.3.2,
       );
-      stays = λ first over. c.act-moved.ensures.stays first (c.loop.invariant.stays first over);
-      mails = c.act-moved.ensures.mails;
+      stays = λ first over. c.act-progress.ensures.stays first (c.loop.invariant.stays first over);
+      mails = c.act-progress.ensures.mails;
       within = omega (arith, w.2.went.many, c.loop.invariant.within);
     }
 

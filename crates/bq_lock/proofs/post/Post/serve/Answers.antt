@@ -21,25 +21,15 @@ loop-init g c =
       same = g.met.D.Door.same_self post.door;
     }
 
-pub loop-preserved-then-not-go_on : goal.loop-preserved-then-not-go_on
-loop-preserved-then-not-go_on g c =
-    let t = c.loop.invariant.tended in
-    let w = c.go_on.ensures.went in
-    record {
-      iterator = (tt, tt);
-      tended = (t.0 ++ w.0, t.1 ++ w.1, w.3 c.args.self.max_job_size t.0 t.1 t.2);
-      same = c.go_on.ensures.same c.args.self.door c.loop.invariant.same;
-    }
-
 pub loop-preserved : goal.loop-preserved
 loop-preserved g c =
     let t = c.loop.invariant.tended in
-    let w = c.go_on.ensures.went in
+    let w = c.go_on-progress.ensures.went in
     record {
       iterator = (tt, tt);
       tended = (t.0 ++ w.0, t.1 ++ w.1, w.3 c.args.self.max_job_size t.0 t.1 t.2);
-      same = c.go_on.ensures.same c.args.self.door c.loop.invariant.same;
+      same = c.go_on-progress.ensures.same c.args.self.door c.loop.invariant.same;
     }
 
-pub go_on-requires-clause-placed : goal.go_on-requires-clause-placed
-go_on-requires-clause-placed g c = c.loop.invariant.tended.2.placed
+pub go_on-progress-requires-clause-placed : goal.go_on-progress-requires-clause-placed
+go_on-progress-requires-clause-placed g c = c.loop.invariant.tended.2.placed
