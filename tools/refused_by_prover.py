@@ -92,19 +92,37 @@ def function_at(text, place):
     return f"{type_of(heads[-1][1].partition(' where')[0].partition(chr(10) + 'where')[0])}::{function}"
 
 
+def homes_of(folder):
+    """Returns the modules of a crate that declare a type of each name: a method's path begins with the type's, wherever it stands."""
+    found = {}
+    for file in sorted((folder / "src").rglob("*.rt")):
+        for name in re.findall(r"^[ ]*(?:pub(?:\([^)]*\))? )?(?:struct|enum) (\w+)", file.read_text(), re.M):
+            found.setdefault(name, set()).add(module_of(file.relative_to(folder / "src")))
+    return found
+
+
+def module_of(file):
+    """Returns the module of a file below src."""
+    return file.with_suffix("").as_posix().replace("/", "::")
+
+
 def functions_of(folder):
     """Yields the paths of the functions in a crate's sources, without those that a trait declares."""
+    homes = homes_of(folder)
     for file in sorted((folder / "src").rglob("*.rt")):
         text = file.read_text()
-        module = file.relative_to(folder / "src").with_suffix("").as_posix().replace("/", "::")
+        module = module_of(file.relative_to(folder / "src"))
         for found in re.finditer(r"^[ ]*(?:pub(?:\([^)]*\))? )?fn \w", text, re.M):
             heads = HEAD.findall(text[: found.start()])
             if not (heads and found[0].startswith(" ") and heads[-1].startswith("trait")):
-                yield path_of(module, function_at(text, found.end()))
+                yield path_of(module, function_at(text, found.end()), homes)
 
 
-def path_of(module, function):
-    """Returns the path of a function in its crate."""
+def path_of(module, function, homes):
+    """Returns the path in its crate of a function that stands in this module."""
+    declared = homes.get(function.partition("::")[0], ()) if "::" in function else ()
+    if len(declared) == 1:
+        module = min(declared)
     return function if module == "lib" else f"{module}::{function}"
 
 
@@ -154,8 +172,9 @@ class Edit:
     def function(self, text):
         """Returns the path of the function that it changes, without the crate: `tree::Tree::height`. None: a definition or a constant."""
         found = function_at(text, text.find(self.pairs[0][0])) if self.file.startswith("src/") else None
-        module = self.file.removeprefix("src/").removesuffix(".rt").replace("/", "::")
-        return found and path_of(module, found)
+        module = module_of(pathlib.Path(self.file.removeprefix("src/")))
+        homes = homes_of(crates.folder(self.path.relative_to(ROOT / "crates").parts[0]))
+        return found and path_of(module, found, homes)
 
 
 class Crate:
