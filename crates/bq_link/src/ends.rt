@@ -2,7 +2,7 @@
 //! intake that they share follows, with its rule: what a thread knows of the intake, and what each
 //! call proves about it.
 ghost use Rattle.std.specs.Prelude.{ℕ, ◌≡◌, ◌+◌, ◌<◌, ◌≤◌, ◌∷◌, ◌++◌, [], false, true, List, length};
-ghost use Rattle.std.specs.Prelude.{IfErr, IfNone, IfOk, IfSome, IsOk, OnErr, OnOk};
+ghost use Rattle.std.specs.Prelude.{IfErr, IfNone, IfOk, IfSome, OnErr, OnOk};
 ghost use Rattle.bq_job.specs.declared.step.Step.{Step as AStep};
 ghost use Rattle.bq_link.specs.Delivery.{WaitsOf, blank_view, seat_view};
 ghost use Rattle.bq_link.specs.EndChanges.{with_room, with_sent, with_told};
@@ -14,7 +14,7 @@ ghost use mathlib.Core.List.{IsPrefix};
 use bq_job::{Answer, Seat, Step};
 use crossbeam_queue::protocol::{Join, Lesson, Outcome, Protocol, Split};
 use crossbeam_queue::{Pass, RuledArrayQueue};
-use rtrb::{Consumer, Producer, PushError, RingBuffer};
+use rtrb::{Consumer, Producer, RingBuffer};
 use std::alloc::{AllocError, Global};
 use std::collections::LinkedList;
 use std::marker::{Model, PhantomData};
@@ -98,26 +98,8 @@ impl CoreEnd {
         intake.queue.is_empty_as::<Takes<J>>(&mut self.pass)
     }
 
-    /// Sends an answer to the end with this number. If its ring is full, returns the answer
-    /// (refusal 402).
-    pub fn send(&mut self, seat: Seat, answer: Answer) -> Result<(), Answer>
-        requires { seat < length self.old.rings }
-        ensures sent { OnOk result
-            (self.new ≡ with_room (with_sent self.old seat answer) seat (room_for self.new seat)) }
-        ensures to { OnOk result (sent_to self.new seat ≡ sent_to self.old seat ++ answer ∷ []) }
-        ensures handed_back { IfErr result (λ back. back ≡ answer) }
-        ensures unchanged { OnErr result (self.new ≡ with_room self.old seat 0) }
-        ensures room { OnOk result (room_for self.old seat ≤ room_for self.new seat + 1) }
-        ensures succeeds { 0 < room_for self.old seat → IsOk result }
-    {
-        match self.rings[usize::from(seat)].push(answer) {
-            Ok(()) => Ok(()),
-            Err(PushError::Full(back)) => Err(back),
-        }
-    }
-
-    /// Returns true if the ring of the end with this number has room for one more answer. A caller
-    /// that checks this first can use `send_reserved`, which has no error case.
+    /// Returns true if the ring of the end with this number has room for one more answer, which
+    /// `push` can then send.
     pub fn has_room(&mut self, seat: Seat) -> bool
         requires { seat < length self.old.rings }
         ensures room { result ≡ true → 0 < room_for self.new seat }
@@ -129,7 +111,7 @@ impl CoreEnd {
     }
 
     /// Sends an answer to the end with this number, whose ring is known to have room.
-    pub fn send_reserved(&mut self, seat: Seat, answer: Answer)
+    pub fn push(&mut self, seat: Seat, answer: Answer)
         requires within { seat < length self.old.rings }
         requires room { 0 < room_for self.old seat }
         ensures sent { self.new
@@ -141,7 +123,7 @@ impl CoreEnd {
     }
 
     /// For a thread that owns both ends: returns how many answers were sent to the end and not
-    /// taken. That many calls of `mail` return them, and the ring has room for all others.
+    /// taken. That many calls of `take_mail` return them, and the ring has room for all others.
     pub fn left(&mut self, seat: &mut SeatEnd) -> usize
         requires { IsPair self.old seat.old }
         ensures counted { result ≡ length seat.new.waiting }
@@ -241,20 +223,7 @@ impl SeatEnd {
         }
     }
 
-    /// Takes the oldest answer that was sent to this end. Returns `None` if there is none; an
-    /// answer that is known to wait is always returned.
-    pub fn mail(&mut self) -> Option<Answer>
-        ensures taken { IfSome result (λ answer.
-            self.new ≡ record self.old { taken = self.old.taken ++ answer ∷ []; waiting = self.new.waiting }) }
-        ensures next { IfSome result
-            (λ answer. IsPrefix self.old.waiting (answer ∷ self.new.waiting)) }
-        ensures none { IfNone result ((self.old.waiting ≡ []) × (self.new ≡ self.old)) }
-    {
-        self.mail.pop().ok()
-    }
-
-    /// Returns true if an answer waits. A caller that checks this first can use `take_mail`, which
-    /// has no `None` case: an answer returned as an `Option` is copied more often.
+    /// Returns true if an answer waits, which `take_mail` can then take.
     pub fn has_mail(&mut self) -> bool
         ensures some { result ≡ true → 0 < length self.new.waiting }
         ensures none { result ≡ false → (self.old.waiting ≡ []) × (self.new ≡ self.old) }

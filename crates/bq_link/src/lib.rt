@@ -12,6 +12,7 @@ pub use making::links;
 pub use no_ticks::NoTicks;
 
 mod anything;
+mod by_value;
 mod ends;
 mod laws;
 mod making;

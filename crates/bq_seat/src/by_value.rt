@@ -1,4 +1,5 @@
-//! The machine's moves with events and actions as values.
+//! The machine's call that takes an event and returns an action, both as values. The specification
+//! names this form. A server calls the method of the event, which copies no request and no answer.
 use crate::machine::{Action, Event, SeatMachine};
 use std::alloc::Global;
 
@@ -9,8 +10,6 @@ impl SeatMachine {
     ///
     /// An event that does not answer the last action changes nothing, and the result is `Stray`. A
     /// piece of bytes is at most 4,096 long.
-    ///
-    /// A server calls the method of the event instead, which copies no request and no answer.
     pub fn on(&mut self, alloc: Global, event: Event<'_>) -> Action
         requires { FitsPiece event }
         // The event is stray if and only if it does not answer the last action, and then nothing

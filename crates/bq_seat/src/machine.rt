@@ -273,9 +273,7 @@ impl SeatMachine {
             return self.read(next);
         }
         let mut request = None;
-        let taken = self
-            .reader
-            .feed_in_place(alloc, self.kept.as_slice(), &mut request);
+        let taken = self.reader.take(alloc, self.kept.as_slice(), &mut request);
         self.kept.drop_front(taken);
         match request {
             None => self.read(next),
@@ -293,7 +291,7 @@ impl SeatMachine {
             return self.close(LineEnd::EndOfInput, next);
         }
         let mut request = None;
-        let taken = self.reader.feed_in_place(alloc, bytes, &mut request);
+        let taken = self.reader.take(alloc, bytes, &mut request);
         self.kept.replace_by_rest(bytes, taken);
         match request {
             None => self.read(next),

@@ -150,49 +150,25 @@ impl RequestReader {
     }
 
     /// Takes bytes up to and including the last byte of the first complete request, or all of them.
-    /// Returns how many bytes it took, and the request. After a quit it takes none until `restart`.
-    /// It allocates only the body of a put, when the put's line is complete; if that fails, the put
-    /// becomes a rejected request.
-    pub fn feed(&mut self, alloc: Global, piece: &[u8]) -> (usize, Option<Request>)
-        ensures within { result.0 ≤ length piece.now }
-        ensures progress { IfSome result.1 (λ _. 0 < result.0) }
+    /// Returns how many bytes it took, and puts the request, or `None`, into `request`, whatever was
+    /// there. After a quit it takes none until `restart`. It allocates only the body of a put, when
+    /// the put's line is complete; if that fails, the put becomes a rejected request.
+    #[tactic(auto, using(crate::proofs::HasReadLemmas::reads_on))]
+    pub fn take(&mut self, alloc: Global, piece: &[u8], request: &mut Option<Request>) -> usize
+        ensures within { result ≤ length piece.now }
+        ensures progress { IfSome request.new (λ _. 0 < result) }
         // If there is no request: for every text that the reader represented, no first part of that
         // text and the piece is a request, the whole piece was taken, and the reader now represents
         // that text and the piece.
-        ensures waits { result.1 ≡ None → (text : List ℕ)
-            → Stands self.old text → Waits self.new text piece.now result.0 }
+        ensures waits { request.new ≡ None → (text : List ℕ)
+            → Stands self.old text → Waits self.new text piece.now result }
         // If there is a request: for every text that the reader represented, that text and the
         // bytes taken are this one request, and the reader now represents the empty text, or none
         // after a quit.
-        ensures hands_out { IfSome result.1
-            (λ request. (text : List ℕ) → Stands self.old text → HandsRequest self.new text piece.now result.0 request) }
-        // So from all bytes taken since it was made or restarted, the reader returns the requests,
-        // whatever pieces the bytes came in.
-        ensures reads { ReadsOn self.old self.new piece.now result.0 result.1 }
-        ensures over { IsOver self.old
-            → (result.0 ≡ 0) × (result.1 ≡ None) × (self.new ≡ self.old) }
-        ensures limit { self.new.max_job_size ≡ self.old.max_job_size }
-    {
-        let mut request = None;
-        let taken = self.feed_in_place(alloc, piece, &mut request);
-        (taken, request)
-    }
-
-    /// Does the same as `feed`, but puts the request into `request`, whatever was there, so that it
-    /// is not copied.
-    #[tactic(auto, using(crate::proofs::HasReadLemmas::reads_on))]
-    pub fn feed_in_place(
-        &mut self,
-        alloc: Global,
-        piece: &[u8],
-        request: &mut Option<Request>,
-    ) -> usize
-        ensures within { result ≤ length piece.now }
-        ensures progress { IfSome request.new (λ _. 0 < result) }
-        ensures waits { request.new ≡ None → (text : List ℕ)
-            → Stands self.old text → Waits self.new text piece.now result }
         ensures hands_out { IfSome request.new
             (λ asked. (text : List ℕ) → Stands self.old text → HandsRequest self.new text piece.now result asked) }
+        // So from all bytes taken since it was made or restarted, the reader returns the requests,
+        // whatever pieces the bytes came in.
         ensures reads { ReadsOn self.old self.new piece.now result request.new }
         ensures over { IsOver self.old
             → (result ≡ 0) × (request.new ≡ None) × (self.new ≡ self.old) }

@@ -112,7 +112,7 @@ impl Sender {
             return;
         }
         if self.can_send(seat) {
-            self.end.send_reserved(seat, answer);
+            self.end.push(seat, answer);
             intake.wake(seat);
         } else {
             self.kept.push_back_reserved((seat, answer));

@@ -14,5 +14,5 @@ pub returns-in-Some : goal.returns-in-Some
 returns-in-Some c =
     going.by_result _ _ _ _ _ c.ask.ensures.action c.ask.ensures.after
     (going.goes_handed c.args.self.now _ _ _ _ _ _ c.if-self.false
-    (rw c.feed_in_place-taken.ensures.limit refl) c.as_slice.ensures c.drop_front.ensures c.in-Some.is
-    c.feed_in_place-taken.ensures.hands_out)
+    (rw c.take-taken.ensures.limit refl) c.as_slice.ensures c.drop_front.ensures c.in-Some.is
+    c.take-taken.ensures.hands_out)

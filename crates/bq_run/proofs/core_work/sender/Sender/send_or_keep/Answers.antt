@@ -8,10 +8,10 @@ pub returns-then-can_send-clause-sent : goal.returns-then-can_send-clause-sent
 returns-then-can_send-clause-sent c =
     let old = c.args.self.now in
     let mid = c.can_send.new.self in
-    let last = c.send_reserved.new.self in
+    let last = c.push.new.self in
     let more = (c.args.seat, c.args.answer) ∷ [] in
     let kept : mid.kept.items ≡ old.kept.items = ap (λ (s : Sender). s.kept.items) c.can_send.ensures.rest in
-    let sent = c.send_reserved.ensures in
+    let sent = c.push.ensures in
     subst (λ left. AreSent old.end (old.kept.items ++ more) last left) (sym kept)
     (sent_on old.end mid.end last (old.kept.items ++ more) (old.kept.items ++ more) old.kept.items
     (sent_before old.end mid.end old.kept.items old.kept.items more c.can_send.ensures.unsent)

@@ -1,7 +1,7 @@
 use Rattle.std.proofs.Common.{◌+◌, ◌++◌, [], ◌∷◌, set, ap, sym, ◌∙◌}
 use Rattle.bq_link.specs.EndStates.{sent_to}
 use Rattle.bq_link.proofs.RingLemmas.{changed, room_now, room_was, sent_now, sent_was, within_of}
-use Rattle.bq_link.proofs.ends.CoreEnd.send_reserved.Goals as goal
+use Rattle.bq_link.proofs.ends.CoreEnd.push.Goals as goal
 
 pub returns-clause-sent : goal.returns-clause-sent
 returns-clause-sent c =
