@@ -1,4 +1,4 @@
-"""How much one has to trust for the main promise: the definitions that the clause of `run_sessions` reaches.
+"""How much one has to trust for the main promise: the definitions that the clause of `run_threads` reaches.
 
 Starting from `IsRunOf`, each name in a definition is followed, by the imports of its file, to its definition or to the
 type in the code. Definitions in the toolchain's library aren't counted.
@@ -10,7 +10,7 @@ import re
 from pages import ROOT
 
 # The starting point: the crate, the file of its definitions, and the name.
-BEGIN = ("bq_run", "Sessions", "IsRunOf")
+BEGIN = ("bq_run", "ThreadRuns", "IsRunOf")
 
 Definition = collections.namedtuple("Definition", "name lines comments")
 
@@ -171,7 +171,7 @@ def sentence():
     """Returns the sentence of docs/HEADLINE.md with the counts."""
     definitions, types, files, lines, whole = counts()
     return (
-        f"The clause of `run_sessions` reaches {definitions} definitions and {types} types in {files} files: "
+        f"The clause of `run_threads` reaches {definitions} definitions and {types} types in {files} files: "
         f"about {rounded(lines)} lines without blank ones and comments, {rounded(whole)} with their comments."
     )
 

@@ -17,8 +17,8 @@ use Rattle.bq_program.specs.declared.fault.Fault.{Fault}
 use Rattle.bq_program.specs.declared.fault.Fault.TheVariants as faults
 use Rattle.bq_event_loop.specs.EventLoopRuns.{IsEventLoopRun}
 use Rattle.bq_event_loop.specs.declared.run.EventLoopRun.{EventLoopRun}
-use Rattle.bq_run.specs.Sessions.{IsRunOf}
-use Rattle.bq_run.specs.declared.sessions.Run.{Run}
+use Rattle.bq_run.specs.ThreadRuns.{IsRunOf}
+use Rattle.bq_run.specs.declared.run.Run.{Run}
 use Rattle.bq_steps.specs.Limits.{are_in_range}
 use Rattle.bq_cli.specs.declared.telling_clock.TellingClock.{TellingClock}
 

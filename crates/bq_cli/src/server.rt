@@ -7,7 +7,7 @@ ghost use Rattle.bq_cli.specs.Servers.{IsDoorAt, IsServerLoop, IsServerRun, IsSt
 ghost use Rattle.bq_cli.specs.Servers.{IsStatusOfServer, IsStatusOfThreads, MayRefuse};
 ghost use Rattle.bq_cli.specs.Servers.{came_of_doors, came_of_loop, came_of_run, settings_of};
 ghost use Rattle.bq_event_loop.specs.EventLoopRuns.{IsEventLoopRun};
-ghost use Rattle.bq_run.specs.Sessions.{IsRunOf};
+ghost use Rattle.bq_run.specs.ThreadRuns.{IsRunOf};
 ghost use Rattle.bq_steps.specs.Limits.{are_in_range};
 
 use crate::ending::Ending;
@@ -20,7 +20,7 @@ use bq_job::NoMemory;
 use bq_line::line::ReadBuffer;
 use bq_line::{Door, FreeDoors, Refusals, TcpDoor, clock};
 use bq_program::{Fault, Need, Options, Program, tell_cannot_listen, tell_server};
-use bq_run::{Run, run_sessions};
+use bq_run::{Run, run_threads};
 use bq_steps::QueueCore;
 use std::alloc::Global;
 use std::io;
@@ -264,7 +264,7 @@ pub fn serve_doors<
     ensures bad_configuration { IsErrOf result RunFault.BadConfiguration
         ↔ IsTrue (not (are_in_range (settings_of options.now) && vec_len doors.entry == options.now.seats)) }
 {
-    run_sessions(rt, alloc, config_of(options), doors, clock, control)
+    run_threads(rt, alloc, config_of(options), doors, clock, control)
 }
 
 /// Does the same as `serve_doors` by the calling thread alone, in an event loop. The listeners of the doors must not

@@ -10,7 +10,7 @@ use Rattle.bq_seat.specs.declared.machine.Event.{Event}
 use Rattle.bq_seat.specs.declared.machine.Event.TheVariants as events
 use Rattle.bq_seat.specs.SeatMoves.{IsMove}
 use Rattle.bq_job.specs.texts.AnswerText.{answer_text}
-use Rattle.bq_driver.specs.declared.room.Wrote.TheVariants as wrotes
+use Rattle.bq_driver.specs.declared.buffers.Wrote.TheVariants as wrotes
 use Rattle.bq_driver.specs.Carried.{CanEnd, Carried, CarriedPart, EndsAs, HasGone, IsPolledAs, IsReadAs, IsSubmittedAs, MayCall, with_part}
 use Rattle.bq_driver.specs.declared.progress.Progress.{Progress}
 use Rattle.bq_driver.specs.declared.progress.Progress.TheVariants as results

@@ -8,8 +8,8 @@ use Rattle.std.proofs.Math.Seq.{drop-append-add}
 use Rattle.bq_job.specs.promise.LineSteps.{LineSeen, IsBeginning}
 use Rattle.bq_job.specs.declared.line_end.LineFault.TheVariants as faults
 use Rattle.bq_line.specs.LineCalls.{with_line_fault}
-use Rattle.bq_driver.specs.declared.room.Wrote.{Wrote}
-use Rattle.bq_driver.specs.declared.room.Wrote.TheVariants as wrotes
+use Rattle.bq_driver.specs.declared.buffers.Wrote.{Wrote}
+use Rattle.bq_driver.specs.declared.buffers.Wrote.TheVariants as wrotes
 use Rattle.bq_driver.specs.Writing.{BreaksOff, WritesOn, with_begun, with_written}
 
 -- a further part is written

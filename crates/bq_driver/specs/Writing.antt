@@ -3,8 +3,8 @@ use Rattle.std.specs.Prelude.{ℕ, ◌≡◌, List, ◌++◌, take}
 use Rattle.bq_job.specs.declared.line_end.LineFault.TheVariants as faults
 use Rattle.bq_job.specs.promise.LineSteps.{LineSeen, IsBeginning}
 use Rattle.bq_line.specs.LineCalls.{with_line_fault}
-use Rattle.bq_driver.specs.declared.room.Wrote.{Wrote}
-use Rattle.bq_driver.specs.declared.room.Wrote.TheVariants as wrotes
+use Rattle.bq_driver.specs.declared.buffers.Wrote.{Wrote}
+use Rattle.bq_driver.specs.declared.buffers.Wrote.TheVariants as wrotes
 
 abbrev pub with_written : List ℕ → LineSeen → LineSeen
 with_written bytes line = record line { written = line.written ++ bytes }

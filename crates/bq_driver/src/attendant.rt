@@ -15,9 +15,9 @@ ghost use Rattle.bq_line.specs.Streams.{StaysOver};
 ghost use Rattle.bq_driver.specs.Carried.{Carried, CarriedPart, HasGone};
 ghost use Rattle.bq_driver.specs.Links.{Calls};
 
+use crate::buffers::{Buffers, Wrote, write_answer};
 use crate::link::Link;
 use crate::progress::Progress;
-use crate::room::{Room, Wrote, write_answer};
 use bq_job::{LARGEST_BODY, LineEnd, NoMemory, Step};
 use bq_line::line::{Line, ReadBuffer, Readiness, is_nothing_yet};
 use bq_line::{Door, Opening};
@@ -227,7 +227,7 @@ impl<L: Line + Drop> Attendant<L> {
         alloc: Global,
         door: &mut D,
         link: &mut K,
-        room: &mut Room,
+        buffers: &mut Buffers,
     ) -> Progress
         requires placed { IsPlaced self.old.place
             (door_seen D.is_out D.is_at_end D.lines_over door.old) }
@@ -252,7 +252,7 @@ impl<L: Line + Drop> Attendant<L> {
                     shut_line(&mut self.place, door, end);
                     Progress::Moved
                 }
-                other => carry_out(alloc, &mut self.machine, other, sent, line, link, room),
+                other => carry_out(alloc, &mut self.machine, other, sent, line, link, buffers),
             },
             LinePlace::Between => {
                 open_in_place(alloc, &mut self.machine, &mut self.place, door);
@@ -341,7 +341,7 @@ fn leave<L: Line + Drop, K: Link>(place: &mut LinePlace<L>, link: &mut K) -> Pro
 }
 
 /// Carries out one action of a seat's machine, and replaces it by the machine's next action. An
-/// action that ends the line does nothing here. The contents of `room` have no meaning before or
+/// action that ends the line does nothing here. The contents of `buffers` have no meaning before or
 /// after.
 ///
 /// If the action writes an answer, `sent` is the number of its bytes that were written before.
@@ -356,7 +356,7 @@ pub fn carry_out<L: Line, K: Link>(
     sent: &mut usize,
     line: &mut L,
     link: &mut K,
-    room: &mut Room,
+    buffers: &mut Buffers,
 ) -> Progress
     requires ready { K.is_ready link.old }
     ensures ready { K.is_ready link.new }
@@ -367,7 +367,7 @@ pub fn carry_out<L: Line, K: Link>(
     match action {
         Action::Write(answer) => {
             expect_answers(machine, line);
-            match write_answer(line, answer, sent, room) {
+            match write_answer(line, answer, sent, buffers) {
                 Wrote::Whole => {
                     *sent = 0;
                     machine.write_done(alloc, action);
@@ -383,7 +383,7 @@ pub fn carry_out<L: Line, K: Link>(
         }
         other => {
             *sent = 0;
-            act(alloc, machine, other, line, link, room)
+            act(alloc, machine, other, line, link, buffers)
         }
     }
 }
@@ -395,7 +395,7 @@ fn act<L: Line, K: Link>(
     action: &mut Action,
     line: &mut L,
     link: &mut K,
-    room: &mut Room,
+    buffers: &mut Buffers,
 ) -> Progress
     requires ready { K.is_ready link.old }
     ensures ready { K.is_ready link.new }
@@ -412,7 +412,7 @@ fn act<L: Line, K: Link>(
                 Progress::NotAccepted
             }
         }
-        Action::Read => read(alloc, machine, action, line, &mut room.piece),
+        Action::Read => read(alloc, machine, action, line, &mut buffers.piece),
         Action::PollMail => {
             if link.mail(action) {
                 machine.mail(action);
@@ -431,21 +431,21 @@ fn act<L: Line, K: Link>(
 }
 
 // Passes on the bytes in the line's own buffer without copying them. A line without a buffer is
-// read into `room`.
+// read into `piece`.
 fn read<L: Line>(
     alloc: Global,
     machine: &mut SeatMachine,
     next: &mut Action,
     line: &mut L,
-    room: &mut [u8],
+    piece: &mut [u8],
 ) -> Progress
-    requires { length room.old ≡ PIECE_ROOM }
+    requires { length piece.old ≡ PIECE_ROOM }
     ensures carried { Carried result machine.old (L.seen line.old) Action.Read machine.new
         (L.seen line.new) next.new [] [] }
     ensures stays { StaysOver L.lies_over line.old line.new }
 {
     match fill_line(machine, line) {
-        Ok(()) => hand_on(alloc, machine, next, line, room),
+        Ok(()) => hand_on(alloc, machine, next, line, piece),
         Err(e) => tell_error(alloc, machine, next, &e),
     }
 }
@@ -456,16 +456,16 @@ fn hand_on<L: Line>(
     machine: &mut SeatMachine,
     next: &mut Action,
     line: &mut L,
-    room: &mut [u8],
+    piece: &mut [u8],
 ) -> Progress
-    requires { length room.old ≡ PIECE_ROOM }
+    requires { length piece.old ≡ PIECE_ROOM }
     ensures carried { Carried result machine.old (L.seen line.old) Action.Read machine.new
         (L.seen line.new) next.new [] [] }
     ensures stays { StaysOver L.lies_over line.old line.new }
 {
     let count = line.unread().len().min(PIECE_ROOM);
     if count == 0 {
-        return read_piece(alloc, machine, next, line, room);
+        return read_piece(alloc, machine, next, line, piece);
     }
     machine.bytes(alloc, &line.unread()[..count], next);
     line.take_unread(count);
@@ -477,20 +477,20 @@ fn read_piece<L: Line>(
     machine: &mut SeatMachine,
     next: &mut Action,
     line: &mut L,
-    room: &mut [u8],
+    piece: &mut [u8],
 ) -> Progress
-    requires { length room.old ≡ PIECE_ROOM }
+    requires { length piece.old ≡ PIECE_ROOM }
     ensures carried { Carried result machine.old (L.seen line.old) Action.Read machine.new
         (L.seen line.new) next.new [] [] }
     ensures stays { StaysOver L.lies_over line.old line.new }
 {
-    match read_line(machine, line, room) {
+    match read_line(machine, line, piece) {
         Ok(0) => {
             machine.end_of_input(next);
             Progress::Moved
         }
         Ok(count) => {
-            machine.bytes(alloc, &room[..count], next);
+            machine.bytes(alloc, &piece[..count], next);
             Progress::Moved
         }
         Err(e) => tell_error(alloc, machine, next, &e),
@@ -539,15 +539,15 @@ fn fill_line<L: Line>(machine: &SeatMachine, line: &mut L) -> io::Result<()>
 }
 
 // Does the same for a line without a buffer of its own.
-fn read_line<L: Line>(machine: &SeatMachine, line: &mut L, room: &mut [u8]) -> io::Result<usize>
-    requires { 0 < length room.old }
-    ensures bound { ReadsAtMost result room.new }
-    ensures seen { L.seen line.new ≡ after_read result room.new (L.seen line.old) }
+fn read_line<L: Line>(machine: &SeatMachine, line: &mut L, piece: &mut [u8]) -> io::Result<usize>
+    requires { 0 < length piece.old }
+    ensures bound { ReadsAtMost result piece.new }
+    ensures seen { L.seen line.new ≡ after_read result piece.new (L.seen line.old) }
     ensures stays { StaysOver L.lies_over line.old line.new }
 {
     if machine.has_outstanding() {
-        line.read_now(room)
+        line.read_now(piece)
     } else {
-        line.read(room)
+        line.read(piece)
     }
 }

@@ -5,9 +5,9 @@
 #![tactic(auto)]
 
 pub mod attendant;
+pub mod buffers;
 pub mod control;
 pub mod control_line;
 pub mod control_reader;
 pub mod link;
 pub mod progress;
-pub mod room;

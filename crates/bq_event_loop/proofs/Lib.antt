@@ -1,7 +1,7 @@
 mod AloneLemmas
 mod ComparedLemmas
 mod ControlLemmas
-mod HubLemmas
+mod LoopCoreLemmas
 mod MailLemmas
 mod RowLemmas
 mod ServingLemmas

@@ -9,9 +9,9 @@ use Rattle.bq_job.specs.declared.step.Step.{Step}
 use Rattle.bq_job.specs.machine.Machine.{Machine}
 use Rattle.bq_job.specs.promise.History.{steps_at}
 use Rattle.bq_job.specs.promise.LineSteps.{LineSeen}
-use Rattle.bq_event_loop.specs.HubOf.{WentAt, state_of}
-use Rattle.bq_event_loop.specs.HubState.{HubState}
-use Rattle.bq_event_loop.specs.HubWent.{SeatWent}
+use Rattle.bq_event_loop.specs.LoopCores.{WentAt, state_of}
+use Rattle.bq_event_loop.specs.LoopStates.{LoopState}
+use Rattle.bq_event_loop.specs.LoopWent.{SeatWent}
 use Rattle.bq_driver.specs.Links.{Calls}
 use Rattle.bq_driver.specs.Tending.{AreSame, DoorSeen, GoesOn, IsTended, Tends}
 use Rattle.bq_event_loop.specs.Rows.{AllRested}
@@ -20,32 +20,33 @@ use Rattle.bq_event_loop.specs.declared.row.Row.{Row}
 use Rattle.bq_event_loop.proofs.RowLemmas.{rested_none, same_set}
 use Rattle.bq_driver.specs.declared.attendant.Attendant.{Attendant}
 use Rattle.bq_driver.specs.declared.attendant.LinePlace.TheVariants.{Done}
-use Rattle.bq_event_loop.specs.declared.hub.Hub.{Hub}
+use Rattle.bq_event_loop.specs.declared.loop_core.LoopCore.{LoopCore}
 use Rattle.bq_line.specs.GivenReadings.{GaveReadings}
-use Rattle.bq_event_loop.proofs.HubLemmas.{hub_on, gave_none, gave_then, seat_none, steps_append, went_none}
+use Rattle.bq_event_loop.proofs.LoopCoreLemmas.{loop_on, gave_none, gave_then, seat_none, steps_append, went_none}
 
--- the result of a seat's calls at the hub
+-- the result of a seat's calls at the loop's core
 went_by : {C K : Type 0} (machine : K → Machine) (compared : K → ℕ) (given : C → List (Option ℕ) → C → Type 0) (seat : ℕ)
-    (old new : Hub C K) (submitted : List Step) (taken : List Answer)
+    (old new : LoopCore C K) (submitted : List Step) (taken : List Answer)
     → Calls (WentAt machine compared given seat) old submitted taken new → WentAt machine compared given seat old submitted taken new
 went_by machine compared given seat old new submitted taken (inl w) = w
 went_by {C} {K} machine compared given seat old new submitted taken (inr same) =
-    subst (λ (d : Hub C K). WentAt machine compared given seat old submitted taken d) (sym same.0)
+    subst (λ (d : LoopCore C K). WentAt machine compared given seat old submitted taken d) (sym same.0)
     (subst (λ (s : List Step). WentAt machine compared given seat old s taken old) (sym same.1)
     (subst (λ (t : List Answer). WentAt machine compared given seat old [] t old) (sym same.2) (went_none machine compared given seat old)))
 
 module _ {L D : Type 0} (seen : L → LineSeen) (at : D → DoorSeen) where
   -- One seat acted.
-  turn_served : (size : ℕ) (control : List Step) (first hub next : HubState) (readings reads : List (Option ℕ)) (seats : List (Attendant L))
-      (doors : List D) (i : ℕ) (a new : Attendant L) (d later : D) (submitted : List Step) (taken : List Answer)
-      → AreServed seen at size control first readings hub seats doors → i < length seats
-      → SeatWent i hub reads submitted taken next
+  turn_served : (size : ℕ) (control : List Step) (first core next : LoopState) (readings reads : List (Option ℕ))
+      (seats : List (Attendant L)) (doors : List D) (i : ℕ) (a new : Attendant L) (d later : D) (submitted : List Step)
+      (taken : List Answer)
+      → AreServed seen at size control first readings core seats doors → i < length seats
+      → SeatWent i core reads submitted taken next
       → Tends seen (slice_index_or seats i a) (at (slice_index_or doors i d)) submitted taken new (at later)
       → AreServed seen at size control first (readings ++ reads) next (slice_set seats i new) (slice_set doors i later)
-  turn_served size control first hub next readings reads seats doors i a new d later submitted taken s below w tends = record {
+  turn_served size control first core next readings reads seats doors i a new d later submitted taken s below w tends = record {
     history = s.history ++ w.history;
     took = λ t. s.took t ++ w.took t;
-    went = hub_on first hub next readings reads s.history w.history s.took w.took s.went w.went;
+    went = loop_on first core next readings reads s.history w.history s.took w.took s.went w.went;
     mailed = s.mailed ∙ sym (length-set seats i new);
     doored = length-set doors i later ∙ s.doored ∙ sym (length-set seats i new);
     each = λ t here x y. each_at t (subst (λ n. t < n) (length-set seats i new) here) x y;
@@ -102,14 +103,14 @@ module _ {L D : Type 0} (seen : L → LineSeen) (at : D → DoorSeen) where
       ]
 
   -- A tick was taken, or none was due: no seat submitted or took anything.
-  time_served : (size : ℕ) (control : List Step) (first hub next : HubState) (readings reads : List (Option ℕ)) (seats : List (Attendant L))
-      (doors : List D) (i : ℕ)
-      → AreServed seen at size control first readings hub seats doors → SeatWent i hub reads [] [] next
+  time_served : (size : ℕ) (control : List Step) (first core next : LoopState) (readings reads : List (Option ℕ))
+      (seats : List (Attendant L)) (doors : List D) (i : ℕ)
+      → AreServed seen at size control first readings core seats doors → SeatWent i core reads [] [] next
       → AreServed seen at size control first (readings ++ reads) next seats doors
-  time_served size control first hub next readings reads seats doors i s w = record {
+  time_served size control first core next readings reads seats doors i s w = record {
     history = s.history ++ w.history;
     took = λ t. s.took t ++ w.took t;
-    went = hub_on first hub next readings reads s.history w.history s.took w.took s.went w.went;
+    went = loop_on first core next readings reads s.history w.history s.took w.took s.went w.went;
     mailed = s.mailed;
     doored = s.doored;
     each = λ t below a d.
@@ -141,14 +142,14 @@ module _ {L D : Type 0} (seen : L → LineSeen) (at : D → DoorSeen) where
       took_still t = sym (append-nil (s.took t)) ∙ ap (λ (xs : List Answer). s.took t ++ xs) (sym (took_none t))
 
   -- The control line submitted these steps.
-  control_served : (size : ℕ) (control more : List Step) (first hub next : HubState) (readings reads : List (Option ℕ))
+  control_served : (size : ℕ) (control more : List Step) (first core next : LoopState) (readings reads : List (Option ℕ))
       (seats : List (Attendant L)) (doors : List D)
-      → AreServed seen at size control first readings hub seats doors → SeatWent (length seats) hub reads more [] next
+      → AreServed seen at size control first readings core seats doors → SeatWent (length seats) core reads more [] next
       → AreServed seen at size (control ++ more) first (readings ++ reads) next seats doors
-  control_served size control more first hub next readings reads seats doors s w = record {
+  control_served size control more first core next readings reads seats doors s w = record {
     history = s.history ++ w.history;
     took = λ t. s.took t ++ w.took t;
-    went = hub_on first hub next readings reads s.history w.history s.took w.took s.went w.went;
+    went = loop_on first core next readings reads s.history w.history s.took w.took s.went w.went;
     mailed = s.mailed;
     doored = s.doored;
     each = λ t below a d.
@@ -171,11 +172,11 @@ module _ {L D : Type 0} (seen : L → LineSeen) (at : D → DoorSeen) where
       took_still t differs = sym (append-nil (s.took t)) ∙ ap (λ (xs : List Answer). s.took t ++ xs) (sym (w.others_took t differs))
 
   -- The seats rested, whatever else was done with them and their doors.
-  rested_served : (same : D → D → Type 0) (size : ℕ) (control : List Step) (first hub : HubState) (readings : List (Option ℕ))
+  rested_served : (same : D → D → Type 0) (size : ℕ) (control : List Step) (first core : LoopState) (readings : List (Option ℕ))
       (seats later : List (Attendant L)) (doors after : List D)
-      → AllRested seen at same seats doors later after → AreServed seen at size control first readings hub seats doors
-      → AreServed seen at size control first readings hub later after
-  rested_served same size control first hub readings seats later doors after r s = record {
+      → AllRested seen at same seats doors later after → AreServed seen at size control first readings core seats doors
+      → AreServed seen at size control first readings core later after
+  rested_served same size control first core readings seats later doors after r s = record {
     history = s.history;
     took = s.took;
     went = s.went;
@@ -195,28 +196,28 @@ module _ {L D : Type 0} (seen : L → LineSeen) (at : D → DoorSeen) where
   module _ {C K : Type 0} (machine : K → Machine) (compared : K → ℕ) (given : C → List (Option ℕ) → C → Type 0)
       (same : D → D → Type 0) where
     -- Nothing was served yet.
-    pub serves_none : (hub : Hub C K) (row : Row L D) → ServesOn machine compared given seen at same hub row [] hub row
-    serves_none hub row = record {
+    pub serves_none : (core : LoopCore C K) (row : Row L D) → ServesOn machine compared given seen at same core row [] core row
+    serves_none core row = record {
       reads = [];
-      gave = gave_none given hub.timed.time.clock;
+      gave = gave_none given core.timed.time.clock;
       mailed = refl;
       many = refl;
       served = λ size before first readings s.
           subst (λ (rs : List (Option ℕ)). AreServed seen at size (before ++ []) first rs
-          (state_of machine compared hub) row.seats.items row.doors.items) (sym (append-nil readings))
+          (state_of machine compared core) row.seats.items row.doors.items) (sym (append-nil readings))
           (subst (λ (xs : List Step). AreServed seen at size xs first readings
-          (state_of machine compared hub) row.seats.items row.doors.items) (sym (append-nil before)) s);
+          (state_of machine compared core) row.seats.items row.doors.items) (sym (append-nil before)) s);
       same_doors = λ handed_in h. h;
     }
 
     -- One thing after another.
-    pub serves_then : (old hub new : Hub C K) (row mid later : Row L D) (control more : List Step)
-        → ServesOn machine compared given seen at same old row control hub mid
-        → ServesOn machine compared given seen at same hub mid more new later
+    pub serves_then : (old core new : LoopCore C K) (row mid later : Row L D) (control more : List Step)
+        → ServesOn machine compared given seen at same old row control core mid
+        → ServesOn machine compared given seen at same core mid more new later
         → ServesOn machine compared given seen at same old row (control ++ more) new later
-    serves_then old hub new row mid later control more a b = record {
+    serves_then old core new row mid later control more a b = record {
       reads = a.reads ++ b.reads;
-      gave = gave_then given old.timed.time.clock hub.timed.time.clock new.timed.time.clock a.reads b.reads a.gave b.gave;
+      gave = gave_then given old.timed.time.clock core.timed.time.clock new.timed.time.clock a.reads b.reads a.gave b.gave;
       mailed = b.mailed ∙ a.mailed;
       many = b.many ∙ a.many;
       served = λ size before first readings s.
@@ -229,16 +230,16 @@ module _ {L D : Type 0} (seen : L → LineSeen) (at : D → DoorSeen) where
     }
 
     -- The same if the second submitted no step of the control line.
-    pub serves_on : (old hub new : Hub C K) (row mid later : Row L D) (control : List Step)
-        → ServesOn machine compared given seen at same old row control hub mid
-        → ServesOn machine compared given seen at same hub mid [] new later
+    pub serves_on : (old core new : LoopCore C K) (row mid later : Row L D) (control : List Step)
+        → ServesOn machine compared given seen at same old row control core mid
+        → ServesOn machine compared given seen at same core mid [] new later
         → ServesOn machine compared given seen at same old row control new later
-    serves_on old hub new row mid later control a b =
+    serves_on old core new row mid later control a b =
         subst (λ (xs : List Step). ServesOn machine compared given seen at same old row xs new later) (append-nil control)
-        (serves_then old hub new row mid later control [] a b)
+        (serves_then old core new row mid later control [] a b)
 
     -- One seat acted.
-    pub serves_turn : (old new : Hub C K) (row later : Row L D) (i seat : ℕ) (a next : Attendant L) (d door : D)
+    pub serves_turn : (old new : LoopCore C K) (row later : Row L D) (i seat : ℕ) (a next : Attendant L) (d door : D)
         → seat ≡ i → i < length row.seats.items → GoesOn (WentAt machine compared given seat) old new seen
         (slice_index_or row.seats.items i a) (at (slice_index_or row.doors.items i d)) next (at door)
         → ((first : D) → same first (slice_index_or row.doors.items i d) → same first door)
@@ -269,7 +270,7 @@ module _ {L D : Type 0} (seen : L → LineSeen) (at : D → DoorSeen) where
         }
 
     -- The same for a seat and a door that were looked up.
-    pub serves_acted : (old new : Hub C K) (row later : Row L D) (i seat : ℕ) (a next : Attendant L) (d door : D)
+    pub serves_acted : (old new : LoopCore C K) (row later : Row L D) (i seat : ℕ) (a next : Attendant L) (d door : D)
         → seat ≡ i → i < length row.seats.items → a ≡ slice_index_or row.seats.items i a → d ≡ slice_index_or row.doors.items i d
         → GoesOn (WentAt machine compared given seat) old new seen a (at d) next (at door) → ((first : D) → same first d → same first door)
         → later.seats.items ≡ slice_set row.seats.items i next → later.doors.items ≡ slice_set row.doors.items i door
@@ -282,7 +283,7 @@ module _ {L D : Type 0} (seen : L → LineSeen) (at : D → DoorSeen) where
         (subst (λ (y : D). (first : D) → same first y → same first door) d_is on) seats_are doors_are
 
     -- A tick was taken, or answers moved to another place.
-    pub serves_time : (old new : Hub C K) (row : Row L D) (i : ℕ) → WentAt machine compared given i old [] [] new
+    pub serves_time : (old new : LoopCore C K) (row : Row L D) (i : ℕ) → WentAt machine compared given i old [] [] new
         → ServesOn machine compared given seen at same old row [] new row
     serves_time old new row i w = record {
       reads = w.0;
@@ -298,7 +299,7 @@ module _ {L D : Type 0} (seen : L → LineSeen) (at : D → DoorSeen) where
     }
 
     -- The control line submitted steps.
-    pub serves_control : (old new : Hub C K) (row : Row L D) (seat : ℕ) (more : List Step) → seat ≡ length row.seats.items
+    pub serves_control : (old new : LoopCore C K) (row : Row L D) (seat : ℕ) (more : List Step) → seat ≡ length row.seats.items
         → WentAt machine compared given seat old more [] new
         → ServesOn machine compared given seen at same old row more new row
     serves_control old new row seat more is w =
@@ -315,36 +316,36 @@ module _ {L D : Type 0} (seen : L → LineSeen) (at : D → DoorSeen) where
         }
 
     -- The seats rested.
-    pub serves_rested : (hub : Hub C K) (row later : Row L D)
+    pub serves_rested : (core : LoopCore C K) (row later : Row L D)
         → AllRested seen at same row.seats.items row.doors.items later.seats.items later.doors.items
-        → ServesOn machine compared given seen at same hub row [] hub later
-    serves_rested hub row later r = record {
+        → ServesOn machine compared given seen at same core row [] core later
+    serves_rested core row later r = record {
       reads = [];
-      gave = gave_none given hub.timed.time.clock;
+      gave = gave_none given core.timed.time.clock;
       mailed = refl;
       many = r.many;
       served = λ size before first readings s.
           subst (λ (rs : List (Option ℕ)). AreServed seen at size (before ++ []) first rs
-          (state_of machine compared hub) later.seats.items later.doors.items) (sym (append-nil readings))
+          (state_of machine compared core) later.seats.items later.doors.items) (sym (append-nil readings))
           (subst (λ (xs : List Step). AreServed seen at size xs first readings
-          (state_of machine compared hub) later.seats.items later.doors.items) (sym (append-nil before))
-          (rested_served same size before first (state_of machine compared hub) readings row.seats.items later.seats.items row.doors.items
+          (state_of machine compared core) later.seats.items later.doors.items) (sym (append-nil before))
+          (rested_served same size before first (state_of machine compared core) readings row.seats.items later.seats.items row.doors.items
           later.doors.items r s));
       same_doors = r.same_doors;
     }
 
-    -- The same if the hub's state and clock have not changed.
-    pub serves_same : (old new : Hub C K) (row : Row L D) → state_of machine compared new ≡ state_of machine compared old
+    -- The same if the loop's core and its clock have not changed.
+    pub serves_same : (old new : LoopCore C K) (row : Row L D) → state_of machine compared new ≡ state_of machine compared old
         → new.timed.time.clock ≡ old.timed.time.clock → ServesOn machine compared given seen at same old row [] new row
     serves_same old new row state clock = serves_time old new row 0 (
       [],
       subst (λ c. GaveReadings given old.timed.time.clock [] c) (sym clock) (gave_none given old.timed.time.clock),
-      subst (λ (d : HubState). SeatWent 0 (state_of machine compared old) [] [] [] d) (sym state)
+      subst (λ (d : LoopState). SeatWent 0 (state_of machine compared old) [] [] [] d) (sym state)
           (seat_none (state_of machine compared old) 0),
     )
 
     -- Some seats were woken.
-    pub serves_woken : (old new : Hub C K) (row : Row L D) → new ≡ record old { woken = new.woken }
+    pub serves_woken : (old new : LoopCore C K) (row : Row L D) → new ≡ record old { woken = new.woken }
         → ServesOn machine compared given seen at same old row [] new row
     serves_woken old new row same = serves_same old new row (ap (state_of machine compared) same)
-        (ap (λ (h : Hub C K). h.timed.time.clock) same)
+        (ap (λ (h : LoopCore C K). h.timed.time.clock) same)

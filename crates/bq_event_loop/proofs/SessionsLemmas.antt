@@ -1,4 +1,4 @@
--- A run over doors, from its first hub to the end.
+-- A run over doors, from its first state to the end.
 use Rattle.std.proofs.Common.{◌≡◌, ◌≢◌, ℕ, suc, ◌+◌, ◌<◌, Bool, true, false, List, [], ◌∷◌, ◌++◌, Option}
 use Rattle.std.proofs.Common.{map, length, refl, sym, ap, ◌∙◌, arith, subst, inl, inr, add-zero, append-nil, slice_index_or, nat_le}
 use Rattle.std.specs.Prelude.{◌==◌}
@@ -16,12 +16,12 @@ use Rattle.bq_job.specs.machine.Machine.{Machine}
 use Rattle.bq_job.specs.promise.Runs.{Entry, GoesBy, Run, Transition, answers_to}
 use Rattle.bq_job.specs.machine.Steps.{IsStep, Outcome}
 use Rattle.bq_job.specs.beside.Ties.{AreTied, IsJoined}
-use Rattle.bq_event_loop.specs.HubState.{HubState, IsNewHub, waiting}
+use Rattle.bq_event_loop.specs.LoopStates.{LoopState, IsNewLoopCore, waiting}
 use Rattle.bq_driver.specs.Tending.{DoorSeen, IsDoorServed, IsNewDoor, IsNewSeat, IsTended}
 use Rattle.bq_event_loop.specs.Rows.{AreDone}
 use Rattle.bq_event_loop.specs.Serving.{AreServed}
 use Rattle.bq_event_loop.proofs.ComparedLemmas.{compared_all}
-use Rattle.bq_event_loop.proofs.HubLemmas.{hub_none}
+use Rattle.bq_event_loop.proofs.LoopCoreLemmas.{loop_none}
 use Rattle.bq_host.specs.Compared.{AreCompared}
 use Rattle.bq_job.specs.promise.Headline.{IsHistoryOf}
 use Rattle.bq_job.specs.machine.Machine.{new_machine}
@@ -95,17 +95,17 @@ up_to seat (e ∷ history) h =
         let same : (e.seat == e.seat) ≡ true = eq-eqb e.seat e.seat refl in
         let no : e.what ∷ steps_at e.seat history ≡ [] = rw (x, same) at g in cc
 
-module _ {L D : Type 0} (seen : L → LineSeen) (at : D → DoorSeen) (settings : Settings) (first : HubState) where
+module _ {L D : Type 0} (seen : L → LineSeen) (at : D → DoorSeen) (settings : Settings) (first : LoopState) where
   -- Nothing was served yet.
   pub begins_served : (seats : List (Attendant L)) (doors : List D)
-      → IsNewHub settings first → length seats ≡ settings.seats → length doors ≡ settings.seats
+      → IsNewLoopCore settings first → length seats ≡ settings.seats → length doors ≡ settings.seats
       → All (IsNewSeat settings.max_job_size) seats → All (λ d. IsNewDoor (at d)) doors
       → AreServed seen at settings.max_job_size [] first [] first seats doors
   begins_served seats doors new many doored seats_new doors_new =
       record {
         history = [];
         took = λ t. [];
-        went = hub_none first;
+        went = loop_none first;
         mailed = new_mails_are settings first new ∙ sym many;
         doored = doored ∙ sym many;
         each = λ t below a d.
@@ -117,15 +117,15 @@ module _ {L D : Type 0} (seen : L → LineSeen) (at : D → DoorSeen) (settings 
       }
 
   -- a door whose seat is done, and its answers
-  record IsDoorDone (history : List Entry) (took : ℕ → List Answer) (given : List GivenAnswer) (hub : HubState) (t : ℕ)
+  record IsDoorDone (history : List Entry) (took : ℕ → List Answer) (given : List GivenAnswer) (core : LoopState) (t : ℕ)
       (door : DoorSeen) : Type 0 where
     served : IsDoorServed settings.max_job_size door (steps_at t history) (took t)
-    answers_are : answers_to t given ≡ took t ++ waiting t hub
+    answers_are : answers_to t given ≡ took t ++ waiting t core
 
-  module _ (control : List Step) (readings : List (Option ℕ)) (hub : HubState) (seats : List (Attendant L)) (doors : List D)
-      (new : IsNewHub settings first) (many : length seats ≡ settings.seats)
-      (s : AreServed seen at settings.max_job_size control first readings hub seats doors) (all_done : AreDone seats) where
-    door_done : (t : ℕ) → t < length doors → (d : D) → IsDoorDone s.history s.took s.went.given hub t (at (slice_index_or doors t d))
+  module _ (control : List Step) (readings : List (Option ℕ)) (core : LoopState) (seats : List (Attendant L)) (doors : List D)
+      (new : IsNewLoopCore settings first) (many : length seats ≡ settings.seats)
+      (s : AreServed seen at settings.max_job_size control first readings core seats doors) (all_done : AreDone seats) where
+    door_done : (t : ℕ) → t < length doors → (d : D) → IsDoorDone s.history s.took s.went.given core t (at (slice_index_or doors t d))
     door_done t below d =
         let here : t < length seats = let e = s.doored in omega arith in
         let mailed : t < length first.mails = let e = s.mailed in omega arith in
@@ -143,16 +143,16 @@ module _ {L D : Type 0} (seen : L → LineSeen) (at : D → DoorSeen) (settings 
 
     -- the doors from this seat on
     doors_tied : (k : ℕ) (rest : List D) → ((j : ℕ) → j < length rest → (d : D)
-        → IsDoorDone s.history s.took s.went.given hub (k + j) (at (slice_index_or rest j d)))
+        → IsDoorDone s.history s.took s.went.given core (k + j) (at (slice_index_or rest j d)))
         → AreTied settings.max_job_size k (map (λ (d : D). (at d).lines_over) rest) (λ t. steps_at t s.history) s.took
-        (λ t. waiting t hub) s.history s.went.given
+        (λ t. waiting t core) s.history s.went.given
     doors_tied k [] h = tt
     doors_tied k (d ∷ rest) h =
         let more = doors_tied (suc k) rest (λ j below e.
-        subst (λ (n : ℕ). IsDoorDone s.history s.took s.went.given hub n (at (slice_index_or rest j e)))
+        subst (λ (n : ℕ). IsDoorDone s.history s.took s.went.given core n (at (slice_index_or rest j e)))
         (let e : k + suc j ≡ suc k + j = omega arith in e) (h (suc j) (omega (arith, below)) e)) in
-        let here : IsDoorDone s.history s.took s.went.given hub k (at d) =
-        subst (λ (n : ℕ). IsDoorDone s.history s.took s.went.given hub n (at d)) (add-zero k) (h 0 (omega arith) d) in (
+        let here : IsDoorDone s.history s.took s.went.given core k (at d) =
+        subst (λ (n : ℕ). IsDoorDone s.history s.took s.went.given core n (at d)) (add-zero k) (h 0 (omega arith) d) in (
           refl,
           here.answers_are,
           here.served.done,
@@ -163,23 +163,24 @@ module _ {L D : Type 0} (seen : L → LineSeen) (at : D → DoorSeen) (settings 
     pub ends_closed : All (λ (d : D). ((at d).is_out ≡ false) × ((at d).is_at_end ≡ true)) doors
     ends_closed t d below = let served = (door_done t below d).served in (served.inside, served.at_end)
 
-    pub ends_settings : StepsKeepSettings → hub.core.settings ≡ settings
-    ends_settings law = run_keeps law first.core s.went.runs.1.taken hub.core s.went.runs.1.goes ∙ ap (λ (m : Machine). m.settings) new.core
+    pub ends_settings : StepsKeepSettings → core.core.settings ≡ settings
+    ends_settings law = run_keeps law first.core s.went.runs.1.taken core.core s.went.runs.1.goes
+        ∙ ap (λ (m : Machine). m.settings) new.core
 
     -- The parts, combined.
     pub ends_joined : (text : List ℕ) (failed : Bool) → IsControlDone text failed control
-        → IsJoined settings (map (λ (d : D). (at d).lines_over) doors) text failed readings s.history s.went.given hub.core
+        → IsJoined settings (map (λ (d : D). (at d).lines_over) doors) text failed readings s.history s.went.given core.core
     ends_joined text failed said =
         let t = doors_tied 0 doors (λ j below d.
-        subst (λ (n : ℕ). IsDoorDone s.history s.took s.went.given hub n (at (slice_index_or doors j d)))
+        subst (λ (n : ℕ). IsDoorDone s.history s.took s.went.given core n (at (slice_index_or doors j d)))
         (let e : j ≡ 0 + j = omega arith in e) (door_done j below d)) in
         let control_is : steps_at settings.seats s.history ≡ control = ap (λ n. steps_at n s.history) (sym many) ∙ s.control_is in
         record {
           submitted = λ n. steps_at n s.history;
           taken = s.took;
-          waiting = λ n. waiting n hub;
+          waiting = λ n. waiting n core;
           run = record {
-            runs = subst (λ (m : Machine). Run m s.history s.went.given hub.core) new.core s.went.runs;
+            runs = subst (λ (m : Machine). Run m s.history s.went.given core.core) new.core s.went.runs;
             timed = subst (λ (n : ℕ). ArePickedFrom (map (λ (e : Entry). e.moment) s.history) (moments_heard n readings)) new.heard
                 s.went.timed.picked;
           };
@@ -192,8 +193,8 @@ module _ {L D : Type 0} (seen : L → LineSeen) (at : D → DoorSeen) (settings 
 
     -- One history of everything, along which the core stayed within its bounds.
     pub record IsEndedSo (text : List ℕ) (failed : Bool) : Type 0 where
-      pub history : IsHistoryOf settings (map (λ (d : D). (at d).lines_over) doors) text failed readings hub.core
-      pub compared : AreCompared (new_machine settings) history.history history.given hub.core 0 hub.compared
+      pub history : IsHistoryOf settings (map (λ (d : D). (at d).lines_over) doors) text failed readings core.core
+      pub compared : AreCompared (new_machine settings) history.history history.given core.core 0 core.compared
 
     pub ends_history : (text : List ℕ) (failed : Bool) → IsControlDone text failed control → IsEndedSo text failed
     ends_history text failed said =
@@ -205,11 +206,11 @@ module _ {L D : Type 0} (seen : L → LineSeen) (at : D → DoorSeen) (settings 
             run = j.run;
             many = j.many;
             of_doors = doors_owed settings settings.max_job_size 0
-                (map (λ (d : D). (at d).lines_over) doors) j.submitted j.taken j.waiting s.history s.went.given hub.core
+                (map (λ (d : D). (at d).lines_over) doors) j.submitted j.taken j.waiting s.history s.went.given core.core
                 (let a = j.many in omega arith) j.run.runs j.tied;
             of_control = j.control_tied ∙ j.control_done;
             of_nobody_else = j.of_nobody_else;
           };
-          compared = subst (λ (m : Machine). AreCompared m s.history s.went.given hub.core 0 hub.compared) new.core
-              (compared_all first hub s.history s.went.given new.unknown new.none_compared s.went.compared);
+          compared = subst (λ (m : Machine). AreCompared m s.history s.went.given core.core 0 core.compared) new.core
+              (compared_all first core s.history s.went.given new.unknown new.none_compared s.went.compared);
         }

@@ -1,7 +1,7 @@
 pub mod ControlTold
 pub mod EventLoopRuns
-pub mod HubOf
-pub mod HubState
-pub mod HubWent
+pub mod LoopCores
+pub mod LoopStates
+pub mod LoopWent
 pub mod Rows
 pub mod Serving

@@ -1,4 +1,4 @@
--- Seats that are served at one hub, in any order.
+-- Seats that are served at the core of a loop, in any order.
 use Rattle.std.specs.Prelude.{ℕ, ◌≡◌, ◌<◌, List, [], ◌++◌, length, Option, slice_index_or}
 use Rattle.bq_job.specs.declared.answer.Answer.{Answer}
 use Rattle.bq_job.specs.declared.step.Step.{Step}
@@ -9,20 +9,20 @@ use Rattle.bq_job.specs.promise.Runs.{Entry}
 use Rattle.bq_line.specs.GivenReadings.{GaveReadings}
 use Rattle.bq_driver.specs.Tending.{AreSame, DoorSeen, IsTended}
 use Rattle.bq_driver.specs.declared.attendant.Attendant.{Attendant}
-use Rattle.bq_event_loop.specs.HubOf.{state_of}
-use Rattle.bq_event_loop.specs.HubState.{HubState}
-use Rattle.bq_event_loop.specs.HubWent.{HubWent}
-use Rattle.bq_event_loop.specs.declared.hub.Hub.{Hub}
+use Rattle.bq_event_loop.specs.LoopCores.{state_of}
+use Rattle.bq_event_loop.specs.LoopStates.{LoopState}
+use Rattle.bq_event_loop.specs.LoopWent.{LoopWent}
+use Rattle.bq_event_loop.specs.declared.loop_core.LoopCore.{LoopCore}
 use Rattle.bq_event_loop.specs.declared.row.Row.{Row}
 
--- What was served from the first hub on. The core took the steps of one history. Each seat did what
+-- What was served from the first state on. The core took the steps of one history. Each seat did what
 -- the history has for it, with the answers that were taken out for it. The control line, whose
 -- number comes after those of the seats, submitted these steps. The history has no other steps.
-pub record AreServed {L D : Type 0} (seen : L → LineSeen) (at : D → DoorSeen) (max_job_size : ℕ) (control : List Step) (first : HubState)
-    (readings : List (Option ℕ)) (hub : HubState) (seats : List (Attendant L)) (doors : List D) : Type 0 where
+pub record AreServed {L D : Type 0} (seen : L → LineSeen) (at : D → DoorSeen) (max_job_size : ℕ) (control : List Step) (first : LoopState)
+    (readings : List (Option ℕ)) (core : LoopState) (seats : List (Attendant L)) (doors : List D) : Type 0 where
   pub history : List Entry
   pub took : ℕ → List Answer
-  pub went : HubWent first readings history took hub
+  pub went : LoopWent first readings history took core
   pub mailed : length first.mails ≡ length seats
   pub doored : length doors ≡ length seats
   pub each : (seat : ℕ) → seat < length seats → (a : Attendant L) (d : D)
@@ -34,12 +34,12 @@ pub record AreServed {L D : Type 0} (seen : L → LineSeen) (at : D → DoorSeen
 -- of the control line.
 pub record ServesOn {C K L D : Type 0} (machine : K → Machine) (compared : K → ℕ) (given : C → List (Option ℕ) → C → Type 0)
     (seen : L → LineSeen) (at : D → DoorSeen) (same : D → D → Type 0)
-    (old : Hub C K) (row : Row L D) (control : List Step) (new : Hub C K) (later : Row L D) : Type 0 where
+    (old : LoopCore C K) (row : Row L D) (control : List Step) (new : LoopCore C K) (later : Row L D) : Type 0 where
   pub reads : List (Option ℕ)
   pub gave : GaveReadings given old.timed.time.clock reads new.timed.time.clock
   pub mailed : length new.mails.items ≡ length old.mails.items
   pub many : length later.seats.items ≡ length row.seats.items
-  pub served : (max_job_size : ℕ) (before : List Step) (first : HubState) (readings : List (Option ℕ))
+  pub served : (max_job_size : ℕ) (before : List Step) (first : LoopState) (readings : List (Option ℕ))
       → AreServed seen at max_job_size before first readings (state_of machine compared old) row.seats.items row.doors.items
       → AreServed seen at max_job_size (before ++ control) first (readings ++ reads)
       (state_of machine compared new) later.seats.items later.doors.items

@@ -11,8 +11,8 @@ pub use turns::{ControlReads, ControlStands, News, Turn, Turns, TurnsFault};
 
 mod control_turns;
 mod event_loop;
-mod hub;
-mod hub_seat;
+mod loop_core;
+mod loop_seat;
 mod poller;
 mod row;
 mod run;

@@ -4,18 +4,18 @@ ghost use Rattle.std.specs.List.{All};
 ghost use Rattle.bq_steps.specs.Limits.{are_in_range};
 ghost use Rattle.bq_driver.specs.Tending.{AreSame, IsNewDoor, IsNewSeat, door_seen};
 ghost use Rattle.bq_event_loop.specs.EventLoopRuns.{IsEventLoopRun};
-ghost use Rattle.bq_event_loop.specs.HubOf.{state_of};
-ghost use Rattle.bq_event_loop.specs.HubState.{IsInOrder, IsNewHub};
+ghost use Rattle.bq_event_loop.specs.LoopCores.{state_of};
+ghost use Rattle.bq_event_loop.specs.LoopStates.{IsInOrder, IsNewLoopCore};
 
 use crate::control_turns::ControlTurns;
-use crate::hub::Hub;
+use crate::loop_core::LoopCore;
 use crate::row::{Row, new_seats};
 use crate::serve::serve;
 use crate::turns::{Turns, TurnsFault};
 use bq_driver::attendant::Attendant;
+use bq_driver::buffers::Buffers;
 use bq_driver::control_line::ControlLine;
 use bq_driver::control_reader::ControlReader;
-use bq_driver::room::Room;
 use bq_host::RunFault;
 use bq_job::steps_keep_settings;
 use bq_line::Door;
@@ -79,7 +79,7 @@ pub fn run_turns<
     if doors.len() != usize::from(config.seats) {
         return Err(RunFault::BadConfiguration);
     }
-    let hub: Hub<C, K> = Hub::new(alloc, config, clock)?;
+    let core: LoopCore<C, K> = LoopCore::new(alloc, config, clock)?;
     let Ok(seats) = new_seats(alloc, config.seats, config.max_job_size) else {
         return Err(RunFault::NoMemory);
     };
@@ -87,10 +87,10 @@ pub fn run_turns<
         Ok(turns) => turns,
         Err(fault) => return Err(fault.as_run_fault()),
     };
-    Ok(run_at(rt, config, hub, seats, doors, control, &mut turns))
+    Ok(run_at(rt, config, core, seats, doors, control, &mut turns))
 }
 
-// The run, from a new hub and new seats on.
+// The run, from a new core and new seats on.
 fn run_at<
     R: Wait,
     T: Turns,
@@ -102,31 +102,31 @@ fn run_at<
 >(
     rt: &R,
     config: Config,
-    hub: Hub<C, K>,
+    core: LoopCore<C, K>,
     seats: Vec<Attendant<L>, Global>,
     doors: Vec<D, Global>,
     control: I,
     turns: &mut T,
 ) -> EventLoopRun<D, C, I, K>
-    requires made { IsNewHub config (state_of K.machine K.comparisons hub) }
-    requires order { IsInOrder (state_of K.machine K.comparisons hub) }
+    requires made { IsNewLoopCore config (state_of K.machine K.comparisons core) }
+    requires order { IsInOrder (state_of K.machine K.comparisons core) }
     requires many { length seats.items ≡ config.seats }
     requires doored { length doors.items ≡ config.seats }
     requires new_seats { All (IsNewSeat config.max_job_size) seats.items }
     requires new_doors { All
         (λ door. IsNewDoor (door_seen D.is_out D.is_at_end D.lines_over door)) doors.items }
-    ensures served { IsEventLoopRun C.given D.lines_over I.remaining I.may_fail K.machine K.comparisons config hub.timed.time.clock control result }
+    ensures served { IsEventLoopRun C.given D.lines_over I.remaining I.may_fail K.machine K.comparisons config core.timed.time.clock control result }
     ensures at_end { All (λ door. (D.is_out door ≡ false) × (D.is_at_end door ≡ true)) result.doors.items }
     ensures same { AreSame D.same doors.items result.doors.items }
     ensures settings { (K.machine result.core).settings ≡ config }
 {
-    let mut hub = hub;
+    let mut core = core;
     let mut row = Row { seats, doors };
     let mut control = ControlTurns::new(ControlLine::new(control));
-    let mut room = Room::new();
-    serve(rt, turns, &mut row, &mut control, &mut hub, &mut room);
+    let mut buffers = Buffers::new();
+    serve(rt, turns, &mut row, &mut control, &mut core, &mut buffers);
     steps_keep_settings();
-    let timed = hub.timed;
+    let timed = core.timed;
     EventLoopRun {
         doors: row.doors,
         clock: timed.time.clock,

@@ -3,20 +3,20 @@ ghost use Rattle.std.specs.Prelude.{◌≡◌, ◌<◌, ◌≤◌, true, [], Lis
 ghost use Rattle.bq_job.specs.declared.step.Step.{Step};
 ghost use Rattle.bq_driver.specs.Tending.{door_seen};
 ghost use Rattle.bq_event_loop.specs.ControlTold.{TellsOn};
-ghost use Rattle.bq_event_loop.specs.HubOf.{WentAt, state_of};
-ghost use Rattle.bq_event_loop.specs.HubState.{IsInOrder};
+ghost use Rattle.bq_event_loop.specs.LoopCores.{WentAt, state_of};
+ghost use Rattle.bq_event_loop.specs.LoopStates.{IsInOrder};
 ghost use Rattle.bq_event_loop.specs.Rows.{AreDone, AreTended};
 ghost use Rattle.bq_event_loop.specs.Serving.{ServesOn};
 ghost use Rattle.bq_event_loop.specs.declared.control_turns.Stage.TheVariants as stages;
 
 use crate::control_turns::ControlTurns;
-use crate::hub::Hub;
-use crate::hub_seat::attend;
+use crate::loop_core::LoopCore;
+use crate::loop_seat::attend;
 use crate::row::Row;
 use crate::turns::{ControlReads, News, Turn, Turns};
+use bq_driver::buffers::Buffers;
 use bq_driver::control_line::ControlInput;
 use bq_driver::progress::Progress;
-use bq_driver::room::Room;
 use bq_job::Seat;
 use bq_line::Door;
 use bq_line::clock::Clock;
@@ -38,18 +38,18 @@ pub fn serve<
     turns: &mut T,
     row: &mut Row<L, D>,
     control: &mut ControlTurns<I>,
-    hub: &mut Hub<C, K>,
-    room: &mut Room,
+    core: &mut LoopCore<C, K>,
+    buffers: &mut Buffers,
 )
-    requires order { IsInOrder (state_of K.machine K.comparisons hub.old) }
+    requires order { IsInOrder (state_of K.machine K.comparisons core.old) }
     requires tended { AreTended L.seen (door_seen D.is_out D.is_at_end D.lines_over) row.old }
-    requires mailed { length hub.old.mails.items ≡ length row.old.seats.items }
+    requires mailed { length core.old.mails.items ≡ length row.old.seats.items }
     requires few { length row.old.seats.items ≤ 65535 }
     ensures done { AreDone row.new.seats.items }
     ensures over { control.new.stage ≡ stages.Over }
     ensures served { (told : List Step) × TellsOn I.seen I.remaining I.may_fail control.old told control.new
         × ServesOn K.machine K.comparisons C.given L.seen (door_seen D.is_out D.is_at_end D.lines_over) D.same
-        hub.old row.old told hub.new row.new }
+        core.old row.old told core.new row.new }
 {
     let mut news = News {
         progress: Progress::NothingToDo,
@@ -57,11 +57,11 @@ pub fn serve<
         control: control.stands(),
     };
     for _ in rt.forever() {
-        let turn = turns.next(hub.timed.alloc, row, news);
-        if take_turn(rt, turn, row, control, hub, room, &mut news) {
+        let turn = turns.next(core.timed.alloc, row, news);
+        if take_turn(rt, turn, row, control, core, buffers, &mut news) {
             return;
         }
-        wake_all(turns, hub);
+        wake_all(turns, core);
     }
     unreachable!()
 }
@@ -79,29 +79,29 @@ fn take_turn<
     turn: Turn,
     row: &mut Row<L, D>,
     control: &mut ControlTurns<I>,
-    hub: &mut Hub<C, K>,
-    room: &mut Room,
+    core: &mut LoopCore<C, K>,
+    buffers: &mut Buffers,
     news: &mut News,
 ) -> bool
-    requires order { IsInOrder (state_of K.machine K.comparisons hub.old) }
+    requires order { IsInOrder (state_of K.machine K.comparisons core.old) }
     requires tended { AreTended L.seen (door_seen D.is_out D.is_at_end D.lines_over) row.old }
-    requires mailed { length hub.old.mails.items ≡ length row.old.seats.items }
+    requires mailed { length core.old.mails.items ≡ length row.old.seats.items }
     requires few { length row.old.seats.items ≤ 65535 }
-    ensures order { IsInOrder (state_of K.machine K.comparisons hub.new) }
+    ensures order { IsInOrder (state_of K.machine K.comparisons core.new) }
     ensures tended { AreTended L.seen (door_seen D.is_out D.is_at_end D.lines_over) row.new }
     ensures done { result ≡ true → AreDone row.new.seats.items }
     ensures over { result ≡ true → control.new.stage ≡ stages.Over }
     ensures served { (told : List Step) × TellsOn I.seen I.remaining I.may_fail control.old told control.new
         × ServesOn K.machine K.comparisons C.given L.seen (door_seen D.is_out D.is_at_end D.lines_over) D.same
-        hub.old row.old told hub.new row.new }
+        core.old row.old told core.new row.new }
 {
     match turn {
         Turn::Seat(seat) => {
-            news.progress = serve_seat(row, hub, seat, room);
+            news.progress = serve_seat(row, core, seat, buffers);
             false
         }
         Turn::Control(reads) => {
-            serve_control(rt, control, hub, reads);
+            serve_control(rt, control, core, reads);
             news.control = control.stands();
             false
         }
@@ -109,7 +109,7 @@ fn take_turn<
             if is_over(row, control) {
                 return true;
             }
-            news.due = hub.pass_time();
+            news.due = core.pass_time();
             false
         }
     }
@@ -126,11 +126,14 @@ fn is_over<L: Line + Drop, D: Door<Line = L>, I: ControlInput>(
 }
 
 // Reports to the turns each seat that has mail.
-fn wake_all<T: Turns, C: Clock + Drop, K: QueueCore + Drop>(turns: &mut T, hub: &mut Hub<C, K>)
-    ensures { hub.new ≡ record hub.old { woken = hub.new.woken } }
+fn wake_all<T: Turns, C: Clock + Drop, K: QueueCore + Drop>(
+    turns: &mut T,
+    core: &mut LoopCore<C, K>,
+)
+    ensures { core.new ≡ record core.old { woken = core.new.woken } }
 {
-    for _ in 0..hub.mails.len() {
-        let Some(seat) = hub.next_woken() else {
+    for _ in 0..core.mails.len() {
+        let Some(seat) = core.next_woken() else {
             return;
         };
         turns.wake(usize::from(seat));
@@ -141,25 +144,25 @@ fn wake_all<T: Turns, C: Clock + Drop, K: QueueCore + Drop>(turns: &mut T, hub: 
 // into the mail, unless this seat takes its own next.
 fn serve_seat<L: Line + Drop, D: Door<Line = L>, C: Clock + Drop, K: QueueCore + Drop>(
     row: &mut Row<L, D>,
-    hub: &mut Hub<C, K>,
+    core: &mut LoopCore<C, K>,
     seat: usize,
-    room: &mut Room,
+    buffers: &mut Buffers,
 ) -> Progress
-    requires order { IsInOrder (state_of K.machine K.comparisons hub.old) }
+    requires order { IsInOrder (state_of K.machine K.comparisons core.old) }
     requires tended { AreTended L.seen (door_seen D.is_out D.is_at_end D.lines_over) row.old }
-    requires mailed { length hub.old.mails.items ≡ length row.old.seats.items }
+    requires mailed { length core.old.mails.items ≡ length row.old.seats.items }
     requires few { length row.old.seats.items ≤ 65535 }
-    ensures order { IsInOrder (state_of K.machine K.comparisons hub.new) }
+    ensures order { IsInOrder (state_of K.machine K.comparisons core.new) }
     ensures tended { AreTended L.seen (door_seen D.is_out D.is_at_end D.lines_over) row.new }
     ensures served { ServesOn K.machine K.comparisons C.given L.seen (door_seen D.is_out D.is_at_end D.lines_over) D.same
-        hub.old row.old [] hub.new row.new }
+        core.old row.old [] core.new row.new }
 {
     if seat >= row.seats.len() {
         return Progress::NothingToDo;
     }
-    let progress = act_and_poll(row, hub, seat, room);
+    let progress = act_and_poll(row, core, seat, buffers);
     if !row.seats[seat].polls_mail() {
-        let _all = hub.sort(0);
+        let _all = core.sort(0);
     }
     progress
 }
@@ -167,49 +170,49 @@ fn serve_seat<L: Line + Drop, D: Door<Line = L>, C: Clock + Drop, K: QueueCore +
 // One action of a seat. If it submitted a step, the seat looks for the answer at once: mostly the core gave it.
 fn act_and_poll<L: Line + Drop, D: Door<Line = L>, C: Clock + Drop, K: QueueCore + Drop>(
     row: &mut Row<L, D>,
-    hub: &mut Hub<C, K>,
+    core: &mut LoopCore<C, K>,
     seat: usize,
-    room: &mut Room,
+    buffers: &mut Buffers,
 ) -> Progress
-    requires order { IsInOrder (state_of K.machine K.comparisons hub.old) }
+    requires order { IsInOrder (state_of K.machine K.comparisons core.old) }
     requires tended { AreTended L.seen (door_seen D.is_out D.is_at_end D.lines_over) row.old }
-    requires mailed { length hub.old.mails.items ≡ length row.old.seats.items }
+    requires mailed { length core.old.mails.items ≡ length row.old.seats.items }
     requires few { length row.old.seats.items ≤ 65535 }
     requires below { seat < length row.old.seats.items }
-    ensures order { IsInOrder (state_of K.machine K.comparisons hub.new) }
+    ensures order { IsInOrder (state_of K.machine K.comparisons core.new) }
     ensures tended { AreTended L.seen (door_seen D.is_out D.is_at_end D.lines_over) row.new }
     ensures served { ServesOn K.machine K.comparisons C.given L.seen (door_seen D.is_out D.is_at_end D.lines_over) D.same
-        hub.old row.old [] hub.new row.new }
+        core.old row.old [] core.new row.new }
 {
-    let progress = act(row, hub, seat, room);
+    let progress = act(row, core, seat, buffers);
     if progress.has_moved() && row.seats[seat].polls_mail() {
-        return act(row, hub, seat, room);
+        return act(row, core, seat, buffers);
     }
     progress
 }
 
 fn act<L: Line + Drop, D: Door<Line = L>, C: Clock + Drop, K: QueueCore + Drop>(
     row: &mut Row<L, D>,
-    hub: &mut Hub<C, K>,
+    core: &mut LoopCore<C, K>,
     seat: usize,
-    room: &mut Room,
+    buffers: &mut Buffers,
 ) -> Progress
-    requires order { IsInOrder (state_of K.machine K.comparisons hub.old) }
+    requires order { IsInOrder (state_of K.machine K.comparisons core.old) }
     requires tended { AreTended L.seen (door_seen D.is_out D.is_at_end D.lines_over) row.old }
-    requires mailed { length hub.old.mails.items ≡ length row.old.seats.items }
+    requires mailed { length core.old.mails.items ≡ length row.old.seats.items }
     requires few { length row.old.seats.items ≤ 65535 }
     requires below { seat < length row.old.seats.items }
-    ensures order { IsInOrder (state_of K.machine K.comparisons hub.new) }
+    ensures order { IsInOrder (state_of K.machine K.comparisons core.new) }
     ensures tended { AreTended L.seen (door_seen D.is_out D.is_at_end D.lines_over) row.new }
     ensures served { ServesOn K.machine K.comparisons C.given L.seen (door_seen D.is_out D.is_at_end D.lines_over) D.same
-        hub.old row.old [] hub.new row.new }
+        core.old row.old [] core.new row.new }
 {
     attend(
         &mut row.seats[seat],
         &mut row.doors[seat],
-        hub,
+        core,
         seat as u16,
-        room,
+        buffers,
     )
 }
 
@@ -218,18 +221,18 @@ fn act<L: Line + Drop, D: Door<Line = L>, C: Clock + Drop, K: QueueCore + Drop>(
 fn serve_control<R: Wait, C: Clock + Drop, I: ControlInput, K: QueueCore + Drop>(
     rt: &R,
     control: &mut ControlTurns<I>,
-    hub: &mut Hub<C, K>,
+    core: &mut LoopCore<C, K>,
     reads: ControlReads,
 )
-    requires order { IsInOrder (state_of K.machine K.comparisons hub.old) }
-    requires few { length hub.old.mails.items ≤ 65535 }
-    ensures order { IsInOrder (state_of K.machine K.comparisons hub.new) }
+    requires order { IsInOrder (state_of K.machine K.comparisons core.old) }
+    requires few { length core.old.mails.items ≤ 65535 }
+    ensures order { IsInOrder (state_of K.machine K.comparisons core.new) }
     ensures served { (told : List Step) × TellsOn I.seen I.remaining I.may_fail control.old told control.new
-        × WentAt K.machine K.comparisons C.given (length hub.old.mails.items) hub.old told [] hub.new }
+        × WentAt K.machine K.comparisons C.given (length core.old.mails.items) core.old told [] core.new }
 {
     let mut may_wait = reads != ControlReads::Buffered;
     for _ in rt.forever() {
-        if !submit_owed(control, hub) {
+        if !submit_owed(control, core) {
             return;
         }
         if stops(control, may_wait) {
@@ -250,39 +253,39 @@ fn stops<I: ControlInput>(control: &ControlTurns<I>, may_wait: bool) -> bool {
 // was rejected.
 fn submit_owed<C: Clock + Drop, I: ControlInput, K: QueueCore + Drop>(
     control: &mut ControlTurns<I>,
-    hub: &mut Hub<C, K>,
+    core: &mut LoopCore<C, K>,
 ) -> bool
-    requires order { IsInOrder (state_of K.machine K.comparisons hub.old) }
-    requires few { length hub.old.mails.items ≤ 65535 }
-    ensures order { IsInOrder (state_of K.machine K.comparisons hub.new) }
-    ensures many { length hub.new.mails.items ≡ length hub.old.mails.items }
+    requires order { IsInOrder (state_of K.machine K.comparisons core.old) }
+    requires few { length core.old.mails.items ≤ 65535 }
+    ensures order { IsInOrder (state_of K.machine K.comparisons core.new) }
+    ensures many { length core.new.mails.items ≡ length core.old.mails.items }
     ensures served { (told : List Step) × TellsOn I.seen I.remaining I.may_fail control.old told control.new
-        × WentAt K.machine K.comparisons C.given (length hub.old.mails.items) hub.old told [] hub.new }
+        × WentAt K.machine K.comparisons C.given (length core.old.mails.items) core.old told [] core.new }
 {
-    if !submit_one(control, hub) {
+    if !submit_one(control, core) {
         return false;
     }
-    submit_one(control, hub)
+    submit_one(control, core)
 }
 
 // Submits the next step of the control line, if there is one. Returns false if it was rejected.
 fn submit_one<C: Clock + Drop, I: ControlInput, K: QueueCore + Drop>(
     control: &mut ControlTurns<I>,
-    hub: &mut Hub<C, K>,
+    core: &mut LoopCore<C, K>,
 ) -> bool
-    requires order { IsInOrder (state_of K.machine K.comparisons hub.old) }
-    requires few { length hub.old.mails.items ≤ 65535 }
-    ensures order { IsInOrder (state_of K.machine K.comparisons hub.new) }
-    ensures many { length hub.new.mails.items ≡ length hub.old.mails.items }
+    requires order { IsInOrder (state_of K.machine K.comparisons core.old) }
+    requires few { length core.old.mails.items ≤ 65535 }
+    ensures order { IsInOrder (state_of K.machine K.comparisons core.new) }
+    ensures many { length core.new.mails.items ≡ length core.old.mails.items }
     ensures served { (told : List Step) × TellsOn I.seen I.remaining I.may_fail control.old told control.new
-        × WentAt K.machine K.comparisons C.given (length hub.old.mails.items) hub.old told [] hub.new }
+        × WentAt K.machine K.comparisons C.given (length core.old.mails.items) core.old told [] core.new }
 {
     let Some(step) = control.owed() else {
         return true;
     };
     // The number of the control line comes after those of the seats.
-    let seat = hub.mails.len() as Seat;
-    if !hub.submit(seat, &step) {
+    let seat = core.mails.len() as Seat;
+    if !core.submit(seat, &step) {
         return false;
     }
     control.note_submitted();

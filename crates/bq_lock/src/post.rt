@@ -10,8 +10,8 @@ ghost use Rattle.bq_driver.specs.Tending.{IsNewDoor, door_seen};
 use crate::bells::Bells;
 use crate::shared_desk::{SharedDesk, SharedSeat};
 use bq_driver::attendant::{Attendant, LinePlace};
+use bq_driver::buffers::Buffers;
 use bq_driver::progress::Progress;
-use bq_driver::room::Room;
 use bq_host::Start;
 use bq_job::{NoMemory, Seat};
 use bq_line::Door;
@@ -96,12 +96,12 @@ impl<L: Line + Drop, D: Door<Line = L> + Drop> Post<L, D> {
             at_hand: None,
             rests: false,
         };
-        let mut room = Room::new();
+        let mut buffers = Buffers::new();
         for _ in rt.forever() {
             if attendant.is_done() {
                 return Some(door);
             }
-            let progress = attendant.go_on(alloc, &mut door, &mut link, &mut room);
+            let progress = attendant.go_on(alloc, &mut door, &mut link, &mut buffers);
             yield_after(progress);
         }
         unreachable!()

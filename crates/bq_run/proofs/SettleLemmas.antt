@@ -6,8 +6,8 @@ use Rattle.std.proofs.lemmas.Bool.{cases_Bool, eqb-false, eqb-true, ltb-false, l
 use Rattle.std.proofs.lemmas.List.{get_or-set_other, get_or-set_same, length-set}
 use Rattle.bq_link.specs.EndStates.{CoreState, IsPair, IsSameCore, IsSameSeat, SeatState}
 use Rattle.bq_run.specs.Linked.{ArePaired, AreSettled, AreStill, IsCoreStill, IsEndStill, IsSettled}
-use Rattle.bq_run.specs.declared.sessions.Run.{Run}
-use Rattle.bq_run.specs.declared.sessions.posts.Ended.{Ended}
+use Rattle.bq_run.specs.declared.run.Run.{Run}
+use Rattle.bq_run.specs.declared.run.posts.Ended.{Ended}
 
 pub core_still : (core : CoreState) → IsCoreStill core core
 core_still core = record { same = (refl, refl); taken = refl; sent = refl }

@@ -4,6 +4,6 @@ pub mod Flags
 pub mod Linked
 pub mod Rests
 pub mod Sending
-pub mod Sessions
+pub mod ThreadRuns
 pub mod Threads
 pub mod Worked

@@ -9,7 +9,7 @@ use Rattle.bq_driver.specs.declared.control_line.ControlLine.{ControlLine}
 use Rattle.bq_link.specs.EndStates.{CoreState, IsSameCore, IsSameSeat, SeatState}
 use Rattle.bq_host.specs.Clocks.{Gives}
 use Rattle.bq_run.specs.CoreWork.{IsCoreDone}
-use Rattle.bq_run.specs.declared.sessions.posts.EndedEnds.{EndedEnds}
+use Rattle.bq_run.specs.declared.run.posts.EndedEnds.{EndedEnds}
 
 -- The seats' threads have ended, in the order of their seats: each has the end that it began with,
 -- and served its door to its end.

@@ -3,9 +3,9 @@
 //! door, for the control line, and for the core.
 #![tactic(auto)]
 
-pub use sessions::{Run, run_sessions};
+pub use run::{Run, run_threads};
 
 pub mod control_work;
 pub mod core_work;
+mod run;
 pub mod seat_work;
-mod sessions;

@@ -14,11 +14,11 @@ ghost use Rattle.bq_driver.specs.Links.{SubmitsInPlace, TakesInPlace};
 ghost use Rattle.bq_link.specs.Submissions.{MaySubmit};
 
 use bq_driver::attendant::{Attendant, LinePlace};
+use bq_driver::buffers::Buffers;
 use bq_driver::control::{ControlLink, submit_control};
 use bq_driver::control_line::ControlInput;
 use bq_driver::link::Link;
 use bq_driver::progress::Progress;
-use bq_driver::room::Room;
 use bq_job::{Request, Step};
 use bq_line::Door;
 use bq_line::line::Line;
@@ -65,7 +65,7 @@ pub fn seat_work<R: Wait, L: Line + Drop, D: Door<Line = L> + Drop>(
         machine,
         place: LinePlace::Between,
     };
-    let mut room = Room::new();
+    let mut buffers = Buffers::new();
     let mut pace = Pace::new();
     for _ in rt.forever() {
         if attendant.is_done() {
@@ -78,7 +78,7 @@ pub fn seat_work<R: Wait, L: Line + Drop, D: Door<Line = L> + Drop>(
             &mut end,
             &mut attendant,
             &mut door,
-            &mut room,
+            &mut buffers,
             &mut pace,
         );
         let most = pause_after(progress, attendant.awaits_line());
@@ -356,7 +356,7 @@ pub fn attend_at<R: Wait, L: Line + Drop, D: Door<Line = L>>(
     end: &mut SeatEnd,
     attendant: &mut Attendant<L>,
     door: &mut D,
-    room: &mut Room,
+    buffers: &mut Buffers,
     pace: &mut Pace,
 ) -> Progress
     requires intake { end.old.intake ≡ intake.now.id }
@@ -377,7 +377,7 @@ pub fn attend_at<R: Wait, L: Line + Drop, D: Door<Line = L>>(
         end,
         pace: *pace,
     };
-    let progress = attendant.go_on(alloc, door, &mut link, room);
+    let progress = attendant.go_on(alloc, door, &mut link, buffers);
     *pace = link.pace;
     progress
 }

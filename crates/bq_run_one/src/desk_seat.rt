@@ -9,9 +9,9 @@ ghost use Rattle.bq_run_one.specs.DeskState.{HasMails};
 
 use crate::desk::Desk;
 use bq_driver::attendant::carry_out;
+use bq_driver::buffers::Buffers;
 use bq_driver::link::Link;
 use bq_driver::progress::Progress;
-use bq_driver::room::Room;
 use bq_job::{Seat, Step};
 use bq_line::clock::Clock;
 use bq_line::line::Line;
@@ -62,7 +62,7 @@ pub fn act<L: Line, C: Clock + Drop>(
     line: &mut L,
     desk: &mut Desk<C>,
     seat: Seat,
-    room: &mut Room,
+    buffers: &mut Buffers,
 ) -> Progress
     requires mails { HasMails (state_of desk.old) }
     requires within { seat < length (state_of desk.old).mails }
@@ -73,5 +73,5 @@ pub fn act<L: Line, C: Clock + Drop>(
 {
     let alloc = desk.timed.alloc;
     let mut link = DeskSeat { desk, seat };
-    carry_out(alloc, machine, action, sent, line, &mut link, room)
+    carry_out(alloc, machine, action, sent, line, &mut link, buffers)
 }

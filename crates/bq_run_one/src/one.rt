@@ -11,8 +11,8 @@ ghost use Rattle.bq_run_one.specs.RunSettings.{is_lone};
 use crate::desk::Desk;
 use crate::desk_seat::act;
 use bq_core::Config;
+use bq_driver::buffers::Buffers;
 use bq_driver::progress::Progress;
-use bq_driver::room::Room;
 use bq_host::RunFault;
 use bq_job::{LineEnd, Seat};
 use bq_line::clock::Clock;
@@ -92,7 +92,7 @@ fn serve_line<R: Wait, L: Line + Drop, C: Clock + Drop>(
     let mut line = line;
     let mut desk = desk;
     let mut machine = machine;
-    let mut room = Room::new();
+    let mut buffers = Buffers::new();
     let bell = Parker::new();
     let mut action = machine.on(desk.timed.alloc, Event::Opened);
     let mut sent = 0;
@@ -111,7 +111,7 @@ fn serve_line<R: Wait, L: Line + Drop, C: Clock + Drop>(
             &mut line,
             &mut desk,
             ONLY_SEAT,
-            &mut room,
+            &mut buffers,
         );
         rest_after(rt, &bell, progress, &action);
     }

@@ -3,7 +3,7 @@ ghost use Rattle.std.specs.Prelude.{◌≡◌, ◌↔◌, ◌&&◌, ◌==◌, fa
 ghost use Rattle.std.specs.List.{All};
 ghost use Rattle.bq_steps.specs.Limits.{are_in_range};
 ghost use Rattle.bq_driver.specs.Tending.{AreSame, IsNewDoor, door_seen};
-ghost use Rattle.bq_run.specs.Sessions.{IsRunOf};
+ghost use Rattle.bq_run.specs.ThreadRuns.{IsRunOf};
 
 use bq_core::{Config, Core};
 use bq_driver::control_reader::ControlReader;
@@ -60,5 +60,5 @@ pub fn run_sessions<
     ensures bad_configuration { IsErrOf result RunFault.BadConfiguration
         ↔ IsTrue (not (are_in_range config && vec_len doors == config.seats)) }
 {
-    bq_run::run_sessions(rt, alloc, config, doors, clock, control)
+    bq_run::run_threads(rt, alloc, config, doors, clock, control)
 }

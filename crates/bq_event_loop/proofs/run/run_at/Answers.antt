@@ -2,7 +2,7 @@ use Rattle.std.proofs.Common.{◌≡◌, ◌∙◌, [], List, length, map, ap, r
 use Rattle.bq_driver.specs.ControlRead.{IsReadToEnd}
 use Rattle.bq_driver.specs.Tending.{door_seen}
 use Rattle.bq_driver.specs.declared.control_line.ControlLine.{ControlLine}
-use Rattle.bq_event_loop.specs.HubOf.{state_of}
+use Rattle.bq_event_loop.specs.LoopCores.{state_of}
 use Rattle.bq_event_loop.specs.Serving.{AreServed}
 use Rattle.bq_event_loop.proofs.AloneLemmas.{new_mails_are}
 use Rattle.bq_event_loop.proofs.ControlLemmas.{told_all}
@@ -18,14 +18,14 @@ serve-requires-clause-tended g c =
 
 pub serve-requires-clause-mailed : goal.serve-requires-clause-mailed
 serve-requires-clause-mailed g c =
-    new_mails_are c.args.config (state_of g.K.QueueCore.machine g.K.QueueCore.comparisons c.args.hub) c.requires.made ∙ sym c.requires.many
+    new_mails_are c.args.config (state_of g.K.QueueCore.machine g.K.QueueCore.comparisons c.args.core) c.requires.made ∙ sym c.requires.many
 
 pub returns-clause-served : goal.returns-clause-served
 returns-clause-served g c =
     let at = door_seen g.D.Door.is_out g.D.Door.is_at_end g.D.Door.lines_over in
     let settings = c.args.config in
-    let first = state_of g.K.QueueCore.machine g.K.QueueCore.comparisons c.args.hub in
-    let last = state_of g.K.QueueCore.machine g.K.QueueCore.comparisons c.serve.new.hub in
+    let first = state_of g.K.QueueCore.machine g.K.QueueCore.comparisons c.args.core in
+    let last = state_of g.K.QueueCore.machine g.K.QueueCore.comparisons c.serve.new.core in
     let seats = c.serve.new.row.seats.items in
     let doors = c.serve.new.row.doors.items in
     let w = c.serve.ensures.served in
@@ -43,7 +43,7 @@ returns-clause-served g c =
     control.input.read control.input.failed told.done in
     record {
       readings = on.reads;
-      gave = on.gave c.args.hub.timed.time.clock [] (g.met.C.Clock.none_given c.args.hub.timed.time.clock);
+      gave = on.gave c.args.core.timed.time.clock [] (g.met.C.Clock.none_given c.args.core.timed.time.clock);
       over = told.over;
       read = subst (λ (line : ControlLine g.row.I.Denot).
           IsReadToEnd (g.I.Read.remaining line.reader) (g.I.Read.remaining control.input.reader) control.input.read control.input.failed)
@@ -58,8 +58,8 @@ pub returns-clause-at_end : goal.returns-clause-at_end
 returns-clause-at_end g c =
     let at = door_seen g.D.Door.is_out g.D.Door.is_at_end g.D.Door.lines_over in
     let settings = c.args.config in
-    let first = state_of g.K.QueueCore.machine g.K.QueueCore.comparisons c.args.hub in
-    let last = state_of g.K.QueueCore.machine g.K.QueueCore.comparisons c.serve.new.hub in
+    let first = state_of g.K.QueueCore.machine g.K.QueueCore.comparisons c.args.core in
+    let last = state_of g.K.QueueCore.machine g.K.QueueCore.comparisons c.serve.new.core in
     let seats = c.serve.new.row.seats.items in
     let doors = c.serve.new.row.doors.items in
     let w = c.serve.ensures.served in
@@ -79,8 +79,8 @@ pub returns-clause-settings : goal.returns-clause-settings
 returns-clause-settings g c =
     let at = door_seen g.D.Door.is_out g.D.Door.is_at_end g.D.Door.lines_over in
     let settings = c.args.config in
-    let first = state_of g.K.QueueCore.machine g.K.QueueCore.comparisons c.args.hub in
-    let last = state_of g.K.QueueCore.machine g.K.QueueCore.comparisons c.serve.new.hub in
+    let first = state_of g.K.QueueCore.machine g.K.QueueCore.comparisons c.args.core in
+    let last = state_of g.K.QueueCore.machine g.K.QueueCore.comparisons c.serve.new.core in
     let seats = c.serve.new.row.seats.items in
     let doors = c.serve.new.row.doors.items in
     let w = c.serve.ensures.served in

@@ -12,7 +12,7 @@ returns-in-Err-clause-bad_configuration g c =
       λ e. let same : c.as_run_fault.result ≡ BadConfiguration = cc in absurd (c.as_run_fault.ensures same),
       λ h. elim (cases_Bool (are_in_range c.args.config)) [
         | inl good ↦ let no = rw (good, fits) at h in absurd cc
-        | inr bad ↦ let no = c.in_ok-hub.ensures.bad_configuration.1 (rw bad refl) in absurd cc
+        | inr bad ↦ let no = c.in_ok-core.ensures.bad_configuration.1 (rw bad refl) in absurd cc
       ],
     )
 
@@ -24,6 +24,6 @@ returns-clause-bad_configuration g c =
       λ e. absurd cc,
       λ h. elim (cases_Bool (are_in_range c.args.config)) [
         | inl good ↦ let no = rw (good, fits) at h in absurd cc
-        | inr bad ↦ let no = c.in_ok-hub.ensures.bad_configuration.1 (rw bad refl) in absurd cc
+        | inr bad ↦ let no = c.in_ok-core.ensures.bad_configuration.1 (rw bad refl) in absurd cc
       ],
     )

@@ -24,7 +24,7 @@ pub returns-clause-served : goal.returns-clause-served
 returns-clause-served g c =
     let at = door_seen g.D.Door.is_out g.D.Door.is_at_end g.D.Door.lines_over in
     let row = c.args.row.now in
-    serves_acted g.L.Line.seen at g.K.QueueCore.machine g.K.QueueCore.comparisons g.C.Clock.given g.D.Door.same c.args.hub.now
-    c.attend.new.hub row _ c.args.seat c.args.seat c.index_mut.result.now c.attend.new.attendant
+    serves_acted g.L.Line.seen at g.K.QueueCore.machine g.K.QueueCore.comparisons g.C.Clock.given g.D.Door.same c.args.core.now
+    c.attend.new.core row _ c.args.seat c.args.seat c.index_mut.result.now c.attend.new.attendant
     c.index_mut-2.result.now c.attend.new.door
     refl c.requires.below c.index_mut.ensures.value c.index_mut-2.ensures.value c.attend.ensures.went c.attend.ensures.same refl refl

@@ -9,4 +9,4 @@ returns-then-polls_mail-clause-served g c =
     let one = c.act-progress.new in
     let two = c.act.new in
     serves_on g.L.Line.seen at g.K.QueueCore.machine g.K.QueueCore.comparisons g.C.Clock.given g.D.Door.same
-    c.args.hub.now one.hub two.hub c.args.row.now one.row two.row [] c.act-progress.ensures.served c.act.ensures.served
+    c.args.core.now one.core two.core c.args.row.now one.row two.row [] c.act-progress.ensures.served c.act.ensures.served

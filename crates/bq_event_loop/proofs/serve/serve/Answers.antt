@@ -1,7 +1,7 @@
 use Rattle.std.proofs.Common.{◌≤◌, ◌++◌, ◌∙◌, [], ap, length, refl, subst, sym}
 use Rattle.bq_driver.specs.Tending.{door_seen}
 use Rattle.bq_event_loop.proofs.ControlLemmas.{tells_none, tells_then}
-use Rattle.bq_event_loop.proofs.HubLemmas.{order_woken}
+use Rattle.bq_event_loop.proofs.LoopCoreLemmas.{order_woken}
 use Rattle.bq_event_loop.proofs.RowLemmas.{rested_none}
 use Rattle.bq_event_loop.proofs.ServingLemmas.{serves_none, serves_on, serves_rested, serves_then, serves_woken}
 use Rattle.bq_event_loop.proofs.serve.serve.Goals as goal
@@ -19,7 +19,7 @@ loop-init g c =
         [],
         tells_none g.I.ControlInput.seen g.I.ControlInput.remaining g.I.ControlInput.may_fail c.args.control.now,
         serves_none g.L.Line.seen at g.K.QueueCore.machine g.K.QueueCore.comparisons g.C.Clock.given g.D.Door.same
-            c.args.hub.now c.args.row.now,
+            c.args.core.now c.args.row.now,
       );
     }
 
@@ -46,13 +46,13 @@ returns-then-take_turn-clause-served g c =
     let rests = c.next-turn.ensures.rests row (rested_none g.L.Line.seen at g.D.Door.same row.seats.items row.doors.items) in
     let i = c.loop.invariant.served in
     let t = c.take_turn.ensures.served in
-    let rested = serves_on g.L.Line.seen at machine compared g.C.Clock.given g.D.Door.same c.args.hub.now c.loop.hub c.loop.hub
+    let rested = serves_on g.L.Line.seen at machine compared g.C.Clock.given g.D.Door.same c.args.core.now c.loop.core c.loop.core
     c.args.row.now row c.next-turn.new.row i.0 i.2
-    (serves_rested g.L.Line.seen at machine compared g.C.Clock.given g.D.Door.same c.loop.hub row c.next-turn.new.row rests) in (
+    (serves_rested g.L.Line.seen at machine compared g.C.Clock.given g.D.Door.same c.loop.core row c.next-turn.new.row rests) in (
       i.0 ++ t.0,
       tells_then g.I.ControlInput.seen g.I.ControlInput.remaining g.I.ControlInput.may_fail c.args.control.now c.loop.control
           c.take_turn.new.control i.0 t.0 i.1 t.1,
-      serves_then g.L.Line.seen at machine compared g.C.Clock.given g.D.Door.same c.args.hub.now c.loop.hub c.take_turn.new.hub
+      serves_then g.L.Line.seen at machine compared g.C.Clock.given g.D.Door.same c.args.core.now c.loop.core c.take_turn.new.core
           c.args.row.now c.next-turn.new.row c.take_turn.new.row i.0 t.0 rested t.2,
     )
 
@@ -65,21 +65,21 @@ loop-preserved g c =
     let rests = c.next-turn.ensures.rests row (rested_none g.L.Line.seen at g.D.Door.same row.seats.items row.doors.items) in
     let i = c.loop.invariant.served in
     let t = c.take_turn.ensures.served in
-    let hub = c.take_turn.new.hub in
+    let core = c.take_turn.new.core in
     let later = c.take_turn.new.row in
-    let woken = c.wake_all.new.hub in
+    let woken = c.wake_all.new.core in
     let same = c.wake_all.ensures in
-    let rested = serves_on g.L.Line.seen at machine compared g.C.Clock.given g.D.Door.same c.args.hub.now c.loop.hub c.loop.hub
+    let rested = serves_on g.L.Line.seen at machine compared g.C.Clock.given g.D.Door.same c.args.core.now c.loop.core c.loop.core
     c.args.row.now row c.next-turn.new.row i.0 i.2
-    (serves_rested g.L.Line.seen at machine compared g.C.Clock.given g.D.Door.same c.loop.hub row c.next-turn.new.row rests) in
-    let turned = serves_then g.L.Line.seen at machine compared g.C.Clock.given g.D.Door.same c.args.hub.now c.loop.hub hub c.args.row.now
+    (serves_rested g.L.Line.seen at machine compared g.C.Clock.given g.D.Door.same c.loop.core row c.next-turn.new.row rests) in
+    let turned = serves_then g.L.Line.seen at machine compared g.C.Clock.given g.D.Door.same c.args.core.now c.loop.core core c.args.row.now
     c.next-turn.new.row later i.0 t.0 rested t.2 in
-    let all = serves_on g.L.Line.seen at machine compared g.C.Clock.given g.D.Door.same c.args.hub.now hub woken c.args.row.now later
+    let all = serves_on g.L.Line.seen at machine compared g.C.Clock.given g.D.Door.same c.args.core.now core woken c.args.row.now later
     later (i.0 ++ t.0) turned
-    (serves_woken g.L.Line.seen at machine compared g.C.Clock.given g.D.Door.same hub woken later same) in
+    (serves_woken g.L.Line.seen at machine compared g.C.Clock.given g.D.Door.same core woken later same) in
     record {
       iterator = (tt, tt);
-      order = order_woken machine compared hub woken same c.take_turn.ensures.order;
+      order = order_woken machine compared core woken same c.take_turn.ensures.order;
       tended = c.take_turn.ensures.tended;
       mailed = all.mailed ∙ c.requires.mailed ∙ sym all.many;
       few = subst (λ n. n ≤ 65535) (sym all.many) c.requires.few;

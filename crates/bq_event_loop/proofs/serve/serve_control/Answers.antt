@@ -1,6 +1,6 @@
 use Rattle.std.proofs.Common.{[], ◌++◌, ◌∙◌, length, refl}
 use Rattle.bq_event_loop.proofs.ControlLemmas.{tells_none, tells_on, tells_then}
-use Rattle.bq_event_loop.proofs.HubLemmas.{went_none, went_then}
+use Rattle.bq_event_loop.proofs.LoopCoreLemmas.{went_none, went_then}
 use Rattle.bq_event_loop.proofs.serve.serve_control.Goals as goal
 
 pub loop-init : goal.loop-init
@@ -11,7 +11,7 @@ loop-init g c = record {
   served = (
     [],
     tells_none g.I.ControlInput.seen g.I.ControlInput.remaining g.I.ControlInput.may_fail c.args.control.now,
-    went_none g.K.QueueCore.machine g.K.QueueCore.comparisons g.C.Clock.given (length c.args.hub.now.mails.items) c.args.hub.now,
+    went_none g.K.QueueCore.machine g.K.QueueCore.comparisons g.C.Clock.given (length c.args.core.now.mails.items) c.args.core.now,
   );
 }
 
@@ -22,8 +22,8 @@ returns-then-not-submit_owed-clause-served g c =
       i.0 ++ s.0,
       tells_then g.I.ControlInput.seen g.I.ControlInput.remaining g.I.ControlInput.may_fail c.args.control.now c.loop.control
           c.submit_owed.new.control i.0 s.0 i.1 s.1,
-      went_then g.K.QueueCore.machine g.K.QueueCore.comparisons g.C.Clock.given (length c.args.hub.now.mails.items)
-          (length c.loop.hub.mails.items) c.args.hub.now c.loop.hub c.submit_owed.new.hub i.0 s.0 [] [] c.loop.invariant.many i.2 s.2,
+      went_then g.K.QueueCore.machine g.K.QueueCore.comparisons g.C.Clock.given (length c.args.core.now.mails.items)
+          (length c.loop.core.mails.items) c.args.core.now c.loop.core c.submit_owed.new.core i.0 s.0 [] [] c.loop.invariant.many i.2 s.2,
     )
 
 pub returns-then-stops-clause-served : goal.returns-then-stops-clause-served
@@ -33,8 +33,8 @@ returns-then-stops-clause-served g c =
       i.0 ++ s.0,
       tells_then g.I.ControlInput.seen g.I.ControlInput.remaining g.I.ControlInput.may_fail c.args.control.now c.loop.control
           c.submit_owed.new.control i.0 s.0 i.1 s.1,
-      went_then g.K.QueueCore.machine g.K.QueueCore.comparisons g.C.Clock.given (length c.args.hub.now.mails.items)
-          (length c.loop.hub.mails.items) c.args.hub.now c.loop.hub c.submit_owed.new.hub i.0 s.0 [] [] c.loop.invariant.many i.2 s.2,
+      went_then g.K.QueueCore.machine g.K.QueueCore.comparisons g.C.Clock.given (length c.args.core.now.mails.items)
+          (length c.loop.core.mails.items) c.args.core.now c.loop.core c.submit_owed.new.core i.0 s.0 [] [] c.loop.invariant.many i.2 s.2,
     )
 
 pub loop-preserved : goal.loop-preserved
@@ -51,7 +51,7 @@ loop-preserved g c =
             c.read.new.self (i.0 ++ s.0)
             (tells_then g.I.ControlInput.seen g.I.ControlInput.remaining g.I.ControlInput.may_fail c.args.control.now c.loop.control
             c.submit_owed.new.control i.0 s.0 i.1 s.1) c.read.ensures,
-        went_then g.K.QueueCore.machine g.K.QueueCore.comparisons g.C.Clock.given (length c.args.hub.now.mails.items)
-            (length c.loop.hub.mails.items) c.args.hub.now c.loop.hub c.submit_owed.new.hub i.0 s.0 [] [] c.loop.invariant.many i.2 s.2,
+        went_then g.K.QueueCore.machine g.K.QueueCore.comparisons g.C.Clock.given (length c.args.core.now.mails.items)
+            (length c.loop.core.mails.items) c.args.core.now c.loop.core c.submit_owed.new.core i.0 s.0 [] [] c.loop.invariant.many i.2 s.2,
       );
     }

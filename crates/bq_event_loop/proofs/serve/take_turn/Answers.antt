@@ -10,7 +10,7 @@ returns-then-is_over-clause-served g c =
       [],
       tells_none g.I.ControlInput.seen g.I.ControlInput.remaining g.I.ControlInput.may_fail c.args.control.now,
       serves_none g.L.Line.seen at g.K.QueueCore.machine g.K.QueueCore.comparisons g.C.Clock.given g.D.Door.same
-          c.args.hub.now c.args.row.now,
+          c.args.core.now c.args.row.now,
     )
 
 pub returns-in-Control-clause-served : goal.returns-in-Control-clause-served
@@ -19,8 +19,8 @@ returns-in-Control-clause-served g c =
     let s = c.serve_control.ensures.served in (
       s.0,
       s.1,
-      serves_control g.L.Line.seen at g.K.QueueCore.machine g.K.QueueCore.comparisons g.C.Clock.given g.D.Door.same c.args.hub.now
-          c.serve_control.new.hub c.args.row.now _ s.0 c.requires.mailed s.2,
+      serves_control g.L.Line.seen at g.K.QueueCore.machine g.K.QueueCore.comparisons g.C.Clock.given g.D.Door.same c.args.core.now
+          c.serve_control.new.core c.args.row.now _ s.0 c.requires.mailed s.2,
     )
 
 pub returns-else-is_over-clause-served : goal.returns-else-is_over-clause-served
@@ -28,6 +28,6 @@ returns-else-is_over-clause-served g c =
     let at = door_seen g.D.Door.is_out g.D.Door.is_at_end g.D.Door.lines_over in (
       [],
       tells_none g.I.ControlInput.seen g.I.ControlInput.remaining g.I.ControlInput.may_fail c.args.control.now,
-      serves_time g.L.Line.seen at g.K.QueueCore.machine g.K.QueueCore.comparisons g.C.Clock.given g.D.Door.same c.args.hub.now
+      serves_time g.L.Line.seen at g.K.QueueCore.machine g.K.QueueCore.comparisons g.C.Clock.given g.D.Door.same c.args.core.now
           c.pass_time-news.new.self c.args.row.now 0 c.pass_time-news.ensures.went,
     )

@@ -2,4 +2,4 @@ use Rattle.std.proofs.Common.{◌≡◌}
 use Rattle.bq_event_loop.proofs.serve.wake_all.Given as goal
 
 abbrev pub invariant-loop : goal.invariant-loop
-invariant-loop g l = l.hub ≡ record l.fn.hub { woken = l.hub.woken }
+invariant-loop g l = l.core ≡ record l.fn.core { woken = l.core.woken }

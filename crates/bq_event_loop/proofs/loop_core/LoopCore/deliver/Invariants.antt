@@ -1,0 +1,14 @@
+use Rattle.std.proofs.Common.{◌≡◌, length}
+use Rattle.bq_event_loop.specs.LoopCores.{state_of}
+use Rattle.bq_event_loop.specs.LoopStates.{IsSorted}
+use Rattle.bq_event_loop.proofs.loop_core.LoopCore.deliver.Given as goal
+
+abbrev pub invariant-loop-seat : goal.invariant-loop-seat
+invariant-loop-seat g l = record {
+  sorted : IsSorted (state_of g.K.QueueCore.machine g.K.QueueCore.comparisons l.fn.self)
+      (state_of g.K.QueueCore.machine g.K.QueueCore.comparisons l.self);
+  clock : l.self.timed.time.clock ≡ l.fn.self.timed.time.clock;
+}
+
+abbrev pub decreases-loop-seat : goal.decreases-loop-seat
+decreases-loop-seat g l = length (state_of g.K.QueueCore.machine g.K.QueueCore.comparisons l.self).pending

@@ -1,0 +1,19 @@
+use Rattle.std.proofs.Common.{refl, ap}
+use Rattle.bq_job.specs.machine.Machine.{Machine}
+use Rattle.bq_event_loop.proofs.LoopCoreLemmas.{none_pending_over, order_ready, went_over}
+use Rattle.bq_event_loop.proofs.loop_core.LoopCore.is_due.Goals as goal
+
+pub returns-clause-order : goal.returns-clause-order
+returns-clause-order g c =
+    let d = c.is_due.ensures in
+    let machine = g.K.QueueCore.machine in
+    let compared = g.K.QueueCore.comparisons in
+    let old = c.args.self.now in
+    order_ready machine compared old (record old { timed = c.is_due.new.self }) d.ready (ap (λ (m : Machine). m.settings) d.same) refl
+    (none_pending_over machine compared g.C.Clock.given old c.is_due.new.self d.over c.requires.order) c.requires.order
+
+pub returns-clause-went : goal.returns-clause-went
+returns-clause-went g c =
+    let old = c.args.self.now in
+    went_over g.K.QueueCore.machine g.K.QueueCore.comparisons g.C.Clock.given 0 old
+    (record old { timed = c.is_due.new.self }) c.is_due.ensures.over refl refl

@@ -1,0 +1,56 @@
+-- The state of a loop's core without its clock.
+use Rattle.std.specs.Prelude.{ℕ, ◌≡◌, ◌<◌, ◌≤◌, Bool, true, false, List, [], ◌∷◌, ◌++◌, Option, length, replicate, slice_index_or}
+use Rattle.bq_job.specs.beside.NextDue.{next_due}
+use Rattle.bq_job.specs.declared.answer.Answer.{Answer}
+use Rattle.bq_job.specs.declared.settings.Settings.{Settings}
+use Rattle.bq_job.specs.machine.Dispatch.{GivenAnswer}
+use Rattle.bq_job.specs.machine.Machine.{Machine, new_machine}
+use Rattle.bq_job.specs.promise.Runs.{answers_to}
+
+pub record LoopState : Type 0 where
+  pub core : Machine
+  -- the mail of each seat, and the answers that are not in it yet
+  pub mails : List (List Answer)
+  pub pending : List GivenAnswer
+  pub sorted : Bool
+  -- the latest moment of the clock
+  pub heard : ℕ
+  -- the most answers that a step can give
+  pub most : ℕ
+  -- the next due moment, if it is known, and the comparisons so far
+  pub known : Bool
+  pub due : Option ℕ
+  pub compared : ℕ
+
+-- the answers that wait for a seat
+abbrev pub waiting : ℕ → LoopState → List Answer
+waiting seat d = slice_index_or d.mails seat [] ++ answers_to seat d.pending
+
+-- A new core of a loop.
+pub record IsNewLoopCore (settings : Settings) (d : LoopState) : Type 0 where
+  pub core : d.core ≡ new_machine settings
+  pub mails : d.mails ≡ replicate settings.seats []
+  pub pending : d.pending ≡ []
+  pub heard : d.heard ≡ 0
+  pub room : settings.seats < d.most
+  pub unknown : d.known ≡ false
+  pub none_compared : d.compared ≡ 0
+
+-- Each seat has its mail, there is room for the answers of a step, and the marks about answers and
+-- the next due moment are right.
+pub record IsInOrder (d : LoopState) : Type 0 where
+  pub many : length d.mails ≡ d.core.settings.seats
+  pub room : d.core.settings.seats < d.most
+  pub none_pending : d.sorted ≡ true → d.pending ≡ []
+  pub due_is : d.known ≡ true → d.due ≡ next_due d.core
+
+-- Answers moved from one place of a loop's core to another, which makes no difference to any seat.
+pub record IsSorted (first last : LoopState) : Type 0 where
+  pub core : last.core ≡ first.core
+  pub heard : last.heard ≡ first.heard
+  pub most : last.most ≡ first.most
+  pub known : last.known ≡ first.known
+  pub due : last.due ≡ first.due
+  pub compared : last.compared ≡ first.compared
+  pub many : length last.mails ≡ length first.mails
+  pub waiting_is : (seat : ℕ) → seat < length first.mails → waiting seat last ≡ waiting seat first

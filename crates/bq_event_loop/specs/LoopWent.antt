@@ -1,0 +1,39 @@
+-- What happened at the core of a loop: the core took steps, and answers were taken out.
+use Rattle.std.specs.Prelude.{ℕ, ◌≡◌, ◌≢◌, ◌<◌, List, [], ◌++◌, length, Option}
+use Rattle.bq_job.specs.declared.answer.Answer.{Answer}
+use Rattle.bq_job.specs.declared.step.Step.{Step}
+use Rattle.bq_job.specs.machine.Dispatch.{GivenAnswer}
+use Rattle.bq_job.specs.machine.Machine.{Machine}
+use Rattle.bq_job.specs.promise.History.{IsTimedFrom, steps_at}
+use Rattle.bq_job.specs.promise.Runs.{Entry, Run, answers_to}
+use Rattle.bq_host.specs.Compared.{AreWithin, LooksOnce}
+use Rattle.bq_event_loop.specs.LoopStates.{LoopState, waiting}
+
+-- Along this history, counted from this many comparisons on, the core stayed within the bounds of
+-- its steps, and was asked for the next due moment at most once since the last step.
+abbrev pub HasCompared : Machine → List Entry → List GivenAnswer → ℕ → LoopState → Type 0
+HasCompared start history given from d = (count : ℕ) × AreWithin start history given d.core from count
+    × LooksOnce d.known d.core count d.compared
+
+-- The core took the steps of this history at moments of these readings, within its bounds of comparisons, and at each seat these
+-- answers were taken out.
+pub record LoopWent (first : LoopState) (readings : List (Option ℕ)) (history : List Entry)
+    (taken : ℕ → List Answer) (last : LoopState) : Type 0 where
+  pub given : List GivenAnswer
+  pub runs : Run first.core history given last.core
+  pub timed : IsTimedFrom first.heard readings history last.heard
+  pub many : length last.mails ≡ length first.mails
+  pub tied : (seat : ℕ) → seat < length first.mails → waiting seat first ++ answers_to seat given ≡ taken seat ++ waiting seat last
+  pub compared : (start : Machine) (before : List Entry) (gave : List GivenAnswer) (from : ℕ) → HasCompared start before gave from first
+      → HasCompared start (before ++ history) (gave ++ given) from last
+
+-- The same as one seat sees it: it alone submitted these steps and took these answers.
+pub record SeatWent (seat : ℕ) (first : LoopState) (readings : List (Option ℕ))
+    (submitted : List Step) (taken : List Answer) (last : LoopState) : Type 0 where
+  pub history : List Entry
+  pub took : ℕ → List Answer
+  pub went : LoopWent first readings history took last
+  pub submitted_is : steps_at seat history ≡ submitted
+  pub taken_is : took seat ≡ taken
+  pub others_still : (other : ℕ) → other ≢ seat → steps_at other history ≡ []
+  pub others_took : (other : ℕ) → other ≢ seat → took other ≡ []

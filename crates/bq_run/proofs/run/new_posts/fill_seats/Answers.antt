@@ -1,0 +1,37 @@
+use Rattle.std.proofs.Common.{◌≡◌, ◌-◌, ◌∙◌, vec_len, arith}
+use Rattle.bq_driver.specs.Tending.{IsNewDoor, door_seen}
+use Rattle.bq_run.specs.Ends.{IsNewEnd}
+use Rattle.bq_host.proofs.ListLemmas.{all_pushed, all_taken, popped_passes, put_behind}
+use Rattle.bq_run.proofs.run.new_posts.fill_seats.Goals as goal
+
+pub loop-door-preserved : goal.loop-door-preserved
+loop-door-preserved g c =
+    let at = door_seen g.D.Door.is_out g.D.Door.is_at_end g.D.Door.lines_over in
+    let i = c.loop-door.invariant in
+    record {
+      many = let h = i.many in let e = c.in-Some.ensures.len in let f = c.in-Some-pop.ensures.len in omega arith;
+      limits = all_pushed c.loop-door.posts.items _ c.in_ok-post.post
+          (λ p. p.max_job_size ≡ c.args.max_job_size) c.in-Ok.ensures.items i.limits c.in_ok-post.ensures.limit;
+      of_intake = all_taken (vec_len c.loop-door.ends - 1) c.loop-door.ends.items _
+          (λ e. e.intake ≡ c.args.intake.now.id) c.pop-in-Some.ensures.rest i.of_intake;
+      new_ends = all_taken (vec_len c.loop-door.ends - 1) c.loop-door.ends.items _ (λ e. IsNewEnd e) c.pop-in-Some.ensures.rest i.new_ends;
+      new = all_taken (vec_len c.loop-door.doors - 1) c.loop-door.doors.items _ (λ d. IsNewDoor (at d)) c.pop.ensures.rest i.new;
+      whole = put_behind (λ p. p.end) c.loop-door.ends.items _ c.in-Some-pop.end c.loop-door.posts.items _ c.in_ok-post.post
+          c.in-Some-pop.ensures.items c.in-Ok.ensures.items c.in_ok-post.ensures.end ∙ i.whole;
+      doors = put_behind (λ p. p.door) c.loop-door.doors.items _ c.in-Some.door c.loop-door.posts.items _ c.in_ok-post.post
+          c.in-Some.ensures.items c.in-Ok.ensures.items c.in_ok-post.ensures.door ∙ i.doors;
+    }
+
+pub new-requires-clause-of_intake : goal.new-requires-clause-of_intake
+new-requires-clause-of_intake g c =
+    popped_passes c.loop-door.ends.items _ c.in-Some-pop.end
+    (λ e. e.intake ≡ c.args.intake.now.id) c.in-Some-pop.ensures.items c.loop-door.invariant.of_intake
+
+pub new-requires-clause-new_end : goal.new-requires-clause-new_end
+new-requires-clause-new_end g c = popped_passes c.loop-door.ends.items _ c.in-Some-pop.end
+    (λ e. IsNewEnd e) c.in-Some-pop.ensures.items c.loop-door.invariant.new_ends
+
+pub new-requires-clause-new : goal.new-requires-clause-new
+new-requires-clause-new g c =
+    let at = door_seen g.D.Door.is_out g.D.Door.is_at_end g.D.Door.lines_over in
+    popped_passes c.loop-door.doors.items _ c.in-Some.door (λ d. IsNewDoor (at d)) c.in-Some.ensures.items c.loop-door.invariant.new

@@ -1,0 +1,159 @@
+use Rattle.std.proofs.Common.{◌≡◌, ◌∙◌, List, ap, false, map, true, vec_len, subst, sym, arith, Err}
+use Rattle.std.specs.List.{All}
+use Rattle.std.specs.Prelude.{reverse}
+use Rattle.bq_job.specs.declared.settings.Settings.{Settings}
+use Rattle.bq_driver.specs.Tending.{AreSame, door_seen}
+use Rattle.bq_host.specs.declared.fault.RunFault.TheVariants.{BadConfiguration}
+use Rattle.bq_link.specs.EndStates.{SeatState}
+use Rattle.bq_run.specs.ThreadRuns.{IsRunOf}
+use Rattle.bq_run.proofs.LinkedLemmas.{all_at_end, all_done, core_keeps, core_over_of, run_joined, served_of, still_doored}
+use Rattle.bq_run.proofs.SettleLemmas.{same_run}
+use Rattle.bq_run.proofs.ThreadLemmas.{back_paired, no_fault, other_fault, well_configured}
+use Rattle.bq_run.proofs.run.run_threads.Goals as goal
+
+pub returns-in-Err-clause-bad_configuration : goal.returns-in-Err-clause-bad_configuration
+returns-in-Err-clause-bad_configuration g c =
+    well_configured _ c.args.config c.in_ok-new_core.new_core.config
+    (vec_len c.args.doors) c.in_ok-new_core.ensures.config c.in_ok-new_core.new_core.range
+    (let b = c.if-len-from.false in let d = c.len.ensures in let e = c.from.ensures in omega arith)
+    (λ e. let same : c.in-Err.fault ≡ BadConfiguration = cc in absurd (c.serve_in_scope.ensures.fault (c.in-Err.is ∙ ap (λ f. Err f) same)))
+
+pub returns-in_default-clause-bad_configuration : goal.returns-in_default-clause-bad_configuration
+returns-in_default-clause-bad_configuration g c =
+    well_configured _ c.args.config c.in_ok-new_core.new_core.config
+    (vec_len c.args.doors) c.in_ok-new_core.ensures.config c.in_ok-new_core.new_core.range
+    (let b = c.if-len-from.false in let d = c.len.ensures in let e = c.from.ensures in omega arith) other_fault
+
+pub returns-in_default-new_posts-clause-bad_configuration : goal.returns-in_default-new_posts-clause-bad_configuration
+returns-in_default-new_posts-clause-bad_configuration g c =
+    well_configured _ c.args.config c.in_ok-new_core.new_core.config
+    (vec_len c.args.doors) c.in_ok-new_core.ensures.config c.in_ok-new_core.new_core.range
+    (let b = c.if-len-from.false in let d = c.len.ensures in let e = c.from.ensures in omega arith) other_fault
+
+pub returns-clause-bad_configuration : goal.returns-clause-bad_configuration
+returns-clause-bad_configuration g c =
+    well_configured _ c.args.config c.in_ok-new_core.new_core.config
+    (vec_len c.args.doors) c.in_ok-new_core.ensures.config c.in_ok-new_core.new_core.range
+    (let b = c.if-len-from.false in let d = c.len.ensures in let e = c.from.ensures in omega arith) (no_fault _ BadConfiguration)
+
+pub settled_run-requires-clause-of_intake : goal.settled_run-requires-clause-of_intake
+settled_run-requires-clause-of_intake g c =
+    let p = c.in-Ok-new_posts.ensures in
+    let ended = c.in-Ok-serve_in_scope.ended in
+    let o = core_over_of g.C.Clock.given c.args.config _ c.in-Ok.core_end _ c.args.clock _ ended.core_end (g.K.QueueCore.machine ended.core)
+    (g.K.QueueCore.comparisons ended.core) ended.clock
+    (p.config ∙ c.in_ok-new_core.ensures.config) p.core p.clock c.in-Ok-serve_in_scope.ensures.core in
+    o.same.0 ∙ c.in-Ok.ensures.core.0
+
+pub settled_run-requires-clause-pairs : goal.settled_run-requires-clause-pairs
+settled_run-requires-clause-pairs g c =
+    let at = door_seen g.D.Door.is_out g.D.Door.is_at_end g.D.Door.lines_over in
+    let config = c.args.config in
+    let p = c.in-Ok-new_posts.ensures in
+    let v = c.in-Ok-serve_in_scope.ensures in
+    let ended = c.in-Ok-serve_in_scope.ended in
+    let ends = ended.ends in
+    let posts = c.in-Ok-new_posts.posts in
+    let is = p.config ∙ c.in_ok-new_core.ensures.config in
+    let all = c.in-Ok.ends.items in
+    let firsts : List SeatState = reverse (map (λ q. q.end) posts.ends.seats.items) in
+    let lasts = ends.ends.items in
+    let o = core_over_of g.C.Clock.given config _ c.in-Ok.core_end _ c.args.clock _ ended.core_end (g.K.QueueCore.machine ended.core)
+    (g.K.QueueCore.comparisons ended.core) ended.clock is p.core p.clock v.core in
+    let s = served_of at config.max_job_size _ firsts lasts ends.doors.items
+    (p.limit ∙ ap (λ (s : Settings). s.max_job_size) c.in_ok-new_core.ensures.config) v.over.served in
+    let k = v.over.control in
+    back_paired at config.max_job_size c.in-Ok.core_end ended.core_end all firsts lasts ends.doors.items posts.ends.control.end
+    ends.control_end c.in-Ok.ensures.seats.1 p.ends s k.same o.same
+
+pub returns-clause-served : goal.returns-clause-served
+returns-clause-served g c =
+    let at = door_seen g.D.Door.is_out g.D.Door.is_at_end g.D.Door.lines_over in
+    let config = c.args.config in
+    let p = c.in-Ok-new_posts.ensures in
+    let v = c.in-Ok-serve_in_scope.ensures in
+    let ended = c.in-Ok-serve_in_scope.ended in
+    let ends = ended.ends in
+    let posts = c.in-Ok-new_posts.posts in
+    let is = p.config ∙ c.in_ok-new_core.ensures.config in
+    let all = c.in-Ok.ends.items in
+    let firsts : List SeatState = reverse (map (λ q. q.end) posts.ends.seats.items) in
+    let lasts = ends.ends.items in
+    let o = core_over_of g.C.Clock.given config _ c.in-Ok.core_end _ c.args.clock _ ended.core_end (g.K.QueueCore.machine ended.core)
+    (g.K.QueueCore.comparisons ended.core) ended.clock is p.core p.clock v.core in
+    let s = served_of at config.max_job_size _ firsts lasts ends.doors.items
+    (p.limit ∙ ap (λ (s : Settings). s.max_job_size) c.in_ok-new_core.ensures.config) v.over.served in
+    let k = v.over.control in
+    let doored = still_doored at config.max_job_size config.seats all firsts lasts ends.doors.items posts.ends.control.end p.ends
+    c.in-Ok.ensures.seats.0 s in
+    let run = c.settled_run.result in
+    let f = c.settled_run.ensures in
+    let done =
+    all_done at g.C.Clock.given g.I.Read.remaining g.I.ControlReader.may_fail config ends.doors.items c.in-Ok.core_end ended.core_end
+    run.core_end firsts lasts run.ends.items posts.ends.control.end ends.control_end c.args.clock ended.clock c.args.control
+    ends.control (g.K.QueueCore.machine ended.core) (g.K.QueueCore.comparisons ended.core) doored s o k f.core f.ends f.settled in
+    let j = run_joined at config o.readings ends.control.read ends.control.failed run.core_end (g.K.QueueCore.machine ended.core)
+    (g.K.QueueCore.comparisons ended.core) run.ends.items ends.doors.items done in
+    same_run (IsRunOf g.C.Clock.given g.D.Door.lines_over g.I.Read.remaining g.I.ControlReader.may_fail g.K.QueueCore.machine
+    g.K.QueueCore.comparisons config c.args.clock c.args.control) run ended f.rest.0 f.rest.1 f.rest.2 f.rest.3 (record {
+      readings = o.readings;
+      gave = o.gave;
+      over = k.over;
+      read = k.read;
+      fault = k.fault;
+      history = j.history;
+      linked = j.linked;
+      of_intake = f.core.same.0 ∙ o.same.0 ∙ c.in-Ok.ensures.core.0 ∙ ap (λ i. i.id) (sym f.intake);
+      compared = j.compared;
+    })
+
+pub returns-clause-at_end : goal.returns-clause-at_end
+returns-clause-at_end g c =
+    let at = door_seen g.D.Door.is_out g.D.Door.is_at_end g.D.Door.lines_over in
+    let config = c.args.config in
+    let p = c.in-Ok-new_posts.ensures in
+    let v = c.in-Ok-serve_in_scope.ensures in
+    let ended = c.in-Ok-serve_in_scope.ended in
+    let ends = ended.ends in
+    let posts = c.in-Ok-new_posts.posts in
+    let is = p.config ∙ c.in_ok-new_core.ensures.config in
+    let all = c.in-Ok.ends.items in
+    let firsts : List SeatState = reverse (map (λ q. q.end) posts.ends.seats.items) in
+    let lasts = ends.ends.items in
+    let o = core_over_of g.C.Clock.given config _ c.in-Ok.core_end _ c.args.clock _ ended.core_end (g.K.QueueCore.machine ended.core)
+    (g.K.QueueCore.comparisons ended.core) ended.clock is p.core p.clock v.core in
+    let s = served_of at config.max_job_size _ firsts lasts ends.doors.items
+    (p.limit ∙ ap (λ (s : Settings). s.max_job_size) c.in_ok-new_core.ensures.config) v.over.served in
+    let k = v.over.control in
+    let doored = still_doored at config.max_job_size config.seats all firsts lasts ends.doors.items posts.ends.control.end p.ends
+    c.in-Ok.ensures.seats.0 s in
+    let run = c.settled_run.result in
+    let f = c.settled_run.ensures in
+    let done =
+    all_done at g.C.Clock.given g.I.Read.remaining g.I.ControlReader.may_fail config ends.doors.items c.in-Ok.core_end ended.core_end
+    run.core_end firsts lasts run.ends.items posts.ends.control.end ends.control_end c.args.clock ended.clock c.args.control
+    ends.control (g.K.QueueCore.machine ended.core) (g.K.QueueCore.comparisons ended.core) doored s o k f.core f.ends f.settled in
+    same_run (λ r. All (λ door. (g.D.Door.is_out door ≡ false) × (g.D.Door.is_at_end door ≡ true)) r.doors.items) run ended f.rest.0
+    f.rest.1 f.rest.2 f.rest.3
+    (all_at_end at config o.readings ends.control.read ends.control.failed run.core_end (g.K.QueueCore.machine ended.core)
+    (g.K.QueueCore.comparisons ended.core) run.ends.items ends.doors.items done)
+
+pub returns-clause-same : goal.returns-clause-same
+returns-clause-same g c =
+    let v = c.in-Ok-serve_in_scope.ensures in
+    let ended = c.in-Ok-serve_in_scope.ended in
+    let f = c.settled_run.ensures in
+    same_run (λ r. AreSame g.D.Door.same c.args.doors.items r.doors.items) c.settled_run.result ended f.rest.0 f.rest.1 f.rest.2 f.rest.3
+    (subst (λ (xs : List _). AreSame g.D.Door.same xs ended.ends.doors.items) c.in-Ok-new_posts.ensures.doors v.over.same)
+
+pub returns-clause-settings : goal.returns-clause-settings
+returns-clause-settings g c =
+    let config = c.args.config in
+    let p = c.in-Ok-new_posts.ensures in
+    let ended = c.in-Ok-serve_in_scope.ended in
+    let is = p.config ∙ c.in_ok-new_core.ensures.config in
+    let o = core_over_of g.C.Clock.given config _ c.in-Ok.core_end _ c.args.clock _ ended.core_end (g.K.QueueCore.machine ended.core)
+    (g.K.QueueCore.comparisons ended.core) ended.clock is p.core p.clock c.in-Ok-serve_in_scope.ensures.core in
+    ap (λ k. (g.K.QueueCore.machine k).settings) c.settled_run.ensures.rest.3
+    ∙ core_keeps c.steps_keep_settings.ensures config o.readings ended.core_end (g.K.QueueCore.machine ended.core)
+    (g.K.QueueCore.comparisons ended.core) o.done
