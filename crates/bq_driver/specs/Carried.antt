@@ -9,6 +9,7 @@ use Rattle.bq_driver.specs.Links.{as_submitted}
 use Rattle.bq_driver.specs.declared.progress.Progress.{Progress}
 use Rattle.bq_driver.specs.declared.progress.Progress.TheVariants as results
 use Rattle.bq_line.specs.LineCalls.{with_line_fault}
+use Rattle.bq_line.specs.Streams.{StaysOver, StreamSeen}
 use Rattle.bq_seat.specs.SeatMoves.{IsMove}
 use Rattle.bq_driver.specs.Writing.{BreaksOff, with_begun, with_written}
 use Rattle.bq_seat.specs.declared.machine.Action.{Action}
@@ -71,6 +72,12 @@ Carried result old seen (actions.LineOver end) new later next submitted taken =
     IsLeft result old seen (actions.LineOver end) new later next submitted taken
 Carried result old seen actions.Stray new later next submitted taken =
     IsLeft result old seen actions.Stray new later next submitted taken
+
+-- A seat read its line with this result. The line lies over the same stream.
+abbrev pub ReadsLine : {L : Type 0} → (L → LineSeen) → (StreamSeen → L → Type 0) → Progress → SeatMachine → L → SeatMachine → L → Action
+    → Type 0
+ReadsLine seen lies_over result old line new later next =
+    Carried result old (seen line) actions.Read new (seen later) next [] [] × StaysOver lies_over line later
 
 -- What a line records while this action is carried out: if the action writes an answer, `sent`
 -- bytes of it are written.

@@ -12,7 +12,7 @@ ghost use Rattle.bq_job.specs.declared.step.Step.{Step};
 ghost use Rattle.bq_job.specs.promise.LineSteps.{LineSeen};
 ghost use Rattle.bq_line.specs.LineCalls.{after_fill, after_read};
 ghost use Rattle.bq_line.specs.Streams.{StaysOver};
-ghost use Rattle.bq_driver.specs.Carried.{Carried, CarriedPart, HasGone};
+ghost use Rattle.bq_driver.specs.Carried.{Carried, CarriedPart, HasGone, ReadsLine};
 ghost use Rattle.bq_driver.specs.Links.{Calls};
 
 use crate::buffers::{Buffers, Wrote, write_answer};
@@ -440,9 +440,7 @@ fn read<L: Line>(
     piece: &mut [u8],
 ) -> Progress
     requires { length piece.old ≡ PIECE_ROOM }
-    ensures carried { Carried result machine.old (L.seen line.old) Action.Read machine.new
-        (L.seen line.new) next.new [] [] }
-    ensures stays { StaysOver L.lies_over line.old line.new }
+    ensures { ReadsLine L.seen L.lies_over result machine.old line.old machine.new line.new next.new }
 {
     match fill_line(machine, line) {
         Ok(()) => hand_on(alloc, machine, next, line, piece),
@@ -459,9 +457,7 @@ fn hand_on<L: Line>(
     piece: &mut [u8],
 ) -> Progress
     requires { length piece.old ≡ PIECE_ROOM }
-    ensures carried { Carried result machine.old (L.seen line.old) Action.Read machine.new
-        (L.seen line.new) next.new [] [] }
-    ensures stays { StaysOver L.lies_over line.old line.new }
+    ensures { ReadsLine L.seen L.lies_over result machine.old line.old machine.new line.new next.new }
 {
     let count = line.unread().len().min(PIECE_ROOM);
     if count == 0 {
@@ -480,9 +476,7 @@ fn read_piece<L: Line>(
     piece: &mut [u8],
 ) -> Progress
     requires { length piece.old ≡ PIECE_ROOM }
-    ensures carried { Carried result machine.old (L.seen line.old) Action.Read machine.new
-        (L.seen line.new) next.new [] [] }
-    ensures stays { StaysOver L.lies_over line.old line.new }
+    ensures { ReadsLine L.seen L.lies_over result machine.old line.old machine.new line.new next.new }
 {
     match read_line(machine, line, piece) {
         Ok(0) => {

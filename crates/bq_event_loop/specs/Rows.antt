@@ -38,6 +38,12 @@ pub record AllRested {L D : Type 0} (seen : L → LineSeen) (at : D → DoorSeen
 abbrev pub RestsSince : {L D : Type 0} → (L → LineSeen) → (D → DoorSeen) → (D → D → Type 0) → Row L D → Row L D → Type 0
 RestsSince seen at same first row = AllRested seen at same first.seats.items first.doors.items row.seats.items row.doors.items
 
+-- Each seat has still done something for its door's lines, by the rules. In between it submitted no
+-- step and took no answer.
+abbrev pub KeepsRow : {L D : Type 0} → (L → LineSeen) → (D → DoorSeen) → (D → D → Type 0) → Row L D → Row L D → Type 0
+KeepsRow {L} {D} seen at same old new =
+    AreTended seen at new × ((first : Row L D) → RestsSince seen at same first old → RestsSince seen at same first new)
+
 -- Every seat is done.
 abbrev pub AreDone : {L : Type 0} → List (Attendant L) → Type 0
 AreDone {L} seats = (seat : ℕ) → seat < length seats → (a : Attendant L) → (slice_index_or seats seat a).place ≡ Done

@@ -10,8 +10,9 @@ use Rattle.bq_line.specs.GivenReadings.{GaveReadings}
 use Rattle.bq_driver.specs.Tending.{AreSame, DoorSeen, IsTended}
 use Rattle.bq_driver.specs.declared.attendant.Attendant.{Attendant}
 use Rattle.bq_event_loop.specs.LoopCores.{state_of}
-use Rattle.bq_event_loop.specs.LoopStates.{LoopState}
+use Rattle.bq_event_loop.specs.LoopStates.{IsInOrder, LoopState}
 use Rattle.bq_event_loop.specs.LoopWent.{LoopWent}
+use Rattle.bq_event_loop.specs.Rows.{AreTended}
 use Rattle.bq_event_loop.specs.declared.loop_core.LoopCore.{LoopCore}
 use Rattle.bq_event_loop.specs.declared.row.Row.{Row}
 
@@ -44,3 +45,16 @@ pub record ServesOn {C K L D : Type 0} (machine : K → Machine) (compared : K �
       → AreServed seen at max_job_size (before ++ control) first (readings ++ reads)
       (state_of machine compared new) later.seats.items later.doors.items
   pub same_doors : (doors : List D) → AreSame same doors row.doors.items → AreSame same doors later.doors.items
+
+-- The core of a loop and its seats are ready for a turn. The core is in order. Each seat has done
+-- something for its door's lines, by the rules, and has its mail.
+abbrev pub AreReady : {C K L D : Type 0} → (K → Machine) → (K → ℕ) → (L → LineSeen) → (D → DoorSeen) → LoopCore C K → Row L D → Type 0
+AreReady machine compared seen at core row =
+    IsInOrder (state_of machine compared core) × AreTended seen at row × (length core.mails.items ≡ length row.seats.items)
+
+-- A turn left the core and its seats in order, and the service went on.
+abbrev pub TurnServes : {C K L D : Type 0} → (K → Machine) → (K → ℕ) → (C → List (Option ℕ) → C → Type 0)
+    → (L → LineSeen) → (D → DoorSeen) → (D → D → Type 0) → LoopCore C K → Row L D → List Step → LoopCore C K → Row L D → Type 0
+TurnServes machine compared given seen at same old row control new later =
+    IsInOrder (state_of machine compared new) × AreTended seen at later
+    × ServesOn machine compared given seen at same old row control new later

@@ -7,7 +7,7 @@
 //! If several can, all lines are read first, then all steps are taken, and then all answers are
 //! written, so that each part finds its code and data in the processor's caches.
 ghost use Rattle.bq_driver.specs.Tending.{door_seen};
-ghost use Rattle.bq_event_loop.specs.Rows.{AreTended, RestsSince};
+ghost use Rattle.bq_event_loop.specs.Rows.{AreTended, KeepsRow};
 
 use crate::row::Row;
 use crate::turns::{ControlReads, ControlStands, News, Turn, Turns, TurnsFault};
@@ -135,9 +135,7 @@ impl<'r, R: rt::Clock> Poller<'r, R> {
         news: News,
     ) -> Turn
         requires tended { AreTended L.seen (door_seen D.is_out D.is_at_end D.lines_over) row.old }
-        ensures tended { AreTended L.seen (door_seen D.is_out D.is_at_end D.lines_over) row.new }
-        ensures rests { (first : Row L D) → RestsSince L.seen (door_seen D.is_out D.is_at_end D.lines_over) D.same first row.old
-            → RestsSince L.seen (door_seen D.is_out D.is_at_end D.lines_over) D.same first row.new }
+        ensures keeps { KeepsRow L.seen (door_seen D.is_out D.is_at_end D.lines_over) D.same row.old row.new }
     {
         match self.control.reads(news.control) {
             Some(reads) => {
@@ -155,9 +153,7 @@ impl<'r, R: rt::Clock> Poller<'r, R> {
         row: &mut Row<L, D>,
     ) -> Turn
         requires tended { AreTended L.seen (door_seen D.is_out D.is_at_end D.lines_over) row.old }
-        ensures tended { AreTended L.seen (door_seen D.is_out D.is_at_end D.lines_over) row.new }
-        ensures rests { (first : Row L D) → RestsSince L.seen (door_seen D.is_out D.is_at_end D.lines_over) D.same first row.old
-            → RestsSince L.seen (door_seen D.is_out D.is_at_end D.lines_over) D.same first row.new }
+        ensures keeps { KeepsRow L.seen (door_seen D.is_out D.is_at_end D.lines_over) D.same row.old row.new }
     {
         if self.accepts.may_come() {
             if let Some(seat) = self.queue.next_free() {
@@ -177,9 +173,7 @@ impl<'r, R: rt::Clock> Poller<'r, R> {
         seat: usize,
     )
         requires tended { AreTended L.seen (door_seen D.is_out D.is_at_end D.lines_over) row.old }
-        ensures tended { AreTended L.seen (door_seen D.is_out D.is_at_end D.lines_over) row.new }
-        ensures rests { (first : Row L D) → RestsSince L.seen (door_seen D.is_out D.is_at_end D.lines_over) D.same first row.old
-            → RestsSince L.seen (door_seen D.is_out D.is_at_end D.lines_over) D.same first row.new }
+        ensures keeps { KeepsRow L.seen (door_seen D.is_out D.is_at_end D.lines_over) D.same row.old row.new }
     {
         let may_have_come = self.accepts.may_come();
         let looked = row.look(alloc, seat, may_have_come);
@@ -210,9 +204,7 @@ impl<'r, R: rt::Clock> Poller<'r, R> {
     // Watches a line. A line that the system cannot watch is lost: its next read fails.
     fn watch_line<L: Line + Drop, D: Door<Line = L>>(&self, row: &mut Row<L, D>, seat: usize)
         requires tended { AreTended L.seen (door_seen D.is_out D.is_at_end D.lines_over) row.old }
-        ensures tended { AreTended L.seen (door_seen D.is_out D.is_at_end D.lines_over) row.new }
-        ensures rests { (first : Row L D) → RestsSince L.seen (door_seen D.is_out D.is_at_end D.lines_over) D.same first row.old
-            → RestsSince L.seen (door_seen D.is_out D.is_at_end D.lines_over) D.same first row.new }
+        ensures keeps { KeepsRow L.seen (door_seen D.is_out D.is_at_end D.lines_over) D.same row.old row.new }
     {
         if let Some(fd) = source_of_line(row, seat) {
             if !self.registers_line(fd, seat) {
@@ -236,9 +228,7 @@ impl<'r, R: rt::Clock> Poller<'r, R> {
         row: &mut Row<L, D>,
     ) -> Turn
         requires tended { AreTended L.seen (door_seen D.is_out D.is_at_end D.lines_over) row.old }
-        ensures tended { AreTended L.seen (door_seen D.is_out D.is_at_end D.lines_over) row.new }
-        ensures rests { (first : Row L D) → RestsSince L.seen (door_seen D.is_out D.is_at_end D.lines_over) D.same first row.old
-            → RestsSince L.seen (door_seen D.is_out D.is_at_end D.lines_over) D.same first row.new }
+        ensures keeps { KeepsRow L.seen (door_seen D.is_out D.is_at_end D.lines_over) D.same row.old row.new }
     {
         self.queue.begin_round();
         let part = Part::first(self.queue.round());
@@ -255,9 +245,7 @@ impl<'r, R: rt::Clock> Poller<'r, R> {
         progress: Progress,
     ) -> Turn
         requires tended { AreTended L.seen (door_seen D.is_out D.is_at_end D.lines_over) row.old }
-        ensures tended { AreTended L.seen (door_seen D.is_out D.is_at_end D.lines_over) row.new }
-        ensures rests { (first : Row L D) → RestsSince L.seen (door_seen D.is_out D.is_at_end D.lines_over) D.same first row.old
-            → RestsSince L.seen (door_seen D.is_out D.is_at_end D.lines_over) D.same first row.new }
+        ensures keeps { KeepsRow L.seen (door_seen D.is_out D.is_at_end D.lines_over) D.same row.old row.new }
     {
         if self.is_visiting {
             self.visit.note(progress);
@@ -277,9 +265,7 @@ impl<'r, R: rt::Clock> Poller<'r, R> {
         part: Part,
     ) -> Turn
         requires tended { AreTended L.seen (door_seen D.is_out D.is_at_end D.lines_over) row.old }
-        ensures tended { AreTended L.seen (door_seen D.is_out D.is_at_end D.lines_over) row.new }
-        ensures rests { (first : Row L D) → RestsSince L.seen (door_seen D.is_out D.is_at_end D.lines_over) D.same first row.old
-            → RestsSince L.seen (door_seen D.is_out D.is_at_end D.lines_over) D.same first row.new }
+        ensures keeps { KeepsRow L.seen (door_seen D.is_out D.is_at_end D.lines_over) D.same row.old row.new }
     {
         let Some(seat) = self.next_seat(part) else {
             return self.end_part(part);
@@ -322,9 +308,7 @@ impl<'r, R: rt::Clock> Poller<'r, R> {
         row: &mut Row<L, D>,
     ) -> bool
         requires tended { AreTended L.seen (door_seen D.is_out D.is_at_end D.lines_over) row.old }
-        ensures tended { AreTended L.seen (door_seen D.is_out D.is_at_end D.lines_over) row.new }
-        ensures rests { (first : Row L D) → RestsSince L.seen (door_seen D.is_out D.is_at_end D.lines_over) D.same first row.old
-            → RestsSince L.seen (door_seen D.is_out D.is_at_end D.lines_over) D.same first row.new }
+        ensures keeps { KeepsRow L.seen (door_seen D.is_out D.is_at_end D.lines_over) D.same row.old row.new }
     {
         let visit = self.visit;
         match pause_of(&visit, row) {
@@ -347,9 +331,7 @@ impl<'r, R: rt::Clock> Poller<'r, R> {
     // of the line would keep it, and in the end each door would hold a used buffer of 64 KB.
     fn take_back<L: Line + Drop, D: Door<Line = L>>(&mut self, row: &mut Row<L, D>)
         requires tended { AreTended L.seen (door_seen D.is_out D.is_at_end D.lines_over) row.old }
-        ensures tended { AreTended L.seen (door_seen D.is_out D.is_at_end D.lines_over) row.new }
-        ensures rests { (first : Row L D) → RestsSince L.seen (door_seen D.is_out D.is_at_end D.lines_over) D.same first row.old
-            → RestsSince L.seen (door_seen D.is_out D.is_at_end D.lines_over) D.same first row.new }
+        ensures keeps { KeepsRow L.seen (door_seen D.is_out D.is_at_end D.lines_over) D.same row.old row.new }
     {
         if self.visit.is_lent() {
             row.exchange(self.visit.seat(), &mut self.buffer);
@@ -366,9 +348,7 @@ impl<'r, R: rt::Clock> Poller<'r, R> {
         pause: Pause,
     )
         requires tended { AreTended L.seen (door_seen D.is_out D.is_at_end D.lines_over) row.old }
-        ensures tended { AreTended L.seen (door_seen D.is_out D.is_at_end D.lines_over) row.new }
-        ensures rests { (first : Row L D) → RestsSince L.seen (door_seen D.is_out D.is_at_end D.lines_over) D.same first row.old
-            → RestsSince L.seen (door_seen D.is_out D.is_at_end D.lines_over) D.same first row.new }
+        ensures keeps { KeepsRow L.seen (door_seen D.is_out D.is_at_end D.lines_over) D.same row.old row.new }
     {
         match pause {
             Pause::PartDone | Pause::IsDone => {}
@@ -383,9 +363,7 @@ impl<'r, R: rt::Clock> Poller<'r, R> {
     // not sleep and only polls the system.
     fn wait<L: Line + Drop, D: Door<Line = L>>(&mut self, row: &mut Row<L, D>, news: News)
         requires tended { AreTended L.seen (door_seen D.is_out D.is_at_end D.lines_over) row.old }
-        ensures tended { AreTended L.seen (door_seen D.is_out D.is_at_end D.lines_over) row.new }
-        ensures rests { (first : Row L D) → RestsSince L.seen (door_seen D.is_out D.is_at_end D.lines_over) D.same first row.old
-            → RestsSince L.seen (door_seen D.is_out D.is_at_end D.lines_over) D.same first row.new }
+        ensures keeps { KeepsRow L.seen (door_seen D.is_out D.is_at_end D.lines_over) D.same row.old row.new }
     {
         let most = self.longest_wait(news);
         // A failed wait reports nothing.
@@ -492,9 +470,7 @@ fn note_events<L: Line + Drop, D: Door<Line = L>>(
     control: &mut ControlWatch,
 )
     requires tended { AreTended L.seen (door_seen D.is_out D.is_at_end D.lines_over) row.old }
-    ensures tended { AreTended L.seen (door_seen D.is_out D.is_at_end D.lines_over) row.new }
-    ensures rests { (first : Row L D) → RestsSince L.seen (door_seen D.is_out D.is_at_end D.lines_over) D.same first row.old
-        → RestsSince L.seen (door_seen D.is_out D.is_at_end D.lines_over) D.same first row.new }
+    ensures keeps { KeepsRow L.seen (door_seen D.is_out D.is_at_end D.lines_over) D.same row.old row.new }
 {
     for event in events.iter() {
         note_event(row, event, queue, accepts, control);
@@ -509,9 +485,7 @@ fn note_event<L: Line + Drop, D: Door<Line = L>>(
     control: &mut ControlWatch,
 )
     requires tended { AreTended L.seen (door_seen D.is_out D.is_at_end D.lines_over) row.old }
-    ensures tended { AreTended L.seen (door_seen D.is_out D.is_at_end D.lines_over) row.new }
-    ensures rests { (first : Row L D) → RestsSince L.seen (door_seen D.is_out D.is_at_end D.lines_over) D.same first row.old
-        → RestsSince L.seen (door_seen D.is_out D.is_at_end D.lines_over) D.same first row.new }
+    ensures keeps { KeepsRow L.seen (door_seen D.is_out D.is_at_end D.lines_over) D.same row.old row.new }
 {
     let token = event.token();
     if token == DOORS {

@@ -19,7 +19,7 @@ pub struct Row<L: Line + Drop, D: Door<Line = L>> {
 }
 
 impl<L: Line + Drop, D: Door<Line = L>> Row<L, D> {
-    ghost use Rattle.bq_event_loop.specs.Rows.{AreDone, AreTended, RestsSince};
+    ghost use Rattle.bq_event_loop.specs.Rows.{AreDone, AreTended, KeepsRow};
 
     /// Returns the number of seats.
     pub fn len(&self) -> usize
@@ -55,9 +55,7 @@ impl<L: Line + Drop, D: Door<Line = L>> Row<L, D> {
     /// `Looked::Opened`.
     pub fn look(&mut self, alloc: Global, seat: usize, may_have_come: bool) -> Looked
         requires tended { AreTended L.seen (door_seen D.is_out D.is_at_end D.lines_over) self.old }
-        ensures tended { AreTended L.seen (door_seen D.is_out D.is_at_end D.lines_over) self.new }
-        ensures rests { (first : Row L D) → RestsSince L.seen (door_seen D.is_out D.is_at_end D.lines_over) D.same first self.old
-            → RestsSince L.seen (door_seen D.is_out D.is_at_end D.lines_over) D.same first self.new }
+        ensures keeps { KeepsRow L.seen (door_seen D.is_out D.is_at_end D.lines_over) D.same self.old self.new }
     {
         if seat >= self.seats.len() {
             return Looked::Opened;
@@ -73,9 +71,7 @@ impl<L: Line + Drop, D: Door<Line = L>> Row<L, D> {
     /// Notes what the line of a seat is ready for, as the system reported it.
     pub fn note_ready(&mut self, seat: usize, ready: Readiness)
         requires tended { AreTended L.seen (door_seen D.is_out D.is_at_end D.lines_over) self.old }
-        ensures tended { AreTended L.seen (door_seen D.is_out D.is_at_end D.lines_over) self.new }
-        ensures rests { (first : Row L D) → RestsSince L.seen (door_seen D.is_out D.is_at_end D.lines_over) D.same first self.old
-            → RestsSince L.seen (door_seen D.is_out D.is_at_end D.lines_over) D.same first self.new }
+        ensures keeps { KeepsRow L.seen (door_seen D.is_out D.is_at_end D.lines_over) D.same self.old self.new }
     {
         if seat < self.seats.len() {
             self.seats[seat].note_ready(ready);
@@ -85,9 +81,7 @@ impl<L: Line + Drop, D: Door<Line = L>> Row<L, D> {
     /// Swaps the read buffer of a seat's line with this one, if both are empty.
     pub fn exchange(&mut self, seat: usize, buffer: &mut ReadBuffer)
         requires tended { AreTended L.seen (door_seen D.is_out D.is_at_end D.lines_over) self.old }
-        ensures tended { AreTended L.seen (door_seen D.is_out D.is_at_end D.lines_over) self.new }
-        ensures rests { (first : Row L D) → RestsSince L.seen (door_seen D.is_out D.is_at_end D.lines_over) D.same first self.old
-            → RestsSince L.seen (door_seen D.is_out D.is_at_end D.lines_over) D.same first self.new }
+        ensures keeps { KeepsRow L.seen (door_seen D.is_out D.is_at_end D.lines_over) D.same self.old self.new }
     {
         if seat < self.seats.len() {
             self.seats[seat].exchange(buffer);
@@ -97,9 +91,7 @@ impl<L: Line + Drop, D: Door<Line = L>> Row<L, D> {
     /// Sends what the line of a seat holds back in the expectation of more answers.
     pub fn hand_on(&mut self, seat: usize)
         requires tended { AreTended L.seen (door_seen D.is_out D.is_at_end D.lines_over) self.old }
-        ensures tended { AreTended L.seen (door_seen D.is_out D.is_at_end D.lines_over) self.new }
-        ensures rests { (first : Row L D) → RestsSince L.seen (door_seen D.is_out D.is_at_end D.lines_over) D.same first self.old
-            → RestsSince L.seen (door_seen D.is_out D.is_at_end D.lines_over) D.same first self.new }
+        ensures keeps { KeepsRow L.seen (door_seen D.is_out D.is_at_end D.lines_over) D.same self.old self.new }
     {
         if seat < self.seats.len() {
             self.seats[seat].hand_on();

@@ -5,8 +5,8 @@ ghost use Rattle.bq_driver.specs.Tending.{door_seen};
 ghost use Rattle.bq_event_loop.specs.ControlTold.{TellsOn};
 ghost use Rattle.bq_event_loop.specs.LoopCores.{WentAt, state_of};
 ghost use Rattle.bq_event_loop.specs.LoopStates.{IsInOrder};
-ghost use Rattle.bq_event_loop.specs.Rows.{AreDone, AreTended};
-ghost use Rattle.bq_event_loop.specs.Serving.{ServesOn};
+ghost use Rattle.bq_event_loop.specs.Rows.{AreDone};
+ghost use Rattle.bq_event_loop.specs.Serving.{AreReady, ServesOn, TurnServes};
 ghost use Rattle.bq_event_loop.specs.declared.control_turns.Stage.TheVariants as stages;
 
 use crate::control_turns::ControlTurns;
@@ -41,9 +41,7 @@ pub fn serve<
     core: &mut LoopCore<C, K>,
     buffers: &mut Buffers,
 )
-    requires order { IsInOrder (state_of K.machine K.comparisons core.old) }
-    requires tended { AreTended L.seen (door_seen D.is_out D.is_at_end D.lines_over) row.old }
-    requires mailed { length core.old.mails.items ≡ length row.old.seats.items }
+    requires ready { AreReady K.machine K.comparisons L.seen (door_seen D.is_out D.is_at_end D.lines_over) core.old row.old }
     requires few { length row.old.seats.items ≤ 65535 }
     ensures done { AreDone row.new.seats.items }
     ensures over { control.new.stage ≡ stages.Over }
@@ -83,16 +81,12 @@ fn take_turn<
     buffers: &mut Buffers,
     news: &mut News,
 ) -> bool
-    requires order { IsInOrder (state_of K.machine K.comparisons core.old) }
-    requires tended { AreTended L.seen (door_seen D.is_out D.is_at_end D.lines_over) row.old }
-    requires mailed { length core.old.mails.items ≡ length row.old.seats.items }
+    requires ready { AreReady K.machine K.comparisons L.seen (door_seen D.is_out D.is_at_end D.lines_over) core.old row.old }
     requires few { length row.old.seats.items ≤ 65535 }
-    ensures order { IsInOrder (state_of K.machine K.comparisons core.new) }
-    ensures tended { AreTended L.seen (door_seen D.is_out D.is_at_end D.lines_over) row.new }
     ensures done { result ≡ true → AreDone row.new.seats.items }
     ensures over { result ≡ true → control.new.stage ≡ stages.Over }
     ensures served { (told : List Step) × TellsOn I.seen I.remaining I.may_fail control.old told control.new
-        × ServesOn K.machine K.comparisons C.given L.seen (door_seen D.is_out D.is_at_end D.lines_over) D.same
+        × TurnServes K.machine K.comparisons C.given L.seen (door_seen D.is_out D.is_at_end D.lines_over) D.same
         core.old row.old told core.new row.new }
 {
     match turn {
@@ -148,13 +142,9 @@ fn serve_seat<L: Line + Drop, D: Door<Line = L>, C: Clock + Drop, K: QueueCore +
     seat: usize,
     buffers: &mut Buffers,
 ) -> Progress
-    requires order { IsInOrder (state_of K.machine K.comparisons core.old) }
-    requires tended { AreTended L.seen (door_seen D.is_out D.is_at_end D.lines_over) row.old }
-    requires mailed { length core.old.mails.items ≡ length row.old.seats.items }
+    requires ready { AreReady K.machine K.comparisons L.seen (door_seen D.is_out D.is_at_end D.lines_over) core.old row.old }
     requires few { length row.old.seats.items ≤ 65535 }
-    ensures order { IsInOrder (state_of K.machine K.comparisons core.new) }
-    ensures tended { AreTended L.seen (door_seen D.is_out D.is_at_end D.lines_over) row.new }
-    ensures served { ServesOn K.machine K.comparisons C.given L.seen (door_seen D.is_out D.is_at_end D.lines_over) D.same
+    ensures served { TurnServes K.machine K.comparisons C.given L.seen (door_seen D.is_out D.is_at_end D.lines_over) D.same
         core.old row.old [] core.new row.new }
 {
     if seat >= row.seats.len() {
@@ -174,14 +164,10 @@ fn act_and_poll<L: Line + Drop, D: Door<Line = L>, C: Clock + Drop, K: QueueCore
     seat: usize,
     buffers: &mut Buffers,
 ) -> Progress
-    requires order { IsInOrder (state_of K.machine K.comparisons core.old) }
-    requires tended { AreTended L.seen (door_seen D.is_out D.is_at_end D.lines_over) row.old }
-    requires mailed { length core.old.mails.items ≡ length row.old.seats.items }
+    requires ready { AreReady K.machine K.comparisons L.seen (door_seen D.is_out D.is_at_end D.lines_over) core.old row.old }
     requires few { length row.old.seats.items ≤ 65535 }
     requires below { seat < length row.old.seats.items }
-    ensures order { IsInOrder (state_of K.machine K.comparisons core.new) }
-    ensures tended { AreTended L.seen (door_seen D.is_out D.is_at_end D.lines_over) row.new }
-    ensures served { ServesOn K.machine K.comparisons C.given L.seen (door_seen D.is_out D.is_at_end D.lines_over) D.same
+    ensures served { TurnServes K.machine K.comparisons C.given L.seen (door_seen D.is_out D.is_at_end D.lines_over) D.same
         core.old row.old [] core.new row.new }
 {
     let progress = act(row, core, seat, buffers);
@@ -197,14 +183,10 @@ fn act<L: Line + Drop, D: Door<Line = L>, C: Clock + Drop, K: QueueCore + Drop>(
     seat: usize,
     buffers: &mut Buffers,
 ) -> Progress
-    requires order { IsInOrder (state_of K.machine K.comparisons core.old) }
-    requires tended { AreTended L.seen (door_seen D.is_out D.is_at_end D.lines_over) row.old }
-    requires mailed { length core.old.mails.items ≡ length row.old.seats.items }
+    requires ready { AreReady K.machine K.comparisons L.seen (door_seen D.is_out D.is_at_end D.lines_over) core.old row.old }
     requires few { length row.old.seats.items ≤ 65535 }
     requires below { seat < length row.old.seats.items }
-    ensures order { IsInOrder (state_of K.machine K.comparisons core.new) }
-    ensures tended { AreTended L.seen (door_seen D.is_out D.is_at_end D.lines_over) row.new }
-    ensures served { ServesOn K.machine K.comparisons C.given L.seen (door_seen D.is_out D.is_at_end D.lines_over) D.same
+    ensures served { TurnServes K.machine K.comparisons C.given L.seen (door_seen D.is_out D.is_at_end D.lines_over) D.same
         core.old row.old [] core.new row.new }
 {
     attend(

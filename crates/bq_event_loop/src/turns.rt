@@ -1,7 +1,7 @@
 //! The choice of the next action.
 ghost use Rattle.std.specs.Prelude.{◌≡◌};
 ghost use Rattle.bq_driver.specs.Tending.{door_seen};
-ghost use Rattle.bq_event_loop.specs.Rows.{AreTended, RestsSince};
+ghost use Rattle.bq_event_loop.specs.Rows.{AreTended, KeepsRow};
 
 use crate::row::Row;
 use bq_driver::progress::Progress;
@@ -90,10 +90,7 @@ pub trait Turns {
         news: News,
     ) -> Turn
         requires tended { AreTended L.seen (door_seen D.is_out D.is_at_end D.lines_over) row.old }
-        ensures tended { AreTended L.seen (door_seen D.is_out D.is_at_end D.lines_over) row.new }
-        ensures rests { (first : Row L D)
-            → RestsSince L.seen (door_seen D.is_out D.is_at_end D.lines_over) D.same first row.old
-            → RestsSince L.seen (door_seen D.is_out D.is_at_end D.lines_over) D.same first row.new };
+        ensures keeps { KeepsRow L.seen (door_seen D.is_out D.is_at_end D.lines_over) D.same row.old row.new };
 
     /// Reports that a seat has mail, which another seat's step or a tick put there, so that the
     /// seat can act.

@@ -1,6 +1,6 @@
 //! Orders in which the seats of a run act.
 ghost use Rattle.bq_driver.specs.Tending.{door_seen};
-ghost use Rattle.bq_event_loop.specs.Rows.{AreTended, RestsSince};
+ghost use Rattle.bq_event_loop.specs.Rows.{AreTended, KeepsRow};
 
 use crate::together::Together;
 use bq_event_loop::{ControlReads, News, Row, Turn, Turns};
@@ -229,9 +229,7 @@ fn look_if_free<L: Line + Drop, D: Door<Line = L>>(
     rule: Rule,
 )
     requires tended { AreTended L.seen (door_seen D.is_out D.is_at_end D.lines_over) row.old }
-    ensures tended { AreTended L.seen (door_seen D.is_out D.is_at_end D.lines_over) row.new }
-    ensures rests { (first : Row L D) → RestsSince L.seen (door_seen D.is_out D.is_at_end D.lines_over) D.same first row.old
-        → RestsSince L.seen (door_seen D.is_out D.is_at_end D.lines_over) D.same first row.new }
+    ensures keeps { KeepsRow L.seen (door_seen D.is_out D.is_at_end D.lines_over) D.same row.old row.new }
 {
     if looks(row, seat, rule) {
         let _looked = row.look(alloc, seat, true);

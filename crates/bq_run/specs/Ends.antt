@@ -1,8 +1,10 @@
 -- The history of an end of the links.
-use Rattle.std.specs.Prelude.{◌≡◌, List, [], ◌++◌}
+use Rattle.std.specs.Prelude.{◌≡◌, Bool, false, List, [], ◌++◌}
 use Rattle.bq_job.specs.declared.answer.Answer.{Answer}
 use Rattle.bq_job.specs.declared.step.Step.{Step}
+use Rattle.bq_driver.specs.Links.{TakesInPlace}
 use Rattle.bq_run.specs.declared.seat_work.SeatLink.{SeatLink}
+use Rattle.bq_seat.specs.declared.machine.Action.{Action}
 use Rattle.bq_link.specs.EndStates.{IsSameSeat, SeatState}
 
 -- A new end.
@@ -17,7 +19,14 @@ abbrev pub EndWent : SeatState → List Step → List Answer → SeatState → T
 EndWent first submitted taken last =
     IsSameSeat first last × (last.submitted ≡ first.submitted ++ submitted) × (last.taken ≡ first.taken ++ taken)
 
--- The same for a link to the end. The last link that is dropped knows the end by its ghost name.
+-- An end was polled: the oldest answer was taken as an action that writes it. Or none was found; then
+-- none was known to wait, and nothing changed.
+abbrev pub Looks : SeatState → Action → Bool → Action → SeatState → Type 0
+Looks first place found next last =
+    TakesInPlace EndWent first place found next last
+    × (found ≡ false → (first.waiting ≡ []) × (last ≡ first) × (next ≡ place))
+
+-- What went over a link to the end. The last link that is dropped knows the end by its ghost name.
 abbrev pub LinkWent : {R : Type 0} → SeatLink R → List Step → List Answer → SeatLink R → Type 0
 LinkWent first submitted taken last =
     (last.end.ghost_name ≡ first.end.ghost_name) × (last.intake ≡ first.intake) × EndWent first.end.now submitted taken last.end.now

@@ -4,7 +4,7 @@ ghost use Rattle.bq_seat.specs.Past.{Awaited};
 ghost use Rattle.bq_seat.specs.SeatStands.{awaited};
 ghost use Rattle.bq_driver.specs.Tending.{IsDoorServed, IsNewDoor, door_seen, GoesOn, IsPlaced, MayEndAt};
 ghost use Rattle.bq_link.specs.EndStates.{IsSameSeat, WasFull};
-ghost use Rattle.bq_run.specs.Ends.{IsNewEnd, EndWent, LinkWent};
+ghost use Rattle.bq_run.specs.Ends.{IsNewEnd, EndWent, LinkWent, Looks};
 ghost use Rattle.bq_job.specs.promise.ControlDid.{IsControlDone};
 ghost use Rattle.bq_job.specs.promise.History.{is_tick};
 ghost use Rattle.bq_job.specs.declared.step.Step.{Step};
@@ -273,8 +273,7 @@ fn mail_at<R: Wait>(
     pace: &mut Pace,
     place: &mut Action,
 ) -> bool
-    ensures went { TakesInPlace EndWent end.old place.old result place.new end.new }
-    ensures none { result ≡ false → (end.old.waiting ≡ []) × (end.new ≡ end.old) }
+    ensures { Looks end.old place.old result place.new end.new }
 {
     let now = *pace;
     *pace = now.after_look();
@@ -310,9 +309,7 @@ fn look_again<R: Wait>(
     sleeps: bool,
     place: &mut Action,
 ) -> bool
-    ensures went { TakesInPlace EndWent end.old place.old result place.new end.new }
-    ensures none { result ≡ false
-        → (end.old.waiting ≡ []) × (end.new ≡ end.old) × (place.new ≡ place.old) }
+    ensures { Looks end.old place.old result place.new end.new }
 {
     let most = if sleeps { FIRST_REST } else { 0 };
     end.wait(rt, intake, Duration::from_millis(most));
@@ -321,9 +318,7 @@ fn look_again<R: Wait>(
 
 // Polls an end up to this many times, and at least once.
 fn look_often(end: &mut SeatEnd, looks: u32, place: &mut Action) -> bool
-    ensures went { TakesInPlace EndWent end.old place.old result place.new end.new }
-    ensures none { result ≡ false
-        → (end.old.waiting ≡ []) × (end.new ≡ end.old) × (place.new ≡ place.old) }
+    ensures { Looks end.old place.old result place.new end.new }
 {
     for _ in 1..looks {
         if look(end, place) {
@@ -336,9 +331,7 @@ fn look_often(end: &mut SeatEnd, looks: u32, place: &mut Action) -> bool
 
 // Polls an end once.
 fn look(end: &mut SeatEnd, place: &mut Action) -> bool
-    ensures went { TakesInPlace EndWent end.old place.old result place.new end.new }
-    ensures none { result ≡ false
-        → (end.old.waiting ≡ []) × (end.new ≡ end.old) × (place.new ≡ place.old) }
+    ensures { Looks end.old place.old result place.new end.new }
 {
     if !end.has_mail() {
         return false;

@@ -1,5 +1,5 @@
 -- The texts that a reader represents: the bytes of a request that is not complete.
-use Rattle.std.specs.Prelude.{ℕ, ◌≡◌, ◌<◌, ◌+◌, ◌-◌, false, MatchBool, List, [], ◌++◌, length, take, Option, Some, None, if◌then◌else◌}
+use Rattle.std.specs.Prelude.{ℕ, ◌≡◌, ◌<◌, ◌≤◌, ◌+◌, ◌-◌, false, MatchBool, List, [], ◌++◌, length, take, Option, Some, None, IfSome, if◌then◌else◌}
 use Rattle.bq_job.specs.reading.Line.{first_line}
 use Rattle.bq_job.specs.reading.LineRead as line_read
 use Rattle.bq_job.specs.reading.LineRead.{longest_line}
@@ -73,6 +73,11 @@ FeedsText new text piece taken (Some request) = HandsRequest new text piece take
 -- a piece was fed to a reader that represented one of these texts
 abbrev pub Feeds : (List ℕ → Type 0) → ReaderState → List ℕ → ℕ → Option Request → Type 0
 Feeds stood new piece taken request = (text : List ℕ) → stood text → FeedsText new text piece taken request
+
+-- this many bytes of a piece were taken: some if there is a request, and the reader is sound
+abbrev pub IsFed : ReaderState → ReaderState → List ℕ → ℕ → Option Request → Type 0
+IsFed old new piece taken request =
+    IsSoundReader new × (taken ≤ length piece) × IfSome request (λ asked. 0 < taken) × (new.max_job_size ≡ old.max_job_size)
 
 -- the text and these bytes are one line with its CR LF, which requests this
 pub record EndsLineAsking (asked : line_read.LineRead) (bytes text : List ℕ) : Type 0 where

@@ -6,7 +6,7 @@ ghost use Rattle.bq_job.specs.reading.Reading.{Reads, is_quit};
 ghost use Rattle.bq_wire.specs.Asked.{asked_by};
 ghost use Rattle.bq_wire.specs.HasRead.{HasRead, HasReadText, ReadsOn};
 ghost use Rattle.bq_wire.specs.PutBodies.{HasBodyRoom, IsBodySoFar};
-ghost use Rattle.bq_wire.specs.Standing.{IsOver, IsSoundPlace, IsSoundReader, Stands, StandsAt, Feeds};
+ghost use Rattle.bq_wire.specs.Standing.{IsFed, IsOver, IsSoundPlace, IsSoundReader, Stands, StandsAt, Feeds};
 ghost use Rattle.bq_wire.specs.Standing.{Keeps, EndsLineAsking, Waits, HandsRequest, but_last};
 ghost use Rattle.bq_wire.specs.declared.reader.ReaderPlace.TheVariants.{InLine, InLongLine, InBody, Over};
 
@@ -185,13 +185,10 @@ fn feed_state(
     request: &mut Option<Request>,
 ) -> usize
     requires { IsSoundReader state.old }
-    ensures sound { IsSoundReader state.new }
-    ensures within { result ≤ length piece.now }
-    ensures progress { IfSome request.new (λ _. 0 < result) }
+    ensures fed { IsFed state.old state.new piece.now result request.new }
     ensures feeds { Feeds (Stands state.old) state.new piece.now result request.new }
     ensures over { IsOver state.old
         → (result ≡ 0) × (request.new ≡ None) × (state.new ≡ state.old) }
-    ensures limit { state.new.max_job_size ≡ state.old.max_job_size }
 {
     match state.place {
         ReaderPlace::InLine => feed_line(alloc, state, piece, request),
@@ -208,13 +205,10 @@ fn feed_taken(
     request: &mut Option<Request>,
 ) -> usize
     requires { IsSoundReader state.old }
-    ensures sound { IsSoundReader state.new }
-    ensures within { result ≤ length piece.now }
-    ensures progress { IfSome request.new (λ _. 0 < result) }
+    ensures fed { IsFed state.old state.new piece.now result request.new }
     ensures feeds { Feeds (Stands state.old) state.new piece.now result request.new }
     ensures over { IsOver state.old
         → (result ≡ 0) × (request.new ≡ None) × (state.new ≡ state.old) }
-    ensures limit { state.new.max_job_size ≡ state.old.max_job_size }
 {
     match mem::replace(&mut state.place, ReaderPlace::Over) {
         ReaderPlace::InLine => feed_line(alloc, state, piece, request),
@@ -234,11 +228,8 @@ fn feed_line(
     piece: &[u8],
     request: &mut Option<Request>,
 ) -> usize
-    ensures sound { IsSoundReader state.new }
-    ensures within { result ≤ length piece.now }
-    ensures progress { IfSome request.new (λ _. 0 < result) }
+    ensures fed { IsFed state.old state.new piece.now result request.new }
     ensures feeds { Feeds (StandsAt state.old InLine) state.new piece.now result request.new }
-    ensures limit { state.new.max_job_size ≡ state.old.max_job_size }
 {
     match line_end_after(ends_in_cr(false, state.kept.as_slice()), piece) {
         None => {
@@ -311,12 +302,9 @@ fn after_line(
 ) -> usize
     requires some { 0 < end }
     requires within { end ≤ length piece.now }
-    ensures sound { IsSoundReader state.new }
-    ensures within { result ≤ length piece.now }
-    ensures progress { IfSome request.new (λ _. 0 < result) }
+    ensures fed { IsFed state.old state.new piece.now result request.new }
     ensures feeds { (asked : line_read.LineRead) → asked_by read request.old ≡ Some asked → state.old.kept ≡ []
         → Feeds (EndsLineAsking asked (take end piece.now)) state.new piece.now result request.new }
-    ensures limit { state.new.max_job_size ≡ state.old.max_job_size }
 {
     match read {
         LineRead::Whole => {
@@ -365,12 +353,9 @@ fn feed_long_line(
     piece: &[u8],
     request: &mut Option<Request>,
 ) -> usize
-    ensures sound { IsSoundReader state.new }
-    ensures within { result ≤ length piece.now }
-    ensures progress { IfSome request.new (λ _. 0 < result) }
+    ensures fed { IsFed state.old state.new piece.now result request.new }
     ensures feeds { Feeds
         (StandsAt state.old (InLongLine after_cr)) state.new piece.now result request.new }
-    ensures limit { state.new.max_job_size ≡ state.old.max_job_size }
 {
     match line_end_after(after_cr, piece) {
         None => {
@@ -395,12 +380,9 @@ fn feed_body(
 ) -> usize
     requires room { HasBodyRoom body }
     requires not_whole { body.taken < body.put.bytes + 2 }
-    ensures sound { IsSoundReader state.new }
-    ensures within { result ≤ length piece.now }
-    ensures progress { IfSome request.new (λ _. 0 < result) }
+    ensures fed { IsFed state.old state.new piece.now result request.new }
     ensures feeds { Feeds
         (StandsAt state.old (InBody body)) state.new piece.now result request.new }
-    ensures limit { state.new.max_job_size ≡ state.old.max_job_size }
 {
     let mut body = body;
     let taken = body.take(piece);

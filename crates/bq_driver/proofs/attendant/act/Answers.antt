@@ -17,7 +17,10 @@ returns-else-submit-clause-carried g c =
     (refl, refl, (refl, ap actions.Submit back.0, refl))
 
 pub returns-in-Read-clause-carried : goal.returns-in-Read-clause-carried
-returns-in-Read-clause-carried g c = comes_by g.K.Link.went _ _ _ _ _ _ _ _ _ actions.Read c.in-Read.is [] [] refl c.read.ensures.carried
+returns-in-Read-clause-carried g c = comes_by g.K.Link.went _ _ _ _ _ _ _ _ _ actions.Read c.in-Read.is [] [] refl c.read.ensures.0
+
+pub returns-in-Read-clause-stays : goal.returns-in-Read-clause-stays
+returns-in-Read-clause-stays g c = c.read.ensures.1
 
 pub returns-in-Write-clause-carried : goal.returns-in-Write-clause-carried
 returns-in-Write-clause-carried g c =

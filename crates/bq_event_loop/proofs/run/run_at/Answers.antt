@@ -10,15 +10,15 @@ use Rattle.bq_event_loop.proofs.RowLemmas.{same_selves, tended_at_first}
 use Rattle.bq_event_loop.proofs.SessionsLemmas.{begins_served, ends_closed, ends_history, ends_settings}
 use Rattle.bq_event_loop.proofs.run.run_at.Goals as goal
 
-pub serve-requires-clause-tended : goal.serve-requires-clause-tended
-serve-requires-clause-tended g c =
-    let at = door_seen g.D.Door.is_out g.D.Door.is_at_end g.D.Door.lines_over in
-    tended_at_first g.L.Line.seen at c.args.config.max_job_size c.args.seats.items c.args.doors.items
-    (c.requires.doored ∙ sym c.requires.many) c.requires.new_seats c.requires.new_doors
-
-pub serve-requires-clause-mailed : goal.serve-requires-clause-mailed
-serve-requires-clause-mailed g c =
-    new_mails_are c.args.config (state_of g.K.QueueCore.machine g.K.QueueCore.comparisons c.args.core) c.requires.made ∙ sym c.requires.many
+pub serve-requires-clause-ready : goal.serve-requires-clause-ready
+serve-requires-clause-ready g c =
+    let at = door_seen g.D.Door.is_out g.D.Door.is_at_end g.D.Door.lines_over in (
+      c.requires.order,
+      tended_at_first g.L.Line.seen at c.args.config.max_job_size c.args.seats.items c.args.doors.items
+          (c.requires.doored ∙ sym c.requires.many) c.requires.new_seats c.requires.new_doors,
+      new_mails_are c.args.config (state_of g.K.QueueCore.machine g.K.QueueCore.comparisons c.args.core) c.requires.made
+          ∙ sym c.requires.many,
+    )
 
 pub returns-clause-served : goal.returns-clause-served
 returns-clause-served g c =

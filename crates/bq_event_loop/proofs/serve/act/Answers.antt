@@ -9,22 +9,25 @@ attend-requires-clause-placed g c =
     let at = door_seen g.D.Door.is_out g.D.Door.is_at_end g.D.Door.lines_over in
     let row = c.args.row.now in
     placed_there g.L.Line.seen at row.seats.items row.doors.items c.args.seat c.index_mut.result.now c.index_mut-2.result.now
-    c.requires.below c.requires.tended c.index_mut.ensures.value c.index_mut-2.ensures.value
+    c.requires.below c.requires.ready.1 c.index_mut.ensures.value c.index_mut-2.ensures.value
 
-pub returns-clause-tended : goal.returns-clause-tended
-returns-clause-tended g c =
+pub attend-requires-clause-order : goal.attend-requires-clause-order
+attend-requires-clause-order g c = c.requires.ready.0
+
+pub returns : goal.returns
+returns g c =
     let at = door_seen g.D.Door.is_out g.D.Door.is_at_end g.D.Door.lines_over in
     let row = c.args.row.now in
     let goes = c.attend.ensures.went in
-    tended_acted g.L.Line.seen at row.seats.items row.doors.items c.args.seat c.index_mut.result.now c.attend.new.attendant
-    c.index_mut-2.result.now c.attend.new.door goes.0 goes.1 c.requires.below c.requires.tended c.index_mut.ensures.value
-    c.index_mut-2.ensures.value goes.3
-
-pub returns-clause-served : goal.returns-clause-served
-returns-clause-served g c =
-    let at = door_seen g.D.Door.is_out g.D.Door.is_at_end g.D.Door.lines_over in
-    let row = c.args.row.now in
-    serves_acted g.L.Line.seen at g.K.QueueCore.machine g.K.QueueCore.comparisons g.C.Clock.given g.D.Door.same c.args.core.now
-    c.attend.new.core row _ c.args.seat c.args.seat c.index_mut.result.now c.attend.new.attendant
-    c.index_mut-2.result.now c.attend.new.door
-    refl c.requires.below c.index_mut.ensures.value c.index_mut-2.ensures.value c.attend.ensures.went c.attend.ensures.same refl refl
+    record {
+      served = (
+        c.attend.ensures.order,
+        tended_acted g.L.Line.seen at row.seats.items row.doors.items c.args.seat c.index_mut.result.now c.attend.new.attendant
+            c.index_mut-2.result.now c.attend.new.door goes.0 goes.1 c.requires.below c.requires.ready.1 c.index_mut.ensures.value
+            c.index_mut-2.ensures.value goes.3,
+        serves_acted g.L.Line.seen at g.K.QueueCore.machine g.K.QueueCore.comparisons g.C.Clock.given g.D.Door.same c.args.core.now
+            c.attend.new.core row _ c.args.seat c.args.seat c.index_mut.result.now c.attend.new.attendant
+            c.index_mut-2.result.now c.attend.new.door refl c.requires.below c.index_mut.ensures.value c.index_mut-2.ensures.value
+            c.attend.ensures.went c.attend.ensures.same refl refl,
+      );
+    }

@@ -11,9 +11,9 @@ loop-init g c =
     let at = door_seen g.D.Door.is_out g.D.Door.is_at_end g.D.Door.lines_over in
     record {
       iterator = (tt, tt);
-      order = c.requires.order;
-      tended = c.requires.tended;
-      mailed = c.requires.mailed;
+      order = c.requires.ready.0;
+      tended = c.requires.ready.1;
+      mailed = c.requires.ready.2;
       few = c.requires.few;
       served = (
         [],
@@ -23,18 +23,19 @@ loop-init g c =
       );
     }
 
-pub take_turn-requires-clause-mailed : goal.take_turn-requires-clause-mailed
-take_turn-requires-clause-mailed g c =
+pub take_turn-requires-clause-ready : goal.take_turn-requires-clause-ready
+take_turn-requires-clause-ready g c =
     let at = door_seen g.D.Door.is_out g.D.Door.is_at_end g.D.Door.lines_over in
     let row = c.loop.row in
-    let rests = c.next-turn.ensures.rests row (rested_none g.L.Line.seen at g.D.Door.same row.seats.items row.doors.items) in
-    c.loop.invariant.mailed ∙ sym rests.many
+    let keeps = c.next-turn.ensures.keeps in
+    let rests = keeps.1 row (rested_none g.L.Line.seen at g.D.Door.same row.seats.items row.doors.items) in
+    (c.loop.invariant.order, keeps.0, c.loop.invariant.mailed ∙ sym rests.many)
 
 pub take_turn-requires-clause-few : goal.take_turn-requires-clause-few
 take_turn-requires-clause-few g c =
     let at = door_seen g.D.Door.is_out g.D.Door.is_at_end g.D.Door.lines_over in
     let row = c.loop.row in
-    let rests = c.next-turn.ensures.rests row (rested_none g.L.Line.seen at g.D.Door.same row.seats.items row.doors.items) in
+    let rests = c.next-turn.ensures.keeps.1 row (rested_none g.L.Line.seen at g.D.Door.same row.seats.items row.doors.items) in
     subst (λ n. n ≤ 65535) (sym rests.many) c.loop.invariant.few
 
 pub returns-then-take_turn-clause-served : goal.returns-then-take_turn-clause-served
@@ -43,7 +44,7 @@ returns-then-take_turn-clause-served g c =
     let machine = g.K.QueueCore.machine in
     let compared = g.K.QueueCore.comparisons in
     let row = c.loop.row in
-    let rests = c.next-turn.ensures.rests row (rested_none g.L.Line.seen at g.D.Door.same row.seats.items row.doors.items) in
+    let rests = c.next-turn.ensures.keeps.1 row (rested_none g.L.Line.seen at g.D.Door.same row.seats.items row.doors.items) in
     let i = c.loop.invariant.served in
     let t = c.take_turn.ensures.served in
     let rested = serves_on g.L.Line.seen at machine compared g.C.Clock.given g.D.Door.same c.args.core.now c.loop.core c.loop.core
@@ -53,7 +54,7 @@ returns-then-take_turn-clause-served g c =
       tells_then g.I.ControlInput.seen g.I.ControlInput.remaining g.I.ControlInput.may_fail c.args.control.now c.loop.control
           c.take_turn.new.control i.0 t.0 i.1 t.1,
       serves_then g.L.Line.seen at machine compared g.C.Clock.given g.D.Door.same c.args.core.now c.loop.core c.take_turn.new.core
-          c.args.row.now c.next-turn.new.row c.take_turn.new.row i.0 t.0 rested t.2,
+          c.args.row.now c.next-turn.new.row c.take_turn.new.row i.0 t.0 rested t.2.2,
     )
 
 pub loop-preserved : goal.loop-preserved
@@ -62,7 +63,7 @@ loop-preserved g c =
     let machine = g.K.QueueCore.machine in
     let compared = g.K.QueueCore.comparisons in
     let row = c.loop.row in
-    let rests = c.next-turn.ensures.rests row (rested_none g.L.Line.seen at g.D.Door.same row.seats.items row.doors.items) in
+    let rests = c.next-turn.ensures.keeps.1 row (rested_none g.L.Line.seen at g.D.Door.same row.seats.items row.doors.items) in
     let i = c.loop.invariant.served in
     let t = c.take_turn.ensures.served in
     let core = c.take_turn.new.core in
@@ -73,15 +74,15 @@ loop-preserved g c =
     c.args.row.now row c.next-turn.new.row i.0 i.2
     (serves_rested g.L.Line.seen at machine compared g.C.Clock.given g.D.Door.same c.loop.core row c.next-turn.new.row rests) in
     let turned = serves_then g.L.Line.seen at machine compared g.C.Clock.given g.D.Door.same c.args.core.now c.loop.core core c.args.row.now
-    c.next-turn.new.row later i.0 t.0 rested t.2 in
+    c.next-turn.new.row later i.0 t.0 rested t.2.2 in
     let all = serves_on g.L.Line.seen at machine compared g.C.Clock.given g.D.Door.same c.args.core.now core woken c.args.row.now later
     later (i.0 ++ t.0) turned
     (serves_woken g.L.Line.seen at machine compared g.C.Clock.given g.D.Door.same core woken later same) in
     record {
       iterator = (tt, tt);
-      order = order_woken machine compared core woken same c.take_turn.ensures.order;
-      tended = c.take_turn.ensures.tended;
-      mailed = all.mailed ∙ c.requires.mailed ∙ sym all.many;
+      order = order_woken machine compared core woken same t.2.0;
+      tended = t.2.1;
+      mailed = all.mailed ∙ c.requires.ready.2 ∙ sym all.many;
       few = subst (λ n. n ≤ 65535) (sym all.many) c.requires.few;
       served = (
         i.0 ++ t.0,

@@ -1,4 +1,4 @@
-use Rattle.std.proofs.Common.{[]}
+use Rattle.std.proofs.Common.{◌≤◌, [], subst, sym}
 use Rattle.bq_driver.specs.Tending.{door_seen}
 use Rattle.bq_event_loop.proofs.ControlLemmas.{tells_none}
 use Rattle.bq_event_loop.proofs.ServingLemmas.{serves_control, serves_none, serves_time}
@@ -9,9 +9,30 @@ returns-then-is_over-clause-served g c =
     let at = door_seen g.D.Door.is_out g.D.Door.is_at_end g.D.Door.lines_over in (
       [],
       tells_none g.I.ControlInput.seen g.I.ControlInput.remaining g.I.ControlInput.may_fail c.args.control.now,
-      serves_none g.L.Line.seen at g.K.QueueCore.machine g.K.QueueCore.comparisons g.C.Clock.given g.D.Door.same
-          c.args.core.now c.args.row.now,
+      (
+        c.requires.ready.0,
+        c.requires.ready.1,
+        serves_none g.L.Line.seen at g.K.QueueCore.machine g.K.QueueCore.comparisons g.C.Clock.given g.D.Door.same
+            c.args.core.now c.args.row.now,
+      ),
     )
+
+pub returns-in-Seat-clause-served : goal.returns-in-Seat-clause-served
+returns-in-Seat-clause-served g c = (
+  [],
+  tells_none g.I.ControlInput.seen g.I.ControlInput.remaining g.I.ControlInput.may_fail c.args.control.now,
+  c.serve_seat-news.ensures.served,
+)
+
+pub serve_control-requires : goal.serve_control-requires
+serve_control-requires g c =
+    record {
+      order = c.requires.ready.0;
+      few = subst (λ n. n ≤ 65535) (sym c.requires.ready.2) c.requires.few;
+    }
+
+pub pass_time-news-requires : goal.pass_time-news-requires
+pass_time-news-requires g c = record { order = c.requires.ready.0 }
 
 pub returns-in-Control-clause-served : goal.returns-in-Control-clause-served
 returns-in-Control-clause-served g c =
@@ -19,8 +40,12 @@ returns-in-Control-clause-served g c =
     let s = c.serve_control.ensures.served in (
       s.0,
       s.1,
-      serves_control g.L.Line.seen at g.K.QueueCore.machine g.K.QueueCore.comparisons g.C.Clock.given g.D.Door.same c.args.core.now
-          c.serve_control.new.core c.args.row.now _ s.0 c.requires.mailed s.2,
+      (
+        c.serve_control.ensures.order,
+        c.requires.ready.1,
+        serves_control g.L.Line.seen at g.K.QueueCore.machine g.K.QueueCore.comparisons g.C.Clock.given g.D.Door.same c.args.core.now
+            c.serve_control.new.core c.args.row.now _ s.0 c.requires.ready.2 s.2,
+      ),
     )
 
 pub returns-else-is_over-clause-served : goal.returns-else-is_over-clause-served
@@ -28,6 +53,10 @@ returns-else-is_over-clause-served g c =
     let at = door_seen g.D.Door.is_out g.D.Door.is_at_end g.D.Door.lines_over in (
       [],
       tells_none g.I.ControlInput.seen g.I.ControlInput.remaining g.I.ControlInput.may_fail c.args.control.now,
-      serves_time g.L.Line.seen at g.K.QueueCore.machine g.K.QueueCore.comparisons g.C.Clock.given g.D.Door.same c.args.core.now
-          c.pass_time-news.new.self c.args.row.now 0 c.pass_time-news.ensures.went,
+      (
+        c.pass_time-news.ensures.order,
+        c.requires.ready.1,
+        serves_time g.L.Line.seen at g.K.QueueCore.machine g.K.QueueCore.comparisons g.C.Clock.given g.D.Door.same c.args.core.now
+            c.pass_time-news.new.self c.args.row.now 0 c.pass_time-news.ensures.went,
+      ),
     )

@@ -13,21 +13,21 @@ look_at-requires g c =
           omega arith) c.requires.tended c.index_mut.ensures.value c.index_mut-2.ensures.value;
     }
 
-pub returns-clause-tended : goal.returns-clause-tended
-returns-clause-tended g c =
+pub returns : goal.returns
+returns g c =
     let at = door_seen g.D.Door.is_out g.D.Door.is_at_end g.D.Door.lines_over in
     let row = c.args.self.now in
-    tended_there g.L.Line.seen at row.seats.items row.doors.items c.args.seat c.index_mut.result.now c.look_at.new.seat
-    c.index_mut-2.result.now c.look_at.new.door
-    (let e = c.len.ensures in let b = c.if-seat-len.false in
-    omega arith) c.requires.tended c.index_mut.ensures.value c.index_mut-2.ensures.value c.look_at.ensures.went
-
-pub returns-clause-rests : goal.returns-clause-rests
-returns-clause-rests g c first rests =
-    let at = door_seen g.D.Door.is_out g.D.Door.is_at_end g.D.Door.lines_over in
-    let row = c.args.self.now in
-    rested_there g.L.Line.seen at g.D.Door.same first.seats.items row.seats.items first.doors.items row.doors.items c.args.seat
-    c.index_mut.result.now c.look_at.new.seat c.index_mut-2.result.now c.look_at.new.door
-    (let e = c.len.ensures in let b = c.if-seat-len.false in
-    omega arith) c.requires.tended.doored c.index_mut.ensures.value c.index_mut-2.ensures.value c.look_at.ensures.went
-    c.look_at.ensures.same rests
+    record {
+      keeps = (
+        tended_there g.L.Line.seen at row.seats.items row.doors.items c.args.seat c.index_mut.result.now c.look_at.new.seat
+            c.index_mut-2.result.now c.look_at.new.door
+            (let e = c.len.ensures in let b = c.if-seat-len.false in
+            omega arith) c.requires.tended c.index_mut.ensures.value c.index_mut-2.ensures.value c.look_at.ensures.went,
+        λ first rests.
+            rested_there g.L.Line.seen at g.D.Door.same first.seats.items row.seats.items first.doors.items row.doors.items c.args.seat
+            c.index_mut.result.now c.look_at.new.seat c.index_mut-2.result.now c.look_at.new.door
+            (let e = c.len.ensures in let b = c.if-seat-len.false in
+            omega arith) c.requires.tended.doored c.index_mut.ensures.value c.index_mut-2.ensures.value c.look_at.ensures.went
+            c.look_at.ensures.same rests,
+      );
+    }
