@@ -7,18 +7,18 @@ ghost use Rattle.std.specs.Map.{lookup, remove_entry};
 ghost use Rattle.std.specs.BTreeMap.{is_at};
 ghost use Rattle.bq_index.specs.Order.{InOrder, LacksKeyOf, with_entry};
 ghost use Rattle.bq_index.specs.Tree.{entries, entries_in, entries_of, entry_in, height, height_in, height_of, held, left_in, right_in};
-ghost use Rattle.bq_index.specs.Tree.{HasParts, IsBalanced, IsLevel, DifferByAtMost, RaisedByAtMost, IsFirstTaken};
+ghost use Rattle.bq_index.specs.Tree.{HasParts, IsBalanced, IsLevel, DifferByAtMost, RaisedByAtMost, IsFirstTaken, differ};
 
 use super::find::{compare, compare_to};
-use super::rotation::{balance, mend_left, mend_right, with_left, with_right};
-use super::tree::{Node, Tree, open, put};
+use super::rotation::{balance, mend, mend_left, mend_right, with_left, with_right};
+use super::tree::{Node, Tree, fill, open, put};
 use std::cmp::Ordering;
 use std::mem;
 
-// Attaches a box with a single entry as the left side of a box that has none.
-#[tactic(auto, using(crate::proofs::Parts::come_apart))]
+// Attaches a box with a single entry as the left side of a box that has none. Returns whether the
+// height of the box has changed.
 #[inline(never)]
-fn hang_left<K, V>(here: &mut Node<K, V>, node: Box<Node<K, V>>)
+fn hang_left<K, V>(here: &mut Node<K, V>, node: Box<Node<K, V>>) -> bool
 where
     K: Drop,
     V: Drop,
@@ -31,16 +31,41 @@ where
     ensures balanced { IsLevel here.new }
     ensures not_lower { height_in here.old ≤ height_in here.new }
     ensures not_higher { height_in here.new ≤ height_in here.old + 1 }
+    ensures changed { result ≡ differ (height_in here.old) (height_in here.new) }
 {
-    let (none, entry, right) = here.take_parts();
-    drop(none);
-    put(here, Node::over(Tree::Fork(node), entry, right));
+    match mem::replace(here, Node::Spare) {
+        Node::Alone { key, value } => {
+            fill(
+                here,
+                Node::OnLeft {
+                    key,
+                    left: node,
+                    value,
+                },
+            );
+            true
+        }
+        Node::OnRight { key, right, value } => {
+            fill(
+                here,
+                Node::Both {
+                    height: 2,
+                    key,
+                    left: node,
+                    right,
+                    value,
+                },
+            );
+            false
+        }
+        _ => unreachable!(),
+    }
 }
 
-// Attaches a box with a single entry as the right side of a box that has none.
-#[tactic(auto, using(crate::proofs::Parts::come_apart))]
+// Attaches a box with a single entry as the right side of a box that has none. Returns whether the
+// height of the box has changed.
 #[inline(never)]
-fn hang_right<K, V>(here: &mut Node<K, V>, node: Box<Node<K, V>>)
+fn hang_right<K, V>(here: &mut Node<K, V>, node: Box<Node<K, V>>) -> bool
 where
     K: Drop,
     V: Drop,
@@ -53,14 +78,40 @@ where
     ensures balanced { IsLevel here.new }
     ensures not_lower { height_in here.old ≤ height_in here.new }
     ensures not_higher { height_in here.new ≤ height_in here.old + 1 }
+    ensures changed { result ≡ differ (height_in here.old) (height_in here.new) }
 {
-    let (left, entry, none) = here.take_parts();
-    drop(none);
-    put(here, Node::over(left, entry, Tree::Fork(node)));
+    match mem::replace(here, Node::Spare) {
+        Node::Alone { key, value } => {
+            fill(
+                here,
+                Node::OnRight {
+                    key,
+                    right: node,
+                    value,
+                },
+            );
+            true
+        }
+        Node::OnLeft { key, left, value } => {
+            fill(
+                here,
+                Node::Both {
+                    height: 2,
+                    key,
+                    left,
+                    right: node,
+                    value,
+                },
+            );
+            false
+        }
+        _ => unreachable!(),
+    }
 }
 
-// Inserts a box with a single entry below another box.
-fn insert_below<K: Ord, V>(here: &mut Node<K, V>, node: Box<Node<K, V>>, count: &mut u64)
+// Inserts a box with a single entry below another box. Returns whether the height of that box has
+// changed.
+fn insert_below<K: Ord, V>(here: &mut Node<K, V>, node: Box<Node<K, V>>, count: &mut u64) -> bool
 where
     K: Drop,
     V: Drop,
@@ -74,37 +125,32 @@ where
     ensures balanced { IsLevel here.new }
     ensures not_lower { height_in here.old ≤ height_in here.new }
     ensures not_higher { height_in here.new ≤ height_in here.old + 1 }
+    ensures changed { result ≡ differ (height_in here.old) (height_in here.new) }
     ensures counted { RaisedByAtMost (height_in here.old) count.old count.new }
 {
     match compare_to(node.key(), here, count) {
-        Ordering::Less => {
-            let before = here.left_height();
-            match here {
-                Node::OnLeft { left, .. } => {
-                    insert_below(left, node, count);
-                    mend_left(here, before);
-                }
-                Node::Both { left, .. } => {
-                    insert_below(left, node, count);
-                    mend_left(here, before);
-                }
-                _ => hang_left(here, node),
+        Ordering::Less => match here {
+            Node::Both { left, .. } => {
+                let grown = insert_below(left, node, count);
+                mend(here, grown)
             }
-        }
-        Ordering::Greater => {
-            let before = here.right_height();
-            match here {
-                Node::OnRight { right, .. } => {
-                    insert_below(right, node, count);
-                    mend_right(here, before);
-                }
-                Node::Both { right, .. } => {
-                    insert_below(right, node, count);
-                    mend_right(here, before);
-                }
-                _ => hang_right(here, node),
+            Node::OnLeft { left, .. } => {
+                let grown = insert_below(left, node, count);
+                mend(here, grown)
             }
-        }
+            _ => hang_left(here, node),
+        },
+        Ordering::Greater => match here {
+            Node::Both { right, .. } => {
+                let grown = insert_below(right, node, count);
+                mend(here, grown)
+            }
+            Node::OnRight { right, .. } => {
+                let grown = insert_below(right, node, count);
+                mend(here, grown)
+            }
+            _ => hang_right(here, node),
+        },
         Ordering::Equal => unreachable!(),
     }
 }
@@ -133,7 +179,7 @@ where
     match tree {
         Tree::Leaf => Tree::Fork(node),
         Tree::Fork(mut top) => {
-            insert_below(&mut top, node, count);
+            let _changed = insert_below(&mut top, node, count);
             Tree::Fork(top)
         }
     }

@@ -1,11 +1,12 @@
 // Rebalancing of a tree. Code that few calls need is in separate functions, so that the others have
 // small stack frames.
-ghost use Rattle.std.specs.Prelude.{◌≡◌, ◌+◌, ◌-◌, ◌<◌, ◌≤◌, ◌++◌, max, Some, IsSome, IsTrue};
+ghost use Rattle.std.specs.Prelude.{◌≡◌, ◌+◌, ◌-◌, ◌<◌, ◌≤◌, ◌++◌, max, None, Some, IsSome, IsTrue, IsFalse};
 ghost use Rattle.std.specs.Option.{option_to_list};
 ghost use Rattle.bq_index.specs.Tree.{entries, entries_in, entries_of, entry_in, height, height_in, height_of, held, left_in, right_in};
-ghost use Rattle.bq_index.specs.Tree.{IsBalanced, IsBalancedFrom, IsLevel, DifferByAtMost, IsRebalanced};
+ghost use Rattle.bq_index.specs.Tree.{IsBalanced, IsBalancedFrom, IsLevel, IsNearlyLevel, DifferByAtMost, HasItsHeight, IsMended, IsRebalanced};
 
-use super::tree::{Node, Tree, open, put};
+use super::tree::{Node, Tree, fill, open, put};
+use std::mem;
 
 // Fills a box with an entry and two sides, after the height of the left side has changed by at most
 // one level. Before the change the left side was `before` levels high and the box `high`. The
@@ -88,7 +89,7 @@ where
     ensures not_lower { height_in node.old ≤ height_in node.new + (before - height_of (left_in node.old)) }
 {
     if node.left_height() != before {
-        rebalance(node);
+        let _changed = rebalance(node);
     }
 }
 
@@ -115,48 +116,360 @@ where
     ensures not_lower { height_in node.old ≤ height_in node.new + (before - height_of (right_in node.old)) }
 {
     if node.right_height() != before {
-        rebalance(node);
+        let _changed = rebalance(node);
     }
 }
 
-// Balances a box in place whose sides differ by at most two levels.
+// Balances a box in place after the height of one side has changed by at most one level. `changed`
+// says whether it has. Returns whether the height of the box has changed.
+#[tactic(auto, using(crate::proofs::Parts::unmoved))]
+#[inline(always)]
+pub(crate) fn mend<K, V>(node: &mut Node<K, V>, changed: bool) -> bool
+where
+    K: Drop,
+    V: Drop,
+    requires nearly { IsNearlyLevel node.old }
+    requires kept { IsFalse changed → HasItsHeight node.old }
+    ensures { IsMended node.old node.new result }
+{
+    if changed { rebalance(node) } else { false }
+}
+
+// Balances a box in place whose sides differ by at most two levels. Returns whether its height has
+// changed.
 #[tactic(auto, using(crate::proofs::Parts::set_level))]
 #[inline(never)]
-fn rebalance<K, V>(node: &mut Node<K, V>)
+fn rebalance<K, V>(node: &mut Node<K, V>) -> bool
 where
     K: Drop,
     V: Drop,
-    requires filled { IsSome (entry_in node.old) }
-    requires left_balanced { IsBalancedFrom (left_in node.old) }
-    requires right_balanced { IsBalancedFrom (right_in node.old) }
-    requires near { DifferByAtMost 2 (height_of (left_in node.old)) (height_of (right_in node.old)) }
-    requires fits { max (height_of (left_in node.old)) (height_of (right_in node.old)) < 254 }
-    ensures { IsRebalanced (left_in node.old) (entry_in node.old) (right_in node.old) (Some node.new) }
+    requires { IsNearlyLevel node.old }
+    ensures { IsMended node.old node.new result }
 {
     let (left, right) = (node.left_height(), node.right_height());
-    if left <= right + 1 && right <= left + 1 {
-        // Only the height changed: no entry moves.
-        node.set_height(left.max(right) + 1);
-        return;
+    if left > right + 1 {
+        return turn_right(node);
     }
-    turn(node);
+    if right > left + 1 {
+        return turn_left(node);
+    }
+    // Only the height changed: no entry moves.
+    node.set_height(left.max(right) + 1)
 }
 
-// Takes a box apart and rebuilds it balanced. Called for sides that differ by two levels.
+// Rotates a box to the left, in place. Its right side is two levels higher than the left one.
+// Returns whether its height has changed.
 #[inline(never)]
-fn turn<K, V>(node: &mut Node<K, V>)
+fn turn_left<K, V>(node: &mut Node<K, V>) -> bool
 where
     K: Drop,
     V: Drop,
-    requires filled { IsSome (entry_in node.old) }
-    requires left_balanced { IsBalancedFrom (left_in node.old) }
-    requires right_balanced { IsBalancedFrom (right_in node.old) }
-    requires near { DifferByAtMost 2 (height_of (left_in node.old)) (height_of (right_in node.old)) }
-    requires fits { max (height_of (left_in node.old)) (height_of (right_in node.old)) < 254 }
-    ensures { IsRebalanced (left_in node.old) (entry_in node.old) (right_in node.old) (Some node.new) }
+    requires nearly { IsNearlyLevel node.old }
+    requires higher { height_of (right_in node.old) ≡ height_of (left_in node.old) + 2 }
+    ensures { IsMended node.old node.new result }
 {
+    match node {
+        Node::Both {
+            height,
+            key,
+            left,
+            right,
+            value,
+        } => match &mut **right {
+            Node::Both {
+                height: low_height,
+                key: low_key,
+                left: inner,
+                right: outer,
+                value: low_value,
+            } => {
+                let low = inner.height();
+                if outer.height() < low {
+                    return turn_apart(node);
+                }
+                mem::swap(key, low_key);
+                mem::swap(value, low_value);
+                mem::swap(inner, outer);
+                mem::swap(left, inner);
+                *low_height = low + 1;
+                mem::swap(left, right);
+                let changed = *height != low + 2;
+                *height = low + 2;
+                changed
+            }
+            _ => turn_apart(node),
+        },
+        Node::OnRight { .. } => lift_right(node),
+        _ => turn_apart(node),
+    }
+}
+
+// Rotates a box to the right, in place. Its left side is two levels higher than the right one.
+// Returns whether its height has changed.
+#[inline(never)]
+fn turn_right<K, V>(node: &mut Node<K, V>) -> bool
+where
+    K: Drop,
+    V: Drop,
+    requires nearly { IsNearlyLevel node.old }
+    requires higher { height_of (left_in node.old) ≡ height_of (right_in node.old) + 2 }
+    ensures { IsMended node.old node.new result }
+{
+    match node {
+        Node::Both {
+            height,
+            key,
+            left,
+            right,
+            value,
+        } => match &mut **left {
+            Node::Both {
+                height: low_height,
+                key: low_key,
+                right: inner,
+                left: outer,
+                value: low_value,
+            } => {
+                let low = inner.height();
+                if outer.height() < low {
+                    return turn_apart(node);
+                }
+                mem::swap(key, low_key);
+                mem::swap(value, low_value);
+                mem::swap(inner, outer);
+                mem::swap(right, inner);
+                *low_height = low + 1;
+                mem::swap(left, right);
+                let changed = *height != low + 2;
+                *height = low + 2;
+                changed
+            }
+            _ => turn_apart(node),
+        },
+        Node::OnLeft { .. } => lift_left(node),
+        _ => turn_apart(node),
+    }
+}
+
+// Rotates a box to the right, in place. It has nothing on its right and two levels on its left.
+// Returns whether its height has changed.
+#[inline(never)]
+fn lift_left<K, V>(node: &mut Node<K, V>) -> bool
+where
+    K: Drop,
+    V: Drop,
+    requires none { right_in node.old ≡ None }
+    requires balanced { IsBalancedFrom (left_in node.old) }
+    requires high { height_of (left_in node.old) ≡ 2 }
+    ensures { IsMended node.old node.new result }
+{
+    let Node::OnLeft {
+        key,
+        left: low,
+        value,
+    } = mem::replace(node, Node::Spare)
+    else {
+        unreachable!()
+    };
+    let mut low = low;
+    match mem::replace(&mut *low, Node::Spare) {
+        Node::OnLeft {
+            key: top,
+            left: outer,
+            value: top_value,
+        } => {
+            fill(&mut *low, Node::Alone { key, value });
+            fill(
+                node,
+                Node::Both {
+                    height: 2,
+                    key: top,
+                    right: low,
+                    left: outer,
+                    value: top_value,
+                },
+            );
+            false
+        }
+        Node::OnRight {
+            key: low_key,
+            right: mut inner,
+            value: low_value,
+        } => {
+            let Node::Alone {
+                key: top,
+                value: top_value,
+            } = mem::replace(&mut *inner, Node::Spare)
+            else {
+                unreachable!()
+            };
+            fill(&mut *inner, Node::Alone { key, value });
+            fill(
+                &mut *low,
+                Node::Alone {
+                    key: low_key,
+                    value: low_value,
+                },
+            );
+            fill(
+                node,
+                Node::Both {
+                    height: 2,
+                    key: top,
+                    right: inner,
+                    left: low,
+                    value: top_value,
+                },
+            );
+            false
+        }
+        Node::Both {
+            key: top,
+            right: inner,
+            left: outer,
+            value: top_value,
+            ..
+        } => {
+            fill(
+                &mut *low,
+                Node::OnLeft {
+                    key,
+                    left: inner,
+                    value,
+                },
+            );
+            fill(
+                node,
+                Node::Both {
+                    height: 3,
+                    key: top,
+                    right: low,
+                    left: outer,
+                    value: top_value,
+                },
+            );
+            true
+        }
+        Node::Alone { .. } | Node::Spare | Node::SpareBefore(_) => unreachable!(),
+    }
+}
+
+// Rotates a box to the left, in place. It has nothing on its left and two levels on its right.
+// Returns whether its height has changed.
+#[inline(never)]
+fn lift_right<K, V>(node: &mut Node<K, V>) -> bool
+where
+    K: Drop,
+    V: Drop,
+    requires none { left_in node.old ≡ None }
+    requires balanced { IsBalancedFrom (right_in node.old) }
+    requires high { height_of (right_in node.old) ≡ 2 }
+    ensures { IsMended node.old node.new result }
+{
+    let Node::OnRight {
+        key,
+        right: low,
+        value,
+    } = mem::replace(node, Node::Spare)
+    else {
+        unreachable!()
+    };
+    let mut low = low;
+    match mem::replace(&mut *low, Node::Spare) {
+        Node::OnRight {
+            key: top,
+            right: outer,
+            value: top_value,
+        } => {
+            fill(&mut *low, Node::Alone { key, value });
+            fill(
+                node,
+                Node::Both {
+                    height: 2,
+                    key: top,
+                    left: low,
+                    right: outer,
+                    value: top_value,
+                },
+            );
+            false
+        }
+        Node::OnLeft {
+            key: low_key,
+            left: mut inner,
+            value: low_value,
+        } => {
+            let Node::Alone {
+                key: top,
+                value: top_value,
+            } = mem::replace(&mut *inner, Node::Spare)
+            else {
+                unreachable!()
+            };
+            fill(&mut *inner, Node::Alone { key, value });
+            fill(
+                &mut *low,
+                Node::Alone {
+                    key: low_key,
+                    value: low_value,
+                },
+            );
+            fill(
+                node,
+                Node::Both {
+                    height: 2,
+                    key: top,
+                    left: inner,
+                    right: low,
+                    value: top_value,
+                },
+            );
+            false
+        }
+        Node::Both {
+            key: top,
+            left: inner,
+            right: outer,
+            value: top_value,
+            ..
+        } => {
+            fill(
+                &mut *low,
+                Node::OnRight {
+                    key,
+                    right: inner,
+                    value,
+                },
+            );
+            fill(
+                node,
+                Node::Both {
+                    height: 3,
+                    key: top,
+                    left: low,
+                    right: outer,
+                    value: top_value,
+                },
+            );
+            true
+        }
+        Node::Alone { .. } | Node::Spare | Node::SpareBefore(_) => unreachable!(),
+    }
+}
+
+// Balances a box by taking it apart. Returns whether its height has changed.
+#[inline(never)]
+fn turn_apart<K, V>(node: &mut Node<K, V>) -> bool
+where
+    K: Drop,
+    V: Drop,
+    requires { IsNearlyLevel node.old }
+    ensures { IsMended node.old node.new result }
+{
+    let high = node.height();
     let (left, entry, right) = node.take_parts();
     balance(node, left, entry, right, 0, false);
+    node.height() != high
 }
 
 // Fills a box with an entry and two sides whose heights differ by at most two levels. If `same` is

@@ -172,7 +172,7 @@ impl<K: Ord + Drop, V: Drop> Shelf<K, V> {
         let (mut node, spares) = tree::unlink(mem::replace(&mut self.spares, Tree::Leaf));
         self.spares = spares;
         self.spare -= 1; // the box of the entry to come
-        tree::put(&mut *node, Node::Alone { key, value });
+        tree::fill(&mut *node, Node::Alone { key, value });
         let tree = mem::replace(&mut self.tree, Tree::Leaf);
         self.tree = change::insert(tree, node, &mut self.comparisons);
         self.len += 1;

@@ -2,8 +2,9 @@
 // chain of the spare boxes.
 ghost use Rattle.std.specs.Prelude.{◌≡◌, ◌+◌, ◌<◌, max, [], IsSome, IfSome, IfNone, IfOk, Some};
 ghost use Rattle.bq_index.specs.Tree.{chain_length, entries, entries_of, entry_in, height, height_in};
-ghost use Rattle.bq_index.specs.Tree.{height_of, held, left_in, length_behind, lent, right_in, with_height};
+ghost use Rattle.bq_index.specs.Tree.{height_of, held, left_in, length_behind, lent, right_in, with_height, differ};
 ghost use Rattle.bq_index.specs.Tree.{IsBalanced, IsBalancedFrom, IsKeyOf, IsLevel, HasParts, DifferByAtMost};
+ghost use Rattle.bq_index.specs.declared.tree.Node.TheVariants.{Spare};
 
 use super::NoMemory;
 use std::alloc::Global;
@@ -55,10 +56,10 @@ impl<K, V> Node<K, V> {
         ensures { result ≡ height_in self.now }
     {
         match self {
-            Node::Spare | Node::SpareBefore(_) => 0,
-            Node::Alone { .. } => 1,
-            Node::OnLeft { .. } | Node::OnRight { .. } => 2,
             Node::Both { height, .. } => *height,
+            Node::OnLeft { .. } | Node::OnRight { .. } => 2,
+            Node::Alone { .. } => 1,
+            Node::Spare | Node::SpareBefore(_) => 0,
         }
     }
 
@@ -82,14 +83,20 @@ impl<K, V> Node<K, V> {
         }
     }
 
-    // Stores a new height in a box with two sides. It does nothing to other boxes, which store
-    // none.
+    // Stores a new height in a box with two sides, and returns whether it differs from the old one.
+    // Other boxes store none, and do not change.
     #[inline(always)]
-    pub(crate) fn set_height(&mut self, high: u8)
-        ensures { self.new ≡ with_height high self.old }
+    pub(crate) fn set_height(&mut self, high: u8) -> bool
+        ensures is { self.new ≡ with_height high self.old }
+        ensures changed { result ≡ differ (height_in self.old) (height_in self.new) }
     {
-        if let Node::Both { height, .. } = self {
-            *height = high;
+        match self {
+            Node::Both { height, .. } => {
+                let changed = *height != high;
+                *height = high;
+                changed
+            }
+            _ => false,
         }
     }
 
@@ -274,6 +281,18 @@ pub(crate) fn put<T: Drop>(place: &mut T, value: T)
     *place = value;
 }
 
+// Fills a spare box. A spare box has nothing to drop, so what it held is forgotten.
+#[inline(always)]
+pub(crate) fn fill<K, V>(place: &mut Node<K, V>, node: Node<K, V>)
+where
+    K: Drop,
+    V: Drop,
+    requires spare { place.old ≡ Spare }
+    ensures { place.new ≡ node }
+{
+    mem::forget(mem::replace(place, node));
+}
+
 // Puts a box in front of a chain.
 pub(crate) fn link<K, V>(mut node: Box<Node<K, V>>, chain: Tree<K, V>) -> Tree<K, V>
 where
@@ -295,7 +314,8 @@ where
     K: Drop,
     V: Drop,
     requires { 0 < chain_length chain }
-    ensures { chain_length chain ≡ chain_length result.1 + 1 }
+    ensures rest { chain_length chain ≡ chain_length result.1 + 1 }
+    ensures spare { result.0.value ≡ Spare }
 {
     match chain {
         Tree::Leaf => unreachable!(),
