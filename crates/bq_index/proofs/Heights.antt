@@ -1,55 +1,35 @@
--- The height of a box that is rebuilt after one of its sides changed by at most one level.
-use Rattle.std.proofs.Common.{◌≡◌, ℕ, ◌+◌, ◌-◌, ◌≤◌, max, Option, Some, inl, inr, arith}
+-- The height of a box that lost its lower side.
+use Rattle.std.proofs.Common.{◌≡◌, ℕ, ◌≤◌, not, Bool, None, inl, inr, ap, sym, subst, arith}
 use Rattle.std.proofs.lemmas.Bool.{cases_order}
-use Rattle.bq_index.specs.Tree.{height_in, height_of, DifferByAtMost, IsRebalanced}
+use Rattle.bq_index.specs.Tree.{height_in, height_of, left_in, right_in, differ, IsMended}
 use Rattle.bq_index.specs.declared.tree.Node.{Node}
+use Rattle.bq_index.specs.declared.tree.Node.TheVariants.{Spare, SpareBefore', Alone, OnLeft', OnRight', Both'}
 
--- A box was `high`, with sides of the heights `before` and r. Now the first side has the height l,
--- and the box the height t, which is known to within one level, and exactly if the sides differ by
--- at most one.
-levels : (high before l r t : ℕ) → high ≡ max before r + 1 → DifferByAtMost 1 before r → DifferByAtMost 1 before l
-    → max l r ≤ t → t ≤ max l r + 1 → (DifferByAtMost 1 l r → t ≡ max l r + 1) → (t ≤ high + (l - before)) × (high ≤ t + (before - l))
-levels high before l r t known near changed low top exact =
-    elim (cases_order l (r + 2)) [
-      | inl e ↦ (omega arith, omega arith)
-      | inr (inl less) ↦ elim (cases_order r (l + 2)) [
-        | inl e ↦ (omega arith, omega arith)
-        | inr (inl close) ↦ let is = exact (omega arith, omega arith) in (omega arith, omega arith)
-        | inr (inr more) ↦ absurd (omega arith)
-      ]
-      | inr (inr more) ↦ absurd (omega arith)
+-- A box was three levels high and lost its lower side. With the two levels of the other side it has two or three levels.
+two_or_three : (t : ℕ) (c : Bool) → 2 ≤ t → t ≤ 3 → c ≡ differ 2 t → not c ≡ differ 3 t
+two_or_three t c low top e =
+    elim (cases_order t 2) [
+      | inl s ↦ subst (λ x. c ≡ differ 2 x → not c ≡ differ 3 x) (sym s) (λ f. ap not f) e
+      | inr (inl less) ↦ absurd (omega arith)
+      | inr (inr more) ↦ let s : t ≡ 3 = omega arith in subst (λ x. c ≡ differ 2 x → not c ≡ differ 3 x) (sym s) (λ f. ap not f) e
     ]
 
--- the rebuilt box, after the left side has changed,
-module _ {K V : Type 0} (l r : Option (Node K V)) (e : Option (K × V)) (n : Node K V) (high before : ℕ) where
-  both_left : IsRebalanced l e r (Some n) → high ≡ max before (height_of r) + 1 → DifferByAtMost 1 before (height_of r)
-      → DifferByAtMost 1 before (height_of l) → (height_in n ≤ high + (height_of l - before))
-      × (high ≤ height_in n + (before - height_of l))
-  both_left b known near changed = levels high before (height_of l) (height_of r)
-      (height_in n) known near changed b.not_lower b.not_higher b.near
+pub falls_left : {K V : Type 0} (n m : Node K V) (c : Bool) → right_in n ≡ None → height_of (left_in n) ≡ 2 → IsMended n m c
+    → not c ≡ differ 3 (height_in m)
+falls_left Spare m c r h w = absurd (omega (arith, h))
+falls_left (SpareBefore' p n) m c r h w = absurd (omega (arith, h))
+falls_left (Alone k v) m c r h w = absurd (omega (arith, h))
+falls_left (OnLeft' k p l v) m c r h w =
+    two_or_three (height_in m) c (omega (arith, w.rebalanced.not_lower, h)) (omega (arith, w.rebalanced.not_higher, h)) w.changed_is
+falls_left (OnRight' k p q v) m c r h w = absurd (omega (arith, h))
+falls_left (Both' a k p l q b v) m c r h w = absurd cc
 
-  pub left_not_higher : IsRebalanced l e r (Some n) → high ≡ max before (height_of r) + 1 → DifferByAtMost 1 before (height_of r)
-      → DifferByAtMost 1 before (height_of l) → height_in n ≤ high + (height_of l - before)
-  left_not_higher b known near changed = (both_left b known near changed).0
-
-  pub left_not_lower : IsRebalanced l e r (Some n) → high ≡ max before (height_of r) + 1 → DifferByAtMost 1 before (height_of r)
-      → DifferByAtMost 1 before (height_of l) → high ≤ height_in n + (before - height_of l)
-  left_not_lower b known near changed = (both_left b known near changed).1
-
-  -- or the right side
-  both_right : IsRebalanced l e r (Some n) → high ≡ max before (height_of l) + 1 → DifferByAtMost 1 before (height_of l)
-      → DifferByAtMost 1 before (height_of r) → (height_in n ≤ high + (height_of r - before))
-      × (high ≤ height_in n + (before - height_of r))
-  both_right b known near changed =
-      let low : max (height_of r) (height_of l) ≤ height_in n = omega (arith, b.not_lower) in
-      let top : height_in n ≤ max (height_of r) (height_of l) + 1 = omega (arith, b.not_higher) in
-      levels high before (height_of r) (height_of l) (height_in n) known near changed low top
-      (λ d. let is = b.near (d.1, d.0) in omega (arith, is))
-
-  pub right_not_higher : IsRebalanced l e r (Some n) → high ≡ max before (height_of l) + 1 → DifferByAtMost 1 before (height_of l)
-      → DifferByAtMost 1 before (height_of r) → height_in n ≤ high + (height_of r - before)
-  right_not_higher b known near changed = (both_right b known near changed).0
-
-  pub right_not_lower : IsRebalanced l e r (Some n) → high ≡ max before (height_of l) + 1 → DifferByAtMost 1 before (height_of l)
-      → DifferByAtMost 1 before (height_of r) → high ≤ height_in n + (before - height_of r)
-  right_not_lower b known near changed = (both_right b known near changed).1
+pub falls_right : {K V : Type 0} (n m : Node K V) (c : Bool) → left_in n ≡ None → height_of (right_in n) ≡ 2 → IsMended n m c
+    → not c ≡ differ 3 (height_in m)
+falls_right Spare m c r h w = absurd (omega (arith, h))
+falls_right (SpareBefore' p n) m c r h w = absurd (omega (arith, h))
+falls_right (Alone k v) m c r h w = absurd (omega (arith, h))
+falls_right (OnLeft' k p l v) m c r h w = absurd (omega (arith, h))
+falls_right (OnRight' k p q v) m c r h w =
+    two_or_three (height_in m) c (omega (arith, w.rebalanced.not_lower, h)) (omega (arith, w.rebalanced.not_higher, h)) w.changed_is
+falls_right (Both' a k p l q b v) m c r h w = absurd cc

@@ -1,17 +1,21 @@
 // Insertion and removal. Boxes are changed in place: an entry moves only if its box gains or loses
-// a side, or if the tree is rebalanced there. The last step of a descent is a separate function, so
-// that the steps on the way have small stack frames.
-ghost use Rattle.std.specs.Prelude.{◌≡◌, ◌+◌, ◌<◌, ◌≤◌, max, [], ◌++◌, Some, None, IsSome, IfSome, IfNone};
+// a side, if the tree is rotated there, or if it takes the place of a removed one. Each step of a
+// descent returns whether the height of its box has changed. If it has not, the boxes above stay as
+// they are. The last step of a descent is a separate function, so that the steps on the way have
+// small stack frames.
+ghost use Rattle.std.specs.Prelude.{◌≡◌, ◌+◌, ◌<◌, ◌≤◌, ◌++◌, [], Some, None, is_some, IfSome};
 ghost use Rattle.std.specs.Option.{option_map, option_to_list};
 ghost use Rattle.std.specs.Map.{lookup, remove_entry};
 ghost use Rattle.std.specs.BTreeMap.{is_at};
 ghost use Rattle.bq_index.specs.Order.{InOrder, LacksKeyOf, with_entry};
-ghost use Rattle.bq_index.specs.Tree.{entries, entries_in, entries_of, entry_in, height, height_in, height_of, held, left_in, right_in};
-ghost use Rattle.bq_index.specs.Tree.{HasParts, IsBalanced, IsLevel, DifferByAtMost, RaisedByAtMost, IsFirstTaken, differ};
+ghost use Rattle.bq_index.specs.Tree.{entries, entries_in, entries_of, entry_in, entry_of_top, height, height_in, height_of, left_in, right_in};
+ghost use Rattle.bq_index.specs.declared.tree.Node.TheVariants.{Spare};
+ghost use Rattle.bq_index.specs.declared.tree.Tree.TheVariants.{Leaf};
+ghost use Rattle.bq_index.specs.Tree.{HasParts, IsBalanced, IsBalancedFrom, IsLevel, IsWithoutFirst, RaisedByAtMost, differ};
 
-use super::find::{compare, compare_to};
-use super::rotation::{balance, mend, mend_left, mend_right, with_left, with_right};
-use super::tree::{Node, Tree, fill, open, put};
+use super::find::compare_to;
+use super::rotation::{mend, sink_left, sink_right};
+use super::tree::{Node, Tree, fill, put};
 use std::cmp::Ordering;
 use std::mem;
 
@@ -185,108 +189,344 @@ where
     }
 }
 
-// Takes the first entry out of a tree: returns a box that is spare now, the entry, and the tree of
-// the others.
-fn take_first<K, V>(tree: Tree<K, V>) -> Option<(Box<Node<K, V>>, (K, V), Tree<K, V>)>
-where
-    K: Drop,
-    V: Drop,
-    requires balanced { IsBalanced tree }
-    requires fits { height tree < 200 }
-    ensures first { IfSome result (λ p. IsFirstTaken (held tree) (Some p.1) (held p.2)) }
-    ensures empty { IfNone result (entries tree ≡ []) }
-    ensures low { IfNone result (height tree ≡ 0) }
+// Returns whether the key is that of a box with nothing below it.
+#[tactic(auto, using(crate::proofs::Single::answer_of))]
+fn is_key_of<K: Ord, V>(key: &K, node: &Node<K, V>, count: &mut u64) -> bool
+    requires level { IsLevel node.now }
+    requires alone { height_in node.now ≡ 1 }
+    ensures answer { result ≡ is_some (lookup (is_at (K.cmp key.now)) (entries_in node.now)) }
+    ensures counted { RaisedByAtMost 1 count.old count.new }
 {
-    let high = tree.height();
-    let Some((left, mut here, entry, right)) = open(tree) else {
-        return None;
-    };
-    let before = left.height();
-    match take_first(left) {
-        None => Some((here, entry, right)),
-        Some((spare, first, rest)) => {
-            with_left(&mut here, rest, entry, right, high, before);
-            Some((spare, first, Tree::Fork(here)))
-        }
+    compare_to(key, node, count).is_eq()
+}
+
+// Returns whether the key is that of the left side, which is a single box or nothing.
+fn is_on_left<K: Ord, V>(here: &Node<K, V>, key: &K, count: &mut u64) -> bool
+    requires balanced { IsBalancedFrom (left_in here.now) }
+    requires low { height_of (left_in here.now) ≤ 1 }
+    ensures answer { result ≡ is_some (lookup (is_at (K.cmp key.now)) (entries_of (left_in here.now))) }
+    ensures counted { RaisedByAtMost (height_of (left_in here.now)) count.old count.new }
+{
+    match here {
+        Node::OnLeft { left, .. } => is_key_of(key, left, count),
+        Node::Both { left, .. } => is_key_of(key, left, count),
+        _ => false,
     }
 }
 
-// Joins the two sides of a box whose entry was removed. Returns the joined tree and a spare box.
-fn close<K, V>(
-    node: Box<Node<K, V>>,
-    left: Tree<K, V>,
-    right: Tree<K, V>,
-) -> (Tree<K, V>, Box<Node<K, V>>)
-where
-    K: Drop,
-    V: Drop,
-    requires left_balanced { IsBalanced left }
-    requires right_balanced { IsBalanced right }
-    requires near { DifferByAtMost 1 (height left) (height right) }
-    requires fits { max (height left) (height right) < 200 }
-    ensures is { entries result.0 ≡ entries left ++ entries right }
-    ensures balanced { IsBalanced result.0 }
-    ensures not_lower { max (height left) (height right) ≤ height result.0 }
-    ensures not_higher { height result.0 ≤ max (height left) (height right) + 1 }
+// Returns whether the key is that of the right side, which is a single box or nothing.
+fn is_on_right<K: Ord, V>(here: &Node<K, V>, key: &K, count: &mut u64) -> bool
+    requires balanced { IsBalancedFrom (right_in here.now) }
+    requires low { height_of (right_in here.now) ≤ 1 }
+    ensures answer { result ≡ is_some (lookup (is_at (K.cmp key.now)) (entries_of (right_in here.now))) }
+    ensures counted { RaisedByAtMost (height_of (right_in here.now)) count.old count.new }
 {
-    match take_first(right) {
-        None => (left, node),
-        Some((mut spare, first, rest)) => {
-            balance(&mut spare, left, first, rest, 0, false);
-            (Tree::Fork(spare), node)
-        }
+    match here {
+        Node::OnRight { right, .. } => is_key_of(key, right, count),
+        Node::Both { right, .. } => is_key_of(key, right, count),
+        _ => false,
     }
 }
 
-// Returns the tree without the key, and the removed value with a spare box, if the key was there.
-// It takes apart the boxes on its way, so it is called for trees of at most one level.
-fn remove_apart<K: Ord, V>(
-    tree: Tree<K, V>,
+// Takes the left side, which is a single box, off a box. Returns that box, and whether the height
+// of `here` has changed.
+#[inline(never)]
+fn shed_left<K, V>(here: &mut Node<K, V>) -> (Box<Node<K, V>>, bool)
+where
+    K: Drop,
+    V: Drop,
+    requires here_level { IsLevel here.old }
+    requires low { height_of (left_in here.old) ≡ 1 }
+    ensures is { entries_in here.new ≡ option_to_list (entry_in here.old) ++ entries_of (right_in here.old) }
+    ensures balanced { IsLevel here.new }
+    ensures not_higher { height_in here.new ≤ height_in here.old }
+    ensures not_lower { height_in here.old ≤ height_in here.new + 1 }
+    ensures changed { result.1 ≡ differ (height_in here.old) (height_in here.new) }
+    ensures shed { Some result.0.value ≡ left_in here.old }
+{
+    match mem::replace(here, Node::Spare) {
+        Node::OnLeft { key, left, value } => {
+            fill(here, Node::Alone { key, value });
+            (left, true)
+        }
+        Node::Both {
+            height,
+            key,
+            left,
+            right,
+            value,
+        } => {
+            fill(here, Node::OnRight { key, right, value });
+            if height > 2 {
+                let changed = sink_right(here);
+                (left, changed)
+            } else {
+                (left, false)
+            }
+        }
+        _ => unreachable!(),
+    }
+}
+
+// Takes the right side, which is a single box, off a box. Returns that box, and whether the height
+// of `here` has changed.
+#[inline(never)]
+fn shed_right<K, V>(here: &mut Node<K, V>) -> (Box<Node<K, V>>, bool)
+where
+    K: Drop,
+    V: Drop,
+    requires here_level { IsLevel here.old }
+    requires low { height_of (right_in here.old) ≡ 1 }
+    ensures is { entries_in here.new ≡ entries_of (left_in here.old) ++ (option_to_list (entry_in here.old) ++ []) }
+    ensures balanced { IsLevel here.new }
+    ensures not_higher { height_in here.new ≤ height_in here.old }
+    ensures not_lower { height_in here.old ≤ height_in here.new + 1 }
+    ensures changed { result.1 ≡ differ (height_in here.old) (height_in here.new) }
+    ensures shed { Some result.0.value ≡ right_in here.old }
+{
+    match mem::replace(here, Node::Spare) {
+        Node::OnRight { key, right, value } => {
+            fill(here, Node::Alone { key, value });
+            (right, true)
+        }
+        Node::Both {
+            height,
+            key,
+            left,
+            right,
+            value,
+        } => {
+            fill(here, Node::OnLeft { key, left, value });
+            if height > 2 {
+                let changed = sink_left(here);
+                (right, changed)
+            } else {
+                (right, false)
+            }
+        }
+        _ => unreachable!(),
+    }
+}
+
+// Removes the key from the left side of a box, which is a single box or nothing. Returns whether
+// the height of `here` has changed.
+#[tactic(auto, using(crate::proofs::Parts::come_apart, crate::proofs::Single::height_if_found))]
+fn cut_left<K: Ord, V>(
+    here: &mut Node<K, V>,
     key: &K,
     count: &mut u64,
-) -> (Tree<K, V>, Option<(Box<Node<K, V>>, V)>)
+    found: &mut Tree<K, V>,
+) -> bool
 where
     K: Drop,
     V: Drop,
-    requires balanced { IsBalanced tree }
-    requires in_order { InOrder K.cmp (entries tree) }
-    requires fits { height tree < 200 }
-    ensures is { entries result.0 ≡ remove_entry (is_at (K.cmp key.now)) (entries tree) }
-    ensures balanced { IsBalanced result.0 }
-    ensures found { option_map (λ p. p.1) result.1
-        ≡ lookup (is_at (K.cmp key.now)) (entries tree) }
-    ensures not_higher { height result.0 ≤ height tree }
-    ensures not_lower { height tree ≤ height result.0 + 1 }
-    ensures counted { RaisedByAtMost (height tree) count.old count.new }
+    requires here_level { IsLevel here.old }
+    requires low { height_of (left_in here.old) ≤ 1 }
+    requires none { found.old ≡ Leaf }
+    ensures is { entries_in here.new ≡ remove_entry (is_at (K.cmp key.now)) (entries_of (left_in here.old))
+        ++ (option_to_list (entry_in here.old) ++ entries_of (right_in here.old)) }
+    ensures balanced { IsLevel here.new }
+    ensures found { option_map (λ e. e.1) (entry_of_top found.new)
+        ≡ lookup (is_at (K.cmp key.now)) (entries_of (left_in here.old)) }
+    ensures not_higher { height_in here.new ≤ height_in here.old }
+    ensures not_lower { height_in here.old ≤ height_in here.new + 1 }
+    ensures changed { result ≡ differ (height_in here.old) (height_in here.new) }
+    ensures counted { RaisedByAtMost (height_of (left_in here.old)) count.old count.new }
 {
-    let high = tree.height();
-    let Some((left, mut here, entry, right)) = open(tree) else {
-        return (Tree::Leaf, None);
-    };
-    match compare(key, &entry.0, count) {
-        Ordering::Less => {
-            let before = left.height();
-            let (left, found) = remove_apart(left, key, count);
-            with_left(&mut here, left, entry, right, high, before);
-            (Tree::Fork(here), found)
-        }
-        Ordering::Greater => {
-            let before = right.height();
-            let (right, found) = remove_apart(right, key, count);
-            with_right(&mut here, left, entry, right, high, before);
-            (Tree::Fork(here), found)
-        }
-        Ordering::Equal => {
-            let (rest, spare) = close(here, left, right);
-            (rest, Some((spare, entry.1)))
-        }
+    if is_on_left(here, key, count) {
+        let (removed, changed) = shed_left(here);
+        put(found, Tree::Fork(removed));
+        changed
+    } else {
+        false
     }
 }
 
-// Takes the entry out of a box that has a side, and stores its value with a spare box in `found`.
-#[tactic(auto, using(crate::proofs::Parts::come_apart))]
+// Removes the key from the right side of a box, which is a single box or nothing. Returns whether
+// the height of `here` has changed.
+#[tactic(auto, using(crate::proofs::Parts::come_apart, crate::proofs::Single::height_if_found))]
+fn cut_right<K: Ord, V>(
+    here: &mut Node<K, V>,
+    key: &K,
+    count: &mut u64,
+    found: &mut Tree<K, V>,
+) -> bool
+where
+    K: Drop,
+    V: Drop,
+    requires here_level { IsLevel here.old }
+    requires low { height_of (right_in here.old) ≤ 1 }
+    requires none { found.old ≡ Leaf }
+    ensures is { entries_in here.new ≡ entries_of (left_in here.old)
+        ++ (option_to_list (entry_in here.old) ++ remove_entry (is_at (K.cmp key.now)) (entries_of (right_in here.old))) }
+    ensures balanced { IsLevel here.new }
+    ensures found { option_map (λ e. e.1) (entry_of_top found.new)
+        ≡ lookup (is_at (K.cmp key.now)) (entries_of (right_in here.old)) }
+    ensures not_higher { height_in here.new ≤ height_in here.old }
+    ensures not_lower { height_in here.old ≤ height_in here.new + 1 }
+    ensures changed { result ≡ differ (height_in here.old) (height_in here.new) }
+    ensures counted { RaisedByAtMost (height_of (right_in here.old)) count.old count.new }
+{
+    if is_on_right(here, key, count) {
+        let (removed, changed) = shed_right(here);
+        put(found, Tree::Fork(removed));
+        changed
+    } else {
+        false
+    }
+}
+
+// Swaps an entry with that of a box that has nothing below it.
+fn swap_with<K, V>(key: &mut K, value: &mut V, node: &mut Node<K, V>)
+    requires level { IsLevel node.old }
+    requires alone { height_in node.old ≡ 1 }
+    ensures level { IsLevel node.new }
+    ensures alone { height_in node.new ≡ 1 }
+    ensures there { entry_in node.new ≡ Some (key.old, value.old) }
+    ensures here { Some (key.new, value.new) ≡ entry_in node.old }
+{
+    match node {
+        Node::Alone {
+            key: other_key,
+            value: other_value,
+        } => {
+            mem::swap(key, other_key);
+            mem::swap(value, other_value);
+        }
+        _ => unreachable!(),
+    }
+}
+
+// Takes the entry out of a box whose left side is a single box, and puts the entry of that box in
+// its place. Returns the box, which has the entry now, and whether the height of `here` has
+// changed.
 #[inline(never)]
-fn take_out<K, V>(here: &mut Node<K, V>, found: &mut Option<(Box<Node<K, V>>, V)>)
+fn trade_left<K, V>(here: &mut Node<K, V>) -> (Box<Node<K, V>>, bool)
+where
+    K: Drop,
+    V: Drop,
+    requires here_level { IsLevel here.old }
+    requires low { height_of (left_in here.old) ≡ 1 }
+    ensures is { entries_in here.new ≡ entries_of (left_in here.old) ++ entries_of (right_in here.old) }
+    ensures balanced { IsLevel here.new }
+    ensures not_higher { height_in here.new ≤ height_in here.old }
+    ensures not_lower { height_in here.old ≤ height_in here.new + 1 }
+    ensures changed { result.1 ≡ differ (height_in here.old) (height_in here.new) }
+    ensures entry { entry_in result.0.value ≡ entry_in here.old }
+    ensures level { IsLevel result.0.value }
+    ensures alone { height_in result.0.value ≡ 1 }
+{
+    match here {
+        Node::OnLeft { key, left, value } => swap_with(key, value, left),
+        Node::Both {
+            key,
+            left,
+            value,
+            ..
+        } => swap_with(key, value, left),
+        _ => unreachable!(),
+    }
+    shed_left(here)
+}
+
+// Takes the entry out of a box whose right side is a single box, and puts the entry of that box in
+// its place. Returns the box, which has the entry now, and whether the height of `here` has
+// changed.
+#[inline(never)]
+fn trade_right<K, V>(here: &mut Node<K, V>) -> (Box<Node<K, V>>, bool)
+where
+    K: Drop,
+    V: Drop,
+    requires here_level { IsLevel here.old }
+    requires low { height_of (right_in here.old) ≡ 1 }
+    ensures is { entries_in here.new ≡ entries_of (left_in here.old) ++ entries_of (right_in here.old) }
+    ensures balanced { IsLevel here.new }
+    ensures not_higher { height_in here.new ≤ height_in here.old }
+    ensures not_lower { height_in here.old ≤ height_in here.new + 1 }
+    ensures changed { result.1 ≡ differ (height_in here.old) (height_in here.new) }
+    ensures entry { entry_in result.0.value ≡ entry_in here.old }
+    ensures level { IsLevel result.0.value }
+    ensures alone { height_in result.0.value ≡ 1 }
+{
+    match here {
+        Node::OnRight { key, right, value } => swap_with(key, value, right),
+        Node::Both {
+            key,
+            right,
+            value,
+            ..
+        } => swap_with(key, value, right),
+        _ => unreachable!(),
+    }
+    shed_right(here)
+}
+
+// Takes the first entry out of a box that has a side, or out of a box below it. Returns a box with
+// that entry and nothing below it, and whether the height of `here` has changed.
+#[tactic(auto, using(crate::proofs::Parts::come_apart))]
+fn take_first<K, V>(here: &mut Node<K, V>) -> (Box<Node<K, V>>, bool)
+where
+    K: Drop,
+    V: Drop,
+    requires here_level { IsLevel here.old }
+    requires high { 1 < height_in here.old }
+    requires fits { height_in here.old < 200 }
+    ensures { IsWithoutFirst here.old here.new result.0.value result.1 }
+{
+    let low = here.left_height();
+    if low == 0 {
+        return trade_right(here);
+    }
+    if low == 1 {
+        return shed_left(here);
+    }
+    match here {
+        Node::Both { left, .. } => {
+            let (first, shrunk) = take_first(left);
+            let changed = mend(here, shrunk);
+            (first, changed)
+        }
+        _ => unreachable!(),
+    }
+}
+
+// Takes the entry out of a box whose right side has more than one level. The first entry of that
+// side takes its place. Returns a box with the entry, and whether the height of `here` has changed.
+fn trade_below<K, V>(here: &mut Node<K, V>) -> (Box<Node<K, V>>, bool)
+where
+    K: Drop,
+    V: Drop,
+    requires here_level { IsLevel here.old }
+    requires high { 1 < height_of (right_in here.old) }
+    requires fits { height_in here.old < 200 }
+    ensures is { entries_in here.new ≡ entries_of (left_in here.old) ++ entries_of (right_in here.old) }
+    ensures balanced { IsLevel here.new }
+    ensures not_higher { height_in here.new ≤ height_in here.old }
+    ensures not_lower { height_in here.old ≤ height_in here.new + 1 }
+    ensures changed { result.1 ≡ differ (height_in here.old) (height_in here.new) }
+    ensures entry { entry_in result.0.value ≡ entry_in here.old }
+{
+    match here {
+        Node::Both {
+            key,
+            right,
+            value,
+            ..
+        } => {
+            let (first, shrunk) = take_first(right);
+            let mut first = first;
+            swap_with(key, value, &mut *first);
+            let changed = mend(here, shrunk);
+            (first, changed)
+        }
+        _ => unreachable!(),
+    }
+}
+
+// Takes the entry out of a box that has a side. Returns a box with that entry, and whether the
+// height of `here` has changed.
+#[tactic(auto, using(crate::proofs::Parts::come_apart))]
+fn trade<K, V>(here: &mut Node<K, V>) -> (Box<Node<K, V>>, bool)
 where
     K: Drop,
     V: Drop,
@@ -294,113 +534,53 @@ where
     requires high { 1 < height_in here.old }
     requires fits { height_in here.old < 200 }
     ensures is { entries_in here.new ≡ entries_of (left_in here.old) ++ entries_of (right_in here.old) }
-    ensures value { option_map (λ p. p.1) found.new ≡ option_map (λ e. e.1) (entry_in here.old) }
     ensures balanced { IsLevel here.new }
     ensures not_higher { height_in here.new ≤ height_in here.old }
     ensures not_lower { height_in here.old ≤ height_in here.new + 1 }
+    ensures changed { result.1 ≡ differ (height_in here.old) (height_in here.new) }
+    ensures entry { entry_in result.0.value ≡ entry_in here.old }
 {
-    let (left, entry, right) = here.take_parts();
-    match take_first(right) {
-        None => {
-            let spare = move_up(here, left);
-            put(found, Some((spare, entry.1)));
-        }
-        Some((spare, first, rest)) => {
-            balance(here, left, first, rest, 0, false);
-            put(found, Some((spare, entry.1)));
-        }
+    let low = here.right_height();
+    if low == 0 {
+        return trade_left(here);
     }
+    if low == 1 {
+        return trade_right(here);
+    }
+    trade_below(here)
 }
 
-// Moves the content of a tree's top box into `here`, and returns that box, which is spare now.
-fn move_up<K, V>(here: &mut Node<K, V>, tree: Tree<K, V>) -> Box<Node<K, V>>
-where
-    K: Drop,
-    V: Drop,
-    requires some { 0 < height tree }
-    ensures { Some here.new ≡ held tree }
-{
-    match tree {
-        Tree::Leaf => unreachable!(),
-        Tree::Fork(mut low) => {
-            put(here, mem::replace(&mut *low, Node::Spare));
-            low
-        }
-    }
-}
-
-// Removes the key from the left side of a box by taking that side apart. The result goes to `found`
-// so that the caller has no local variable for it: a function initializes all of its stack frame
-// before it starts.
-#[tactic(auto, using(crate::proofs::Parts::come_apart))]
+// Takes the entry out of a box that has a side. A box with that entry goes to `found`. Returns
+// whether the height of `here` has changed.
 #[inline(never)]
-fn cut_left<K: Ord, V>(
-    here: &mut Node<K, V>,
-    key: &K,
-    count: &mut u64,
-    found: &mut Option<(Box<Node<K, V>>, V)>,
-)
+fn take_out<K, V>(here: &mut Node<K, V>, found: &mut Tree<K, V>) -> bool
 where
     K: Drop,
     V: Drop,
     requires here_level { IsLevel here.old }
-    requires in_order { InOrder K.cmp (entries_of (left_in here.old)) }
+    requires high { 1 < height_in here.old }
     requires fits { height_in here.old < 200 }
-    ensures is { entries_in here.new ≡ remove_entry (is_at (K.cmp key.now)) (entries_of (left_in here.old))
-        ++ (option_to_list (entry_in here.old) ++ entries_of (right_in here.old)) }
+    ensures is { entries_in here.new ≡ entries_of (left_in here.old) ++ entries_of (right_in here.old) }
+    ensures value { option_map (λ e. e.1) (entry_of_top found.new) ≡ option_map (λ e. e.1) (entry_in here.old) }
     ensures balanced { IsLevel here.new }
-    ensures found { option_map (λ p. p.1) found.new
-        ≡ lookup (is_at (K.cmp key.now)) (entries_of (left_in here.old)) }
     ensures not_higher { height_in here.new ≤ height_in here.old }
     ensures not_lower { height_in here.old ≤ height_in here.new + 1 }
-    ensures counted { RaisedByAtMost (height_of (left_in here.old)) count.old count.new }
+    ensures changed { result ≡ differ (height_in here.old) (height_in here.new) }
 {
-    let (high, before) = (here.height(), here.left_height());
-    let (left, entry, right) = here.take_parts();
-    let (left, there) = remove_apart(left, key, count);
-    with_left(here, left, entry, right, high, before);
-    put(found, there);
+    let (removed, changed) = trade(here);
+    put(found, Tree::Fork(removed));
+    changed
 }
 
-// Removes the key from the right side of a box by taking that side apart.
-#[tactic(auto, using(crate::proofs::Parts::come_apart))]
-#[inline(never)]
-fn cut_right<K: Ord, V>(
-    here: &mut Node<K, V>,
-    key: &K,
-    count: &mut u64,
-    found: &mut Option<(Box<Node<K, V>>, V)>,
-)
-where
-    K: Drop,
-    V: Drop,
-    requires here_level { IsLevel here.old }
-    requires in_order { InOrder K.cmp (entries_of (right_in here.old)) }
-    requires fits { height_in here.old < 200 }
-    ensures is { entries_in here.new ≡ entries_of (left_in here.old)
-        ++ (option_to_list (entry_in here.old) ++ remove_entry (is_at (K.cmp key.now)) (entries_of (right_in here.old))) }
-    ensures balanced { IsLevel here.new }
-    ensures found { option_map (λ p. p.1) found.new
-        ≡ lookup (is_at (K.cmp key.now)) (entries_of (right_in here.old)) }
-    ensures not_higher { height_in here.new ≤ height_in here.old }
-    ensures not_lower { height_in here.old ≤ height_in here.new + 1 }
-    ensures counted { RaisedByAtMost (height_of (right_in here.old)) count.old count.new }
-{
-    let (high, before) = (here.height(), here.right_height());
-    let (left, entry, right) = here.take_parts();
-    let (right, there) = remove_apart(right, key, count);
-    with_right(here, left, entry, right, high, before);
-    put(found, there);
-}
-
-// Removes the key from a box that has a side, or from below it. The removed value, which may be
-// large, goes straight to `found`, so that it is not copied from call to call on the way back.
+// Removes the key from a box that has a side, or from below it. A box with the removed entry goes
+// to `found`, so that no value is copied on the way back. Returns whether the height of `here` has
+// changed.
 fn remove_below<K: Ord, V>(
     here: &mut Node<K, V>,
     key: &K,
     count: &mut u64,
-    found: &mut Option<(Box<Node<K, V>>, V)>,
-)
+    found: &mut Tree<K, V>,
+) -> bool
 where
     K: Drop,
     V: Drop,
@@ -408,25 +588,26 @@ where
     requires high { 1 < height_in here.old }
     requires in_order { InOrder K.cmp (entries_in here.old) }
     requires fits { height_in here.old < 200 }
+    requires none { found.old ≡ Leaf }
     ensures is { entries_in here.new ≡ remove_entry (is_at (K.cmp key.now)) (entries_in here.old) }
     ensures balanced { IsLevel here.new }
-    ensures found { option_map (λ p. p.1) found.new
+    ensures found { option_map (λ e. e.1) (entry_of_top found.new)
         ≡ lookup (is_at (K.cmp key.now)) (entries_in here.old) }
     ensures not_higher { height_in here.new ≤ height_in here.old }
     ensures not_lower { height_in here.old ≤ height_in here.new + 1 }
+    ensures changed { result ≡ differ (height_in here.old) (height_in here.new) }
     ensures counted { RaisedByAtMost (height_in here.old) count.old count.new }
 {
     match compare_to(key, here, count) {
         Ordering::Less => {
             let before = here.left_height();
             if before <= 1 {
-                cut_left(here, key, count, found);
-                return;
+                return cut_left(here, key, count, found);
             }
             match here {
                 Node::Both { left, .. } => {
-                    remove_below(left, key, count, found);
-                    mend_left(here, before);
+                    let shrunk = remove_below(left, key, count, found);
+                    mend(here, shrunk)
                 }
                 _ => unreachable!(),
             }
@@ -434,18 +615,64 @@ where
         Ordering::Greater => {
             let before = here.right_height();
             if before <= 1 {
-                cut_right(here, key, count, found);
-                return;
+                return cut_right(here, key, count, found);
             }
             match here {
                 Node::Both { right, .. } => {
-                    remove_below(right, key, count, found);
-                    mend_right(here, before);
+                    let shrunk = remove_below(right, key, count, found);
+                    mend(here, shrunk)
                 }
                 _ => unreachable!(),
             }
         }
         Ordering::Equal => take_out(here, found),
+    }
+}
+
+// Takes the value out of the box of a removed entry. The box is spare then.
+#[inline(always)]
+fn taken<K, V>(found: Tree<K, V>) -> Option<(Box<Node<K, V>>, V)>
+where
+    K: Drop,
+    V: Drop,
+    ensures value { option_map (λ p. p.1) result ≡ option_map (λ e. e.1) (entry_of_top found) }
+    ensures spare { IfSome result (λ p. p.0.value ≡ Spare) }
+{
+    match found {
+        Tree::Leaf => None,
+        Tree::Fork(mut node) => match mem::replace(&mut *node, Node::Spare) {
+            Node::Alone { value, .. } => Some((node, value)),
+            Node::OnLeft { value, .. } => Some((node, value)),
+            Node::OnRight { value, .. } => Some((node, value)),
+            Node::Both { value, .. } => Some((node, value)),
+            Node::Spare | Node::SpareBefore(_) => None,
+        },
+    }
+}
+
+// Removes the key from a tree that is a single box.
+fn remove_single<K: Ord, V>(
+    top: Box<Node<K, V>>,
+    key: &K,
+    count: &mut u64,
+) -> (Tree<K, V>, Option<(Box<Node<K, V>>, V)>)
+where
+    K: Drop,
+    V: Drop,
+    requires level { IsLevel top.value }
+    requires alone { height_in top.value ≡ 1 }
+    ensures is { entries result.0 ≡ remove_entry (is_at (K.cmp key.now)) (entries_in top.value) }
+    ensures balanced { IsBalanced result.0 }
+    ensures found { option_map (λ p. p.1) result.1
+        ≡ lookup (is_at (K.cmp key.now)) (entries_in top.value) }
+    ensures spare { IfSome result.1 (λ p. p.0.value ≡ Spare) }
+    ensures counted { RaisedByAtMost 1 count.old count.new }
+{
+    if is_key_of(key, &top, count) {
+        let removed = taken(Tree::Fork(top));
+        (Tree::Leaf, removed)
+    } else {
+        (Tree::Fork(top), None)
     }
 }
 
@@ -465,18 +692,18 @@ where
     ensures balanced { IsBalanced result.0 }
     ensures found { option_map (λ p. p.1) result.1
         ≡ lookup (is_at (K.cmp key.now)) (entries tree) }
-    ensures not_higher { height result.0 ≤ height tree }
-    ensures not_lower { height tree ≤ height result.0 + 1 }
+    ensures spare { IfSome result.1 (λ p. p.0.value ≡ Spare) }
     ensures counted { RaisedByAtMost (height tree) count.old count.new }
 {
     match tree {
         Tree::Leaf => (Tree::Leaf, None),
         Tree::Fork(mut top) => if top.height() > 1 {
-            let mut found = None;
-            remove_below(&mut top, key, count, &mut found);
-            (Tree::Fork(top), found)
+            let mut found = Tree::Leaf;
+            let _changed = remove_below(&mut top, key, count, &mut found);
+            let removed = taken(found);
+            (Tree::Fork(top), removed)
         } else {
-            remove_apart(Tree::Fork(top), key, count)
+            remove_single(top, key, count)
         },
     }
 }

@@ -1,124 +1,11 @@
 // Rebalancing of a tree. Code that few calls need is in separate functions, so that the others have
 // small stack frames.
-ghost use Rattle.std.specs.Prelude.{◌≡◌, ◌+◌, ◌-◌, ◌<◌, ◌≤◌, ◌++◌, max, None, Some, IsSome, IsTrue, IsFalse};
-ghost use Rattle.std.specs.Option.{option_to_list};
-ghost use Rattle.bq_index.specs.Tree.{entries, entries_in, entries_of, entry_in, height, height_in, height_of, held, left_in, right_in};
-ghost use Rattle.bq_index.specs.Tree.{IsBalanced, IsBalancedFrom, IsLevel, IsNearlyLevel, DifferByAtMost, HasItsHeight, IsMended, IsRebalanced};
+ghost use Rattle.std.specs.Prelude.{◌≡◌, ◌+◌, ◌<◌, max, None, Some, IsFalse};
+ghost use Rattle.bq_index.specs.Tree.{entry_in, height, height_in, height_of, held, left_in, right_in};
+ghost use Rattle.bq_index.specs.Tree.{IsBalanced, IsBalancedFrom, IsNearlyLevel, DifferByAtMost, HasItsHeight, IsMended, IsRebalanced, differ};
 
 use super::tree::{Node, Tree, fill, open, put};
 use std::mem;
-
-// Fills a box with an entry and two sides, after the height of the left side has changed by at most
-// one level. Before the change the left side was `before` levels high and the box `high`. The
-// height of the box changes by no more than that of the side.
-#[tactic(auto, using(crate::proofs::Heights::left_not_higher, crate::proofs::Heights::left_not_lower))]
-pub(crate) fn with_left<K, V>(
-    node: &mut Node<K, V>,
-    left: Tree<K, V>,
-    entry: (K, V),
-    right: Tree<K, V>,
-    high: u8,
-    before: u8,
-)
-where
-    K: Drop,
-    V: Drop,
-    requires left_balanced { IsBalanced left }
-    requires right_balanced { IsBalanced right }
-    requires known { high ≡ max before (height right) + 1 }
-    requires near { DifferByAtMost 1 before (height right) }
-    requires changed { DifferByAtMost 1 before (height left) }
-    requires fits { high < 200 }
-    ensures is { entries_in node.new ≡ entries left ++ (option_to_list (Some entry) ++ entries right) }
-    ensures balanced { IsLevel node.new }
-    ensures not_higher { height_in node.new ≤ high + (height left - before) }
-    ensures not_lower { high ≤ height_in node.new + (before - height left) }
-{
-    let same = left.height() == before;
-    balance(node, left, entry, right, high, same);
-}
-
-// The same, after the height of the right side has changed.
-#[tactic(auto, using(crate::proofs::Heights::right_not_higher, crate::proofs::Heights::right_not_lower))]
-pub(crate) fn with_right<K, V>(
-    node: &mut Node<K, V>,
-    left: Tree<K, V>,
-    entry: (K, V),
-    right: Tree<K, V>,
-    high: u8,
-    before: u8,
-)
-where
-    K: Drop,
-    V: Drop,
-    requires left_balanced { IsBalanced left }
-    requires right_balanced { IsBalanced right }
-    requires known { high ≡ max before (height left) + 1 }
-    requires near { DifferByAtMost 1 before (height left) }
-    requires changed { DifferByAtMost 1 before (height right) }
-    requires fits { high < 200 }
-    ensures is { entries_in node.new ≡ entries left ++ (option_to_list (Some entry) ++ entries right) }
-    ensures balanced { IsLevel node.new }
-    ensures not_higher { height_in node.new ≤ high + (height right - before) }
-    ensures not_lower { high ≤ height_in node.new + (before - height right) }
-{
-    let same = right.height() == before;
-    balance(node, left, entry, right, high, same);
-}
-
-// Rebalances a box after the height of its left side has changed by at most one level, in place.
-// Before the change the left side was `before` levels high. The height of the box changes by no
-// more than that of the side.
-#[tactic(auto, using(crate::proofs::Parts::by_sides, crate::proofs::Parts::still_level, crate::proofs::Heights::left_not_higher, crate::proofs::Heights::left_not_lower))]
-#[inline(always)]
-pub(crate) fn mend_left<K, V>(node: &mut Node<K, V>, before: u8)
-where
-    K: Drop,
-    V: Drop,
-    requires filled { IsSome (entry_in node.old) }
-    requires left_balanced { IsBalancedFrom (left_in node.old) }
-    requires right_balanced { IsBalancedFrom (right_in node.old) }
-    requires known { height_in node.old ≡ max before (height_of (right_in node.old)) + 1 }
-    requires near { DifferByAtMost 1 before (height_of (right_in node.old)) }
-    requires changed { DifferByAtMost 1 before (height_of (left_in node.old)) }
-    requires fits { height_in node.old < 200 }
-    ensures is { entries_in node.new
-        ≡ entries_of (left_in node.old) ++ (option_to_list (entry_in node.old) ++ entries_of (right_in node.old)) }
-    ensures balanced { IsLevel node.new }
-    ensures not_higher { height_in node.new ≤ height_in node.old + (height_of (left_in node.old) - before) }
-    ensures not_lower { height_in node.old ≤ height_in node.new + (before - height_of (left_in node.old)) }
-{
-    if node.left_height() != before {
-        let _changed = rebalance(node);
-    }
-}
-
-// Rebalances a box after the height of its right side has changed by at most one level, in place.
-// Before the change the right side was `before` levels high. The height of the box changes by no
-// more than that of the side.
-#[tactic(auto, using(crate::proofs::Parts::by_sides, crate::proofs::Parts::still_level, crate::proofs::Heights::right_not_higher, crate::proofs::Heights::right_not_lower))]
-#[inline(always)]
-pub(crate) fn mend_right<K, V>(node: &mut Node<K, V>, before: u8)
-where
-    K: Drop,
-    V: Drop,
-    requires filled { IsSome (entry_in node.old) }
-    requires left_balanced { IsBalancedFrom (left_in node.old) }
-    requires right_balanced { IsBalancedFrom (right_in node.old) }
-    requires known { height_in node.old ≡ max before (height_of (left_in node.old)) + 1 }
-    requires near { DifferByAtMost 1 before (height_of (left_in node.old)) }
-    requires changed { DifferByAtMost 1 before (height_of (right_in node.old)) }
-    requires fits { height_in node.old < 200 }
-    ensures is { entries_in node.new
-        ≡ entries_of (left_in node.old) ++ (option_to_list (entry_in node.old) ++ entries_of (right_in node.old)) }
-    ensures balanced { IsLevel node.new }
-    ensures not_higher { height_in node.new ≤ height_in node.old + (height_of (right_in node.old) - before) }
-    ensures not_lower { height_in node.old ≤ height_in node.new + (before - height_of (right_in node.old)) }
-{
-    if node.right_height() != before {
-        let _changed = rebalance(node);
-    }
-}
 
 // Balances a box in place after the height of one side has changed by at most one level. `changed`
 // says whether it has. Returns whether the height of the box has changed.
@@ -157,8 +44,9 @@ where
     node.set_height(left.max(right) + 1)
 }
 
-// Rotates a box to the left, in place. Its right side is two levels higher than the left one.
-// Returns whether its height has changed.
+// Rotates a box to the left, in place. Its right side is two levels higher than the left one. If
+// the inner box below is higher than the outer one, two rotations are needed, and the boxes are
+// taken apart for it. Returns whether the height of the box has changed.
 #[inline(never)]
 fn turn_left<K, V>(node: &mut Node<K, V>) -> bool
 where
@@ -204,8 +92,9 @@ where
     }
 }
 
-// Rotates a box to the right, in place. Its left side is two levels higher than the right one.
-// Returns whether its height has changed.
+// Rotates a box to the right, in place. Its left side is two levels higher than the right one. If
+// the inner box below is higher than the outer one, two rotations are needed, and the boxes are
+// taken apart for it. Returns whether the height of the box has changed.
 #[inline(never)]
 fn turn_right<K, V>(node: &mut Node<K, V>) -> bool
 where
@@ -354,6 +243,23 @@ where
     }
 }
 
+// Rotates such a box after it lost its right side, with which it was three levels high. Returns
+// whether its height has changed.
+#[inline(always)]
+#[tactic(auto, using(crate::proofs::Heights::falls_left))]
+pub(crate) fn sink_left<K, V>(node: &mut Node<K, V>) -> bool
+where
+    K: Drop,
+    V: Drop,
+    requires none { right_in node.old ≡ None }
+    requires balanced { IsBalancedFrom (left_in node.old) }
+    requires high { height_of (left_in node.old) ≡ 2 }
+    ensures rebalanced { IsRebalanced (left_in node.old) (entry_in node.old) (right_in node.old) (Some node.new) }
+    ensures changed { result ≡ differ 3 (height_in node.new) }
+{
+    !lift_left(node)
+}
+
 // Rotates a box to the left, in place. It has nothing on its left and two levels on its right.
 // Returns whether its height has changed.
 #[inline(never)]
@@ -457,6 +363,23 @@ where
     }
 }
 
+// Rotates such a box after it lost its left side, with which it was three levels high. Returns
+// whether its height has changed.
+#[inline(always)]
+#[tactic(auto, using(crate::proofs::Heights::falls_right))]
+pub(crate) fn sink_right<K, V>(node: &mut Node<K, V>) -> bool
+where
+    K: Drop,
+    V: Drop,
+    requires none { left_in node.old ≡ None }
+    requires balanced { IsBalancedFrom (right_in node.old) }
+    requires high { height_of (right_in node.old) ≡ 2 }
+    ensures rebalanced { IsRebalanced (left_in node.old) (entry_in node.old) (right_in node.old) (Some node.new) }
+    ensures changed { result ≡ differ 3 (height_in node.new) }
+{
+    !lift_right(node)
+}
+
 // Balances a box by taking it apart. Returns whether its height has changed.
 #[inline(never)]
 fn turn_apart<K, V>(node: &mut Node<K, V>) -> bool
@@ -468,20 +391,12 @@ where
 {
     let high = node.height();
     let (left, entry, right) = node.take_parts();
-    balance(node, left, entry, right, 0, false);
+    balance(node, left, entry, right);
     node.height() != high
 }
 
-// Fills a box with an entry and two sides whose heights differ by at most two levels. If `same` is
-// true, neither side has changed its height, and the box keeps the height `high`.
-pub(crate) fn balance<K, V>(
-    node: &mut Node<K, V>,
-    left: Tree<K, V>,
-    entry: (K, V),
-    right: Tree<K, V>,
-    high: u8,
-    same: bool,
-)
+// Fills a box with an entry and two sides whose heights differ by at most two levels.
+fn balance<K, V>(node: &mut Node<K, V>, left: Tree<K, V>, entry: (K, V), right: Tree<K, V>)
 where
     K: Drop,
     V: Drop,
@@ -489,14 +404,8 @@ where
     requires right_balanced { IsBalanced right }
     requires near { DifferByAtMost 2 (height left) (height right) }
     requires fits { max (height left) (height right) < 254 }
-    requires height_known { IsTrue same → high ≡ max (height left) (height right) + 1 }
-    requires still_near { IsTrue same → DifferByAtMost 1 (height left) (height right) }
     ensures { IsRebalanced (held left) (Some entry) (held right) (Some node.new) }
 {
-    if same {
-        put(node, Node::of(high, left, entry, right));
-        return;
-    }
     let (l, r) = (left.height(), right.height());
     if l > r + 1 {
         lean_left(node, left, entry, right);

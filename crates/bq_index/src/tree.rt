@@ -268,6 +268,7 @@ pub(crate) fn spare_box<K, V, S: BoxSource>(source: &mut S) -> Result<Box<Node<K
 where
     K: Drop,
     V: Drop,
+    ensures { IfOk result (λ b. b.value ≡ Spare) }
 {
     source.box_of(Node::Spare)
 }
@@ -293,18 +294,19 @@ where
     mem::forget(mem::replace(place, node));
 }
 
-// Puts a box in front of a chain.
+// Puts a spare box in front of a chain.
 pub(crate) fn link<K, V>(mut node: Box<Node<K, V>>, chain: Tree<K, V>) -> Tree<K, V>
 where
     K: Drop,
     V: Drop,
+    requires { node.value ≡ Spare }
     ensures { chain_length result ≡ chain_length chain + 1 }
 {
     let spare = match chain {
         Tree::Leaf => Node::Spare,
         Tree::Fork(next) => Node::SpareBefore(next),
     };
-    put(&mut *node, spare);
+    fill(&mut *node, spare);
     Tree::Fork(node)
 }
 

@@ -89,7 +89,7 @@ returns-in-Both-here-clause-is g t c =
     let w = goes_right g.met.K.Ord.total _ c.requires.alone.filled p c.requires.in_order c.requires.absent h c.in-Greater.is in
     let e : c.deref_mut-in-Both-here.result.now ≡ c.in-Both-here.right.value = search rules in
     let low = c.insert_below-grown-in-Both-here.ensures.is
-        ∙ ap (λ n. with_entry g.K.Ord.cmp (entry_in c.args.node.value) (entries_in n)) e in
+    ∙ ap (λ n. with_entry g.K.Ord.cmp (entry_in c.args.node.value) (entries_in n)) e in
     changed_right (with_entry g.K.Ord.cmp (entry_in c.args.node.value)) c.args.here.now w.is c.mend-in-Both-here.new.node
     (Some c.in-Both-here.left.value) (Some (c.in-Both-here.key, c.in-Both-here.value)) c.in-Both-here.right.value
     c.insert_below-grown-in-Both-here.new.here (ap left_in c.in-Both-here.is) (ap entry_in c.in-Both-here.is)

@@ -6,8 +6,8 @@ use Rattle.bq_index.specs.Order.{InOrder}
 use Rattle.bq_index.specs.Tree.{entries_in, entries_of, entry_in, height_in, height_of, left_in, right_in, IsBalancedFrom, IsLevel}
 use Rattle.bq_index.proofs.change.+remove_below.Goals as goal
 
-pub remove_below-requires : goal.remove_below-requires
-remove_below-requires g t c κs within =
+pub remove_below-shrunk-requires : goal.remove_below-shrunk-requires
+remove_below-shrunk-requires g t c κs within =
     let p = come_apart c.args.here.now c.requires.here_level in
     let same : left_in c.args.here.now ≡ Some c.in-Both.left.value = ap left_in c.in-Both.is in
     let lower : height_in c.in-Both.left.value < height_in c.args.here.now = omega (arith, p.high, ap height_of same) in
@@ -18,8 +18,8 @@ remove_below-requires g t c κs within =
     let e : c.deref_mut.result.now ≡ c.in-Both.left.value = search rules in
     search rules
 
-pub remove_below-requires-in-Both-here : goal.remove_below-requires-in-Both-here
-remove_below-requires-in-Both-here g t c κs within =
+pub remove_below-shrunk-requires-in-Both-here : goal.remove_below-shrunk-requires-in-Both-here
+remove_below-shrunk-requires-in-Both-here g t c κs within =
     let p = come_apart c.args.here.now c.requires.here_level in
     let same : right_in c.args.here.now ≡ Some c.in-Both-here.right.value = ap right_in c.in-Both-here.is in
     let lower : height_in c.in-Both-here.right.value < height_in c.args.here.now = omega (arith, p.high, ap height_of same) in
@@ -35,10 +35,10 @@ returns-in-Both-clause-is g t c =
     let p = come_apart c.args.here.now c.requires.here_level in
     let w = is_below g.met.K.Ord.total c.args.key.now p c.requires.in_order c.compare_to.ensures.answer c.in-Less.is in
     let e : c.deref_mut.result.now ≡ c.in-Both.left.value = search rules in
-    let low = c.remove_below.ensures.is ∙ ap (λ n. remove_entry (is_at (g.K.Ord.cmp c.args.key.now)) (entries_in n)) e in
-    changed_left (remove_entry (is_at (g.K.Ord.cmp c.args.key.now))) c.args.here.now w.removed c.mend_left.new.node c.in-Both.left.value
-    c.remove_below.new.here (Some (c.in-Both.key, c.in-Both.value)) (Some c.in-Both.right.value) (ap left_in c.in-Both.is)
-    (ap entry_in c.in-Both.is) (ap right_in c.in-Both.is) low c.mend_left.ensures.is
+    let low = c.remove_below-shrunk.ensures.is ∙ ap (λ n. remove_entry (is_at (g.K.Ord.cmp c.args.key.now)) (entries_in n)) e in
+    changed_left (remove_entry (is_at (g.K.Ord.cmp c.args.key.now))) c.args.here.now w.removed c.mend.new.node c.in-Both.left.value
+    c.remove_below-shrunk.new.here (Some (c.in-Both.key, c.in-Both.value)) (Some c.in-Both.right.value) (ap left_in c.in-Both.is)
+    (ap entry_in c.in-Both.is) (ap right_in c.in-Both.is) low c.mend.ensures.rebalanced.is
 
 pub returns-in-Both-clause-found : goal.returns-in-Both-clause-found
 returns-in-Both-clause-found g t c =
@@ -46,7 +46,7 @@ returns-in-Both-clause-found g t c =
     let w = is_below g.met.K.Ord.total c.args.key.now p c.requires.in_order c.compare_to.ensures.answer c.in-Less.is in
     let e : c.deref_mut.result.now ≡ c.in-Both.left.value = search rules in
     let same : left_in c.args.here.now ≡ Some c.in-Both.left.value = ap left_in c.in-Both.is in
-    c.remove_below.ensures.found ∙ ap (λ n. lookup (is_at (g.K.Ord.cmp c.args.key.now)) (entries_in n)) e
+    c.remove_below-shrunk.ensures.found ∙ ap (λ n. lookup (is_at (g.K.Ord.cmp c.args.key.now)) (entries_in n)) e
     ∙ sym (w.looked_up ∙ ap (λ o. lookup (is_at (g.K.Ord.cmp c.args.key.now)) (entries_of o)) same)
 
 pub returns-in-Both-here-clause-is : goal.returns-in-Both-here-clause-is
@@ -54,11 +54,12 @@ returns-in-Both-here-clause-is g t c =
     let p = come_apart c.args.here.now c.requires.here_level in
     let w = is_above g.met.K.Ord.total c.args.key.now p c.requires.in_order c.compare_to.ensures.answer c.in-Greater.is in
     let e : c.deref_mut-in-Both-here.result.now ≡ c.in-Both-here.right.value = search rules in
-    let low = c.remove_below-in-Both-here.ensures.is ∙ ap (λ n. remove_entry (is_at (g.K.Ord.cmp c.args.key.now)) (entries_in n)) e in
-    changed_right (remove_entry (is_at (g.K.Ord.cmp c.args.key.now))) c.args.here.now w.removed c.mend_right.new.node
+    let low = c.remove_below-shrunk-in-Both-here.ensures.is
+    ∙ ap (λ n. remove_entry (is_at (g.K.Ord.cmp c.args.key.now)) (entries_in n)) e in
+    changed_right (remove_entry (is_at (g.K.Ord.cmp c.args.key.now))) c.args.here.now w.removed c.mend-in-Both-here.new.node
     (Some c.in-Both-here.left.value) (Some (c.in-Both-here.key, c.in-Both-here.value)) c.in-Both-here.right.value
-    c.remove_below-in-Both-here.new.here (ap left_in c.in-Both-here.is) (ap entry_in c.in-Both-here.is)
-    (ap right_in c.in-Both-here.is) low c.mend_right.ensures.is
+    c.remove_below-shrunk-in-Both-here.new.here (ap left_in c.in-Both-here.is) (ap entry_in c.in-Both-here.is)
+    (ap right_in c.in-Both-here.is) low c.mend-in-Both-here.ensures.rebalanced.is
 
 pub returns-in-Both-here-clause-found : goal.returns-in-Both-here-clause-found
 returns-in-Both-here-clause-found g t c =
@@ -66,7 +67,7 @@ returns-in-Both-here-clause-found g t c =
     let w = is_above g.met.K.Ord.total c.args.key.now p c.requires.in_order c.compare_to.ensures.answer c.in-Greater.is in
     let e : c.deref_mut-in-Both-here.result.now ≡ c.in-Both-here.right.value = search rules in
     let same : right_in c.args.here.now ≡ Some c.in-Both-here.right.value = ap right_in c.in-Both-here.is in
-    c.remove_below-in-Both-here.ensures.found ∙ ap (λ n. lookup (is_at (g.K.Ord.cmp c.args.key.now)) (entries_in n)) e
+    c.remove_below-shrunk-in-Both-here.ensures.found ∙ ap (λ n. lookup (is_at (g.K.Ord.cmp c.args.key.now)) (entries_in n)) e
     ∙ sym (w.looked_up ∙ ap (λ o. lookup (is_at (g.K.Ord.cmp c.args.key.now)) (entries_of o)) same)
 
 pub returns-in-Equal-clause-is : goal.returns-in-Equal-clause-is
@@ -81,9 +82,6 @@ returns-in-Equal-clause-found g t c =
     (come_apart c.args.here.now c.requires.here_level) c.requires.in_order c.compare_to.ensures.answer c.in-Equal.is in
     c.take_out.ensures.value ∙ sym w.looked_up
 
-pub cut_left-requires-clause-in_order : goal.cut_left-requires-clause-in_order
-cut_left-requires-clause-in_order g t c = left_in_order g.K.Ord.cmp (come_apart c.args.here.now c.requires.here_level) c.requires.in_order
-
 pub returns-then-before-le1-clause-is : goal.returns-then-before-le1-clause-is
 returns-then-before-le1-clause-is g t c =
     let w = is_below g.met.K.Ord.total c.args.key.now
@@ -95,9 +93,6 @@ returns-then-before-le1-clause-found g t c =
     let w = is_below g.met.K.Ord.total c.args.key.now
     (come_apart c.args.here.now c.requires.here_level) c.requires.in_order c.compare_to.ensures.answer c.in-Less.is in
     c.cut_left.ensures.found ∙ sym w.looked_up
-
-pub cut_right-requires-clause-in_order : goal.cut_right-requires-clause-in_order
-cut_right-requires-clause-in_order g t c = right_in_order g.K.Ord.cmp (come_apart c.args.here.now c.requires.here_level) c.requires.in_order
 
 pub returns-then-before-le1-2-clause-is : goal.returns-then-before-le1-2-clause-is
 returns-then-before-le1-2-clause-is g t c =

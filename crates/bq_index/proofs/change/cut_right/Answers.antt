@@ -1,35 +1,22 @@
-use Rattle.std.proofs.Common.{Some, ◌++◌, ◌∙◌, ap, arith, subst, sym}
+use Rattle.std.proofs.Common.{◌≡◌, true, [], ◌++◌, ◌∙◌, ap, subst, sym}
+use Rattle.std.specs.Prelude.{is_some}
 use Rattle.std.specs.BTreeMap.{is_at}
-use Rattle.std.specs.Map.{remove_entry}
+use Rattle.std.specs.Map.{lookup, remove_entry}
 use Rattle.std.specs.Option.{option_to_list}
 use Rattle.bq_index.proofs.Parts.{come_apart}
-use Rattle.bq_index.specs.Tree.{entries_of, entry_in, height_of, held, left_in, IsBalancedFrom}
+use Rattle.bq_index.proofs.Single.{height_if_found, removed_if_found}
+use Rattle.bq_index.specs.Tree.{entries_of, entry_in, height_of, left_in, right_in, IsBalancedFrom}
 use Rattle.bq_index.proofs.change.cut_right.Goals as goal
 
-pub with_right-requires-clause-left_balanced : goal.with_right-requires-clause-left_balanced
-with_right-requires-clause-left_balanced g c =
-    subst IsBalancedFrom (sym c.take_parts-left.ensures.left) (come_apart c.args.here.now c.requires.here_level).left_balanced
-
-pub with_right-requires-clause-known : goal.with_right-requires-clause-known
-with_right-requires-clause-known g c =
-    let p = come_apart c.args.here.now c.requires.here_level in
-    let r = ap height_of c.take_parts-left.ensures.left in
-    omega (arith, p.high, c.height-high.ensures, c.right_height-before.ensures, r)
-
-pub with_right-requires-clause-near : goal.with_right-requires-clause-near
-with_right-requires-clause-near g c =
-    let p = come_apart c.args.here.now c.requires.here_level in
-    let r = ap height_of c.take_parts-left.ensures.left in
-    (omega (arith, p.near.1, c.right_height-before.ensures, r), omega (arith, p.near.0, c.right_height-before.ensures, r))
-
-pub returns-clause-is : goal.returns-clause-is
-returns-clause-is g c =
-    let parts = c.take_parts-left.result in
+pub returns-then-is_on_right-clause-is : goal.returns-then-is_on_right-clause-is
+returns-then-is_on_right-clause-is g c =
+    let here = c.args.here.now in
     let test = is_at (g.K.Ord.cmp c.args.key.now) in
-    c.with_right.ensures.is ∙ ap (λ es. entries_of (held parts.0) ++ (option_to_list (Some parts.1) ++ es)) c.remove_apart-right.ensures.is
-    ∙ ap (λ o. entries_of o ++ (option_to_list (Some parts.1) ++ remove_entry test (entries_of (held parts.2))))
-    c.take_parts-left.ensures.left
-    ∙ ap (λ o. entries_of (left_in c.args.here.now) ++ (option_to_list o ++ remove_entry test (entries_of (held parts.2))))
-    c.take_parts-left.ensures.entry
-    ∙ ap (λ o. entries_of (left_in c.args.here.now) ++ (option_to_list (entry_in c.args.here.now) ++ remove_entry test (entries_of o)))
-    c.take_parts-left.ensures.right
+    let p = come_apart here c.requires.here_level in
+    let s = c.shed_right-removed.ensures.shed in
+    let there = c.if-is_on_right.ensures.answer in
+    let one = height_if_found test (right_in here) p.right_balanced c.requires.low there in
+    let gone = subst (λ o. [] ≡ remove_entry test (entries_of o)) s
+    (removed_if_found test _ (subst IsBalancedFrom (sym s) p.right_balanced) (ap height_of s ∙ one)
+    (subst (λ o. true ≡ is_some (lookup test (entries_of o))) (sym s) there)) in
+    c.shed_right-removed.ensures.is ∙ ap (λ es. entries_of (left_in here) ++ (option_to_list (entry_in here) ++ es)) gone
