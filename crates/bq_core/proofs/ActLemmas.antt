@@ -42,16 +42,15 @@ pub reserve_job_done : (m : Machine) (s : SeatRecord) (seat id : ℕ) (j : Job) 
     (with_job id (reserved_by m.moment seat) m)
 reserve_job_done m s seat id j at found free = grind (arith, common_steps, found_id)
 
+-- the machine after the next id was given to a put
+abbrev pub after_given : Machine → Machine
+after_given m = record m { next_id = m.next_id + 1; puts = raised m.puts; draining = nat_le last_id m.next_id }
+
 -- the outcome of an accepted put
 pub put_done : (m : Machine) (s : SeatRecord) (pri delay ttr : ℕ) (body tube : List ℕ) (j : Job) → s.used ≡ tube → m.draining ≡ false
     → is_full m.settings.max_jobs m.jobs ≡ false → j ≡ new_job m s pri delay ttr body
     → put_effect pri delay ttr body m s ≡ telling (answers.Inserted m.next_id)
-    (record (with_tube tube with_put m) {
-      jobs = m.jobs ++ j ∷ [];
-      next_id = m.next_id + 1;
-      puts = raised m.puts;
-      draining = nat_le last_id m.next_id;
-    })
+    (record (after_given (with_tube tube with_put m)) { jobs = m.jobs ++ j ∷ [] })
 put_done m s pri delay ttr body tube j used accepts free is = rw (accepts, free, is, used) refl
 
 -- a tube that is already watched

@@ -2,7 +2,7 @@
 use Rattle.std.specs.{List.list_any, Prelude.{◌||◌, ◌≡◌, Bool, IsTrue, List, Some, ℕ, count_by, map}}
 use Rattle.bq_job.specs.declared.job.{Job.Job, JobState.JobState}
 use Rattle.bq_job.specs.machine.{given_back, grown, is_due, is_expired, job_after_timers}
-use Rattle.bq_job.specs.machine.{job_with, tube_after_timers, with_job, Machine.Machine}
+use Rattle.bq_job.specs.machine.{job_with, with_job, Machine.Machine}
 use Rattle.bq_state.specs.{CoreParts.machine_of, declared.core_parts.CoreParts.CoreParts}
 
 -- the machine after all timers of jobs have fired
@@ -27,10 +27,6 @@ is_some_due m = list_any (λ j. is_due m.moment j.state) m.jobs
 -- the time to run of some reserved job has expired
 abbrev pub is_some_expired : Machine → Bool
 is_some_expired m = list_any (λ j. is_expired m.moment j.state) m.jobs
-
--- the machine after pauses have ended
-abbrev pub with_pauses_ended : Machine → Machine
-with_pauses_ended m = record m { tubes = map (tube_after_timers m.moment) m.tubes }
 
 -- the machine after all jobs that the client at the seat holds were brought into this state
 abbrev pub after_giving_back : JobState → ℕ → Machine → Machine

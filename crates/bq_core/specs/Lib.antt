@@ -5,7 +5,6 @@ pub mod Firing
 pub mod HandOuts
 pub mod Kicking
 pub mod Numbers
-pub mod Putting
 pub mod Replying
 pub mod Serving
 pub mod Texts

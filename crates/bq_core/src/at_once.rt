@@ -21,7 +21,7 @@ use crate::{acts, dispatch};
 use bq_job::{Answer, Body, JobId, Request, Seat, Step};
 use bq_state::core_parts::CoreParts;
 use bq_state::job_store::JobChange;
-use bq_state::{changes, seats};
+use bq_state::{changes, counters, seats};
 use bq_steps::Outs;
 use std::alloc::Global;
 
@@ -77,7 +77,7 @@ fn hand_over(state: &mut CoreParts, outs: &mut Outs, seat: Seat, id: JobId, body
         ≡ record outs.old { given = outs.old.given ++ (seat, answers.Reserved id body) ∷ [] } }
     ensures asks { Asks 8 state.old.jobs state.new.jobs }
 {
-    state.tickets = state.tickets.saturating_add(1);
+    counters::give_ticket(state);
     let change = JobChange::HandOut(seat, state.moment);
     changes::change_job(state, id, &change);
     outs.push(seat, Answer::Reserved(id, body));

@@ -346,7 +346,7 @@ fn dispatch_all(state: &mut CoreParts, outs: &mut Outs)
 
 /// While a waiting client may have a ready job, hands the least such job out to the client that has
 /// waited longest. If it is known that no client may have one, nothing is searched.
-#[tactic(auto, using(crate::proofs::IdleLemmas::is_sound, crate::proofs::IdleLemmas::none_next, crate::proofs::TurnLemmas::gives_nothing))]
+#[tactic(auto, using(crate::proofs::IdleLemmas::none_next, crate::proofs::TurnLemmas::gives_nothing))]
 pub(crate) fn dispatch(state: &mut CoreParts, outs: &mut Outs)
     requires room { HasRoom 0 (machine_of state.old) outs.old }
     ensures given { Gives DispatchTurn has_refused_share
@@ -358,6 +358,6 @@ pub(crate) fn dispatch(state: &mut CoreParts, outs: &mut Outs)
 {
     if !state.known.stir.is_nothing() {
         dispatch_all(state, outs);
-        state.known.stir = Stir::Nothing;
+        changes::forget_stir(state);
     }
 }

@@ -9,9 +9,8 @@ ghost use Rattle.bq_job.specs.machine.Limits.{later as later_by};
 ghost use Rattle.bq_job.specs.machine.Machine.{SeatRecord};
 ghost use Rattle.bq_state.specs.Asking.{AsksAsChanged};
 ghost use Rattle.bq_state.specs.SeatStates.{is_asking};
-ghost use Rattle.bq_core.specs.Putting.{after_given};
 ghost use Rattle.bq_core.specs.Replying.{AnswersTo, RepliesAt, RepliesTo, Waits};
-ghost use Rattle.bq_state.specs.CoreParts.{held, machine_of};
+ghost use Rattle.bq_state.specs.CoreParts.{machine_of};
 
 use crate::acts::Reply;
 use bq_job::{Answer, Body, Counts, Job, JobId, Moment, Pri, Seat, TubeName};
@@ -19,12 +18,8 @@ use bq_jobs::{adds_at_the_end, next_is_free};
 use bq_state::core_parts::CoreParts;
 use bq_state::job_store::{JobChange, JobTest};
 use bq_state::seats::SeatChange;
-use bq_state::{changes, job_store, seats};
+use bq_state::{changes, counters, job_store, seats};
 use std::alloc::Global;
-
-// The last id that is given out. The put that gets it makes the core drain, so the next id always
-// fits.
-const LAST_ID: JobId = u64::MAX - 1;
 
 /// A new job, as its client wants it, without its body.
 #[derive(Clone, Copy)]
@@ -57,19 +52,6 @@ fn new_job(state: &CoreParts, tube: &TubeName, new: NewJob, body: Body) -> Job
         counts: Counts::default(),
         state: job_store::delayed_by(new.delay, state.moment),
     }
-}
-
-// Gives an id out.
-#[tactic(auto, using(bq_state::proofs::PartsLemmas::sound_given))]
-fn count_put(state: &mut CoreParts)
-    requires accepts { state.old.draining ≡ false }
-    ensures after { machine_of state.new ≡ after_given (machine_of state.old) }
-    ensures same { held state.new ≡ record (held state.old)
-        { next_id = state.new.next_id; puts = state.new.puts; draining = state.new.draining } }
-{
-    state.draining = state.next_id >= LAST_ID;
-    state.next_id += 1;
-    state.puts = state.puts.saturating_add(1);
 }
 
 // Returns true if the job limit is reached.
@@ -119,7 +101,7 @@ pub(crate) fn put(
     let id = job.id;
     next_is_free();
     adds_at_the_end();
-    count_put(state);
+    counters::count_put(state);
     changes::add(state, job);
     *told = Answer::Inserted(id);
     Reply::Told
@@ -133,8 +115,8 @@ pub(crate) fn reserve(state: &mut CoreParts, seat: Seat, until: Option<Moment>)
     ensures asks { AsksAsChanged state.old.jobs state.new.jobs }
 {
     changes::note_leases(state, seat);
-    state.tickets = state.tickets.saturating_add(1);
-    let change = SeatChange::Wait(state.tickets, until);
+    let ticket = counters::give_ticket(state);
+    let change = SeatChange::Wait(ticket, until);
     changes::change_seat(state, seat, &change);
 }
 
@@ -218,8 +200,8 @@ pub(crate) fn bury(state: &mut CoreParts, seat: Seat, id: JobId, pri: Pri, told:
         *told = Answer::NotFound;
         return;
     }
-    state.burials = state.burials.saturating_add(1);
-    let change = JobChange::Bury(state.burials, pri);
+    let number = counters::give_burial_number(state);
+    let change = JobChange::Bury(number, pri);
     changes::change_job(state, id, &change);
     *told = Answer::Buried;
 }

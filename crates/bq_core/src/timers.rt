@@ -7,7 +7,7 @@ ghost use Rattle.bq_job.specs.machine.Timers.{after_timers, is_due, is_expired};
 ghost use Rattle.bq_jobs.specs.Kept.{ComparesAtMost};
 ghost use Rattle.bq_state.specs.Asking.{Asks};
 ghost use Rattle.bq_core.specs.Firing.{ExpiresOne, IsOne, after_job_timers, is_ripe, is_some_due};
-ghost use Rattle.bq_core.specs.Firing.{is_some_expired, with_pauses_ended, after_giving_back};
+ghost use Rattle.bq_core.specs.Firing.{is_some_expired, after_giving_back};
 ghost use Rattle.bq_state.specs.Keeping.{Looks};
 ghost use Rattle.bq_state.specs.CoreParts.{machine_of, count_jobs};
 ghost use Rattle.bq_core.specs.Firing.{HaveFired};
@@ -18,7 +18,7 @@ ghost use Rattle.bq_job.specs.machine.JobStates.{due_of, is_delayed, is_due_befo
 ghost use Rattle.bq_jobs.specs.Leases.{deadline_of, is_lease_before};
 ghost use Rattle.std.specs.Option.{option_copied, option_map};
 ghost use Rattle.bq_job.specs.beside.NextDue.{next_due as next_due_of};
-ghost use Rattle.bq_state.specs.Dues.{earlier_of_both, is_end_over, timers_due, warning_due};
+ghost use Rattle.bq_state.specs.Dues.{earlier_of_both, timers_due, warning_due};
 ghost use Rattle.bq_state.specs.Dues.{warning_due_at, with_seat_due, with_warning_due};
 ghost use Rattle.bq_state.specs.FirstEnds.{AreTimeouts};
 ghost use Rattle.bq_state.specs.WaitingTurns.{at_turn, turns_of};
@@ -29,9 +29,9 @@ use bq_job::{JobId, JobState, Moment, Seat};
 use bq_jobs::NumberedJobs;
 use bq_state::core_parts::CoreParts;
 use bq_state::job_store::JobChange;
-use bq_state::known::{FirstEnd, Stir, Warns, earlier_of, first_to_give_up, is_over};
+use bq_state::known::{FirstEnd, Warns, earlier_of, first_to_give_up};
 use bq_state::seats::{SeatRecord, Turn};
-use bq_state::{changes, job_store, seats};
+use bq_state::{changes, counters, job_store, seats};
 
 // Returns the first delayed job that is due. If no job is delayed, nothing is searched.
 #[tactic(auto, using(bq_state::proofs::PartsLemmas::compared_sound))]
@@ -103,13 +103,6 @@ fn expire_first(state: &mut CoreParts) -> bool
     true
 }
 
-// Returns 1 if something happened, otherwise 0.
-fn times(happened: bool) -> u64
-    ensures { result ≡ (if happened then 1 else 0) }
-{
-    if happened { 1 } else { 0 }
-}
-
 // Ends and counts one reservation, if its time to run has expired.
 fn expire(state: &mut CoreParts) -> bool
     ensures done { result ≡ false → is_some_due (machine_of state.old) ≡ false
@@ -122,7 +115,7 @@ fn expire(state: &mut CoreParts) -> bool
     ensures asks { Asks (if result then 9 else 1) state.old.jobs state.new.jobs }
 {
     let expired = expire_first(state);
-    state.timeouts = state.timeouts.saturating_add(times(expired));
+    counters::count_timeout_if(state, expired);
     expired
 }
 
@@ -148,19 +141,6 @@ fn fire_jobs(state: &mut CoreParts)
     while fire_one(state) {}
 }
 
-// Ends pauses. If none ends, no tube is checked.
-fn end_pauses(state: &mut CoreParts)
-    ensures after { machine_of state.new ≡ with_pauses_ended (machine_of state.old) }
-    ensures jobs { state.new.jobs ≡ state.old.jobs }
-{
-    if !is_over(state.known.pause_end, state.moment) {
-        return;
-    }
-    state.tubes.fire_timers(state.moment);
-    state.known.pause_end = state.tubes.first_pause_end();
-    state.known.stir = Stir::Any;
-}
-
 /// Fires all due timers.
 pub(crate) fn fire(state: &mut CoreParts)
     ensures after { machine_of state.new ≡ after_timers (machine_of state.old) }
@@ -168,7 +148,7 @@ pub(crate) fn fire(state: &mut CoreParts)
         (10 * count_jobs (is_ripe state.old.moment) state.old + 2) state.old.jobs state.new.jobs }
 {
     fire_jobs(state);
-    end_pauses(state);
+    changes::end_pauses(state);
 }
 
 /// Returns the state of a job whose holder has disconnected.
@@ -371,12 +351,12 @@ pub(crate) fn next_due(state: &mut CoreParts) -> Option<Moment>
         state.waiting.as_slice(),
         &state.known.warns,
     );
-    state.known.warns.settle(warning.is_some());
     let seats = seats_due(
         &state.known.first_end,
         state.seats.as_slice(),
         state.waiting.as_slice(),
     );
+    changes::settle_warnings(state, warning.is_some());
     earlier_of(
         earlier_of(jobs, warning),
         earlier_of(state.known.pause_end, seats),

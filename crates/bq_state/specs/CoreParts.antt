@@ -1,7 +1,7 @@
 -- The machine that a core represents.
-use Rattle.std.specs.{Global.Global, Prelude.{◌≡◌, Bool, List, Some, Vec, ℕ, count_by}}
+use Rattle.std.specs.{Global.Global, Prelude.{◌≡◌, Bool, List, Some, Vec, ℕ, count_by, map}}
 use Rattle.bq_job.specs.declared.{job.Job.Job, settings.Settings.Settings}
-use Rattle.bq_job.specs.machine.{SeatRecord, seat_with, watching, with_seat, Machine.Machine}
+use Rattle.bq_job.specs.machine.{SeatRecord, seat_with, tube_after_timers, watching, with_seat, Machine.Machine}
 use Rattle.bq_jobs.specs.Kept.{Kept}
 use Rattle.bq_state.specs.declared.{core_parts.CoreParts.CoreParts, known.Known.Known}
 use Rattle.bq_state.specs.{KeptTubes.KeptTubes, TubeEntries.counted, WaitingTurns.WaitingTurns}
@@ -59,6 +59,10 @@ machine_held h = record {
 
 abbrev pub machine_of : CoreParts → Machine
 machine_of s = machine_held (held s)
+
+-- the machine after the pauses that are over have ended
+abbrev pub with_pauses_ended : Machine → Machine
+with_pauses_ended m = record m { tubes = map (tube_after_timers m.moment) m.tubes }
 
 -- The state is the same except for the comparison count.
 abbrev pub OnlyCompares : CoreParts → CoreParts → Type 0

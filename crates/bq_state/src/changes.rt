@@ -1,8 +1,9 @@
 //! Operations that change the state of a core.
-ghost use Rattle.std.specs.Prelude.{◌≡◌, ◌&&◌, ◌<◌, ◌≤◌, OnErr, [], None, true, false, length, map, nat_lt, if◌then◌else◌, IfSome, IfOk};
+ghost use Rattle.std.specs.Prelude.{◌≡◌, ◌&&◌, ◌<◌, ◌≤◌, OnErr, [], None, true, false, fold, is_some, length, map, nat_lt, if◌then◌else◌, IfSome, IfOk};
 ghost use Rattle.std.specs.List.{list_any};
 ghost use Rattle.bq_job.specs.beside.NameOrder.{is_in_order};
 ghost use Rattle.bq_job.specs.machine.Changes.{is_held_by, is_ready_state, is_waiting, job_with, seat_with, with_job, with_seat};
+ghost use Rattle.bq_job.specs.machine.Dispatch.{next_job};
 ghost use Rattle.bq_job.specs.machine.Machine.{empty_seat, new_machine, numbers};
 ghost use Rattle.bq_job.specs.reading.TubeName.{is_same_name};
 ghost use Rattle.bq_job.specs.machine.Timers.{at_moment};
@@ -12,21 +13,23 @@ ghost use Rattle.bq_job.specs.machine.JobCommands.{with_put};
 ghost use Rattle.bq_jobs.specs.Kept.{ComparesAtMost, with_added};
 ghost use Rattle.bq_state.specs.Asking.{Asks};
 ghost use Rattle.bq_state.specs.Crowds.{may_wait};
+ghost use Rattle.bq_state.specs.declared.known.Stir.TheVariants as stirs;
+ghost use Rattle.bq_state.specs.Dues.{is_end_over, with_warning_due};
 ghost use Rattle.bq_state.specs.JobChanges.{changed, once_deleted};
 ghost use Rattle.bq_state.specs.KeptTubes.{first_tubes};
 ghost use Rattle.bq_state.specs.Offers.{is_waited_at};
 ghost use Rattle.bq_state.specs.CoreParts.{AtSeat, Watches};
 ghost use Rattle.bq_state.specs.SeatChanges.{seat_changed, has_tube_of, more_watched, fewer_watched, watches_other};
 ghost use Rattle.bq_state.specs.Keeping.{Looks};
-ghost use Rattle.bq_state.specs.CoreParts.{held, machine_of};
+ghost use Rattle.bq_state.specs.CoreParts.{held, machine_of, with_pauses_ended};
 ghost use Rattle.bq_state.specs.Names.{names_of};
 ghost use Rattle.bq_state.specs.TubeEntries.{has_entry, is_tube_of, tube_changed};
 ghost use Rattle.bq_state.specs.TubeNumbers.{HaveNumbers};
-ghost use Rattle.bq_state.specs.Warnings.{has_waiting_holder, may_hold, with_holder};
+ghost use Rattle.bq_state.specs.Warnings.{has_waiting_holder, may_hold, warned_if_due, with_holder};
 
 use crate::core_parts::CoreParts;
 use crate::job_store::JobChange;
-use crate::known::{Clients, FirstEnd, Known, Loss};
+use crate::known::{Clients, FirstEnd, Known, Loss, Stir, is_over};
 use crate::name_lists::Names;
 use crate::seats::{SeatChange, SeatRecord};
 use crate::tubes::{Moving, TubeChange, Tubes};
@@ -155,6 +158,40 @@ pub fn find_first_end(state: &mut CoreParts)
     if let FirstEnd::Unknown = &state.known.first_end {
         state.known.first_end = FirstEnd::find(state.seats.as_slice(), state.waiting.as_slice());
     }
+}
+
+/// Records that no waiting client may have a job.
+#[tactic(auto, using(crate::proofs::KnowledgeLemmas::so_with_nothing))]
+pub fn forget_stir(state: &mut CoreParts)
+    requires none { next_job (machine_of state.old) ≡ None }
+    ensures { held state.new
+        ≡ record (held state.old) { known = record state.old.known { stir = stirs.Nothing } } }
+{
+    state.known.stir = Stir::Nothing;
+}
+
+/// Records whether some waiting client is going to get DEADLINE_SOON: if none is, none of them
+/// holds a job.
+#[tactic(auto, using(crate::proofs::KnowledgeLemmas::so_settled))]
+pub fn settle_warnings(state: &mut CoreParts, is_due: bool)
+    requires due { is_due ≡ is_some (fold (with_warning_due state.old.jobs.jobs) None state.old.seats.items) }
+    ensures { held state.new ≡ record (held state.old)
+        { known = record state.old.known { warns = warned_if_due is_due state.old.known.warns } } }
+{
+    state.known.warns.settle(is_due);
+}
+
+/// Ends the pauses that are over. If none is, no tube is checked.
+pub fn end_pauses(state: &mut CoreParts)
+    ensures after { machine_of state.new ≡ with_pauses_ended (machine_of state.old) }
+    ensures jobs { state.new.jobs ≡ state.old.jobs }
+{
+    if !is_over(state.known.pause_end, state.moment) {
+        return;
+    }
+    state.tubes.fire_timers(state.moment);
+    state.known.pause_end = state.tubes.first_pause_end();
+    state.known.stir = Stir::Any;
 }
 
 /// Changes the record of a tube that has an entry.

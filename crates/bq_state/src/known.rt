@@ -430,7 +430,7 @@ impl Warns {
 
     /// What is known after the first of their deadlines was queried: if there is none, none of them
     /// holds a job.
-    pub fn settle(&mut self, is_due: bool)
+    pub(crate) fn settle(&mut self, is_due: bool)
         ensures { self.new ≡ warned_if_due is_due self.old }
     {
         if !is_due {

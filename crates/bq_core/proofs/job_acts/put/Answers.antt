@@ -5,9 +5,8 @@ use Rattle.bq_job.specs.{beside.AreIdsWithin}
 use Rattle.bq_job.specs.machine.{SeatRecord, job_with, new_job, seat_with, telling, with_put, with_tube, Machine.Machine}
 use Rattle.bq_job.proofs.ListLemmas.{all_at, found_passes}
 use Rattle.bq_jobs.specs.Kept.{Kept, with_added}
-use Rattle.bq_state.specs.{Asking.Asks, CoreParts.{Held, machine_of}, TubeEntries.{HasTubes, has_entry}}
-use Rattle.bq_core.specs.Putting.{after_given}
-use Rattle.bq_core.proofs.{ActLemmas.{asker_connected, put_done}, AskLemmas.asked_before}
+use Rattle.bq_state.specs.{Asking.Asks, CoreParts.{Held, machine_held, machine_of}, TubeEntries.{HasTubes, has_entry}}
+use Rattle.bq_core.proofs.{ActLemmas.{after_given, asker_connected, put_done}, AskLemmas.asked_before}
 use Rattle.bq_core.proofs.job_acts.put.Goals as goal
 use Rattle.bq_jobs.proofs.Changes.{low_below}
 
@@ -17,7 +16,7 @@ add-requires-clause-given c =
     let made = c.new_job-job.ensures c.in-Some.client.now (sym c.used.ensures) in
     let id : c.new_job-job.result.id ≡ st.next_id = ap (λ (j : Job). j.id) made in
     let next : c.count_put.new.state.next_id ≡ st.next_id + 1 =
-    ap (λ (x : Machine). x.next_id) c.count_put.ensures.after ∙ ap (λ (x : Machine). x.next_id + 1) c.in-Ok-make_room.ensures.after in
+    ap (λ (h : Held). h.next_id) c.count_put.ensures ∙ ap (λ (x : Machine). x.next_id + 1) c.in-Ok-make_room.ensures.after in
     let some = low_below 1 st.next_id st.jobs.jobs st.sound.ids in
     (omega arith, omega arith)
 
@@ -27,7 +26,7 @@ add-requires-clause-free c =
     let made = c.new_job-job.ensures c.in-Some.client.now (sym c.used.ensures) in
     let id : c.new_job-job.result.id ≡ st.next_id = ap (λ (j : Job). j.id) made in
     let jobs : (machine_of c.count_put.new.state).jobs ≡ st.jobs.jobs =
-    ap (λ (x : Machine). x.jobs) c.count_put.ensures.after ∙ ap (λ (x : Machine). x.jobs) c.in-Ok-make_room.ensures.after in
+    ap (λ (h : Held). h.jobs.jobs) c.count_put.ensures ∙ ap (λ (x : Machine). x.jobs) c.in-Ok-make_room.ensures.after in
     ap (λ n. job_with n (machine_of c.count_put.new.state).jobs) id
     ∙ ap (job_with st.next_id) jobs
     ∙ c.next_is_free.ensures 1 st.next_id st.jobs.jobs st.sound.ids
@@ -42,7 +41,7 @@ add-requires-clause-entry c =
     let here = found_passes (λ s. s.number == c.args.seat) st.seats.items s found in
     let has : HasTubes st.tubes.entries s = all_at (HasTubes st.tubes.entries) st.seats.items s st.sound.entries.of_seats here.1 in
     let made = c.new_job-job.ensures s (sym c.used.ensures) in
-    ap (λ (h : Held). has_entry c.new_job-job.result.tube h.tubes.entries) c.count_put.ensures.same
+    ap (λ (h : Held). has_entry c.new_job-job.result.tube h.tubes.entries) c.count_put.ensures
     ∙ ap (λ tubes. has_entry c.new_job-job.result.tube tubes.entries) c.in-Ok-make_room.ensures.tubes
     ∙ ap (λ (j : Job). has_entry j.tube st.tubes.entries) made ∙ has.used connected
 
@@ -61,7 +60,7 @@ returns-clause-reply c s found =
     let at : job.tube ≡ tube = ap (λ (j : Job). j.tube) is ∙ used in
     let id : job.id ≡ m.next_id = ap (λ (j : Job). j.id) is in
     let given : machine_of c.count_put.new.state ≡ after_given m =
-    c.count_put.ensures.after ∙ ap after_given c.in-Ok-make_room.ensures.after in
+    ap machine_held c.count_put.ensures ∙ ap after_given c.in-Ok-make_room.ensures.after in
     let last : with_added job m.jobs ≡ m.jobs ++ job ∷ [] =
     c.adds_at_the_end.ensures 1 m.jobs job (subst (AreIdsWithin 1 m.jobs) (sym id) c.args.state.now.sound.ids) in
     let done : machine_of c.add.new.state ≡ record (after_given (with_tube tube with_put m)) { jobs = m.jobs ++ job ∷ [] } =
@@ -74,6 +73,6 @@ returns-clause-reply c s found =
 
 pub returns-clause-asks : goal.returns-clause-asks
 returns-clause-asks c =
-    let same : c.count_put.new.state.jobs ≡ c.make_room.new.state.jobs = ap (λ (h : Held). h.jobs) c.count_put.ensures.same in
+    let same : c.count_put.new.state.jobs ≡ c.make_room.new.state.jobs = ap (λ (h : Held). h.jobs) c.count_put.ensures in
     asked_before 0 4 (omega arith) (subst (λ (k : Kept). Asks 0 c.args.state.now.jobs k)
     (sym same) c.in-Ok-make_room.ensures.asks) c.add.ensures.asks

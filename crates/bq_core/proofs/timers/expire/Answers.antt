@@ -1,7 +1,7 @@
-use Rattle.std.proofs.Common.{◌<◌, ◌∙◌, if◌then◌else◌, ap, count_by, subst, sym}
+use Rattle.std.proofs.Common.{◌<◌, ◌∙◌, if◌then◌else◌, ap, count_by, refl, subst, sym}
 use Rattle.bq_job.specs.machine.{grown, Machine.Machine}
-use Rattle.bq_state.specs.CoreParts.{machine_of}
-use Rattle.bq_core.specs.Firing.{is_ripe}
+use Rattle.bq_state.specs.CoreParts.{Held, machine_held, machine_of}
+use Rattle.bq_core.specs.Firing.{after_job_timers, is_ripe}
 use Rattle.bq_core.proofs.FiringLemmas.{counted_fired, fewer_expired, none_fires}
 use Rattle.bq_core.proofs.timers.expire.Goals as goal
 
@@ -9,24 +9,25 @@ pub returns-clause-done : goal.returns-clause-done
 returns-clause-done c e due =
     let m = machine_of c.args.state.now in
     let none = c.expire_first-expired.ensures.none e in
-    ap (λ (x : Machine). record x { timeouts = c.saturating_add-state.result }) none.1
-    ∙ ap (λ n. record m { timeouts = n }) (c.saturating_add-state.ensures ∙ ap (λ (x : Machine). grown c.times.result x.timeouts) none.1
-    ∙ ap (λ n. grown n m.timeouts) (c.times.ensures ∙ ap (λ b. if b then 1 else 0) e))
+    ap machine_held c.count_timeout_if.ensures
+    ∙ ap (λ (x : Machine). record x { timeouts = grown (if c.expire_first-expired.result then 1 else 0) x.timeouts }) none.1
+    ∙ ap (λ b. record m { timeouts = grown (if b then 1 else 0) m.timeouts }) e
     ∙ none_fires m due none.0
 
 pub returns-clause-fired : goal.returns-clause-fired
 returns-clause-fired c =
-    let m = machine_of c.args.state.now in
-    counted_fired m (machine_of c.expire_first-expired.new.state) c.saturating_add-state.result c.expire_first-expired.result
-    c.args.state.now.sound.ids c.expire_first-expired.ensures.none c.expire_first-expired.ensures.one
-    (c.saturating_add-state.ensures ∙ ap (λ n. grown n c.expire_first-expired.new.state.timeouts) c.times.ensures)
+    ap (λ (h : Held). after_job_timers (machine_held h)) c.count_timeout_if.ensures
+    ∙ counted_fired (machine_of c.args.state.now) (machine_of c.expire_first-expired.new.state) _ c.expire_first-expired.result
+    c.args.state.now.sound.ids c.expire_first-expired.ensures.none c.expire_first-expired.ensures.one refl
 
 pub returns-clause-fewer : goal.returns-clause-fewer
 returns-clause-fewer c e =
     let m = machine_of c.args.state.now in
     let x = c.expire_first-expired.ensures.one e in
-    subst (λ (n : Machine). count_by (is_ripe m.moment) n.jobs < count_by (is_ripe m.moment) m.jobs) (sym x.after)
+    let jobs = ap (λ (h : Held). h.jobs.jobs) c.count_timeout_if.ensures ∙ ap (λ (n : Machine). n.jobs) x.after in
+    subst (λ jobs. count_by (is_ripe m.moment) jobs < count_by (is_ripe m.moment) m.jobs) (sym jobs)
     (fewer_expired m x.id c.args.state.now.sound.ids x.one)
 
 pub returns-clause-same : goal.returns-clause-same
-returns-clause-same c e = ap (λ (x : Machine). x.jobs) (c.expire_first-expired.ensures.none e).1
+returns-clause-same c e =
+    ap (λ (h : Held). h.jobs.jobs) c.count_timeout_if.ensures ∙ ap (λ (x : Machine). x.jobs) (c.expire_first-expired.ensures.none e).1

@@ -2,8 +2,8 @@ use Rattle.std.proofs.{Common.{◌∙◌, ◌≡◌, None, ap, arith, flat_map, 
 use Rattle.bq_job.specs.declared.job.Job.{Job}
 use Rattle.bq_job.specs.{beside.{dues_of_pause, dues_of_state, dues_of_wait, earliest}, machine.{SeatRecord, TubeRecord}}
 use Rattle.bq_jobs.specs.Kept.{Kept}
-use Rattle.bq_state.specs.{CoreParts.machine_of, Dues.{earlier_of_both, with_seat_due, with_warning_due}, TubeEntries.counted}
-use Rattle.bq_state.proofs.{DueLemmas.{all_due, earliest_of_all, jobs_due_is, pauses_counted}, KnowledgeLemmas.so_settled}
+use Rattle.bq_state.specs.{CoreParts.{Held, machine_of}, Dues.{earlier_of_both, with_seat_due, with_warning_due}, TubeEntries.counted}
+use Rattle.bq_state.proofs.{DueLemmas.{all_due, earliest_of_all, jobs_due_is, pauses_counted}}
 use Rattle.bq_core.proofs.timers.next_due.Goals as goal
 
 pub warnings_due-warning-requires-clause-warned : goal.warnings_due-warning-requires-clause-warned
@@ -21,8 +21,8 @@ returns-clause-due c =
     c.warnings_due-warning.ensures.due ∙ (λ i. fold (with_warning_due (kept i)) None (c.as_slice.ensures.value i)) in
     let jobs : earlier_of_both c.jobs_due-jobs.result c.warnings_due-warning.result ≡ earliest (flat_map of_job st.jobs.jobs) =
     (λ i. earlier_of_both (c.jobs_due-jobs.ensures.due i) (warning i)) ∙ jobs_due_is m in
-    let tubes : st.known.pause_end ≡ earliest (flat_map of_tube (counted st.tubes.entries)) =
-    c.args.state.now.sound.known.pauses ∙ earliest_of_all of_tube st.tubes.entries
+    let tubes : c.settle_warnings.new.state.known.pause_end ≡ earliest (flat_map of_tube (counted st.tubes.entries)) =
+    ap (λ (h : Held). h.known.pause_end) c.settle_warnings.ensures ∙ st.sound.known.pauses ∙ earliest_of_all of_tube st.tubes.entries
     ∙ ap earliest (pauses_counted st.tubes.entries c.args.state.now.sound.entries.fresh) in
     let seats : c.seats_due-seats.result ≡ earliest (flat_map of_seat st.seats.items) =
     c.seats_due-seats.ensures ∙ ap (fold with_seat_due None) c.as_slice-3.ensures.value ∙ earliest_of_all of_seat st.seats.items in
@@ -38,11 +38,6 @@ invariant_of-state c =
     grind (
       arith,
       common_steps,
-      so_settled,
       c.jobs_due-jobs.ensures.same,
       c.warnings_due-warning.ensures.same,
-      c.is_some.ensures,
-      c.warnings_due-warning.ensures.due,
-      c.as_slice.ensures.value,
-      c.settle.ensures,
     )

@@ -3,7 +3,7 @@ use Rattle.bq_job.specs.machine.{tube_after_timers}
 use Rattle.bq_state.specs.{Dues.first_pause_end, KeptTubes.KeptTubes}
 use Rattle.bq_state.proofs.{KnowledgeLemmas.so_with_pauses, PartsLemmas.entries_of_timers}
 use Rattle.bq_state.proofs.{PauseLemmas.{no_pause_ends, none_counted, none_over}, TubeLemmas.filter_of_map, TubeNumberLemmas.numbers_kept}
-use Rattle.bq_core.proofs.timers.end_pauses.Goals as goal
+use Rattle.bq_state.proofs.changes.end_pauses.Goals as goal
 
 pub returns-clause-after : goal.returns-clause-after
 returns-clause-after c = grind (arith, common_steps, filter_of_map)
