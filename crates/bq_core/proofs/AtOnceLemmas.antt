@@ -14,7 +14,7 @@ use Rattle.bq_job.specs.declared.step.Step.TheVariants as steps
 use Rattle.bq_job.proofs.{KeptLemmas.only_seat, QuietLemmas.forgets_nothing}
 use Rattle.bq_steps.specs.{Cost.changed_jobs, Outbox.Outbox}
 use Rattle.bq_jobs.specs.{Kept.Kept, Seen.IsBodyOf}
-use Rattle.bq_state.specs.declared.{core_parts.CoreParts.CoreParts, known.Stir.TheVariants.{Client, Nothing}}
+use Rattle.bq_state.specs.declared.{core_parts.CoreParts.CoreParts, known.stir.Stir.TheVariants.{Client, Nothing}}
 use Rattle.bq_state.specs.declared.{seats.SeatChange.TheVariants.Wait}
 use Rattle.bq_state.specs.{Asking.{Asks, AsksAsChanged, AsksWithin, search_among}, CoreParts.machine_of, Cost.waited}
 use Rattle.bq_state.specs.{Offers.{next_rank, with_offer}, SeatChanges.AreNumbered, SeatStates.is_asking, Stirs.{AreKnown, is_nothing}}

@@ -15,7 +15,7 @@ use Rattle.bq_job.proofs.ListLemmas.{all_always, all_at, all_weaker, list_any_no
 use Rattle.bq_job.proofs.WatchedLemmas.{same_other}
 use Rattle.bq_jobs.specs.Kept.{ranked}
 use Rattle.bq_jobs.proofs.Changes.{all_found}
-use Rattle.bq_state.specs.declared.known.Stir.{Stir, TheVariants.Client}
+use Rattle.bq_state.specs.declared.known.stir.Stir.{Stir, TheVariants.Client}
 use Rattle.bq_state.specs.{Offers.{better_rank, is_paused_among, offered, waits_at, with_offer, with_offers}, Stirs.{AreKnown, may_get}}
 use Rattle.bq_state.proofs.TubeLemmas.{same_itself, same_name}
 use Rattle.bq_core.proofs.FiringLemmas.{chosen}

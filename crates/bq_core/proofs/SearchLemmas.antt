@@ -12,7 +12,7 @@ use Rattle.bq_job.proofs.{ChoiceLemmas.first_of_agrees, KeptLemmas.only_seat}
 use Rattle.bq_job.proofs.ListLemmas.{all_at, all_from_members, all_weaker, contains_head}
 use Rattle.bq_job.proofs.ListLemmas.{contains_tail, found_passes, list_any_not, list_any_with}
 use Rattle.bq_jobs.specs.Kept.{ranked}
-use Rattle.bq_state.specs.declared.known.Stir.TheVariants.{Client, Tube}
+use Rattle.bq_state.specs.declared.known.stir.Stir.TheVariants.{Client, Tube}
 use Rattle.bq_state.specs.{Cost.waited_tubes, Crowds.is_waiter, Offers.{next_rank, these}}
 use Rattle.bq_state.specs.{SeatChanges.AreNumbered, Stirs.{AreKnown, IsKnown}}
 use Rattle.bq_state.proofs.{StirLemmas.parts_of, TubeLemmas.same_name, WarningLemmas.none_found}

@@ -7,7 +7,7 @@ use Rattle.bq_job.specs.declared.job.Job.{Job}
 use Rattle.bq_job.specs.machine.{SeatRecord, TubeRecord, default_tube, empty_seat, fresh_tube, is_name_before, is_seated_at}
 use Rattle.bq_job.specs.{reading.TubeName.is_same_name}
 use Rattle.bq_job.proofs.ListLemmas.{all_weaker, count_all_not, list_any_not, none_pass}
-use Rattle.bq_state.specs.declared.{known.{Clients.Clients, Tally.Tally}, tubes.entry.Crowd.Crowd}
+use Rattle.bq_state.specs.declared.{known.{clients.Clients.Clients, tally.Tally.Tally}, tubes.entry.Crowd.Crowd}
 use Rattle.bq_state.specs.{Clients.clients_of}
 use Rattle.bq_state.specs.Crowds.{AreCrowds, IsSeated, crowd_at, crowd_in, crowd_of, crowds_of}
 use Rattle.bq_state.specs.Crowds.{crowds_provided, has_seats, is_user, is_waiter, is_watcher, no_crowd}

@@ -2,7 +2,7 @@
 use Rattle.std.proofs.Common.{◌∙◌, ◌∷◌, ◌≡◌, List, [], ℕ, ap, map, refl, subst, sym}
 use Rattle.std.specs.{Cmp.Lexicographic.slice_cmp, Ordering.nat_cmp}
 use Rattle.bq_index.specs.{Catalog.CatalogSeen, Order.InOrder}
-use Rattle.bq_state.specs.declared.{known.Tally.Tally, tubes.{entry.{Crowd.Crowd, TubeChange.TubeChange}, pauses.PauseEnd.PauseEnd}}
+use Rattle.bq_state.specs.declared.{known.tally.Tally.Tally, tubes.{entry.{Crowd.Crowd, TubeChange.TubeChange}, pauses.PauseEnd.PauseEnd}}
 use Rattle.bq_state.specs.{Crowds.crowds_at}
 use Rattle.bq_state.specs.KeptTubes.{KeptTube, KeptTubes, Named, crowd_kept, edited_at}
 use Rattle.bq_state.specs.KeptTubes.{kept_changed, record_at, record_of, tally_kept, tubes_kept}

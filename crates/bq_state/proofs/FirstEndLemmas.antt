@@ -5,7 +5,7 @@ use Rattle.std.proofs.Math.Bool.{or-false}
 use Rattle.std.specs.{List.{AllByRecursion as All, list_any}, Prelude.fold}
 use Rattle.bq_job.specs.machine.{SeatRecord, empty_seat, seat_with, watching}
 use Rattle.bq_job.proofs.{KeptLemmas.only_seat, ListLemmas.{all_both, all_of_map, all_weaker}}
-use Rattle.bq_state.specs.declared.{known.FirstEnd.{FirstEnd, TheVariants.{Known, Unknown}}, seats.SeatChange.SeatChange}
+use Rattle.bq_state.specs.declared.{known.first_end.FirstEnd.{FirstEnd, TheVariants.{Known, Unknown}}, seats.SeatChange.SeatChange}
 use Rattle.bq_state.specs.{Dues.{earlier_of_both, is_end_over, with_seat_due}, EndingWaits.has_waited}
 use Rattle.bq_state.specs.FirstEnds.{AreTimeouts, IsThere, end_after, gives_up_at, keeps_end}
 use Rattle.bq_state.specs.SeatChanges.{AreNumbered, seat_changed, seat_changed_at}

@@ -21,7 +21,7 @@ use Rattle.bq_state.specs.Stirs.{AreKnown, IsKnown, stirred_by_change, with_anyt
 use Rattle.bq_state.specs.Tallies.{tallies_with, tallies_without, tally_moved}
 use Rattle.bq_state.specs.TubeEntries.{counted, has_entry, is_counted, is_tube_of, tube_changed, tube_changed_at}
 use Rattle.bq_state.specs.Warnings.{IsWarned, has_waiting_holder, may_hold, warned_if_due}
-use Rattle.bq_state.specs.declared.known.Stir.TheVariants as stirs
+use Rattle.bq_state.specs.declared.known.stir.Stir.TheVariants as stirs
 use Rattle.bq_state.proofs.{ClientLemmas.{clients_moved, clients_watching}, CrowdLemmas.crowds_moved}
 use Rattle.bq_state.proofs.{CrowdPlaces.{crowds_kept, crowds_of_provided, first_crowds}, CrowdWatching.{crowds_ignoring, crowds_watching}}
 use Rattle.bq_state.proofs.{FirstEndLemmas.{first_timeouts, timeouts_of_seat, timeouts_watching}, LeavingLemmas.alive_left}

@@ -8,7 +8,7 @@ use Rattle.std.specs.List.{AllByRecursion as All, list_any}
 use Rattle.bq_job.specs.declared.job.Job.{Job}
 use Rattle.bq_job.specs.{machine.{SeatRecord, TubeRecord, greatest, is_seated_at, seat_with, watches}, reading.TubeName.is_same_name}
 use Rattle.bq_job.proofs.ListLemmas.{all_at, all_from_members, list_any_with}
-use Rattle.bq_state.specs.declared.{known.Loss.Loss, seats.SeatChange.SeatChange}
+use Rattle.bq_state.specs.declared.{known.loss.Loss.Loss, seats.SeatChange.SeatChange}
 use Rattle.bq_state.specs.declared.tubes.entry.{Crowd.Crowd, Moving.TheVariants.Goes, Share.Share}
 use Rattle.bq_state.specs.Crowds.{IsSeated, crowd_at, crowd_in, crowd_of, crowd_with, crowd_without}
 use Rattle.bq_state.specs.Crowds.{crowds_of, crowds_recounted, crowds_recounted_for, has_seats, touched}

@@ -11,7 +11,7 @@ use Rattle.bq_job.specs.{reading.TubeName.is_same_name}
 use Rattle.bq_job.proofs.{ListLemmas.{all_weaker, filter_no_longer}, NameOrderLemmas.not_same}
 use Rattle.bq_jobs.specs.Kept.{with_added, without}
 use Rattle.bq_jobs.proofs.Changes.{all_kept, others_above}
-use Rattle.bq_state.specs.declared.known.Loss.{Loss, TheVariants.{Any, Nothing, Of}}
+use Rattle.bq_state.specs.declared.known.loss.Loss.{Loss, TheVariants.{Any, Nothing, Of}}
 use Rattle.bq_state.specs.{Dues.{first_pause_end, pause_end_left}, Losses.{AreAlive, is_accounted, may_be_gone, with_lost, with_regained}}
 use Rattle.bq_state.specs.TubeEntries.{has_entry, is_tube_of, provided}
 use Rattle.bq_state.proofs.TubeLemmas.{same_itself, same_name}

@@ -9,7 +9,8 @@ use Rattle.bq_job.specs.{reading.TubeName.is_same_name}
 use Rattle.bq_jobs.specs.declared.row.Moved.{Moved}
 use Rattle.bq_jobs.specs.{Changed.{IgnoresTube, KeepsId, KeepsTube, moved_by, with_changed}, Kept.{with_added, without}}
 use Rattle.bq_jobs.proofs.Changes.{changed as changed_by_id, found_id}
-use Rattle.bq_state.specs.declared.{job_store.JobChange.JobChange, known.{Loss.Loss, Stir.Stir, Tally.Tally, Warns.Warns}}
+use Rattle.bq_state.specs.declared.known.{loss.Loss.Loss, stir.Stir.Stir, tally.Tally.Tally, warns.Warns.Warns}
+use Rattle.bq_state.specs.declared.job_store.JobChange.{JobChange}
 use Rattle.bq_state.specs.{Crowds.is_waiter, JobChanges.changed, Losses.AreAlive, SeatChanges.AreNumbered, Stirs.{AreKnown, with_stirred}}
 use Rattle.bq_state.specs.Tallies.{AreCounted, tallies_at, tallies_without, tally_moved, tally_of, tally_with, tally_without}
 use Rattle.bq_state.specs.TubeEntries.{AreEntries, AreInOrder}

@@ -9,7 +9,7 @@ use Rattle.std.specs.{List.{AllByRecursion as All, insert, list_any, prefix_len,
 use Rattle.std.specs.{Option.option_map, Ordering.{is_eq, is_lt, match_ordering, nat_cmp, ordering_reverse}, Prelude.find}
 use Rattle.bq_index.specs.Order.{InOrder}
 use Rattle.bq_job.specs.{machine.{TubeRecord, fresh_tube, is_name_before, with_record}, reading.TubeName.is_same_name}
-use Rattle.bq_state.specs.declared.{known.Tally.Tally, tubes.entry.{Crowd.Crowd, TubeChange.TubeChange}}
+use Rattle.bq_state.specs.declared.{known.tally.Tally.Tally, tubes.entry.{Crowd.Crowd, TubeChange.TubeChange}}
 use Rattle.bq_state.specs.Crowds.{crowd_at, crowds_at, crowds_provided, no_crowd}
 use Rattle.bq_state.specs.KeptTubes.{KeptTube, KeptTubes, Named, crowd_by, crowd_kept, edited, fresh_entry}
 use Rattle.bq_state.specs.KeptTubes.{is_named_at, is_paused_by, kept_changed, record_at, record_of, tally_by, tally_kept}

@@ -13,7 +13,7 @@ use Rattle.bq_job.proofs.ChoiceLemmas.{first_of_none, first_of_none_passes}
 use Rattle.bq_job.proofs.ListLemmas.{all_always, all_at, all_from_members, all_of_map, all_weaker}
 use Rattle.bq_job.proofs.ListLemmas.{find_in_filter, found_passes, list_any_not, none_pass}
 use Rattle.bq_jobs.specs.Kept.{with_added}
-use Rattle.bq_state.specs.declared.{known.Stir.{Stir, TheVariants.{Any, Client, Nothing, Tube}}, seats.SeatChange.SeatChange}
+use Rattle.bq_state.specs.declared.{known.stir.Stir.{Stir, TheVariants.{Any, Client, Nothing, Tube}}, seats.SeatChange.SeatChange}
 use Rattle.bq_state.specs.declared.tubes.entry.TubeChange.{TubeChange, TheVariants.{CountDelete, CountPut, Pause as PauseFor}}
 use Rattle.bq_state.specs.{Crowds.is_waiter, SeatChanges.seat_changed_at}
 use Rattle.bq_state.specs.Stirs.{AreKnown, IsKnown, is_nothing, is_paused_by, is_wanted_by}

@@ -8,7 +8,7 @@ use Rattle.bq_job.specs.{beside.AreIdsWithin, machine.{TubeRecord, greatest, is_
 use Rattle.bq_job.specs.{reading.TubeName.is_same_name}
 use Rattle.bq_job.proofs.{ListLemmas.count_cons, NameOrderLemmas.not_same}
 use Rattle.bq_jobs.specs.Kept.{with_added, without}
-use Rattle.bq_state.specs.declared.known.Tally.{Tally}
+use Rattle.bq_state.specs.declared.known.tally.Tally.{Tally}
 use Rattle.bq_state.specs.Tallies.{AreCounted, has_jobs, tallies_at, tallies_of, tallies_provided, tallies_with}
 use Rattle.bq_state.specs.Tallies.{tallies_without, tally_at, tally_in, tally_of, tally_with, tally_without}
 use Rattle.bq_state.specs.TubeEntries.{AreInOrder, has_entry, provided}

@@ -9,7 +9,8 @@ use Rattle.bq_job.specs.declared.job.JobState.TheVariants as states
 use Rattle.bq_job.proofs.{ChoiceLemmas.{first_of_none, first_of_none_passes}, KeptLemmas.only_seat}
 use Rattle.bq_job.proofs.ListLemmas.{all_at, all_from_members, all_of_map, all_weaker, list_any_not, none_pass}
 use Rattle.bq_jobs.specs.{Kept.with_added, Leases.{deadline_of, is_lease_before}}
-use Rattle.bq_state.specs.declared.{known.Warns.{Warns, TheVariants.{Client, Nobody}}, seats.SeatChange.{SeatChange, TheVariants.Wait}}
+use Rattle.bq_state.specs.declared.known.warns.Warns.{Warns, TheVariants.{Client, Nobody}}
+use Rattle.bq_state.specs.declared.seats.SeatChange.{SeatChange, TheVariants.Wait}
 use Rattle.bq_state.specs.Dues.{earlier_of_both, warning_due, warning_due_at, with_warning_due}
 use Rattle.bq_state.specs.SeatChanges.{AreNumbered, seat_changed, seat_changed_at}
 use Rattle.bq_state.specs.Warnings.{AreWarned, IsWarned, has_waiting_holder, holds_in_wait, is_waiting_there, may_hold}

@@ -1,7 +1,7 @@
 -- Records of tubes whose counts are those of jobs and of seats.
 use Rattle.std.specs.Prelude.{◌≡◌, List, Option, ℕ, filter, map}
 use Rattle.bq_job.specs.{declared.job.Job.Job, machine.SeatRecord}
-use Rattle.bq_state.specs.declared.{known.{Loss.Loss, Tally.Tally}, tubes.entry.{Crowd.Crowd, Moving.Moving, Share.Share}}
+use Rattle.bq_state.specs.declared.{known.{loss.Loss.Loss, tally.Tally.Tally}, tubes.entry.{Crowd.Crowd, Moving.Moving, Share.Share}}
 use Rattle.bq_state.specs.{Crowds.{crowds_at, crowds_at_all, crowds_of, crowds_provided, crowds_recounted_for}, KeptTubes.KeptTubes}
 use Rattle.bq_state.specs.{Losses.AreAlive, Tallies.{tallies_at, tallies_of, tallies_provided, tallies_with, tallies_without}}
 use Rattle.bq_state.specs.TubeEntries.{AreInOrder, is_tube_of, provided, tube_changed_at}

@@ -9,10 +9,10 @@ use Rattle.bq_state.specs.Leaving.{loss_of}
 use Rattle.bq_state.specs.{Losses.{AreAlive, with_lost, with_regained}, Stirs.{AreKnown, stirred_by_change, stirred_by_seat, with_stirred}}
 use Rattle.bq_state.specs.{Tallies.{AreCounted, tally_moved, tally_of, tally_with, tally_without}, TubeEntries.counted}
 use Rattle.bq_state.specs.Warnings.{AreWarned, warned_by_seat, with_holder_of}
-use Rattle.bq_state.specs.declared.known.FirstEnd.TheVariants as ends
-use Rattle.bq_state.specs.declared.known.Loss.TheVariants as losses
-use Rattle.bq_state.specs.declared.known.Stir.TheVariants as stirs
-use Rattle.bq_state.specs.declared.known.Warns.TheVariants as holders
+use Rattle.bq_state.specs.declared.known.first_end.FirstEnd.TheVariants as ends
+use Rattle.bq_state.specs.declared.known.loss.Loss.TheVariants as losses
+use Rattle.bq_state.specs.declared.known.stir.Stir.TheVariants as stirs
+use Rattle.bq_state.specs.declared.known.warns.Warns.TheVariants as holders
 
 -- What is known is true of these jobs, seats and tubes, and the tubes' counts are correct.
 pub record IsSo (k : Known) (jobs : List Job) (seats : List SeatRecord) (tubes : KeptTubes) : Type 0 where

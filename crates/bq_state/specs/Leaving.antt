@@ -1,7 +1,7 @@
 -- Which tubes may have gone after a client leaves them.
 use Rattle.std.specs.Prelude.{◌∷◌, Bool, List, None, Option, Some, [], ℕ, false, fold, true}
 use Rattle.bq_job.specs.machine.{SeatRecord}
-use Rattle.bq_state.specs.declared.{known.Loss.Loss, tubes.entry.Share.Share}
+use Rattle.bq_state.specs.declared.{known.loss.Loss.Loss, tubes.entry.Share.Share}
 use Rattle.bq_state.specs.{Crowds.{crowd_at, has_seats}, KeptTubes.KeptTubes, Losses.with_lost}
 use Rattle.bq_state.specs.{Tallies.{has_jobs, tally_at}, TubeEntries.is_tube_by}
 

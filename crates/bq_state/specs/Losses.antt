@@ -1,7 +1,7 @@
 -- Which entries may be of tubes that have gone.
 use Rattle.std.specs.{List.AllByRecursion, Prelude.{◌||◌, ◌≡◌, if◌then◌else◌, Bool, List, ℕ, false, true}}
 use Rattle.bq_job.specs.{declared.job.Job.Job, machine.{SeatRecord, TubeRecord}, reading.TubeName.is_same_name}
-use Rattle.bq_state.specs.{declared.known.Loss.{Loss, TheVariants.{Any, Nothing, Of}}, TubeEntries.is_tube_of}
+use Rattle.bq_state.specs.{declared.known.loss.Loss.{Loss, TheVariants.{Any, Nothing, Of}}, TubeEntries.is_tube_of}
 
 -- the tube with this name may have gone
 abbrev pub may_be_gone : Loss → List ℕ → Bool

@@ -2,10 +2,10 @@
 use Rattle.std.proofs.Props.{props}
 use Rattle.std.specs.{Coded.{Unit-prop, le_prop, ×_prop}, Prelude.{◌∷◌, ◌≡◌, ◌≤◌, Bool, List, [], ℕ, false}}
 use Rattle.bq_job.specs.{beside.AreIdsWithin, declared.job.Job.Job, machine.{SeatRecord, TubeRecord, last_id}}
-use Rattle.bq_state.specs.declared.known.{FirstEnd.FirstEnd, Known.Known}
+use Rattle.bq_state.specs.declared.known.{first_end.FirstEnd.FirstEnd, Known.Known}
 use Rattle.bq_state.specs.{FirstEnds.AreTimeouts, KeptTubes.KeptTubes, Knowledge.IsSo}
 use Rattle.bq_state.specs.{SeatChanges.AreNumbered, TubeEntries.{AreEntries, AreInOrder}, WaitingTurns.{AreInTurn, WaitingTurns}}
-use Rattle.bq_state.specs.declared.known.FirstEnd.TheVariants as ends
+use Rattle.bq_state.specs.declared.known.first_end.FirstEnd.TheVariants as ends
 
 -- The fields of a state agree with each other: the jobs, seats and tubes, and what is kept besides
 -- them.

@@ -3,7 +3,7 @@ use Rattle.std.specs.{List.AllByRecursion}
 use Rattle.std.specs.Prelude.{◌&&◌, ◌==◌, ◌≡◌, if◌then◌else◌, Bool, List, ℕ, false, find, is_some, not, true, unwrap_or}
 use Rattle.bq_job.specs.declared.job.Job.{Job}
 use Rattle.bq_job.specs.{machine.{SeatRecord, TubeRecord, fresh_tube, is_ready, is_waiting, watches}, reading.TubeName.is_same_name}
-use Rattle.bq_state.specs.declared.known.Stir.{Stir, TheVariants.{Any, Client, Nothing, Tube}}
+use Rattle.bq_state.specs.declared.known.stir.Stir.{Stir, TheVariants.{Any, Client, Nothing, Tube}}
 use Rattle.bq_state.specs.declared.{seats.SeatChange.{SeatChange, TheVariants.Wait}, tubes.entry.TubeChange.{TubeChange, TheVariants.Pause}}
 
 -- the client at this seat may have a job of this tube

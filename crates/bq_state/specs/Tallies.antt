@@ -6,7 +6,7 @@ use Rattle.bq_job.specs.machine.{TubeRecord, is_buried, is_delayed, is_name_befo
 use Rattle.bq_job.specs.machine.{is_ready_state, is_reserved, is_urgent, raised}
 use Rattle.bq_job.specs.reading.TubeName.{is_same_name}
 use Rattle.bq_jobs.specs.declared.row.{Moved.Moved, Standing.Standing}
-use Rattle.bq_state.specs.{declared.known.Tally.Tally, TubeEntries.has_entry}
+use Rattle.bq_state.specs.{declared.known.tally.Tally.Tally, TubeEntries.has_entry}
 
 abbrev pub tally_of : List Job → Tally
 tally_of jobs = record {

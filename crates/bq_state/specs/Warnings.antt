@@ -4,7 +4,7 @@ use Rattle.std.specs.Prelude.{◌&&◌, ◌==◌, ◌||◌, ◌≡◌, if◌then
 use Rattle.bq_job.specs.declared.job.{Job.Job, JobState.JobState}
 use Rattle.bq_job.specs.declared.job.JobState.TheVariants as states
 use Rattle.bq_job.specs.machine.{SeatRecord, is_held_by, is_waiting, seat_with}
-use Rattle.bq_state.specs.declared.known.Warns.{Warns, TheVariants.{Any, Client, Nobody}}
+use Rattle.bq_state.specs.declared.known.warns.Warns.{Warns, TheVariants.{Any, Client, Nobody}}
 use Rattle.bq_state.specs.declared.seats.SeatChange.{SeatChange, TheVariants.{Clear, StopWaiting, Wait}}
 
 -- the client at this seat may hold a job while it waits

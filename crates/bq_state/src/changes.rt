@@ -13,7 +13,7 @@ ghost use Rattle.bq_job.specs.machine.JobCommands.{with_put};
 ghost use Rattle.bq_jobs.specs.Kept.{ComparesAtMost, with_added};
 ghost use Rattle.bq_state.specs.Asking.{Asks};
 ghost use Rattle.bq_state.specs.Crowds.{may_wait};
-ghost use Rattle.bq_state.specs.declared.known.Stir.TheVariants as stirs;
+ghost use Rattle.bq_state.specs.declared.known.stir.Stir.TheVariants as stirs;
 ghost use Rattle.bq_state.specs.Dues.{is_end_over, with_warning_due};
 ghost use Rattle.bq_state.specs.JobChanges.{changed, once_deleted};
 ghost use Rattle.bq_state.specs.KeptTubes.{first_tubes};

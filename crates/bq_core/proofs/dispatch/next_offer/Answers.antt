@@ -3,7 +3,7 @@ use Rattle.std.specs.{List.list_any, Prelude.{fold, option_map}}
 use Rattle.bq_job.specs.machine.{is_job_before, is_paused, is_ready_in, is_waiting_for, seat_with}
 use Rattle.bq_job.proofs.{ChoiceLemmas.first_of_none_passes, ListLemmas.{all_always, list_any_not}}
 use Rattle.bq_jobs.specs.Kept.{ranked}
-use Rattle.bq_state.specs.declared.{core_parts.CoreParts.CoreParts, known.Stir.{Stir, TheVariants.Nothing}}
+use Rattle.bq_state.specs.declared.{core_parts.CoreParts.CoreParts, known.stir.Stir.{Stir, TheVariants.Nothing}}
 use Rattle.bq_state.specs.{CoreParts.machine_of, Crowds.is_waiter}
 use Rattle.bq_state.specs.{Offers.{is_waited_at, next_rank, offered, these, with_offers}, Stirs.AreKnown}
 use Rattle.bq_state.proofs.{ClientLemmas.some_pass, CrowdPlaces.crowd_there, StirLemmas.none_known, TubeLemmas.paused_is}

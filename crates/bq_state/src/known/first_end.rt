@@ -1,0 +1,93 @@
+//! When the first wait times out.
+ghost use Rattle.std.specs.Option.{option_copied};
+ghost use Rattle.std.specs.Prelude.{◌≡◌, None, fold};
+ghost use Rattle.bq_state.specs.Dues.{with_seat_due};
+ghost use Rattle.bq_state.specs.FirstEnds.{AreTimeouts, end_after, keeps_end};
+ghost use Rattle.bq_state.specs.SeatChanges.{AreNumbered};
+ghost use Rattle.bq_state.specs.WaitingTurns.{at_turn, turns_of};
+
+use crate::known::moments::earlier_of;
+use crate::seats::{self, SeatChange, SeatRecord, Turn};
+use bq_job::Moment;
+
+/// When the first wait times out.
+#[derive(Clone, Copy)]
+pub enum FirstEnd {
+    /// At this moment, if ever; and every waiting client can still send.
+    Known(Option<Moment>),
+    /// It has to be searched.
+    Unknown,
+}
+
+// Returns true if a change of a seat keeps it.
+fn keeps(client: &SeatRecord, what: &SeatChange) -> bool
+    ensures { result ≡ keeps_end what.now client.now }
+{
+    match what {
+        SeatChange::StopWaiting | SeatChange::Connect | SeatChange::Clear => {
+            client.gives_up_at().is_none()
+        }
+        SeatChange::Wait(_, until) => {
+            until.is_none() && client.gives_up_at().is_none() && !client.has_ended()
+        }
+        SeatChange::End => !client.is_waiting(),
+        SeatChange::Use(_) => true,
+    }
+}
+
+impl FirstEnd {
+    /// What is known after a change of a seat; `client` is its record before.
+    pub(crate) fn change(&mut self, client: Option<&SeatRecord>, what: &SeatChange)
+        ensures { self.new ≡ end_after what.now (option_copied client.entry) self.old }
+    {
+        let Some(client) = client else {
+            return;
+        };
+        if !keeps(client, what) {
+            *self = FirstEnd::Unknown;
+        }
+    }
+
+    /// Finds it. Only waiting clients are checked.
+    #[tactic(auto, using(crate::proofs::DueLemmas::all_there))]
+    pub(crate) fn find(seats: &[SeatRecord], turns: &[Turn]) -> FirstEnd
+        requires numbered { AreNumbered seats.now }
+        requires turns { turns.now ≡ turns_of seats.now }
+        ensures { AreTimeouts result seats.now }
+    {
+        if seats::is_some_waiter_gone(seats, turns) {
+            FirstEnd::Unknown
+        } else {
+            FirstEnd::Known(first_to_give_up(seats, turns))
+        }
+    }
+}
+
+// Returns the earlier of this moment and the one at which the wait of this turn's client times out.
+fn with_end_of(best: Option<Moment>, seats: &[SeatRecord], turn: Turn) -> Option<Moment>
+    ensures { result ≡ at_turn with_seat_due seats.now best turn }
+{
+    match seats.get(usize::from(turn.1)) {
+        None => best,
+        Some(client) => earlier_of(best, client.gives_up_at()),
+    }
+}
+
+// Returns when the first wait of the clients with these turns times out.
+fn first_end_among(seats: &[SeatRecord], turns: &[Turn]) -> Option<Moment>
+    ensures { result ≡ fold (at_turn with_seat_due seats.now) None turns.now }
+{
+    turns
+        .iter()
+        .fold(None, |best, turn| with_end_of(best, seats, *turn))
+}
+
+/// Returns when the first wait times out. Only waiting clients are checked.
+#[tactic(auto, using(crate::proofs::DueLemmas::ends_walked))]
+pub fn first_to_give_up(seats: &[SeatRecord], turns: &[Turn]) -> Option<Moment>
+    requires numbered { AreNumbered seats.now }
+    requires turns { turns.now ≡ turns_of seats.now }
+    ensures { result ≡ fold with_seat_due None seats.now }
+{
+    first_end_among(seats, turns)
+}
