@@ -14,11 +14,11 @@ use Rattle.bq_job.specs.declared.step.Step.TheVariants as steps
 use Rattle.bq_job.proofs.{KeptLemmas.only_seat, QuietLemmas.forgets_nothing}
 use Rattle.bq_steps.specs.{Cost.changed_jobs, Outbox.Outbox}
 use Rattle.bq_jobs.specs.{Kept.Kept, Seen.IsBodyOf}
-use Rattle.bq_state.specs.declared.{core_parts.CoreParts.CoreParts, known.stir.Stir.TheVariants.{Client, Nothing}}
+use Rattle.bq_state.specs.declared.{core_parts.CoreParts.CoreParts, known.wanted.Wanted.TheVariants.{Client, Nothing}}
 use Rattle.bq_state.specs.declared.{seats.SeatChange.TheVariants.Wait}
 use Rattle.bq_state.specs.{Asking.{Asks, AsksAsChanged, AsksWithin, search_among}, CoreParts.machine_of, Cost.waited}
-use Rattle.bq_state.specs.{Offers.{next_rank, with_offer}, SeatChanges.AreNumbered, SeatStates.is_asking, Stirs.{AreKnown, is_nothing}}
-use Rattle.bq_state.proofs.{PartsLemmas.numbered_after, StirLemmas.{known_nothing, known_of_seat, none_known}, TubeLemmas.paused_is}
+use Rattle.bq_state.specs.{Offers.{next_rank, with_offer}, SeatChanges.AreNumbered, SeatStates.is_asking, WantedJobs.{AreKnown, is_nothing}}
+use Rattle.bq_state.proofs.{PartsLemmas.numbered_after, WantedLemmas.{known_nothing, known_of_seat, none_known}, TubeLemmas.paused_is}
 use Rattle.bq_core.specs.{AtOnce.{ActsOrGives, is_reserve, waiting_at}, Serving.NoneIsGone, Turns.Gives}
 use Rattle.bq_core.proofs.{ActLemmas.{acts_silent, number_found}, AskLemmas.{asks_more, search_grows}, CostLemmas.given_length}
 use Rattle.bq_core.proofs.DispatchLemmas.{id_of_best, next_is, next_offer, next_there}
@@ -75,7 +75,7 @@ module _ (seat : ℕ) (s : SeatRecord) (ticket : ℕ) (until : Option ℕ) where
   ]
 
 module _ (st : CoreParts) (seat : ℕ) (s : SeatRecord) (at : seat_with seat st.seats.items ≡ Some s) (awake : is_waiting s ≡ false)
-    (quiet : is_nothing st.known.stir ≡ true) (until : Option ℕ) where
+    (quiet : is_nothing st.known.wanted ≡ true) (until : Option ℕ) where
   abbrev m : Machine
   m = machine_of st
 
@@ -90,7 +90,7 @@ module _ (st : CoreParts) (seat : ℕ) (s : SeatRecord) (at : seat_with seat st.
 
   known : AreKnown (Client seat) then_waits.jobs then_waits.seats then_waits.tubes
   known = known_of_seat seat (Wait (raised st.tickets) until) Nothing m.jobs m.seats m.tubes
-      (known_nothing m (none_known st.known.stir m quiet st.sound.known.stirs))
+      (known_nothing m (none_known st.known.wanted m quiet st.sound.known.wanted_jobs))
 
   numbered : AreNumbered then_waits.seats
   numbered = numbered_after seat (Wait (raised st.tickets) until) st.seats.items st.sound.numbered
@@ -165,7 +165,7 @@ asking_client seat seats h = of (seat_with seat seats) refl h
 
 -- A client that reserves while no waiting client may have a job is given the job that its tubes offer.
 pub given_at_once : (st : CoreParts) (seat id : ℕ) (what : Step) (body : List ℕ) (old new : Outbox) (last : Machine) (after : Kept)
-    (s : SeatRecord) → is_reserve what ≡ true → is_nothing st.known.stir ≡ true
+    (s : SeatRecord) → is_reserve what ≡ true → is_nothing st.known.wanted ≡ true
     → seat_with seat st.seats.items ≡ Some s → (s.connected && not (is_waiting s)) ≡ true
     → Some id ≡ option_map (λ (r : ℕ × ℕ). r.1) (fold (with_offer st.jobs.jobs st.tubes.entries) None s.watched)
     → IsBodyOf (job_with id st.jobs.jobs) body → NoneIsGone (machine_of st)

@@ -15,10 +15,11 @@ use Rattle.bq_job.proofs.ListLemmas.{all_always, all_at, all_weaker, list_any_no
 use Rattle.bq_job.proofs.WatchedLemmas.{same_other}
 use Rattle.bq_jobs.specs.Kept.{ranked}
 use Rattle.bq_jobs.proofs.Changes.{all_found}
-use Rattle.bq_state.specs.declared.known.stir.Stir.{Stir, TheVariants.Client}
-use Rattle.bq_state.specs.{Offers.{better_rank, is_paused_among, offered, waits_at, with_offer, with_offers}, Stirs.{AreKnown, may_get}}
+use Rattle.bq_state.specs.declared.known.wanted.Wanted.{Wanted, TheVariants.Client}
+use Rattle.bq_state.specs.Offers.{better_rank, is_paused_among, offered, waits_at, with_offer, with_offers}
+use Rattle.bq_state.specs.WantedJobs.{AreKnown, may_get}
 use Rattle.bq_state.proofs.TubeLemmas.{same_itself, same_name}
-use Rattle.bq_core.proofs.FiringLemmas.{chosen}
+use Rattle.bq_core.proofs.FiredTimerLemmas.{chosen}
 
 module _ (next : ℕ) (jobs : List Job) (ids : AreIdsWithin 1 jobs next) where
   -- the best of the jobs that pass, by its priority and its id
@@ -161,8 +162,8 @@ id_of_best o = grind (arith, common_steps)
 -- a client that waits for jobs of the next job's tube waits for that job
 pub waits_alike : (m : Machine) (j : Job) → next_job m ≡ Some j → (s : SeatRecord) → waits_at j.tube s ≡ is_waiting_for m j s
 waits_alike m j e s =
-    let wanted = first_of_passes (λ j. list_any (is_waiting_for m j) m.seats) is_job_before m.jobs j e in
-    let free = may_go m.seats wanted in
+    let is_wanted = first_of_passes (λ j. list_any (is_waiting_for m j) m.seats) is_job_before m.jobs j e in
+    let free = may_go m.seats is_wanted in
     rw (free.0, free.1) (bools (is_waiting s) (list_any (is_same_name j.tube) s.watched))
   where
     bools : (w n : Bool) → (w && n) ≡ (w && ((true && n) && not false))
@@ -189,9 +190,9 @@ some_at_tube m j e =
     sym (first_of_is_some (waits_at j.tube) is_wait_before m.seats) ∙ ap is_some (seat_at_tube m j e ∙ seat.1)
 
 -- it is known to be one that may have the job
-pub takers_known : (m : Machine) (stir : Stir) (j : Job) → next_job m ≡ Some j → AreKnown stir m.jobs m.seats m.tubes
-    → All (λ s. waits_at j.tube s ≡ true → may_get stir j.tube s.number ≡ true) m.seats
-takers_known m stir j e known =
+pub takers_known : (m : Machine) (wanted : Wanted) (j : Job) → next_job m ≡ Some j → AreKnown wanted m.jobs m.seats m.tubes
+    → All (λ s. waits_at j.tube s ≡ true → may_get wanted j.tube s.number ≡ true) m.seats
+takers_known m wanted j e known =
     grind (
       arith,
       common_steps,
@@ -203,16 +204,16 @@ takers_known m stir j e known =
     )
 
 -- if only one client may have jobs, it is the first one that waits for jobs of the tube
-pub taker_known : (asker : ℕ) (stir : Stir) (tube : List ℕ) (seats : List SeatRecord) → stir ≡ Client asker
+pub taker_known : (waiter : ℕ) (wanted : Wanted) (tube : List ℕ) (seats : List SeatRecord) → wanted ≡ Client waiter
     → list_any (waits_at tube) seats ≡ true
-    → All (λ s. waits_at tube s ≡ true → may_get stir tube s.number ≡ true) seats
-    → Some asker ≡ option_map (λ (s : SeatRecord). s.number) (first_of (waits_at tube) is_wait_before seats)
-taker_known asker stir tube seats is some known =
+    → All (λ s. waits_at tube s ≡ true → may_get wanted tube s.number ≡ true) seats
+    → Some waiter ≡ option_map (λ (s : SeatRecord). s.number) (first_of (waits_at tube) is_wait_before seats)
+taker_known waiter wanted tube seats is some known =
     let s = first_of_some (waits_at tube) is_wait_before seats some in
-    let may = all_at (λ t. waits_at tube t ≡ true → may_get stir tube t.number ≡ true) seats s.0 known
+    let may = all_at (λ t. waits_at tube t ≡ true → may_get wanted tube t.number ≡ true) seats s.0 known
     (first_of_contains (waits_at tube) is_wait_before seats s.0 s.1) (first_of_passes (waits_at tube) is_wait_before seats s.0 s.1) in
-    let at : (s.0.number == asker) ≡ true = subst (λ f. may_get f tube s.0.number ≡ true) is may in
-    ap Some (sym (eqb-true s.0.number asker at)) ∙ sym (ap (option_map (λ (t : SeatRecord). t.number)) s.1)
+    let at : (s.0.number == waiter) ≡ true = subst (λ f. may_get f tube s.0.number ≡ true) is may in
+    ap Some (sym (eqb-true s.0.number waiter at)) ∙ sym (ap (option_map (λ (t : SeatRecord). t.number)) s.1)
 
 -- the job with this id is the next one
 pub next_is : (m : Machine) (id : ℕ) (x : Job) → AreIdsWithin 1 m.jobs m.next_id → Some id ≡ option_map (λ j. j.id) (next_job m)

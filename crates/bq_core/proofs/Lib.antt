@@ -3,7 +3,7 @@ pub mod AskLemmas
 pub mod AtOnceLemmas
 pub mod CostLemmas
 pub mod DispatchLemmas
-pub mod FiringLemmas
+pub mod FiredTimerLemmas
 pub mod IdleLemmas
 pub mod KickLemmas
 pub mod OfferLemmas

@@ -12,10 +12,10 @@ use Rattle.bq_job.proofs.{ChoiceLemmas.first_of_agrees, KeptLemmas.only_seat}
 use Rattle.bq_job.proofs.ListLemmas.{all_at, all_from_members, all_weaker, contains_head}
 use Rattle.bq_job.proofs.ListLemmas.{contains_tail, found_passes, list_any_not, list_any_with}
 use Rattle.bq_jobs.specs.Kept.{ranked}
-use Rattle.bq_state.specs.declared.known.stir.Stir.TheVariants.{Client, Tube}
+use Rattle.bq_state.specs.declared.known.wanted.Wanted.TheVariants.{Client, Tube}
 use Rattle.bq_state.specs.{Cost.waited_tubes, Crowds.is_waiter, Offers.{next_rank, these}}
-use Rattle.bq_state.specs.{SeatChanges.AreNumbered, Stirs.{AreKnown, IsKnown}}
-use Rattle.bq_state.proofs.{StirLemmas.parts_of, TubeLemmas.same_name, WarningLemmas.none_found}
+use Rattle.bq_state.specs.{SeatChanges.AreNumbered, WantedJobs.{AreKnown, IsKnown}}
+use Rattle.bq_state.proofs.{WantedLemmas.parts_of, TubeLemmas.same_name, WarningLemmas.none_found}
 
 -- the next job is the first of those that pass, if these are the ones for which a client waits
 pub rank_agrees : (m : Machine) (p : Job → Bool) → All (λ j. list_any (is_waiting_for m j) m.seats ≡ p j) m.jobs
@@ -73,8 +73,8 @@ tube_waits m name w waits known =
     together : (a b c d : Bool) → a ≡ true → b ≡ true → c ≡ true → d ≡ true → (a && (b && c && d)) ≡ true
     together a b c d e f g h = rw (e, f, g, h) refl
 
-    wanted : (j : Job) → (w && (is_ready_in name j && not (is_paused name m))) ≡ true → list_any (is_waiting_for m j) m.seats ≡ true
-    wanted j h =
+    is_wanted : (j : Job) → (w && (is_ready_in name j && not (is_paused name m))) ≡ true → list_any (is_waiting_for m j) m.seats ≡ true
+    is_wanted j h =
         let first = and_parts w (is_ready_in name j && not (is_paused name m)) h in
         let second = and_parts (is_ready_in name j) (not (is_paused name m)) first.1 in
         let third = and_parts (is_ready j) (is_same_name name j.tube) second.0 in
@@ -102,7 +102,7 @@ tube_waits m name w waits known =
 
     go : (j : Job) → All (IsKnown (Tube name) m.tubes j) m.seats → (b : Bool) → (w && (is_ready_in name j && not (is_paused name m))) ≡ b
         → list_any (is_waiting_for m j) m.seats ≡ b
-    go j all true e = wanted j e
+    go j all true e = is_wanted j e
     go j all false e =
         list_any_not (is_waiting_for m j) m.seats
         (all_from_members (λ t. is_waiting_for m j t ≡ false) m.seats

@@ -1,7 +1,7 @@
 pub mod Acting
 pub mod AtOnce
 pub mod CoreState
-pub mod Firing
+pub mod FiredTimers
 pub mod HandOuts
 pub mod Kicking
 pub mod Numbers

@@ -12,7 +12,7 @@ ghost use Rattle.bq_state.specs.CoreParts.{AtSeat, machine_of};
 ghost use Rattle.bq_state.specs.Keeping.{Looks};
 ghost use Rattle.bq_state.specs.Offers.{with_offer};
 ghost use Rattle.bq_state.specs.SeatStates.{is_asking};
-ghost use Rattle.bq_state.specs.Stirs.{is_nothing};
+ghost use Rattle.bq_state.specs.WantedJobs.{is_nothing};
 ghost use Rattle.bq_core.specs.AtOnce.{ActsOrGives, is_reserve};
 ghost use Rattle.bq_core.specs.Serving.{NoneIsGone};
 ghost use Rattle.bq_core.specs.Turns.{HasRoom};
@@ -40,9 +40,9 @@ fn is_reserve(what: &Step) -> bool
 // Returns true if the step is a reserve of a client that can ask, and no waiting client may have a job.
 fn may_take(state: &CoreParts, seat: Seat, what: &Step) -> bool
     ensures { result ≡ (is_reserve what.now
-        && (is_nothing state.now.known.stir && is_asking (seat_with seat state.now.seats.items))) }
+        && (is_nothing state.now.known.wanted && is_asking (seat_with seat state.now.seats.items))) }
 {
-    is_reserve(what) && (state.known.stir.is_nothing() && state.is_asking(seat))
+    is_reserve(what) && (state.known.wanted.is_nothing() && state.is_asking(seat))
 }
 
 // Returns the job that the client at the seat would be handed if it waited, and another reference to its body. Returns

@@ -17,7 +17,7 @@ ghost use Rattle.bq_state.specs.WaitingTurns.{by_seat, turns_of, waited_at};
 ghost use Rattle.bq_state.specs.SeatChanges.{AreNumbered};
 ghost use Rattle.bq_state.specs.Keeping.{Looks};
 ghost use Rattle.bq_state.specs.CoreParts.{machine_of};
-ghost use Rattle.bq_state.specs.Stirs.{is_nothing, may_get};
+ghost use Rattle.bq_state.specs.WantedJobs.{is_nothing, may_get};
 ghost use Rattle.bq_core.specs.Turns.{Gives, HasRoom};
 ghost use Rattle.bq_core.specs.Serving.{IsLastTurn};
 
@@ -25,7 +25,7 @@ use bq_job::{Answer, Body, JobId, NoMemory, Seat, TubeName};
 use bq_jobs::NumberedJobs;
 use bq_state::core_parts::CoreParts;
 use bq_state::job_store::JobChange;
-use bq_state::known::Stir;
+use bq_state::known::Wanted;
 use bq_state::seats::{SeatChange, SeatRecord, Turn};
 use bq_state::tubes::Tubes;
 use bq_state::{changes, seats};
@@ -182,17 +182,17 @@ fn next_offer(state: &mut CoreParts) -> Option<Offer>
     ensures next { result ≡ next_rank (machine_of state.old) }
     ensures kept { Looks (waited (machine_of state.old)) state.old state.new }
 {
-    match &state.known.stir {
-        Stir::Nothing => None,
-        Stir::Tube(name) => offer_to(&mut state.jobs, &state.tubes, name),
-        Stir::Client(seat) => best_of_client(
+    match &state.known.wanted {
+        Wanted::Nothing => None,
+        Wanted::Tube(name) => offer_to(&mut state.jobs, &state.tubes, name),
+        Wanted::Client(seat) => best_of_client(
             &mut state.jobs,
             &state.tubes,
             state.seats.as_slice(),
             *seat,
             None,
         ),
-        Stir::Any => best_offer(
+        Wanted::Any => best_offer(
             &mut state.jobs,
             &state.tubes,
             state.seats.as_slice(),
@@ -239,8 +239,8 @@ fn pick(state: &mut CoreParts, id: JobId) -> Option<(Seat, Result<Body, NoMemory
     ensures share { IfSome result (λ p. IfOk p.1 (IsBodyOf (next_job (machine_of state.old)))) }
     ensures kept { Looks 1 state.old state.new }
 {
-    match &state.known.stir {
-        Stir::Client(seat) => {
+    match &state.known.wanted {
+        Wanted::Client(seat) => {
             let seat = *seat;
             let shared = state.jobs.share_body(id)?;
             Some((seat, shared))
@@ -352,12 +352,12 @@ pub(crate) fn dispatch(state: &mut CoreParts, outs: &mut Outs)
     ensures given { Gives DispatchTurn has_refused_share
         (machine_of state.old) (machine_of state.new) outs.old outs.new }
     ensures done { next_job (machine_of state.new) ≡ None }
-    ensures idle { is_nothing state.old.known.stir ≡ true → state.new.jobs ≡ state.old.jobs }
+    ensures idle { is_nothing state.old.known.wanted ≡ true → state.new.jobs ≡ state.old.jobs }
     ensures asks { AsksByTurn
         (waited (machine_of state.old)) outs.old outs.new state.old.jobs state.new.jobs }
 {
-    if !state.known.stir.is_nothing() {
+    if !state.known.wanted.is_nothing() {
         dispatch_all(state, outs);
-        changes::forget_stir(state);
+        changes::record_none_wanted(state);
     }
 }

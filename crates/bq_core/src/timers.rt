@@ -6,11 +6,11 @@ ghost use Rattle.std.specs.List.{list_any};
 ghost use Rattle.bq_job.specs.machine.Timers.{after_timers, is_due, is_expired};
 ghost use Rattle.bq_jobs.specs.Kept.{ComparesAtMost};
 ghost use Rattle.bq_state.specs.Asking.{Asks};
-ghost use Rattle.bq_core.specs.Firing.{ExpiresOne, IsOne, after_job_timers, is_ripe, is_some_due};
-ghost use Rattle.bq_core.specs.Firing.{is_some_expired, after_giving_back};
+ghost use Rattle.bq_core.specs.FiredTimers.{ExpiresOne, IsOne, after_job_timers, is_ripe, is_some_due};
+ghost use Rattle.bq_core.specs.FiredTimers.{is_some_expired, after_giving_back};
 ghost use Rattle.bq_state.specs.Keeping.{Looks};
 ghost use Rattle.bq_state.specs.CoreParts.{machine_of, count_jobs};
-ghost use Rattle.bq_core.specs.Firing.{HaveFired};
+ghost use Rattle.bq_core.specs.FiredTimers.{HaveFired};
 ghost use Rattle.bq_job.specs.machine.Asked.{state_once_left};
 ghost use Rattle.bq_job.specs.machine.Changes.{is_held_by, is_waiting};
 ghost use Rattle.bq_job.specs.machine.Changes.{first_of};
@@ -20,7 +20,7 @@ ghost use Rattle.std.specs.Option.{option_copied, option_map};
 ghost use Rattle.bq_job.specs.beside.NextDue.{next_due as next_due_of};
 ghost use Rattle.bq_state.specs.Dues.{earlier_of_both, timers_due, warning_due};
 ghost use Rattle.bq_state.specs.Dues.{warning_due_at, with_seat_due, with_warning_due};
-ghost use Rattle.bq_state.specs.FirstEnds.{AreTimeouts};
+ghost use Rattle.bq_state.specs.FirstTimeouts.{AreTimeouts};
 ghost use Rattle.bq_state.specs.WaitingTurns.{at_turn, turns_of};
 ghost use Rattle.bq_state.specs.SeatChanges.{AreNumbered};
 ghost use Rattle.bq_state.specs.Warnings.{AreWarned, is_waiting_there};
@@ -29,7 +29,7 @@ use bq_job::{JobId, JobState, Moment, Seat};
 use bq_jobs::NumberedJobs;
 use bq_state::core_parts::CoreParts;
 use bq_state::job_store::JobChange;
-use bq_state::known::{FirstEnd, Warns, earlier_of, first_to_give_up};
+use bq_state::known::{FirstTimeout, Warns, earlier_of, first_to_give_up};
 use bq_state::seats::{SeatRecord, Turn};
 use bq_state::{changes, counters, job_store, seats};
 
@@ -281,7 +281,7 @@ fn warnings_due(
 }
 
 // Returns when the first delay ends. If no job is delayed, nothing is searched.
-#[tactic(auto, using(crate::proofs::FiringLemmas::no_first_due))]
+#[tactic(auto, using(crate::proofs::FiredTimerLemmas::no_first_due))]
 fn first_due(jobs: &mut NumberedJobs, has_delayed: bool) -> Option<Moment>
     requires { has_delayed ≡ list_any (λ j. is_delayed j.state) jobs.old.jobs }
     ensures due { result
@@ -296,7 +296,7 @@ fn first_due(jobs: &mut NumberedJobs, has_delayed: bool) -> Option<Moment>
 }
 
 // Returns when the first time to run ends. If no client holds a job, nothing is searched.
-#[tactic(auto, using(crate::proofs::FiringLemmas::no_first_deadline))]
+#[tactic(auto, using(crate::proofs::FiredTimerLemmas::no_first_deadline))]
 fn first_deadline(jobs: &mut NumberedJobs, has_lease: bool) -> Option<Moment>
     requires { has_lease ≡ list_any (λ j. is_reserved j.state) jobs.old.jobs }
     ensures due { result
@@ -324,15 +324,15 @@ fn jobs_due(jobs: &mut NumberedJobs, has_delayed: bool, has_lease: bool) -> Opti
 }
 
 // Returns when the first wait times out. If that is known, no seat is checked.
-fn seats_due(first: &FirstEnd, seats: &[SeatRecord], turns: &[Turn]) -> Option<Moment>
+fn seats_due(first: &FirstTimeout, seats: &[SeatRecord], turns: &[Turn]) -> Option<Moment>
     requires known { AreTimeouts first.now seats.now }
     requires numbered { AreNumbered seats.now }
     requires turns { turns.now ≡ turns_of seats.now }
     ensures { result ≡ fold with_seat_due None seats.now }
 {
     match first {
-        FirstEnd::Known(first) => *first,
-        FirstEnd::Unknown => first_to_give_up(seats, turns),
+        FirstTimeout::Known(first) => *first,
+        FirstTimeout::Unknown => first_to_give_up(seats, turns),
     }
 }
 
@@ -352,7 +352,7 @@ pub(crate) fn next_due(state: &mut CoreParts) -> Option<Moment>
         &state.known.warns,
     );
     let seats = seats_due(
-        &state.known.first_end,
+        &state.known.first_timeout,
         state.seats.as_slice(),
         state.waiting.as_slice(),
     );

@@ -20,7 +20,7 @@ ghost use Rattle.bq_core.specs.WaitEnds.{EndsWait, LooksAt};
 use bq_job::{Answer, JobId, Moment, Seat};
 use bq_jobs::NumberedJobs;
 use bq_state::core_parts::CoreParts;
-use bq_state::known::{self, FirstEnd};
+use bq_state::known::{self, FirstTimeout};
 use bq_state::seats::{SeatChange, Turn};
 use bq_state::{changes, seats};
 use bq_steps::Outs;
@@ -45,7 +45,7 @@ fn is_deadline_soon(jobs: &mut NumberedJobs, seat: Seat, moment: Moment) -> bool
 }
 
 // Returns true if the time to run of some reserved job ends within a second.
-#[tactic(auto, using(crate::proofs::FiringLemmas::some_warned))]
+#[tactic(auto, using(crate::proofs::FiredTimerLemmas::some_warned))]
 fn is_some_deadline_soon(jobs: &mut NumberedJobs, moment: Moment) -> bool
     ensures soon { result ≡ list_any (is_lease_short moment) jobs.old.jobs }
     ensures same { jobs.new ≡ record jobs.old { comparisons = jobs.new.comparisons } }
@@ -148,16 +148,16 @@ fn end_all(state: &mut CoreParts, outs: &mut Outs)
 }
 
 // Returns true if some wait has timed out, or its client sends no more.
-#[tactic(auto, using(bq_state::proofs::FirstEndLemmas::over_known))]
+#[tactic(auto, using(bq_state::proofs::FirstTimeoutLemmas::over_known))]
 fn is_some_wait_over(state: &mut CoreParts) -> bool
     ensures over { result ≡ list_any (has_waited state.old.moment) state.old.seats.items }
     ensures same { held state.new
-        ≡ record (held state.old) { known = record state.old.known { first_end = state.new.known.first_end } } }
+        ≡ record (held state.old) { known = record state.old.known { first_timeout = state.new.known.first_timeout } } }
 {
-    changes::find_first_end(state);
-    match &state.known.first_end {
-        FirstEnd::Known(first) => known::is_over(*first, state.moment),
-        FirstEnd::Unknown => seats::is_some_wait_over(
+    changes::find_first_timeout(state);
+    match &state.known.first_timeout {
+        FirstTimeout::Known(first) => known::is_over(*first, state.moment),
+        FirstTimeout::Unknown => seats::is_some_wait_over(
             state.seats.as_slice(),
             state.waiting.as_slice(),
             state.moment,

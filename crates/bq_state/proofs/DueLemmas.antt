@@ -14,7 +14,7 @@ use Rattle.bq_job.proofs.ListLemmas.{all_from_members, all_weaker, list_all_from
 use Rattle.bq_job.proofs.ListLemmas.{list_all_agree}
 use Rattle.bq_jobs.specs.{Kept.ranked, Leases.{deadline_of, is_lease_before}}
 use Rattle.bq_state.specs.Dues.{earlier_of_both, jobs_due, warning_due, with_seat_due, with_warning_due}
-use Rattle.bq_state.specs.{FirstEnds.{IsThere, is_gone_in_wait}, SeatChanges.AreNumbered, TubeEntries.{IsFreshUnlessCounted, counted}}
+use Rattle.bq_state.specs.{FirstTimeouts.{IsThere, is_gone_in_wait}, SeatChanges.AreNumbered, TubeEntries.{IsFreshUnlessCounted, counted}}
 use Rattle.bq_state.specs.WaitingTurns.{at_turn, turns_of}
 use Rattle.bq_state.proofs.{WalkLemmas.walked, WarningLemmas.no_other}
 use Rattle.bq_job.proofs.ListLemmas.{list_any_not}

@@ -10,13 +10,14 @@ use Rattle.std.specs.{Map.{keys_of, lookup, remove_entry}, Option.option_map}
 use Rattle.std.specs.{Ordering.{is_eq, is_gt, nat_cmp, ordering_reverse}, Prelude.{filter, find, fold}}
 use Rattle.bq_index.specs.{Order.InOrder, Walk.{entry_of, seen_by}}
 use Rattle.bq_job.specs.{declared.job.Job.Job, machine.{SeatRecord, greatest}, reading.TubeName.is_same_name}
-use Rattle.bq_state.specs.declared.{known.loss.Loss.TheVariants.Of, tubes.walks.HowMany.HowMany}
+use Rattle.bq_state.specs.declared.{known.maybe_gone.MaybeGone.TheVariants.Of, tubes.walks.HowMany.HowMany}
 use Rattle.bq_state.specs.Crowds.{crowd_in, crowds_of, has_seats}
 use Rattle.bq_state.specs.KeptTubes.{KeptTube, Named, crowd_kept, is_alive_at, is_alive_with, is_from, is_gone_by}
 use Rattle.bq_state.specs.KeptTubes.{is_gone_from, is_named_at, record_at, tally_kept, with_alive, with_name_of}
-use Rattle.bq_state.specs.{Losses.AreAlive, Tallies.{has_jobs, tallies_of, tally_in}, TubeEntries.{AreInOrder, is_tube_of, names_alive}}
+use Rattle.bq_state.specs.{MaybeGoneTubes.AreAlive, Tallies.{has_jobs, tallies_of, tally_in}}
+use Rattle.bq_state.specs.TubeEntries.{AreInOrder, is_tube_of, names_alive}
 use Rattle.bq_state.proofs.{CrowdLemmas.has_seats_of, CrowdPlaces.exists_by_counts}
-use Rattle.bq_state.proofs.{LossLemmas.{alive_but, alive_or, all_kept_alive, others_alive}, NamedLemmas.ties}
+use Rattle.bq_state.proofs.{MaybeGoneLemmas.{alive_but, alive_or, all_kept_alive, others_alive}, NamedLemmas.ties}
 use Rattle.bq_state.proofs.{TallyPlaces.has_jobs_in, TubeLemmas.same_name}
 
 -- The counts are those of these jobs and seats.

@@ -16,25 +16,25 @@ use Rattle.bq_state.specs.Crowds.{crowds_recounted_for, is_waiter, may_wait, rec
 use Rattle.bq_state.specs.{Dues.{first_pause_end, with_warning_due}, JobChanges.changed, KeptTubes.{KeptTubes, first_tubes}}
 use Rattle.bq_state.specs.Knowledge.{IsSo, nothing_known, with_forgotten, with_job, with_joined}
 use Rattle.bq_state.specs.Knowledge.{with_left, with_moved, with_tube_changed, without_job}
-use Rattle.bq_state.specs.{Losses.with_lost, SeatChanges.seat_changed_at}
-use Rattle.bq_state.specs.Stirs.{AreKnown, IsKnown, stirred_by_change, with_anything}
+use Rattle.bq_state.specs.{MaybeGoneTubes.with_gone, SeatChanges.seat_changed_at}
+use Rattle.bq_state.specs.WantedJobs.{AreKnown, IsKnown, wanted_after_tube, with_all_wanted}
 use Rattle.bq_state.specs.Tallies.{tallies_with, tallies_without, tally_moved}
 use Rattle.bq_state.specs.TubeEntries.{counted, has_entry, is_counted, is_tube_of, tube_changed, tube_changed_at}
 use Rattle.bq_state.specs.Warnings.{IsWarned, has_waiting_holder, may_hold, warned_if_due}
-use Rattle.bq_state.specs.declared.known.stir.Stir.TheVariants as stirs
+use Rattle.bq_state.specs.declared.known.wanted.Wanted.TheVariants as wanted_jobs
 use Rattle.bq_state.proofs.{ClientLemmas.{clients_moved, clients_watching}, CrowdLemmas.crowds_moved}
 use Rattle.bq_state.proofs.{CrowdPlaces.{crowds_kept, crowds_of_provided, first_crowds}, CrowdWatching.{crowds_ignoring, crowds_watching}}
-use Rattle.bq_state.proofs.{FirstEndLemmas.{first_timeouts, timeouts_of_seat, timeouts_watching}, LeavingLemmas.alive_left}
-use Rattle.bq_state.proofs.LossLemmas.{alive_added, alive_forgotten, alive_ignoring, alive_provided}
-use Rattle.bq_state.proofs.LossLemmas.{alive_renamed, alive_taken, alive_watching, end_of_those_left}
+use Rattle.bq_state.proofs.{FirstTimeoutLemmas.{first_timeouts, timeouts_of_seat, timeouts_watching}, LeavingLemmas.alive_left}
+use Rattle.bq_state.proofs.MaybeGoneLemmas.{alive_added, alive_forgotten, alive_ignoring, alive_provided}
+use Rattle.bq_state.proofs.MaybeGoneLemmas.{alive_renamed, alive_taken, alive_watching, end_of_those_left}
 use Rattle.bq_state.proofs.MovedLemmas.{alive_changed, counted_moved, known_moved, one_tube, tube_kept, warned_moved}
 use Rattle.bq_state.proofs.PartsLemmas.{all_filtered, counted_provided, entries_of_tube, id_kept}
 use Rattle.bq_state.proofs.PartsLemmas.{name_kept_at, numbered_after, tube_counts, tube_name_kept}
 use Rattle.bq_state.proofs.PartsLemmas.{entries_of_seat, first_entries, first_numbered}
 use Rattle.bq_state.proofs.WaitingLemmas.{many_seats, none_in_turn, rising_left, turns_moved, turns_within}
 use Rattle.bq_state.proofs.PauseLemmas.{end_after_change, end_provided}
-use Rattle.bq_state.proofs.StirLemmas.{known_added, known_any, known_forgotten, known_ignoring}
-use Rattle.bq_state.proofs.StirLemmas.{known_nothing, known_of_change, known_of_seat, known_watching}
+use Rattle.bq_state.proofs.WantedLemmas.{known_added, known_any, known_forgotten, known_ignoring}
+use Rattle.bq_state.proofs.WantedLemmas.{known_nothing, known_of_change, known_of_seat, known_watching}
 use Rattle.bq_state.proofs.TallyPlaces.{counted_added, counted_kept, counted_provided as tallies_of_provided, counted_taken}
 use Rattle.bq_state.proofs.TubeLemmas.{filters_swap, record_changed}
 use Rattle.bq_state.proofs.TubeNumberLemmas.{numbers_kept}
@@ -51,8 +51,8 @@ module _ (st : CoreParts) where
         counts = counted_added j st.known.tally st.tubes.tallies st.jobs.jobs st.tubes.entries fits st.sound.entries.order so.counts;
         clients = so.clients;
         crowds = so.crowds;
-        alive = alive_added j st.known.loss st.jobs.jobs st.seats.items st.tubes.entries so.alive;
-        stirs = known_added j st.known.stir st.jobs.jobs st.seats.items (counted st.tubes.entries) so.stirs;
+        alive = alive_added j st.known.maybe_gone st.jobs.jobs st.seats.items st.tubes.entries so.alive;
+        wanted_jobs = known_added j st.known.wanted st.jobs.jobs st.seats.items (counted st.tubes.entries) so.wanted_jobs;
         warnings = warned_added j st.known.warns st.jobs.jobs st.seats.items st.sound.numbered so.warnings;
         timeouts = so.timeouts;
         pauses = so.pauses;
@@ -69,22 +69,22 @@ module _ (st : CoreParts) where
             st.sound.entries.order so.counts;
         clients = so.clients;
         crowds = so.crowds;
-        alive = alive_taken 1 st.next_id id j st.known.loss st.jobs.jobs st.seats.items st.tubes.entries st.sound.ids found so.alive;
-        stirs = all_filtered (λ k. All (IsKnown st.known.stir (counted st.tubes.entries) k) st.seats.items)
-            (λ k. not (k.id == id)) st.jobs.jobs so.stirs;
+        alive = alive_taken 1 st.next_id id j st.known.maybe_gone st.jobs.jobs st.seats.items st.tubes.entries st.sound.ids found so.alive;
+        wanted_jobs = all_filtered (λ k. All (IsKnown st.known.wanted (counted st.tubes.entries) k) st.seats.items)
+            (λ k. not (k.id == id)) st.jobs.jobs so.wanted_jobs;
         warnings = all_filtered (λ k. All (IsWarned st.known.warns k) st.seats.items) (λ k. not (k.id == id)) st.jobs.jobs so.warnings;
         timeouts = so.timeouts;
         pauses = so.pauses;
       }
 
   -- or changed.
-  pub so_with_moved : (id : ℕ) (what : JobChange) (j : Job) (m : Moved) (wanted waits : Bool) → job_with id st.jobs.jobs ≡ Some j
+  pub so_with_moved : (id : ℕ) (what : JobChange) (j : Job) (m : Moved) (is_wanted waits : Bool) → job_with id st.jobs.jobs ≡ Some j
       → m ≡ moved_by (changed what) j
-      → length st.jobs.jobs ≤ greatest → wanted ≡ (is_ready_state m.to.state && list_any (is_waiter m.tube) st.seats.items)
+      → length st.jobs.jobs ≤ greatest → is_wanted ≡ (is_ready_state m.to.state && list_any (is_waiter m.tube) st.seats.items)
       → waits ≡ has_waiting_holder m.to.state st.seats.items
-      → IsSo (with_moved m wanted waits st.known) (with_changed id (changed what) st.jobs.jobs) st.seats.items
+      → IsSo (with_moved m is_wanted waits st.known) (with_changed id (changed what) st.jobs.jobs) st.seats.items
       (with_tallies_at m.tube (tally_moved m) st.tubes)
-  so_with_moved id what j m wanted waits found is fits wants holds =
+  so_with_moved id what j m is_wanted waits found is fits wants holds =
       let so = st.sound.known in
       let f = changed what in
       record {
@@ -94,10 +94,10 @@ module _ (st : CoreParts) where
         clients = so.clients;
         crowds = so.crowds;
         alive = alive_changed (λ k. if k.id == id then f k else k)
-            (one_tube id f (tube_kept what)) st.known.loss st.jobs.jobs st.seats.items st.tubes.entries so.alive;
-        stirs = known_moved 1 st.next_id id f (id_kept what)
-            (tube_kept what) j m is st.jobs.jobs st.sound.ids found st.known.stir st.seats.items
-            (counted st.tubes.entries) wanted wants so.stirs;
+            (one_tube id f (tube_kept what)) st.known.maybe_gone st.jobs.jobs st.seats.items st.tubes.entries so.alive;
+        wanted_jobs = known_moved 1 st.next_id id f (id_kept what)
+            (tube_kept what) j m is st.jobs.jobs st.sound.ids found st.known.wanted st.seats.items
+            (counted st.tubes.entries) is_wanted wants so.wanted_jobs;
         warnings = warned_moved 1 st.next_id id f (id_kept what)
             (tube_kept what) j m is st.jobs.jobs st.sound.ids found st.known.warns st.seats.items waits st.sound.numbered holds so.warnings;
         timeouts = so.timeouts;
@@ -124,20 +124,20 @@ module _ (st : CoreParts) where
             ∙ clients_moved n what seats numbered (numbered_after n what seats numbered) few;
         crowds = crowds_moved n what st.tubes.crowds seats st.tubes.entries numbered few st.sound.entries.order waits so.crowds;
         alive =
-            alive_left n what st.known.loss st.jobs.jobs seats st.tubes.entries
+            alive_left n what st.known.maybe_gone st.jobs.jobs seats st.tubes.entries
             (recounted_for Goes (touched what) old st.tubes) numbered few st.sound.entries.order st.sound.entries.of_jobs
             so.crowds.seated refl so.counts.each
             (ap (crowds_recounted_for Goes (touched what) old st.tubes.entries) so.crowds.each) so.alive;
-        stirs = known_of_seat n what st.known.stir st.jobs.jobs seats (counted st.tubes.entries) so.stirs;
+        wanted_jobs = known_of_seat n what st.known.wanted st.jobs.jobs seats (counted st.tubes.entries) so.wanted_jobs;
         warnings = warned_of_seat n what st.known.warns st.jobs.jobs seats holds so.warnings;
-        timeouts = timeouts_of_seat n what st.known.first_end seats numbered so.timeouts;
+        timeouts = timeouts_of_seat n what st.known.first_timeout seats numbered so.timeouts;
         pauses = so.pauses;
       }
 
   -- a client watches one more tube,
   pub so_watching : (name : List ℕ) (n : ℕ) (s : SeatRecord) → slice_get st.seats.items n ≡ Some s → length st.seats.items ≤ greatest
       → watches name s ≡ false
-      → IsSo (record st.known { stir = if is_waiting s then with_anything st.known.stir else st.known.stir })
+      → IsSo (record st.known { wanted = if is_waiting s then with_all_wanted st.known.wanted else st.known.wanted })
       st.jobs.jobs (set st.seats.items n (watching (s.watched ++ name ∷ []) s))
       (with_crowds_at name (recounted Comes (share_of_watcher s)) st.tubes)
   so_watching name n s here few fresh =
@@ -148,16 +148,17 @@ module _ (st : CoreParts) where
         counts = so.counts;
         clients = so.clients ∙ sym (clients_watching (s.watched ++ name ∷ []) n s seats here numbered);
         crowds = crowds_watching name n s st.tubes.crowds seats st.tubes.entries here numbered few st.sound.entries.order fresh so.crowds;
-        alive = alive_watching name n s st.known.loss st.jobs.jobs seats st.tubes.entries here so.alive;
-        stirs = known_watching (s.watched ++ name ∷ []) n s st.known.stir st.jobs.jobs seats (counted st.tubes.entries) so.stirs;
+        alive = alive_watching name n s st.known.maybe_gone st.jobs.jobs seats st.tubes.entries here so.alive;
+        wanted_jobs = known_watching (s.watched ++ name ∷ []) n s st.known.wanted st.jobs.jobs seats
+            (counted st.tubes.entries) so.wanted_jobs;
         warnings = warned_watching (s.watched ++ name ∷ []) n s st.known.warns st.jobs.jobs seats here so.warnings;
-        timeouts = timeouts_watching (s.watched ++ name ∷ []) n s st.known.first_end seats here so.timeouts;
+        timeouts = timeouts_watching (s.watched ++ name ∷ []) n s st.known.first_timeout seats here so.timeouts;
         pauses = so.pauses;
       }
 
   -- or one fewer.
   pub so_ignoring : (name : List ℕ) (n : ℕ) (s : SeatRecord) → slice_get st.seats.items n ≡ Some s → length st.seats.items ≤ greatest
-      → IsSo (record st.known { loss = with_lost name st.known.loss })
+      → IsSo (record st.known { maybe_gone = with_gone name st.known.maybe_gone })
       st.jobs.jobs (set st.seats.items n (watching (filter (λ other. not (is_same_name name other)) s.watched) s))
       (with_crowds_at name (recounted Goes (share_of_watching name s)) st.tubes)
   so_ignoring name n s here few =
@@ -169,16 +170,19 @@ module _ (st : CoreParts) where
         counts = so.counts;
         clients = so.clients ∙ sym (clients_watching (filter left s.watched) n s seats here numbered);
         crowds = crowds_ignoring name n s st.tubes.crowds seats st.tubes.entries here numbered few st.sound.entries.order so.crowds;
-        alive = alive_ignoring name n s st.known.loss st.jobs.jobs seats st.tubes.entries here so.alive;
-        stirs = known_ignoring left n s st.known.stir st.jobs.jobs seats (counted st.tubes.entries) here so.stirs;
+        alive = alive_ignoring name n s st.known.maybe_gone st.jobs.jobs seats st.tubes.entries here so.alive;
+        wanted_jobs = known_ignoring left n s st.known.wanted st.jobs.jobs seats (counted st.tubes.entries) here so.wanted_jobs;
         warnings = warned_watching (filter left s.watched) n s st.known.warns st.jobs.jobs seats here so.warnings;
-        timeouts = timeouts_watching (filter left s.watched) n s st.known.first_end seats here so.timeouts;
+        timeouts = timeouts_watching (filter left s.watched) n s st.known.first_timeout seats here so.timeouts;
         pauses = so.pauses;
       }
 
   -- A tube gets an entry,
   pub so_provided : (name : List ℕ)
-      → IsSo (record st.known { loss = if not (has_entry name st.tubes.entries) then with_lost name st.known.loss else st.known.loss })
+      → IsSo (record st.known {
+        maybe_gone = if not (has_entry name st.tubes.entries) then with_gone name st.known.maybe_gone
+            else st.known.maybe_gone;
+      })
       st.jobs.jobs st.seats.items (tubes_with name st.tubes)
   so_provided name =
       let so = st.sound.known in
@@ -186,8 +190,9 @@ module _ (st : CoreParts) where
         counts = tallies_of_provided name st.known.tally st.tubes.tallies st.jobs.jobs st.tubes.entries st.sound.entries.of_jobs so.counts;
         clients = so.clients;
         crowds = crowds_of_provided name st.tubes.crowds st.seats.items st.tubes.entries st.sound.entries.of_seats so.crowds;
-        alive = alive_provided name st.known.loss st.jobs.jobs st.seats.items st.tubes.entries so.alive;
-        stirs = subst (AreKnown st.known.stir st.jobs.jobs st.seats.items) (sym (counted_provided name st.tubes.entries)) so.stirs;
+        alive = alive_provided name st.known.maybe_gone st.jobs.jobs st.seats.items st.tubes.entries so.alive;
+        wanted_jobs = subst (AreKnown st.known.wanted st.jobs.jobs st.seats.items)
+            (sym (counted_provided name st.tubes.entries)) so.wanted_jobs;
         warnings = so.warnings;
         timeouts = so.timeouts;
         pauses = so.pauses ∙ sym (end_provided name st.tubes.entries);
@@ -206,10 +211,10 @@ module _ (st : CoreParts) where
         counts = counted_kept f named st.known.tally st.tubes.tallies st.jobs.jobs st.tubes.entries so.counts;
         clients = so.clients;
         crowds = crowds_kept f named st.tubes.crowds st.seats.items st.tubes.entries so.crowds;
-        alive = alive_renamed f named st.known.loss st.jobs.jobs st.seats.items st.tubes.entries so.alive;
-        stirs = subst (AreKnown (stirred_by_change name what st.known.stir) st.jobs.jobs st.seats.items)
+        alive = alive_renamed f named st.known.maybe_gone st.jobs.jobs st.seats.items st.tubes.entries so.alive;
+        wanted_jobs = subst (AreKnown (wanted_after_tube name what st.known.wanted) st.jobs.jobs st.seats.items)
             (record_changed name (tube_changed what) (tube_counts what) (tube_name_kept what) st.tubes.entries e.order e.fresh there)
-            (known_of_change name what (machine_of st) st.known.stir so.stirs);
+            (known_of_change name what (machine_of st) st.known.wanted so.wanted_jobs);
         warnings = so.warnings;
         timeouts = so.timeouts;
         pauses = end_after_change name what st.tubes.entries st.known.pause_end so.pauses;
@@ -217,7 +222,7 @@ module _ (st : CoreParts) where
 
   -- or pauses end, and the first one that is left is known.
   pub so_with_pauses : IsSo
-      (record st.known { pause_end = first_pause_end (map (tube_after_timers st.moment) st.tubes.entries); stir = stirs.Any })
+      (record st.known { pause_end = first_pause_end (map (tube_after_timers st.moment) st.tubes.entries); wanted = wanted_jobs.Any })
       st.jobs.jobs st.seats.items (record st.tubes { entries = map (tube_after_timers st.moment) st.tubes.entries })
   so_with_pauses =
       let so = st.sound.known in
@@ -226,8 +231,8 @@ module _ (st : CoreParts) where
         counts = counted_kept f (λ t. refl) st.known.tally st.tubes.tallies st.jobs.jobs st.tubes.entries so.counts;
         clients = so.clients;
         crowds = crowds_kept f (λ t. refl) st.tubes.crowds st.seats.items st.tubes.entries so.crowds;
-        alive = alive_renamed f (λ t. refl) st.known.loss st.jobs.jobs st.seats.items st.tubes.entries so.alive;
-        stirs = known_any st.jobs.jobs st.seats.items (counted (map f st.tubes.entries));
+        alive = alive_renamed f (λ t. refl) st.known.maybe_gone st.jobs.jobs st.seats.items st.tubes.entries so.alive;
+        wanted_jobs = known_any st.jobs.jobs st.seats.items (counted (map f st.tubes.entries));
         warnings = so.warnings;
         timeouts = so.timeouts;
         pauses = refl;
@@ -246,8 +251,9 @@ module _ (st : CoreParts) where
         clients = so.clients;
         crowds = record { each = counts.1; seated = so.crowds.seated };
         alive = rw left (alive_forgotten st.jobs.jobs st.seats.items st.tubes.entries);
-        stirs = subst (AreKnown st.known.stir st.jobs.jobs st.seats.items)
-            (sym (ap counted left ∙ filters_swap is_counted p st.tubes.entries)) (known_forgotten (machine_of st) st.known.stir so.stirs);
+        wanted_jobs = subst (AreKnown st.known.wanted st.jobs.jobs st.seats.items)
+            (sym (ap counted left ∙ filters_swap is_counted p st.tubes.entries))
+            (known_forgotten (machine_of st) st.known.wanted so.wanted_jobs);
         warnings = so.warnings;
         timeouts = so.timeouts;
         pauses = rw left (end_of_those_left p st.tubes.entries were st.known.pause_end is so.pauses);
@@ -255,7 +261,7 @@ module _ (st : CoreParts) where
 
   -- No waiting client can receive a job.
   pub so_with_nothing : next_job (machine_of st) ≡ None
-      → IsSo (record st.known { stir = stirs.Nothing }) st.jobs.jobs st.seats.items st.tubes
+      → IsSo (record st.known { wanted = wanted_jobs.Nothing }) st.jobs.jobs st.seats.items st.tubes
   so_with_nothing none =
       let so = st.sound.known in
       record {
@@ -263,7 +269,7 @@ module _ (st : CoreParts) where
         clients = so.clients;
         crowds = so.crowds;
         alive = so.alive;
-        stirs = known_nothing (machine_of st) none;
+        wanted_jobs = known_nothing (machine_of st) none;
         warnings = so.warnings;
         timeouts = so.timeouts;
         pauses = so.pauses;
@@ -279,7 +285,7 @@ module _ (st : CoreParts) where
         clients = so.clients;
         crowds = so.crowds;
         alive = so.alive;
-        stirs = so.stirs;
+        wanted_jobs = so.wanted_jobs;
         warnings = rw is (warned_by_due st.known.warns st.jobs.jobs st.seats.items so.warnings);
         timeouts = so.timeouts;
         pauses = so.pauses;

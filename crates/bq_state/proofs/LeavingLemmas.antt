@@ -8,39 +8,41 @@ use Rattle.std.specs.List.{AllByRecursion as All, list_any}
 use Rattle.bq_job.specs.declared.job.Job.{Job}
 use Rattle.bq_job.specs.{machine.{SeatRecord, TubeRecord, greatest, is_seated_at, seat_with, watches}, reading.TubeName.is_same_name}
 use Rattle.bq_job.proofs.ListLemmas.{all_at, all_from_members, list_any_with}
-use Rattle.bq_state.specs.declared.{known.loss.Loss.Loss, seats.SeatChange.SeatChange}
+use Rattle.bq_state.specs.declared.{known.maybe_gone.MaybeGone.MaybeGone, seats.SeatChange.SeatChange}
 use Rattle.bq_state.specs.declared.tubes.entry.{Crowd.Crowd, Moving.TheVariants.Goes, Share.Share}
 use Rattle.bq_state.specs.Crowds.{IsSeated, crowd_at, crowd_in, crowd_of, crowd_with, crowd_without}
 use Rattle.bq_state.specs.Crowds.{crowds_of, crowds_recounted, crowds_recounted_for, has_seats, touched}
 use Rattle.bq_state.specs.{KeptTubes.KeptTubes}
-use Rattle.bq_state.specs.{Leaving.{exists_in, loss_of, lost_all, lost_if, lost_unless}, Losses.{AreAlive, is_accounted, may_be_gone}}
+use Rattle.bq_state.specs.Leaving.{exists_in, gone_of, gone_all, gone_if, gone_unless}
+use Rattle.bq_state.specs.MaybeGoneTubes.{AreAlive, is_accounted, may_be_gone}
 use Rattle.bq_state.specs.SeatChanges.{AreNumbered, seat_changed, seat_changed_at}
 use Rattle.bq_state.specs.{Tallies.{has_jobs, tallies_of, tally_at}, TubeEntries.{AreInOrder, has_entry, is_tube_of}}
 use Rattle.bq_state.proofs.{CrowdLemmas.{all_recounted, crowd_moved, has_seats_of, none_changed, share_at}, CrowdPlaces.named_crowd}
-use Rattle.bq_state.proofs.LossLemmas.{any_set, by_job, by_loss, by_seat, still_accounted, still_lost}
+use Rattle.bq_state.proofs.MaybeGoneLemmas.{any_set, by_job, by_gone, by_seat, still_accounted, stays_gone}
 use Rattle.bq_state.proofs.{PartsLemmas.{all_read, changed_there, seat_there}, TallyPlaces.{has_jobs_in, tally_there}}
 use Rattle.bq_state.proofs.TubeLemmas.{same_itself, same_name}
 
 module _ (k : KeptTubes) where
-  all_keeps : (names : List (List ℕ)) (name : List ℕ) (loss : Loss) → may_be_gone loss name ≡ true
-      → may_be_gone (lost_all k names loss) name ≡ true
-  all_keeps [] name loss h = h
-  all_keeps (n ∷ ns) name loss h = all_keeps ns name (lost_unless (exists_in k n) n loss) (grind (arith, still_lost))
+  all_keeps : (names : List (List ℕ)) (name : List ℕ) (maybe : MaybeGone) → may_be_gone maybe name ≡ true
+      → may_be_gone (gone_all k names maybe) name ≡ true
+  all_keeps [] name maybe h = h
+  all_keeps (n ∷ ns) name maybe h = all_keeps ns name (gone_unless (exists_in k n) n maybe) (grind (arith, stays_gone))
 
-  if_keeps : (b : Bool) (names : List (List ℕ)) (name : List ℕ) (loss : Loss) → may_be_gone loss name ≡ true
-      → may_be_gone (lost_if b k names loss) name ≡ true
-  if_keeps b names name loss h = grind (arith, all_keeps)
+  if_keeps : (b : Bool) (names : List (List ℕ)) (name : List ℕ) (maybe : MaybeGone) → may_be_gone maybe name ≡ true
+      → may_be_gone (gone_if b k names maybe) name ≡ true
+  if_keeps b names name maybe h = grind (arith, all_keeps)
 
-  all_lost : (names : List (List ℕ)) (name : List ℕ) (loss : Loss) → list_any (is_same_name name) names ≡ true → exists_in k name ≡ false
-      → may_be_gone (lost_all k names loss) name ≡ true
-  all_lost [] name loss there gone = absurd cc
-  all_lost (n ∷ ns) name loss there gone =
+  all_gone : (names : List (List ℕ)) (name : List ℕ) (maybe : MaybeGone) → list_any (is_same_name name) names ≡ true
+      → exists_in k name ≡ false
+      → may_be_gone (gone_all k names maybe) name ≡ true
+  all_gone [] name maybe there gone = absurd cc
+  all_gone (n ∷ ns) name maybe there gone =
       elim (or_cases (is_same_name name n) (list_any (is_same_name name) ns) there) [
         | inl same ↦
             let is = same_name name n same in
-            let here : may_be_gone (lost_unless (exists_in k n) n loss) name ≡ true = rw (sym is) (grind (arith, same_itself)) in
-            all_keeps ns name (lost_unless (exists_in k n) n loss) here
-        | inr more ↦ all_lost ns name (lost_unless (exists_in k n) n loss) more gone
+            let here : may_be_gone (gone_unless (exists_in k n) n maybe) name ≡ true = rw (sym is) (grind (arith, same_itself)) in
+            all_keeps ns name (gone_unless (exists_in k n) n maybe) here
+        | inr more ↦ all_gone ns name (gone_unless (exists_in k n) n maybe) more gone
       ]
 
 -- adding clients at a tube leaves a client there
@@ -56,7 +58,7 @@ leaves : (what : SeatChange) (s : SeatRecord) (name : List ℕ) → is_seated_at
     → (is_seated_at name (seat_changed what s) ≡ true) ⊎ IsLeft what s name
 leaves what s name h = grind (arith)
 
-module _ (n : ℕ) (what : SeatChange) (loss : Loss) (jobs : List Job) (seats : List SeatRecord) (es : List TubeRecord) (k : KeptTubes)
+module _ (n : ℕ) (what : SeatChange) (maybe : MaybeGone) (jobs : List Job) (seats : List SeatRecord) (es : List TubeRecord) (k : KeptTubes)
     (h : AreNumbered seats) (fits : length seats ≤ greatest) (order : AreInOrder es)
     (of_jobs : All (λ j. has_entry j.tube es ≡ true) jobs) (seated : All IsSeated seats) (same_entries : k.entries ≡ es)
     (counted : k.tallies ≡ tallies_of jobs es) where
@@ -81,53 +83,53 @@ module _ (n : ℕ) (what : SeatChange) (loss : Loss) (jobs : List Job) (seats : 
         grind (arith, common_steps, cases_Bool, or_cases, or_left, or_right)
 
     gone_then : (name : List ℕ) → IsLeft what s name → exists_in k name ≡ false
-        → may_be_gone (loss_of (touched what) k (Some s) loss) name ≡ true
+        → may_be_gone (gone_of (touched what) k (Some s) maybe) name ≡ true
     gone_then name is gone = elim is [
       | inl used ↦
-          let one = all_lost k (s.used ∷ []) name loss (or_left (is_same_name name s.used) false used.1) gone in
-          let here : may_be_gone (lost_if (touched what).using k (s.used ∷ []) loss) name ≡ true =
-          ap (λ b. may_be_gone (lost_if b k (s.used ∷ []) loss) name) used.0 ∙ one in
-          if_keeps k (touched what).watching s.watched name (lost_if (touched what).using k (s.used ∷ []) loss) here
+          let one = all_gone k (s.used ∷ []) name maybe (or_left (is_same_name name s.used) false used.1) gone in
+          let here : may_be_gone (gone_if (touched what).using k (s.used ∷ []) maybe) name ≡ true =
+          ap (λ b. may_be_gone (gone_if b k (s.used ∷ []) maybe) name) used.0 ∙ one in
+          if_keeps k (touched what).watching s.watched name (gone_if (touched what).using k (s.used ∷ []) maybe) here
       | inr watched ↦
-          let before = lost_if (touched what).using k (s.used ∷ []) loss in
-          ap (λ b. may_be_gone (lost_if b k s.watched before) name) watched.0 ∙ all_lost k s.watched name before watched.1 gone
+          let before = gone_if (touched what).using k (s.used ∷ []) maybe in
+          ap (λ b. may_be_gone (gone_if b k s.watched before) name) watched.0 ∙ all_gone k s.watched name before watched.1 gone
     ]
 
     by_leaving : (name : List ℕ) → has_entry name es ≡ true → IsLeft what s name
-        → is_accounted (loss_of (touched what) k (Some s) loss) jobs new name ≡ true
+        → is_accounted (gone_of (touched what) k (Some s) maybe) jobs new name ≡ true
     by_leaving name there is = go (exists_in k name) refl
       where
-        go : (b : Bool) → exists_in k name ≡ b → is_accounted (loss_of (touched what) k (Some s) loss) jobs new name ≡ true
-        go true e = or_left _ (may_be_gone (loss_of (touched what) k (Some s) loss) name) (exists_then name there e)
-        go false e = by_loss (loss_of (touched what) k (Some s) loss) jobs new name (gone_then name is e)
+        go : (b : Bool) → exists_in k name ≡ b → is_accounted (gone_of (touched what) k (Some s) maybe) jobs new name ≡ true
+        go true e = or_left _ (may_be_gone (gone_of (touched what) k (Some s) maybe) name) (exists_then name there e)
+        go false e = by_gone (gone_of (touched what) k (Some s) maybe) jobs new name (gone_then name is e)
 
-    still_gone : (name : List ℕ) → may_be_gone loss name ≡ true → may_be_gone (loss_of (touched what) k (Some s) loss) name ≡ true
-    still_gone name g = if_keeps k (touched what).watching s.watched name (lost_if (touched what).using k (s.used ∷ []) loss)
-        (if_keeps k (touched what).using (s.used ∷ []) name loss g)
+    still_gone : (name : List ℕ) → may_be_gone maybe name ≡ true → may_be_gone (gone_of (touched what) k (Some s) maybe) name ≡ true
+    still_gone name g = if_keeps k (touched what).watching s.watched name (gone_if (touched what).using k (s.used ∷ []) maybe)
+        (if_keeps k (touched what).using (s.used ∷ []) name maybe g)
 
-    entry_accounted : (name : List ℕ) → has_entry name es ≡ true → is_accounted loss jobs seats name ≡ true
-        → is_accounted (loss_of (touched what) k (Some s) loss) jobs new name ≡ true
+    entry_accounted : (name : List ℕ) → has_entry name es ≡ true → is_accounted maybe jobs seats name ≡ true
+        → is_accounted (gone_of (touched what) k (Some s) maybe) jobs new name ≡ true
     entry_accounted name there is =
-        let after = loss_of (touched what) k (Some s) loss in
+        let after = gone_of (touched what) k (Some s) maybe in
         let place = seat_there seats n s h found in
-        still_accounted loss after jobs jobs seats new name (by_job after jobs new name)
+        still_accounted maybe after jobs jobs seats new name (by_job after jobs new name)
         (λ some. elim (any_set (is_seated_at name) (IsLeft what s name) seats n s (seat_changed what s) place (leaves what s name) some) [
           | inl still ↦ by_seat after jobs new name
               (ap (list_any (is_seated_at name)) (changed_there seats n s (seat_changed what) h place) ∙ still)
           | inr left ↦ by_leaving name there left
         ])
-        (λ g. by_loss after jobs new name (still_gone name g))
+        (λ g. by_gone after jobs new name (still_gone name g))
         is
 
   pub alive_left : k.crowds ≡ crowds_recounted_for Goes (touched what) (seat_with n seats) es (crowds_of seats es)
-      → AreAlive loss jobs seats es
-      → AreAlive (loss_of (touched what) k (seat_with n seats) loss) jobs (map (seat_changed_at n what) seats) es
+      → AreAlive maybe jobs seats es
+      → AreAlive (gone_of (touched what) k (seat_with n seats) maybe) jobs (map (seat_changed_at n what) seats) es
   alive_left crowds all = go (seat_with n seats) refl
     where
-      go : (o : Option SeatRecord) → seat_with n seats ≡ o → AreAlive (loss_of (touched what) k (seat_with n seats) loss) jobs new es
+      go : (o : Option SeatRecord) → seat_with n seats ≡ o → AreAlive (gone_of (touched what) k (seat_with n seats) maybe) jobs new es
       go None none = grind (arith, none_changed n (seat_changed what) seats none)
       go (Some s) found =
           let left = crowds ∙ ap (λ o. crowds_recounted_for Goes (touched what) o es (crowds_of seats es)) found in
-          rw found (all_from_members (λ t. is_accounted (loss_of (touched what) k (Some s) loss) jobs new t.name ≡ true) es (λ t here.
+          rw found (all_from_members (λ t. is_accounted (gone_of (touched what) k (Some s) maybe) jobs new t.name ≡ true) es (λ t here.
           entry_accounted s found left t.name (list_any_with (λ u. is_same_name t.name u.name) es t here (same_itself t.name))
-          (all_at (λ t. is_accounted loss jobs seats t.name ≡ true) es t all here)))
+          (all_at (λ t. is_accounted maybe jobs seats t.name ≡ true) es t all here)))

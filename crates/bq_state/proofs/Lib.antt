@@ -7,12 +7,12 @@ pub mod DueLemmas
 pub mod EditLemmas
 pub mod EndLemmas
 pub mod EndMoves
-pub mod FirstEndLemmas
+pub mod FirstTimeoutLemmas
 pub mod GoneLemmas
 pub mod KnowledgeLemmas
 pub mod LeavingLemmas
 pub mod LoopLemmas
-pub mod LossLemmas
+pub mod MaybeGoneLemmas
 pub mod MovedLemmas
 pub mod NameLemmas
 pub mod NamedLemmas
@@ -20,11 +20,11 @@ pub mod PartsLemmas
 pub mod PauseLemmas
 pub mod PausedLemmas
 pub mod SeatPlaces
-pub mod StirLemmas
 pub mod TallyLemmas
 pub mod TallyPlaces
 pub mod TubeLemmas
 pub mod TubeNumberLemmas
 pub mod WaitingLemmas
 pub mod WalkLemmas
+pub mod WantedLemmas
 pub mod WarningLemmas

@@ -9,13 +9,14 @@ use Rattle.bq_job.specs.{reading.TubeName.is_same_name}
 use Rattle.bq_jobs.specs.declared.row.Moved.{Moved}
 use Rattle.bq_jobs.specs.{Changed.{IgnoresTube, KeepsId, KeepsTube, moved_by, with_changed}, Kept.{with_added, without}}
 use Rattle.bq_jobs.proofs.Changes.{changed as changed_by_id, found_id}
-use Rattle.bq_state.specs.declared.known.{loss.Loss.Loss, stir.Stir.Stir, tally.Tally.Tally, warns.Warns.Warns}
+use Rattle.bq_state.specs.declared.known.{maybe_gone.MaybeGone.MaybeGone, wanted.Wanted.Wanted, tally.Tally.Tally, warns.Warns.Warns}
 use Rattle.bq_state.specs.declared.job_store.JobChange.{JobChange}
-use Rattle.bq_state.specs.{Crowds.is_waiter, JobChanges.changed, Losses.AreAlive, SeatChanges.AreNumbered, Stirs.{AreKnown, with_stirred}}
+use Rattle.bq_state.specs.{Crowds.is_waiter, JobChanges.changed, MaybeGoneTubes.AreAlive}
+use Rattle.bq_state.specs.{SeatChanges.AreNumbered, WantedJobs.{AreKnown, with_wanted}}
 use Rattle.bq_state.specs.Tallies.{AreCounted, tallies_at, tallies_without, tally_moved, tally_of, tally_with, tally_without}
 use Rattle.bq_state.specs.TubeEntries.{AreEntries, AreInOrder}
 use Rattle.bq_state.specs.Warnings.{AreWarned, has_waiting_holder, with_holder_of}
-use Rattle.bq_state.proofs.{PartsLemmas.{all_filtered, all_kept}, StirLemmas.known_added}
+use Rattle.bq_state.proofs.{PartsLemmas.{all_filtered, all_kept}, WantedLemmas.known_added}
 use Rattle.bq_state.proofs.{TallyPlaces.{counted_added, counted_taken}, WarningLemmas.warned_added}
 use Rattle.bq_state.proofs.PartsLemmas.{same_id}
 
@@ -45,10 +46,10 @@ module _ (g : Job → Job) (stays : KeepsTube g) where
   any_kept name [] = refl
   any_kept name (j ∷ jobs) = grind (arith, any_kept name jobs)
 
-  pub alive_changed : (loss : Loss) (jobs : List Job) (seats : List SeatRecord) (entries : List TubeRecord)
-      → AreAlive loss jobs seats entries → AreAlive loss (map g jobs) seats entries
-  alive_changed loss jobs seats [] all = tt
-  alive_changed loss jobs seats (t ∷ entries) all = grind (arith, any_kept, alive_changed loss jobs seats entries all.1)
+  pub alive_changed : (maybe : MaybeGone) (jobs : List Job) (seats : List SeatRecord) (entries : List TubeRecord)
+      → AreAlive maybe jobs seats entries → AreAlive maybe (map g jobs) seats entries
+  alive_changed maybe jobs seats [] all = tt
+  alive_changed maybe jobs seats (t ∷ entries) all = grind (arith, any_kept, alive_changed maybe jobs seats entries all.1)
 
 -- two changes at one name
 at_once : (name : List ℕ) (g h : Tally → Tally) (es : List TubeRecord) (tallies : List Tally)
@@ -80,10 +81,10 @@ module _ (low next id : ℕ) (f : Job → Job) (keeps : KeepsId f) (stays : Keep
   made_of : with_added (f j) (without id jobs) ≡ with_changed id f jobs
   made_of = changed_by_id low next id f j jobs ids found (keeps j ∙ found_id id jobs j found)
 
-  pub known_moved : (stir : Stir) (seats : List SeatRecord) (tubes : List TubeRecord) (b : Bool)
-      → b ≡ (is_ready_state m.to.state && list_any (is_waiter m.tube) seats) → AreKnown stir jobs seats tubes
-      → AreKnown (if b then with_stirred m.tube stir else stir) (with_changed id f jobs) seats tubes
-  known_moved stir seats tubes b e was = grind (arith, known_added, all_filtered, made_of)
+  pub known_moved : (wanted : Wanted) (seats : List SeatRecord) (tubes : List TubeRecord) (b : Bool)
+      → b ≡ (is_ready_state m.to.state && list_any (is_waiter m.tube) seats) → AreKnown wanted jobs seats tubes
+      → AreKnown (if b then with_wanted m.tube wanted else wanted) (with_changed id f jobs) seats tubes
+  known_moved wanted seats tubes b e was = grind (arith, known_added, all_filtered, made_of)
 
   pub warned_moved : (warns : Warns) (seats : List SeatRecord) (b : Bool) → AreNumbered seats → b ≡ has_waiting_holder m.to.state seats
       → AreWarned warns jobs seats

@@ -1,9 +1,10 @@
 -- Records of tubes whose counts are those of jobs and of seats.
 use Rattle.std.specs.Prelude.{◌≡◌, List, Option, ℕ, filter, map}
 use Rattle.bq_job.specs.{declared.job.Job.Job, machine.SeatRecord}
-use Rattle.bq_state.specs.declared.{known.{loss.Loss.Loss, tally.Tally.Tally}, tubes.entry.{Crowd.Crowd, Moving.Moving, Share.Share}}
+use Rattle.bq_state.specs.declared.known.{maybe_gone.MaybeGone.MaybeGone, tally.Tally.Tally}
+use Rattle.bq_state.specs.declared.tubes.entry.{Crowd.Crowd, Moving.Moving, Share.Share}
 use Rattle.bq_state.specs.{Crowds.{crowds_at, crowds_at_all, crowds_of, crowds_provided, crowds_recounted_for}, KeptTubes.KeptTubes}
-use Rattle.bq_state.specs.{Losses.AreAlive, Tallies.{tallies_at, tallies_of, tallies_provided, tallies_with, tallies_without}}
+use Rattle.bq_state.specs.{MaybeGoneTubes.AreAlive, Tallies.{tallies_at, tallies_of, tallies_provided, tallies_with, tallies_without}}
 use Rattle.bq_state.specs.TubeEntries.{AreInOrder, is_tube_of, provided, tube_changed_at}
 use Rattle.bq_state.specs.declared.tubes.entry.TubeChange.TheVariants.{CountDelete, CountPut}
 
@@ -18,9 +19,9 @@ IfCounted k P =
     → k.tallies ≡ tallies_of jobs k.entries → k.crowds ≡ crowds_of seats k.entries → P jobs seats
 
 -- If it is known which entries may be of tubes that have gone, those of existing tubes are kept.
-abbrev pub DropsGone : Loss → KeptTubes → KeptTubes → Type 0
-DropsGone loss old new =
-    (jobs : List Job) (seats : List SeatRecord) → AreInOrder old.entries → AreAlive loss jobs seats old.entries
+abbrev pub DropsGone : MaybeGone → KeptTubes → KeptTubes → Type 0
+DropsGone maybe old new =
+    (jobs : List Job) (seats : List SeatRecord) → AreInOrder old.entries → AreAlive maybe jobs seats old.entries
     → old.tallies ≡ tallies_of jobs old.entries → old.crowds ≡ crowds_of seats old.entries
     → new.entries ≡ filter (λ t. is_tube_of jobs seats t.name) old.entries
 

@@ -4,14 +4,16 @@ use Rattle.bq_job.specs.{declared.job.Job.Job, machine.{SeatRecord, TubeRecord}}
 use Rattle.bq_jobs.specs.declared.row.Moved.{Moved}
 use Rattle.bq_state.specs.declared.{known.Known.Known, seats.SeatChange.SeatChange, tubes.entry.{Share.Share, TubeChange.TubeChange}}
 use Rattle.bq_state.specs.{Clients.{clients_of, clients_with, clients_without}, Crowds.AreCrowds}
-use Rattle.bq_state.specs.{Dues.{first_pause_end, pause_end_after, pause_end_left}, FirstEnds.{AreTimeouts, end_after}, KeptTubes.KeptTubes}
-use Rattle.bq_state.specs.Leaving.{loss_of}
-use Rattle.bq_state.specs.{Losses.{AreAlive, with_lost, with_regained}, Stirs.{AreKnown, stirred_by_change, stirred_by_seat, with_stirred}}
+use Rattle.bq_state.specs.Dues.{first_pause_end, pause_end_after, pause_end_left}
+use Rattle.bq_state.specs.{FirstTimeouts.{AreTimeouts, timeout_after}, KeptTubes.KeptTubes}
+use Rattle.bq_state.specs.Leaving.{gone_of}
+use Rattle.bq_state.specs.MaybeGoneTubes.{AreAlive, with_gone, with_existing}
+use Rattle.bq_state.specs.WantedJobs.{AreKnown, wanted_after_tube, wanted_after_seat, with_wanted}
 use Rattle.bq_state.specs.{Tallies.{AreCounted, tally_moved, tally_of, tally_with, tally_without}, TubeEntries.counted}
 use Rattle.bq_state.specs.Warnings.{AreWarned, warned_by_seat, with_holder_of}
-use Rattle.bq_state.specs.declared.known.first_end.FirstEnd.TheVariants as ends
-use Rattle.bq_state.specs.declared.known.loss.Loss.TheVariants as losses
-use Rattle.bq_state.specs.declared.known.stir.Stir.TheVariants as stirs
+use Rattle.bq_state.specs.declared.known.first_timeout.FirstTimeout.TheVariants as ends
+use Rattle.bq_state.specs.declared.known.maybe_gone.MaybeGone.TheVariants as gone_tubes
+use Rattle.bq_state.specs.declared.known.wanted.Wanted.TheVariants as wanted_jobs
 use Rattle.bq_state.specs.declared.known.warns.Warns.TheVariants as holders
 
 -- What is known is true of these jobs, seats and tubes, and the tubes' counts are correct.
@@ -20,13 +22,13 @@ pub record IsSo (k : Known) (jobs : List Job) (seats : List SeatRecord) (tubes :
   pub clients : k.clients ≡ clients_of seats
   pub crowds : AreCrowds tubes.crowds seats tubes.entries
   -- which entries may be of tubes that have gone
-  pub alive : AreAlive k.loss jobs seats tubes.entries
+  pub alive : AreAlive k.maybe_gone jobs seats tubes.entries
   -- which jobs waiting clients may have
-  pub stirs : AreKnown k.stir jobs seats (counted tubes.entries)
+  pub wanted_jobs : AreKnown k.wanted jobs seats (counted tubes.entries)
   -- which waiting clients may hold a job
   pub warnings : AreWarned k.warns jobs seats
   -- when the first wait times out
-  pub timeouts : AreTimeouts k.first_end seats
+  pub timeouts : AreTimeouts k.first_timeout seats
   -- when the first pause ends
   pub pauses : k.pause_end ≡ first_pause_end tubes.entries
 
@@ -35,31 +37,31 @@ abbrev pub nothing_known : Known
 nothing_known = record {
   tally = tally_of [];
   clients = clients_of [];
-  loss = losses.Nothing;
-  stir = stirs.Nothing;
+  maybe_gone = gone_tubes.Nothing;
+  wanted = wanted_jobs.Nothing;
   warns = holders.Nobody;
-  first_end = ends.Known None;
+  first_timeout = ends.Known None;
   pause_end = None;
 }
 
 -- with one more job; whether it is wanted, and whether its holder waits, is given
 abbrev pub with_job : Job → Bool → Bool → Known → Known
-with_job j wanted waits k = record k {
+with_job j is_wanted waits k = record k {
   tally = tally_with j k.tally;
-  loss = with_regained j.tube k.loss;
-  stir = if wanted then with_stirred j.tube k.stir else k.stir;
+  maybe_gone = with_existing j.tube k.maybe_gone;
+  wanted = if is_wanted then with_wanted j.tube k.wanted else k.wanted;
   warns = if waits then with_holder_of j.state k.warns else k.warns;
 }
 
 -- with one job fewer
 abbrev pub without_job : Job → Known → Known
-without_job j k = record k { tally = tally_without j k.tally; loss = with_lost j.tube k.loss }
+without_job j k = record k { tally = tally_without j k.tally; maybe_gone = with_gone j.tube k.maybe_gone }
 
 -- and with a job changed
 abbrev pub with_moved : Moved → Bool → Bool → Known → Known
-with_moved m wanted waits k = record k {
+with_moved m is_wanted waits k = record k {
   tally = tally_moved m k.tally;
-  stir = if wanted then with_stirred m.tube k.stir else k.stir;
+  wanted = if is_wanted then with_wanted m.tube k.wanted else k.wanted;
   warns = if waits then with_holder_of m.to.state k.warns else k.warns;
 }
 
@@ -67,25 +69,25 @@ with_moved m wanted waits k = record k {
 abbrev pub with_left : Option SeatRecord → SeatChange → Share → KeptTubes → Known → Known
 with_left o what touched tubes k = record k {
   clients = clients_without o k.clients;
-  first_end = end_after what o k.first_end;
-  loss = loss_of touched tubes o k.loss;
+  first_timeout = timeout_after what o k.first_timeout;
+  maybe_gone = gone_of touched tubes o k.maybe_gone;
 }
 
 -- after it has changed
 abbrev pub with_joined : Option SeatRecord → ℕ → SeatChange → Known → Known
 with_joined o number what k = record k {
   clients = clients_with o k.clients;
-  stir = stirred_by_seat number what k.stir;
+  wanted = wanted_after_seat number what k.wanted;
   warns = warned_by_seat number what k.warns;
 }
 
 -- after a tube was changed; these are the entries
 abbrev pub with_tube_changed : List ℕ → TubeChange → List TubeRecord → Known → Known
 with_tube_changed name what entries k = record k {
-  stir = stirred_by_change name what k.stir;
+  wanted = wanted_after_tube name what k.wanted;
   pause_end = pause_end_after entries what k.pause_end;
 }
 
 -- after entries of tubes that no longer exist were dropped; these are left
 abbrev pub with_forgotten : ℕ → List TubeRecord → Known → Known
-with_forgotten were entries k = record k { loss = losses.Nothing; pause_end = pause_end_left entries were k.pause_end }
+with_forgotten were entries k = record k { maybe_gone = gone_tubes.Nothing; pause_end = pause_end_left entries were k.pause_end }

@@ -2,10 +2,10 @@
 use Rattle.std.proofs.Props.{props}
 use Rattle.std.specs.{Coded.{Unit-prop, le_prop, ×_prop}, Prelude.{◌∷◌, ◌≡◌, ◌≤◌, Bool, List, [], ℕ, false}}
 use Rattle.bq_job.specs.{beside.AreIdsWithin, declared.job.Job.Job, machine.{SeatRecord, TubeRecord, last_id}}
-use Rattle.bq_state.specs.declared.known.{first_end.FirstEnd.FirstEnd, Known.Known}
-use Rattle.bq_state.specs.{FirstEnds.AreTimeouts, KeptTubes.KeptTubes, Knowledge.IsSo}
+use Rattle.bq_state.specs.declared.known.{first_timeout.FirstTimeout.FirstTimeout, Known.Known}
+use Rattle.bq_state.specs.{FirstTimeouts.AreTimeouts, KeptTubes.KeptTubes, Knowledge.IsSo}
 use Rattle.bq_state.specs.{SeatChanges.AreNumbered, TubeEntries.{AreEntries, AreInOrder}, WaitingTurns.{AreInTurn, WaitingTurns}}
-use Rattle.bq_state.specs.declared.known.first_end.FirstEnd.TheVariants as ends
+use Rattle.bq_state.specs.declared.known.first_timeout.FirstTimeout.TheVariants as ends
 
 -- The fields of a state agree with each other: the jobs, seats and tubes, and what is kept besides
 -- them.
@@ -31,7 +31,7 @@ AreIdsWithin-prop : (low : ℕ) (jobs : List Job) (next : ℕ) → IsProp (AreId
 AreIdsWithin-prop low [] next = le_prop
 AreIdsWithin-prop low (j ∷ jobs) next = ×_prop le_prop (AreIdsWithin-prop _ jobs next)
 
-AreTimeouts-prop : (first_end : FirstEnd) (seats : List SeatRecord) → IsProp (AreTimeouts first_end seats)
+AreTimeouts-prop : (first_timeout : FirstTimeout) (seats : List SeatRecord) → IsProp (AreTimeouts first_timeout seats)
 AreTimeouts-prop ends.Unknown seats = Unit-prop
 AreTimeouts-prop (ends.Known first) seats = Prim.hlevel props
 

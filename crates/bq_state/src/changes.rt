@@ -13,7 +13,7 @@ ghost use Rattle.bq_job.specs.machine.JobCommands.{with_put};
 ghost use Rattle.bq_jobs.specs.Kept.{ComparesAtMost, with_added};
 ghost use Rattle.bq_state.specs.Asking.{Asks};
 ghost use Rattle.bq_state.specs.Crowds.{may_wait};
-ghost use Rattle.bq_state.specs.declared.known.stir.Stir.TheVariants as stirs;
+ghost use Rattle.bq_state.specs.declared.known.wanted.Wanted.TheVariants as wanted_jobs;
 ghost use Rattle.bq_state.specs.Dues.{is_end_over, with_warning_due};
 ghost use Rattle.bq_state.specs.JobChanges.{changed, once_deleted};
 ghost use Rattle.bq_state.specs.KeptTubes.{first_tubes};
@@ -29,7 +29,7 @@ ghost use Rattle.bq_state.specs.Warnings.{has_waiting_holder, may_hold, warned_i
 
 use crate::core_parts::CoreParts;
 use crate::job_store::JobChange;
-use crate::known::{Clients, FirstEnd, Known, Loss, Stir, is_over};
+use crate::known::{Clients, FirstTimeout, Known, MaybeGone, Wanted, is_over};
 use crate::name_lists::Names;
 use crate::seats::{SeatChange, SeatRecord};
 use crate::tubes::{Moving, TubeChange, Tubes};
@@ -151,23 +151,26 @@ pub fn note_leases(state: &mut CoreParts, seat: Seat)
 }
 
 /// Finds when the first wait times out, if that isn't known.
-pub fn find_first_end(state: &mut CoreParts)
+pub fn find_first_timeout(state: &mut CoreParts)
     ensures { held state.new
-        ≡ record (held state.old) { known = record state.old.known { first_end = state.new.known.first_end } } }
+        ≡ record (held state.old) { known = record state.old.known { first_timeout = state.new.known.first_timeout } } }
 {
-    if let FirstEnd::Unknown = &state.known.first_end {
-        state.known.first_end = FirstEnd::find(state.seats.as_slice(), state.waiting.as_slice());
+    if let FirstTimeout::Unknown = &state.known.first_timeout {
+        state.known.first_timeout = FirstTimeout::find(
+            state.seats.as_slice(),
+            state.waiting.as_slice(),
+        );
     }
 }
 
 /// Records that no waiting client may have a job.
 #[tactic(auto, using(crate::proofs::KnowledgeLemmas::so_with_nothing))]
-pub fn forget_stir(state: &mut CoreParts)
+pub fn record_none_wanted(state: &mut CoreParts)
     requires none { next_job (machine_of state.old) ≡ None }
     ensures { held state.new
-        ≡ record (held state.old) { known = record state.old.known { stir = stirs.Nothing } } }
+        ≡ record (held state.old) { known = record state.old.known { wanted = wanted_jobs.Nothing } } }
 {
-    state.known.stir = Stir::Nothing;
+    state.known.wanted = Wanted::Nothing;
 }
 
 /// Records whether some waiting client is going to get DEADLINE_SOON: if none is, none of them
@@ -191,7 +194,7 @@ pub fn end_pauses(state: &mut CoreParts)
     }
     state.tubes.fire_timers(state.moment);
     state.known.pause_end = state.tubes.first_pause_end();
-    state.known.stir = Stir::Any;
+    state.known.wanted = Wanted::Any;
 }
 
 /// Changes the record of a tube that has an entry.
@@ -211,7 +214,7 @@ pub fn provide_tube(state: &mut CoreParts, alloc: Global, tube: &TubeName) -> Re
     ensures after { machine_of state.new ≡ machine_of state.old }
     ensures entry { IfOk result (λ _. has_entry tube.now state.new.tubes.entries ≡ true) }
     ensures seats { state.new.seats ≡ state.old.seats }
-    ensures stir { state.new.known.stir ≡ state.old.known.stir }
+    ensures wanted { state.new.known.wanted ≡ state.old.known.wanted }
     ensures asks { Asks 0 state.old.jobs state.new.jobs }
 {
     if state.tubes.has(tube) {
@@ -220,7 +223,7 @@ pub fn provide_tube(state: &mut CoreParts, alloc: Global, tube: &TubeName) -> Re
     state.jobs.know(alloc, tube)?;
     match state.tubes.provide(alloc, tube) {
         Ok(is_new) => {
-            state.known.loss.lose_if(tube, is_new);
+            state.known.maybe_gone.add_if(tube, is_new);
             Ok(())
         }
         Err(fault) => {
@@ -243,8 +246,8 @@ pub fn watch_tube(
         (λ n. AtSeat seat state.old (λ s. n ≡ length (more_watched tube.now s))) }
     ensures watched { IfOk result (λ _. Watches seat (more_watched tube.now) state.old state.new) }
     ensures same { OnErr result (machine_of state.new ≡ machine_of state.old) }
-    ensures stir { IfOk result (λ _. AtSeat seat state.old
-        (λ s. is_waiting s ≡ false → state.new.known.stir ≡ state.old.known.stir)) }
+    ensures wanted { IfOk result (λ _. AtSeat seat state.old
+        (λ s. is_waiting s ≡ false → state.new.known.wanted ≡ state.old.known.wanted)) }
     ensures asks { Asks 0 state.old.jobs state.new.jobs }
 {
     provide_tube(state, alloc, tube)?;
@@ -255,7 +258,7 @@ pub fn watch_tube(
     match seats::watch(&mut state.seats, alloc, seat, tube) {
         Ok(count) => {
             state.tubes.recount(tube, Moving::Comes, share);
-            state.known.stir.stir_all_if(share.waiting);
+            state.known.wanted.add_all_if(share.waiting);
             Ok(count)
         }
         Err(fault) => Err(fault),
@@ -273,7 +276,7 @@ pub fn ignore_tube(state: &mut CoreParts, seat: Seat, tube: &TubeName) -> u64
     if usize::from(seat) < state.seats.len() {
         let share = shares::at(&state.seats[usize::from(seat)], tube);
         state.tubes.recount(tube, Moving::Goes, share);
-        state.known.loss.lose(tube);
+        state.known.maybe_gone.add(tube);
         seats::ignore(&mut state.seats, seat, tube)
     } else {
         0
@@ -294,8 +297,8 @@ pub fn is_tube(state: &CoreParts, tube: &TubeName) -> bool
 pub fn tube_count(state: &CoreParts) -> u64
     ensures { result ≡ length (tubes (machine_of state.now)) }
 {
-    match &state.known.loss {
-        Loss::Nothing => state.tubes.len() as u64,
+    match &state.known.maybe_gone {
+        MaybeGone::Nothing => state.tubes.len() as u64,
         _ => state.tubes.count_alive(),
     }
 }
@@ -315,7 +318,9 @@ pub fn forget_tubes(state: &mut CoreParts)
     ensures jobs { state.new.jobs ≡ record state.old.jobs { tubes = state.new.jobs.tubes } }
 {
     let entries = state.tubes.len();
-    state.tubes.forget_lost(&mut state.jobs, &state.known.loss);
+    state
+        .tubes
+        .forget_gone(&mut state.jobs, &state.known.maybe_gone);
     state.known.forget_tubes(entries, &state.tubes);
 }
 

@@ -11,19 +11,19 @@ use crate::tubes::{Share, TubeChange, Tubes};
 use bq_job::{Job, Moment, Seat, TubeName};
 use bq_jobs::Moved;
 pub use clients::Clients;
-pub use first_end::{FirstEnd, first_to_give_up};
-pub use loss::Loss;
+pub use first_timeout::{FirstTimeout, first_to_give_up};
+pub use maybe_gone::MaybeGone;
 pub use moments::{earlier_of, is_over};
-pub use stir::Stir;
 pub use tally::Tally;
+pub use wanted::Wanted;
 pub use warns::Warns;
 
 mod clients;
-mod first_end;
-mod loss;
+mod first_timeout;
+mod maybe_gone;
 mod moments;
-mod stir;
 mod tally;
+mod wanted;
 mod warns;
 
 /// What is known without a search. Each field is determined by the jobs, the seats and the tubes,
@@ -35,14 +35,14 @@ pub struct Known {
     /// How many clients are connected, and how many wait.
     pub clients: Clients,
     /// Which tubes with entries may have gone.
-    pub loss: Loss,
+    pub maybe_gone: MaybeGone,
     /// Which jobs waiting clients may have.
-    pub stir: Stir,
+    pub wanted: Wanted,
     /// Which waiting clients may hold a job, and so get DEADLINE_SOON when its time to run ends
     /// soon.
     pub warns: Warns,
     /// When the first wait times out.
-    pub first_end: FirstEnd,
+    pub first_timeout: FirstTimeout,
     /// When the first pause of a tube ends.
     pub pause_end: Option<Moment>,
 }
@@ -55,10 +55,10 @@ impl Known {
         Known {
             tally: Tally::none(),
             clients: Clients::default(),
-            loss: Loss::Nothing,
-            stir: Stir::Nothing,
+            maybe_gone: MaybeGone::Nothing,
+            wanted: Wanted::Nothing,
             warns: Warns::Nobody,
-            first_end: FirstEnd::Known(None),
+            first_timeout: FirstTimeout::Known(None),
             pause_end: None,
         }
     }
@@ -69,8 +69,8 @@ impl Known {
         ensures { self.new ≡ with_job job.now is_wanted waits self.old }
     {
         self.tally.add(job);
-        self.loss.regain(&job.tube);
-        self.stir.stir_tube_if(&job.tube, is_wanted);
+        self.maybe_gone.remove(&job.tube);
+        self.wanted.add_tube_if(&job.tube, is_wanted);
         self.warns.warn_holder_if(job.state, waits);
     }
 
@@ -79,7 +79,7 @@ impl Known {
         ensures { self.new ≡ without_job job.now self.old }
     {
         self.tally.remove(job);
-        self.loss.lose(&job.tube);
+        self.maybe_gone.add(&job.tube);
     }
 
     /// A job is changed; the arguments describe it after the change.
@@ -88,7 +88,7 @@ impl Known {
     {
         self.tally.leave(moved.from);
         self.tally.enter(moved.to);
-        self.stir.stir_tube_if(&moved.tube, is_wanted);
+        self.wanted.add_tube_if(&moved.tube, is_wanted);
         self.warns.warn_holder_if(moved.to.state, waits);
     }
 
@@ -105,8 +105,8 @@ impl Known {
             ≡ with_left (option_copied client.entry) what.now touched tubes.now self.old }
     {
         self.clients.remove(client);
-        self.first_end.change(client, what);
-        self.loss.leave(tubes, client, touched);
+        self.first_timeout.change(client, what);
+        self.maybe_gone.leave(tubes, client, touched);
     }
 
     /// The seat with this number, if there is one, was changed.
@@ -114,7 +114,7 @@ impl Known {
         ensures { self.new ≡ with_joined (option_copied client.entry) seat what.now self.old }
     {
         self.clients.add(client);
-        self.stir.stir_seat(seat, what);
+        self.wanted.change_seat(seat, what);
         self.warns.warn_seat(seat, what);
     }
 
@@ -122,7 +122,7 @@ impl Known {
     pub(crate) fn change_tube(&mut self, name: &TubeName, what: TubeChange, tubes: &Tubes)
         ensures { self.new ≡ with_tube_changed name.now what tubes.now.entries self.old }
     {
-        self.stir.stir_change(name, what);
+        self.wanted.change_tube(name, what);
         self.pause_end = tubes.pause_end_after(what, self.pause_end);
     }
 
@@ -130,7 +130,7 @@ impl Known {
     pub(crate) fn forget_tubes(&mut self, entries: usize, tubes: &Tubes)
         ensures { self.new ≡ with_forgotten entries tubes.now.entries self.old }
     {
-        self.loss = Loss::Nothing;
+        self.maybe_gone = MaybeGone::Nothing;
         self.pause_end = tubes.pause_end_left(entries, self.pause_end);
     }
 }

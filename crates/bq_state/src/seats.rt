@@ -10,7 +10,7 @@ ghost use Rattle.bq_state.specs.SeatChanges.{AreNumbered, AtPlace, IsSetAt, seat
 ghost use Rattle.bq_state.specs.SeatChanges.{seat_changed_at, more_watched, fewer_watched};
 ghost use Rattle.bq_state.specs.SeatChanges.{watches_other};
 ghost use Rattle.bq_state.specs.EndingWaits.{has_waited, turn_of};
-ghost use Rattle.bq_state.specs.FirstEnds.{is_gone_in_wait};
+ghost use Rattle.bq_state.specs.FirstTimeouts.{is_gone_in_wait};
 ghost use Rattle.bq_state.specs.Offers.{waits_at};
 ghost use Rattle.bq_state.specs.WaitingTurns.{passes_at, turns_of};
 ghost use Rattle.bq_state.specs.Warnings.{has_waiting_holder, is_waiting_there};

@@ -19,7 +19,7 @@ ghost use Rattle.bq_state.specs.TubeNumbers.{HaveNumbers};
 ghost use Rattle.bq_state.specs.Names.{names_of};
 ghost use Rattle.bq_state.specs.TubeEntries.{has_entry, names_alive, tube_changed_at};
 
-use crate::known::{Clients, Loss, Tally};
+use crate::known::{Clients, MaybeGone, Tally};
 use crate::name_lists::Names;
 use crate::watch_list::default_tube;
 use bq_index::Catalog;
@@ -288,18 +288,18 @@ impl Tubes {
 
     /// Drops the entries and numbers of tubes that no longer exist, which are among those that may
     /// have gone.
-    pub(crate) fn forget_lost(&mut self, jobs: &mut NumberedJobs, loss: &Loss)
+    pub(crate) fn forget_gone(&mut self, jobs: &mut NumberedJobs, maybe_gone: &MaybeGone)
         requires numbered { HaveNumbers jobs.old.tubes self.old.entries }
         requires tallies { self.old.tallies ≡ tallies_of jobs.old.jobs self.old.entries }
-        ensures after { DropsGone loss.now self.old self.new }
+        ensures after { DropsGone maybe_gone.now self.old self.new }
         ensures kept { IfCounted self.old (AreCounts self.new) }
         ensures numbered { HaveNumbers jobs.new.tubes self.new.entries }
         ensures jobs { jobs.new ≡ record jobs.old { tubes = jobs.new.tubes } }
     {
-        match loss {
-            Loss::Nothing => {}
-            Loss::Of(name) => walks::forget_named(&mut self.kept, &mut self.ends, jobs, name),
-            Loss::Any => walks::forget_all(&mut self.kept, &mut self.ends, jobs),
+        match maybe_gone {
+            MaybeGone::Nothing => {}
+            MaybeGone::Of(name) => walks::forget_named(&mut self.kept, &mut self.ends, jobs, name),
+            MaybeGone::Any => walks::forget_all(&mut self.kept, &mut self.ends, jobs),
         }
     }
 

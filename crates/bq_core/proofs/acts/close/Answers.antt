@@ -6,7 +6,7 @@ use Rattle.bq_jobs.specs.Kept.{Kept}
 use Rattle.bq_steps.specs.Cost.{changed_jobs}
 use Rattle.bq_state.specs.declared.seats.SeatChange.TheVariants.{Clear}
 use Rattle.bq_state.specs.{Asking.AsksAsChanged, CoreParts.machine_of, SeatChanges.seat_changed}
-use Rattle.bq_core.specs.Firing.{after_giving_back}
+use Rattle.bq_core.specs.FiredTimers.{after_giving_back}
 use Rattle.bq_core.proofs.{ActLemmas.closed_connected, AskLemmas.within, CostLemmas.given_back_changed}
 use Rattle.bq_core.proofs.acts.close.Goals as goal
 

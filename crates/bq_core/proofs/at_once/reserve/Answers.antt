@@ -1,7 +1,7 @@
 use Rattle.std.proofs.Common.{◌&&◌, ◌+◌, ◌∙◌, ◌≡◌, ap, arith, length, sym, true}
 use Rattle.std.proofs.lemmas.Bool.{and_parts}
 use Rattle.bq_job.specs.machine.{raised, reserved_by, seat_with, with_job, Machine.Machine}
-use Rattle.bq_state.specs.{CoreParts.{machine_held, machine_of}, SeatStates.is_asking, Stirs.is_nothing}
+use Rattle.bq_state.specs.{CoreParts.{machine_held, machine_of}, SeatStates.is_asking, WantedJobs.is_nothing}
 use Rattle.bq_core.specs.AtOnce.{is_reserve}
 use Rattle.bq_core.proofs.{AskLemmas.{asks_more, asks_then}, AtOnceLemmas.{asking_client, given_at_once}}
 use Rattle.bq_core.proofs.at_once.reserve.Goals as goal
@@ -11,10 +11,10 @@ returns-clause-given c _ =
     let st = c.args.state.now in
     let seat = c.args.seat in
     let id = c.in-Some.id in
-    let may : (is_reserve c.args.what.now && (is_nothing st.known.stir && is_asking (seat_with seat st.seats.items))) ≡ true =
+    let may : (is_reserve c.args.what.now && (is_nothing st.known.wanted && is_asking (seat_with seat st.seats.items))) ≡ true =
     sym c.if-not-may_take.ensures in
-    let first = and_parts (is_reserve c.args.what.now) (is_nothing st.known.stir && is_asking (seat_with seat st.seats.items)) may in
-    let second = and_parts (is_nothing st.known.stir) (is_asking (seat_with seat st.seats.items)) first.1 in
+    let first = and_parts (is_reserve c.args.what.now) (is_nothing st.known.wanted && is_asking (seat_with seat st.seats.items)) may in
+    let second = and_parts (is_nothing st.known.wanted) (is_asking (seat_with seat st.seats.items)) first.1 in
     let a = asking_client seat st.seats.items second.1 in
     let found = c.in-Some.ensures in
     let same = ap machine_held found.kept.same in

@@ -3,10 +3,10 @@ use Rattle.std.specs.{List.list_any, Prelude.{fold, option_map}}
 use Rattle.bq_job.specs.machine.{is_job_before, is_paused, is_ready_in, is_waiting_for, seat_with}
 use Rattle.bq_job.proofs.{ChoiceLemmas.first_of_none_passes, ListLemmas.{all_always, list_any_not}}
 use Rattle.bq_jobs.specs.Kept.{ranked}
-use Rattle.bq_state.specs.declared.{core_parts.CoreParts.CoreParts, known.stir.Stir.{Stir, TheVariants.Nothing}}
+use Rattle.bq_state.specs.declared.{core_parts.CoreParts.CoreParts, known.wanted.Wanted.{Wanted, TheVariants.Nothing}}
 use Rattle.bq_state.specs.{CoreParts.machine_of, Crowds.is_waiter}
-use Rattle.bq_state.specs.{Offers.{is_waited_at, next_rank, offered, these, with_offers}, Stirs.AreKnown}
-use Rattle.bq_state.proofs.{ClientLemmas.some_pass, CrowdPlaces.crowd_there, StirLemmas.none_known, TubeLemmas.paused_is}
+use Rattle.bq_state.specs.{Offers.{is_waited_at, next_rank, offered, these, with_offers}, WantedJobs.AreKnown}
+use Rattle.bq_state.proofs.{ClientLemmas.some_pass, CrowdPlaces.crowd_there, WantedLemmas.none_known, TubeLemmas.paused_is}
 use Rattle.bq_core.proofs.{AskLemmas.asks_more, DispatchLemmas.{next_offer, offered_is}}
 use Rattle.bq_core.proofs.SearchLemmas.{client_entries, client_waits, rank_agrees, tube_entries, tube_waits}
 use Rattle.bq_core.proofs.dispatch.next_offer.Goals as goal
@@ -19,7 +19,7 @@ counted_there name st = grind (arith, common_steps, crowd_there, some_pass)
 pub returns-in-Nothing-clause-next : goal.returns-in-Nothing-clause-next
 returns-in-Nothing-clause-next c =
     let m = machine_of c.args.state.now in
-    let known = subst (λ (f : Stir). AreKnown f m.jobs m.seats m.tubes) c.in-Nothing.is c.args.state.now.sound.known.stirs in
+    let known = subst (λ (f : Wanted). AreKnown f m.jobs m.seats m.tubes) c.in-Nothing.is c.args.state.now.sound.known.wanted_jobs in
     sym (ap (option_map (ranked (λ j. j.pri))) (none_known Nothing m refl known))
 
 pub returns-in-Tube-clause-next : goal.returns-in-Tube-clause-next
@@ -32,7 +32,7 @@ returns-in-Tube-clause-next c =
         (machine_of c.args.state.now)
     go false e =
         let m = machine_of c.args.state.now in
-        let known = subst (λ (f : Stir). AreKnown f m.jobs m.seats m.tubes) c.in-Tube.is c.args.state.now.sound.known.stirs in
+        let known = subst (λ (f : Wanted). AreKnown f m.jobs m.seats m.tubes) c.in-Tube.is c.args.state.now.sound.known.wanted_jobs in
         sym
         (rank_agrees m (λ j. false) (tube_waits m c.in-Tube.name false e known)
         ∙ ap (option_map (ranked (λ j. j.pri))) (first_of_none_passes (λ j. false) is_job_before m.jobs
@@ -41,7 +41,7 @@ returns-in-Tube-clause-next c =
         let st = c.args.state.now in
         let m = machine_of st in
         let name = c.in-Tube.name in
-        let known = subst (λ (f : Stir). AreKnown f m.jobs m.seats m.tubes) c.in-Tube.is c.args.state.now.sound.known.stirs in
+        let known = subst (λ (f : Wanted). AreKnown f m.jobs m.seats m.tubes) c.in-Tube.is c.args.state.now.sound.known.wanted_jobs in
         offered_is m.next_id m.jobs c.args.state.now.sound.ids st.tubes.entries (λ n. is_paused n m)
         (λ n. sym (paused_is n st.tubes.entries c.args.state.now.sound.entries.order c.args.state.now.sound.entries.fresh)) name
         ∙ sym (rank_agrees m (λ j. is_ready_in name j && not (is_paused name m)) (tube_waits m name true e known))
@@ -54,7 +54,7 @@ returns-in-Client-clause-next c =
     let st = c.args.state.now in
     let m = machine_of st in
     let o = seat_with c.in-Client.seat m.seats in
-    let known = subst (λ (f : Stir). AreKnown f m.jobs m.seats m.tubes) c.in-Client.is c.args.state.now.sound.known.stirs in
+    let known = subst (λ (f : Wanted). AreKnown f m.jobs m.seats m.tubes) c.in-Client.is c.args.state.now.sound.known.wanted_jobs in
     c.best_of_client.ensures.best
     ∙ ap (λ seats. fold (with_offers st.jobs.jobs st.tubes.entries) None (these (seat_with c.in-Client.seat seats)))
     c.as_slice.ensures.value

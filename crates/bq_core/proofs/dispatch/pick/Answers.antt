@@ -15,9 +15,9 @@ returns-in_err-shared-in-Client-clause-some c =
 pub returns-in_ok-shared-in-Client-clause-picked : goal.returns-in_ok-shared-in-Client-clause-picked
 returns-in_ok-shared-in-Client-clause-picked c j is =
     let m = machine_of c.args.state.now in
-    let stir = c.args.state.now.known.stir in
-    let known = taker_known c.in-Client.seat stir j.tube m.seats c.in-Client.is (some_at_tube m j is)
-    (takers_known m stir j is c.args.state.now.sound.known.stirs) in
+    let wanted = c.args.state.now.known.wanted in
+    let known = taker_known c.in-Client.seat wanted j.tube m.seats c.in-Client.is (some_at_tube m j is)
+    (takers_known m wanted j is c.args.state.now.sound.known.wanted_jobs) in
     known ∙ ap (option_map (λ (s : SeatRecord). s.number)) (seat_at_tube m j is)
 
 pub returns-in_ok-shared-in-Client-clause-share : goal.returns-in_ok-shared-in-Client-clause-share

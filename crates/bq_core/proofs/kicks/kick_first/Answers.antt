@@ -2,7 +2,7 @@ use Rattle.std.proofs.Common.{◌==◌, ◌∙◌, ◌≡◌, if◌then◌else�
 use Rattle.bq_job.specs.{declared.job.Job.Job, machine.{kicked, Machine.Machine}}
 use Rattle.bq_state.specs.{CoreParts.{machine_held, machine_of}, JobKinds.{is_before_of, is_of}}
 use Rattle.bq_core.specs.Kicking.{KicksFirst}
-use Rattle.bq_core.proofs.{FiringLemmas.{chosen, one_fewer}, KickLemmas.{kicks_first, no_id, none_of_kind}}
+use Rattle.bq_core.proofs.{FiredTimerLemmas.{chosen, one_fewer}, KickLemmas.{kicks_first, no_id, none_of_kind}}
 use Rattle.bq_core.proofs.kicks.kick_first.Goals as goal
 use Rattle.std.proofs.lemmas.Grind.{common_steps}
 

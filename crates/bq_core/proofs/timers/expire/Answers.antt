@@ -1,8 +1,8 @@
 use Rattle.std.proofs.Common.{◌<◌, ◌∙◌, if◌then◌else◌, ap, count_by, refl, subst, sym}
 use Rattle.bq_job.specs.machine.{grown, Machine.Machine}
 use Rattle.bq_state.specs.CoreParts.{Held, machine_held, machine_of}
-use Rattle.bq_core.specs.Firing.{after_job_timers, is_ripe}
-use Rattle.bq_core.proofs.FiringLemmas.{counted_fired, fewer_expired, none_fires}
+use Rattle.bq_core.specs.FiredTimers.{after_job_timers, is_ripe}
+use Rattle.bq_core.proofs.FiredTimerLemmas.{counted_fired, fewer_expired, none_fires}
 use Rattle.bq_core.proofs.timers.expire.Goals as goal
 
 pub returns-clause-done : goal.returns-clause-done

@@ -1,7 +1,7 @@
 use Rattle.std.proofs.{Common.{◌<◌, ◌∙◌, ◌≡◌, ap, arith, count_by, refl, subst}, lemmas.Grind.common_steps}
 use Rattle.bq_job.specs.machine.Machine.{Machine}
 use Rattle.bq_state.specs.CoreParts.{machine_of}
-use Rattle.bq_core.specs.Firing.{is_ripe}
+use Rattle.bq_core.specs.FiredTimers.{is_ripe}
 use Rattle.bq_core.proofs.AskLemmas.{asks_more, asks_none, asks_then}
 use Rattle.bq_core.proofs.timers.fire_jobs.Goals as goal
 

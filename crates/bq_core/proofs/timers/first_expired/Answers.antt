@@ -1,7 +1,7 @@
 use Rattle.std.proofs.Common.{◌∙◌, arith, sym}
 use Rattle.bq_job.specs.machine.{is_expired, is_reserved}
 use Rattle.bq_jobs.specs.Leases.{deadline_of}
-use Rattle.bq_core.proofs.FiringLemmas.{expiries_are, first_past, none_past, none_such, none_there}
+use Rattle.bq_core.proofs.FiredTimerLemmas.{expiries_are, first_past, none_past, none_such, none_there}
 use Rattle.bq_core.proofs.timers.first_expired.Goals as goal
 
 pub returns-then-not-has_lease-clause-none : goal.returns-then-not-has_lease-clause-none

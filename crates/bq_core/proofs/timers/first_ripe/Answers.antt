@@ -1,6 +1,6 @@
 use Rattle.std.proofs.Common.{◌∙◌, arith, sym}
 use Rattle.bq_job.specs.machine.{due_of, is_delayed, is_due}
-use Rattle.bq_core.proofs.FiringLemmas.{dues_are, first_past, none_past, none_such, none_there}
+use Rattle.bq_core.proofs.FiredTimerLemmas.{dues_are, first_past, none_past, none_such, none_there}
 use Rattle.bq_core.proofs.timers.first_ripe.Goals as goal
 
 pub returns-then-not-has_delayed-clause-none : goal.returns-then-not-has_delayed-clause-none

@@ -2,7 +2,7 @@
 use Rattle.std.proofs.Common.{◌*◌, ◌-◌, ◌≡◌, ◌≤◌, count_by}
 use Rattle.bq_job.specs.machine.{is_held_by}
 use Rattle.bq_state.specs.{Asking.Asks, CoreParts.machine_of}
-use Rattle.bq_core.specs.Firing.{after_giving_back}
+use Rattle.bq_core.specs.FiredTimers.{after_giving_back}
 use Rattle.bq_core.proofs.timers.give_back_all.Given as goal
 
 abbrev pub invariant-loop-becomes : goal.invariant-loop-becomes

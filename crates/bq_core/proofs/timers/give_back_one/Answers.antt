@@ -2,8 +2,8 @@ use Rattle.std.proofs.Common.{◌<◌, ◌∙◌, ap, count_by, subst, sym}
 use Rattle.bq_job.specs.machine.{in_state, is_held_by, with_job, Machine.Machine}
 use Rattle.bq_jobs.specs.Kept.{Kept}
 use Rattle.bq_state.specs.CoreParts.{machine_of}
-use Rattle.bq_core.specs.Firing.{after_giving_back}
-use Rattle.bq_core.proofs.FiringLemmas.{given_fewer, given_none, given_one}
+use Rattle.bq_core.specs.FiredTimers.{after_giving_back}
+use Rattle.bq_core.proofs.FiredTimerLemmas.{given_fewer, given_none, given_one}
 use Rattle.bq_core.proofs.timers.give_back_one.Goals as goal
 
 pub returns-in_default-clause-done : goal.returns-in_default-clause-done

@@ -1,8 +1,8 @@
 use Rattle.std.proofs.Common.{◌<◌, ◌∙◌, ap, count_by, subst, sym}
 use Rattle.bq_job.specs.machine.{job_after_timers, with_job, Machine.Machine}
 use Rattle.bq_state.specs.CoreParts.{Held, machine_held, machine_of}
-use Rattle.bq_core.specs.Firing.{after_job_timers, is_ripe}
-use Rattle.bq_core.proofs.FiringLemmas.{fewer_due, fired_due}
+use Rattle.bq_core.specs.FiredTimers.{after_job_timers, is_ripe}
+use Rattle.bq_core.proofs.FiredTimerLemmas.{fewer_due, fired_due}
 use Rattle.bq_core.proofs.timers.ripen.Goals as goal
 
 pub returns-clause-fired : goal.returns-clause-fired

@@ -2,7 +2,7 @@ use Rattle.std.proofs.Common.{◌∙◌, ◌≡◌, ap, false, subst, sym}
 use Rattle.bq_job.specs.machine.{first_of, job_with, showing, Machine.Machine}
 use Rattle.bq_state.specs.{CoreParts.{machine_held, machine_of}, JobKinds.{is_before_of, is_of}}
 use Rattle.bq_core.specs.Acting.{Replies}
-use Rattle.bq_core.proofs.FiringLemmas.{chosen}
+use Rattle.bq_core.proofs.FiredTimerLemmas.{chosen}
 use Rattle.bq_core.proofs.tube_acts.peek_first.Goals as goal
 
 pub returns-in-Some-clause-reply : goal.returns-in-Some-clause-reply

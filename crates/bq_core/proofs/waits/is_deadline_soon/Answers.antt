@@ -1,4 +1,4 @@
-use Rattle.bq_core.proofs.FiringLemmas.{seat_warned}
+use Rattle.bq_core.proofs.FiredTimerLemmas.{seat_warned}
 use Rattle.bq_core.proofs.waits.is_deadline_soon.Goals as goal
 
 pub returns-clause-soon : goal.returns-clause-soon

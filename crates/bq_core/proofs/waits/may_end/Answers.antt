@@ -2,7 +2,7 @@ use Rattle.std.proofs.{Common.{◌∙◌, ◌≡◌, ap, arith, false, sym}, lem
 use Rattle.std.specs.List.{list_any}
 use Rattle.bq_state.specs.{CoreParts.{Held, machine_of}, EndingWaits.is_lease_short}
 use Rattle.bq_state.proofs.PartsLemmas.{compared_numbered, compared_sound}
-use Rattle.bq_core.proofs.FiringLemmas.{nobody_ends, none_ends}
+use Rattle.bq_core.proofs.FiredTimerLemmas.{nobody_ends, none_ends}
 use Rattle.bq_core.proofs.waits.may_end.Goals as goal
 
 pub returns-then-not-has_waiter-clause-none : goal.returns-then-not-has_waiter-clause-none

@@ -22,7 +22,7 @@ invariant_of-state-2 c =
     let m = c.in-Some.moved in
     let of = told_of (moved_by f) (job_with id st.jobs.jobs) m (sym c.in-Some.ensures.moved) in
     let fits = few_jobs st.next_id st.jobs.jobs was.ids c.in-Some.ensures.ordered in
-    let wanted = c.counts_waiter_of-is_wanted.ensures
+    let is_wanted = c.counts_waiter_of-is_wanted.ensures
     ∙ ap (λ b. is_ready_state m.to.state && b)
     (waiters_counted m.tube st.known.clients st.tubes.crowds st.seats.items st.tubes.entries was.entries.of_seats was.known.crowds
     was.known.clients) in
@@ -31,7 +31,7 @@ invariant_of-state-2 c =
     (one_tube id f (tube_kept what)) st.jobs.jobs st.seats.items st.tubes.entries was.entries in
     let ids = ids_of_map (λ k. if k.id == id then f k else k) 1 st.next_id st.jobs.jobs (one_id id f (id_kept what)) was.ids in
     let known = so_with_moved st id what of.job m c.counts_waiter_of-is_wanted.result c.holder_waits-waits.result of.there of.is
-    fits wanted waits in
+    fits is_wanted waits in
     record {
       sound = rw (c.move_job.ensures, c.move_job-2.ensures, c.in-Some.ensures.jobs) assumption;
       numbered = rw (c.move_job-2.ensures, c.in-Some.ensures.tubes) st.numbered;

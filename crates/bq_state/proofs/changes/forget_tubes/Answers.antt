@@ -7,9 +7,9 @@ use Rattle.bq_state.proofs.changes.forget_tubes.Goals as goal
 pub returns-clause-after : goal.returns-clause-after
 returns-clause-after c =
     let s = c.args.state.now in
-    ap (λ (k : Kept). record (machine_of s) { jobs = k.jobs; tubes = counted c.forget_lost.new.self.entries }) c.forget_lost.ensures.jobs
+    ap (λ (k : Kept). record (machine_of s) { jobs = k.jobs; tubes = counted c.forget_gone.new.self.entries }) c.forget_gone.ensures.jobs
     ∙ ap (λ tubes. record (machine_of s) { tubes = counted tubes })
-    (c.forget_lost.ensures.after s.jobs.jobs s.seats.items c.args.state.now.sound.entries.order c.args.state.now.sound.known.alive
+    (c.forget_gone.ensures.after s.jobs.jobs s.seats.items c.args.state.now.sound.entries.order c.args.state.now.sound.known.alive
     c.args.state.now.sound.known.counts.each c.args.state.now.sound.known.crowds.each)
     ∙ ap (λ tubes. record (machine_of s) { tubes = tubes })
     (filters_swap is_counted (λ t. is_tube_of s.jobs.jobs s.seats.items t.name) s.tubes.entries)
@@ -18,12 +18,12 @@ pub invariant_of-state : goal.invariant_of-state
 invariant_of-state c =
     let s = c.args.state.now in
     let was = c.args.state.now.sound in
-    let left : c.forget_lost.new.self.entries ≡ filter (λ t. is_tube_of s.jobs.jobs s.seats.items t.name) s.tubes.entries =
-    c.forget_lost.ensures.after s.jobs.jobs s.seats.items was.entries.order was.known.alive was.known.counts.each was.known.crowds.each in
-    let same = ap (λ (k : Kept). k.jobs) c.forget_lost.ensures.jobs in
+    let left : c.forget_gone.new.self.entries ≡ filter (λ t. is_tube_of s.jobs.jobs s.seats.items t.name) s.tubes.entries =
+    c.forget_gone.ensures.after s.jobs.jobs s.seats.items was.entries.order was.known.alive was.known.counts.each was.known.crowds.each in
+    let same = ap (λ (k : Kept). k.jobs) c.forget_gone.ensures.jobs in
     record {
       sound =
-          subst (λ jobs. Soundness jobs s.seats.items c.forget_lost.new.self s.waiting c.forget_tubes.new.self s.next_id s.draining)
+          subst (λ jobs. Soundness jobs s.seats.items c.forget_gone.new.self s.waiting c.forget_tubes.new.self s.next_id s.draining)
           (sym same)
           (record {
             entries = rw left (entries_forgotten s.jobs.jobs s.seats.items s.tubes.entries was.entries);
@@ -33,8 +33,8 @@ invariant_of-state c =
             waiting = was.waiting;
             known =
                 rw c.forget_tubes.ensures
-                (so_forgotten s c.forget_lost.new.self c.len-entries.result (omega (arith, c.len-entries.ensures)) left
-                (c.forget_lost.ensures.kept s.jobs.jobs s.seats.items was.known.counts.each was.known.crowds.each));
+                (so_forgotten s c.forget_gone.new.self c.len-entries.result (omega (arith, c.len-entries.ensures)) left
+                (c.forget_gone.ensures.kept s.jobs.jobs s.seats.items was.known.counts.each was.known.crowds.each));
           });
-      numbered = c.forget_lost.ensures.numbered;
+      numbered = c.forget_gone.ensures.numbered;
     }

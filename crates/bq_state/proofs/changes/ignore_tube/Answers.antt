@@ -39,7 +39,7 @@ invariant_of-state c =
     let numbered = watching_numbered (filter fewer t.watched) n t st.seats.items here was.numbered in
     let waiting = in_turn_watching (filter fewer t.watched) n t st.waiting st.seats.items here was.numbered was.waiting in
     let known = so_ignoring st name n t here few in
-    record { sound = rw (c.lose.ensures, tubes, c.ignore.ensures.ignored t here) assumption; numbered = rw tubes st.numbered }
+    record { sound = rw (c.add.ensures, tubes, c.ignore.ensures.ignored t here) assumption; numbered = rw tubes st.numbered }
 
 pub returns-else-from-len-clause-after : goal.returns-else-from-len-clause-after
 returns-else-from-len-clause-after c s found = grind (arith, common_steps, slice_get_within, seat_there)

@@ -21,7 +21,7 @@ invariant_of-state-in-Ok c =
     let entries = entries_provided name st.jobs.jobs st.seats.items st.tubes.entries was.entries in
     let known = so_provided st name in
     record {
-      sound = rw (c.lose_if.ensures, c.in-Ok.ensures.told, c.in-Ok.ensures.after, same) assumption;
+      sound = rw (c.add_if.ensures, c.in-Ok.ensures.told, c.in-Ok.ensures.after, same) assumption;
       numbered =
           rw c.in-Ok.ensures.after (numbers_provided name st.jobs.tubes c.know.new.self.tubes st.tubes.entries st.numbered
           c.in_ok-know.ensures.known c.know.ensures.only);

@@ -4,7 +4,7 @@ use Rattle.std.proofs.lemmas.Option.{slice_get_read, slice_get_within}
 use Rattle.bq_job.specs.machine.{greatest, is_waiting, seat_with, watching, Machine.Machine}
 use Rattle.bq_state.specs.declared.tubes.entry.{Moving.TheVariants.Comes, Share.Share}
 use Rattle.bq_state.specs.{CoreParts.machine_of, Counting.with_crowds_at, Crowds.recounted}
-use Rattle.bq_state.specs.{KeptTubes.KeptTubes, Stirs.with_anything, TubeEntries.counted}
+use Rattle.bq_state.specs.{KeptTubes.KeptTubes, WantedJobs.with_all_wanted, TubeEntries.counted}
 use Rattle.bq_state.proofs.{KnowledgeLemmas.so_watching}
 use Rattle.bq_state.proofs.PartsLemmas.{changed_there, seat_read, seat_there, watching_more, watching_numbered}
 use Rattle.bq_state.proofs.{WaitingLemmas.in_turn_watching}
@@ -37,11 +37,11 @@ returns-in-Ok-clause-watched c s found =
     ∙ ap (λ v. set v.items c.args.seat (watching (s.watched ++ c.args.tube.now ∷ []) s)) p.seats
     ∙ sym (changed_there old.seats.items c.args.seat s (watching (s.watched ++ c.args.tube.now ∷ [])) c.args.state.now.sound.numbered here))
 
-pub returns-then-from-len-clause-stir : goal.returns-then-from-len-clause-stir
-returns-then-from-len-clause-stir c s found rests = c.in_ok-provide_tube.ensures.stir
+pub returns-then-from-len-clause-wanted : goal.returns-then-from-len-clause-wanted
+returns-then-from-len-clause-wanted c s found rests = c.in_ok-provide_tube.ensures.wanted
 
-pub returns-in-Ok-clause-stir : goal.returns-in-Ok-clause-stir
-returns-in-Ok-clause-stir c s found rests =
+pub returns-in-Ok-clause-wanted : goal.returns-in-Ok-clause-wanted
+returns-in-Ok-clause-wanted c s found rests =
     let old = c.args.state.now in
     let mid = c.provide_tube.new.state in
     let n = c.args.seat in
@@ -53,7 +53,8 @@ returns-in-Ok-clause-stir c s found rests =
     let same : t ≡ s = (cc) in
     let none : c.of_watcher-share.result.waiting ≡ false =
     ap (λ (share : Share). share.waiting) c.of_watcher-share.ensures ∙ ap is_waiting same ∙ rests in
-    c.stir_all_if.ensures ∙ ap (λ b. if b then with_anything mid.known.stir else mid.known.stir) none ∙ c.in_ok-provide_tube.ensures.stir
+    c.add_all_if.ensures ∙ ap (λ b. if b then with_all_wanted mid.known.wanted else mid.known.wanted) none
+    ∙ c.in_ok-provide_tube.ensures.wanted
 
 pub invariant_of-state : goal.invariant_of-state
 invariant_of-state c =
@@ -69,9 +70,10 @@ invariant_of-state c =
     let fresh = c.requires.fresh t (ap (λ v. seat_with n v.items) (sym p.seats) ∙ seat_read mid.seats.items n t was.numbered here) in
     let few : length mid.seats.items ≤ greatest = omega (arith, c.len.ensures) in
     let tubes = c.recount.ensures ∙ ap (λ what. with_crowds_at name (recounted Comes what) mid.tubes) share in
-    let stir = c.stir_all_if.ensures ∙ ap (λ (s : Share). if s.waiting then with_anything mid.known.stir else mid.known.stir) share in
+    let wanted = c.add_all_if.ensures ∙ ap (λ (s : Share). if s.waiting then with_all_wanted mid.known.wanted
+    else mid.known.wanted) share in
     let entries = watching_more name n t mid.jobs.jobs mid.seats.items mid.tubes.entries here p.entry was.entries in
     let numbered = watching_numbered (t.watched ++ name ∷ []) n t mid.seats.items here was.numbered in
     let waiting = in_turn_watching (t.watched ++ name ∷ []) n t mid.waiting mid.seats.items here was.numbered was.waiting in
     let known = so_watching mid name n t here few fresh in
-    record { sound = rw (stir, tubes, c.in-Ok.ensures.watched t here) assumption; numbered = rw tubes mid.numbered }
+    record { sound = rw (wanted, tubes, c.in-Ok.ensures.watched t here) assumption; numbered = rw tubes mid.numbered }

@@ -17,7 +17,7 @@ use Rattle.bq_job.proofs.ListLemmas.{count_cons, list_any_not, list_any_with, ma
 use Rattle.bq_jobs.specs.{Kept.ranked, Leases.{deadline_of, is_lease_before}}
 use Rattle.bq_jobs.proofs.Changes.{all_found, none_changed, others_above}
 use Rattle.bq_state.specs.EndingWaits.{has_waited, is_lease_short, is_soon}
-use Rattle.bq_core.specs.Firing.{ExpiresOne, IsOne, after_giving_back, after_job_timers, is_ripe}
+use Rattle.bq_core.specs.FiredTimers.{ExpiresOne, IsOne, after_giving_back, after_job_timers, is_ripe}
 use Rattle.bq_core.proofs.KickLemmas.{one_of_id}
 
 -- changing one job and then all is changing all, if the second change subsumes the first
@@ -279,8 +279,11 @@ soon_first p moment jobs found is = ap (is_soon moment) is ∙ go (first_of p is
           | inr later ↦
               later
               ∙ sym (list_any_not q jobs (all_from_members (λ k. q k ≡ false) jobs (λ k here. elim (cases_Bool (p k)) [
-                | inl pass ↦ rw
-                    (pass, late k j (first_of_is_least p (pair_order (λ k. deadline_of k.state) (λ k. k.id)) jobs j k e here pass) later) refl
+                | inl pass ↦ rw (
+                  pass,
+                  late k j (first_of_is_least p (pair_order (λ k. deadline_of k.state)
+                      (λ k. k.id)) jobs j k e here pass) later,
+                ) refl
                 | inr fail ↦ rw fail refl
               ])))
         ]

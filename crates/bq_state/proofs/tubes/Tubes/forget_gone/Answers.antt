@@ -1,8 +1,8 @@
 use Rattle.std.proofs.{Common.{◌∙◌, ap, arith, subst, sym}, lemmas.Grind.common_steps}
 use Rattle.std.specs.Map.{lookup}
 use Rattle.bq_state.specs.{Crowds.crowds_of, KeptTubes.{KeptTubes, is_alive_at, is_gone_by, is_named_at}, Tallies.tallies_of}
-use Rattle.bq_state.proofs.{GoneLemmas.{AreTallied, filter_records, filter_tallied, if_tallied, one_left}, LossLemmas.all_kept_alive}
-use Rattle.bq_state.proofs.tubes.Tubes.forget_lost.Goals as goal
+use Rattle.bq_state.proofs.{GoneLemmas.{AreTallied, filter_records, filter_tallied, if_tallied, one_left}, MaybeGoneLemmas.all_kept_alive}
+use Rattle.bq_state.proofs.tubes.Tubes.forget_gone.Goals as goal
 
 pub returns-in-Nothing-clause-after : goal.returns-in-Nothing-clause-after
 returns-in-Nothing-clause-after c jobs seats order all e f = grind (arith, common_steps, all_kept_alive)

@@ -5,9 +5,10 @@ use Rattle.std.proofs.Math.Bool.{or-false}
 use Rattle.std.specs.{List.{AllByRecursion as All, list_any}, Prelude.fold}
 use Rattle.bq_job.specs.machine.{SeatRecord, empty_seat, seat_with, watching}
 use Rattle.bq_job.proofs.{KeptLemmas.only_seat, ListLemmas.{all_both, all_of_map, all_weaker}}
-use Rattle.bq_state.specs.declared.{known.first_end.FirstEnd.{FirstEnd, TheVariants.{Known, Unknown}}, seats.SeatChange.SeatChange}
+use Rattle.bq_state.specs.declared.known.first_timeout.FirstTimeout.{FirstTimeout, TheVariants.{Known, Unknown}}
+use Rattle.bq_state.specs.declared.seats.SeatChange.{SeatChange}
 use Rattle.bq_state.specs.{Dues.{earlier_of_both, is_end_over, with_seat_due}, EndingWaits.has_waited}
-use Rattle.bq_state.specs.FirstEnds.{AreTimeouts, IsThere, end_after, gives_up_at, keeps_end}
+use Rattle.bq_state.specs.FirstTimeouts.{AreTimeouts, IsThere, timeout_after, gives_up_at, keeps_timeout}
 use Rattle.bq_state.specs.SeatChanges.{AreNumbered, seat_changed, seat_changed_at}
 use Rattle.bq_state.proofs.{CrowdLemmas.none_changed, PartsLemmas.{all_read, all_set}}
 
@@ -26,49 +27,50 @@ fold_set best (t ∷ seats) zero s new same here = let is : t ≡ s = cc in
 fold_set best (t ∷ seats) (suc i) s new same here = fold_set (earlier_of_both best (gives_up_at t)) seats i s new same here
 
 -- a change that keeps this moment
-pub timeouts_of_seat : (number : ℕ) (what : SeatChange) (first : FirstEnd) (seats : List SeatRecord) → AreNumbered seats
+pub timeouts_of_seat : (number : ℕ) (what : SeatChange) (first : FirstTimeout) (seats : List SeatRecord) → AreNumbered seats
     → AreTimeouts first seats
-    → AreTimeouts (end_after what (seat_with number seats) first) (map (seat_changed_at number what) seats)
+    → AreTimeouts (timeout_after what (seat_with number seats) first) (map (seat_changed_at number what) seats)
 timeouts_of_seat number what first seats numbered known = go (seat_with number seats) refl
   where
-    kept : (s : SeatRecord) → seat_with number seats ≡ Some s → keeps_end what s ≡ true
-        → All (λ t. t.number ≡ number → keeps_end what t ≡ true) seats
+    kept : (s : SeatRecord) → seat_with number seats ≡ Some s → keeps_timeout what s ≡ true
+        → All (λ t. t.number ≡ number → keeps_timeout what t ≡ true) seats
     kept s found h = grind (arith, all_weaker, only_seat 0 (length seats) number seats s numbered found)
 
-    due : (t : SeatRecord) → (t.number ≡ number → keeps_end what t ≡ true) → (b : Bool) → (t.number == number) ≡ b
+    due : (t : SeatRecord) → (t.number ≡ number → keeps_timeout what t ≡ true) → (b : Bool) → (t.number == number) ≡ b
         → gives_up_at (if b then seat_changed what t else t) ≡ gives_up_at t
     due t keeps b e = grind (arith)
 
-    there : (t : SeatRecord) → (t.number ≡ number → keeps_end what t ≡ true) → IsThere t → (b : Bool) → (t.number == number) ≡ b
+    there : (t : SeatRecord) → (t.number ≡ number → keeps_timeout what t ≡ true) → IsThere t → (b : Bool) → (t.number == number) ≡ b
         → IsThere (if b then seat_changed what t else t)
     there t keeps is b e = grind (arith)
 
-    all_kept : (f : FirstEnd) → AreTimeouts f seats → All (λ t. t.number ≡ number → keeps_end what t ≡ true) seats
+    all_kept : (f : FirstTimeout) → AreTimeouts f seats → All (λ t. t.number ≡ number → keeps_timeout what t ≡ true) seats
         → AreTimeouts f (map (seat_changed_at number what) seats)
     all_kept Unknown known keeps = tt
     all_kept (Known at) known keeps = (
       fold_kept (seat_changed_at number what) None seats
-          (all_weaker (λ t. t.number ≡ number → keeps_end what t ≡ true)
+          (all_weaker (λ t. t.number ≡ number → keeps_timeout what t ≡ true)
           (λ t. gives_up_at (seat_changed_at number what t) ≡ gives_up_at t) seats (λ t k. due t k (t.number == number) refl) keeps)
           ∙ known.0,
       all_of_map IsThere (seat_changed_at number what) seats
-          (all_weaker (λ t. (t.number ≡ number → keeps_end what t ≡ true) × IsThere t) (λ t. IsThere (seat_changed_at number what t)) seats
+          (all_weaker (λ t. (t.number ≡ number → keeps_timeout what t ≡ true) × IsThere t)
+          (λ t. IsThere (seat_changed_at number what t)) seats
           (λ t k. there t k.0 k.1 (t.number == number) refl)
-          (all_both (λ t. t.number ≡ number → keeps_end what t ≡ true) IsThere seats keeps known.1)),
+          (all_both (λ t. t.number ≡ number → keeps_timeout what t ≡ true) IsThere seats keeps known.1)),
     )
 
-    at_seat : (s : SeatRecord) → seat_with number seats ≡ Some s → (b : Bool) → keeps_end what s ≡ b
+    at_seat : (s : SeatRecord) → seat_with number seats ≡ Some s → (b : Bool) → keeps_timeout what s ≡ b
         → AreTimeouts (if b then first else Unknown) (map (seat_changed_at number what) seats)
     at_seat s found true e = all_kept first known (kept s found e)
     at_seat s found false e = tt
 
     go : (o : Option SeatRecord) → seat_with number seats ≡ o
-        → AreTimeouts (end_after what o first) (map (seat_changed_at number what) seats)
+        → AreTimeouts (timeout_after what o first) (map (seat_changed_at number what) seats)
     go None e = rw (none_changed number (seat_changed what) seats e) known
-    go (Some s) e = at_seat s e (keeps_end what s) refl
+    go (Some s) e = at_seat s e (keeps_timeout what s) refl
 
 -- a client watches other tubes
-pub timeouts_watching : (names : List (List ℕ)) (i : ℕ) (s : SeatRecord) (first : FirstEnd) (seats : List SeatRecord)
+pub timeouts_watching : (names : List (List ℕ)) (i : ℕ) (s : SeatRecord) (first : FirstTimeout) (seats : List SeatRecord)
     → slice_get seats i ≡ Some s → AreTimeouts first seats → AreTimeouts first (set seats i (watching names s))
 timeouts_watching names i s Unknown seats here known = tt
 timeouts_watching names i s (Known at) seats here known = (

@@ -13,43 +13,44 @@ use Rattle.bq_job.proofs.ChoiceLemmas.{first_of_none, first_of_none_passes}
 use Rattle.bq_job.proofs.ListLemmas.{all_always, all_at, all_from_members, all_of_map, all_weaker}
 use Rattle.bq_job.proofs.ListLemmas.{find_in_filter, found_passes, list_any_not, none_pass}
 use Rattle.bq_jobs.specs.Kept.{with_added}
-use Rattle.bq_state.specs.declared.{known.stir.Stir.{Stir, TheVariants.{Any, Client, Nothing, Tube}}, seats.SeatChange.SeatChange}
+use Rattle.bq_state.specs.declared.{known.wanted.Wanted.{Wanted, TheVariants.{Any, Client, Nothing, Tube}}, seats.SeatChange.SeatChange}
 use Rattle.bq_state.specs.declared.tubes.entry.TubeChange.{TubeChange, TheVariants.{CountDelete, CountPut, Pause as PauseFor}}
 use Rattle.bq_state.specs.{Crowds.is_waiter, SeatChanges.seat_changed_at}
-use Rattle.bq_state.specs.Stirs.{AreKnown, IsKnown, is_nothing, is_paused_by, is_wanted_by}
-use Rattle.bq_state.specs.Stirs.{may_get, stirred_by_change, stirred_by_seat, with_anything, with_stirred}
+use Rattle.bq_state.specs.WantedJobs.{AreKnown, IsKnown, is_nothing, is_paused_by, is_wanted_by}
+use Rattle.bq_state.specs.WantedJobs.{may_get, wanted_after_tube, wanted_after_seat, with_all_wanted, with_wanted}
 use Rattle.bq_state.specs.{TubeEntries.tube_changed}
 use Rattle.bq_state.proofs.{PartsLemmas.{all_added, all_read, all_set}, TubeLemmas.{same_itself, same_name}}
 
 -- a job that a client could receive can still be received
-still_stirred : (name : List ℕ) (stir : Stir) (tube : List ℕ) (seat : ℕ) → may_get stir tube seat ≡ true
-    → may_get (with_stirred name stir) tube seat ≡ true
-still_stirred name Nothing tube seat h = absurd cc
-still_stirred name (Tube stirred) tube seat h = elim (cases_Bool (is_same_name stirred name)) [
-  | inl same ↦ rw same (subst (λ n. is_same_name n tube ≡ true) (same_name stirred name same) h)
+still_wanted : (name : List ℕ) (wanted : Wanted) (tube : List ℕ) (seat : ℕ) → may_get wanted tube seat ≡ true
+    → may_get (with_wanted name wanted) tube seat ≡ true
+still_wanted name Nothing tube seat h = absurd cc
+still_wanted name (Tube wanted_tube) tube seat h = elim (cases_Bool (is_same_name wanted_tube name)) [
+  | inl same ↦ rw same (subst (λ n. is_same_name n tube ≡ true) (same_name wanted_tube name same) h)
   | inr other ↦ rw other refl
 ]
-still_stirred name (Client asker) tube seat h = refl
-still_stirred name Any tube seat h = refl
+still_wanted name (Client waiter) tube seat h = refl
+still_wanted name Any tube seat h = refl
 
 -- what is known about each job and client after a change
-known_then : (stir stir' : Stir) (jobs : List Job) (seats : List SeatRecord) (tubes tubes' : List TubeRecord)
-    → ((j : Job) → Contains jobs j → (s : SeatRecord) → IsKnown stir tubes j s → IsKnown stir' tubes' j s) → AreKnown stir jobs seats tubes
-    → AreKnown stir' jobs seats tubes'
-known_then stir stir' jobs seats tubes tubes' goes known =
-    all_from_members (λ j. All (IsKnown stir' tubes' j) seats) jobs
-    (λ j c. all_weaker (IsKnown stir tubes j) (IsKnown stir' tubes' j) seats (goes j c)
-    (all_at (λ k. All (IsKnown stir tubes k) seats) jobs j known c))
+known_then : (wanted wanted' : Wanted) (jobs : List Job) (seats : List SeatRecord) (tubes tubes' : List TubeRecord)
+    → ((j : Job) → Contains jobs j → (s : SeatRecord) → IsKnown wanted tubes j s → IsKnown wanted' tubes' j s)
+    → AreKnown wanted jobs seats tubes
+    → AreKnown wanted' jobs seats tubes'
+known_then wanted wanted' jobs seats tubes tubes' goes known =
+    all_from_members (λ j. All (IsKnown wanted' tubes' j) seats) jobs
+    (λ j c. all_weaker (IsKnown wanted tubes j) (IsKnown wanted' tubes' j) seats (goes j c)
+    (all_at (λ k. All (IsKnown wanted tubes k) seats) jobs j known c))
 
 pub parts_of : (tubes : List TubeRecord) (j : Job) (s : SeatRecord) → is_wanted_by tubes j s ≡ true
     → (is_waiting s ≡ true) × (is_ready j ≡ true) × (watches j.tube s ≡ true) × (is_paused_by tubes j.tube ≡ false)
 parts_of tubes j s h = grind (arith, common_steps)
 
 -- a tube that stays paused gives no job
-paused_then : (stir stir' : Stir) (tubes tubes' : List TubeRecord) (j : Job) (s : SeatRecord)
-    → (may_get stir j.tube s.number ≡ true → may_get stir' j.tube s.number ≡ true)
-    → (is_paused_by tubes j.tube ≡ true → is_paused_by tubes' j.tube ≡ true) → IsKnown stir tubes j s → IsKnown stir' tubes' j s
-paused_then stir stir' tubes tubes' j s more stays known wanted = grind (arith)
+paused_then : (wanted wanted' : Wanted) (tubes tubes' : List TubeRecord) (j : Job) (s : SeatRecord)
+    → (may_get wanted j.tube s.number ≡ true → may_get wanted' j.tube s.number ≡ true)
+    → (is_paused_by tubes j.tube ≡ true → is_paused_by tubes' j.tube ≡ true) → IsKnown wanted tubes j s → IsKnown wanted' tubes' j s
+paused_then wanted wanted' tubes tubes' j s more stays known is_wanted = grind (arith)
 
 pub known_any : (jobs : List Job) (seats : List SeatRecord) (tubes : List TubeRecord) → AreKnown Any jobs seats tubes
 known_any jobs seats tubes = all_always (λ j. All (IsKnown Any tubes j) seats) jobs
@@ -65,7 +66,7 @@ known_nothing m none =
     (first_of_none (λ j. list_any (is_waiting_for m j) m.seats) is_job_before m.jobs none))
 
 -- there is no next job if no client may receive one
-pub none_known : (stir : Stir) (m : Machine) → is_nothing stir ≡ true → AreKnown stir m.jobs m.seats m.tubes → next_job m ≡ None
+pub none_known : (wanted : Wanted) (m : Machine) → is_nothing wanted ≡ true → AreKnown wanted m.jobs m.seats m.tubes → next_job m ≡ None
 none_known Nothing m e known =
     first_of_none_passes (λ j. list_any (is_waiting_for m j) m.seats) is_job_before m.jobs
     (list_any_not (λ j. list_any (is_waiting_for m j) m.seats) m.jobs
@@ -75,35 +76,37 @@ none_known Nothing m e known =
   where
     go : (b : Bool) → (b ≡ true → false ≡ true) → b ≡ false
     go b k = grind (arith, common_steps)
-none_known (Tube stirred) m e known = absurd cc
-none_known (Client asker) m e known = absurd cc
+none_known (Tube wanted_tube) m e known = absurd cc
+none_known (Client waiter) m e known = absurd cc
 none_known Any m e known = absurd cc
 
 -- a job is added
-pub known_added : (j : Job) (stir : Stir) (jobs : List Job) (seats : List SeatRecord) (tubes : List TubeRecord)
-    → AreKnown stir jobs seats tubes
-    → AreKnown (if is_ready j && list_any (is_waiter j.tube) seats then with_stirred j.tube stir else stir) (with_added j jobs) seats tubes
-known_added j stir jobs seats tubes known = go (is_ready j && list_any (is_waiter j.tube) seats) refl
+pub known_added : (j : Job) (wanted : Wanted) (jobs : List Job) (seats : List SeatRecord) (tubes : List TubeRecord)
+    → AreKnown wanted jobs seats tubes
+    → AreKnown (if is_ready j && list_any (is_waiter j.tube) seats then with_wanted j.tube wanted else wanted)
+    (with_added j jobs) seats tubes
+known_added j wanted jobs seats tubes known = go (is_ready j && list_any (is_waiter j.tube) seats) refl
   where
-    unwanted : (is_ready j && list_any (is_waiter j.tube) seats) ≡ false → (s : SeatRecord) → Contains seats s → IsKnown stir tubes j s
-    unwanted none s c wanted = grind (arith, common_steps)
+    unwanted : (is_ready j && list_any (is_waiter j.tube) seats) ≡ false → (s : SeatRecord) → Contains seats s → IsKnown wanted tubes j s
+    unwanted none s c is_wanted = grind (arith, common_steps)
 
     go : (b : Bool) → (is_ready j && list_any (is_waiter j.tube) seats) ≡ b
-        → AreKnown (if b then with_stirred j.tube stir else stir) (with_added j jobs) seats tubes
-    go true e = grind (arith, all_added, all_always, same_itself, known_then, still_stirred)
-    go false e = all_added (λ k. All (IsKnown stir tubes k) seats) j jobs (all_from_members (IsKnown stir tubes j) seats (unwanted e)) known
+        → AreKnown (if b then with_wanted j.tube wanted else wanted) (with_added j jobs) seats tubes
+    go true e = grind (arith, all_added, all_always, same_itself, known_then, still_wanted)
+    go false e = all_added (λ k. All (IsKnown wanted tubes k) seats) j jobs
+        (all_from_members (IsKnown wanted tubes j) seats (unwanted e)) known
 
 -- a seat is changed
-pub known_of_seat : (number : ℕ) (what : SeatChange) (stir : Stir) (jobs : List Job) (seats : List SeatRecord) (tubes : List TubeRecord)
-    → AreKnown stir jobs seats tubes
-    → AreKnown (stirred_by_seat number what stir) jobs (map (seat_changed_at number what) seats) tubes
-known_of_seat number what stir jobs seats tubes known = grind (arith, all_weaker, all_of_map)
+pub known_of_seat : (number : ℕ) (what : SeatChange) (wanted : Wanted) (jobs : List Job) (seats : List SeatRecord) (tubes : List TubeRecord)
+    → AreKnown wanted jobs seats tubes
+    → AreKnown (wanted_after_seat number what wanted) jobs (map (seat_changed_at number what) seats) tubes
+known_of_seat number what wanted jobs seats tubes known = grind (arith, all_weaker, all_of_map)
 
 -- a client watches other tubes: it may receive any job if it waits
-pub known_watching : (names : List (List ℕ)) (i : ℕ) (s : SeatRecord) (stir : Stir) (jobs : List Job) (seats : List SeatRecord)
-    (tubes : List TubeRecord) → AreKnown stir jobs seats tubes
-    → AreKnown (if is_waiting s then with_anything stir else stir) jobs (set seats i (watching names s)) tubes
-known_watching names i s stir jobs seats tubes known = grind (arith, all_weaker, all_set)
+pub known_watching : (names : List (List ℕ)) (i : ℕ) (s : SeatRecord) (wanted : Wanted) (jobs : List Job) (seats : List SeatRecord)
+    (tubes : List TubeRecord) → AreKnown wanted jobs seats tubes
+    → AreKnown (if is_waiting s then with_all_wanted wanted else wanted) jobs (set seats i (watching names s)) tubes
+known_watching names i s wanted jobs seats tubes known = grind (arith, all_weaker, all_set)
 
 -- a client watches fewer
 any_left : (p q : List ℕ → Bool) (names : List (List ℕ)) → list_any p (filter q names) ≡ true → list_any p names ≡ true
@@ -114,16 +117,16 @@ any_left p q (name ∷ names) h = go (p name) (q name) refl h (any_left p q name
         → (list_any p (filter q names) ≡ true → list_any p names ≡ true) → (b || list_any p names) ≡ true
     go b c e h rest = grind (arith, common_steps)
 
-pub known_ignoring : (q : List ℕ → Bool) (i : ℕ) (s : SeatRecord) (stir : Stir) (jobs : List Job) (seats : List SeatRecord)
-    (tubes : List TubeRecord) → slice_get seats i ≡ Some s → AreKnown stir jobs seats tubes
-    → AreKnown stir jobs (set seats i (watching (filter q s.watched) s)) tubes
-known_ignoring q i s stir jobs seats tubes here known =
-    all_weaker (λ j. All (IsKnown stir tubes j) seats)
-    (λ j. All (IsKnown stir tubes j) (set seats i (watching (filter q s.watched) s))) jobs
-    (λ j all. all_set (IsKnown stir tubes j) seats i (watching (filter q s.watched) s) all
-    (fewer j (all_read (IsKnown stir tubes j) seats i s all here))) known
+pub known_ignoring : (q : List ℕ → Bool) (i : ℕ) (s : SeatRecord) (wanted : Wanted) (jobs : List Job) (seats : List SeatRecord)
+    (tubes : List TubeRecord) → slice_get seats i ≡ Some s → AreKnown wanted jobs seats tubes
+    → AreKnown wanted jobs (set seats i (watching (filter q s.watched) s)) tubes
+known_ignoring q i s wanted jobs seats tubes here known =
+    all_weaker (λ j. All (IsKnown wanted tubes j) seats)
+    (λ j. All (IsKnown wanted tubes j) (set seats i (watching (filter q s.watched) s))) jobs
+    (λ j all. all_set (IsKnown wanted tubes j) seats i (watching (filter q s.watched) s) all
+    (fewer j (all_read (IsKnown wanted tubes j) seats i s all here))) known
   where
-    fewer : (j : Job) → IsKnown stir tubes j s → IsKnown stir tubes j (watching (filter q s.watched) s)
+    fewer : (j : Job) → IsKnown wanted tubes j s → IsKnown wanted tubes j (watching (filter q s.watched) s)
     fewer j k w = grind (arith, any_left)
 
 -- a record whose pause does not end leaves all tubes paused
@@ -172,17 +175,17 @@ other_paused name tube f m keeps other =
     let is : name ≡ tube = same_name name (f (tube_record tube m)).name e ∙ keeps (tube_record tube m) ∙ named tube m in
     absurd (let same : is_same_name tube name ≡ true = ap (is_same_name tube) is ∙ same_itself tube in cc))
 
-pub known_of_change : (tube : List ℕ) (what : TubeChange) (m : Machine) (stir : Stir) → AreKnown stir m.jobs m.seats m.tubes
-    → AreKnown (stirred_by_change tube what stir) m.jobs m.seats (with_tube tube (tube_changed what) m).tubes
-known_of_change tube CountPut m stir known =
-    known_then stir stir m.jobs m.seats m.tubes (with_tube tube with_put m).tubes
-    (λ j c s k. paused_then stir stir m.tubes (with_tube tube with_put m).tubes j s (λ h. h)
+pub known_of_change : (tube : List ℕ) (what : TubeChange) (m : Machine) (wanted : Wanted) → AreKnown wanted m.jobs m.seats m.tubes
+    → AreKnown (wanted_after_tube tube what wanted) m.jobs m.seats (with_tube tube (tube_changed what) m).tubes
+known_of_change tube CountPut m wanted known =
+    known_then wanted wanted m.jobs m.seats m.tubes (with_tube tube with_put m).tubes
+    (λ j c s k. paused_then wanted wanted m.tubes (with_tube tube with_put m).tubes j s (λ h. h)
     (pauses_kept tube with_put m (λ t. refl) (λ p. p) j.tube) k) known
-known_of_change tube CountDelete m stir known =
-    known_then stir stir m.jobs m.seats m.tubes (with_tube tube with_delete m).tubes
-    (λ j c s k. paused_then stir stir m.tubes (with_tube tube with_delete m).tubes j s (λ h. h)
+known_of_change tube CountDelete m wanted known =
+    known_then wanted wanted m.jobs m.seats m.tubes (with_tube tube with_delete m).tubes
+    (λ j c s k. paused_then wanted wanted m.tubes (with_tube tube with_delete m).tubes j s (λ h. h)
     (pauses_kept tube with_delete m (λ t. refl) (λ p. p) j.tube) k) known
-known_of_change tube (PauseFor seconds moment) m stir known = go (seconds == 0) refl
+known_of_change tube (PauseFor seconds moment) m wanted known = go (seconds == 0) refl
   where
     after : List TubeRecord
     after = (with_tube tube (with_pause seconds moment) m).tubes
@@ -190,29 +193,30 @@ known_of_change tube (PauseFor seconds moment) m stir known = go (seconds == 0) 
     stays : (b : Bool) (pause : Pause) → b ≡ false → is_some (if b then None else Some pause) ≡ true
     stays b pause e = grind (arith, common_steps)
 
-    one : (j : Job) (s : SeatRecord) → IsKnown stir m.tubes j s → IsKnown (with_stirred tube stir) after j s
+    one : (j : Job) (s : SeatRecord) → IsKnown wanted m.tubes j s → IsKnown (with_wanted tube wanted) after j s
     one j s k = elim (cases_Bool (is_same_name tube j.tube)) [
-      | inl same ↦ λ w. subst (λ n. may_get (with_stirred tube stir) n s.number ≡ true) (same_name tube j.tube same)
+      | inl same ↦ λ w. subst (λ n. may_get (with_wanted tube wanted) n s.number ≡ true) (same_name tube j.tube same)
           (grind (arith, same_itself))
-      | inr other ↦ paused_then stir (with_stirred tube stir) m.tubes after j s (still_stirred tube stir j.tube s.number)
+      | inr other ↦ paused_then wanted (with_wanted tube wanted) m.tubes after j s (still_wanted tube wanted j.tube s.number)
           (other_paused j.tube tube (with_pause seconds moment) m (λ t. refl) other) k
     ]
 
-    go : (b : Bool) → (seconds == 0) ≡ b → AreKnown (if b then with_stirred tube stir else stir) m.jobs m.seats after
-    go true e = known_then stir (with_stirred tube stir) m.jobs m.seats m.tubes after (λ j c s k. one j s k) known
+    go : (b : Bool) → (seconds == 0) ≡ b → AreKnown (if b then with_wanted tube wanted else wanted) m.jobs m.seats after
+    go true e = known_then wanted (with_wanted tube wanted) m.jobs m.seats m.tubes after (λ j c s k. one j s k) known
     go false e =
-        known_then stir stir m.jobs m.seats m.tubes after
-        (λ j c s k. paused_then stir stir m.tubes after j s (λ h. h)
+        known_then wanted wanted m.jobs m.seats m.tubes after
+        (λ j c s k. paused_then wanted wanted m.tubes after j s (λ h. h)
         (pauses_kept tube (with_pause seconds moment) m (λ t. refl)
         (λ p. stays (seconds == 0) (record { seconds = seconds; until = later moment seconds }) e) j.tube) k) known
 
 -- an entry that is dropped belongs to no tube with a job
-pub known_forgotten : (m : Machine) (stir : Stir) → AreKnown stir m.jobs m.seats m.tubes → AreKnown stir m.jobs m.seats (forgetting m).tubes
-known_forgotten m stir known =
-    known_then stir stir m.jobs m.seats m.tubes (forgetting m).tubes
+pub known_forgotten : (m : Machine) (wanted : Wanted) → AreKnown wanted m.jobs m.seats m.tubes
+    → AreKnown wanted m.jobs m.seats (forgetting m).tubes
+known_forgotten m wanted known =
+    known_then wanted wanted m.jobs m.seats m.tubes (forgetting m).tubes
     (λ j c s k. subst (λ (p : Option TubeRecord).
     (is_waiting s && (is_ready j && watches j.tube s && not (is_some (unwrap_or p (fresh_tube j.tube)).pause))) ≡ true
-    → may_get stir j.tube s.number ≡ true)
+    → may_get wanted j.tube s.number ≡ true)
     (sym (find_in_filter (λ t. is_same_name j.tube t.name) (λ t. is_tube t.name m) m.tubes
     (all_always (λ t. is_same_name j.tube t.name ≡ true → is_tube t.name m ≡ true) m.tubes (λ t e. stays j c t e)))) k) known
   where

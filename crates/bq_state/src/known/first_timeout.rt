@@ -2,7 +2,7 @@
 ghost use Rattle.std.specs.Option.{option_copied};
 ghost use Rattle.std.specs.Prelude.{◌≡◌, None, fold};
 ghost use Rattle.bq_state.specs.Dues.{with_seat_due};
-ghost use Rattle.bq_state.specs.FirstEnds.{AreTimeouts, end_after, keeps_end};
+ghost use Rattle.bq_state.specs.FirstTimeouts.{AreTimeouts, timeout_after, keeps_timeout};
 ghost use Rattle.bq_state.specs.SeatChanges.{AreNumbered};
 ghost use Rattle.bq_state.specs.WaitingTurns.{at_turn, turns_of};
 
@@ -12,7 +12,7 @@ use bq_job::Moment;
 
 /// When the first wait times out.
 #[derive(Clone, Copy)]
-pub enum FirstEnd {
+pub enum FirstTimeout {
     /// At this moment, if ever; and every waiting client can still send.
     Known(Option<Moment>),
     /// It has to be searched.
@@ -21,7 +21,7 @@ pub enum FirstEnd {
 
 // Returns true if a change of a seat keeps it.
 fn keeps(client: &SeatRecord, what: &SeatChange) -> bool
-    ensures { result ≡ keeps_end what.now client.now }
+    ensures { result ≡ keeps_timeout what.now client.now }
 {
     match what {
         SeatChange::StopWaiting | SeatChange::Connect | SeatChange::Clear => {
@@ -35,30 +35,30 @@ fn keeps(client: &SeatRecord, what: &SeatChange) -> bool
     }
 }
 
-impl FirstEnd {
+impl FirstTimeout {
     /// What is known after a change of a seat; `client` is its record before.
     pub(crate) fn change(&mut self, client: Option<&SeatRecord>, what: &SeatChange)
-        ensures { self.new ≡ end_after what.now (option_copied client.entry) self.old }
+        ensures { self.new ≡ timeout_after what.now (option_copied client.entry) self.old }
     {
         let Some(client) = client else {
             return;
         };
         if !keeps(client, what) {
-            *self = FirstEnd::Unknown;
+            *self = FirstTimeout::Unknown;
         }
     }
 
     /// Finds it. Only waiting clients are checked.
     #[tactic(auto, using(crate::proofs::DueLemmas::all_there))]
-    pub(crate) fn find(seats: &[SeatRecord], turns: &[Turn]) -> FirstEnd
+    pub(crate) fn find(seats: &[SeatRecord], turns: &[Turn]) -> FirstTimeout
         requires numbered { AreNumbered seats.now }
         requires turns { turns.now ≡ turns_of seats.now }
         ensures { AreTimeouts result seats.now }
     {
         if seats::is_some_waiter_gone(seats, turns) {
-            FirstEnd::Unknown
+            FirstTimeout::Unknown
         } else {
-            FirstEnd::Known(first_to_give_up(seats, turns))
+            FirstTimeout::Known(first_to_give_up(seats, turns))
         }
     }
 }
@@ -74,7 +74,7 @@ fn with_end_of(best: Option<Moment>, seats: &[SeatRecord], turn: Turn) -> Option
 }
 
 // Returns when the first wait of the clients with these turns times out.
-fn first_end_among(seats: &[SeatRecord], turns: &[Turn]) -> Option<Moment>
+fn first_timeout_among(seats: &[SeatRecord], turns: &[Turn]) -> Option<Moment>
     ensures { result ≡ fold (at_turn with_seat_due seats.now) None turns.now }
 {
     turns
@@ -89,5 +89,5 @@ pub fn first_to_give_up(seats: &[SeatRecord], turns: &[Turn]) -> Option<Moment>
     requires turns { turns.now ≡ turns_of seats.now }
     ensures { result ≡ fold with_seat_due None seats.now }
 {
-    first_end_among(seats, turns)
+    first_timeout_among(seats, turns)
 }

@@ -2,7 +2,7 @@
 use Rattle.std.specs.{List.AllByRecursion}
 use Rattle.std.specs.Prelude.{◌&&◌, ◌≡◌, if◌then◌else◌, Bool, List, None, Option, Some, ℕ, false, fold, is_some, not, true}
 use Rattle.bq_job.specs.{beside.{dues_of_wait, earliest}, machine.{SeatRecord, is_waiting}}
-use Rattle.bq_state.specs.declared.known.first_end.FirstEnd.{FirstEnd, TheVariants.{Known, Unknown}}
+use Rattle.bq_state.specs.declared.known.first_timeout.FirstTimeout.{FirstTimeout, TheVariants.{Known, Unknown}}
 use Rattle.bq_state.specs.declared.seats.SeatChange.{SeatChange, TheVariants.{Clear, Connect, End, StopWaiting, Use, Wait}}
 use Rattle.bq_state.specs.Dues.{with_seat_due}
 
@@ -18,20 +18,20 @@ abbrev pub IsThere : SeatRecord → Type 0
 IsThere s = is_gone_in_wait s ≡ false
 
 -- What is known of the first end is true.
-abbrev pub AreTimeouts : FirstEnd → List SeatRecord → Type 0
+abbrev pub AreTimeouts : FirstTimeout → List SeatRecord → Type 0
 AreTimeouts Unknown seats = Unit {0}
 AreTimeouts (Known first) seats = (fold with_seat_due None seats ≡ first) × AllByRecursion IsThere seats
 
 -- the change does not affect when the client's wait times out
-abbrev pub keeps_end : SeatChange → SeatRecord → Bool
-keeps_end StopWaiting s = not (is_some (gives_up_at s))
-keeps_end (Wait ticket until) s = not (is_some until) && not (is_some (gives_up_at s)) && not s.ended
-keeps_end Connect s = not (is_some (gives_up_at s))
-keeps_end Clear s = not (is_some (gives_up_at s))
-keeps_end End s = not (is_waiting s)
-keeps_end (Use tube) s = true
+abbrev pub keeps_timeout : SeatChange → SeatRecord → Bool
+keeps_timeout StopWaiting s = not (is_some (gives_up_at s))
+keeps_timeout (Wait ticket until) s = not (is_some until) && not (is_some (gives_up_at s)) && not s.ended
+keeps_timeout Connect s = not (is_some (gives_up_at s))
+keeps_timeout Clear s = not (is_some (gives_up_at s))
+keeps_timeout End s = not (is_waiting s)
+keeps_timeout (Use tube) s = true
 
 -- what is known after a change of a seat, if there is one
-abbrev pub end_after : SeatChange → Option SeatRecord → FirstEnd → FirstEnd
-end_after what None first = first
-end_after what (Some s) first = if keeps_end what s then first else Unknown
+abbrev pub timeout_after : SeatChange → Option SeatRecord → FirstTimeout → FirstTimeout
+timeout_after what None first = first
+timeout_after what (Some s) first = if keeps_timeout what s then first else Unknown

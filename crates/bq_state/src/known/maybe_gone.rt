@@ -1,0 +1,108 @@
+//! Which entries may be of tubes that have gone.
+ghost use Rattle.std.specs.Option.{option_copied};
+ghost use Rattle.std.specs.Prelude.{◌≡◌, [], if◌then◌else◌, ◌∷◌};
+ghost use Rattle.bq_state.specs.Leaving.{exists_in, gone_of, gone_all, gone_if, gone_unless};
+ghost use Rattle.bq_state.specs.MaybeGoneTubes.{with_gone, with_existing};
+
+use crate::seats::SeatRecord;
+use crate::tubes::{Share, Tubes};
+use bq_job::TubeName;
+
+/// Which tubes may have gone while their entries are still kept. Only these are checked when
+/// entries are dropped.
+#[derive(Clone, Copy)]
+pub enum MaybeGone {
+    /// None: each entry is of a tube that exists.
+    Nothing,
+    /// At most this tube, which a job, a user or a watcher left, or whose entry is new.
+    Of(TubeName),
+    /// Any tube.
+    Any,
+}
+
+impl MaybeGone {
+    /// This tube may have gone too.
+    pub(crate) fn add(&mut self, name: &TubeName)
+        ensures { self.new ≡ with_gone name.now self.old }
+    {
+        *self = match &*self {
+            MaybeGone::Nothing => MaybeGone::Of(*name),
+            MaybeGone::Of(gone) => if gone == name {
+                MaybeGone::Of(*name)
+            } else {
+                MaybeGone::Any
+            },
+            MaybeGone::Any => MaybeGone::Any,
+        };
+    }
+
+    /// This tube may have gone too, if `may_be_gone`.
+    pub(crate) fn add_if(&mut self, name: &TubeName, may_be_gone: bool)
+        ensures { self.new ≡ (if may_be_gone then with_gone name.now self.old else self.old) }
+    {
+        if may_be_gone {
+            self.add(name);
+        }
+    }
+
+    /// This tube exists.
+    pub(crate) fn remove(&mut self, name: &TubeName)
+        ensures { self.new ≡ with_existing name.now self.old }
+    {
+        let is_removed = match &*self {
+            MaybeGone::Nothing => false,
+            MaybeGone::Of(gone) => gone == name,
+            MaybeGone::Any => false,
+        };
+        if is_removed {
+            *self = MaybeGone::Nothing;
+        }
+    }
+
+    // The tube with this name may have gone, unless its counts show that it exists.
+    fn add_unless_there(&mut self, tubes: &Tubes, name: &TubeName)
+        ensures { self.new ≡ gone_unless (exists_in tubes.now name.now) name.now self.old }
+    {
+        if !tubes.is_tube(name) {
+            self.add(name);
+        }
+    }
+
+    // Does the same for each of these tubes.
+    fn add_all(&mut self, tubes: &Tubes, names: &[TubeName])
+        ensures { self.new ≡ gone_all tubes.now names.now self.old }
+    {
+        *self = names.iter().fold(*self, |mut gone, name| {
+            gone.add_unless_there(tubes, name);
+            gone
+        });
+    }
+
+    fn add_used(&mut self, tubes: &Tubes, name: &TubeName, is_left: bool)
+        ensures { self.new ≡ gone_if is_left tubes.now (name.now ∷ []) self.old }
+    {
+        if is_left {
+            self.add_unless_there(tubes, name);
+        }
+    }
+
+    fn add_watched(&mut self, tubes: &Tubes, names: &[TubeName], is_left: bool)
+        ensures { self.new ≡ gone_if is_left tubes.now names.now self.old }
+    {
+        if is_left {
+            self.add_all(tubes, names);
+        }
+    }
+
+    /// Of the tubes that a seat uses and watches, if `what` affects either, those may have gone whose
+    /// counts, which no longer include the seat, do not show that they exist.
+    pub(crate) fn leave(&mut self, tubes: &Tubes, client: Option<&SeatRecord>, what: Share)
+        ensures { self.new ≡ gone_of what tubes.now (option_copied client.entry) self.old }
+    {
+        let Some(client) = client else {
+            return;
+        };
+        self.add_used(tubes, client.used(), what.using);
+        self.add_watched(tubes, client.watched(), what.watching);
+    }
+}

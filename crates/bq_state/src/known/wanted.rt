@@ -1,0 +1,97 @@
+//! Which jobs waiting clients may have, as far as it is known without a search.
+ghost use Rattle.std.specs.Prelude.{◌≡◌, if◌then◌else◌};
+ghost use Rattle.bq_state.specs.WantedJobs.{is_nothing, wanted_after_tube, wanted_after_seat};
+ghost use Rattle.bq_state.specs.WantedJobs.{with_all_wanted, with_waiter, with_wanted};
+
+use crate::seats::SeatChange;
+use crate::tubes::TubeChange;
+use bq_job::{Seat, TubeName};
+
+/// Which jobs waiting clients may have. Only these are searched when jobs are handed out. A tube
+/// for whose jobs no client waits does not count.
+#[derive(Clone, Copy)]
+pub enum Wanted {
+    /// None.
+    Nothing,
+    /// At most those of this tube.
+    Tube(TubeName),
+    /// At most those that the client at this seat may have.
+    Client(Seat),
+    /// Any.
+    Any,
+}
+
+impl Wanted {
+    /// Returns true if no client may have a job.
+    pub fn is_nothing(&self) -> bool
+        ensures { result ≡ is_nothing self.now }
+    {
+        match self {
+            Wanted::Nothing => true,
+            _ => false,
+        }
+    }
+
+    // The jobs of this tube may be had too.
+    fn add_tube(&mut self, name: &TubeName)
+        ensures { self.new ≡ with_wanted name.now self.old }
+    {
+        *self = match &*self {
+            Wanted::Nothing => Wanted::Tube(*name),
+            Wanted::Tube(wanted_tube) => if wanted_tube == name {
+                Wanted::Tube(*name)
+            } else {
+                Wanted::Any
+            },
+            Wanted::Client(_) | Wanted::Any => Wanted::Any,
+        };
+    }
+
+    // The jobs for which the client at this seat waits may be had too.
+    fn add_client(&mut self, seat: Seat)
+        ensures { self.new ≡ with_waiter seat self.old }
+    {
+        *self = match &*self {
+            Wanted::Nothing => Wanted::Client(seat),
+            _ => Wanted::Any,
+        };
+    }
+
+    /// The jobs of this tube may be had too, if `is_wanted`.
+    pub(crate) fn add_tube_if(&mut self, name: &TubeName, is_wanted: bool)
+        ensures { self.new ≡ (if is_wanted then with_wanted name.now self.old else self.old) }
+    {
+        if is_wanted {
+            self.add_tube(name);
+        }
+    }
+
+    /// Any job may be had, if `is_wanted`.
+    pub(crate) fn add_all_if(&mut self, is_wanted: bool)
+        ensures { self.new ≡ (if is_wanted then with_all_wanted self.old else self.old) }
+    {
+        if is_wanted {
+            *self = Wanted::Any;
+        }
+    }
+
+    /// What may be had after a change of a seat.
+    pub(crate) fn change_seat(&mut self, seat: Seat, what: &SeatChange)
+        ensures { self.new ≡ wanted_after_seat seat what.now self.old }
+    {
+        match what {
+            SeatChange::Wait(_, _) => self.add_client(seat),
+            _ => {}
+        }
+    }
+
+    /// What may be had after a change of a tube: if its pause ends, its jobs too.
+    pub(crate) fn change_tube(&mut self, name: &TubeName, what: TubeChange)
+        ensures { self.new ≡ wanted_after_tube name.now what self.old }
+    {
+        match what {
+            TubeChange::Pause(seconds, _) => self.add_tube_if(name, seconds == 0),
+            _ => {}
+        }
+    }
+}
