@@ -1,7 +1,6 @@
 -- A reserve that is given a job at once has the result of its wait and of one turn of dispatch.
 use Rattle.std.proofs.Common.{◌&&◌, ◌+◌, ◌++◌, ◌-◌, ◌==◌, ◌*◌, ◌∙◌, ◌∷◌, ◌≡◌, ◌≤◌, if◌then◌else◌, Bool, List, None, Option, Some}
-use Rattle.std.proofs.Common.{[], ℕ, ap, arith, false, inl, inr, is_some, length, map, max, not, refl, subst, sym, true}
-use Rattle.std.proofs.Math.Nat.{add-mul}
+use Rattle.std.proofs.{Common.{[], ℕ, ap, arith, false, inl, inr, is_some, length, map, max, not, refl, subst, sym, true}, Math.Nat.add-mul}
 use Rattle.std.proofs.lemmas.{Bool.{and_parts, cases_Bool, eqb-true}, List.length-append, Nat.mul-le}
 use Rattle.std.specs.{List.{AllByRecursion as All, list_any}, Prelude.{Ok, fold, option_map}}
 use Rattle.bq_job.specs.declared.{job.Job.Job, step.Step.Step}
@@ -21,10 +20,9 @@ use Rattle.bq_state.specs.{Offers.{next_rank, with_offer}, SeatChanges.AreNumber
 use Rattle.bq_state.proofs.{PartsLemmas.numbered_after, WantedLemmas.{known_nothing, known_of_seat, none_known}, TubeLemmas.paused_is}
 use Rattle.bq_core.specs.{AtOnce.{ActsOrGives, is_reserve, waiting_at}, Serving.NoneIsGone, Turns.Gives}
 use Rattle.bq_core.proofs.{ActLemmas.{acts_silent, number_found}, AskLemmas.{asks_more, search_grows}, CostLemmas.given_length}
-use Rattle.bq_core.proofs.DispatchLemmas.{id_of_best, next_is, next_offer, next_there}
+use Rattle.bq_core.proofs.{DispatchLemmas.{id_of_best, next_is, next_offer, next_there}, TurnLemmas.{shared_given, turn_given}}
 use Rattle.bq_core.proofs.DispatchLemmas.{seat_at_tube, some_at_tube, taker_known, takers_known}
 use Rattle.bq_core.proofs.{SearchLemmas.{client_entries, client_waits, rank_agrees}, StepLemmas.waiting_alike}
-use Rattle.bq_core.proofs.TurnLemmas.{shared_given, turn_given}
 
 -- what a reserve does
 record Reserves (m : Machine) (seat : ℕ) (what : Step) : Type 0 where

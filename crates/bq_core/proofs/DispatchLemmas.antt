@@ -4,20 +4,17 @@ use Rattle.std.proofs.Common.{[], ℕ, ap, arith, false, inl, inr, not, refl, su
 use Rattle.std.proofs.lemmas.Bool.{cases_Bool, eqb-true, or_cases, or_left, or_right, Decides.nat_tests}
 use Rattle.std.proofs.{lemmas.Grind.common_steps, Math.Bool.or_assoc}
 use Rattle.std.specs.{List.{AllByRecursion as All, Contains, list_any}, Prelude.{fold, is_some, option_map}}
-use Rattle.bq_job.specs.{beside.AreIdsWithin}
+use Rattle.bq_job.specs.{beside.AreIdsWithin, declared.job.Job.Job, reading.TubeName.is_same_name}
 use Rattle.bq_job.specs.machine.{SeatRecord, TubeRecord, first_of, is_job_before, is_paused, is_ready, is_ready_in, is_wait_before}
 use Rattle.bq_job.specs.machine.{is_waiting, is_waiting_for, job_with, may_have, next_job, next_seat, Machine.Machine}
-use Rattle.bq_job.specs.{declared.job.Job.Job, reading.TubeName.is_same_name}
 use Rattle.bq_job.proofs.ChoiceLemmas.{first_of_agrees, first_of_contains, first_of_is, first_of_is_least, first_of_is_some}
 use Rattle.bq_job.proofs.ChoiceLemmas.{first_of_none, first_of_none_passes, first_of_passes, first_of_some, pair_order}
-use Rattle.bq_job.proofs.{ComputedLemmas.next_has_seat}
-use Rattle.bq_job.proofs.ListLemmas.{all_always, all_at, all_weaker, list_any_not, none_pass}
+use Rattle.bq_job.proofs.{ComputedLemmas.next_has_seat, ListLemmas.{all_always, all_at, all_weaker, list_any_not, none_pass}}
 use Rattle.bq_job.proofs.WatchedLemmas.{same_other}
 use Rattle.bq_jobs.specs.Kept.{ranked}
 use Rattle.bq_jobs.proofs.Changes.{all_found}
-use Rattle.bq_state.specs.declared.known.wanted.Wanted.{Wanted, TheVariants.Client}
+use Rattle.bq_state.specs.{declared.known.wanted.Wanted.{Wanted, TheVariants.Client}, WantedJobs.{AreKnown, may_get}}
 use Rattle.bq_state.specs.Offers.{better_rank, is_paused_among, offered, waits_at, with_offer, with_offers}
-use Rattle.bq_state.specs.WantedJobs.{AreKnown, may_get}
 use Rattle.bq_state.proofs.TubeLemmas.{same_itself, same_name}
 use Rattle.bq_core.proofs.FiredTimerLemmas.{chosen}
 

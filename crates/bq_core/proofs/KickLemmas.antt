@@ -3,15 +3,13 @@ use Rattle.std.proofs.Common.{◌&&◌, ◌+◌, ◌<◌, ◌==◌, ◌∙◌, �
 use Rattle.std.proofs.Common.{ap, arith, eq-eqb, false, filter, inl, inr, length, map, not, refl, suc, sym, take, true}
 use Rattle.std.proofs.lemmas.{Bool.{and_from, cases_Bool, eqb-true, ne_eqb, Decides.nat_tests}, Grind.common_steps}
 use Rattle.std.specs.{List.{AllByRecursion as All, Contains, list_any}, Prelude.option_map}
-use Rattle.bq_job.specs.declared.job.Job.{Job}
-use Rattle.bq_job.specs.{beside.AreIdsWithin}
+use Rattle.bq_job.specs.{declared.job.Job.Job, beside.AreIdsWithin}
 use Rattle.bq_job.specs.machine.{first_of, in_order, is_buried_before, is_buried_in, job_with, kickable, kicked, kicked_first, put_in_order}
 use Rattle.bq_job.proofs.ChoiceLemmas.{first_of_contains, first_of_is_least, first_of_is_some, first_of_none, first_of_passes, pair_order}
 use Rattle.bq_job.proofs.{KeptLemmas.ids_of_filter, ListLemmas.{all_at, all_from_members, list_any_with}}
 use Rattle.bq_job.proofs.{BecomeLemmas.{all_in_order, all_of_take}, ChoiceLemmas.pair_other}
 use Rattle.bq_jobs.proofs.Changes.{all_found, others_above}
-use Rattle.bq_state.specs.declared.job_store.JobKind.{JobKind, TheVariants.{Buried, Delayed}}
-use Rattle.bq_state.specs.JobKinds.{is_before_of, is_of, rank_of}
+use Rattle.bq_state.specs.{declared.job_store.JobKind.{JobKind, TheVariants.{Buried, Delayed}}, JobKinds.{is_before_of, is_of, rank_of}}
 use Rattle.bq_state.proofs.TubeLemmas.{some_left}
 use Rattle.bq_core.specs.Kicking.{KicksFirst, all_kicked, jobs_of}
 use Rattle.bq_core.proofs.ActLemmas.{none_left}

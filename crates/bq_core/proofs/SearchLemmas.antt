@@ -1,20 +1,16 @@
 -- The next job, if it is known which jobs may be had.
-use Rattle.std.proofs.Common.{◌&&◌, ◌==◌, ◌||◌, ◌∙◌, ◌∷◌, ◌≡◌, ◌≤◌, Bool, List, None, Option, Some}
+use Rattle.std.proofs.{Common.{◌&&◌, ◌==◌, ◌||◌, ◌∙◌, ◌∷◌, ◌≡◌, ◌≤◌, Bool, List, None, Option, Some}, lemmas.List.Sums.sum_by-cons}
 use Rattle.std.proofs.Common.{[], ℕ, ap, arith, false, length, not, refl, subst, sym, true}
 use Rattle.std.proofs.lemmas.{Bool.{and_parts, cases_Bool, eqb-true, or_cases, Decides.nat_tests}, Grind.common_steps}
-use Rattle.std.proofs.lemmas.List.Sums.{sum_by-cons}
 use Rattle.std.specs.{List.{AllByRecursion as All, Contains, list_any, sum_by}, Prelude.option_map}
-use Rattle.bq_job.specs.declared.job.Job.{Job}
-use Rattle.bq_job.specs.machine.{SeatRecord, first_of, is_job_before, is_paused, is_ready, is_ready_in}
-use Rattle.bq_job.specs.machine.{is_waiting, is_waiting_for, seat_with, watches, Machine.Machine}
-use Rattle.bq_job.specs.{reading.TubeName.is_same_name}
+use Rattle.bq_job.specs.{declared.job.Job.Job, machine.{SeatRecord, first_of, is_job_before, is_paused, is_ready, is_ready_in}}
+use Rattle.bq_job.specs.{machine.{is_waiting, is_waiting_for, seat_with, watches, Machine.Machine}, reading.TubeName.is_same_name}
 use Rattle.bq_job.proofs.{ChoiceLemmas.first_of_agrees, KeptLemmas.only_seat}
 use Rattle.bq_job.proofs.ListLemmas.{all_at, all_from_members, all_weaker, contains_head}
 use Rattle.bq_job.proofs.ListLemmas.{contains_tail, found_passes, list_any_not, list_any_with}
 use Rattle.bq_jobs.specs.Kept.{ranked}
-use Rattle.bq_state.specs.declared.known.wanted.Wanted.TheVariants.{Client, Tube}
+use Rattle.bq_state.specs.{declared.known.wanted.Wanted.TheVariants.{Client, Tube}, SeatChanges.AreNumbered, WantedJobs.{AreKnown, IsKnown}}
 use Rattle.bq_state.specs.{Cost.waited_tubes, Crowds.is_waiter, Offers.{next_rank, these}}
-use Rattle.bq_state.specs.{SeatChanges.AreNumbered, WantedJobs.{AreKnown, IsKnown}}
 use Rattle.bq_state.proofs.{WantedLemmas.parts_of, TubeLemmas.same_name, WarningLemmas.none_found}
 
 -- the next job is the first of those that pass, if these are the ones for which a client waits

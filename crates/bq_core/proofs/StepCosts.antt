@@ -3,8 +3,7 @@ use Rattle.std.proofs.Common.{◌*◌, ◌+◌, ◌∙◌, ◌≡◌, ◌≤◌,
 use Rattle.std.proofs.{lemmas.Nat.mul-le, Math.Nat.add-mul}
 use Rattle.std.proofs.lemmas.{Grind.common_steps, List.length-append}
 use Rattle.std.specs.List.{sum_by}
-use Rattle.bq_job.specs.declared.step.Step.{Step}
-use Rattle.bq_job.specs.{beside.waiting_count}
+use Rattle.bq_job.specs.{declared.step.Step.Step, beside.waiting_count}
 use Rattle.bq_job.specs.machine.{DispatchTurn, GivenAnswer, SeatRecord, Serves, WaitEndTurn, has_refused_share}
 use Rattle.bq_job.specs.machine.{is_waiting, next_end, next_job, without_wait, Machine.Machine}
 use Rattle.bq_job.proofs.LawfulLemmas.{leaves_acted}
@@ -13,9 +12,8 @@ use Rattle.bq_jobs.specs.Kept.{Kept}
 use Rattle.bq_state.specs.declared.core_parts.CoreParts.{CoreParts}
 use Rattle.bq_state.specs.{Asking.{Asks, AsksByTurn, AsksWithin, search_among}, CoreParts.machine_of, Cost.{waited, waited_tubes}}
 use Rattle.bq_core.specs.{AtOnce.kept_at, Serving.{NoneIsGone, ServesAsking, ServesInto}, Turns.{Gives, none_refused}}
-use Rattle.bq_core.proofs.AskLemmas.{asks_more, asks_then, search_grows}
+use Rattle.bq_core.proofs.{AskLemmas.{asks_more, asks_then, search_grows}, StepLemmas.{Begun, keeps, serves_after, serves_into, whole_step}}
 use Rattle.bq_core.proofs.CostLemmas.{ended_stop, entries_less, given_length, handed_stop, waited_less}
-use Rattle.bq_core.proofs.StepLemmas.{Begun, keeps, serves_after, serves_into, whole_step}
 use Rattle.bq_core.proofs.WatchLemmas.{acted_few, waited_few, waiting_few}
 
 -- dispatch and the ends of waits, one after the other

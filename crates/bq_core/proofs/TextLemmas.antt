@@ -1,7 +1,6 @@
 -- Texts that are made.
-use Rattle.std.proofs.Common.{◌++◌, ◌∙◌, ◌∷◌, ◌≡◌, Bor, Err, IfOk, List, Ok, Result, Some}
+use Rattle.std.proofs.{Common.{◌++◌, ◌∙◌, ◌∷◌, ◌≡◌, Bor, Err, IfOk, List, Ok, Result, Some}, lemmas.Grind.common_steps}
 use Rattle.std.proofs.Common.{[], ℕ, ap, arith, codes, decimal, flat_map, option_map, refl, sym, true}
-use Rattle.std.proofs.{lemmas.Grind.common_steps}
 use Rattle.bq_job.specs.declared.{fault.NoMemory.NoMemory, job.Job.Job}
 use Rattle.bq_job.specs.{beside.is_in_order, machine.{job_with, name_list}, texts.Yaml.{KeyValue, key_number, name_line}}
 use Rattle.bq_job.proofs.NameOrderLemmas.{stays_fold}

@@ -1,8 +1,7 @@
 -- The ends of waits, one waiting client after another in the order of their turns.
-use Rattle.std.proofs.Common.{◌&&◌, ◌<◌, ◌==◌, ◌||◌, ◌∙◌, ◌∷◌, ◌≡◌, ◌≤◌, if◌then◌else◌, Bool, List, None, Option, Some}
+use Rattle.std.proofs.Common.{◌&&◌, ◌<◌, ◌==◌, ◌||◌, ◌∙◌, ◌∷◌, ◌≡◌, ◌≤◌, if◌then◌else◌, Bool, List, None, Option, Some, map-id}
 use Rattle.std.proofs.Common.{[], ℕ, arith, false, inl, inr, length, map, not, refl, slice_get, subst, sym, true}
 use Rattle.std.proofs.lemmas.{Bool.{and_parts, cases_Bool, eq-eqb, eqb-true, Decides.nat_tests}, Grind.common_steps}
-use Rattle.std.proofs.Common.{map-id}
 use Rattle.std.specs.{List.{AllByRecursion as All, Contains, list_any}, Prelude.count_by}
 use Rattle.bq_job.specs.machine.{SeatRecord, WaitEndTurn, end_of_wait, ends_waiting, first_of, is_deadline_soon, is_pair_before}
 use Rattle.bq_job.specs.machine.{is_timed_out, is_wait_before, is_waiting, next_end, ticket_of, with_seat, without_wait, Machine.Machine}
@@ -10,10 +9,9 @@ use Rattle.bq_job.specs.{beside.waiting_count, declared.answer.Answer.Answer}
 use Rattle.bq_job.specs.declared.answer.Answer.TheVariants as answers
 use Rattle.bq_job.proofs.ChoiceLemmas.{first_of_contains, first_of_is, first_of_is_least, first_of_none}
 use Rattle.bq_job.proofs.ChoiceLemmas.{first_of_none_passes, first_of_passes, pair_order}
-use Rattle.bq_job.proofs.{ComputedLemmas.waiting_falls, KeptLemmas.only_seat}
+use Rattle.bq_job.proofs.{ComputedLemmas.waiting_falls, KeptLemmas.only_seat, ChoiceLemmas.pair_other, ListLemmas.one_or_none}
 use Rattle.bq_job.proofs.ListLemmas.{all_always, all_at, all_from_members, all_of_map, count_cons}
 use Rattle.bq_job.proofs.ListLemmas.{found_passes, list_any_not, list_any_with, none_pass}
-use Rattle.bq_job.proofs.{ChoiceLemmas.pair_other, ListLemmas.one_or_none}
 use Rattle.bq_steps.specs.Outbox.{Outbox}
 use Rattle.bq_state.specs.declared.core_parts.CoreParts.{CoreParts}
 use Rattle.bq_state.specs.{CoreParts.machine_of, EndingWaits.{AreLookedAt, is_after, left_after, told_at_end, turn_of, waits_after}}

@@ -2,8 +2,7 @@
 use Rattle.std.proofs.Common.{◌∙◌, ◌∷◌, ◌≡◌, ◌≤◌, List, [], ℕ, arith, false, length, map, subst, true}
 use Rattle.std.proofs.lemmas.{Bool.eqb-true, Grind.common_steps, List.Sums.sum_by-cons}
 use Rattle.std.specs.{List.{AllByRecursion as All, sum_by}, Prelude.count_by}
-use Rattle.bq_job.specs.declared.{request.Request.Request, step.Step.Step}
-use Rattle.bq_job.specs.beside.{IsLawful, waiting_count, watches_once}
+use Rattle.bq_job.specs.{declared.{request.Request.Request, step.Step.Step}, beside.{IsLawful, waiting_count, watches_once}}
 use Rattle.bq_job.specs.machine.{Effect, Memory, SeatRecord, acted, after_close, after_connect, asked}
 use Rattle.bq_job.specs.machine.{empty_seat, is_waiting, numbers, with_end, with_seat, Machine.Machine}
 use Rattle.bq_job.proofs.{CommandKinds.kind_of, EachEvent.{IsSeat, each_acted}, EffectKinds.Kind, KeptLemmas.only_seat}

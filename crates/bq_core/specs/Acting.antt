@@ -1,7 +1,6 @@
 -- The command's own effect, as the core carries it out.
 use Rattle.std.specs.Prelude.{◌&&◌, ◌++◌, ◌||◌, ◌≡◌, Bool, IsTrue, None, Some, ℕ}
-use Rattle.bq_job.specs.declared.{answer.Answer.Answer, step.Step.Step}
-use Rattle.bq_job.specs.machine.{Effect, Memory, acted, addressed, is_growth_refused}
+use Rattle.bq_job.specs.{declared.{answer.Answer.Answer, step.Step.Step}, machine.{Effect, Memory, acted, addressed, is_growth_refused}}
 use Rattle.bq_job.specs.machine.{is_possible, is_share_refused, may_be_left_out, shares_body, Machine.Machine}
 use Rattle.bq_steps.specs.Outbox.{Outbox}
 use Rattle.bq_core.specs.declared.acts.Reply.{Reply, TheVariants.{LeftOut, Silent, Told, Unshared}}

@@ -1,7 +1,6 @@
 -- Timers of jobs fire, one job after another.
 use Rattle.std.specs.{List.list_any, Prelude.{◌||◌, ◌≡◌, Bool, IsTrue, List, Some, ℕ, count_by, map}}
-use Rattle.bq_job.specs.declared.job.{Job.Job, JobState.JobState}
-use Rattle.bq_job.specs.machine.{given_back, grown, is_due, is_expired, job_after_timers}
+use Rattle.bq_job.specs.{declared.job.{Job.Job, JobState.JobState}, machine.{given_back, grown, is_due, is_expired, job_after_timers}}
 use Rattle.bq_job.specs.machine.{job_with, with_job, Machine.Machine}
 use Rattle.bq_state.specs.{CoreParts.machine_of, declared.core_parts.CoreParts.CoreParts}
 

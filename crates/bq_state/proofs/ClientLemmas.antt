@@ -1,13 +1,11 @@
 -- Counts of seats after one seat changes.
 use Rattle.std.proofs.Common.{◌+◌, ◌<◌, ◌==◌, ◌∙◌, ◌∷◌, ◌≡◌, ◌≤◌, if◌then◌else◌, Bool, List, Some, [], ℕ}
 use Rattle.std.proofs.Common.{ap, arith, cond, filter, length, map, not, refl, set, slice_get, suc, sym}
-use Rattle.std.proofs.lemmas.{Bool.{cases_Bool, eqb-true, ne_eqb}, Grind.common_steps}
-use Rattle.std.proofs.lemmas.List.{length-map, Sums.count_by-le-length}
+use Rattle.std.proofs.lemmas.{Bool.{cases_Bool, eqb-true, ne_eqb}, Grind.common_steps, List.{length-map, Sums.count_by-le-length}}
 use Rattle.std.specs.{List.list_any, Prelude.{count_by, nat_lt}}
 use Rattle.bq_job.specs.machine.{SeatRecord, greatest, is_waiting, numbers, seat_with, watching}
 use Rattle.bq_job.proofs.ListLemmas.{count_cons}
-use Rattle.bq_state.specs.declared.seats.SeatChange.{SeatChange}
-use Rattle.bq_state.specs.Clients.{clients_of, clients_with, clients_without, seat_passes}
+use Rattle.bq_state.specs.{declared.seats.SeatChange.SeatChange, Clients.{clients_of, clients_with, clients_without, seat_passes}}
 use Rattle.bq_state.specs.{SeatChanges.{AreNumbered, seat_changed, seat_changed_at}, Tallies.{count_with, count_without}}
 use Rattle.bq_state.proofs.{PartsLemmas.{changed_there, number_kept}, TallyLemmas.{with_is, without_is}}
 

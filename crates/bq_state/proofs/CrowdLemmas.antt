@@ -1,22 +1,17 @@
 -- Counts of the clients at tubes after a seat changes.
 use Rattle.std.proofs.Common.{◌&&◌, ◌==◌, ◌||◌, ◌∙◌, ◌∷◌, ◌≡◌, ◌≤◌, if◌then◌else◌, Bool, List, None, Option}
-use Rattle.std.proofs.Common.{Some, [], ℕ, ap, false, length, map, not, refl, sym, true}
-use Rattle.std.proofs.lemmas.Bool.{and_parts, cases_Bool}
+use Rattle.std.proofs.{Common.{Some, [], ℕ, ap, false, length, map, not, refl, sym, true}, lemmas.Bool.{and_parts, cases_Bool}}
 use Rattle.std.proofs.{Common.arith, lemmas.{Bool.not-true, Grind.common_steps}}
 use Rattle.std.specs.{Cmp.Lexicographic.bytes_decides, List.{AllByRecursion as All, list_any}, Prelude.count_by}
-use Rattle.bq_job.specs.{beside.none_twice}
+use Rattle.bq_job.specs.{beside.none_twice, reading.TubeName.is_same_name}
 use Rattle.bq_job.specs.machine.{SeatRecord, TubeRecord, greatest, is_name_before, is_seated_at, is_waiting, seat_with, watches}
-use Rattle.bq_job.specs.{reading.TubeName.is_same_name}
-use Rattle.bq_state.specs.declared.{seats.SeatChange.SeatChange}
+use Rattle.bq_state.specs.{declared.seats.SeatChange.SeatChange, SeatStates.{is_asking, is_connected}, Tallies.{count_with, count_without}}
 use Rattle.bq_state.specs.declared.tubes.entry.{Crowd.Crowd, Moving.{Moving, TheVariants.{Comes, Goes}}, Share.Share}
 use Rattle.bq_state.specs.Crowds.{AreCrowds, IsSeated, crowd_in, crowd_of, crowd_with, crowd_without, crowds_at, crowds_at_all, crowds_of}
 use Rattle.bq_state.specs.Crowds.{crowds_recounted, crowds_recounted_for, has_seats, is_none, is_user, is_waiter, is_watcher, may_wait}
-use Rattle.bq_state.specs.{Crowds.{recounted, touched}, SeatChanges.{AreNumbered, seat_changed, seat_changed_at}}
-use Rattle.bq_state.specs.{SeatStates.{is_asking, is_connected}, Tallies.{count_with, count_without}}
-use Rattle.bq_state.specs.TubeEntries.{AreInOrder}
-use Rattle.bq_state.proofs.ClientLemmas.{count_changed, count_stays, found_changed, some_pass}
+use Rattle.bq_state.specs.{Crowds.{recounted, touched}, SeatChanges.{AreNumbered, seat_changed, seat_changed_at}, TubeEntries.AreInOrder}
+use Rattle.bq_state.proofs.{ClientLemmas.{count_changed, count_stays, found_changed, some_pass}, TubeLemmas.{before_differs, same_name}}
 use Rattle.bq_state.proofs.PartsLemmas.{all_read, all_set, changed_there, number_kept, numbered_after, seat_there}
-use Rattle.bq_state.proofs.TubeLemmas.{before_differs, same_name}
 
 -- the comparison of names is symmetric
 pub same_turned : (a b : List ℕ) → is_same_name a b ≡ is_same_name b a

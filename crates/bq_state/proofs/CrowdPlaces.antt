@@ -3,15 +3,12 @@ use Rattle.std.proofs.Common.{◌&&◌, ◌||◌, ◌∙◌, ◌∷◌, ◌≡�
 use Rattle.std.proofs.lemmas.{Bool.cases_Bool, List.{drop-map, map-append, take-map}}
 use Rattle.std.proofs.{Common.arith, lemmas.Grind.common_steps}
 use Rattle.std.specs.{List.{AllByRecursion as All, insert, list_any, prefix_len}, Prelude.{count_by, nat_lt}}
-use Rattle.bq_job.specs.declared.job.Job.{Job}
+use Rattle.bq_job.specs.{declared.job.Job.Job, reading.TubeName.is_same_name}
 use Rattle.bq_job.specs.machine.{SeatRecord, TubeRecord, default_tube, empty_seat, fresh_tube, is_name_before, is_seated_at}
-use Rattle.bq_job.specs.{reading.TubeName.is_same_name}
 use Rattle.bq_job.proofs.ListLemmas.{all_weaker, count_all_not, list_any_not, none_pass}
-use Rattle.bq_state.specs.declared.{known.{clients.Clients.Clients, tally.Tally.Tally}, tubes.entry.Crowd.Crowd}
-use Rattle.bq_state.specs.{Clients.clients_of}
-use Rattle.bq_state.specs.Crowds.{AreCrowds, IsSeated, crowd_at, crowd_in, crowd_of, crowds_of}
+use Rattle.bq_state.specs.{declared.{known.{clients.Clients.Clients, tally.Tally.Tally}, tubes.entry.Crowd.Crowd}, Clients.clients_of}
+use Rattle.bq_state.specs.{Crowds.{AreCrowds, IsSeated, crowd_at, crowd_in, crowd_of, crowds_of}, Tallies.{has_jobs, tallies_of, tally_at}}
 use Rattle.bq_state.specs.Crowds.{crowds_provided, has_seats, is_user, is_waiter, is_watcher, no_crowd}
-use Rattle.bq_state.specs.Tallies.{has_jobs, tallies_of, tally_at}
 use Rattle.bq_state.specs.TubeEntries.{AreEntries, HasTubes, has_entry, is_tube_by, is_tube_of, provided}
 use Rattle.bq_state.proofs.{ClientLemmas.some_pass, CrowdLemmas.has_seats_of}
 use Rattle.bq_state.proofs.{TallyPlaces.{has_jobs_in, tally_there}, TubeLemmas.{provided_new, same_name}}

@@ -5,10 +5,8 @@ use Rattle.std.proofs.{Common.arith, lemmas.Grind.common_steps, Math.Bool.{and-f
 use Rattle.std.specs.{List.list_any, Prelude.count_by}
 use Rattle.bq_job.specs.{machine.{SeatRecord, TubeRecord, greatest, is_waiting, watches, watching}, reading.TubeName.is_same_name}
 use Rattle.bq_job.proofs.WatchedLemmas.{none_twice_behind, none_twice_filter}
-use Rattle.bq_state.specs.declared.tubes.entry.Crowd.{Crowd}
-use Rattle.bq_state.specs.Crowds.{AreCrowds, IsSeated, crowd_in, crowd_of, crowd_with, crowd_without}
-use Rattle.bq_state.specs.Crowds.{crowds_at, is_user, is_waiter, is_watcher, share_of_watcher, share_of_watching}
-use Rattle.bq_state.specs.{SeatChanges.AreNumbered}
+use Rattle.bq_state.specs.{declared.tubes.entry.Crowd.Crowd, Crowds.{AreCrowds, IsSeated, crowd_in, crowd_of, crowd_with, crowd_without}}
+use Rattle.bq_state.specs.{Crowds.{crowds_at, is_user, is_waiter, is_watcher, share_of_watcher, share_of_watching}, SeatChanges.AreNumbered}
 use Rattle.bq_state.specs.{Tallies.{count_with, count_without}, TubeEntries.AreInOrder}
 use Rattle.bq_state.proofs.{ClientLemmas.{count_changed, count_unchanged}, CrowdLemmas.{at_named, map_same, same_turned}}
 use Rattle.bq_state.proofs.{PartsLemmas.{all_read, all_set, changed_there, seat_read, watching_numbered}, TubeLemmas.same_name}

@@ -1,23 +1,18 @@
 -- The next due moment, from those of jobs, tubes and seats.
-use Rattle.std.proofs.Common.{◌&&◌, ◌++◌, ◌-◌, ◌==◌, ◌||◌, ◌∙◌, ◌∷◌, ◌≡◌, ◌≤◌, if◌then◌else◌, Bool, List, None}
+use Rattle.std.proofs.{Common.{◌&&◌, ◌++◌, ◌-◌, ◌==◌, ◌||◌, ◌∙◌, ◌∷◌, ◌≡◌, ◌≤◌, if◌then◌else◌, Bool, List, None}, lemmas.Grind.common_steps}
 use Rattle.std.proofs.Common.{Option, Some, [], ℕ, ap, arith, false, inl, inr, not, refl, sym, true}
 use Rattle.std.proofs.lemmas.Bool.{cases_Bool, Decides.nat_tests}
-use Rattle.std.proofs.lemmas.Grind.{common_steps}
 use Rattle.std.specs.{List.{AllByRecursion as All, Contains, list_all, list_any}, Prelude.{flat_map, fold, is_some, nat_lt, option_map}}
-use Rattle.bq_job.specs.declared.job.{Job.Job, JobState.JobState}
-use Rattle.bq_job.specs.beside.{dues_of_pause, dues_of_state, earliest, is_before}
+use Rattle.bq_job.specs.{declared.job.{Job.Job, JobState.JobState}, beside.{dues_of_pause, dues_of_state, earliest, is_before}}
 use Rattle.bq_job.specs.machine.{SeatRecord, TubeRecord, due_of, first_of, is_delayed, is_due_before}
 use Rattle.bq_job.specs.machine.{is_held_by, is_holder, is_pair_before, is_reserved, is_waiting, Machine.Machine}
 use Rattle.bq_job.specs.declared.job.JobState.TheVariants as states
 use Rattle.bq_job.proofs.ChoiceLemmas.{first_of_contains, first_of_is_least, first_of_is_some, first_of_none, first_of_passes, pair_order}
-use Rattle.bq_job.proofs.ListLemmas.{all_from_members, all_weaker, list_all_from, none_pass}
-use Rattle.bq_job.proofs.ListLemmas.{list_all_agree}
+use Rattle.bq_job.proofs.ListLemmas.{all_from_members, all_weaker, list_all_from, none_pass, list_all_agree, list_any_not}
 use Rattle.bq_jobs.specs.{Kept.ranked, Leases.{deadline_of, is_lease_before}}
-use Rattle.bq_state.specs.Dues.{earlier_of_both, jobs_due, warning_due, with_seat_due, with_warning_due}
+use Rattle.bq_state.specs.{Dues.{earlier_of_both, jobs_due, warning_due, with_seat_due, with_warning_due}, WaitingTurns.{at_turn, turns_of}}
 use Rattle.bq_state.specs.{FirstTimeouts.{IsThere, is_gone_in_wait}, SeatChanges.AreNumbered, TubeEntries.{IsFreshUnlessCounted, counted}}
-use Rattle.bq_state.specs.WaitingTurns.{at_turn, turns_of}
 use Rattle.bq_state.proofs.{WalkLemmas.walked, WarningLemmas.no_other}
-use Rattle.bq_job.proofs.ListLemmas.{list_any_not}
 
 dues_swap : (b x y : Option ℕ) → earlier_of_both (earlier_of_both b x) y ≡ earlier_of_both (earlier_of_both b y) x
 dues_swap b x y = grind (arith)

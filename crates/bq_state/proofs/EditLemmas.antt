@@ -3,15 +3,12 @@ use Rattle.std.proofs.Common.{◌∙◌, ◌∷◌, ◌≡◌, List, [], ℕ, ap
 use Rattle.std.specs.{Cmp.Lexicographic.slice_cmp, Ordering.nat_cmp}
 use Rattle.bq_index.specs.{Catalog.CatalogSeen, Order.InOrder}
 use Rattle.bq_state.specs.declared.{known.tally.Tally.Tally, tubes.{entry.{Crowd.Crowd, TubeChange.TubeChange}, pauses.PauseEnd.PauseEnd}}
-use Rattle.bq_state.specs.{Crowds.crowds_at}
-use Rattle.bq_state.specs.KeptTubes.{KeptTube, KeptTubes, Named, crowd_kept, edited_at}
-use Rattle.bq_state.specs.KeptTubes.{kept_changed, record_at, record_of, tally_kept, tubes_kept}
-use Rattle.bq_state.specs.{PauseEnds.AreEnds, Tallies.tallies_at}
+use Rattle.bq_state.specs.{Crowds.crowds_at, KeptTubes.{KeptTube, KeptTubes, Named, crowd_kept, edited_at}}
+use Rattle.bq_state.specs.{KeptTubes.{kept_changed, record_at, record_of, tally_kept, tubes_kept}, PauseEnds.AreEnds, Tallies.tallies_at}
 use Rattle.bq_state.specs.TubeEntries.{tube_changed, tube_changed_at}
 use Rattle.bq_job.specs.machine.{TubeRecord}
-use Rattle.bq_state.proofs.PartsLemmas.{name_kept_at}
+use Rattle.bq_state.proofs.{PartsLemmas.name_kept_at, NamedLemmas.{edit_same_tallies, edit_tally, in_order, kept_alike}}
 use Rattle.bq_state.proofs.NamedLemmas.{change_kept, edit_change, edit_crowd, edit_same_crowds, edit_same_records}
-use Rattle.bq_state.proofs.NamedLemmas.{edit_same_tallies, edit_tally, in_order, kept_alike}
 
 -- If the records stay the same, so do the ends of their pauses.
 pub ends_stay : (name : List ℕ) (f : KeptTube → KeptTube) (es last : List Named) (ends : CatalogSeen PauseEnd (Unit {0}))

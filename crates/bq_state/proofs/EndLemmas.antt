@@ -1,16 +1,14 @@
 -- The ends of pauses: lookups after a change, and the first end.
-use Rattle.std.proofs.Common.{◌&&◌, ◌||◌, ◌∙◌, ◌∷◌, ◌≡◌, ◌≤◌, Bool, List, None, Option, Some, []}
+use Rattle.std.proofs.{Common.{◌&&◌, ◌||◌, ◌∙◌, ◌∷◌, ◌≡◌, ◌≤◌, Bool, List, None, Option, Some, []}, lemmas.Grind.common_steps}
 use Rattle.std.proofs.Common.{ℕ, ap, arith, cond, false, inl, inr, is_some, map, refl, sym, true}
 use Rattle.std.proofs.{lemmas.{Bool.{cases_Bool, or_parts, Decides.nat_tests}, Cmp.alike_right}, Math.Bool.or-true}
-use Rattle.std.proofs.lemmas.Grind.{common_steps}
 use Rattle.std.specs.{Cmp.Lexicographic.slice_cmp, declared.cmp.Ordering.{Ordering, TheVariants.Less}}
 use Rattle.std.specs.{List.{AllByRecursion as All, list_any, Sorted.IsStrictlySortedBy}, Map.keys_of, Option.option_map}
 use Rattle.std.specs.{Ordering.{is_eq, nat_cmp, ordering_then}, Prelude.{◌==◌, fold, nat_le}}
 use Rattle.bq_index.specs.{Catalog.CatalogSeen, Order.InOrder}
 use Rattle.bq_job.specs.{beside.{dues_of_pause, earliest}, machine.{Pause as PauseRecord, TubeRecord}, reading.TubeName.is_same_name}
 use Rattle.bq_jobs.proofs.Choice.{equal_from, lookup_inserted, lookup_removed}
-use Rattle.bq_state.specs.declared.tubes.pauses.PauseEnd.{PauseEnd}
-use Rattle.bq_state.specs.Dues.{earlier_of_both, first_pause_end, is_end_over, with_tube_due}
+use Rattle.bq_state.specs.{declared.tubes.pauses.PauseEnd.PauseEnd, Dues.{earlier_of_both, first_pause_end, is_end_over, with_tube_due}}
 use Rattle.bq_state.specs.KeptTubes.{KeptTubes, Named, record_at, tubes_kept}
 use Rattle.bq_state.specs.PauseEnds.{AreEnds, Ends, end_cmp, end_total, ends_at, first_end, found_end}
 use Rattle.bq_state.specs.PauseEnds.{has_end, if_over, is_end_in, is_end_of, with_end, without_end}

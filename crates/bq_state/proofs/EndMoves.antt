@@ -14,9 +14,8 @@ use Rattle.bq_state.specs.PauseEnds.{AreEnds, Ends, end_cmp, end_of, ends_at, fi
 use Rattle.bq_state.specs.PauseEnds.{has_end, if_over, is_end_in, is_paused, pause_at, with_end, without_end}
 use Rattle.bq_state.specs.TubeEntries.{AreInOrder, has_entry, tube_changed}
 use Rattle.bq_state.proofs.EndLemmas.{ends_alike, ends_apart, has_entered, has_left, one_over}
-use Rattle.bq_state.proofs.NamedLemmas.{change_kept, edit_change, found_entry, ties}
+use Rattle.bq_state.proofs.{NamedLemmas.{change_kept, edit_change, found_entry, ties}, TubeLemmas.{order_kept, same_itself, same_name}}
 use Rattle.bq_state.proofs.{PartsLemmas.tube_name_kept, TubeLemmas.{changed_one, none_later}}
-use Rattle.bq_state.proofs.TubeLemmas.{order_kept, same_itself, same_name}
 
 abbrev pub one_if : Option PauseRecord → ℕ
 one_if p = cond (is_some p) 1 0
@@ -271,11 +270,6 @@ module _ (f : TubeRecord → TubeRecord) (named : (t : TubeRecord) → (f t).nam
 
   pub ends_stay : (ts : List TubeRecord) (ends : CatalogSeen PauseEnd (Unit {0})) → AreEnds ts ends → AreEnds (map f ts) ends
   ends_stay ts ends h = grind (arith, common_steps, same_ends)
-
--- the pause of an entry that is lent
-abbrev pub pause_lent : Option (Bor KeptTube) → Option PauseRecord
-pause_lent None = None
-pause_lent (Some t) = t.now.pause
 
 -- A change of what is kept about one tube, as an entry and as a record.
 module _ (name : List ℕ) (f : KeptTube → KeptTube) (g : TubeRecord → TubeRecord)

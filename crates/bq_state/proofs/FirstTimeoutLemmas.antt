@@ -1,13 +1,11 @@
 -- The first timeout of a waiting client, as seats change.
-use Rattle.std.proofs.Common.{◌==◌, ◌||◌, ◌∙◌, ◌∷◌, ◌≡◌, if◌then◌else◌, Bool, List, None, Option, Some, [], ℕ}
+use Rattle.std.proofs.{Common.{◌==◌, ◌||◌, ◌∙◌, ◌∷◌, ◌≡◌, if◌then◌else◌, Bool, List, None, Option, Some, [], ℕ}, Math.Bool.or-false}
 use Rattle.std.proofs.Common.{ap, arith, false, length, map, refl, set, slice_get, suc, sym, true, zero}
-use Rattle.std.proofs.Math.Bool.{or-false}
 use Rattle.std.specs.{List.{AllByRecursion as All, list_any}, Prelude.fold}
 use Rattle.bq_job.specs.machine.{SeatRecord, empty_seat, seat_with, watching}
 use Rattle.bq_job.proofs.{KeptLemmas.only_seat, ListLemmas.{all_both, all_of_map, all_weaker}}
 use Rattle.bq_state.specs.declared.known.first_timeout.FirstTimeout.{FirstTimeout, TheVariants.{Known, Unknown}}
-use Rattle.bq_state.specs.declared.seats.SeatChange.{SeatChange}
-use Rattle.bq_state.specs.{Dues.{earlier_of_both, is_end_over, with_seat_due}, EndingWaits.has_waited}
+use Rattle.bq_state.specs.{declared.seats.SeatChange.SeatChange, Dues.{earlier_of_both, is_end_over, with_seat_due}, EndingWaits.has_waited}
 use Rattle.bq_state.specs.FirstTimeouts.{AreTimeouts, IsThere, timeout_after, gives_up_at, keeps_timeout}
 use Rattle.bq_state.specs.SeatChanges.{AreNumbered, seat_changed, seat_changed_at}
 use Rattle.bq_state.proofs.{CrowdLemmas.none_changed, PartsLemmas.{all_read, all_set}}

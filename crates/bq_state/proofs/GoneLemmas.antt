@@ -3,22 +3,19 @@
 use Rattle.std.proofs.Common.{◌++◌, ◌+◌, ◌∙◌, ◌∷◌, ◌≡◌, ◌≤◌, if◌then◌else◌, Bool, List, None, Option, Some, []}
 use Rattle.std.proofs.Common.{ℕ, ap, append_assoc, arith, false, inl, inr, length, map, not, refl, sym, true}
 use Rattle.std.proofs.lemmas.{Bool.cases_Bool, Grind.common_steps, List.append-nil}
-use Rattle.std.specs.{Borrow.Bor, Cmp.Lexicographic.{nat_list_cmp_total, slice_cmp}}
+use Rattle.std.specs.{Borrow.Bor, Cmp.Lexicographic.{nat_list_cmp_total, slice_cmp}, Map.{keys_of, lookup, remove_entry}, Option.option_map}
 use Rattle.std.specs.declared.cmp.Ordering.{Ordering, TheVariants.{Equal, Greater, Less}}
 use Rattle.std.specs.List.{AllByRecursion as All, Sorted.IsStrictlySortedBy}
-use Rattle.std.specs.{Map.{keys_of, lookup, remove_entry}, Option.option_map}
 use Rattle.std.specs.{Ordering.{is_eq, is_gt, nat_cmp, ordering_reverse}, Prelude.{filter, find, fold}}
 use Rattle.bq_index.specs.{Order.InOrder, Walk.{entry_of, seen_by}}
 use Rattle.bq_job.specs.{declared.job.Job.Job, machine.{SeatRecord, greatest}, reading.TubeName.is_same_name}
 use Rattle.bq_state.specs.declared.{known.maybe_gone.MaybeGone.TheVariants.Of, tubes.walks.HowMany.HowMany}
-use Rattle.bq_state.specs.Crowds.{crowd_in, crowds_of, has_seats}
+use Rattle.bq_state.specs.{Crowds.{crowd_in, crowds_of, has_seats}, MaybeGoneTubes.AreAlive, Tallies.{has_jobs, tallies_of, tally_in}}
 use Rattle.bq_state.specs.KeptTubes.{KeptTube, Named, crowd_kept, is_alive_at, is_alive_with, is_from, is_gone_by}
 use Rattle.bq_state.specs.KeptTubes.{is_gone_from, is_named_at, record_at, tally_kept, with_alive, with_name_of}
-use Rattle.bq_state.specs.{MaybeGoneTubes.AreAlive, Tallies.{has_jobs, tallies_of, tally_in}}
 use Rattle.bq_state.specs.TubeEntries.{AreInOrder, is_tube_of, names_alive}
-use Rattle.bq_state.proofs.{CrowdLemmas.has_seats_of, CrowdPlaces.exists_by_counts}
+use Rattle.bq_state.proofs.{CrowdLemmas.has_seats_of, CrowdPlaces.exists_by_counts, TallyPlaces.has_jobs_in, TubeLemmas.same_name}
 use Rattle.bq_state.proofs.{MaybeGoneLemmas.{alive_but, alive_or, all_kept_alive, others_alive}, NamedLemmas.ties}
-use Rattle.bq_state.proofs.{TallyPlaces.has_jobs_in, TubeLemmas.same_name}
 
 -- The counts are those of these jobs and seats.
 abbrev pub AreTallied : List Job → List SeatRecord → List Named → Type 0

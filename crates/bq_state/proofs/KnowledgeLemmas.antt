@@ -3,8 +3,7 @@ use Rattle.std.proofs.Common.{◌&&◌, ◌++◌, ◌==◌, ◌∙◌, ◌∷◌
 use Rattle.std.proofs.Common.{ap, false, filter, fold, is_some, length, map, not, refl, set, slice_get, subst, sym, true}
 use Rattle.std.proofs.{Common.arith, lemmas.{Grind.common_steps, List.length-map}}
 use Rattle.std.specs.List.{AllByRecursion as All, list_any}
-use Rattle.bq_job.specs.declared.job.Job.{Job}
-use Rattle.bq_job.specs.machine.{SeatRecord, TubeRecord, empty_seat, greatest, is_ready, is_ready_state, is_waiting}
+use Rattle.bq_job.specs.{declared.job.Job.Job, machine.{SeatRecord, TubeRecord, empty_seat, greatest, is_ready, is_ready_state, is_waiting}}
 use Rattle.bq_job.specs.machine.{job_with, next_job, numbers, seat_with, tube_after_timers, watches, watching}
 use Rattle.bq_job.specs.{reading.TubeName.is_same_name}
 use Rattle.bq_jobs.specs.{Changed.{moved_by, with_changed}, declared.row.Moved.Moved, Kept.{with_added, without}}
@@ -16,13 +15,12 @@ use Rattle.bq_state.specs.Crowds.{crowds_recounted_for, is_waiter, may_wait, rec
 use Rattle.bq_state.specs.{Dues.{first_pause_end, with_warning_due}, JobChanges.changed, KeptTubes.{KeptTubes, first_tubes}}
 use Rattle.bq_state.specs.Knowledge.{IsSo, nothing_known, with_forgotten, with_job, with_joined}
 use Rattle.bq_state.specs.Knowledge.{with_left, with_moved, with_tube_changed, without_job}
-use Rattle.bq_state.specs.{MaybeGoneTubes.with_gone, SeatChanges.seat_changed_at}
+use Rattle.bq_state.specs.{MaybeGoneTubes.with_gone, SeatChanges.seat_changed_at, Tallies.{tallies_with, tallies_without, tally_moved}}
 use Rattle.bq_state.specs.WantedJobs.{AreKnown, IsKnown, wanted_after_tube, with_all_wanted}
-use Rattle.bq_state.specs.Tallies.{tallies_with, tallies_without, tally_moved}
 use Rattle.bq_state.specs.TubeEntries.{counted, has_entry, is_counted, is_tube_of, tube_changed, tube_changed_at}
 use Rattle.bq_state.specs.Warnings.{IsWarned, has_waiting_holder, may_hold, warned_if_due}
 use Rattle.bq_state.specs.declared.known.wanted.Wanted.TheVariants as wanted_jobs
-use Rattle.bq_state.proofs.{ClientLemmas.{clients_moved, clients_watching}, CrowdLemmas.crowds_moved}
+use Rattle.bq_state.proofs.{ClientLemmas.{clients_moved, clients_watching}, CrowdLemmas.crowds_moved, TubeNumberLemmas.numbers_kept}
 use Rattle.bq_state.proofs.{CrowdPlaces.{crowds_kept, crowds_of_provided, first_crowds}, CrowdWatching.{crowds_ignoring, crowds_watching}}
 use Rattle.bq_state.proofs.{FirstTimeoutLemmas.{first_timeouts, timeouts_of_seat, timeouts_watching}, LeavingLemmas.alive_left}
 use Rattle.bq_state.proofs.MaybeGoneLemmas.{alive_added, alive_forgotten, alive_ignoring, alive_provided}
@@ -30,14 +28,12 @@ use Rattle.bq_state.proofs.MaybeGoneLemmas.{alive_renamed, alive_taken, alive_wa
 use Rattle.bq_state.proofs.MovedLemmas.{alive_changed, counted_moved, known_moved, one_tube, tube_kept, warned_moved}
 use Rattle.bq_state.proofs.PartsLemmas.{all_filtered, counted_provided, entries_of_tube, id_kept}
 use Rattle.bq_state.proofs.PartsLemmas.{name_kept_at, numbered_after, tube_counts, tube_name_kept}
-use Rattle.bq_state.proofs.PartsLemmas.{entries_of_seat, first_entries, first_numbered}
+use Rattle.bq_state.proofs.{PartsLemmas.{entries_of_seat, first_entries, first_numbered}, PauseLemmas.{end_after_change, end_provided}}
 use Rattle.bq_state.proofs.WaitingLemmas.{many_seats, none_in_turn, rising_left, turns_moved, turns_within}
-use Rattle.bq_state.proofs.PauseLemmas.{end_after_change, end_provided}
 use Rattle.bq_state.proofs.WantedLemmas.{known_added, known_any, known_forgotten, known_ignoring}
 use Rattle.bq_state.proofs.WantedLemmas.{known_nothing, known_of_change, known_of_seat, known_watching}
 use Rattle.bq_state.proofs.TallyPlaces.{counted_added, counted_kept, counted_provided as tallies_of_provided, counted_taken}
 use Rattle.bq_state.proofs.TubeLemmas.{filters_swap, record_changed}
-use Rattle.bq_state.proofs.TubeNumberLemmas.{numbers_kept}
 use Rattle.bq_state.proofs.WarningLemmas.{warned_added, warned_by_due, warned_of_seat, warned_watching}
 
 module _ (st : CoreParts) where

@@ -1,21 +1,18 @@
 -- The tubes that may no longer exist after a seat changes: those that its client left, except those
 -- that exist by their counts.
-use Rattle.std.proofs.Common.{◌∙◌, ◌∷◌, ◌≡◌, ◌≤◌, ◌⊎◌, Bool, List, None, Option, Some, []}
+use Rattle.std.proofs.{Common.{◌∙◌, ◌∷◌, ◌≡◌, ◌≤◌, ◌⊎◌, Bool, List, None, Option, Some, []}, lemmas.Bool.{or_cases, or_left, or_right}}
 use Rattle.std.proofs.Common.{ℕ, ap, false, inl, inr, length, map, refl, sym, true}
-use Rattle.std.proofs.lemmas.Bool.{or_cases, or_left, or_right}
 use Rattle.std.proofs.{Common.arith, lemmas.{Bool.cases_Bool, Grind.common_steps}}
 use Rattle.std.specs.List.{AllByRecursion as All, list_any}
 use Rattle.bq_job.specs.declared.job.Job.{Job}
 use Rattle.bq_job.specs.{machine.{SeatRecord, TubeRecord, greatest, is_seated_at, seat_with, watches}, reading.TubeName.is_same_name}
 use Rattle.bq_job.proofs.ListLemmas.{all_at, all_from_members, list_any_with}
-use Rattle.bq_state.specs.declared.{known.maybe_gone.MaybeGone.MaybeGone, seats.SeatChange.SeatChange}
+use Rattle.bq_state.specs.{declared.{known.maybe_gone.MaybeGone.MaybeGone, seats.SeatChange.SeatChange}, KeptTubes.KeptTubes}
 use Rattle.bq_state.specs.declared.tubes.entry.{Crowd.Crowd, Moving.TheVariants.Goes, Share.Share}
 use Rattle.bq_state.specs.Crowds.{IsSeated, crowd_at, crowd_in, crowd_of, crowd_with, crowd_without}
 use Rattle.bq_state.specs.Crowds.{crowds_of, crowds_recounted, crowds_recounted_for, has_seats, touched}
-use Rattle.bq_state.specs.{KeptTubes.KeptTubes}
 use Rattle.bq_state.specs.Leaving.{exists_in, gone_of, gone_all, gone_if, gone_unless}
-use Rattle.bq_state.specs.MaybeGoneTubes.{AreAlive, is_accounted, may_be_gone}
-use Rattle.bq_state.specs.SeatChanges.{AreNumbered, seat_changed, seat_changed_at}
+use Rattle.bq_state.specs.{MaybeGoneTubes.{AreAlive, is_accounted, may_be_gone}, SeatChanges.{AreNumbered, seat_changed, seat_changed_at}}
 use Rattle.bq_state.specs.{Tallies.{has_jobs, tallies_of, tally_at}, TubeEntries.{AreInOrder, has_entry, is_tube_of}}
 use Rattle.bq_state.proofs.{CrowdLemmas.{all_recounted, crowd_moved, has_seats_of, none_changed, share_at}, CrowdPlaces.named_crowd}
 use Rattle.bq_state.proofs.MaybeGoneLemmas.{any_set, by_job, by_gone, by_seat, still_accounted, stays_gone}

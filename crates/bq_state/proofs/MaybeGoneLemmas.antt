@@ -3,18 +3,14 @@ use Rattle.std.proofs.Common.{◌++◌, ◌||◌, ◌∙◌, ◌∷◌, ◌≡�
 use Rattle.std.proofs.Common.{arith, false, inl, inr, length, map, not, refl, set, slice_get, suc, sym, true, zero}
 use Rattle.std.proofs.lemmas.{Bool.{cases_Bool, eqb-true, or_cases, or_left, or_right}, Grind.common_steps}
 use Rattle.std.specs.{List.{AllByRecursion as All, list_any}, Prelude.filter}
-use Rattle.bq_job.specs.declared.job.Job.{Job}
-use Rattle.bq_job.specs.{beside.AreIdsWithin}
-use Rattle.bq_job.specs.machine.{SeatRecord, TubeRecord, default_tube, fresh_tube, is_name_before}
-use Rattle.bq_job.specs.machine.{is_seated_at, job_with, watching, with_record}
-use Rattle.bq_job.specs.{reading.TubeName.is_same_name}
+use Rattle.bq_job.specs.{declared.job.Job.Job, beside.AreIdsWithin, machine.{is_seated_at, job_with, watching, with_record}}
+use Rattle.bq_job.specs.{machine.{SeatRecord, TubeRecord, default_tube, fresh_tube, is_name_before}, reading.TubeName.is_same_name}
 use Rattle.bq_job.proofs.{ListLemmas.{all_weaker, filter_no_longer}, NameOrderLemmas.not_same}
 use Rattle.bq_jobs.specs.Kept.{with_added, without}
 use Rattle.bq_jobs.proofs.Changes.{all_kept, others_above}
 use Rattle.bq_state.specs.declared.known.maybe_gone.MaybeGone.{MaybeGone, TheVariants.{Any, Nothing, Of}}
-use Rattle.bq_state.specs.Dues.{first_pause_end, pause_end_left}
+use Rattle.bq_state.specs.{Dues.{first_pause_end, pause_end_left}, TubeEntries.{has_entry, is_tube_of, provided}}
 use Rattle.bq_state.specs.MaybeGoneTubes.{AreAlive, is_accounted, may_be_gone, with_gone, with_existing}
-use Rattle.bq_state.specs.TubeEntries.{has_entry, is_tube_of, provided}
 use Rattle.bq_state.proofs.TubeLemmas.{same_itself, same_name}
 
 -- a tube that is marked as possibly gone stays marked

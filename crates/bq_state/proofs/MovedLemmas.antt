@@ -3,22 +3,18 @@ use Rattle.std.proofs.Common.{◌&&◌, ◌==◌, ◌∙◌, ◌∷◌, ◌≡�
 use Rattle.std.proofs.{lemmas.List.length-map}
 use Rattle.std.proofs.lemmas.Grind.{common_steps}
 use Rattle.std.specs.List.{list_any}
-use Rattle.bq_job.specs.declared.job.Job.{Job}
-use Rattle.bq_job.specs.{beside.AreIdsWithin, machine.{SeatRecord, TubeRecord, greatest, is_ready_state, job_with}}
+use Rattle.bq_job.specs.{declared.job.Job.Job, beside.AreIdsWithin, machine.{SeatRecord, TubeRecord, greatest, is_ready_state, job_with}}
 use Rattle.bq_job.specs.{reading.TubeName.is_same_name}
 use Rattle.bq_jobs.specs.declared.row.Moved.{Moved}
 use Rattle.bq_jobs.specs.{Changed.{IgnoresTube, KeepsId, KeepsTube, moved_by, with_changed}, Kept.{with_added, without}}
 use Rattle.bq_jobs.proofs.Changes.{changed as changed_by_id, found_id}
 use Rattle.bq_state.specs.declared.known.{maybe_gone.MaybeGone.MaybeGone, wanted.Wanted.Wanted, tally.Tally.Tally, warns.Warns.Warns}
-use Rattle.bq_state.specs.declared.job_store.JobChange.{JobChange}
-use Rattle.bq_state.specs.{Crowds.is_waiter, JobChanges.changed, MaybeGoneTubes.AreAlive}
-use Rattle.bq_state.specs.{SeatChanges.AreNumbered, WantedJobs.{AreKnown, with_wanted}}
+use Rattle.bq_state.specs.{declared.job_store.JobChange.JobChange, Crowds.is_waiter, JobChanges.changed, MaybeGoneTubes.AreAlive}
+use Rattle.bq_state.specs.{SeatChanges.AreNumbered, WantedJobs.{AreKnown, with_wanted}, TubeEntries.{AreEntries, AreInOrder}}
 use Rattle.bq_state.specs.Tallies.{AreCounted, tallies_at, tallies_without, tally_moved, tally_of, tally_with, tally_without}
-use Rattle.bq_state.specs.TubeEntries.{AreEntries, AreInOrder}
 use Rattle.bq_state.specs.Warnings.{AreWarned, has_waiting_holder, with_holder_of}
 use Rattle.bq_state.proofs.{PartsLemmas.{all_filtered, all_kept}, WantedLemmas.known_added}
-use Rattle.bq_state.proofs.{TallyPlaces.{counted_added, counted_taken}, WarningLemmas.warned_added}
-use Rattle.bq_state.proofs.PartsLemmas.{same_id}
+use Rattle.bq_state.proofs.{TallyPlaces.{counted_added, counted_taken}, WarningLemmas.warned_added, PartsLemmas.same_id}
 
 -- no change depends on the tube
 pub tube_ignored : (change : JobChange) → IgnoresTube (changed change)

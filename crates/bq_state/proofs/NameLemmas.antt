@@ -1,19 +1,14 @@
 -- The names of the tubes that exist.
-use Rattle.std.proofs.Common.{◌&&◌, ◌++◌, ◌+◌, ◌||◌, ◌∙◌, ◌∷◌, ◌≡◌, ◌⊎◌, if◌then◌else◌, Bool, List, Option, []}
-use Rattle.std.proofs.Common.{ℕ, ap, arith, codes, cond, false, inl, inr, map, refl, sym, true}
-use Rattle.std.proofs.{lemmas.Bool.or_cases}
-use Rattle.std.proofs.lemmas.Grind.{common_steps}
+use Rattle.std.proofs.{Common.{◌&&◌, ◌++◌, ◌+◌, ◌||◌, ◌∙◌, ◌∷◌, ◌≡◌, ◌⊎◌, if◌then◌else◌, Bool, List, Option, []}, lemmas.Bool.or_cases}
+use Rattle.std.proofs.{Common.{ℕ, ap, arith, codes, cond, false, inl, inr, map, refl, sym, true}, lemmas.Grind.common_steps}
 use Rattle.std.specs.{Borrow.Bor, List.{AllByRecursion as All, insert, list_any, prefix_len, slice_get}}
 use Rattle.std.specs.{Option.option_map, Prelude.{IsOk, Result, filter, find, flat_map, is_ok, unwrap_or}}
-use Rattle.bq_job.specs.{beside.is_in_order}
-use Rattle.bq_job.specs.machine.{TubeRecord, default_tube, fresh_tube, in_name_order, is_name_before, is_tube}
-use Rattle.bq_job.specs.machine.{name_list, seated_tubes, tubes, with_name, Machine.Machine}
-use Rattle.bq_job.specs.{reading.TubeName.is_same_name}
+use Rattle.bq_job.specs.{beside.is_in_order, machine.{TubeRecord, default_tube, fresh_tube, in_name_order, is_name_before, is_tube}}
+use Rattle.bq_job.specs.{machine.{name_list, seated_tubes, tubes, with_name, Machine.Machine}, reading.TubeName.is_same_name}
 use Rattle.bq_job.specs.texts.Yaml.{name_line}
 use Rattle.bq_job.proofs.NameOrderLemmas.{after, first_of_order, in_order_fold, in_order_from, listed, not_before, not_same, rest_in_order}
 use Rattle.bq_job.proofs.NameOrderLemmas.{stays_fold}
-use Rattle.bq_state.specs.Names.{is_named, names_of}
-use Rattle.bq_state.specs.TubeEntries.{AreEntries, AreInOrder, IsFreshUnlessCounted, counted}
+use Rattle.bq_state.specs.{Names.{is_named, names_of}, TubeEntries.{AreEntries, AreInOrder, IsFreshUnlessCounted, counted}}
 use Rattle.bq_state.specs.TubeEntries.{has_entry, is_counted, is_tube_of, names_alive}
 use Rattle.bq_state.proofs.{PartsLemmas.tube_has_entry}
 use Rattle.bq_state.proofs.TubeLemmas.{before_differs, none_found, none_later, order_filtered, same_itself, same_name}

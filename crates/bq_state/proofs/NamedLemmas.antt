@@ -1,7 +1,6 @@
 -- The contents of the catalog of tubes: entries found by name.
-use Rattle.std.proofs.Common.{◌&&◌, ◌+◌, ◌||◌, ◌∙◌, ◌∷◌, ◌≡◌, if◌then◌else◌, Bool, List, Option, Some, [], ℕ}
+use Rattle.std.proofs.{Common.{◌&&◌, ◌+◌, ◌||◌, ◌∙◌, ◌∷◌, ◌≡◌, if◌then◌else◌, Bool, List, Option, Some, [], ℕ}, lemmas.Bool.cases_Bool}
 use Rattle.std.proofs.Common.{ap, arith, cond, false, inl, inr, is_some, map, refl, suc, sym, true}
-use Rattle.std.proofs.{lemmas.Bool.cases_Bool}
 use Rattle.std.proofs.lemmas.{Bool.or_parts, Grind.common_steps}
 use Rattle.std.specs.{Borrow.Bor, BTreeMap.insert_entry, Cmp.Lexicographic.{nat_list_cmp_total, slice_cmp, texts_ties}}
 use Rattle.std.specs.declared.cmp.Ordering.{Ordering, TheVariants.{Equal, Greater, Less}}

@@ -10,12 +10,11 @@ use Rattle.bq_job.specs.{beside.AreIdsWithin, declared.job.Job.Job, reading.Tube
 use Rattle.bq_job.proofs.{LawfulLemmas.length_numbers, ListLemmas.{all_at, all_from_members, all_weaker, found_passes}}
 use Rattle.bq_jobs.specs.Kept.{Kept, with_added}
 use Rattle.bq_jobs.proofs.Changes.{low_below}
-use Rattle.bq_state.specs.declared.{core_parts.CoreParts.CoreParts, job_store.JobChange.JobChange}
+use Rattle.bq_state.specs.{declared.{core_parts.CoreParts.CoreParts, job_store.JobChange.JobChange}, TubeNumbers.HaveNumbers}
 use Rattle.bq_state.specs.declared.{seats.SeatChange.SeatChange, tubes.entry.TubeChange.TubeChange}
 use Rattle.bq_state.specs.{JobChanges.changed, SeatChanges.{AreNumbered, has_tube_of, seat_changed, seat_changed_at}, Soundness.Soundness}
 use Rattle.bq_state.specs.TubeEntries.{AreEntries, HasTubes, IsFreshUnlessCounted, counted, has_entry}
 use Rattle.bq_state.specs.TubeEntries.{is_counted, is_tube_of, provided, tube_changed, tube_changed_at}
-use Rattle.bq_state.specs.TubeNumbers.{HaveNumbers}
 use Rattle.bq_state.proofs.TubeLemmas.{counted_inserted, entry_filtered, fresh_inserted, has_inserted, order_filtered, order_inserted}
 use Rattle.bq_state.proofs.TubeLemmas.{order_kept, same_entries, same_itself, same_name, still_has}
 

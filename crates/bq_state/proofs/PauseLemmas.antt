@@ -1,6 +1,5 @@
 -- The moment at which the first pause ends.
-use Rattle.std.proofs.Common.{◌∷◌, ◌≡◌, List, None, Option, [], ℕ, arith, false, map, refl}
-use Rattle.std.proofs.lemmas.{Bool.or_parts, Grind.common_steps}
+use Rattle.std.proofs.{Common.{◌∷◌, ◌≡◌, List, None, Option, [], ℕ, arith, false, map, refl}, lemmas.{Bool.or_parts, Grind.common_steps}}
 use Rattle.std.specs.{List.list_any, Prelude.fold}
 use Rattle.bq_job.specs.{beside.{dues_of_pause, earliest}, machine.{TubeRecord, fresh_tube, tube_after_timers, with_record}}
 use Rattle.bq_job.proofs.ListLemmas.{all_of_filter, all_weaker, list_any_not, map_all_same, none_pass}

@@ -1,17 +1,14 @@
 -- The counts of tubes are at the places of their entries.
 use Rattle.std.proofs.Common.{◌+◌, ◌∙◌, ◌∷◌, ◌≡◌, ◌≤◌, Bool, List, Some, [], ℕ, ap, arith, false, inl, inr, length, map, refl, sym, true}
-use Rattle.std.proofs.lemmas.{Bool.{cases_Bool, lt-ltb}, List.{drop-map, map-append, take-map}}
-use Rattle.std.proofs.lemmas.Grind.{common_steps}
+use Rattle.std.proofs.lemmas.{Bool.{cases_Bool, lt-ltb}, List.{drop-map, map-append, take-map}, Grind.common_steps}
 use Rattle.std.specs.{Cmp.Lexicographic.bytes_decides, List.{AllByRecursion as All, list_any}, Prelude.{count_by, filter, nat_lt}}
-use Rattle.bq_job.specs.declared.job.Job.{Job}
+use Rattle.bq_job.specs.{declared.job.Job.Job, reading.TubeName.is_same_name}
 use Rattle.bq_job.specs.{beside.AreIdsWithin, machine.{TubeRecord, greatest, is_delayed, is_name_before, is_reserved, job_with}}
-use Rattle.bq_job.specs.{reading.TubeName.is_same_name}
 use Rattle.bq_job.proofs.{ListLemmas.count_cons, NameOrderLemmas.not_same}
 use Rattle.bq_jobs.specs.Kept.{with_added, without}
-use Rattle.bq_state.specs.declared.known.tally.Tally.{Tally}
+use Rattle.bq_state.specs.{declared.known.tally.Tally.Tally, TubeEntries.{AreInOrder, has_entry, provided}}
 use Rattle.bq_state.specs.Tallies.{AreCounted, has_jobs, tallies_at, tallies_of, tallies_provided, tallies_with}
 use Rattle.bq_state.specs.Tallies.{tallies_without, tally_at, tally_in, tally_of, tally_with, tally_without}
-use Rattle.bq_state.specs.TubeEntries.{AreInOrder, has_entry, provided}
 use Rattle.bq_state.proofs.TallyLemmas.{tally_added, tally_stays_added, tally_stays_taken, tally_taken, whole_added, whole_taken}
 use Rattle.bq_state.proofs.{TubeLemmas.provided_new}
 

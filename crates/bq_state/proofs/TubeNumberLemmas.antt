@@ -4,10 +4,9 @@ use Rattle.std.proofs.Common.{ap, arith, false, inl, inr, is_some, map, not, ref
 use Rattle.std.proofs.lemmas.{Bool.cases_Bool, Grind.common_steps}
 use Rattle.std.specs.{BTreeMap.is_at, Cmp.Lexicographic.{bytes_decides, slice_cmp}, List.{AllByRecursion as All, list_any}}
 use Rattle.std.specs.{Map.{lookup, remove_entry}, Option.option_map, Ordering.nat_cmp, Prelude.find}
-use Rattle.bq_job.specs.{declared.job.Job.Job, machine.{TubeRecord, default_tube, fresh_tube, with_record}, reading.TubeName.is_same_name}
-use Rattle.bq_state.specs.KeptTubes.{Named, first_tubes, is_alive_at, is_gone_by, is_gone_from, is_named_at, record_at, tally_kept}
-use Rattle.bq_state.specs.Tallies.{has_jobs, tallies_of, tally_in}
-use Rattle.bq_state.specs.{TubeEntries.{AreInOrder, has_entry, provided}, TubeNumbers.HaveNumbers}
+use Rattle.bq_job.specs.{declared.job.Job.Job, machine.{TubeRecord, fresh_tube, with_record}, reading.TubeName.is_same_name}
+use Rattle.bq_state.specs.KeptTubes.{Named, is_alive_at, is_gone_by, is_gone_from, is_named_at, record_at, tally_kept}
+use Rattle.bq_state.specs.{Tallies.{has_jobs, tallies_of, tally_in}, TubeEntries.{AreInOrder, has_entry, provided}, TubeNumbers.HaveNumbers}
 use Rattle.bq_state.proofs.{NamedLemmas.ties, PartsLemmas.has_provided}
 use Rattle.bq_state.proofs.{TallyPlaces.has_jobs_in, TubeLemmas.{none_later, same_entries, same_name}}
 
@@ -84,15 +83,6 @@ module _ (name : List ℕ) where
     | inl e ↦ subst (λ n. is_numbered n new ≡ has_entry n entries) (same_name name other e) (gone ∙ sym none)
     | inr e ↦ others other e ∙ first other e ∙ have other
   ]
-
--- At the start only the default tube has an entry and a number.
-pub numbers_at_first : (numbers : List (List ℕ × ℕ)) → is_numbered default_tube numbers ≡ true
-    → ((other : List ℕ) → is_same_name default_tube other ≡ false → is_numbered other numbers ≡ false)
-    → HaveNumbers numbers first_tubes.entries
-numbers_at_first numbers there others other = elim (cases_Bool (is_same_name default_tube other)) [
-  | inl e ↦ subst (λ n. is_numbered n numbers ≡ has_entry n first_tubes.entries) (same_name default_tube other e) there
-  | inr e ↦ others other e ∙ sym (rw (turned default_tube other e) refl)
-]
 
 -- A change of entries that keeps their names
 pub numbers_kept : (f : TubeRecord → TubeRecord) → ((t : TubeRecord) → (f t).name ≡ t.name)

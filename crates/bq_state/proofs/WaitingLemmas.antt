@@ -5,10 +5,9 @@ use Rattle.std.proofs.lemmas.{Bool.{cases_Bool, eq-eqb, eqb-true}, Grind.common_
 use Rattle.std.specs.{Cmp.IsStrictWeakOrder, List.{AllByRecursion as All, insert, position, prefix_len, remove}, Prelude.count_by}
 use Rattle.bq_job.specs.machine.{SeatRecord, empty_seat, is_waiting, numbers, seat_with, watching}
 use Rattle.bq_job.proofs.{ChoiceLemmas.pair_order, LawfulLemmas.length_numbers, ListLemmas.{all_weaker, found_passes}}
-use Rattle.bq_state.specs.declared.seats.SeatChange.{SeatChange}
+use Rattle.bq_state.specs.{declared.seats.SeatChange.SeatChange, WaitingTurns.{placed, removed, turns_of, with_turn, without_turn}}
 use Rattle.bq_state.specs.{EndingWaits.turn_of, SeatChanges.{AreNumbered, seat_changed, seat_changed_at}}
 use Rattle.bq_state.specs.WaitingTurns.{AreInTurn, IsRising, WaitingTurns, is_none_or_before, is_turn_before}
-use Rattle.bq_state.specs.WaitingTurns.{placed, removed, turns_of, with_turn, without_turn}
 use Rattle.bq_state.proofs.ClientLemmas.{all_others, heads, others, others_left}
 use Rattle.bq_state.proofs.PartsLemmas.{all_read, changed_there, number_kept, numbered_after, some_at}
 

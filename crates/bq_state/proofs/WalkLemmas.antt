@@ -1,9 +1,8 @@
 -- A walk over the waiting clients, in order of their turns, has the same result as one over all
 -- seats.
-use Rattle.std.proofs.Common.{◌<◌, ◌==◌, ◌∙◌, ◌∷◌, ◌≡◌, ◌≤◌, if◌then◌else◌, Bool, List, None, Option, Some}
+use Rattle.std.proofs.{Common.{◌<◌, ◌==◌, ◌∙◌, ◌∷◌, ◌≡◌, ◌≤◌, if◌then◌else◌, Bool, List, None, Option, Some}, lemmas.Grind.common_steps}
 use Rattle.std.proofs.Common.{[], ℕ, ap, arith, false, length, map, refl, slice_get, suc, sym, true}
 use Rattle.std.proofs.lemmas.{Bool.{eq-eqb, ne_eqb}, List.Folds.find_at, Option.{slice_get_past, slice_get_within}}
-use Rattle.std.proofs.lemmas.Grind.{common_steps}
 use Rattle.std.specs.{Cmp.IsStrictWeakOrder, List.{AllByRecursion as All, Contains, list_any, position}}
 use Rattle.std.specs.Prelude.{find, fold, is_some, option_map}
 use Rattle.bq_job.specs.machine.{SeatRecord, better_of, first_of, is_wait_before, is_waiting, numbers, seat_with, ticket_of}

@@ -4,10 +4,9 @@ use Rattle.std.proofs.Common.{false, filter, find, inl, inr, is_some, map, not, 
 use Rattle.std.proofs.{lemmas.Bool.cases_Bool}
 use Rattle.std.proofs.{Common.arith, lemmas.Grind.common_steps}
 use Rattle.std.specs.{List.{AllByRecursion as All, Contains, list_any}, Prelude.unwrap_or}
-use Rattle.bq_job.specs.declared.job.Job.{Job}
+use Rattle.bq_job.specs.{declared.job.Job.Job, machine.{with_delete, with_pause, with_put, with_record, with_tube, Machine.Machine}}
 use Rattle.bq_job.specs.machine.{Pause, SeatRecord, TubeRecord, forgetting, fresh_tube, is_job_before, is_name_before, is_paused, is_ready}
 use Rattle.bq_job.specs.machine.{is_tube, is_waiting, is_waiting_for, later, next_job, tube_record, watches, watching}
-use Rattle.bq_job.specs.machine.{with_delete, with_pause, with_put, with_record, with_tube, Machine.Machine}
 use Rattle.bq_job.specs.{reading.TubeName.is_same_name}
 use Rattle.bq_job.proofs.ChoiceLemmas.{first_of_none, first_of_none_passes}
 use Rattle.bq_job.proofs.ListLemmas.{all_always, all_at, all_from_members, all_of_map, all_weaker}
@@ -15,10 +14,9 @@ use Rattle.bq_job.proofs.ListLemmas.{find_in_filter, found_passes, list_any_not,
 use Rattle.bq_jobs.specs.Kept.{with_added}
 use Rattle.bq_state.specs.declared.{known.wanted.Wanted.{Wanted, TheVariants.{Any, Client, Nothing, Tube}}, seats.SeatChange.SeatChange}
 use Rattle.bq_state.specs.declared.tubes.entry.TubeChange.{TubeChange, TheVariants.{CountDelete, CountPut, Pause as PauseFor}}
-use Rattle.bq_state.specs.{Crowds.is_waiter, SeatChanges.seat_changed_at}
+use Rattle.bq_state.specs.{Crowds.is_waiter, SeatChanges.seat_changed_at, TubeEntries.tube_changed}
 use Rattle.bq_state.specs.WantedJobs.{AreKnown, IsKnown, is_nothing, is_paused_by, is_wanted_by}
 use Rattle.bq_state.specs.WantedJobs.{may_get, wanted_after_tube, wanted_after_seat, with_all_wanted, with_wanted}
-use Rattle.bq_state.specs.{TubeEntries.tube_changed}
 use Rattle.bq_state.proofs.{PartsLemmas.{all_added, all_read, all_set}, TubeLemmas.{same_itself, same_name}}
 
 -- a job that a client could receive can still be received

@@ -1,7 +1,6 @@
 -- What is known about the clients that wait while they hold a job.
-use Rattle.std.proofs.Common.{◌-◌, ◌==◌, ◌∙◌, ◌∷◌, ◌≡◌, ◌≤◌, if◌then◌else◌, Bool, List, None, Option}
-use Rattle.std.proofs.Common.{Some, [], ℕ, ap, arith, false, map, refl, set, slice_get, true}
-use Rattle.std.proofs.lemmas.{Bool.and_parts, Grind.common_steps}
+use Rattle.std.proofs.{Common.{◌-◌, ◌==◌, ◌∙◌, ◌∷◌, ◌≡◌, ◌≤◌, if◌then◌else◌, Bool, List, None, Option}, lemmas.Bool.cases_Bool}
+use Rattle.std.proofs.{Common.{Some, [], ℕ, ap, arith, false, map, refl, set, slice_get, true}, lemmas.{Bool.and_parts, Grind.common_steps}}
 use Rattle.std.specs.{List.{AllByRecursion as All, Contains, list_any}, Prelude.{count_by, fold, is_some, length, option_map}}
 use Rattle.bq_job.specs.declared.job.{Job.Job, JobState.JobState}
 use Rattle.bq_job.specs.machine.{SeatRecord, first_of, is_held_by, is_holder, is_waiting, seat_with, watching}
@@ -16,7 +15,6 @@ use Rattle.bq_state.specs.SeatChanges.{AreNumbered, seat_changed, seat_changed_a
 use Rattle.bq_state.specs.Warnings.{AreWarned, IsWarned, has_waiting_holder, holds_in_wait, is_waiting_there, may_hold}
 use Rattle.bq_state.specs.Warnings.{may_warn, warned_by_seat, warned_if_due, with_holder, with_holder_of}
 use Rattle.bq_state.proofs.PartsLemmas.{all_added, all_read, all_set}
-use Rattle.std.proofs.lemmas.Bool.{cases_Bool}
 
 -- with no other moment
 pub no_other : (a : Option ℕ) → earlier_of_both a None ≡ a

@@ -1,7 +1,6 @@
 -- How many clients are at each tube.
-use Rattle.std.specs.List.{AllByRecursion, insert, prefix_len}
+use Rattle.std.specs.{List.{AllByRecursion, insert, prefix_len}, Prelude.{[], ℕ, count_by, false, fold, map, nat_lt, not, true}}
 use Rattle.std.specs.Prelude.{◌&&◌, ◌||◌, ◌∷◌, ◌≡◌, if◌then◌else◌, Bool, List, None, Option, Some}
-use Rattle.std.specs.Prelude.{[], ℕ, count_by, false, fold, map, nat_lt, not, true}
 use Rattle.bq_job.specs.{beside.none_twice, machine.{SeatRecord, TubeRecord, is_name_before, is_waiting, watches}}
 use Rattle.bq_job.specs.{reading.TubeName.is_same_name}
 use Rattle.bq_state.specs.declared.seats.SeatChange.{SeatChange, TheVariants.{Clear, Connect, End, StopWaiting, Use, Wait}}

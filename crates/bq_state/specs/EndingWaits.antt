@@ -1,10 +1,9 @@
 -- Which waits end.
 use Rattle.std.specs.List.{AllByRecursion, list_any}
 use Rattle.std.specs.Prelude.{◌&&◌, ◌+◌, ◌-◌, ◌||◌, ◌≡◌, if◌then◌else◌, Bool, None, Option, Some, ℕ, count_by, false, nat_le, true}
-use Rattle.bq_job.specs.declared.{answer.Answer.Answer, job.Job.Job}
+use Rattle.bq_job.specs.{declared.{answer.Answer.Answer, job.Job.Job}, machine.{is_waiting, ticket_of, Machine.Machine}}
 use Rattle.bq_job.specs.declared.answer.Answer.TheVariants as answers
 use Rattle.bq_job.specs.machine.{SeatRecord, ends_waiting, is_deadline_soon, is_pair_before, is_reserved, is_timed_out, is_timed_out_at}
-use Rattle.bq_job.specs.machine.{is_waiting, ticket_of, Machine.Machine}
 use Rattle.bq_jobs.specs.Leases.{deadline_of}
 
 -- a reservation whose time to run ends within a second

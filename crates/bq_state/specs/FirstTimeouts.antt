@@ -2,9 +2,8 @@
 use Rattle.std.specs.{List.AllByRecursion}
 use Rattle.std.specs.Prelude.{◌&&◌, ◌≡◌, if◌then◌else◌, Bool, List, None, Option, Some, ℕ, false, fold, is_some, not, true}
 use Rattle.bq_job.specs.{beside.{dues_of_wait, earliest}, machine.{SeatRecord, is_waiting}}
-use Rattle.bq_state.specs.declared.known.first_timeout.FirstTimeout.{FirstTimeout, TheVariants.{Known, Unknown}}
+use Rattle.bq_state.specs.{declared.known.first_timeout.FirstTimeout.{FirstTimeout, TheVariants.{Known, Unknown}}, Dues.with_seat_due}
 use Rattle.bq_state.specs.declared.seats.SeatChange.{SeatChange, TheVariants.{Clear, Connect, End, StopWaiting, Use, Wait}}
-use Rattle.bq_state.specs.Dues.{with_seat_due}
 
 -- when the client's wait times out, if it waits
 abbrev pub gives_up_at : SeatRecord → Option ℕ

@@ -1,8 +1,7 @@
 -- Changes of a job.
 use Rattle.std.specs.Prelude.{◌||◌, if◌then◌else◌, Bool, None, Option, Some, ℕ, false, not}
-use Rattle.bq_job.specs.declared.job.Job.{Job}
+use Rattle.bq_job.specs.{declared.job.Job.Job, machine.{buried, in_state, is_buried, is_delayed, is_held_by, is_reserved}}
 use Rattle.bq_job.specs.declared.job.JobState.TheVariants as states
-use Rattle.bq_job.specs.machine.{buried, in_state, is_buried, is_delayed, is_held_by, is_reserved}
 use Rattle.bq_job.specs.machine.{job_after_timers, kicked, released, reserved_by, after_delete, Machine.Machine}
 use Rattle.bq_state.specs.declared.job_store.JobChange.{JobChange, TheVariants.{Bury, FireTimers, GiveBack, HandOut, Kick, Release, Touch}}
 use Rattle.bq_state.specs.declared.job_store.JobTest.{JobTest, TheVariants.{Free, FreeFor, HeldBy, Kickable}}

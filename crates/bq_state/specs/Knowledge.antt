@@ -3,11 +3,9 @@ use Rattle.std.specs.Prelude.{◌≡◌, if◌then◌else◌, Bool, List, None, 
 use Rattle.bq_job.specs.{declared.job.Job.Job, machine.{SeatRecord, TubeRecord}}
 use Rattle.bq_jobs.specs.declared.row.Moved.{Moved}
 use Rattle.bq_state.specs.declared.{known.Known.Known, seats.SeatChange.SeatChange, tubes.entry.{Share.Share, TubeChange.TubeChange}}
-use Rattle.bq_state.specs.{Clients.{clients_of, clients_with, clients_without}, Crowds.AreCrowds}
-use Rattle.bq_state.specs.Dues.{first_pause_end, pause_end_after, pause_end_left}
+use Rattle.bq_state.specs.{Clients.{clients_of, clients_with, clients_without}, Crowds.AreCrowds, Leaving.gone_of}
+use Rattle.bq_state.specs.{Dues.{first_pause_end, pause_end_after, pause_end_left}, MaybeGoneTubes.{AreAlive, with_gone, with_existing}}
 use Rattle.bq_state.specs.{FirstTimeouts.{AreTimeouts, timeout_after}, KeptTubes.KeptTubes}
-use Rattle.bq_state.specs.Leaving.{gone_of}
-use Rattle.bq_state.specs.MaybeGoneTubes.{AreAlive, with_gone, with_existing}
 use Rattle.bq_state.specs.WantedJobs.{AreKnown, wanted_after_tube, wanted_after_seat, with_wanted}
 use Rattle.bq_state.specs.{Tallies.{AreCounted, tally_moved, tally_of, tally_with, tally_without}, TubeEntries.counted}
 use Rattle.bq_state.specs.Warnings.{AreWarned, warned_by_seat, with_holder_of}

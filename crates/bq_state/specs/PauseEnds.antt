@@ -1,10 +1,8 @@
 -- The ordered ends of the pauses of tubes.
-use Rattle.std.specs.BTreeMap.{insert_entry, is_at}
+use Rattle.std.specs.{BTreeMap.{insert_entry, is_at}, declared.cmp.Ordering.Ordering, List.list_any, Map.{lookup, remove_entry}}
 use Rattle.std.specs.Cmp.{IsTotalOrder, nat_cmp_total, on_total, then_total, Lexicographic.{nat_list_cmp_total, slice_cmp}}
-use Rattle.std.specs.{declared.cmp.Ordering.Ordering, List.list_any, Map.{lookup, remove_entry}}
-use Rattle.std.specs.Ordering.{nat_cmp, on, then_cmp}
+use Rattle.std.specs.{Ordering.{nat_cmp, on, then_cmp}, Prelude.{is_some, length, map, nat_le}}
 use Rattle.std.specs.Prelude.{◌&&◌, ◌+◌, ◌==◌, ◌∷◌, ◌≡◌, ◌≤◌, if◌then◌else◌, Bool, List, None, Option, Some, [], ℕ, count_by, false, find}
-use Rattle.std.specs.Prelude.{is_some, length, map, nat_le}
 use Rattle.bq_job.specs.{machine.{Pause, TubeRecord}, reading.TubeName.is_same_name}
 use Rattle.bq_index.specs.Catalog.{CatalogSeen}
 use Rattle.bq_state.specs.{declared.tubes.pauses.PauseEnd.PauseEnd, KeptTubes.{Named, record_at}}

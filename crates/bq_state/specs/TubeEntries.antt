@@ -1,12 +1,9 @@
 -- What the core keeps of tubes: an entry for each that exists, so that nothing later needs an
 -- allocation.
-use Rattle.std.specs.List.{AllByRecursion, list_any}
-use Rattle.std.specs.Prelude.{◌&&◌, ◌==◌, ◌||◌, ◌∷◌, ◌≡◌, if◌then◌else◌, Bool, List, None, Option}
+use Rattle.std.specs.{List.{AllByRecursion, list_any}, Prelude.{◌&&◌, ◌==◌, ◌||◌, ◌∷◌, ◌≡◌, if◌then◌else◌, Bool, List, None, Option}}
 use Rattle.std.specs.Prelude.{Some, [], ℕ, false, filter, map, nat_le, not, true}
-use Rattle.bq_job.specs.declared.job.Job.{Job}
+use Rattle.bq_job.specs.{declared.job.Job.Job, machine.{with_delete, with_pause, with_put, with_record}, reading.TubeName.is_same_name}
 use Rattle.bq_job.specs.machine.{Pause as PauseRecord, SeatRecord, TubeRecord, default_tube, fresh_tube, is_name_before, is_seated_at}
-use Rattle.bq_job.specs.machine.{with_delete, with_pause, with_put, with_record}
-use Rattle.bq_job.specs.reading.TubeName.{is_same_name}
 use Rattle.bq_state.specs.declared.tubes.entry.TubeChange.{TubeChange, TheVariants.{CountDelete, CountPut, Pause}}
 
 -- something was counted in the tube, so the machine has a record of it

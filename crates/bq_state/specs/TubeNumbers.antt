@@ -1,7 +1,6 @@
 -- Which tubes the jobs know by number: exactly those that have an entry.
 use Rattle.std.proofs.Props.{props}
-use Rattle.std.specs.{BTreeMap.is_at, Cmp.Lexicographic.slice_cmp, Map.lookup, Ordering.nat_cmp}
-use Rattle.std.specs.Prelude.{◌≡◌, List, ℕ, is_some}
+use Rattle.std.specs.{BTreeMap.is_at, Cmp.Lexicographic.slice_cmp, Map.lookup, Ordering.nat_cmp, Prelude.{◌≡◌, List, ℕ, is_some}}
 use Rattle.bq_job.specs.machine.{TubeRecord}
 use Rattle.bq_state.specs.TubeEntries.{has_entry}
 

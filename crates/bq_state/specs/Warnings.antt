@@ -1,9 +1,8 @@
 -- Which clients wait while they hold a job: they get DEADLINE_SOON when its time to run ends soon.
 use Rattle.std.specs.List.{AllByRecursion, list_any}
 use Rattle.std.specs.Prelude.{◌&&◌, ◌==◌, ◌||◌, ◌≡◌, if◌then◌else◌, Bool, List, None, Option, Some, ℕ, false, not, true}
-use Rattle.bq_job.specs.declared.job.{Job.Job, JobState.JobState}
+use Rattle.bq_job.specs.{declared.job.{Job.Job, JobState.JobState}, machine.{SeatRecord, is_held_by, is_waiting, seat_with}}
 use Rattle.bq_job.specs.declared.job.JobState.TheVariants as states
-use Rattle.bq_job.specs.machine.{SeatRecord, is_held_by, is_waiting, seat_with}
 use Rattle.bq_state.specs.declared.known.warns.Warns.{Warns, TheVariants.{Any, Client, Nobody}}
 use Rattle.bq_state.specs.declared.seats.SeatChange.{SeatChange, TheVariants.{Clear, StopWaiting, Wait}}
 

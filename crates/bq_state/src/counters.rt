@@ -7,8 +7,7 @@ ghost use Rattle.bq_state.specs.CoreParts.{held};
 use crate::core_parts::CoreParts;
 use bq_job::JobId;
 
-// The last id that is given out. The put that gets it makes the core drain, so the next id always
-// fits.
+// The last id that is given out. Its put makes the core drain, so the next id always fits.
 const LAST_ID: JobId = u64::MAX - 1;
 
 /// Counts a connection that was opened.

@@ -1,11 +1,10 @@
 use Rattle.std.proofs.Common.{◌*◌, ◌+◌, ap, arith, length, refl, subst, sym}
-use Rattle.bq_job.specs.machine.{Machine.Machine}
+use Rattle.bq_job.specs.machine.{Machine.Machine, DispatchTurn, has_refused_share}
 use Rattle.bq_steps.specs.Outbox.{Outbox}
 use Rattle.bq_jobs.specs.Kept.{Kept}
 use Rattle.bq_state.specs.{Asking.AsksAsChanged, CoreParts.machine_of, Cost.waited}
 use Rattle.bq_core.specs.{Acting.Acts, Turns.HasRoom}
 use Rattle.bq_core.proofs.{AskLemmas.{asks_more, asks_none}, AtOnceLemmas.looked_then, TurnLemmas.gives_nothing}
-use Rattle.bq_job.specs.machine.{DispatchTurn, has_refused_share}
 use Rattle.bq_core.proofs.at_once.act_or_hand_out.Goals as goal
 
 pub returns-then-reserve : goal.returns-then-reserve

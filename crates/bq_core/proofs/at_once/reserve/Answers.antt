@@ -1,5 +1,4 @@
-use Rattle.std.proofs.Common.{◌&&◌, ◌+◌, ◌∙◌, ◌≡◌, ap, arith, length, sym, true}
-use Rattle.std.proofs.lemmas.Bool.{and_parts}
+use Rattle.std.proofs.{Common.{◌&&◌, ◌+◌, ◌∙◌, ◌≡◌, ap, arith, length, sym, true}, lemmas.Bool.and_parts}
 use Rattle.bq_job.specs.machine.{raised, reserved_by, seat_with, with_job, Machine.Machine}
 use Rattle.bq_state.specs.{CoreParts.{machine_held, machine_of}, SeatStates.is_asking, WantedJobs.is_nothing}
 use Rattle.bq_core.specs.AtOnce.{is_reserve}

@@ -2,9 +2,8 @@ use Rattle.std.proofs.{Common.{◌-◌, ap, arith, length, refl}, lemmas.Grind.c
 use Rattle.bq_job.specs.machine.{DispatchTurn, has_refused_share}
 use Rattle.bq_steps.specs.Outbox.{Outbox}
 use Rattle.bq_state.specs.{CoreParts.machine_of, Cost.{waited, waited_tubes}}
-use Rattle.bq_core.proofs.AskLemmas.{asks_more, asks_none, asks_then}
+use Rattle.bq_core.proofs.{AskLemmas.{asks_more, asks_none, asks_then}, TurnLemmas.{gives_joined, gives_nothing, refused_joined, room_kept}}
 use Rattle.bq_core.proofs.CostLemmas.{handed_stop, no_shorter, one_longer, one_more_turn, waited_less}
-use Rattle.bq_core.proofs.TurnLemmas.{gives_joined, gives_nothing, refused_joined, room_kept}
 use Rattle.bq_core.proofs.dispatch.dispatch_all.Goals as goal
 
 pub loop-init : goal.loop-init

@@ -1,7 +1,6 @@
 use Rattle.std.proofs.Common.{◌++◌, ◌+◌, ◌==◌, ◌∙◌, ◌∷◌, ◌≡◌, Some, [], ap, arith, subst, sym}
-use Rattle.bq_job.specs.declared.job.Job.{Job}
+use Rattle.bq_job.specs.{declared.job.Job.Job, beside.AreIdsWithin}
 use Rattle.bq_job.specs.declared.answer.Answer.TheVariants as answers
-use Rattle.bq_job.specs.{beside.AreIdsWithin}
 use Rattle.bq_job.specs.machine.{SeatRecord, job_with, new_job, seat_with, telling, with_put, with_tube, Machine.Machine}
 use Rattle.bq_job.proofs.ListLemmas.{all_at, found_passes}
 use Rattle.bq_jobs.specs.Kept.{Kept, with_added}

@@ -1,8 +1,7 @@
 use Rattle.std.proofs.{Common.{◌∙◌, ◌≡◌, ap, false, sym}, lemmas.Bool.not-true}
 use Rattle.bq_job.specs.declared.answer.Answer.TheVariants as answers
 use Rattle.bq_job.specs.machine.{is_reserved, job_with, reserved_by, telling, with_job, Machine.Machine}
-use Rattle.bq_state.specs.declared.job_store.JobTest.TheVariants.{Free}
-use Rattle.bq_state.specs.{CoreParts.{machine_held, machine_of}, JobChanges.passes}
+use Rattle.bq_state.specs.{declared.job_store.JobTest.TheVariants.Free, CoreParts.{machine_held, machine_of}, JobChanges.passes}
 use Rattle.bq_core.proofs.{ActLemmas.{passed_by, reserve_job_done}, TurnLemmas.if_ok}
 use Rattle.bq_core.proofs.job_acts.reserve_job.Goals as goal
 

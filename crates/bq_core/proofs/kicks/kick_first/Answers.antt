@@ -1,10 +1,9 @@
-use Rattle.std.proofs.Common.{◌==◌, ◌∙◌, ◌≡◌, if◌then◌else◌, ap, arith, count_by, map, subst, sym}
+use Rattle.std.proofs.{Common.{◌==◌, ◌∙◌, ◌≡◌, if◌then◌else◌, ap, arith, count_by, map, subst, sym}, lemmas.Grind.common_steps}
 use Rattle.bq_job.specs.{declared.job.Job.Job, machine.{kicked, Machine.Machine}}
 use Rattle.bq_state.specs.{CoreParts.{machine_held, machine_of}, JobKinds.{is_before_of, is_of}}
 use Rattle.bq_core.specs.Kicking.{KicksFirst}
 use Rattle.bq_core.proofs.{FiredTimerLemmas.{chosen, one_fewer}, KickLemmas.{kicks_first, no_id, none_of_kind}}
 use Rattle.bq_core.proofs.kicks.kick_first.Goals as goal
-use Rattle.std.proofs.lemmas.Grind.{common_steps}
 
 pub returns-in_default-clause-none : goal.returns-in_default-clause-none
 returns-in_default-clause-none c _ = grind (arith, common_steps, none_of_kind, no_id)

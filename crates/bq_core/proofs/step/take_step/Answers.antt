@@ -4,10 +4,9 @@ use Rattle.bq_job.proofs.{ClientStepLemmas.step_settings, LawfulLemmas.step_is_l
 use Rattle.bq_jobs.specs.Kept.{Kept}
 use Rattle.bq_state.specs.{Asking.Asks, CoreParts.machine_of}
 use Rattle.bq_core.specs.{AtOnce.kept_at, FiredTimers.is_ripe, Serving.NoneIsGone}
-use Rattle.bq_core.proofs.{AskLemmas.asks_more, StepCosts.{serving_after, step_within}}
+use Rattle.bq_core.proofs.{AskLemmas.asks_more, StepCosts.{serving_after, step_within}, TurnLemmas.room_kept}
 use Rattle.bq_core.proofs.StepLemmas.{chain_alike, dispatch_turn_alike, first_room, forgotten_none, less_room}
 use Rattle.bq_core.proofs.StepLemmas.{room_after_act, serves_after, timers_alike, whole_step}
-use Rattle.bq_core.proofs.{TurnLemmas.room_kept}
 use Rattle.bq_core.proofs.step.take_step.Goals as goal
 
 pub serve-requires-clause-tubes : goal.serve-requires-clause-tubes

@@ -3,9 +3,8 @@ use Rattle.bq_job.specs.{beside.AreIdsWithin, machine.with_put}
 use Rattle.bq_jobs.specs.Kept.{with_added}
 use Rattle.bq_state.specs.declared.tubes.entry.TubeChange.TheVariants.{CountPut}
 use Rattle.bq_state.specs.{CoreParts.machine_of, Knowledge.with_job, TubeEntries.{counted, tube_changed_at}}
-use Rattle.bq_state.proofs.KnowledgeLemmas.{so_with_job, with_count}
+use Rattle.bq_state.proofs.{KnowledgeLemmas.{so_with_job, with_count}, TubeLemmas.{record_changed, same_entries}}
 use Rattle.bq_state.proofs.PartsLemmas.{entries_of_added, few_jobs, name_kept_at, tube_counts, tube_name_kept}
-use Rattle.bq_state.proofs.TubeLemmas.{record_changed, same_entries}
 use Rattle.bq_state.proofs.changes.add.Goals as goal
 use Rattle.bq_jobs.proofs.Changes.{added_within}
 

@@ -4,9 +4,8 @@ use Rattle.bq_job.proofs.KeptLemmas.{ids_of_map}
 use Rattle.bq_jobs.specs.Changed.{moved_by}
 use Rattle.bq_jobs.proofs.Told.{nothing_told_of, told_of}
 use Rattle.bq_state.specs.{JobChanges.changed, Warnings.has_waiting_holder}
-use Rattle.bq_state.proofs.{CrowdPlaces.waiters_counted, KnowledgeLemmas.so_with_moved}
+use Rattle.bq_state.proofs.{CrowdPlaces.waiters_counted, KnowledgeLemmas.so_with_moved, PartsLemmas.{few_jobs, id_kept, no_job_changed}}
 use Rattle.bq_state.proofs.MovedLemmas.{entries_of_changed, one_id, one_tube, tube_ignored, tube_kept}
-use Rattle.bq_state.proofs.PartsLemmas.{few_jobs, id_kept, no_job_changed}
 use Rattle.bq_state.proofs.changes.change_job.Goals as goal
 
 pub invariant_of-state : goal.invariant_of-state

@@ -1,13 +1,11 @@
-use Rattle.std.proofs.Common.{◌∙◌, ◌≡◌, ◌≤◌, List, ℕ, ap, arith, filter, get_or, length, not, refl, sym}
+use Rattle.std.proofs.{Common.{◌∙◌, ◌≡◌, ◌≤◌, List, ℕ, ap, arith, filter, get_or, length, not, refl, sym}, lemmas.Grind.common_steps}
 use Rattle.std.proofs.lemmas.Option.{slice_get_read, slice_get_within}
 use Rattle.bq_job.specs.{machine.{greatest, watching}, reading.TubeName.is_same_name}
 use Rattle.bq_state.specs.declared.tubes.entry.Moving.TheVariants.{Goes}
 use Rattle.bq_state.specs.{CoreParts.machine_of, Counting.with_crowds_at, Crowds.recounted, KeptTubes.KeptTubes, TubeEntries.counted}
-use Rattle.bq_state.proofs.{KnowledgeLemmas.so_ignoring}
+use Rattle.bq_state.proofs.{KnowledgeLemmas.so_ignoring, WaitingLemmas.in_turn_watching}
 use Rattle.bq_state.proofs.PartsLemmas.{changed_there, seat_read, seat_there, watching_fewer, watching_numbered}
-use Rattle.bq_state.proofs.{WaitingLemmas.in_turn_watching}
 use Rattle.bq_state.proofs.changes.ignore_tube.Goals as goal
-use Rattle.std.proofs.lemmas.Grind.{common_steps}
 
 pub ignore-requires-clause-other : goal.ignore-requires-clause-other
 ignore-requires-clause-other c s there = grind (arith, common_steps, seat_read)

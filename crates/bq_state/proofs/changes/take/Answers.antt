@@ -1,14 +1,12 @@
 use Rattle.std.proofs.{Common.{◌==◌, ◌∙◌, ◌≡◌, Some, ap, arith, not, sym}, lemmas.Grind.common_steps}
-use Rattle.bq_job.specs.declared.job.Job.{Job}
-use Rattle.bq_job.specs.machine.{job_with, with_delete}
+use Rattle.bq_job.specs.{declared.job.Job.Job, machine.{job_with, with_delete}}
 use Rattle.bq_job.proofs.KeptLemmas.{ids_of_filter}
 use Rattle.bq_jobs.specs.Kept.{Kept, without}
 use Rattle.bq_jobs.proofs.Changes.{without_none}
 use Rattle.bq_state.specs.declared.tubes.entry.TubeChange.TheVariants.{CountDelete}
 use Rattle.bq_state.specs.{CoreParts.machine_of, JobChanges.once_deleted, TubeEntries.{counted, tube_changed_at}}
-use Rattle.bq_state.proofs.KnowledgeLemmas.{so_without_job, with_count}
+use Rattle.bq_state.proofs.{KnowledgeLemmas.{so_without_job, with_count}, TubeLemmas.{record_changed, same_entries}}
 use Rattle.bq_state.proofs.PartsLemmas.{entries_of_fewer, given_of_job, has_of_job, name_kept_at, tube_counts, tube_name_kept}
-use Rattle.bq_state.proofs.TubeLemmas.{record_changed, same_entries}
 use Rattle.bq_state.proofs.changes.take.Goals as goal
 
 pub invariant_of-state : goal.invariant_of-state

@@ -1,15 +1,12 @@
-use Rattle.std.proofs.Common.{◌++◌, ◌∙◌, ◌∷◌, ◌≡◌, ◌≤◌, if◌then◌else◌, Some, [], ap}
-use Rattle.std.proofs.Common.{arith, false, get_or, length, refl, set, slice_get, sym}
-use Rattle.std.proofs.lemmas.Option.{slice_get_read, slice_get_within}
+use Rattle.std.proofs.{Common.{◌++◌, ◌∙◌, ◌∷◌, ◌≡◌, ◌≤◌, if◌then◌else◌, Some, [], ap}, lemmas.Option.{slice_get_read, slice_get_within}}
+use Rattle.std.proofs.{Common.{arith, false, get_or, length, refl, set, slice_get, sym}, lemmas.Grind.common_steps}
 use Rattle.bq_job.specs.machine.{greatest, is_waiting, seat_with, watching, Machine.Machine}
 use Rattle.bq_state.specs.declared.tubes.entry.{Moving.TheVariants.Comes, Share.Share}
 use Rattle.bq_state.specs.{CoreParts.machine_of, Counting.with_crowds_at, Crowds.recounted}
 use Rattle.bq_state.specs.{KeptTubes.KeptTubes, WantedJobs.with_all_wanted, TubeEntries.counted}
-use Rattle.bq_state.proofs.{KnowledgeLemmas.so_watching}
+use Rattle.bq_state.proofs.{KnowledgeLemmas.so_watching, WaitingLemmas.in_turn_watching}
 use Rattle.bq_state.proofs.PartsLemmas.{changed_there, seat_read, seat_there, watching_more, watching_numbered}
-use Rattle.bq_state.proofs.{WaitingLemmas.in_turn_watching}
 use Rattle.bq_state.proofs.changes.watch_tube.Goals as goal
-use Rattle.std.proofs.lemmas.Grind.{common_steps}
 
 pub returns-then-from-len-clause-count : goal.returns-then-from-len-clause-count
 returns-then-from-len-clause-count c s found = grind (arith, common_steps, slice_get_within, seat_there)

@@ -1,10 +1,9 @@
-use Rattle.std.proofs.Common.{◌∙◌, ◌≡◌, List, ℕ, ap, false, refl, slice_get, sym, true}
+use Rattle.std.proofs.{Common.{◌∙◌, ◌≡◌, List, ℕ, ap, false, refl, slice_get, sym, true}, lemmas.List.Sums.prefix_len-le-length}
 use Rattle.std.specs.{Borrow.Bor, List.{insert, prefix_len}}
 use Rattle.bq_job.specs.machine.{is_name_before}
 use Rattle.bq_state.specs.Names.{is_named, names_of}
 use Rattle.bq_state.proofs.NameLemmas.{place_kept, place_new, when_ok}
 use Rattle.bq_state.proofs.name_lists.add.Goals as goal
-use Rattle.std.proofs.lemmas.List.Sums.{prefix_len-le-length}
 
 pub insert-fits-requires : goal.insert-fits-requires
 insert-fits-requires c = rw (c.place_of-i.ensures, ← c.as_slice.ensures.len) (prefix_len-le-length _ _)

@@ -1,8 +1,7 @@
 use Rattle.std.proofs.{Common.{◌∙◌, ◌≡◌, ap, arith, false, map, subst, sym}, lemmas.List.length-map}
 use Rattle.std.specs.{BTreeMap.insert_entry, Cmp.Lexicographic.slice_cmp, Ordering.nat_cmp}
 use Rattle.bq_state.specs.{KeptTubes.record_at, PauseEnds.AreEnds, TubeEntries.has_entry}
-use Rattle.bq_state.proofs.{EndMoves.ends_provided}
-use Rattle.bq_state.proofs.NamedLemmas.{crowds_provided_there, found_any, kept_alike, lent_any, new_crowd}
+use Rattle.bq_state.proofs.{EndMoves.ends_provided, NamedLemmas.{crowds_provided_there, found_any, kept_alike, lent_any, new_crowd}}
 use Rattle.bq_state.proofs.NamedLemmas.{new_entry, new_record, new_tally, provided_there, tallies_provided_there}
 use Rattle.bq_state.proofs.tubes.Tubes.provide.Goals as goal
 use Rattle.std.proofs.lemmas.Grind.{common_steps}

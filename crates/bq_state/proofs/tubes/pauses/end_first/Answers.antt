@@ -1,9 +1,8 @@
 use Rattle.std.proofs.{Common.{◌∙◌, Some, ap, arith, map, refl, sym}, lemmas.Grind.common_steps}
 use Rattle.bq_state.specs.{Dues.is_end_over, KeptTubes.{crowd_kept, ended, record_at, tally_kept}}
 use Rattle.bq_state.specs.PauseEnds.{end_of, first_end, pause_at, with_end, without_end}
-use Rattle.bq_state.proofs.EndLemmas.{first_is, none_over_yet, one_over}
+use Rattle.bq_state.proofs.{EndLemmas.{first_is, none_over_yet, one_over}, NamedLemmas.{edit_same_crowds, edit_same_tallies, in_order}}
 use Rattle.bq_state.proofs.EndMoves.{ends_moved, one_box, one_if, over_fewer, over_from, over_moves, over_records, over_to}
-use Rattle.bq_state.proofs.NamedLemmas.{edit_same_crowds, edit_same_tallies, in_order}
 use Rattle.bq_state.proofs.tubes.pauses.end_first.Goals as goal
 
 pub returns-in_default-clause-done : goal.returns-in_default-clause-done
