@@ -1,8 +1,8 @@
 ghost use Rattle.std.specs.Prelude.{◌≡◌, ◌<◌, ◌≤◌, ◌+◌, ◌*◌, [], false, length, take, true, if◌then◌else◌};
 ghost use Rattle.bq_job.specs.declared.job.Job.{Job};
 ghost use Rattle.bq_job.specs.machine.JobCommands.{after_kick, kick_effect, kickable, kicked};
-ghost use Rattle.bq_jobs.specs.Kept.{ComparesAtMost};
 ghost use Rattle.bq_state.specs.Asking.{Asks, AsksAsChanged};
+ghost use Rattle.bq_state.specs.Searching.{Searches};
 ghost use Rattle.bq_steps.specs.Cost.{changed_jobs};
 ghost use Rattle.bq_state.specs.JobKinds.{is_of};
 ghost use Rattle.bq_core.specs.Kicking.{KicksFirst, jobs_of};
@@ -22,8 +22,7 @@ use bq_state::{changes, seats};
 fn kind_to_kick(jobs: &mut NumberedJobs, tube: &TubeName) -> JobKind
     ensures order { jobs_of result tube.now jobs.old.jobs ≡ kickable tube.now jobs.old.jobs }
     ensures out { (k : Job) → is_of result tube.now (kicked k) ≡ false }
-    ensures same { jobs.new ≡ record jobs.old { comparisons = jobs.new.comparisons } }
-    ensures comparisons { ComparesAtMost 1 jobs.old jobs.new }
+    ensures kept { Searches 1 jobs.old jobs.new }
 {
     match jobs.first_buried(tube) {
         Some(_) => JobKind::Buried,

@@ -4,8 +4,8 @@ ghost use Rattle.std.specs.Prelude.{◌≡◌, ◌<◌, ◌+◌, ◌*◌, true, 
 ghost use Rattle.std.specs.Prelude.{count_by, fold, length};
 ghost use Rattle.std.specs.List.{list_any};
 ghost use Rattle.bq_job.specs.machine.Timers.{after_timers, is_due, is_expired};
-ghost use Rattle.bq_jobs.specs.Kept.{ComparesAtMost};
 ghost use Rattle.bq_state.specs.Asking.{Asks};
+ghost use Rattle.bq_state.specs.Searching.{Searches};
 ghost use Rattle.bq_core.specs.FiredTimers.{ExpiresOne, IsOne, after_job_timers, is_ripe, is_some_due};
 ghost use Rattle.bq_core.specs.FiredTimers.{is_some_expired, after_giving_back};
 ghost use Rattle.bq_state.specs.Keeping.{Looks};
@@ -21,8 +21,8 @@ ghost use Rattle.bq_job.specs.beside.NextDue.{next_due as next_due_of};
 ghost use Rattle.bq_state.specs.Dues.{earlier_of_both, timers_due, warning_due};
 ghost use Rattle.bq_state.specs.Dues.{warning_due_at, with_seat_due, with_warning_due};
 ghost use Rattle.bq_state.specs.FirstTimeouts.{AreTimeouts};
-ghost use Rattle.bq_state.specs.WaitingTurns.{at_turn, turns_of};
-ghost use Rattle.bq_state.specs.SeatChanges.{AreNumbered};
+ghost use Rattle.bq_state.specs.SeatTurns.{AreTurnsOf};
+ghost use Rattle.bq_state.specs.WaitingTurns.{at_turn};
 ghost use Rattle.bq_state.specs.Warnings.{AreWarned, is_waiting_there};
 
 use bq_job::{JobId, JobState, Moment, Seat};
@@ -199,8 +199,7 @@ fn moment_of(found: Option<(Moment, JobId)>) -> Option<Moment>
 // Returns when a waiting client gets DEADLINE_SOON for a job that it holds.
 fn warning_due(jobs: &mut NumberedJobs, client: &SeatRecord) -> Option<Moment>
     ensures due { result ≡ warning_due jobs.old.jobs client.now }
-    ensures same { jobs.new ≡ record jobs.old { comparisons = jobs.new.comparisons } }
-    ensures asks { Asks (if is_waiting client.now then 1 else 0) jobs.old jobs.new }
+    ensures kept { Searches (if is_waiting client.now then 1 else 0) jobs.old jobs.new }
 {
     if !client.is_waiting() {
         return None;
@@ -214,8 +213,7 @@ fn warning_due(jobs: &mut NumberedJobs, client: &SeatRecord) -> Option<Moment>
 // Does the same for the client at a seat, if there is one.
 fn warning_due_at(jobs: &mut NumberedJobs, client: Option<&SeatRecord>) -> Option<Moment>
     ensures due { result ≡ warning_due_at jobs.old.jobs (option_copied client.entry) }
-    ensures same { jobs.new ≡ record jobs.old { comparisons = jobs.new.comparisons } }
-    ensures asks { Asks
+    ensures kept { Searches
         (if is_waiting_there (option_copied client.entry) then 1 else 0) jobs.old jobs.new }
 {
     match client {
@@ -233,8 +231,7 @@ fn with_warning_of(
     turn: Turn,
 ) -> Option<Moment>
     ensures due { result ≡ at_turn (with_warning_due jobs.old.jobs) seats.now best turn }
-    ensures same { jobs.new ≡ record jobs.old { comparisons = jobs.new.comparisons } }
-    ensures asks { Asks 1 jobs.old jobs.new }
+    ensures kept { Searches 1 jobs.old jobs.new }
 {
     match seats.get(usize::from(turn.1)) {
         None => best,
@@ -247,8 +244,7 @@ fn with_warning_of(
 fn first_warning(jobs: &mut NumberedJobs, seats: &[SeatRecord], turns: &[Turn]) -> Option<Moment>
     ensures due { result
         ≡ fold (at_turn (with_warning_due jobs.old.jobs) seats.now) None turns.now }
-    ensures same { jobs.new ≡ record jobs.old { comparisons = jobs.new.comparisons } }
-    ensures asks { Asks (length turns.now) jobs.old jobs.new }
+    ensures kept { Searches (length turns.now) jobs.old jobs.new }
 {
     let mut best = None;
     for i in 0..turns.len() {
@@ -267,11 +263,9 @@ fn warnings_due(
     warns: &Warns,
 ) -> Option<Moment>
     requires warned { AreWarned warns.now jobs.old.jobs seats.now }
-    requires numbered { AreNumbered seats.now }
-    requires turns { turns.now ≡ turns_of seats.now }
+    requires turns { AreTurnsOf turns.now seats.now }
     ensures due { result ≡ fold (with_warning_due jobs.old.jobs) None seats.now }
-    ensures same { jobs.new ≡ record jobs.old { comparisons = jobs.new.comparisons } }
-    ensures asks { Asks (count_by is_waiting seats.now) jobs.old jobs.new }
+    ensures kept { Searches (count_by is_waiting seats.now) jobs.old jobs.new }
 {
     match warns {
         Warns::Nobody => None,
@@ -286,8 +280,7 @@ fn first_due(jobs: &mut NumberedJobs, has_delayed: bool) -> Option<Moment>
     requires { has_delayed ≡ list_any (λ j. is_delayed j.state) jobs.old.jobs }
     ensures due { result
         ≡ option_map (λ j. due_of j.state) (first_of (λ j. is_delayed j.state) is_due_before jobs.old.jobs) }
-    ensures same { jobs.new ≡ record jobs.old { comparisons = jobs.new.comparisons } }
-    ensures asks { Asks 1 jobs.old jobs.new }
+    ensures kept { Searches 1 jobs.old jobs.new }
 {
     if !has_delayed {
         return None;
@@ -301,8 +294,7 @@ fn first_deadline(jobs: &mut NumberedJobs, has_lease: bool) -> Option<Moment>
     requires { has_lease ≡ list_any (λ j. is_reserved j.state) jobs.old.jobs }
     ensures due { result
         ≡ option_map (λ j. deadline_of j.state) (first_of (λ j. is_reserved j.state) is_lease_before jobs.old.jobs) }
-    ensures same { jobs.new ≡ record jobs.old { comparisons = jobs.new.comparisons } }
-    ensures asks { Asks 1 jobs.old jobs.new }
+    ensures kept { Searches 1 jobs.old jobs.new }
 {
     if !has_lease {
         return None;
@@ -315,8 +307,7 @@ fn jobs_due(jobs: &mut NumberedJobs, has_delayed: bool, has_lease: bool) -> Opti
     requires delayed { has_delayed ≡ list_any (λ j. is_delayed j.state) jobs.old.jobs }
     requires lease { has_lease ≡ list_any (λ j. is_reserved j.state) jobs.old.jobs }
     ensures due { result ≡ timers_due jobs.old.jobs }
-    ensures same { jobs.new ≡ record jobs.old { comparisons = jobs.new.comparisons } }
-    ensures asks { Asks 2 jobs.old jobs.new }
+    ensures kept { Searches 2 jobs.old jobs.new }
 {
     let due = first_due(jobs, has_delayed);
     let deadline = first_deadline(jobs, has_lease);
@@ -326,8 +317,7 @@ fn jobs_due(jobs: &mut NumberedJobs, has_delayed: bool, has_lease: bool) -> Opti
 // Returns when the first wait times out. If that is known, no seat is checked.
 fn seats_due(first: &FirstTimeout, seats: &[SeatRecord], turns: &[Turn]) -> Option<Moment>
     requires known { AreTimeouts first.now seats.now }
-    requires numbered { AreNumbered seats.now }
-    requires turns { turns.now ≡ turns_of seats.now }
+    requires turns { AreTurnsOf turns.now seats.now }
     ensures { result ≡ fold with_seat_due None seats.now }
 {
     match first {

@@ -19,8 +19,10 @@ pub mod Offers
 pub mod PauseEnds
 pub mod Places
 pub mod Room
+pub mod Searching
 pub mod SeatChanges
 pub mod SeatStates
+pub mod SeatTurns
 pub mod SeatView
 pub mod Soundness
 pub mod Tallies

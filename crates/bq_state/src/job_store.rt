@@ -9,8 +9,8 @@ ghost use Rattle.bq_job.specs.machine.Limits.{later as later_by};
 ghost use Rattle.std.specs.List.{list_any};
 ghost use Rattle.bq_job.specs.machine.Timers.{job_after_timers};
 ghost use Rattle.bq_job.specs.machine.JobCommands.{buried, delayed_by as delayed_for, kicked, released};
-ghost use Rattle.bq_jobs.specs.Kept.{ComparesAtMost};
 ghost use Rattle.bq_jobs.specs.Seen.{IsBodyOf};
+ghost use Rattle.bq_state.specs.Searching.{Searches};
 ghost use Rattle.bq_state.specs.JobChanges.{changed, is_passed_by, passes, ttr_held_by};
 ghost use Rattle.bq_state.specs.JobKinds.{first_of_kind};
 ghost use Rattle.bq_state.specs.Room.{room_left};
@@ -102,8 +102,7 @@ pub(crate) fn is_ready(job: &Job) -> bool
 #[tactic(auto, using(crate::proofs::DueLemmas::held_some))]
 pub(crate) fn holds_some(jobs: &mut NumberedJobs, seat: Seat) -> bool
     ensures holds { result ≡ list_any (held_by seat) jobs.old.jobs }
-    ensures same { jobs.new ≡ record jobs.old { comparisons = jobs.new.comparisons } }
-    ensures comparisons { ComparesAtMost 1 jobs.old jobs.new }
+    ensures kept { Searches 1 jobs.old jobs.new }
 {
     jobs.next_deadline_of(seat).is_some()
 }
@@ -190,8 +189,7 @@ impl JobEdit for JobChange {
 /// Returns the id of the first job of this kind in this tube.
 pub fn first(jobs: &mut NumberedJobs, kind: JobKind, tube: &TubeName) -> Option<JobId>
     ensures id { result ≡ option_map (λ j. j.id) (first_of_kind kind tube.now jobs.old.jobs) }
-    ensures same { jobs.new ≡ record jobs.old { comparisons = jobs.new.comparisons } }
-    ensures comparisons { ComparesAtMost 1 jobs.old jobs.new }
+    ensures kept { Searches 1 jobs.old jobs.new }
 {
     match kind {
         JobKind::Ready => jobs.first_ready(tube),
@@ -227,8 +225,7 @@ fn passes(job: &Row, test: JobTest) -> bool
 /// Returns true if there is a job with this id and it passes the test.
 pub(crate) fn has(jobs: &mut NumberedJobs, id: JobId, test: JobTest) -> bool
     ensures has { result ≡ is_passed_by (passes test) (job_with id jobs.old.jobs) }
-    ensures same { jobs.new ≡ record jobs.old { comparisons = jobs.new.comparisons } }
-    ensures comparisons { ComparesAtMost 1 jobs.old jobs.new }
+    ensures kept { Searches 1 jobs.old jobs.new }
 {
     match jobs.get(id) {
         None => false,
@@ -240,8 +237,7 @@ pub(crate) fn has(jobs: &mut NumberedJobs, id: JobId, test: JobTest) -> bool
 /// it.
 pub(crate) fn time_to_run(jobs: &mut NumberedJobs, id: JobId, seat: Seat) -> Option<u32>
     ensures ttr { result ≡ ttr_held_by seat (job_with id jobs.old.jobs) }
-    ensures same { jobs.new ≡ record jobs.old { comparisons = jobs.new.comparisons } }
-    ensures comparisons { ComparesAtMost 1 jobs.old jobs.new }
+    ensures kept { Searches 1 jobs.old jobs.new }
 {
     match jobs.get(id) {
         None => None,
@@ -258,8 +254,7 @@ pub(crate) fn time_to_run(jobs: &mut NumberedJobs, id: JobId, seat: Seat) -> Opt
 pub(crate) fn share(jobs: &mut NumberedJobs, id: JobId) -> Option<Result<Body, NoMemory>>
     ensures none { is_some result ≡ is_some (job_with id jobs.old.jobs) }
     ensures share { IfSome result (λ shared. IfOk shared (IsBodyOf (job_with id jobs.old.jobs))) }
-    ensures same { jobs.new ≡ record jobs.old { comparisons = jobs.new.comparisons } }
-    ensures comparisons { ComparesAtMost 1 jobs.old jobs.new }
+    ensures kept { Searches 1 jobs.old jobs.new }
 {
     jobs.share_body(id)
 }

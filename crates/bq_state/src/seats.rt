@@ -12,7 +12,8 @@ ghost use Rattle.bq_state.specs.SeatChanges.{watches_other};
 ghost use Rattle.bq_state.specs.EndingWaits.{has_waited, turn_of};
 ghost use Rattle.bq_state.specs.FirstTimeouts.{is_gone_in_wait};
 ghost use Rattle.bq_state.specs.Offers.{waits_at};
-ghost use Rattle.bq_state.specs.WaitingTurns.{passes_at, turns_of};
+ghost use Rattle.bq_state.specs.SeatTurns.{AreTurnsOf};
+ghost use Rattle.bq_state.specs.WaitingTurns.{passes_at};
 ghost use Rattle.bq_state.specs.Warnings.{has_waiting_holder, is_waiting_there};
 ghost use Rattle.bq_job.specs.machine.Asked.{with_end};
 ghost use Rattle.bq_job.specs.machine.JobCommands.{waiting_from};
@@ -162,8 +163,7 @@ fn place_waiting(seats: &[SeatRecord], turns: &[Turn], tube: &TubeName) -> Optio
 /// Returns the seat of the client that has waited longest for jobs of this tube. Only waiting
 /// clients are checked.
 pub fn first_waiting(seats: &[SeatRecord], turns: &[Turn], tube: &TubeName) -> Option<Seat>
-    requires numbered { AreNumbered seats.now }
-    requires turns { turns.now ≡ turns_of seats.now }
+    requires { AreTurnsOf turns.now seats.now }
     ensures { result
         ≡ option_map (λ s. s.number) (first_of (waits_at tube.now) is_wait_before seats.now) }
 {
@@ -201,8 +201,7 @@ fn is_some_turn_over(seats: &[SeatRecord], turns: &[Turn], moment: Moment) -> bo
 /// checked.
 #[tactic(auto, using(crate::proofs::WalkLemmas::any_turn))]
 pub fn is_some_wait_over(seats: &[SeatRecord], turns: &[Turn], moment: Moment) -> bool
-    requires numbered { AreNumbered seats.now }
-    requires turns { turns.now ≡ turns_of seats.now }
+    requires { AreTurnsOf turns.now seats.now }
     ensures { result ≡ list_any (has_waited moment) seats.now }
 {
     is_some_turn_over(seats, turns, moment)
@@ -233,8 +232,7 @@ fn is_some_turn_gone(seats: &[SeatRecord], turns: &[Turn]) -> bool
 /// Returns true if some waiting client sends no more. Only waiting clients are checked.
 #[tactic(auto, using(crate::proofs::WalkLemmas::any_turn))]
 pub(crate) fn is_some_waiter_gone(seats: &[SeatRecord], turns: &[Turn]) -> bool
-    requires numbered { AreNumbered seats.now }
-    requires turns { turns.now ≡ turns_of seats.now }
+    requires { AreTurnsOf turns.now seats.now }
     ensures { result ≡ list_any is_gone_in_wait seats.now }
 {
     is_some_turn_gone(seats, turns)

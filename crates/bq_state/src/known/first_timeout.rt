@@ -3,8 +3,8 @@ ghost use Rattle.std.specs.Option.{option_copied};
 ghost use Rattle.std.specs.Prelude.{◌≡◌, None, fold};
 ghost use Rattle.bq_state.specs.Dues.{with_seat_due};
 ghost use Rattle.bq_state.specs.FirstTimeouts.{AreTimeouts, timeout_after, keeps_timeout};
-ghost use Rattle.bq_state.specs.SeatChanges.{AreNumbered};
-ghost use Rattle.bq_state.specs.WaitingTurns.{at_turn, turns_of};
+ghost use Rattle.bq_state.specs.SeatTurns.{AreTurnsOf};
+ghost use Rattle.bq_state.specs.WaitingTurns.{at_turn};
 
 use crate::known::moments::earlier_of;
 use crate::seats::{self, SeatChange, SeatRecord, Turn};
@@ -51,8 +51,7 @@ impl FirstTimeout {
     /// Finds it. Only waiting clients are checked.
     #[tactic(auto, using(crate::proofs::DueLemmas::all_there))]
     pub(crate) fn find(seats: &[SeatRecord], turns: &[Turn]) -> FirstTimeout
-        requires numbered { AreNumbered seats.now }
-        requires turns { turns.now ≡ turns_of seats.now }
+        requires { AreTurnsOf turns.now seats.now }
         ensures { AreTimeouts result seats.now }
     {
         if seats::is_some_waiter_gone(seats, turns) {
@@ -85,8 +84,7 @@ fn first_timeout_among(seats: &[SeatRecord], turns: &[Turn]) -> Option<Moment>
 /// Returns when the first wait times out. Only waiting clients are checked.
 #[tactic(auto, using(crate::proofs::DueLemmas::ends_walked))]
 pub fn first_to_give_up(seats: &[SeatRecord], turns: &[Turn]) -> Option<Moment>
-    requires numbered { AreNumbered seats.now }
-    requires turns { turns.now ≡ turns_of seats.now }
+    requires { AreTurnsOf turns.now seats.now }
     ensures { result ≡ fold with_seat_due None seats.now }
 {
     first_timeout_among(seats, turns)

@@ -9,8 +9,8 @@ use Rattle.bq_core.proofs.kicks.kick_in.Goals as goal
 
 pub invariant_of-state : goal.invariant_of-state
 invariant_of-state c = record {
-  sound = compared_sound c.args.state.now _ c.kind_to_kick-kind.ensures.same;
-  numbered = compared_numbered c.args.state.now _ c.kind_to_kick-kind.ensures.same;
+  sound = compared_sound c.args.state.now _ c.kind_to_kick-kind.ensures.kept.same;
+  numbered = compared_numbered c.args.state.now _ c.kind_to_kick-kind.ensures.kept.same;
 }
 
 pub returns-clause-kicked : goal.returns-clause-kicked
@@ -18,14 +18,14 @@ returns-clause-kicked c = grind (arith, common_steps)
 
 pub returns-clause-count : goal.returns-clause-count
 returns-clause-count c =
-    grind (arith, common_steps, c.kind_to_kick-kind.ensures.same, c.kick_some.ensures.count, c.kind_to_kick-kind.ensures.order)
+    grind (arith, common_steps, c.kind_to_kick-kind.ensures.kept.same, c.kick_some.ensures.count, c.kind_to_kick-kind.ensures.order)
 
 pub returns-clause-changed : goal.returns-clause-changed
 returns-clause-changed c =
     let m = machine_of c.args.state.now in
     let kind = c.kind_to_kick-kind.result in
     let tube = c.args.tube.now in
-    let same : c.kind_to_kick-kind.new.jobs.jobs ≡ m.jobs = ap (λ (k : Kept). k.jobs) c.kind_to_kick-kind.ensures.same in
+    let same : c.kind_to_kick-kind.new.jobs.jobs ≡ m.jobs = ap (λ (k : Kept). k.jobs) c.kind_to_kick-kind.ensures.kept.same in
     let chosen = take c.args.bound (jobs_of kind tube c.kind_to_kick-kind.new.jobs.jobs) in
     let made : c.kick_some.new.state.jobs.jobs ≡ all_kicked chosen m.jobs =
     ap (λ (x : Machine). x.jobs) c.kick_some.ensures.kicked ∙ ap (all_kicked chosen) same in

@@ -16,7 +16,7 @@ returns-clause-due c =
     let of_job = λ (j : Job). dues_of_state m j.state in
     let of_tube = λ (t : TubeRecord). dues_of_pause t.pause in
     let of_seat = λ (s : SeatRecord). dues_of_wait s.wait in
-    let kept = ap (λ (k : Kept). k.jobs) c.jobs_due-jobs.ensures.same in
+    let kept = ap (λ (k : Kept). k.jobs) c.jobs_due-jobs.ensures.kept.same in
     let warning : c.warnings_due-warning.result ≡ fold (with_warning_due st.jobs.jobs) None st.seats.items =
     c.warnings_due-warning.ensures.due ∙ (λ i. fold (with_warning_due (kept i)) None (c.as_slice.ensures.value i)) in
     let jobs : earlier_of_both c.jobs_due-jobs.result c.warnings_due-warning.result ≡ earliest (flat_map of_job st.jobs.jobs) =
@@ -38,6 +38,6 @@ invariant_of-state c =
     grind (
       arith,
       common_steps,
-      c.jobs_due-jobs.ensures.same,
-      c.warnings_due-warning.ensures.same,
+      c.jobs_due-jobs.ensures.kept.same,
+      c.warnings_due-warning.ensures.kept.same,
     )

@@ -11,7 +11,7 @@ returns-in-None c =
     let q = passes_at p seats in
     let found = first_turn q p seats c.requires.numbered (λ s e. rw e refl) (λ s _ read. ap (seat_passes p) read) in
     ap (option_map (λ t. t.1)) (c.in-None.ensures ∙ ap (item_at c.args.turns.now) c.place_waiting.ensures ∙ item_found q c.args.turns.now
-    ∙ ap (find q) c.requires.turns ∙ found)
+    ∙ ap (find q) c.requires.turns_are ∙ found)
     ∙ number_of_turn (first_of p is_wait_before seats)
 
 pub returns-in-Some : goal.returns-in-Some
@@ -21,5 +21,5 @@ returns-in-Some c =
     let q = passes_at p seats in
     let found = first_turn q p seats c.requires.numbered (λ s e. rw e refl) (λ s _ read. ap (seat_passes p) read) in
     ap (option_map (λ t. t.1)) (c.in-Some.ensures ∙ ap (item_at c.args.turns.now) c.place_waiting.ensures ∙ item_found q c.args.turns.now
-    ∙ ap (find q) c.requires.turns ∙ found)
+    ∙ ap (find q) c.requires.turns_are ∙ found)
     ∙ number_of_turn (first_of p is_wait_before seats)
