@@ -16,11 +16,11 @@ use Rattle.bq_job.proofs.KeptLemmas.{ids_of_map}
 use Rattle.bq_job.proofs.LookupLemmas.{job_in_map}
 use Rattle.bq_index.specs.Digits.{binary_digits}
 use Rattle.bq_jobs.specs.Kept.{ComparesAtMost, Kept, with_added, without}
-use Rattle.bq_jobs.specs.Changed.{IgnoresTube, moved_by, moved_in, row_moved_by, standing, with_changed}
+use Rattle.bq_jobs.specs.Changed.{IgnoresTube, moved_by, moved_in, removed_from, row_moved_by, row_removed, standing, with_changed}
 use Rattle.bq_jobs.specs.Numbering.{AreNumbered, IsNumbered, IsPaired, Numbering, kept_named}
 use Rattle.bq_jobs.specs.Numbering.{name_of, named, number_of, with_known, without_known}
 use Rattle.bq_jobs.specs.Names.{number_in}
-use Rattle.bq_jobs.specs.Told.{job_told, moved_told}
+use Rattle.bq_jobs.specs.Told.{job_told, moved_told, removed_told}
 use Rattle.bq_jobs.specs.Seen.{IsBodyOf, IsNumberOf, IsTubeOf, but_for_tube, in_tube}
 use Rattle.bq_jobs.proofs.Changes.{stays_in}
 use Rattle.bq_jobs.proofs.NumberingLemmas.{is_known_then, name_kept, name_left, number_kept, other_numbers}
@@ -174,6 +174,21 @@ told_rows k id rows all = of (job_with id rows) refl ∙ sym (job_named k id row
     of : (o : Option Job) → job_with id rows ≡ o → option_and_then (job_told k) o ≡ option_map (named k) o
     of None there = refl
     of (Some j) there = named_by j (name_of (number_in j.tube) k) ((numbered_there k id rows j all there).1)
+
+removed_by_name : (j : Job) (o : Option (List ℕ)) → is_some o ≡ true
+    → option_map (λ tube. record { tube = tube; at = standing j }) o ≡ Some (removed_from (record j { tube = unwrap_or o [] }))
+removed_by_name j None some = absurd cc
+removed_by_name j (Some name) some = refl
+
+pub told_removed : (k : Numbering) (id : ℕ) (rows : List Job) → AreNumbered k rows
+    → option_and_then (removed_told k) (option_map row_removed (job_with id rows))
+    ≡ option_map removed_from (job_with id (map (named k) rows))
+told_removed k id rows all = of (job_with id rows) refl ∙ ap (option_map removed_from) (sym (job_named k id rows))
+  where
+    of : (o : Option Job) → job_with id rows ≡ o
+        → option_and_then (removed_told k) (option_map row_removed o) ≡ option_map removed_from (option_map (named k) o)
+    of None there = refl
+    of (Some j) there = removed_by_name j (name_of (number_in j.tube) k) ((numbered_there k id rows j all there).1)
 
 -- their ids are the same
 pub ids_named : (k : Numbering) (low next : ℕ) (rows : List Job) → AreIdsWithin low rows next → AreIdsWithin low (map (named k) rows) next
@@ -396,6 +411,8 @@ body_told k id rows (Err e) is = tt
 pub ruleset additions = (ids_named, none_named, numbered_added, numbered_row, row_added)
 
 pub ruleset removals = (job_named, numbered_without, some_named, told_rows, without_named)
+
+pub ruleset discards = (job_named, numbered_without, some_named, told_removed, without_named)
 
 pub ruleset changes = (changed_named, ids_named, numbered_changed, told_moved)
 

@@ -6,7 +6,9 @@ use Rattle.std.specs.BTreeMap.{is_at}
 use Rattle.bq_job.specs.declared.job.Job.{Job}
 use Rattle.bq_jobs.specs.declared.row.Moved.{Moved}
 use Rattle.bq_jobs.specs.declared.row.MovedRow.{MovedRow}
+use Rattle.bq_jobs.specs.declared.row.Removed.{Removed}
 use Rattle.bq_jobs.specs.declared.row.Standing.{Standing}
+use Rattle.bq_jobs.specs.Names.{number_in}
 
 abbrev pub standing : Job → Standing
 standing j = record { pri = j.pri; state = j.state }
@@ -22,6 +24,14 @@ moved_by f j = record { tube = j.tube; from = standing j; to = standing (f j) }
 -- the same for a record
 abbrev pub row_moved_by : (Job → Job) → Job → MovedRow
 row_moved_by f j = record { tube = j.tube; from = standing j; to = standing (f j) }
+
+-- the tube's number and the standing of a record that was removed
+abbrev pub row_removed : Job → ℕ × Standing
+row_removed j = (number_in j.tube, standing j)
+
+-- the report about a job that was removed
+abbrev pub removed_from : Job → Removed
+removed_from j = record { tube = j.tube; at = standing j }
 
 -- the report about a record, with the name of its tube
 abbrev pub moved_in : MovedRow → List ℕ → Moved

@@ -1,9 +1,11 @@
 -- A record with the name of its tube.
-use Rattle.std.specs.Prelude.{Option}
+use Rattle.std.specs.Prelude.{Option, ℕ}
 use Rattle.std.specs.Option.{option_map}
 use Rattle.bq_job.specs.declared.job.Job.{Job}
 use Rattle.bq_jobs.specs.declared.row.Moved.{Moved}
 use Rattle.bq_jobs.specs.declared.row.MovedRow.{MovedRow}
+use Rattle.bq_jobs.specs.declared.row.Removed.{Removed}
+use Rattle.bq_jobs.specs.declared.row.Standing.{Standing}
 use Rattle.bq_jobs.specs.Changed.{moved_in}
 use Rattle.bq_jobs.specs.Names.{number_in}
 use Rattle.bq_jobs.specs.Numbering.{Numbering, name_of}
@@ -12,6 +14,10 @@ use Rattle.bq_jobs.specs.Seen.{in_tube}
 -- the job of a record
 abbrev pub job_told : Numbering → Job → Option Job
 job_told k row = option_map (in_tube row) (name_of (number_in row.tube) k)
+
+-- the report about its removal
+abbrev pub removed_told : Numbering → ℕ × Standing → Option Removed
+removed_told k r = option_map (λ tube. record { tube = tube; at = r.1 }) (name_of r.0 k)
 
 -- the report about its change
 abbrev pub moved_told : Numbering → MovedRow → Option Moved

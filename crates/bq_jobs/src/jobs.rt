@@ -10,10 +10,10 @@ ghost use Rattle.bq_job.specs.beside.Lawful.{AreIdsWithin};
 ghost use Rattle.bq_job.specs.machine.TubeCommands.{is_ready_in};
 ghost use Rattle.bq_job.specs.reading.TubeName.{is_same_name};
 ghost use Rattle.std.specs.List.{list_any};
-ghost use Rattle.bq_jobs.specs.Changed.{IgnoresTube, KeepsId, moved_by, with_changed};
+ghost use Rattle.bq_jobs.specs.Changed.{IgnoresTube, KeepsId, moved_by, removed_from, with_changed};
 ghost use Rattle.bq_jobs.specs.Numbering.{is_known};
 ghost use Rattle.bq_jobs.specs.Seen.{IsBodyOf, IsTubeOf, but_for_tube};
-ghost use Rattle.bq_jobs.specs.Told.{job_told, moved_told};
+ghost use Rattle.bq_jobs.specs.Told.{job_told, moved_told, removed_told};
 ghost use Rattle.bq_jobs.specs.Kept.{ComparesAtMost, ranked, with_added, without};
 ghost use Rattle.bq_jobs.specs.Laws.{AddsAtTheEnd, ChosenHasItsId, NextIsFree};
 ghost use Rattle.bq_jobs.specs.Leases.{deadline_of, is_lease_before};
@@ -21,7 +21,7 @@ ghost use Rattle.bq_jobs.specs.Places.{held_by, list_of};
 ghost use Rattle.bq_jobs.specs.Ranks.{first_held, first_timed, id_in};
 
 use super::places::{Group, JobList, Timer};
-use super::row::{self, JobEdit, Moved, MovedRow, Row};
+use super::row::{self, JobEdit, Moved, MovedRow, Removed, Row, Standing};
 use super::rows::Rows;
 use super::tubes::{NumberedTubes, TubeNumber};
 use bq_index::BoxSource;
@@ -151,6 +151,21 @@ impl NumberedJobs {
     {
         let row = self.rows.remove(id);
         job_of(&self.tubes, id, row)
+    }
+
+    /// Removes the job with this id, if there is one, and drops it. Its room is free again. Returns
+    /// the tube and the standing that the job had, which are less to copy than the job.
+    #[tactic(auto, using(crate::proofs::NamedJobs::discards))]
+    pub fn discard(&mut self, id: JobId) -> Option<Removed>
+        ensures removed { result ≡ option_map removed_from (job_with id self.old.jobs) }
+        ensures jobs { self.new.jobs ≡ without id self.old.jobs }
+        ensures tubes { self.new.tubes ≡ self.old.tubes }
+        ensures room { self.new.room ≡ self.old.room + (if is_some result then 1 else 0) }
+        ensures gone { job_with id self.new.jobs ≡ None }
+        ensures comparisons { ComparesAtMost 4 self.old self.new }
+    {
+        let removed = self.rows.discard(id);
+        removed_of(&self.tubes, removed)
     }
 
     /// Changes the job with this id, if there is one, and moves it to its new place in each order.
@@ -423,6 +438,17 @@ fn job_of(tubes: &NumberedTubes, id: JobId, row: Option<Row>) -> Option<Job>
     match tubes.name_of(row.tube.get()) {
         None => None,
         Some(tube) => Some(row::job_of(id, row, *tube)),
+    }
+}
+
+// Returns the report about a removed record, with the name of its tube.
+fn removed_of(tubes: &NumberedTubes, removed: Option<(u64, Standing)>) -> Option<Removed>
+    ensures { result ≡ option_and_then (removed_told tubes.now) removed }
+{
+    let (number, at) = removed?;
+    match tubes.name_of(number) {
+        None => None,
+        Some(tube) => Some(Removed { tube: *tube, at }),
     }
 }
 

@@ -18,7 +18,7 @@
 
 pub use jobs::{NumberedJobs, adds_at_the_end, chosen_has_its_id, next_is_free};
 pub use named_jobs::Jobs;
-pub use row::{JobEdit, Moved, Row, Standing};
+pub use row::{JobEdit, Moved, Removed, Row, Standing};
 pub use tubes::TubeNumber;
 
 mod jobs;

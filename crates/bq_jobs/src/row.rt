@@ -177,7 +177,14 @@ pub struct Moved {
     pub to: Standing,
 }
 
-/// The same, with the number of the tube.
+/// The report about a removed job: its tube, and its standing when it was removed.
+#[derive(Clone, Copy)]
+pub struct Removed {
+    pub tube: TubeName,
+    pub at: Standing,
+}
+
+/// The report about a changed job, with the number of its tube.
 #[derive(Clone, Copy)]
 pub(crate) struct MovedRow {
     pub(crate) tube: TubeNumber,

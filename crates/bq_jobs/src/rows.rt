@@ -5,7 +5,7 @@ ghost use Rattle.std.specs.Prelude.{nat_lt, length, max, is_some, IfOk, IfSome, 
 ghost use Rattle.bq_job.specs.machine.Changes.{job_with};
 ghost use Rattle.bq_job.specs.beside.Lawful.{AreIdsWithin};
 ghost use Rattle.bq_index.specs.Shelf.{ComparesFew};
-ghost use Rattle.bq_jobs.specs.Changed.{IgnoresTube, KeepsId, entry_at, row_moved_by, with_changed, with_edited};
+ghost use Rattle.bq_jobs.specs.Changed.{IgnoresTube, KeepsId, entry_at, row_moved_by, row_removed, with_changed, with_edited};
 ghost use Rattle.bq_jobs.specs.Kept.{ComparesAtMost, with_added, without};
 ghost use Rattle.bq_jobs.specs.Names.{number_in};
 ghost use Rattle.bq_jobs.specs.Ranks.{first_held, first_timed};
@@ -155,6 +155,19 @@ impl Rows {
         places::leave(&mut self.groups, places::group_place(id, &job));
         places::leave(&mut self.timers, places::timer_place(id, &job));
         Some(job)
+    }
+
+    /// Removes the job with this id, if there is one, and drops its record. Returns the number of
+    /// its tube and its standing. Its room is free again.
+    pub(crate) fn discard(&mut self, id: JobId) -> Option<(u64, Standing)>
+        ensures removed { result ≡ option_map row_removed (job_with id self.old.jobs) }
+        ensures jobs { self.new.jobs ≡ without id self.old.jobs }
+        ensures room { self.new.room ≡ self.old.room + (if is_some result then 1 else 0) }
+        ensures gone { job_with id self.new.jobs ≡ None }
+        ensures comparisons { ComparesAtMost 4 self.old self.new }
+    {
+        let row = self.remove(id)?;
+        Some((row.tube.get(), Standing::of_row(&row)))
     }
 
     /// Changes the job with this id, if there is one, and moves it to its new place in each order.

@@ -64,3 +64,25 @@ fn all_states_in_one_room(rt: HostRuntime) -> Result<(), Fail> {
     assert!(rt; (jobs.len(), jobs.room()) == (0, 1));
     Ok(())
 }
+
+#[test]
+fn discarded_job_leaves_its_room(rt: HostRuntime) -> Result<(), Fail> {
+    let (first, second) = (tube(&rt, "first"), tube(&rt, "second"));
+    let mut jobs = NumberedJobs::new();
+    jobs.reserve_one(rt.alloc())?;
+    let ready = job(rt.alloc(), 1, first, 3, JobState::Ready)?;
+    assert!(rt; put(rt.alloc(), &mut jobs, ready));
+    jobs.reserve_one(rt.alloc())?;
+    let delayed = job(rt.alloc(), 2, second, 7, JobState::Delayed(8))?;
+    assert!(rt; put(rt.alloc(), &mut jobs, delayed));
+    assert!(rt; jobs.discard(3).is_none());
+    let removed = jobs.discard(2);
+    assert!(rt; removed.map(|it| it.tube) == Some(second));
+    assert!(rt; removed.map(|it| it.at.pri) == Some(7));
+    assert!(rt; removed.map(|it| it.at.state) == Some(JobState::Delayed(8)));
+    assert!(rt; jobs.discard(2).is_none());
+    assert!(rt; (jobs.len(), jobs.room()) == (1, 1));
+    assert!(rt; jobs.first_due().is_none() && jobs.first_delayed(&second).is_none());
+    assert!(rt; jobs.first_ready(&first) == Some(1));
+    Ok(())
+}
