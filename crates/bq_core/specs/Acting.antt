@@ -1,15 +1,18 @@
 -- The command's own effect, as the core carries it out.
 use Rattle.std.specs.Prelude.{◌&&◌, ◌++◌, ◌||◌, ◌≡◌, Bool, IsTrue, None, Some, ℕ}
 use Rattle.bq_job.specs.{declared.{answer.Answer.Answer, step.Step.Step}, machine.{Effect, Memory, acted, addressed, is_growth_refused}}
+use Rattle.bq_job.specs.declared.answer.Answer.TheVariants as answers
 use Rattle.bq_job.specs.machine.{is_possible, is_share_refused, may_be_left_out, shares_body, Machine.Machine}
 use Rattle.bq_steps.specs.Outbox.{Outbox}
-use Rattle.bq_core.specs.declared.acts.Reply.{Reply, TheVariants.{LeftOut, Silent, Told, Unshared}}
+use Rattle.bq_core.specs.declared.acts.Reply.{Reply, TheVariants.{Deleted, Inserted, LeftOut, Silent, Told, Unshared}}
 
 -- The outcome of a request. It had this effect, with this answer; or it was skipped because an
 -- allocation failed; or its answer would show a body, and a reference to it could not be allocated.
 abbrev pub Replies : Bool → Machine → Effect → Reply → Answer → Machine → Type 0
 Replies takes m e Silent told next = e ≡ record { machine = next; answer = None }
 Replies takes m e Told told next = e ≡ record { machine = next; answer = Some told }
+Replies takes m e (Inserted id) told next = e ≡ record { machine = next; answer = Some (answers.Inserted id) }
+Replies takes m e Deleted told next = e ≡ record { machine = next; answer = Some answers.Deleted }
 Replies takes m e LeftOut told next = (next ≡ m) × IsTrue (takes && may_be_left_out e.answer)
 Replies takes m e Unshared told next = (next ≡ m) × IsTrue (shares_body e.answer)
 

@@ -13,7 +13,7 @@ ghost use Rattle.bq_job.specs.declared.step.Step.TheVariants as steps;
 
 use crate::job_acts::{NewJob, NewTurn};
 use crate::{job_acts, kicks, statistics_acts, timers, tube_acts};
-use bq_job::{Answer, Refusal, Request, Seat, Step};
+use bq_job::{Answer, JobId, Refusal, Request, Seat, Step};
 use bq_state::core_parts::CoreParts;
 use bq_state::job_store::JobKind;
 use bq_state::seats::SeatChange;
@@ -99,10 +99,7 @@ fn answer(
             Reply::Silent
         }
         Request::ReserveJob { id } => job_acts::reserve_job(state, seat, id, told),
-        Request::Delete { id } => {
-            job_acts::delete(state, seat, id, told);
-            Reply::Told
-        }
+        Request::Delete { id } => job_acts::delete(state, seat, id, told),
         Request::Release { id, pri, delay } => {
             job_acts::release(state, seat, id, NewTurn { pri, delay }, told);
             Reply::Told
@@ -198,6 +195,8 @@ pub(crate) fn act(state: &mut CoreParts, alloc: Global, seat: Seat, what: &Step,
     match reply_to(state, alloc, seat, what, &mut told) {
         Reply::Silent => {}
         Reply::Told => outs.push(seat, told),
+        Reply::Inserted(id) => outs.push(seat, Answer::Inserted(id)),
+        Reply::Deleted => outs.push(seat, Answer::Deleted),
         Reply::LeftOut => {
             outs.set_left_out();
             outs.push(seat, Answer::OutOfMemory);
@@ -210,11 +209,16 @@ pub(crate) fn act(state: &mut CoreParts, alloc: Global, seat: Seat, what: &Step,
 }
 
 /// The outcome of a request. An answer is written to the `told` argument, because it may contain a
-/// tube's name, which would have to be copied.
+/// tube's name, which would have to be copied. The most frequent answers have outcomes of their own:
+/// these are put together where the answer goes, and not copied at all.
 #[derive(Clone, Copy)]
 pub(crate) enum Reply {
     Silent,
     Told,
+    /// The job of a put got this id.
+    Inserted(JobId),
+    /// The job was deleted.
+    Deleted,
     /// An allocation failed, and nothing was changed.
     LeftOut,
     /// A reference to a body could not be allocated, and nothing was changed.

@@ -1,5 +1,6 @@
 //! Commands on one job, and those that wait for one.
 ghost use Rattle.std.specs.Prelude.{◌≡◌, true, false, Some};
+ghost use Rattle.bq_job.specs.declared.answer.Answer.TheVariants as answers;
 ghost use Rattle.bq_job.specs.machine.Acts.{telling};
 ghost use Rattle.bq_job.specs.machine.Changes.{seat_with};
 ghost use Rattle.bq_job.specs.machine.JobCommands.{is_full as is_full_of, new_job as job_of_put};
@@ -103,8 +104,7 @@ pub(crate) fn put(
     adds_at_the_end();
     counters::count_put(state);
     changes::add(state, job);
-    *told = Answer::Inserted(id);
-    Reply::Told
+    Reply::Inserted(id)
 }
 
 /// The client waits, until this moment if there is one.
@@ -155,19 +155,29 @@ pub(crate) fn reserve_job(state: &mut CoreParts, seat: Seat, id: JobId, told: &m
 
 /// Removes a job that no client holds, or that this client holds.
 #[inline(never)]
-pub(crate) fn delete(state: &mut CoreParts, seat: Seat, id: JobId, told: &mut Answer)
-    ensures reply { AnswersTo seat (delete_effect id) state.old told.new state.new }
+pub(crate) fn delete(state: &mut CoreParts, seat: Seat, id: JobId, told: &mut Answer) -> Reply
+    ensures reply { RepliesTo seat false (delete_effect id) state.old result told.new state.new }
     ensures asks { AsksAsChanged state.old.jobs state.new.jobs }
 {
     if !state.has_job(id, JobTest::FreeFor(seat)) {
-        *told = Answer::NotFound;
-        return;
+        return not_found(told);
     }
-    let Some(_job) = changes::take(state, id) else {
-        *told = Answer::NotFound;
-        return;
-    };
-    *told = Answer::Deleted;
+    if changes::delete(state, id) {
+        Reply::Deleted
+    } else {
+        not_found(told)
+    }
+}
+
+// Answers that there is no such job. Not inlined, because its caller would otherwise reserve and
+// initialize room for an answer.
+#[inline(never)]
+fn not_found(told: &mut Answer) -> Reply
+    ensures told { told.new ≡ answers.NotFound }
+    ensures reply { result ≡ Reply.Told }
+{
+    *told = Answer::NotFound;
+    Reply::Told
 }
 
 /// Releases a job that the client holds.

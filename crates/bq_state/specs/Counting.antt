@@ -1,10 +1,11 @@
 -- Records of tubes whose counts are those of jobs and of seats.
 use Rattle.std.specs.Prelude.{◌≡◌, List, Option, ℕ, filter, map}
 use Rattle.bq_job.specs.{declared.job.Job.Job, machine.SeatRecord}
+use Rattle.bq_jobs.specs.declared.row.Removed.{Removed}
 use Rattle.bq_state.specs.declared.known.{maybe_gone.MaybeGone.MaybeGone, tally.Tally.Tally}
 use Rattle.bq_state.specs.declared.tubes.entry.{Crowd.Crowd, Moving.Moving, Share.Share, TubeChange.TheVariants.{CountDelete, CountPut}}
 use Rattle.bq_state.specs.{Crowds.{crowds_at, crowds_at_all, crowds_of, crowds_provided, crowds_recounted_for}, KeptTubes.KeptTubes}
-use Rattle.bq_state.specs.{MaybeGoneTubes.AreAlive, Tallies.{tallies_at, tallies_of, tallies_provided, tallies_with, tallies_without}}
+use Rattle.bq_state.specs.{MaybeGoneTubes.AreAlive, Tallies.{tallies_at, tallies_of, tally_left, tallies_provided, tallies_with, tallies_without}}
 use Rattle.bq_state.specs.TubeEntries.{AreInOrder, is_tube_of, provided, tube_changed_at}
 
 -- the counts are those of these jobs and seats
@@ -53,6 +54,12 @@ abbrev pub with_job_deleted : Job → KeptTubes → KeptTubes
 with_job_deleted j k =
     let entries = map (tube_changed_at j.tube CountDelete) k.entries in
     record k { entries = entries; tallies = tallies_without j entries k.tallies }
+
+-- the same from the report about a removed job
+abbrev pub with_removal_counted : Removed → KeptTubes → KeptTubes
+with_removal_counted r k =
+    let entries = map (tube_changed_at r.tube CountDelete) k.entries in
+    record k { entries = entries; tallies = tallies_at r.tube (tally_left r.at) entries k.tallies }
 
 -- after the shares of a seat, if there is one, were added or removed
 abbrev pub recounted_for : Moving → Share → Option SeatRecord → KeptTubes → KeptTubes

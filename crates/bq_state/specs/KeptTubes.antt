@@ -5,9 +5,11 @@ use Rattle.std.specs.Prelude.{◌&&◌, ◌++◌, ◌∷◌, if◌then◌else◌
 use Rattle.bq_job.specs.declared.job.Job.{Job}
 use Rattle.bq_job.specs.machine.{Pause, TubeRecord, default_tube, fresh_tube, pause_after_timers, raised, tube_after_timers}
 use Rattle.bq_jobs.specs.declared.row.Moved.{Moved}
+use Rattle.bq_jobs.specs.declared.row.Removed.{Removed}
 use Rattle.bq_state.specs.declared.{known.tally.Tally.Tally, tubes.entry.{Crowd.Crowd, Moving.Moving}}
 use Rattle.bq_state.specs.declared.tubes.entry.{Share.Share, TubeChange.{TubeChange, TheVariants.{CountDelete, CountPut}}}
-use Rattle.bq_state.specs.{Crowds.{has_seats, no_crowd, recounted}, Tallies.{has_jobs, tally_moved, tally_of, tally_with, tally_without}}
+use Rattle.bq_state.specs.{Crowds.{has_seats, no_crowd, recounted}}
+use Rattle.bq_state.specs.Tallies.{has_jobs, tally_left, tally_moved, tally_of, tally_with, tally_without}
 use Rattle.bq_state.specs.TubeEntries.{is_tube_by, tube_changed}
 
 -- the entries and, parallel to them, the counts of the tubes' jobs and of their clients
@@ -66,6 +68,10 @@ kept_with j t = record (kept_changed CountPut t) { tally = tally_with j t.tally 
 
 abbrev pub kept_without : Job → KeptTube → KeptTube
 kept_without j t = record (kept_changed CountDelete t) { tally = tally_without j t.tally }
+
+-- the same from the report about a removed job
+abbrev pub kept_removed : Removed → KeptTube → KeptTube
+kept_removed r t = record (kept_changed CountDelete t) { tally = tally_left r.at t.tally }
 
 -- with a job whose state changed
 abbrev pub kept_moved : Moved → KeptTube → KeptTube

@@ -2,12 +2,13 @@
 use Rattle.std.specs.Prelude.{◌≡◌, if◌then◌else◌, Bool, List, None, Option, [], ℕ}
 use Rattle.bq_job.specs.{declared.job.Job.Job, machine.{SeatRecord, TubeRecord}}
 use Rattle.bq_jobs.specs.declared.row.Moved.{Moved}
+use Rattle.bq_jobs.specs.declared.row.Removed.{Removed}
 use Rattle.bq_state.specs.declared.{known.Known.Known, seats.SeatChange.SeatChange, tubes.entry.{Share.Share, TubeChange.TubeChange}}
 use Rattle.bq_state.specs.{Clients.{clients_of, clients_with, clients_without}, Crowds.AreCrowds, Leaving.gone_of}
 use Rattle.bq_state.specs.{Dues.{first_pause_end, pause_end_after, pause_end_left}, MaybeGoneTubes.{AreAlive, with_gone, with_existing}}
 use Rattle.bq_state.specs.{FirstTimeouts.{AreTimeouts, timeout_after}, KeptTubes.KeptTubes}
 use Rattle.bq_state.specs.WantedJobs.{AreKnown, wanted_after_tube, wanted_after_seat, with_wanted}
-use Rattle.bq_state.specs.{Tallies.{AreCounted, tally_moved, tally_of, tally_with, tally_without}, TubeEntries.counted}
+use Rattle.bq_state.specs.{Tallies.{AreCounted, tally_left, tally_moved, tally_of, tally_with, tally_without}, TubeEntries.counted}
 use Rattle.bq_state.specs.Warnings.{AreWarned, warned_by_seat, with_holder_of}
 use Rattle.bq_state.specs.declared.known.first_timeout.FirstTimeout.TheVariants as ends
 use Rattle.bq_state.specs.declared.known.maybe_gone.MaybeGone.TheVariants as gone_tubes
@@ -54,6 +55,10 @@ with_job j is_wanted waits k = record k {
 -- with one job fewer
 abbrev pub without_job : Job → Known → Known
 without_job j k = record k { tally = tally_without j k.tally; maybe_gone = with_gone j.tube k.maybe_gone }
+
+-- the same from the report about a removed job
+abbrev pub with_removal : Removed → Known → Known
+with_removal r k = record k { tally = tally_left r.at k.tally; maybe_gone = with_gone r.tube k.maybe_gone }
 
 -- and with a job changed
 abbrev pub with_moved : Moved → Bool → Bool → Known → Known

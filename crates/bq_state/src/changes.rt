@@ -90,6 +90,23 @@ pub fn take(state: &mut CoreParts, id: JobId) -> Option<Job>
     Some(job)
 }
 
+/// Removes the job with this id and drops it, and counts the deletion in its tube. Returns false if
+/// there is no such job. Its room is kept, unless there is plenty.
+pub fn delete(state: &mut CoreParts, id: JobId) -> bool
+    ensures deleted { result ≡ is_some (job_with id (machine_of state.old).jobs) }
+    ensures after { machine_of state.new
+        ≡ once_deleted (job_with id (machine_of state.old).jobs) (machine_of state.old) }
+    ensures asks { ComparesAtMost 4 state.old.jobs state.new.jobs }
+{
+    let Some(removed) = state.jobs.discard(id) else {
+        return false;
+    };
+    job_store::let_room_go(&mut state.jobs); // Of a peak in the past.
+    state.known.count_removal(&removed);
+    state.tubes.count_removal(&removed);
+    true
+}
+
 // Returns true if the job is now ready and the counts show a client that waits for jobs of its
 // tube.
 fn counts_waiter_of(clients: &Clients, tubes: &Tubes, moved: &Moved) -> bool

@@ -3,13 +3,13 @@
 ghost use Rattle.std.specs.Option.{option_copied};
 ghost use Rattle.std.specs.Prelude.{◌≡◌};
 ghost use Rattle.bq_state.specs.Knowledge.{nothing_known, with_forgotten, with_job};
-ghost use Rattle.bq_state.specs.Knowledge.{with_joined, with_left, with_moved};
+ghost use Rattle.bq_state.specs.Knowledge.{with_joined, with_left, with_moved, with_removal};
 ghost use Rattle.bq_state.specs.Knowledge.{with_tube_changed, without_job};
 
 use crate::seats::{SeatChange, SeatRecord};
 use crate::tubes::{Share, TubeChange, Tubes};
 use bq_job::{Job, Moment, Seat, TubeName};
-use bq_jobs::Moved;
+use bq_jobs::{Moved, Removed};
 pub use clients::Clients;
 pub use first_timeout::{FirstTimeout, first_to_give_up};
 pub use maybe_gone::MaybeGone;
@@ -80,6 +80,14 @@ impl Known {
     {
         self.tally.remove(job);
         self.maybe_gone.add(&job.tube);
+    }
+
+    /// The job of this report is removed.
+    pub(crate) fn count_removal(&mut self, removed: &Removed)
+        ensures { self.new ≡ with_removal removed.now self.old }
+    {
+        self.tally.leave(removed.at);
+        self.maybe_gone.add(&removed.tube);
     }
 
     /// A job is changed; the arguments describe it after the change.

@@ -7,7 +7,8 @@ ghost use Rattle.std.specs.Ordering.{nat_cmp};
 ghost use Rattle.bq_index.specs.Order.{InOrder};
 ghost use Rattle.bq_job.specs.reading.TubeName.{is_same_name};
 ghost use Rattle.bq_job.specs.machine.Timers.{tube_after_timers};
-ghost use Rattle.bq_state.specs.Counting.{AreCounts, DropsGone, IfCounted, tubes_with, with_crowds_at, with_job_deleted, with_job_put, with_tallies_at};
+ghost use Rattle.bq_state.specs.Counting.{AreCounts, DropsGone, IfCounted, tubes_with, with_crowds_at};
+ghost use Rattle.bq_state.specs.Counting.{with_job_deleted, with_job_put, with_removal_counted, with_tallies_at};
 ghost use Rattle.bq_state.specs.Crowds.{crowd_at, recounted};
 ghost use Rattle.bq_state.specs.Dues.{first_pause_end, pause_end_after, pause_end_left};
 ghost use Rattle.bq_state.specs.KeptTubes.{edited_at, kept_changed, record_at};
@@ -24,7 +25,7 @@ use crate::name_lists::Names;
 use crate::watch_list::default_tube;
 use bq_index::Catalog;
 use bq_job::{Job, Moment, NoMemory, TubeName};
-use bq_jobs::{Moved, NumberedJobs};
+use bq_jobs::{Moved, NumberedJobs, Removed};
 pub use entry::{Crowd, Pausing, TubeChange, TubeEntry};
 pub(crate) use entry::{Moving, Share};
 use pauses::PauseEnds;
@@ -202,6 +203,13 @@ impl Tubes {
         ensures { self.new ≡ with_job_deleted job.now self.old }
     {
         entry::remove_job(&mut self.kept, job);
+    }
+
+    /// Stops counting the job of this report in its tube, and counts its deletion.
+    pub(crate) fn count_removal(&mut self, removed: &Removed)
+        ensures { self.new ≡ with_removal_counted removed.now self.old }
+    {
+        entry::count_removal(&mut self.kept, removed);
     }
 
     /// A job of the tube changed its state.

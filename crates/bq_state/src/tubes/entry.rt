@@ -5,7 +5,7 @@ ghost use Rattle.std.specs.Ordering.{nat_cmp};
 ghost use Rattle.bq_index.specs.Order.{InOrder};
 ghost use Rattle.bq_job.specs.machine.TubeCommands.{with_pause};
 ghost use Rattle.bq_state.specs.KeptTubes.{ended, fresh_entry, kept_after, kept_changed, kept_moved};
-ghost use Rattle.bq_state.specs.KeptTubes.{kept_recounted, record_of, edited_at, kept_with};
+ghost use Rattle.bq_state.specs.KeptTubes.{kept_recounted, kept_removed, record_of, edited_at, kept_with};
 ghost use Rattle.bq_state.specs.KeptTubes.{kept_without};
 ghost use Rattle.bq_state.specs.PauseEnds.{end_of};
 ghost use Rattle.bq_state.specs.Crowds.{crowd_with, crowd_without, has_seats, is_none, no_crowd};
@@ -16,7 +16,7 @@ use crate::job_store::later;
 use crate::known::Tally;
 use bq_index::Catalog;
 use bq_job::{Job, Moment, TubeName};
-use bq_jobs::Moved;
+use bq_jobs::{Moved, Removed};
 use std::marker::Model;
 
 /// A pause of a tube.
@@ -201,6 +201,14 @@ impl TubeEntry {
         self.tally.remove(job);
     }
 
+    /// Stops counting the job of this report, and counts its deletion.
+    pub(crate) fn count_removal(&mut self, removed: &Removed)
+        ensures { self.new ≡ kept_removed removed.now self.old }
+    {
+        self.change(TubeChange::CountDelete);
+        self.tally.leave(removed.at);
+    }
+
     /// A job of the tube changed its state.
     pub(crate) fn move_job(&mut self, moved: &Moved)
         ensures { self.new ≡ kept_moved moved.now self.old }
@@ -271,6 +279,18 @@ pub(crate) fn remove_job(catalog: &mut Catalog<TubeName, TubeEntry>, job: &Job)
 {
     if let Some(entry) = catalog.get_mut(&job.tube) {
         entry.remove_job(job);
+    }
+}
+
+/// Stops counting the job of this report in its tube, and counts its deletion. Here, too, the names
+/// are in ascending order.
+pub(crate) fn count_removal(catalog: &mut Catalog<TubeName, TubeEntry>, removed: &Removed)
+    ensures entries { catalog.new.entries
+        ≡ edited_at removed.now.tube (kept_removed removed.now) catalog.old.entries }
+    ensures ordered { InOrder (slice_cmp nat_cmp) catalog.old.entries }
+{
+    if let Some(entry) = catalog.get_mut(&removed.tube) {
+        entry.count_removal(removed);
     }
 }
 

@@ -1,0 +1,19 @@
+use Rattle.std.proofs.Common.{refl}
+use Rattle.bq_state.specs.declared.tubes.entry.TubeChange.TheVariants.{CountDelete}
+use Rattle.bq_state.specs.{KeptTubes.kept_removed, Tallies.tally_left, TubeEntries.tube_changed}
+use Rattle.bq_state.proofs.{EditLemmas.job_counted, EndMoves.edit_stays, NamedLemmas.{change_kept, in_order}, PartsLemmas.tube_name_kept}
+use Rattle.bq_state.proofs.tubes.Tubes.count_removal.Goals as goal
+
+pub returns : goal.returns
+returns c =
+    let r = c.args.removed.now in
+    job_counted CountDelete r.tube (kept_removed r)
+    (tally_left r.at) c.self.inside.kept.entries _ c.args.self.now c.count_removal.ensures.entries c.self.view_is
+    c.count_removal.ensures.ordered (change_kept CountDelete) (λ t. refl) (λ t. refl)
+
+pub invariant_of-self : goal.invariant_of-self
+invariant_of-self c =
+    let r = c.args.removed.now in
+    let es = c.self.inside.kept.entries in
+    edit_stays r.tube (kept_removed r) (tube_changed CountDelete) (change_kept CountDelete) (tube_name_kept CountDelete) es _
+    (in_order es c.count_removal.ensures.ordered) c.count_removal.ensures.entries (λ t. refl) c.self.inside.ends c.self.invariant
