@@ -250,7 +250,7 @@ impl<'r, R: rt::Clock> Poller<'r, R> {
         if self.is_visiting {
             self.visit.note(progress);
             if self.goes_on(alloc, row) {
-                return Turn::Seat(self.visit.seat());
+                return self.visit.turn();
             }
         }
         self.begin_next(alloc, row, part)
@@ -274,7 +274,7 @@ impl<'r, R: rt::Clock> Poller<'r, R> {
         self.visit = Visit::new(seat, part);
         self.is_visiting = true;
         if self.goes_on(alloc, row) {
-            return Turn::Seat(seat);
+            return self.visit.turn();
         }
         NOTHING
     }

@@ -91,7 +91,11 @@ fn take_turn<
 {
     match turn {
         Turn::Seat(seat) => {
-            news.progress = serve_seat(row, core, seat, buffers);
+            news.progress = serve_seat(row, core, seat, buffers, Extent::Action);
+            false
+        }
+        Turn::Command(seat) => {
+            news.progress = serve_seat(row, core, seat, buffers, Extent::Command);
             false
         }
         Turn::Control(reads) => {
@@ -134,13 +138,21 @@ fn wake_all<T: Turns, C: Clock + Drop, K: QueueCore + Drop>(
     }
 }
 
-// Does one action of a seat, and returns what moved or what was missing. All answers are then put
-// into the mail, unless this seat takes its own next.
+// How much a seat does in a turn.
+#[derive(Clone, Copy)]
+enum Extent {
+    Action,
+    Command,
+}
+
+// Does what a turn of a seat says, and returns what its last action moved or what was missing. All
+// answers are then put into the mail, unless this seat takes its own next.
 fn serve_seat<L: Line + Drop, D: Door<Line = L>, C: Clock + Drop, K: QueueCore + Drop>(
     row: &mut Row<L, D>,
     core: &mut LoopCore<C, K>,
     seat: usize,
     buffers: &mut Buffers,
+    extent: Extent,
 ) -> Progress
     requires ready { AreReady K.machine K.comparisons L.seen (door_seen D.is_out D.is_at_end D.lines_over) core.old row.old }
     requires few { length row.old.seats.items ≤ 65535 }
@@ -150,9 +162,69 @@ fn serve_seat<L: Line + Drop, D: Door<Line = L>, C: Clock + Drop, K: QueueCore +
     if seat >= row.seats.len() {
         return Progress::NothingToDo;
     }
-    let progress = act_and_poll(row, core, seat, buffers);
+    let progress = act_to_extent(row, core, seat, buffers, extent);
     if !row.seats[seat].polls_mail() {
         let _all = core.sort(0);
+    }
+    progress
+}
+
+// Does as much of a seat as the turn says.
+fn act_to_extent<L: Line + Drop, D: Door<Line = L>, C: Clock + Drop, K: QueueCore + Drop>(
+    row: &mut Row<L, D>,
+    core: &mut LoopCore<C, K>,
+    seat: usize,
+    buffers: &mut Buffers,
+    extent: Extent,
+) -> Progress
+    requires ready { AreReady K.machine K.comparisons L.seen (door_seen D.is_out D.is_at_end D.lines_over) core.old row.old }
+    requires few { length row.old.seats.items ≤ 65535 }
+    requires below { seat < length row.old.seats.items }
+    ensures served { TurnServes K.machine K.comparisons C.given L.seen (door_seen D.is_out D.is_at_end D.lines_over) D.same
+        core.old row.old [] core.new row.new }
+{
+    match extent {
+        Extent::Action => act_and_poll(row, core, seat, buffers),
+        Extent::Command => do_command(row, core, seat, buffers),
+    }
+}
+
+// A command of a seat. It is one turn, since a turn costs as much as a small action.
+fn do_command<L: Line + Drop, D: Door<Line = L>, C: Clock + Drop, K: QueueCore + Drop>(
+    row: &mut Row<L, D>,
+    core: &mut LoopCore<C, K>,
+    seat: usize,
+    buffers: &mut Buffers,
+) -> Progress
+    requires ready { AreReady K.machine K.comparisons L.seen (door_seen D.is_out D.is_at_end D.lines_over) core.old row.old }
+    requires few { length row.old.seats.items ≤ 65535 }
+    requires below { seat < length row.old.seats.items }
+    ensures served { TurnServes K.machine K.comparisons C.given L.seen (door_seen D.is_out D.is_at_end D.lines_over) D.same
+        core.old row.old [] core.new row.new }
+{
+    let progress = read_and_ask(row, core, seat, buffers);
+    if progress.has_moved() && row.seats[seat].writes() {
+        return act(row, core, seat, buffers);
+    }
+    progress
+}
+
+// One action of a seat. If a step is to be submitted next, the seat submits it and looks for the answer.
+fn read_and_ask<L: Line + Drop, D: Door<Line = L>, C: Clock + Drop, K: QueueCore + Drop>(
+    row: &mut Row<L, D>,
+    core: &mut LoopCore<C, K>,
+    seat: usize,
+    buffers: &mut Buffers,
+) -> Progress
+    requires ready { AreReady K.machine K.comparisons L.seen (door_seen D.is_out D.is_at_end D.lines_over) core.old row.old }
+    requires few { length row.old.seats.items ≤ 65535 }
+    requires below { seat < length row.old.seats.items }
+    ensures served { TurnServes K.machine K.comparisons C.given L.seen (door_seen D.is_out D.is_at_end D.lines_over) D.same
+        core.old row.old [] core.new row.new }
+{
+    let progress = act_and_poll(row, core, seat, buffers);
+    if progress.has_moved() && row.seats[seat].submits() {
+        return act_and_poll(row, core, seat, buffers);
     }
     progress
 }

@@ -16,6 +16,10 @@ pub enum Turn {
     /// One action of this seat. If it submits a step, the seat then checks for the answer too. If
     /// the seat does not exist, nothing is done.
     Seat(usize),
+    /// A command of this seat: it reads, submits a step and checks for the answer, and writes the
+    /// answer. What the seat doesn't do next is skipped, and the turn ends when nothing moves. If
+    /// the seat does not exist, nothing is done.
+    Command(usize),
     /// The control line is read.
     Control(ControlReads),
     /// The core takes a tick if something is due, and all answers are sorted into the mail of their

@@ -1,12 +1,16 @@
 //! A visit of a seat: the actions that it does without waiting, before other seats have their turn.
 
+use crate::turns::Turn;
 use bq_driver::attendant::Attendant;
 use bq_driver::progress::Progress;
 use bq_line::line::Line;
 
-/// The largest number of turns in a visit: those of some 32 commands that came together. Each takes
-/// two, one to submit it and one to write its answer.
+/// The largest number of actions in a visit.
 const MOST: u32 = 64;
+
+/// How many actions a turn for a whole command counts as, so that a visit serves 32 commands that
+/// came together.
+const COMMAND: u32 = 2;
 
 /// A part of the visits of a round.
 #[derive(Clone, Copy, Debug, PartialEq, Eq)]
@@ -96,9 +100,25 @@ impl Visit {
         self.seat
     }
 
-    /// Notes the result of another action.
+    /// Returns the next turn of its seat. In the last part of a round it is a whole command.
+    pub fn turn(&self) -> Turn {
+        match self.part {
+            Part::Answers => Turn::Command(self.seat),
+            Part::Reads | Part::Steps => Turn::Seat(self.seat),
+        }
+    }
+
+    // Returns how many actions its next turn counts as.
+    fn cost(&self) -> u32 {
+        match self.part {
+            Part::Answers => COMMAND,
+            Part::Reads | Part::Steps => 1,
+        }
+    }
+
+    /// Notes another turn, and the result of its last action.
     pub fn note(&mut self, progress: Progress) {
-        self.left = self.left.saturating_sub(1);
+        self.left = self.left.saturating_sub(self.cost());
         self.last = progress;
         self.unmoved = if progress.has_moved() {
             0

@@ -16,13 +16,13 @@ returns-then-seat-len g c =
     }
 
 pub sort-all-requires : goal.sort-all-requires
-sort-all-requires g c = record { order = c.act_and_poll-progress.ensures.served.0 }
+sort-all-requires g c = record { order = c.act_to_extent-progress.ensures.served.0 }
 
 pub returns-then-not-polls_mail : goal.returns-then-not-polls_mail
 returns-then-not-polls_mail g c =
     let at = door_seen g.D.Door.is_out g.D.Door.is_at_end g.D.Door.lines_over in
-    let new = c.act_and_poll-progress.new in
-    let s = c.act_and_poll-progress.ensures.served in
+    let new = c.act_to_extent-progress.new in
+    let s = c.act_to_extent-progress.ensures.served in
     record {
       served = (
         c.sort-all.ensures.order,

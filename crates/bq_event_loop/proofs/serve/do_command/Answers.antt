@@ -1,0 +1,29 @@
+use Rattle.std.proofs.Common.{◌<◌, ◌≤◌, ◌∙◌, [], subst, sym}
+use Rattle.bq_driver.specs.Tending.{door_seen}
+use Rattle.bq_event_loop.proofs.ServingLemmas.{serves_on}
+use Rattle.bq_event_loop.proofs.serve.do_command.Goals as goal
+
+pub act-requires : goal.act-requires
+act-requires g c =
+    let s = c.read_and_ask-progress.ensures.served in
+    record {
+      ready = (s.0, s.1, s.2.mailed ∙ c.requires.ready.2 ∙ sym s.2.many);
+      few = subst (λ n. n ≤ 65535) (sym s.2.many) c.requires.few;
+      below = subst (λ n. c.args.seat < n) (sym s.2.many) c.requires.below;
+    }
+
+pub returns-then-writes : goal.returns-then-writes
+returns-then-writes g c =
+    let at = door_seen g.D.Door.is_out g.D.Door.is_at_end g.D.Door.lines_over in
+    let one = c.read_and_ask-progress.new in
+    let two = c.act.new in
+    let s = c.read_and_ask-progress.ensures.served in
+    let t = c.act.ensures.served in
+    record {
+      served = (
+        t.0,
+        t.1,
+        serves_on g.L.Line.seen at g.K.QueueCore.machine g.K.QueueCore.comparisons g.C.Clock.given g.D.Door.same
+            c.args.core.now one.core two.core c.args.row.now one.row two.row [] s.2 t.2,
+      );
+    }
