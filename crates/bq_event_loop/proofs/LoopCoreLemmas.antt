@@ -21,6 +21,8 @@ use Rattle.bq_host.specs.declared.timed_core.TimedCore.{TimedCore}
 use Rattle.std.specs.Prelude.{slice_index_or}
 use Rattle.bq_job.proofs.OneClientLemmas.{answers_append}
 use Rattle.bq_job.proofs.RunLemmas.{run_append, run_from, run_none}
+use Rattle.bq_driver.specs.Links.{TakesInPlace}
+use Rattle.bq_seat.specs.declared.machine.Action.{Action}
 use Rattle.bq_event_loop.specs.LoopCores.{WentAt, state_of}
 use Rattle.bq_line.specs.GivenReadings.{GaveReadings}
 use Rattle.bq_job.specs.beside.NextDue.{next_due}
@@ -490,3 +492,13 @@ pub none_pending_passed : {C K : Type 0} (machine : K → Machine) (compared : K
 none_pending_passed machine compared given old t false over empty h =
     ap (λ (x : Outbox). option_to_list old.held ++ x.given) (none_over machine compared given old.timed t (over refl)) ∙ empty
 none_pending_passed machine compared given old t true over empty h = absurd (true≢false (sym h))
+
+-- A seat took an answer after its core stayed the same for all seats.
+pub takes_on : {C K : Type 0} (machine : K → Machine) (compared : K → ℕ) (given : C → List (Option ℕ) → C → Type 0) (seat : ℕ)
+    (first next last : LoopCore C K) (place after : Action) (took : Bool) → WentAt machine compared given seat first [] [] next
+    → TakesInPlace (WentAt machine compared given seat) next place took after last
+    → TakesInPlace (WentAt machine compared given seat) first place took after last
+takes_on machine compared given seat first next last place after true still takes =
+    (takes.0, takes.1, went_then machine compared given seat seat first next last [] [] [] (takes.0 ∷ []) refl still takes.2)
+takes_on machine compared given seat first next last place after false still takes =
+    (takes.0, went_then machine compared given seat seat first next last [] [] [] [] refl still takes.1)

@@ -1,5 +1,5 @@
 //! The core of an event loop with its clock and the answers that no seat has taken yet.
-ghost use Rattle.std.specs.Prelude.{◌≡◌, ◌<◌, ◌≤◌, ◌+◌, ◌++◌, ◌∷◌, [], ℕ, List, Option, Some, true, false};
+ghost use Rattle.std.specs.Prelude.{◌≡◌, ◌<◌, ◌≤◌, ◌+◌, ◌++◌, ◌∷◌, [], ℕ, List, None, Option, Some, true, false};
 ghost use Rattle.std.specs.Prelude.{◌↔◌, ◌&&◌, not, IfErr, IfOk, IfSome, IsErrOf, IsTrue, IsNone, MatchResult, length, slice_index_or};
 ghost use Rattle.std.specs.Option.{option_to_list};
 ghost use Rattle.bq_job.specs.promise.Runs.{answers_to};
@@ -8,6 +8,7 @@ use crate::woken::Woken;
 use bq_host::{Mail, RunFault, TimedCore, new_mails};
 use bq_job::{Answer, Seat, Step};
 use bq_line::clock::Clock;
+use bq_seat::Action;
 use bq_steps::{Config, QueueCore};
 use std::alloc::Global;
 
@@ -33,7 +34,7 @@ impl<C: Clock + Drop, K: QueueCore + Drop> LoopCore<C, K> {
     ghost use Rattle.bq_job.specs.beside.NextDue.{is_before, next_due};
     ghost use Rattle.bq_event_loop.specs.LoopStates.{IsInOrder, IsNewLoopCore, IsSorted};
     ghost use Rattle.bq_steps.specs.Limits.{are_in_range};
-    ghost use Rattle.bq_driver.specs.Links.{as_submitted};
+    ghost use Rattle.bq_driver.specs.Links.{TakesInPlace, as_submitted};
 
     /// Returns a new core of a loop. All memory but that for jobs and answers is allocated here.
     ///
@@ -89,8 +90,86 @@ impl<C: Clock + Drop, K: QueueCore + Drop> LoopCore<C, K> {
         self.timed.take_step(seat, what);
     }
 
-    /// Takes the oldest answer to the seat, if there is one.
-    pub fn take(&mut self, seat: Seat) -> Option<Answer>
+    /// Takes the oldest answer to the seat, if there is one, and puts it into `place` as an action
+    /// that writes it. Returns false and leaves `place` as it was if there is none.
+    pub fn take_to(&mut self, seat: Seat, place: &mut Action) -> bool
+        requires order { IsInOrder (state_of K.machine K.comparisons self.old) }
+        requires within { seat < length self.old.mails.items }
+        ensures order { IsInOrder (state_of K.machine K.comparisons self.new) }
+        ensures went { TakesInPlace (WentAt K.machine K.comparisons C.given seat) self.old place.old result place.new self.new }
+    {
+        if self.held.is_none() && self.has_no_mail(seat) {
+            return self.take_new(seat, place);
+        }
+        self.take_kept(seat, place)
+    }
+
+    fn has_no_mail(&self, seat: Seat) -> bool
+        requires within { seat < length self.now.mails.items }
+        ensures { result ≡ true → slice_index_or self.now.mails.items seat [] ≡ [] }
+    {
+        self.mails[usize::from(seat)].is_empty()
+    }
+
+    // The same, wherever the answer is. Not inlined, because it reserves and initializes room for
+    // answers.
+    #[inline(never)]
+    fn take_kept(&mut self, seat: Seat, place: &mut Action) -> bool
+        requires order { IsInOrder (state_of K.machine K.comparisons self.old) }
+        requires within { seat < length self.old.mails.items }
+        ensures order { IsInOrder (state_of K.machine K.comparisons self.new) }
+        ensures went { TakesInPlace (WentAt K.machine K.comparisons C.given seat) self.old place.old result place.new self.new }
+    {
+        match self.take(seat) {
+            Some(answer) => {
+                *place = Action::Write(answer);
+                true
+            }
+            None => false,
+        }
+    }
+
+    // The same if no earlier answer waits: mostly the core's only answer is for this seat. It goes
+    // from where the core put it right to its place.
+    fn take_new(&mut self, seat: Seat, place: &mut Action) -> bool
+        requires order { IsInOrder (state_of K.machine K.comparisons self.old) }
+        requires within { seat < length self.old.mails.items }
+        requires empty { slice_index_or self.old.mails.items seat [] ≡ [] }
+        requires none_held { self.old.held ≡ None }
+        ensures order { IsInOrder (state_of K.machine K.comparisons self.new) }
+        ensures went { TakesInPlace (WentAt K.machine K.comparisons C.given seat) self.old place.old result place.new self.new }
+    {
+        let Some((first, answer)) = self.next_new() else {
+            return false;
+        };
+        if seat == first {
+            *place = Action::Write(answer);
+            return true;
+        }
+        self.put_back(first, answer);
+        self.take_kept(seat, place)
+    }
+
+    // Takes the oldest answer that no seat has taken, if all of them are where the core put them.
+    fn next_new(&mut self) -> Option<(Seat, Answer)>
+        requires none_held { self.old.held ≡ None }
+        ensures pending { (state_of K.machine K.comparisons self.old).pending
+            ≡ option_to_list result ++ (state_of K.machine K.comparisons self.new).pending }
+        ensures none { IsNone result → (state_of K.machine K.comparisons self.new).pending ≡ [] }
+        ensures held { option_to_list self.new.held ≡ [] }
+        ensures most { self.new.timed.outs.most ≡ self.old.timed.outs.most }
+        ensures core { self.new.timed.core ≡ self.old.timed.core }
+        ensures mails { self.new.mails ≡ self.old.mails }
+        ensures clock { self.new.timed.time.clock ≡ self.old.timed.time.clock }
+        ensures heard { self.new.timed.time.moment ≡ self.old.timed.time.moment }
+        ensures due { (self.new.timed.is_due_known ≡ self.old.timed.is_due_known) × (self.new.timed.due ≡ self.old.timed.due) }
+        ensures marked { self.new.is_sorted ≡ self.old.is_sorted }
+    {
+        self.timed.outs.take_first()
+    }
+
+    // Takes the oldest answer to the seat, if there is one.
+    fn take(&mut self, seat: Seat) -> Option<Answer>
         requires order { IsInOrder (state_of K.machine K.comparisons self.old) }
         requires within { seat < length self.old.mails.items }
         ensures order { IsInOrder (state_of K.machine K.comparisons self.new) }

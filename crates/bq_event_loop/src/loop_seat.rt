@@ -37,13 +37,7 @@ impl<'a, C: Clock + Drop, K: QueueCore + Drop> Link for LoopSeat<'a, C, K> {
     }
 
     fn mail(&mut self, place: &mut Action) -> bool {
-        match self.core.take(self.seat) {
-            Some(answer) => {
-                *place = Action::Write(answer);
-                true
-            }
-            None => false,
-        }
+        self.core.take_to(self.seat, place)
     }
 }
 

@@ -12,6 +12,8 @@ mod flow;
 #[cfg(test)]
 mod long_answers;
 #[cfg(test)]
+mod mails;
+#[cfg(test)]
 mod order;
 #[cfg(test)]
 mod parts;

@@ -29,6 +29,8 @@ pub enum Rule {
     Any,
     /// Each in its turn. A seat that rests acts only after it is woken, or its line is ready.
     Woken,
+    /// Each in its turn, with a command at a time in place of an action.
+    Commands,
 }
 
 /// All rules. Two of the seats are starved, one after the other.
@@ -40,6 +42,7 @@ pub const RULES: &[Rule] = &[
     Rule::Starved(1),
     Rule::Any,
     Rule::Woken,
+    Rule::Commands,
 ];
 
 /// The next part of a round.
@@ -121,7 +124,7 @@ impl<'t> Order<'t> {
     fn begin(&mut self, seats: usize) -> usize {
         match self.rule {
             Rule::First | Rule::Last => 0,
-            Rule::Next | Rule::Woken => self.after.saturating_add(1),
+            Rule::Next | Rule::Woken | Rule::Commands => self.after.saturating_add(1),
             Rule::Starved(seat) => seat.saturating_add(1),
             Rule::Any => self.draw() % seats.max(1),
         }
@@ -166,7 +169,7 @@ impl<'t> Order<'t> {
         match (self.stage, seat) {
             (Stage::Seats, Some(seat)) => {
                 self.last = Some(seat);
-                Turn::Seat(seat)
+                self.turn_of(seat)
             }
             (Stage::Seats, None) => {
                 self.stage = Stage::Time;
@@ -181,6 +184,14 @@ impl<'t> Order<'t> {
                 self.begin_round();
                 Turn::Control(self.reads)
             }
+        }
+    }
+
+    fn turn_of(&self, seat: usize) -> Turn {
+        if self.rule == Rule::Commands {
+            Turn::Command(seat)
+        } else {
+            Turn::Seat(seat)
         }
     }
 

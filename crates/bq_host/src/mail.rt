@@ -1,4 +1,4 @@
-ghost use Rattle.std.specs.Prelude.{◌≡◌, ◌≤◌, ◌++◌, ◌∷◌, [], length, IfOk, IsErr, IsNone, MatchResult, ◌↔◌, replicate};
+ghost use Rattle.std.specs.Prelude.{◌≡◌, ◌≤◌, ◌++◌, ◌∷◌, [], length, IfOk, IsErr, IsNone, IsTrue, MatchResult, ◌↔◌, replicate};
 ghost use Rattle.std.specs.Option.{option_to_list};
 ghost use Rattle.bq_host.specs.LastParts.{last_part};
 
@@ -37,6 +37,13 @@ impl Mail {
             Ok(answers) => Ok(Mail { answers }),
             Err(_) => Err(NoMemory),
         }
+    }
+
+    /// Returns true if there is no answer.
+    pub fn is_empty(&self) -> bool
+        ensures { IsTrue result ↔ (self.now ≡ []) }
+    {
+        self.answers.is_empty()
     }
 
     /// Removes and returns the oldest answer.
