@@ -1,6 +1,9 @@
 """Runs of bqd whose clients send many commands together: each answer is complete, in order, and sent at once."""
+import os
 import socket
+import statistics
 import struct
+import subprocess
 import time
 
 from programs import Ended, same
@@ -14,6 +17,11 @@ SOON = 0.025
 TRIES = 40
 SOON_TRIES = 4
 WARM_UP = 10
+
+# How many batches are sent beside busy programs. Half of them have to be soon, at each of several servers: a server that
+# yields too often is quick now and then.
+BUSY_TRIES = 20
+BUSY_SERVERS = 3
 
 LARGE = 60000
 SMALL = b"USING default\r\n"
@@ -144,6 +152,39 @@ def run_last_answer_at_once(bqd):
         for count in [1, 2, 25]:
             is_soon(answered(both * count, count=count))
         is_soon(answered(both * 25 + b"list-tube", b"-used\r\npeek 1\r\n", count=26))
+
+
+class BusyPrograms:
+    """Programs that keep all processors busy meanwhile: two for each processor that this one may use."""
+
+    def __enter__(self):
+        # Each ends by itself if this process can't end it.
+        loop = ["sh", "-c", "ulimit -t 60; while :; do :; done"]
+        self.all = [subprocess.Popen(loop) for _ in range(2 * len(os.sched_getaffinity(0)))]
+
+    def __exit__(self, *why):
+        for it in self.all:
+            it.kill()
+            it.wait()
+
+
+def batches_beside_busy_programs(bqd):
+    """Checks that half of a new server's batches are answered at once beside busy programs."""
+    with Server(bqd, "--seats", "1") as server, BusyPrograms():
+        client = server.client()
+        took = []
+        for _ in range(BUSY_TRIES):
+            begun = time.monotonic()
+            client.asks(b"list-tube-used\r\n" * 25, SMALL * 25)
+            took.append(time.monotonic() - begun)
+    if statistics.median(took) > SOON:
+        raise AssertionError(f"it took {took}")
+
+
+def run_batch_beside_busy_programs(bqd):
+    """Most batches are answered at once even if other programs keep all processors busy."""
+    for _ in range(BUSY_SERVERS):
+        batches_beside_busy_programs(bqd)
 
 
 def run_batch_then_half_a_put(bqd):

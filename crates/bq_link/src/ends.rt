@@ -20,6 +20,7 @@ use std::collections::LinkedList;
 use std::marker::{Model, PhantomData};
 use std::mem;
 use std::sync::Wait;
+use std::sync::atomic::{AtomicBool, Ordering};
 use std::thread::Parker;
 use std::time::Duration;
 
@@ -254,13 +255,14 @@ impl SeatEnd {
     }
 }
 
-/// The state that all ends share: the submitted steps that were not taken, and a bell for each end.
-/// A bell is a wake-up for one thread.
+/// The state that all ends share: the submitted steps that were not taken, a bell for each end, and
+/// whether yields are slow. A bell is a wake-up for one thread.
 #[derive(Drop)]
 pub struct Intake<J: Record> {
     pub(crate) queue: RuledArrayQueue<(Seat, Step), View, Delivery<J>>,
     pub(crate) core: Parker,
     pub(crate) seats: Vec<Parker>,
+    pub(crate) are_yields_slow: AtomicBool,
 }
 
 impl<J: Record> Model for Intake<J> {
@@ -285,6 +287,19 @@ impl<J: Record> Intake<J> {
         if let Some(bell) = self.seats.get(usize::from(seat)) {
             bell.unpark();
         }
+    }
+
+    /// Notes for the threads of all ends whether yields are slow, because other programs use the
+    /// processors. No call of the ends depends on it.
+    pub fn note_slow_yields(&self, are_slow: bool) {
+        if are_slow != self.are_yields_slow() {
+            self.are_yields_slow.store(are_slow, Ordering::Relaxed);
+        }
+    }
+
+    /// Returns true if yields were noted to be slow. At first they are not.
+    pub fn are_yields_slow(&self) -> bool {
+        self.are_yields_slow.load(Ordering::Relaxed)
     }
 }
 

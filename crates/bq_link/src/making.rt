@@ -5,6 +5,7 @@ use crate::ends::{CoreEnd, Intake, Record, SeatEnd};
 use bq_job::NoMemory;
 use crossbeam_queue::RuledArrayQueue;
 use std::alloc::{AllocError, Global};
+use std::sync::atomic::AtomicBool;
 use std::thread::Parker;
 
 /// Makes an intake for `seats` seats, an end for each of them, then one for the control line, and
@@ -79,6 +80,7 @@ fn no_ends<J: Record>(alloc: Global, ends: usize) -> Result<(Intake<J>, CoreEnd)
         queue,
         core: Parker::new(),
         seats,
+        are_yields_slow: AtomicBool::new(false),
     };
     Ok((intake, CoreEnd { pass, rings }))
 }

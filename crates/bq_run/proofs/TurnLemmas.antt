@@ -1,16 +1,20 @@
 -- How the turns of the core's driver combine.
-use Rattle.std.proofs.Common.{◌≡◌, ℕ, Bool, true, false, List, [], ◌∷◌, ◌++◌, Option, ◌∙◌, refl, sym, ap, subst, inl, inr}
+use Rattle.std.proofs.Common.{◌≡◌, ℕ, Bool, true, false, List, [], ◌∷◌, ◌++◌, Option, Some, None}
+use Rattle.std.proofs.Common.{◌≤◌, ◌⊎◌, ◌∙◌, arith, refl, sym, ap, subst, inl, inr}
+use Rattle.std.proofs.Math.Nat.{le-max_left}
 use Rattle.bq_job.specs.declared.settings.Settings.{Settings}
+use Rattle.bq_job.specs.declared.step.Step.{Step}
 use Rattle.bq_job.specs.declared.step.Step.TheVariants.{Tick}
 use Rattle.bq_job.specs.machine.Machine.{Machine}
 use Rattle.bq_job.specs.machine.Steps.{IsStep}
+use Rattle.bq_job.specs.promise.History.{moment_heard}
 use Rattle.bq_steps.specs.Cost.{IsLookWithin}
 use Rattle.bq_steps.specs.Outbox.{Outbox}
 use Rattle.bq_host.specs.Clocks.{Gives}
-use Rattle.bq_host.specs.Timed.{HasLooked, IsReady, LooksAndSteps, PassesOver}
+use Rattle.bq_host.specs.Timed.{HasHeard, HasLooked, IsReady, LooksAndSteps, PassesOver}
 use Rattle.bq_host.specs.declared.heard_clock.HeardClock.{HeardClock}
 use Rattle.bq_host.specs.declared.timed_core.TimedCore.{TimedCore}
-use Rattle.bq_run.specs.Worked.{HasTicked, HasWorked, IsInOrder, WorksOn, driver_state}
+use Rattle.bq_run.specs.Worked.{HasTicked, HasWorked, IsInOrder, TookOne, WorksOn, driver_state}
 use Rattle.bq_run.specs.declared.core_work.core_driver.CoreDriver.{CoreDriver}
 use Rattle.bq_run.proofs.WorkedLemmas.{pending_on, worked_heard, worked_looked, worked_tick}
 
@@ -74,6 +78,33 @@ on_over {C} {K} given machine compared old t order ready (looked, l, rest) = rec
   ];
 }
 
+-- A reading never lowers the latest moment.
+pub not_lowered : (last next : ℕ) (reading : Option ℕ) → next ≡ moment_heard last reading → last ≤ next
+not_lowered last next None e = omega (arith, e)
+not_lowered last next (Some moment) e = subst (λ (n : ℕ). last ≤ n) (sym e) (le-max_left last moment)
+
+-- The clock was read, and nothing else happened.
+pub on_heard : {C K : Type 0} (given : Gives C) (machine : K → Machine) (compared : K → ℕ) (old : CoreDriver C K) (time : HeardClock C)
+    (reading : Option ℕ) → IsInOrder machine old → HasHeard given old.timed.time reading time
+    → WorksOn given machine compared old (record old { timed = record old.timed { time = time } })
+on_heard {C} {K} given machine compared old time reading order h = record {
+  order = record {
+    ready = record { room = order.ready.room; due = order.ready.due };
+    sender = order.sender;
+    many = order.many;
+    all = order.all;
+  };
+  end = (refl, refl);
+  settings = refl;
+  work = λ settings from first w. (
+    w.0 ++ reading ∷ [],
+    h.gave first w.0 w.1,
+    worked_heard settings from w.0 (driver_state machine compared old)
+        (driver_state machine compared (record old { timed = record old.timed { time = time } })) reading w.2 refl h.heard refl refl refl
+        refl refl,
+  );
+}
+
 -- Time passed, and the core took a tick.
 pub on_ticked : {C K : Type 0} (given : Gives C) (machine : K → Machine) (compared : K → ℕ) (old : CoreDriver C K) (t : TimedCore C K)
     → IsInOrder machine old → IsReady machine t → old.timed.outs.given ≡ [] → LooksAndSteps given machine compared old.timed 0 Tick t
@@ -116,3 +147,16 @@ has_ticked given machine compared old t (looked, l, s) = record {
   outcome = s.outcome;
   step = subst (λ (m : Machine). IsStep m t.time.moment 0 Tick s.outcome t.outs.given (machine t.core)) l.same s.step.step;
 }
+
+-- What was taken after the clock was read and answers were sent.
+pub busy_from : {C K : Type 0} (machine : K → Machine) (old mid new : CoreDriver C K) → mid.sender.end.taken ≡ old.sender.end.taken
+    → mid.timed.core ≡ old.timed.core → TookOne mid.sender.end new.sender.end ⊎ HasTicked machine mid new
+    → TookOne old.sender.end new.sender.end ⊎ HasTicked machine old new
+busy_from {C} {K} machine old mid new taken core busy = elim busy [
+  | inl t ↦ inl (t.0, t.1 ∙ ap (λ (steps : List (ℕ × Step)). steps ++ t.0 ∷ []) taken)
+  | inr h ↦ inr (record {
+    outcome = h.outcome;
+    step = subst (λ (k : K). IsStep (machine k) new.timed.time.moment 0 Tick h.outcome new.timed.outs.given (machine new.timed.core))
+        core h.step;
+  })
+]

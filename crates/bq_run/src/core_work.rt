@@ -13,6 +13,7 @@ mod core_driver;
 mod core_room;
 mod gone_ends;
 mod sender;
+mod yielding;
 
 use bq_line::clock::Clock;
 use bq_link::{CoreEnd, Intake, NoTicks};

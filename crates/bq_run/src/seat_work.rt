@@ -289,13 +289,14 @@ fn mail_at<R: Wait>(
 }
 
 // Sleeps for up to this many milliseconds. If it is 0, a step was just submitted, and it yields to
-// other threads once: the core's thread may share this processor.
+// other threads once: the core's thread may share this processor. It does not while the core's thread
+// finds that yields are slow.
 fn sleep_or_yield<R: Wait>(rt: &R, intake: &Intake<NoTicks>, end: &mut SeatEnd, most: u64)
     ensures { end.new ≡ end.old }
 {
     if most > 0 {
         end.wait(rt, intake, Duration::from_millis(most));
-    } else {
+    } else if !intake.are_yields_slow() {
         thread::yield_now();
     }
 }

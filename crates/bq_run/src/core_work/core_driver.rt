@@ -1,11 +1,12 @@
 //! The core with everything that its thread needs.
-ghost use Rattle.std.specs.Prelude.{◌≡◌, ◌⊎◌, ◌↔◌, ◌<◌, ◌+◌, [], false, not, true, length};
+ghost use Rattle.std.specs.Prelude.{◌≡◌, ◌⊎◌, ◌↔◌, ◌<◌, ◌≤◌, ◌+◌, ◌-◌, [], false, not, true, length};
 ghost use Rattle.bq_job.specs.beside.NextDue.{is_before, next_due};
 ghost use Rattle.bq_run.specs.Rests.{longest_rest};
 
 use crate::core_work::core_room::CoreRoom;
 use crate::core_work::gone_ends::GoneEnds;
 use crate::core_work::sender::Sender;
+use crate::core_work::yielding::Yielding;
 use bq_host::TimedCore;
 use bq_job::{Seat, Step};
 use bq_line::clock::Clock;
@@ -27,12 +28,14 @@ const HOUR: u64 = 3_600_000;
 /// The sleep while a ring is full, in milliseconds.
 const RING_REST: u64 = 1;
 
-/// The core with its clock, its end of the links, and the answers that were not sent yet.
+/// The core with its clock, its end of the links, the answers that were not sent yet, and when its
+/// thread yields.
 #[derive(Drop)]
 pub struct CoreDriver<C, K> {
     pub timed: TimedCore<C, K>,
     pub sender: Sender,
     pub gone: GoneEnds,
+    pub yielding: Yielding,
 }
 
 impl<C: Clock + Drop, K: QueueCore + Drop> CoreDriver<C, K> {
@@ -86,11 +89,12 @@ impl<C: Clock + Drop, K: QueueCore + Drop> CoreDriver<C, K> {
                 aside,
             },
             gone: GoneEnds::none(gone),
+            yielding: Yielding::new(),
         }
     }
 
-    /// Makes one turn: sends answers, and takes a step or waits for one. Returns true if everything
-    /// is done.
+    /// Makes one turn: sends answers, and takes a step or waits for one. It may yield before. Returns
+    /// true if everything is done.
     pub fn turn<R: Wait>(&mut self, rt: &R, intake: &Intake<NoTicks>) -> bool
         requires intake { self.old.sender.end.intake ≡ intake.now.id }
         requires order { IsInOrder K.machine self.old }
@@ -107,6 +111,7 @@ impl<C: Clock + Drop, K: QueueCore + Drop> CoreDriver<C, K> {
         if self.is_over() {
             return true;
         }
+        self.give_way(intake);
         if !self.go_on(rt, intake) {
             self.await_step(rt, intake);
         }
@@ -135,6 +140,49 @@ impl<C: Clock + Drop, K: QueueCore + Drop> CoreDriver<C, K> {
         ensures { result ≡ true ↔ IsOver self.now }
     {
         self.gone.all && self.sender.kept.is_empty()
+    }
+
+    // Yields to other threads if no step waits: the thread of the next step may share this
+    // processor. After a slow yield some waits begin without one. The intake passes on to the
+    // seats' threads whether the last yield was slow.
+    fn give_way(&mut self, intake: &Intake<NoTicks>)
+        requires intake { self.old.sender.end.intake ≡ intake.now.id }
+        requires order { IsInOrder K.machine self.old }
+        ensures on { WorksOn C.given K.machine K.comparisons self.old self.new }
+        ensures rest { self.new ≡ record self.old { timed = record self.old.timed { time = self.new.timed.time }; yielding = self.new.yielding } }
+        // A wait that begins without a yield is only counted.
+        ensures waits { 0 < self.old.yielding.left
+            → (self.new.timed ≡ self.old.timed) × (self.new.yielding.pause ≡ self.old.yielding.pause) }
+    {
+        if !self.sender.has_none(intake) || !self.yielding.is_next() {
+            return;
+        }
+        let took = self.yield_once();
+        intake.note_slow_yields(self.yielding.is_slow(took));
+    }
+
+    // Yields to other threads, and returns how many milliseconds passed.
+    fn yield_once(&mut self) -> u64
+        requires order { IsInOrder K.machine self.old }
+        ensures on { WorksOn C.given K.machine K.comparisons self.old self.new }
+        ensures took { result ≤ self.new.timed.time.moment - self.old.timed.time.moment }
+        ensures rest { self.new ≡ record self.old { timed = record self.old.timed { time = self.new.timed.time } } }
+    {
+        self.hear();
+        let start = self.timed.time.moment;
+        thread::yield_now();
+        self.hear();
+        self.timed.time.moment.saturating_sub(start)
+    }
+
+    // Reads the clock once.
+    fn hear(&mut self)
+        requires order { IsInOrder K.machine self.old }
+        ensures on { WorksOn C.given K.machine K.comparisons self.old self.new }
+        ensures moment { self.old.timed.time.moment ≤ self.new.timed.time.moment }
+        ensures rest { self.new ≡ record self.old { timed = record self.old.timed { time = self.new.timed.time } } }
+    {
+        let _reading = self.timed.time.hear();
     }
 
     // Takes the oldest waiting step. If there is none, it takes a tick if something is due. Returns
@@ -231,14 +279,12 @@ impl<C: Clock + Drop, K: QueueCore + Drop> CoreDriver<C, K> {
         }
     }
 
-    // Waits until a step arrives or something is due. It yields to other threads once, since the
-    // thread of the next step may share its processor. Then it polls a few times, and sleeps if it
-    // found none.
+    // Waits until a step arrives or something is due: it polls a few times, and sleeps if it found
+    // none.
     fn await_step<R: Wait>(&mut self, rt: &R, intake: &Intake<NoTicks>)
         requires intake { self.old.sender.end.intake ≡ intake.now.id }
         ensures { self.new ≡ self.old }
     {
-        thread::yield_now();
         for _ in 0..LOOKS {
             if !self.sender.has_none(intake) {
                 return;
@@ -278,6 +324,7 @@ impl<C: Clock + Drop, K: QueueCore + Drop> CoreDriver<C, K> {
             timed,
             sender,
             gone: _,
+            yielding: _,
         } = self;
         (sender.end, timed.core, timed.time.clock)
     }
