@@ -12,6 +12,10 @@ from servers import TAKEN, Server, awaits, value_told
 SOON = 0.005
 TRIES = 8
 
+# Within how many seconds draining is reported. Three threads act one after another, and on a busy machine each waits for
+# a processor. A core that is not woken would sleep for an hour.
+SOON_BY_THREE = 0.1
+
 # After how many seconds all of these events are due. The server counts whole milliseconds.
 SECOND = 1
 MILLISECOND = 0.001
@@ -145,7 +149,7 @@ def run_drain_while_all_sleep(bqd):
             server.tells(b"bqd: draining\n")
             took = time.monotonic() - before
             puts.asks(PUT, b"DRAINING\r\n")
-        return None if took <= SOON else took
+        return None if took <= SOON_BY_THREE else took
     often(tried)
 
 
