@@ -43,5 +43,4 @@ pub mod UnitsLemmas
 pub mod CutLemmas
 pub mod GivenLemmas
 pub mod JoinLemmas
-pub mod HistoryLemmas
 pub mod FilledLemmas

@@ -1,5 +1,4 @@
 pub mod beside
-pub mod examples
 pub mod laws
 pub mod machine
 pub mod promise

@@ -4,9 +4,6 @@ ghost use Rattle.bq_job.specs.beside.{AreSameRequests, reading};
 ghost use Rattle.bq_job.specs.reading.Reading.{Reads, ends_by_quit};
 ghost use Rattle.bq_job.specs.declared.request.Request.{Request};
 
-#[cfg(test)]
-mod examples;
-
 /// Every text has a reading: the computed one, in which no allocation fails.
 #[tactic(auto, using(crate::proofs::ReadsLemmas::computed_readings))]
 pub fn every_text_is_read()

@@ -5,9 +5,6 @@ ghost use Rattle.bq_job.specs.machine.{Machine.Machine, in_name_order, is_tube, 
 ghost use Rattle.bq_job.specs.beside.{is_in_order};
 ghost use Rattle.bq_job.specs.reading.TubeName.{is_same_name};
 
-#[cfg(test)]
-mod examples;
-
 /// A tube is listed if and only if it exists.
 #[tactic(auto, using(crate::proofs::NameOrderLemmas::listed))]
 pub fn existing_tubes_are_listed()

@@ -31,14 +31,6 @@ pub use tube_name::TubeName;
 
 mod answer;
 mod body;
-#[cfg(test)]
-mod examples_of_histories;
-#[cfg(test)]
-mod examples_of_runs;
-#[cfg(test)]
-mod examples_of_sessions;
-#[cfg(test)]
-mod examples_of_steps;
 mod fault;
 mod job;
 mod journal;

@@ -1,11 +1,13 @@
-//! Tests of values and texts of the protocol, of the machine of a connection, and of the links between
-//! seats and core. They use public calls only.
+//! Worked examples of the definitions, and tests of values and texts of the protocol, of the machine
+//! of a connection, and of the links between seats and core. The tests use public calls only.
 #![tactic(auto)]
 
 #[cfg(test)]
 mod answers;
 #[cfg(test)]
 mod cut_readings;
+#[cfg(test)]
+mod examples;
 #[cfg(test)]
 mod lines;
 #[cfg(test)]

@@ -3,10 +3,10 @@
 #![tactic(auto, unfolding(crate::specs::examples::Digits::digits))]
 
 ghost use Rattle.std.specs.Prelude.{◌≡◌, codes, length, [], ◌∷◌, ◌++◌, map};
-ghost use Rattle.bq_job.specs.examples.AnswerExamples.{sample_answers, sample_texts};
+ghost use Rattle.bq_wire_tests.specs.examples.AnswerExamples.{sample_answers, sample_texts};
 ghost use Rattle.bq_job.specs.texts.AnswerText.{answer_text};
 ghost use Rattle.bq_job.specs.machine.{default_tube, job_statistics, name_list, server_statistics, tube_statistics, tubes};
-ghost use Rattle.bq_job.specs.examples.TextExamples.{first_client, plain_job, job_reserved_again, after_one_deletion, after_coming_back};
+ghost use Rattle.bq_wire_tests.specs.examples.TextExamples.{first_client, plain_job, job_reserved_again, after_one_deletion, after_coming_back};
 
 // One answer of each kind.
 fn every_answer()

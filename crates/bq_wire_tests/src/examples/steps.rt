@@ -5,8 +5,8 @@ ghost use Rattle.bq_job.specs.declared.answer.Answer.TheVariants.{Inserted, Kick
 ghost use Rattle.bq_job.specs.declared.answer.Answer.TheVariants.{Released, Reserved, TimedOut, Touched, Using, Watching};
 ghost use Rattle.bq_job.specs.declared.request.Request.TheVariants.{Bury, Delete, Ignore, Kick, PauseTube, Peek, Put};
 ghost use Rattle.bq_job.specs.declared.request.Request.TheVariants.{Release, Reserve, ReserveWithTimeout, StatsJob, Touch, Use, Watch};
-ghost use Rattle.bq_job.specs.examples.Examples.{Plays, PlaysWith, ask, at, at_most, close, drain};
-ghost use Rattle.bq_job.specs.examples.Examples.{due_after, due_with, end, plain, requeued_after, tick, ◌gives◌};
+ghost use Rattle.bq_wire_tests.specs.examples.Examples.{Plays, PlaysWith, ask, at, at_most, close, drain};
+ghost use Rattle.bq_wire_tests.specs.examples.Examples.{due_after, due_with, end, plain, requeued_after, tick, ◌gives◌};
 ghost use Rattle.std.specs.Prelude.{List, [], ◌∷◌, ◌++◌, ◌≡◌, None, Some, codes};
 
 /// Each of two waiting clients gets a job of a tube that it watches, whichever has waited longer.

@@ -1,5 +1,5 @@
 use Rattle.std.proofs.Common.{inl, inr, refl}
-use Rattle.bq_job.proofs.examples_of_histories.moments_never_fall.Goals as goal
+use Rattle.bq_wire_tests.proofs.examples.histories.moments_never_fall.Goals as goal
 
 pub returns-clause-kept : goal.returns-clause-kept
 returns-clause-kept c = inl (refl, inl (refl, tt))

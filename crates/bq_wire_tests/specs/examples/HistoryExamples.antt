@@ -4,7 +4,8 @@ use Rattle.std.specs.Prelude.{ℕ, true, false, List, map, length, flat_map, Opt
 use Rattle.bq_job.specs.declared.line_end.LineEnd.TheVariants as ends
 use Rattle.bq_job.specs.declared.line_end.LineFault.TheVariants as faults
 use Rattle.bq_job.specs.declared.step.Step.TheVariants as steps
-use Rattle.bq_job.specs.{beside.{machine_after, transitions}, examples.Examples.{event, plain}, machine.GivenAnswer}
+use Rattle.bq_job.specs.{beside.{machine_after, transitions}, machine.GivenAnswer}
+use Rattle.bq_wire_tests.specs.examples.Examples.{event, plain}
 use Rattle.bq_job.specs.{machine.{Settings, new_machine}, promise.{Entry, IsHistoryOf, LineOver}}
 
 -- the default limit on bodies

@@ -1,7 +1,8 @@
 -- Short words for worked examples: what the machine answers to a list of steps, by evaluation.
 use Rattle.std.specs.Prelude.{ℕ, ◌≡◌, if◌then◌else◌, List, [], ◌∷◌, ◌++◌, map, flat_map, Option, None, Some}
 use Rattle.bq_job.specs.{beside.{next_due, reading, stepped}, machine.{GivenAnswer, new_machine, Machine.Machine}}
-use Rattle.bq_job.specs.{promise.{Entry, answers_text, ends_by_wait}, Types.{Answer, Request, Settings, Step}}
+use Rattle.bq_job.specs.promise.{Entry, answers_text, ends_by_wait}
+use Rattle.bq_job.specs.declared.{answer.Answer.Answer, request.Request.Request, settings.Settings.Settings, step.Step.Step}
 use Rattle.bq_job.specs.declared.step.Step.TheVariants as steps
 
 -- what the machine answers to each step

@@ -1,13 +1,15 @@
 use Rattle.std.proofs.Common.{List, [], ◌∷◌, ◌++◌, refl, inl, inr}
 use Rattle.std.specs.{Fmt.digits, Prelude.{codes, replicate}}
-use Rattle.bq_job.specs.examples.HistoryExamples.{drain_at, ended_line, gone, quit_line, unread_line, unwritten_line, usual}
+use Rattle.bq_wire_tests.specs.examples.HistoryExamples.{drain_at, ended_line, gone, quit_line, unread_line, unwritten_line, usual}
 use Rattle.bq_job.specs.declared.answer.Answer.TheVariants.{Closed, Inserted, Reserved as HandedOut}
-use Rattle.bq_job.specs.{declared.request.Request.TheVariants.{Put, Quit, Reserve}, examples.Examples.{ask, close}}
-use Rattle.bq_job.specs.{examples.Examples.connect, promise.{Entry, IsBeginning, IsCutOff, IsDoorOwed, IsOverBy}}
+use Rattle.bq_job.specs.declared.request.Request.TheVariants.{Put, Quit, Reserve}
+use Rattle.bq_wire_tests.specs.examples.Examples.{ask, close}
+use Rattle.bq_job.specs.promise.{Entry, IsBeginning, IsCutOff, IsDoorOwed, IsOverBy}
+use Rattle.bq_wire_tests.specs.examples.Examples.{connect}
 use Rattle.bq_job.specs.{promise.{LineOver, heard}, texts.AnswerText.answer_text}
 use Rattle.bq_job.specs.declared.step.Step.TheVariants as steps
-use Rattle.bq_job.proofs.HistoryLemmas.{line_so, lines_so, picked_all, served_so}
-use Rattle.bq_job.proofs.examples_of_histories.doors_are_served.Goals as goal
+use Rattle.bq_wire_tests.proofs.HistoryLemmas.{line_so, lines_so, picked_all, served_so}
+use Rattle.bq_wire_tests.proofs.examples.histories.doors_are_served.Goals as goal
 
 pub returns-clause-a_put_answers_a_reserve : goal.returns-clause-a_put_answers_a_reserve
 unfolding digits

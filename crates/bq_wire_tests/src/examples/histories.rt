@@ -1,14 +1,15 @@
 //! Worked examples of whole histories: what was read and written at each door, and whether one
 //! history of all clients' steps explains it. Each is a clause on the definitions; none runs our
 //! code.
-ghost use Rattle.bq_job.specs.Types.{Answer, Step};
+ghost use Rattle.bq_job.specs.declared.answer.Answer.{Answer};
+ghost use Rattle.bq_job.specs.declared.step.Step.{Step};
 ghost use Rattle.bq_job.specs.declared.answer.Answer.TheVariants.{Closed, Deleted, Inserted, Kicked};
 ghost use Rattle.bq_job.specs.declared.request.Request.TheVariants.{Put, Quit, Reserve};
 ghost use Rattle.bq_job.specs.declared.step.Step.TheVariants.{Ask, Close, Connect, Drain, Gone};
 ghost use Rattle.bq_job.specs.promise.{IsControlDone, IsDoorOwed, IsHistoryOf, IsLineOwed, IsTimedBy, LineOver};
-ghost use Rattle.bq_job.specs.examples.Examples.{ask, at, close, connect};
-ghost use Rattle.bq_job.specs.examples.HistoryExamples.{AreServedOver, drain_at, ended_line, gone, quit_line, seated};
-ghost use Rattle.bq_job.specs.examples.HistoryExamples.{shut_line, unread_line, unwritten_line, usual};
+ghost use Rattle.bq_wire_tests.specs.examples.Examples.{ask, at, close, connect};
+ghost use Rattle.bq_wire_tests.specs.examples.HistoryExamples.{AreServedOver, drain_at, ended_line, gone, quit_line, seated};
+ghost use Rattle.bq_wire_tests.specs.examples.HistoryExamples.{shut_line, unread_line, unwritten_line, usual};
 ghost use Rattle.bq_job.specs.machine.{Machine.Machine};
 ghost use Rattle.std.specs.Prelude.{ℕ, Bool, false, ◌≡◌, List, [], ◌∷◌, Option, Some, codes};
 

@@ -1,5 +1,5 @@
 use Rattle.std.proofs.Common.{arith, refl}
-use Rattle.bq_job.proofs.examples_of_runs.holder_of_a_job.Goals as goal
+use Rattle.bq_wire_tests.proofs.examples.runs.holder_of_a_job.Goals as goal
 
 pub returns : goal.returns
 returns c = (_, (0, omega arith, refl), refl, refl)

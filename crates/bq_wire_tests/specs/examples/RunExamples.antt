@@ -1,6 +1,7 @@
 -- Short words for worked examples of runs: what happens to jobs, and in which order they are handed out.
 use Rattle.std.specs.{List.AllByRecursion, Prelude.{◌∷◌, ◌≡◌, List, [], ℕ, flat_map}}
-use Rattle.bq_job.specs.{beside.transitions, declared.job.Job.Job, examples.Examples.{connect, server}, laws.Happening}
+use Rattle.bq_job.specs.{beside.transitions, declared.job.Job.Job, laws.Happening}
+use Rattle.bq_wire_tests.specs.examples.Examples.{connect, server}
 use Rattle.bq_job.specs.{laws.{IsUndisturbed, handed_out, happenings, parts_of_run, put}, promise.{Entry, Transition}}
 
 -- the steps of a server with three seats, once a client has connected to each of them at the moment

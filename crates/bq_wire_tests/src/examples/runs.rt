@@ -3,9 +3,9 @@
 ghost use Rattle.bq_job.specs.declared.answer.Answer.TheVariants.{Deleted, Draining, Inserted, NotFound, Reserved};
 ghost use Rattle.bq_job.specs.declared.request.Request.TheVariants.{Bury, Delete, Kick, PauseTube, Put, Release, Reserve, ReserveJob};
 ghost use Rattle.bq_job.specs.beside.{machine_after, transitions};
-ghost use Rattle.bq_job.specs.examples.Examples.{Plays, ask, at, close, connect, drain, server, tick, ◌gives◌};
+ghost use Rattle.bq_wire_tests.specs.examples.Examples.{Plays, ask, at, close, connect, drain, server, tick, ◌gives◌};
 ghost use Rattle.bq_job.specs.machine.{last_id};
-ghost use Rattle.bq_job.specs.examples.RunExamples.{HandsOutDisturbed, HandsOutUndisturbed, happening_in, taken};
+ghost use Rattle.bq_wire_tests.specs.examples.RunExamples.{HandsOutDisturbed, HandsOutUndisturbed, happening_in, taken};
 ghost use Rattle.bq_job.specs.laws.{Holds, IsHandedOutBefore, IsPutBefore, has_inserted, is_deletion};
 ghost use Rattle.std.specs.Prelude.{List, [], ◌∷◌, ◌≡◌, codes, false, map, true};
 ghost use Rattle.std.specs.List.{list_any};

@@ -2,11 +2,13 @@ use Rattle.std.proofs.Common.{◌≡◌, List, [], ◌∷◌, ◌++◌, map, len
 use Rattle.std.proofs.lemmas.List.{length-map}
 use Rattle.std.specs.{Fmt.digits, Prelude.{ℕ, codes}}
 use Rattle.bq_job.specs.declared.{answer.Answer.TheVariants.Inserted, request.Request.TheVariants.{Delete, Reserve}}
-use Rattle.bq_job.specs.{examples.HistoryExamples.usual, promise.answers_text}
+use Rattle.bq_job.specs.promise.{answers_text}
+use Rattle.bq_wire_tests.specs.examples.HistoryExamples.{usual}
 use Rattle.bq_job.specs.declared.step.Step.TheVariants as steps
-use Rattle.bq_job.proofs.{CutLemmas.same_cut, HistoryLemmas.{dropped_none, same_many}, ReadsLemmas.Reads-unique}
+use Rattle.bq_job.proofs.{CutLemmas.same_cut, ReadsLemmas.Reads-unique}
+use Rattle.bq_wire_tests.proofs.HistoryLemmas.{dropped_none, same_many}
 use Rattle.bq_job.proofs.ReadsLemmas.{reading-Reads}
-use Rattle.bq_job.proofs.examples_of_histories.no_line_is_owed_so.Goals as goal
+use Rattle.bq_wire_tests.proofs.examples.histories.no_line_is_owed_so.Goals as goal
 
 pub returns-clause-command_missing : goal.returns-clause-command_missing
 returns-clause-command_missing c = λ written given h.

@@ -1,6 +1,7 @@
 -- Machines and jobs whose texts were written by hand.
 use Rattle.std.specs.Prelude.{true, [], ◌∷◌, codes, None}
-use Rattle.bq_job.specs.{declared.job.Job.Job, examples.Examples.plain, machine.{Settings, default_tube, empty_seat}}
+use Rattle.bq_job.specs.{declared.job.Job.Job, machine.{Settings, default_tube, empty_seat}}
+use Rattle.bq_wire_tests.specs.examples.Examples.{plain}
 use Rattle.bq_job.specs.machine.{new_machine, no_counts, Machine.Machine}
 use Rattle.bq_job.specs.declared.job.JobState.TheVariants as states
 

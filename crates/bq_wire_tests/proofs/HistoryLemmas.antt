@@ -7,8 +7,9 @@ use Rattle.bq_job.specs.promise.{AreAllAnswered, AreDoorsOwed, AreLinesOwed, Are
 use Rattle.bq_job.specs.promise.{IsDoorOwed, IsLineOwed, IsOverBy, IsRun, IsStepsOfLine, IsTimedBy, IsWritten, LineOver, heard, steps_at}
 use Rattle.bq_job.specs.beside.{AreSameRequests, machine_after, reading, transition, transitions}
 use Rattle.bq_job.specs.{declared.request.Request.TheVariants.Reserve, machine.{Settings, has_closed, new_machine}}
-use Rattle.bq_job.specs.examples.HistoryExamples.{AreServedOver, given_over, readings_of, seated, usual}
-use Rattle.bq_job.specs.{machine.Machine.Machine, reading.Reading.Reads, Types.{Answer, Request, Step}}
+use Rattle.bq_wire_tests.specs.examples.HistoryExamples.{AreServedOver, given_over, readings_of, seated, usual}
+use Rattle.bq_job.specs.{machine.Machine.Machine, reading.Reading.Reads}
+use Rattle.bq_job.specs.declared.{answer.Answer.Answer, request.Request.Request, step.Step.Step}
 use Rattle.bq_job.specs.declared.step.Step.TheVariants as steps
 use Rattle.bq_job.specs.declared.answer.Answer.TheVariants as answers
 use Rattle.bq_job.proofs.{ComputedRunLemmas.computed_goes, ReadsLemmas.reading-Reads}

@@ -4,7 +4,7 @@
 
 #![tactic(auto, unfolding(crate::specs::examples::Digits::digits))]
 
-ghost use Rattle.bq_job.specs.examples.Examples.{at_most, plain, replies, replies_with, replies_within};
+ghost use Rattle.bq_wire_tests.specs.examples.Examples.{at_most, plain, replies, replies_with, replies_within};
 ghost use Rattle.std.specs.Prelude.{List, [], ◌≡◌, ◌++◌, codes, replicate};
 
 /// A job is put, reserved and deleted.
