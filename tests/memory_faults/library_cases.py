@@ -1,4 +1,4 @@
-"""Calls of the libraries, in tests of bq_refused: each allocation fails in turn.
+"""Calls of the libraries, in bq_memory_tests: each allocation fails in turn.
 
 One test prints the outcome of each call on a line, then the steps of a core, one after another (its steps.rt). Its
 output without failures is in library_told.txt. The other prints the steps of a client that holds a job, at a core of
