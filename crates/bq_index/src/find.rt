@@ -13,7 +13,7 @@ ghost use Rattle.bq_index.specs.Lent.{value_at, value_in, value_left, value_of, 
 ghost use Rattle.bq_index.specs.contracts.tree.Tree.{the_row as tree_row};
 ghost use Rattle.bq_index.specs.contracts.tree.Node.{the_row as node_row};
 
-use super::tree::{Node, Tree, parts};
+use super::tree::{Node, Tree};
 use std::cmp::Ordering;
 use std::marker::PhantomData;
 
@@ -52,11 +52,11 @@ pub(crate) fn get<'a, K: Ord, V>(
     ensures counted { RaisedByAtMost (height_of (lent tree.entry)) count.old count.new }
 {
     let mut below = tree;
-    while let Some((left, other, value, right)) = parts(below) {
-        match compare(key, other, count) {
-            Ordering::Less => below = left,
-            Ordering::Greater => below = right,
-            Ordering::Equal => return Some(value),
+    while let Some(node) = below {
+        match compare_to(key, node, count) {
+            Ordering::Less => below = node.left(),
+            Ordering::Greater => below = node.right(),
+            Ordering::Equal => return Some(node.entry().1),
         }
     }
     None
@@ -78,14 +78,14 @@ pub(crate) fn next_from<'a, K: Ord, V>(
     // The lowest entry so far whose key is above: that of the last box at which the descent went
     // left.
     let mut above = None;
-    while let Some((left, other, value, right)) = parts(below) {
-        match compare(key, other, count) {
+    while let Some(node) = below {
+        match compare_to(key, node, count) {
             Ordering::Less => {
-                above = Some((other, value));
-                below = left;
+                above = Some(node.entry());
+                below = node.left();
             }
-            Ordering::Greater => below = right,
-            Ordering::Equal => return Some((other, value)),
+            Ordering::Greater => below = node.right(),
+            Ordering::Equal => return Some(node.entry()),
         }
     }
     above

@@ -113,6 +113,43 @@ impl<K, V> Node<K, V> {
         }
     }
 
+    // Returns the entry.
+    pub(crate) fn entry(&self) -> (&K, &V)
+        requires { IsSome (entry_in self.now) }
+        ensures { Some (result.0.now, result.1.now) ≡ entry_in self.now }
+    {
+        match self {
+            Node::Alone { key, value } => (key, value),
+            Node::OnLeft { key, value, .. } => (key, value),
+            Node::OnRight { key, value, .. } => (key, value),
+            Node::Both { key, value, .. } => (key, value),
+            Node::Spare | Node::SpareBefore(_) => unreachable!(),
+        }
+    }
+
+    // Returns the box of the left side. A search asks for the one side that it goes to, because to
+    // take a box apart (`parts`) costs more at each level.
+    pub(crate) fn left(&self) -> Option<&Node<K, V>>
+        ensures { lent result ≡ left_in self.now }
+    {
+        match self {
+            Node::OnLeft { left, .. } => Some(left),
+            Node::Both { left, .. } => Some(left),
+            _ => None,
+        }
+    }
+
+    // Returns the box of the right side.
+    pub(crate) fn right(&self) -> Option<&Node<K, V>>
+        ensures { lent result ≡ right_in self.now }
+    {
+        match self {
+            Node::OnRight { right, .. } => Some(right),
+            Node::Both { right, .. } => Some(right),
+            _ => None,
+        }
+    }
+
     // Returns a box of two trees with an entry between them, whose height is `high`.
     pub(crate) fn of(high: u8, left: Tree<K, V>, entry: (K, V), right: Tree<K, V>) -> Self
         requires left_balanced { IsBalanced left }

@@ -1,33 +1,48 @@
-use Rattle.std.proofs.Common.{sym, ◌∙◌, arith}
-use Rattle.bq_index.proofs.Parts.{left_in_order, right_in_order, is_below, is_above, is_at_entry}
+use Rattle.std.proofs.Common.{ap, refl, sym, ◌∙◌, arith}
+use Rattle.std.specs.Option.{option_map}
+use Rattle.bq_index.specs.Tree.{lent}
+use Rattle.bq_index.proofs.Parts.{left_in_order, lent_apart, right_in_order, is_below, is_above, is_at_entry}
 use Rattle.bq_index.proofs.find.get.Goals as goal
 
-pub loop-left-preserved-in-Less : goal.loop-left-preserved-in-Less
-loop-left-preserved-in-Less g c =
-    let p = c.in-Some.ensures.parts in
-    let i = c.loop-left.invariant in
+pub compare_to-requires : goal.compare_to-requires
+compare_to-requires g c = (lent_apart c.in-Some.node.now (ap lent c.in-Some.is) refl refl c.loop-below.invariant.balanced).filled
+
+pub entry-requires : goal.entry-requires
+entry-requires g c = (lent_apart c.in-Some.node.now (ap lent c.in-Some.is) refl refl c.loop-below.invariant.balanced).filled
+
+pub loop-below-preserved-in-Less : goal.loop-below-preserved-in-Less
+loop-below-preserved-in-Less g c =
+    let i = c.loop-below.invariant in
+    let p = lent_apart c.in-Some.node.now (ap lent c.in-Some.is) c.left-below.ensures refl i.balanced in
     record {
       balanced = p.left_balanced;
       in_order = left_in_order g.K.Ord.cmp p i.in_order;
-      same = i.same ∙ (is_below g.met.K.Ord.total c.args.key.now p i.in_order c.compare.ensures.answer c.in-Less.is).looked_up;
-      more = omega (arith, i.more, c.compare.ensures.counted.0);
-      few = omega (arith, i.few, c.compare.ensures.counted.1, p.high);
+      same = i.same ∙ (is_below g.met.K.Ord.total c.args.key.now p i.in_order c.compare_to.ensures.answer c.in-Less.is).looked_up;
+      more = omega (arith, i.more, c.compare_to.ensures.counted.0);
+      few = omega (arith, i.few, c.compare_to.ensures.counted.1, p.high);
     }
 
-pub loop-left-preserved : goal.loop-left-preserved
-loop-left-preserved g c =
-    let p = c.in-Some.ensures.parts in
-    let i = c.loop-left.invariant in
+pub loop-below-preserved : goal.loop-below-preserved
+loop-below-preserved g c =
+    let i = c.loop-below.invariant in
+    let p = lent_apart c.in-Some.node.now (ap lent c.in-Some.is) refl c.right-below.ensures i.balanced in
     record {
       balanced = p.right_balanced;
       in_order = right_in_order g.K.Ord.cmp p i.in_order;
-      same = i.same ∙ (is_above g.met.K.Ord.total c.args.key.now p i.in_order c.compare.ensures.answer c.in-Greater.is).looked_up;
-      more = omega (arith, i.more, c.compare.ensures.counted.0);
-      few = omega (arith, i.few, c.compare.ensures.counted.1, p.high);
+      same = i.same ∙ (is_above g.met.K.Ord.total c.args.key.now p i.in_order c.compare_to.ensures.answer c.in-Greater.is).looked_up;
+      more = omega (arith, i.more, c.compare_to.ensures.counted.0);
+      few = omega (arith, i.few, c.compare_to.ensures.counted.1, p.high);
     }
 
 pub returns-in-Equal-clause-value : goal.returns-in-Equal-clause-value
 returns-in-Equal-clause-value g c =
-    let p = c.in-Some.ensures.parts in
-    let i = c.loop-left.invariant in
-    sym (i.same ∙ (is_at_entry g.met.K.Ord.total c.args.key.now p i.in_order c.compare.ensures.answer c.in-Equal.is).looked_up)
+    let i = c.loop-below.invariant in
+    let p = lent_apart c.in-Some.node.now (ap lent c.in-Some.is) refl refl i.balanced in
+    ap (option_map (λ e. e.1)) c.entry.ensures
+    ∙ sym (i.same ∙ (is_at_entry g.met.K.Ord.total c.args.key.now p i.in_order c.compare_to.ensures.answer c.in-Equal.is).looked_up)
+
+pub returns-in-Equal-clause-counted : goal.returns-in-Equal-clause-counted
+returns-in-Equal-clause-counted g c =
+    let i = c.loop-below.invariant in
+    let p = lent_apart c.in-Some.node.now (ap lent c.in-Some.is) refl refl i.balanced in
+    (omega (arith, i.more, c.compare_to.ensures.counted.0), omega (arith, i.few, c.compare_to.ensures.counted.1, p.high))

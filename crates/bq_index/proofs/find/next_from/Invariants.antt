@@ -4,8 +4,8 @@ use Rattle.bq_index.specs.Order.{InOrder, entry_from}
 use Rattle.bq_index.specs.Tree.{entries_of, height_of, lent, IsBalancedFrom}
 use Rattle.bq_index.proofs.find.next_from.Given as goal
 
-abbrev pub invariant-loop-left : goal.invariant-loop-left
-invariant-loop-left g l = record {
+abbrev pub invariant-loop-below : goal.invariant-loop-below
+invariant-loop-below g l = record {
   balanced : IsBalancedFrom (lent l.below);
   in_order : InOrder g.K.Ord.cmp (entries_of (lent l.below));
   same : entry_from (g.K.Ord.cmp l.key) (entries_of (lent l.fn.tree))
@@ -14,5 +14,5 @@ invariant-loop-left g l = record {
   few : l.count + height_of (lent l.below) ≤ l.fn.count + height_of (lent l.fn.tree);
 }
 
-abbrev pub decreases-loop-left : goal.decreases-loop-left
-decreases-loop-left g l = length (entries_of (lent l.below))
+abbrev pub decreases-loop-below : goal.decreases-loop-below
+decreases-loop-below g l = length (entries_of (lent l.below))
