@@ -1,4 +1,5 @@
 pub mod Changed
+pub mod FirstLeases
 pub mod Groups
 pub mod Halves
 pub mod Inside

@@ -27,4 +27,5 @@ mod named_jobs;
 mod places;
 mod row;
 mod rows;
+mod timers;
 mod tubes;

@@ -13,6 +13,7 @@ ghost use Rattle.bq_jobs.specs.Seen.{IsBodyOf, IsNumberOf};
 
 use super::places::{self, Group, ShelfPlace, Timer};
 use super::row::{JobEdit, MovedRow, Row, Standing};
+use super::timers::Timers;
 use bq_index::{BoxSource, Shelf};
 use bq_job::{Body, JobId, Moment, NoMemory};
 use std::alloc::Global;
@@ -24,7 +25,7 @@ use std::marker::Model;
 pub(crate) struct Rows {
     by_id: Shelf<JobId, Row>,
     groups: Shelf<ShelfPlace<Group>, ()>,
-    timers: Shelf<ShelfPlace<Timer>, ()>,
+    timers: Timers,
 }
 
 impl Model for Rows {
@@ -49,7 +50,7 @@ impl Rows {
         Rows {
             by_id: Shelf::new(),
             groups: Shelf::new(),
-            timers: Shelf::new(),
+            timers: Timers::new(),
         }
     }
 
@@ -103,7 +104,7 @@ impl Rows {
             return Err(NoMemory);
         };
         places::make_room(&mut self.groups, source, places)?;
-        places::make_room(&mut self.timers, source, places)?;
+        self.timers.make_room(source, places)?;
         match self.by_id.reserve_from(source, 1) {
             Ok(()) => Ok(()),
             Err(_) => Err(NoMemory),
@@ -136,7 +137,7 @@ impl Rows {
         ensures comparisons { ComparesAtMost 4 self.old self.new }
     {
         places::enter(&mut self.groups, places::group_place(id, &job));
-        places::enter(&mut self.timers, places::timer_place(id, &job));
+        self.timers.enter(places::timer_place(id, &job));
         self.by_id.insert(id, job);
     }
 
@@ -153,7 +154,7 @@ impl Rows {
     {
         let job = self.by_id.remove(&id)?;
         places::leave(&mut self.groups, places::group_place(id, &job));
-        places::leave(&mut self.timers, places::timer_place(id, &job));
+        self.timers.leave(places::timer_place(id, &job));
         Some(job)
     }
 
@@ -189,8 +190,7 @@ impl Rows {
             places::place_in_groups(id, moved.tube, to),
         );
         places::shift(&mut self.groups, left, entered);
-        places::shift(
-            &mut self.timers,
+        self.timers.shift(
             places::place_in_timers(id, from),
             places::place_in_timers(id, to),
         );
@@ -261,7 +261,7 @@ impl Rows {
         ensures same { self.new ≡ record self.old { comparisons = self.new.comparisons } }
         ensures comparisons { ComparesAtMost 1 self.old self.new }
     {
-        places::first_rank(&mut self.timers, timer)
+        self.timers.first(timer)
     }
 }
 

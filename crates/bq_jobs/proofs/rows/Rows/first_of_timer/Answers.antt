@@ -9,12 +9,12 @@ use Rattle.bq_jobs.proofs.rows.Rows.first_of_timer.Goals as goal
 
 pub returns-clause-rank : goal.returns-clause-rank
 returns-clause-rank c =
-    c.first_rank.ensures.rank ∙ timer_first c.self.inside c.self.invariant c.args.timer
+    c.first.ensures.rank ∙ timer_first c.self.inside c.self.invariant c.args.timer
     ∙ ap (λ (m : Kept). first_timed c.args.timer m.jobs) c.self.view_is
 
 pub returns-clause-comparisons : goal.returns-clause-comparisons
 returns-clause-comparisons c =
     let s = c.self.inside in
-    let few = c.first_rank.ensures.comparisons in
+    let few = c.first.ensures.comparisons in
     few_more 1 (kept_in s.by_id s.groups s.timers) c.args.self.now _ _ c.self.view_is refl (omega (arith, few))
     (omega (arith, few, timer_search s c.self.invariant))

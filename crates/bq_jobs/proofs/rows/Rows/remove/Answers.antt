@@ -52,7 +52,7 @@ invariant_of-self-2 c =
     let was = c.in_ok-job.was in
     let spare = ap (λ o. s.by_id.spare + cond (is_some o) 1 0) was in
     shelved_removed c.args.id c.in_ok-job.job s
-    (record { by_id = c.remove.new.self; groups = c.leave.new.order; timers = c.leave-2.new.order })
+    (record { by_id = c.remove.new.self; groups = c.leave.new.order; timers = c.leave-2.new.self })
     h (sym (found_in c.args.id s h) ∙ sym c.remove.ensures.value ∙ was) (record {
       by_id = c.remove.ensures.entries;
       room = omega (arith, c.remove.ensures.spare, spare);

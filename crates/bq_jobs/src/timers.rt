@@ -1,0 +1,158 @@
+//! The places of jobs among all delays and leases.
+ghost use Rattle.std.specs.Prelude.{◌≡◌, ◌+◌, ◌-◌, ◌<◌, ◌≤◌, [], length, is_some, if◌then◌else◌, IsSome, OnOk, None};
+ghost use Rattle.std.specs.Option.{ForSome};
+ghost use Rattle.bq_index.specs.Shelf.{ComparesFew};
+ghost use Rattle.bq_jobs.specs.PlaceOrder.{ComparesTwice, first_rank, holds_place, with_place, without_place};
+ghost use Rattle.bq_jobs.specs.declared.places.Timer.TheVariants.{Lease};
+
+use super::places::{self, ShelfPlace, Timer};
+use bq_index::{BoxSource, Shelf};
+use bq_job::{JobId, Moment, NoMemory};
+use std::marker::Model;
+
+/// The first lease, if it is known without a search.
+#[derive(Clone, Copy)]
+pub enum FirstLease {
+    Unknown,
+    Known(Option<(Moment, JobId)>),
+}
+
+/// The places of jobs among all delays and leases. It has the calls of a shelf of places, and the
+/// contracts see it as that shelf.
+///
+/// A core asks for the first lease before and after each step, but few steps change it. So it is
+/// kept until a place is added or removed.
+#[derive(Drop)]
+pub(crate) struct Timers {
+    places: Shelf<ShelfPlace<Timer>, ()>,
+    lease: FirstLease,
+}
+
+impl Model for Timers {
+    ghost use Rattle.bq_jobs.specs.declared.places.Timer.{Timer};
+    ghost use Rattle.bq_jobs.specs.FirstLeases.{IsFirstLease};
+    ghost use Rattle.bq_jobs.specs.Inside.{Order};
+
+    ghost Value = { Order Timer };
+
+    ghost view = { λ t. t.places };
+
+    ghost invariant = { λ t. IsFirstLease ⟦<Timer as Ord>⟧.cmp t.lease t.places.entries };
+}
+
+impl Timers {
+    /// Returns no places, and no room for one.
+    pub(crate) fn new() -> Timers
+        ensures { result ≡ record { entries = []; spare = 0; comparisons = 0 } }
+    {
+        Timers {
+            places: Shelf::new(),
+            lease: FirstLease::Unknown,
+        }
+    }
+
+    /// Returns how often two places were compared so far.
+    pub(crate) fn comparisons(&self) -> u64
+        ensures { result ≡ self.now.comparisons }
+    {
+        self.places.comparisons()
+    }
+
+    /// Returns one spare box to the allocator, if there is one.
+    pub(crate) fn give_back(&mut self)
+        ensures { self.new ≡ record self.old { spare = self.old.spare - 1 } }
+    {
+        self.places.give_back();
+    }
+
+    /// Allocates boxes for a number of places, which includes those in use.
+    pub(crate) fn make_room<S: BoxSource>(
+        &mut self,
+        source: &mut S,
+        places: usize,
+    ) -> Result<(), NoMemory>
+        ensures ok { OnOk result (places ≤ length self.new.entries + self.new.spare) }
+        ensures entries { self.new.entries ≡ self.old.entries }
+        ensures not_fewer { self.old.spare ≤ self.new.spare }
+        ensures comparisons { self.new.comparisons ≡ self.old.comparisons }
+    {
+        places::make_room(&mut self.places, source, places)
+    }
+
+    /// Adds a place, if there is one.
+    pub(crate) fn enter(&mut self, place: Option<ShelfPlace<Timer>>)
+        requires spare { ForSome place (λ _. 0 < self.old.spare) }
+        requires absent { ForSome place
+            (λ p. holds_place ⟦<Timer as Ord>⟧.cmp p self.old.entries ≡ None) }
+        ensures entries { self.new.entries
+            ≡ with_place ⟦<Timer as Ord>⟧.cmp place self.old.entries }
+        ensures spare { self.new.spare + (if is_some place then 1 else 0) ≡ self.old.spare }
+        ensures comparisons { ComparesFew self.old self.new }
+    {
+        if let Some(place) = place {
+            self.lease = FirstLease::Unknown;
+            self.places.insert(place, ());
+        }
+    }
+
+    /// Removes a place, if there is one.
+    pub(crate) fn leave(&mut self, place: Option<ShelfPlace<Timer>>)
+        requires held { ForSome place
+            (λ p. IsSome (holds_place ⟦<Timer as Ord>⟧.cmp p self.old.entries)) }
+        ensures entries { self.new.entries
+            ≡ without_place ⟦<Timer as Ord>⟧.cmp place self.old.entries }
+        ensures spare { self.new.spare ≡ self.old.spare + (if is_some place then 1 else 0) }
+        ensures comparisons { ComparesFew self.old self.new }
+    {
+        if let Some(place) = place {
+            self.lease = FirstLease::Unknown;
+            let _held = self.places.remove(&place);
+        }
+    }
+
+    /// Removes one place, if there is one, and adds another, if there is one.
+    #[tactic(auto, using(crate::proofs::Counting::digits_grow, crate::proofs::Orders::fewer_places))]
+    pub(crate) fn shift(&mut self, from: Option<ShelfPlace<Timer>>, to: Option<ShelfPlace<Timer>>)
+        requires held { ForSome from
+            (λ p. IsSome (holds_place ⟦<Timer as Ord>⟧.cmp p self.old.entries)) }
+        requires spare { ForSome to
+            (λ _. 0 < self.old.spare + (if is_some from then 1 else 0)) }
+        requires absent { ForSome to
+            (λ p. holds_place ⟦<Timer as Ord>⟧.cmp p (without_place ⟦<Timer as Ord>⟧.cmp from self.old.entries) ≡ None) }
+        ensures entries { self.new.entries
+            ≡ with_place ⟦<Timer as Ord>⟧.cmp to (without_place ⟦<Timer as Ord>⟧.cmp from self.old.entries) }
+        ensures spare { self.new.spare + (if is_some to then 1 else 0)
+            ≡ self.old.spare + (if is_some from then 1 else 0) }
+        ensures comparisons { ComparesTwice self.old self.new }
+    {
+        self.leave(from);
+        self.enter(to);
+    }
+
+    /// Returns the moment and the id of the first delay or of the first lease.
+    pub(crate) fn first(&mut self, timer: Timer) -> Option<(Moment, JobId)>
+        ensures rank { result ≡ first_rank ⟦<Timer as Ord>⟧.cmp timer self.old.entries }
+        ensures entries { self.new.entries ≡ self.old.entries }
+        ensures spare { self.new.spare ≡ self.old.spare }
+        ensures comparisons { ComparesFew self.old self.new }
+    {
+        match timer {
+            Timer::Due => places::first_rank(&mut self.places, Timer::Due),
+            Timer::Lease => self.first_lease(),
+        }
+    }
+
+    fn first_lease(&mut self) -> Option<(Moment, JobId)>
+        ensures rank { result ≡ first_rank ⟦<Timer as Ord>⟧.cmp Lease self.old.entries }
+        ensures entries { self.new.entries ≡ self.old.entries }
+        ensures spare { self.new.spare ≡ self.old.spare }
+        ensures comparisons { ComparesFew self.old self.new }
+    {
+        if let FirstLease::Known(first) = &self.lease {
+            return *first;
+        }
+        let first = places::first_rank(&mut self.places, Timer::Lease);
+        self.lease = FirstLease::Known(first);
+        first
+    }
+}
