@@ -9,7 +9,6 @@ use Rattle.bq_job.specs.machine.{job_with, numbers, seat_with, tube_after_timers
 use Rattle.bq_job.specs.{beside.AreIdsWithin, declared.job.Job.Job, reading.TubeName.is_same_name}
 use Rattle.bq_job.proofs.{LawfulLemmas.length_numbers, ListLemmas.{all_at, all_from_members, all_weaker, found_passes}}
 use Rattle.bq_jobs.specs.Kept.{Kept, with_added}
-use Rattle.bq_jobs.proofs.Changes.{low_below}
 use Rattle.bq_state.specs.{declared.{core_parts.CoreParts.CoreParts, job_store.JobChange.JobChange}, TubeNumbers.HaveNumbers}
 use Rattle.bq_state.specs.declared.{seats.SeatChange.SeatChange, tubes.entry.TubeChange.TubeChange}
 use Rattle.bq_state.specs.{JobChanges.changed, SeatChanges.{AreNumbered, has_tube_of, seat_changed, seat_changed_at}, Soundness.Soundness}
@@ -51,15 +50,6 @@ entries_of_added j jobs seats entries h e = grind (arith, all_added)
 pub has_of_job : (jobs : List Job) (seats : List SeatRecord) (entries : List TubeRecord) (id : ℕ) (j : Job) → AreEntries jobs seats entries
     → job_with id jobs ≡ Some j → has_entry j.tube entries ≡ true
 has_of_job jobs seats entries id j e found = grind (arith, common_steps, found_passes)
-
-pub ids_below : (low next : ℕ) (jobs : List Job) → AreIdsWithin low jobs next → All (λ k. (low ≤ k.id) × (k.id < next)) jobs
-ids_below low next [] h = tt
-ids_below low next (k ∷ jobs) h = grind (arith, low_below, all_weaker, ids_below (suc k.id) next jobs h.1)
-
-pub given_of_job : (next id : ℕ) (jobs : List Job) (j : Job) → AreIdsWithin 1 jobs next → job_with id jobs ≡ Some j
-    → (1 ≤ j.id) × (j.id < next)
-given_of_job next id jobs j ids found =
-    all_at (λ k. (1 ≤ k.id) × (k.id < next)) jobs j (ids_below 1 next jobs ids) ((found_passes (λ k. k.id == id) jobs j found).1)
 
 pub ids_further : (low next further : ℕ) (jobs : List Job) → next ≤ further → AreIdsWithin low jobs next → AreIdsWithin low jobs further
 ids_further low next further [] le h = omega arith

@@ -5,7 +5,7 @@ use Rattle.bq_jobs.specs.declared.row.Removed.{Removed}
 use Rattle.bq_state.specs.declared.known.{maybe_gone.MaybeGone.MaybeGone, tally.Tally.Tally}
 use Rattle.bq_state.specs.declared.tubes.entry.{Crowd.Crowd, Moving.Moving, Share.Share, TubeChange.TheVariants.{CountDelete, CountPut}}
 use Rattle.bq_state.specs.{Crowds.{crowds_at, crowds_at_all, crowds_of, crowds_provided, crowds_recounted_for}, KeptTubes.KeptTubes}
-use Rattle.bq_state.specs.{MaybeGoneTubes.AreAlive, Tallies.{tallies_at, tallies_of, tally_left, tallies_provided, tallies_with, tallies_without}}
+use Rattle.bq_state.specs.{MaybeGoneTubes.AreAlive, Tallies.{tallies_at, tallies_of, tally_left, tallies_provided, tallies_with}}
 use Rattle.bq_state.specs.TubeEntries.{AreInOrder, is_tube_of, provided, tube_changed_at}
 
 -- the counts are those of these jobs and seats
@@ -44,18 +44,13 @@ with_crowds_at name f k = record k { crowds = crowds_at name f k.entries k.crowd
 abbrev pub with_crowds_at_all : List (List ℕ) → (Crowd → Crowd) → KeptTubes → KeptTubes
 with_crowds_at_all names f k = record k { crowds = crowds_at_all names f k.entries k.crowds }
 
--- with one more job, that was put, or one fewer, that was deleted
+-- with one more job, that was put
 abbrev pub with_job_put : Job → KeptTubes → KeptTubes
 with_job_put j k =
     let entries = map (tube_changed_at j.tube CountPut) k.entries in
     record k { entries = entries; tallies = tallies_with j entries k.tallies }
 
-abbrev pub with_job_deleted : Job → KeptTubes → KeptTubes
-with_job_deleted j k =
-    let entries = map (tube_changed_at j.tube CountDelete) k.entries in
-    record k { entries = entries; tallies = tallies_without j entries k.tallies }
-
--- the same from the report about a removed job
+-- with one job fewer, that was deleted, from the report about it
 abbrev pub with_removal_counted : Removed → KeptTubes → KeptTubes
 with_removal_counted r k =
     let entries = map (tube_changed_at r.tube CountDelete) k.entries in

@@ -9,7 +9,7 @@ use Rattle.bq_jobs.specs.declared.row.Removed.{Removed}
 use Rattle.bq_state.specs.declared.{known.tally.Tally.Tally, tubes.entry.{Crowd.Crowd, Moving.Moving}}
 use Rattle.bq_state.specs.declared.tubes.entry.{Share.Share, TubeChange.{TubeChange, TheVariants.{CountDelete, CountPut}}}
 use Rattle.bq_state.specs.{Crowds.{has_seats, no_crowd, recounted}}
-use Rattle.bq_state.specs.Tallies.{has_jobs, tally_left, tally_moved, tally_of, tally_with, tally_without}
+use Rattle.bq_state.specs.Tallies.{has_jobs, tally_left, tally_moved, tally_of, tally_with}
 use Rattle.bq_state.specs.TubeEntries.{is_tube_by, tube_changed}
 
 -- the entries and, parallel to them, the counts of the tubes' jobs and of their clients
@@ -62,14 +62,11 @@ kept_after r t = record { pause = r.pause; puts = r.puts; deletes = r.deletes; p
 abbrev pub kept_changed : TubeChange → KeptTube → KeptTube
 kept_changed what t = kept_after (tube_changed what (record_of [] t)) t
 
--- with one more job, that was put, or one fewer, that was deleted
+-- with one more job, that was put
 abbrev pub kept_with : Job → KeptTube → KeptTube
 kept_with j t = record (kept_changed CountPut t) { tally = tally_with j t.tally }
 
-abbrev pub kept_without : Job → KeptTube → KeptTube
-kept_without j t = record (kept_changed CountDelete t) { tally = tally_without j t.tally }
-
--- the same from the report about a removed job
+-- with one job fewer, that was deleted, from the report about it
 abbrev pub kept_removed : Removed → KeptTube → KeptTube
 kept_removed r t = record (kept_changed CountDelete t) { tally = tally_left r.at t.tally }
 

@@ -1,5 +1,5 @@
 //! Operations that change the state of a core.
-ghost use Rattle.std.specs.Prelude.{◌≡◌, ◌&&◌, ◌<◌, ◌≤◌, OnErr, [], None, true, false, fold, is_some, length, map, nat_lt, if◌then◌else◌, IfSome, IfOk};
+ghost use Rattle.std.specs.Prelude.{◌≡◌, ◌&&◌, ◌<◌, ◌≤◌, OnErr, [], None, true, false, fold, is_some, length, map, nat_lt, if◌then◌else◌, IfOk};
 ghost use Rattle.std.specs.List.{list_any};
 ghost use Rattle.bq_job.specs.beside.NameOrder.{is_in_order};
 ghost use Rattle.bq_job.specs.machine.Changes.{is_held_by, is_ready_state, is_waiting, job_with, seat_with, with_job, with_seat};
@@ -69,25 +69,6 @@ pub fn add(state: &mut CoreParts, job: Job)
     state.known.add_job(&job, is_wanted, waits);
     state.tubes.add_job(&job);
     state.jobs.add(job);
-}
-
-/// Removes and returns the job with this id, if there is one, and counts the deletion in its tube.
-/// Its room is kept, unless there is plenty.
-pub fn take(state: &mut CoreParts, id: JobId) -> Option<Job>
-    ensures job { result ≡ job_with id (machine_of state.old).jobs }
-    ensures after { machine_of state.new ≡ once_deleted result (machine_of state.old) }
-    ensures id { IfSome result (λ job. job.id ≡ id) }
-    ensures gone { job_with id (machine_of state.new).jobs ≡ None }
-    ensures given { IfSome result (λ job. (1 ≤ job.id) × (job.id < state.new.next_id)) }
-    ensures room { IfSome result (λ job. 0 < state.new.jobs.room) }
-    ensures entry { IfSome result (λ job. has_entry job.tube state.new.tubes.entries ≡ true) }
-    ensures asks { ComparesAtMost 4 state.old.jobs state.new.jobs }
-{
-    let job = state.jobs.remove(id)?;
-    job_store::let_room_go(&mut state.jobs);
-    state.known.remove_job(&job);
-    state.tubes.remove_job(&job);
-    Some(job)
 }
 
 /// Removes the job with this id and drops it, and counts the deletion in its tube. Returns false if

@@ -4,7 +4,7 @@ ghost use Rattle.std.specs.Option.{option_copied};
 ghost use Rattle.std.specs.Prelude.{◌≡◌};
 ghost use Rattle.bq_state.specs.Knowledge.{nothing_known, with_forgotten, with_job};
 ghost use Rattle.bq_state.specs.Knowledge.{with_joined, with_left, with_moved, with_removal};
-ghost use Rattle.bq_state.specs.Knowledge.{with_tube_changed, without_job};
+ghost use Rattle.bq_state.specs.Knowledge.{with_tube_changed};
 
 use crate::seats::{SeatChange, SeatRecord};
 use crate::tubes::{Share, TubeChange, Tubes};
@@ -72,14 +72,6 @@ impl Known {
         self.maybe_gone.remove(&job.tube);
         self.wanted.add_tube_if(&job.tube, is_wanted);
         self.warns.warn_holder_if(job.state, waits);
-    }
-
-    /// A job is removed.
-    pub(crate) fn remove_job(&mut self, job: &Job)
-        ensures { self.new ≡ without_job job.now self.old }
-    {
-        self.tally.remove(job);
-        self.maybe_gone.add(&job.tube);
     }
 
     /// The job of this report is removed.

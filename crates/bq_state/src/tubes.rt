@@ -8,7 +8,7 @@ ghost use Rattle.bq_index.specs.Order.{InOrder};
 ghost use Rattle.bq_job.specs.reading.TubeName.{is_same_name};
 ghost use Rattle.bq_job.specs.machine.Timers.{tube_after_timers};
 ghost use Rattle.bq_state.specs.Counting.{AreCounts, DropsGone, IfCounted, tubes_with, with_crowds_at};
-ghost use Rattle.bq_state.specs.Counting.{with_job_deleted, with_job_put, with_removal_counted, with_tallies_at};
+ghost use Rattle.bq_state.specs.Counting.{with_job_put, with_removal_counted, with_tallies_at};
 ghost use Rattle.bq_state.specs.Crowds.{crowd_at, recounted};
 ghost use Rattle.bq_state.specs.Dues.{first_pause_end, pause_end_after, pause_end_left};
 ghost use Rattle.bq_state.specs.KeptTubes.{edited_at, kept_changed, record_at};
@@ -196,13 +196,6 @@ impl Tubes {
         ensures { self.new ≡ with_job_put job.now self.old }
     {
         entry::add_job(&mut self.kept, job);
-    }
-
-    /// Stops counting a job in its tube, and counts its deletion.
-    pub(crate) fn remove_job(&mut self, job: &Job)
-        ensures { self.new ≡ with_job_deleted job.now self.old }
-    {
-        entry::remove_job(&mut self.kept, job);
     }
 
     /// Stops counting the job of this report in its tube, and counts its deletion.

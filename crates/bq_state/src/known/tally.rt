@@ -1,7 +1,6 @@
 //! How many jobs are in each state.
 ghost use Rattle.std.specs.Prelude.{◌≡◌, []};
-ghost use Rattle.bq_state.specs.Tallies.{has_jobs, tally_entered, tally_left, tally_of};
-ghost use Rattle.bq_state.specs.Tallies.{tally_with, tally_without};
+ghost use Rattle.bq_state.specs.Tallies.{has_jobs, tally_entered, tally_left, tally_of, tally_with};
 
 use bq_job::{Job, JobState, Pri};
 use bq_jobs::Standing;
@@ -46,13 +45,6 @@ impl Tally {
         ensures { self.new ≡ tally_with job.now self.old }
     {
         self.enter(Standing::of(job));
-    }
-
-    /// Stops counting a job.
-    pub(crate) fn remove(&mut self, job: &Job)
-        ensures { self.new ≡ tally_without job.now self.old }
-    {
-        self.leave(Standing::of(job));
     }
 
     /// Counts a job in this state.

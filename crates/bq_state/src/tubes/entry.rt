@@ -6,7 +6,6 @@ ghost use Rattle.bq_index.specs.Order.{InOrder};
 ghost use Rattle.bq_job.specs.machine.TubeCommands.{with_pause};
 ghost use Rattle.bq_state.specs.KeptTubes.{ended, fresh_entry, kept_after, kept_changed, kept_moved};
 ghost use Rattle.bq_state.specs.KeptTubes.{kept_recounted, kept_removed, record_of, edited_at, kept_with};
-ghost use Rattle.bq_state.specs.KeptTubes.{kept_without};
 ghost use Rattle.bq_state.specs.PauseEnds.{end_of};
 ghost use Rattle.bq_state.specs.Crowds.{crowd_with, crowd_without, has_seats, is_none, no_crowd};
 ghost use Rattle.bq_state.specs.Crowds.{recounted};
@@ -193,14 +192,6 @@ impl TubeEntry {
         self.tally.add(job);
     }
 
-    /// Stops counting a job, and counts its deletion.
-    pub(crate) fn remove_job(&mut self, job: &Job)
-        ensures { self.new ≡ kept_without job.now self.old }
-    {
-        self.change(TubeChange::CountDelete);
-        self.tally.remove(job);
-    }
-
     /// Stops counting the job of this report, and counts its deletion.
     pub(crate) fn count_removal(&mut self, removed: &Removed)
         ensures { self.new ≡ kept_removed removed.now self.old }
@@ -267,18 +258,6 @@ pub(crate) fn add_job(catalog: &mut Catalog<TubeName, TubeEntry>, job: &Job)
 {
     if let Some(entry) = catalog.get_mut(&job.tube) {
         entry.add_job(job);
-    }
-}
-
-/// Stops counting a job in its tube, and counts its deletion. Here, too, the names are in ascending
-/// order.
-pub(crate) fn remove_job(catalog: &mut Catalog<TubeName, TubeEntry>, job: &Job)
-    ensures entries { catalog.new.entries
-        ≡ edited_at job.now.tube (kept_without job.now) catalog.old.entries }
-    ensures ordered { InOrder (slice_cmp nat_cmp) catalog.old.entries }
-{
-    if let Some(entry) = catalog.get_mut(&job.tube) {
-        entry.remove_job(job);
     }
 }
 
