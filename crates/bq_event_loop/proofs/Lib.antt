@@ -2,6 +2,7 @@ mod AloneLemmas
 mod ComparedLemmas
 mod ControlLemmas
 mod LoopCoreLemmas
+mod LoopSeatLemmas
 mod MailLemmas
 mod RowLemmas
 mod ServingLemmas

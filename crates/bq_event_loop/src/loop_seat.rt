@@ -1,7 +1,8 @@
 //! The link of a seat to the core of an event loop, and a seat's actions there.
-ghost use Rattle.std.specs.Prelude.{◌≡◌, ◌<◌, ℕ, List, length};
+ghost use Rattle.std.specs.Prelude.{◌≡◌, ◌<◌, [], ℕ, List, length};
 ghost use Rattle.bq_job.specs.declared.answer.Answer.{Answer};
 ghost use Rattle.bq_job.specs.declared.step.Step.{Step};
+ghost use Rattle.bq_driver.specs.Links.{Calls};
 ghost use Rattle.bq_driver.specs.Tending.{GoesOn, IsPlaced, MayEndAt, door_seen};
 ghost use Rattle.bq_event_loop.specs.LoopCores.{WentAt, state_of};
 ghost use Rattle.bq_event_loop.specs.LoopStates.{IsInOrder};
@@ -55,8 +56,10 @@ pub fn attend<L: Line + Drop, D: Door<Line = L>, C: Clock + Drop, K: QueueCore +
     requires order { IsInOrder (state_of K.machine K.comparisons core.old) }
     requires within { seat < length core.old.mails.items }
     ensures order { IsInOrder (state_of K.machine K.comparisons core.new) }
-    // The result is one that this place can have.
+    // The result is one that this place can have. Unless something moved, the seat submitted
+    // nothing and took nothing.
     ensures progress { MayEndAt result attendant.old.place }
+    ensures still { (result ≡ Progress.Moved → ⊥) → Calls (WentAt K.machine K.comparisons C.given seat) core.old [] [] core.new }
     ensures went { let at = door_seen D.is_out D.is_at_end D.lines_over in
         GoesOn (WentAt K.machine K.comparisons C.given seat) core.old core.new L.seen attendant.old (at door.old) attendant.new (at door.new) }
     ensures same { (first : D) → D.same first door.old → D.same first door.new }
