@@ -1,9 +1,6 @@
-mod AloneLemmas
-mod ComparedLemmas
 mod ControlLemmas
 mod LoopCoreLemmas
 mod LoopSeatLemmas
-mod MailLemmas
 mod RowLemmas
 mod ServingLemmas
 mod SessionsLemmas

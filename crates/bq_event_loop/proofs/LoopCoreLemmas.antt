@@ -1,307 +1,29 @@
 -- What happens at the core of a loop, step by step.
-use Rattle.std.proofs.Common.{◌≡◌, ◌≢◌, ◌<◌, ℕ, Bool, true, false, true≢false, not, List, [], ◌∷◌, ◌++◌}
-use Rattle.std.proofs.Common.{Option, map, length, refl, sym, ap, ◌∙◌, arith, subst, inl, inr, append-nil, append_assoc}
-use Rattle.std.specs.Prelude.{◌==◌, if◌then◌else◌}
+use Rattle.std.proofs.Common.{◌≡◌, ℕ, Bool, true, false, true≢false, not, List, [], ◌∷◌, ◌++◌}
+use Rattle.std.proofs.Common.{Option, length, refl, sym, ap, ◌∙◌, subst, inl, inr}
+use Rattle.std.specs.Prelude.{if◌then◌else◌}
 use Rattle.std.specs.Option.{option_to_list}
-use Rattle.std.proofs.lemmas.Bool.{cases_Bool, eq-eqb, eqb-true}
 use Rattle.bq_job.specs.declared.answer.Answer.{Answer}
 use Rattle.bq_job.specs.declared.step.Step.{Step}
 use Rattle.bq_job.specs.machine.Dispatch.{GivenAnswer}
-use Rattle.bq_job.specs.promise.History.{ArePickedFrom, IsTimedFrom, is_tick, last_heard, moment_heard, moments_heard, steps_at}
+use Rattle.bq_job.specs.promise.History.{is_tick}
 use Rattle.bq_job.specs.machine.Machine.{Machine}
-use Rattle.bq_job.specs.promise.Runs.{Entry, Run, answers_to}
-use Rattle.bq_job.specs.machine.Steps.{Outcome}
+use Rattle.bq_job.specs.promise.Runs.{answers_to}
 use Rattle.bq_job.specs.declared.step.Step.TheVariants.{Tick}
 use Rattle.bq_steps.specs.Cost.{IsLookWithin, IsStepWithin}
 use Rattle.bq_steps.specs.Outbox.{Outbox}
-use Rattle.bq_host.specs.Compared.{LooksOnce}
 use Rattle.bq_host.specs.Timed.{HasLooked, IsReady, LooksAndSteps, PassesOver, TakesStep}
 use Rattle.bq_host.specs.declared.heard_clock.HeardClock.{HeardClock}
 use Rattle.bq_host.specs.declared.timed_core.TimedCore.{TimedCore}
 use Rattle.std.specs.Prelude.{slice_index_or}
-use Rattle.bq_job.proofs.OneClientLemmas.{answers_append}
-use Rattle.bq_job.proofs.RunLemmas.{run_append, run_from, run_none}
 use Rattle.bq_driver.specs.Links.{TakesInPlace}
 use Rattle.bq_seat.specs.declared.machine.Action.{Action}
 use Rattle.bq_event_loop.specs.LoopCores.{WentAt, state_of}
 use Rattle.bq_line.specs.GivenReadings.{GaveReadings}
-use Rattle.bq_job.specs.beside.NextDue.{next_due}
 use Rattle.bq_job.specs.declared.settings.Settings.{Settings}
-use Rattle.std.proofs.lemmas.List.{length-replicate}
-use Rattle.bq_event_loop.specs.LoopStates.{LoopState, IsInOrder, IsNewLoopCore, IsSorted, waiting}
-use Rattle.bq_event_loop.specs.LoopWent.{LoopWent, SeatWent}
+use Rattle.bq_host.specs.MailStates.{IsInOrder, IsSorted}
 use Rattle.bq_event_loop.specs.declared.loop_core.LoopCore.{LoopCore}
-use Rattle.bq_event_loop.proofs.ComparedLemmas.{compared_looked, compared_on, compared_step, compared_still}
-
-pub steps_append : (t : ℕ) (xs ys : List Entry) → steps_at t (xs ++ ys) ≡ steps_at t xs ++ steps_at t ys
-steps_append t [] ys = refl
-steps_append t (x ∷ xs) ys =
-    elim (cases_Bool (is_tick x.what)) [
-      | inl e ↦ rw e (steps_append t xs ys)
-      | inr e ↦ elim (cases_Bool (x.seat == t)) [
-        | inl f ↦ rw (e, f) (ap (λ (more : List Step). x.what ∷ more) (steps_append t xs ys))
-        | inr f ↦ rw (e, f) (steps_append t xs ys)
-      ]
-    ]
-
-moments_append : (last : ℕ) (xs ys : List (Option ℕ))
-    → moments_heard last (xs ++ ys) ≡ moments_heard last xs ++ moments_heard (last_heard last xs) ys
-moments_append last [] ys = refl
-moments_append last (x ∷ xs) ys = ap (λ ms. moment_heard last x ∷ ms) (moments_append (moment_heard last x) xs ys)
-
-heard_append : (last : ℕ) (xs ys : List (Option ℕ)) → last_heard last (xs ++ ys) ≡ last_heard (last_heard last xs) ys
-heard_append last [] ys = refl
-heard_append last (x ∷ xs) ys = heard_append (moment_heard last x) xs ys
-
-picked_later : (xs ms ns : List ℕ) → ArePickedFrom xs ns → ArePickedFrom xs (ms ++ ns)
-picked_later xs [] ns h = h
-picked_later [] (m ∷ ms) ns h = tt
-picked_later (x ∷ xs) (m ∷ ms) ns h = inr (picked_later (x ∷ xs) ms ns h)
-
-picked_append : (xs ys ms ns : List ℕ) → ArePickedFrom xs ms → ArePickedFrom ys ns → ArePickedFrom (xs ++ ys) (ms ++ ns)
-picked_append [] ys ms ns h i = picked_later ys ms ns i
-picked_append (x ∷ xs) ys [] ns h i = absurd h
-picked_append (x ∷ xs) ys (m ∷ ms) ns (inl h) i = inl (h.0, picked_append xs ys ms ns h.1 i)
-picked_append (x ∷ xs) ys (m ∷ ms) ns (inr h) i = inr (picked_append (x ∷ xs) ys ms ns h i)
-
-map_append : (xs ys : List Entry) → map (λ (e : Entry). e.moment) (xs ++ ys) ≡ map (λ (e : Entry). e.moment) xs
-    ++ map (λ (e : Entry). e.moment) ys
-map_append [] ys = refl
-map_append (x ∷ xs) ys = ap (λ ms. x.moment ∷ ms) (map_append xs ys)
-
--- two parts of a history are timed by the readings of both
-timed_on : (first next last : ℕ) (readings reads : List (Option ℕ)) (history more : List Entry) → IsTimedFrom first readings history next
-    → IsTimedFrom next reads more last → IsTimedFrom first (readings ++ reads) (history ++ more) last
-timed_on first next last readings reads history more a b = record {
-  picked =
-      let later_timed : ArePickedFrom (map (λ (e : Entry). e.moment) more) (moments_heard (last_heard first readings) reads) =
-      subst (λ (n : ℕ). ArePickedFrom (map (λ (e : Entry). e.moment) more) (moments_heard n reads)) a.last_is b.picked in
-      subst (λ (ms : List ℕ). ArePickedFrom ms (moments_heard first (readings ++ reads))) (sym (map_append history more))
-      (subst (λ (ms : List ℕ). ArePickedFrom (map (λ (e : Entry). e.moment) history ++ map (λ (e : Entry). e.moment) more) ms)
-      (sym (moments_append first readings reads))
-      (picked_append (map (λ (e : Entry). e.moment) history) (map (λ (e : Entry). e.moment) more) (moments_heard first readings)
-      (moments_heard (last_heard first readings) reads) a.picked later_timed));
-  last_is = b.last_is ∙ ap (λ (n : ℕ). last_heard n reads) a.last_is ∙ sym (heard_append first readings reads);
-}
-
--- for each seat, what waited and was given equals what was taken and waits, for two parts of a
--- history
-tied_on : (t : ℕ) (first next last : LoopState) (given later : List GivenAnswer) (taken more : List Answer)
-    → waiting t first ++ answers_to t given ≡ taken ++ waiting t next → waiting t next ++ answers_to t later ≡ more ++ waiting t last
-    → waiting t first ++ answers_to t (given ++ later) ≡ (taken ++ more) ++ waiting t last
-tied_on t first next last given later taken more h i =
-    ap (λ (xs : List Answer). waiting t first ++ xs) (answers_append t given later)
-    ∙ sym (append_assoc (waiting t first) (answers_to t given) (answers_to t later))
-    ∙ ap (λ (xs : List Answer). xs ++ answers_to t later) h
-    ∙ append_assoc taken (waiting t next) (answers_to t later)
-    ∙ ap (λ (xs : List Answer). taken ++ xs) i
-    ∙ sym (append_assoc taken more (waiting t last))
-
--- Two parts of what happened at the core of a loop, one after the other.
-pub loop_on : (first next last : LoopState) (readings reads : List (Option ℕ)) (history more : List Entry) (took later : ℕ → List Answer)
-    → LoopWent first readings history took next → LoopWent next reads more later last
-    → LoopWent first (readings ++ reads) (history ++ more) (λ t. took t ++ later t) last
-loop_on first next last readings reads history more took later a b = record {
-  given = a.given ++ b.given;
-  runs = run_append first.core next.core last.core history more a.given b.given a.runs b.runs;
-  timed = timed_on first.heard next.heard last.heard readings reads history more a.timed b.timed;
-  many = b.many ∙ a.many;
-  tied = λ t below. tied_on t first next last a.given b.given (took t) (later t) (a.tied t below)
-      (b.tied t (let m = a.many in omega arith));
-  compared = compared_on first next last history more a.given b.given a.compared b.compared;
-}
-
--- the steps of an entry at a seat
-entry_steps : (t at seat : ℕ) (what : Step)
-    → steps_at t (record { moment = at; seat = seat; what = what } ∷ []) ≡
-    (if is_tick what then [] else (if seat == t then what ∷ [] else []))
-entry_steps t at seat what =
-    elim (cases_Bool (is_tick what)) [
-      | inl e ↦ rw e refl
-      | inr e ↦ elim (cases_Bool (seat == t)) [
-        | inl f ↦ rw (e, f) refl
-        | inr f ↦ rw (e, f) refl
-      ]
-    ]
-
-abbrev no_steps : List Step
-no_steps = []
-
--- no answer is held if none is pending
-pub none_held : {X : Type 0} (xs ys : List X) → xs ++ ys ≡ [] → xs ≡ []
-none_held [] ys h = refl
-none_held (x ∷ xs) ys h = absurd cc
-
--- The core took one step, at the moment of one reading.
-pub one_step : (d n : LoopState) (seat : ℕ) (what : Step) (reading : Option ℕ) (outcome : Outcome) (given : List GivenAnswer)
-    → IsStepWithin d.core (moment_heard d.heard reading) seat what outcome given n.core d.compared n.compared → n.known ≡ false
-    → n.heard ≡ moment_heard d.heard reading → n.mails ≡ d.mails → d.pending ≡ [] → n.pending ≡ given
-    → SeatWent seat d (reading ∷ []) (if is_tick what then [] else what ∷ []) [] n
-one_step d n seat what reading outcome given step unknown heard mails empty full =
-    let at = moment_heard d.heard reading in
-    let entry : Entry = record { moment = at; seat = seat; what = what } in
-    record {
-      history = entry ∷ [];
-      took = λ t. [];
-      went = record {
-        given = given;
-        runs = subst (λ (xs : List GivenAnswer). Run d.core (entry ∷ []) xs n.core) (append-nil given)
-            (run_from d.core n.core n.core entry [] outcome given [] step.step (run_none n.core));
-        timed = record { picked = inl (refl, tt); last_is = heard };
-        many = ap length mails;
-        tied = λ t below. tied_at t;
-        compared = compared_step d n at seat what outcome given step unknown;
-      };
-      submitted_is = entry_steps seat at seat what
-          ∙ ap (λ (b : Bool). if is_tick what then [] else (if b then what ∷ [] else [])) (eq-eqb seat seat refl);
-      taken_is = refl;
-      others_still = λ t differs. entry_steps t at seat what
-          ∙ ap (λ (b : Bool). if is_tick what then [] else (if b then what ∷ [] else []))
-          (not_equal seat t (λ e. differs (sym e))) ∙ neither;
-      others_took = λ t differs. refl;
-    }
-  where
-    tied_at : (t : ℕ) → waiting t d ++ answers_to t given ≡ [] ++ waiting t n
-    tied_at t =
-        ap (λ (xs : List GivenAnswer). (slice_index_or d.mails t [] ++ answers_to t xs) ++ answers_to t given) empty
-        ∙ ap (λ (xs : List Answer). xs ++ answers_to t given) (append-nil (slice_index_or d.mails t []))
-        ∙ ap (λ (ms : List (List Answer)). slice_index_or ms t [] ++ answers_to t given) (sym mails)
-        ∙ ap (λ (xs : List GivenAnswer). slice_index_or n.mails t [] ++ answers_to t xs) (sym full)
-
-    not_equal : (a b : ℕ) → a ≢ b → (a == b) ≡ false
-    not_equal a b h = elim (cases_Bool (a == b)) [ inl e ↦ absurd (h (eqb-true a b e)) | inr e ↦ e ]
-
-    neither : (if is_tick what then no_steps else no_steps) ≡ no_steps
-    neither = elim (cases_Bool (is_tick what)) [ inl e ↦ rw e refl | inr e ↦ rw e refl ]
-
--- The clock was read, and no step was taken.
-pub seat_heard : (d n : LoopState) (seat : ℕ) (reading : Option ℕ) → n.core ≡ d.core → n.known ≡ d.known → n.compared ≡ d.compared
-    → n.heard ≡ moment_heard d.heard reading → n.mails ≡ d.mails → n.pending ≡ d.pending
-    → SeatWent seat d (reading ∷ []) [] [] n
-seat_heard d n seat reading core known compared heard mails pending = record {
-  history = [];
-  took = λ t. [];
-  went = record {
-    given = [];
-    runs = subst (λ (m : Machine). Run d.core [] [] m) (sym core) (run_none d.core);
-    timed = record { picked = tt; last_is = heard };
-    many = ap length mails;
-    tied = λ t below.
-        append-nil (waiting t d)
-        ∙ ap (λ (ms : List (List Answer)). slice_index_or ms t [] ++ answers_to t d.pending) (sym mails)
-        ∙ ap (λ (xs : List GivenAnswer). slice_index_or n.mails t [] ++ answers_to t xs) (sym pending);
-    compared = compared_still d n core known compared;
-  };
-  submitted_is = refl;
-  taken_is = refl;
-  others_still = λ t differs. refl;
-  others_took = λ t differs. refl;
-}
-
--- Nothing happened at the core of a loop.
-pub loop_none : (d : LoopState) → LoopWent d [] [] (λ t. []) d
-loop_none d = record {
-  given = [];
-  runs = run_none d.core;
-  timed = record { picked = tt; last_is = refl };
-  many = refl;
-  tied = λ t below.
-      append-nil (waiting t d);
-  compared = compared_still d d refl refl refl;
-}
-
--- A seat did nothing, or one thing after another.
-pub seat_none : (d : LoopState) (seat : ℕ) → SeatWent seat d [] [] [] d
-seat_none d seat = record {
-  history = [];
-  took = λ t. [];
-  went = record {
-    given = [];
-    runs = run_none d.core;
-    timed = record { picked = tt; last_is = refl };
-    many = refl;
-    tied = λ t below.
-        append-nil (waiting t d);
-    compared = compared_still d d refl refl refl;
-  };
-  submitted_is = refl;
-  taken_is = refl;
-  others_still = λ t differs. refl;
-  others_took = λ t differs. refl;
-}
-
-pub seat_on : (first next last : LoopState) (seat : ℕ) (readings reads : List (Option ℕ)) (submitted more : List Step)
-    (taken later : List Answer)
-    → SeatWent seat first readings submitted taken next → SeatWent seat next reads more later last
-    → SeatWent seat first (readings ++ reads) (submitted ++ more) (taken ++ later) last
-seat_on first next last seat readings reads submitted more taken later a b = record {
-  history = a.history ++ b.history;
-  took = λ t. a.took t ++ b.took t;
-  went = loop_on first next last readings reads a.history b.history a.took b.took a.went b.went;
-  submitted_is = steps_append seat a.history b.history ∙ ap (λ (xs : List Step). xs ++ steps_at seat b.history) a.submitted_is
-      ∙ ap (λ (xs : List Step). submitted ++ xs) b.submitted_is;
-  taken_is = ap (λ (xs : List Answer). xs ++ b.took seat) a.taken_is ∙ ap (λ (xs : List Answer). taken ++ xs) b.taken_is;
-  others_still = λ t differs. steps_append t a.history b.history
-      ∙ ap (λ (xs : List Step). xs ++ steps_at t b.history) (a.others_still t differs) ∙ b.others_still t differs;
-  others_took = λ t differs. ap (λ (xs : List Answer). xs ++ b.took t) (a.others_took t differs) ∙ b.others_took t differs;
-}
-
--- Answers were only put into the mail: the seat did nothing.
-pub seat_sorted : (d n : LoopState) (seat : ℕ) → IsSorted d n → SeatWent seat d [] [] [] n
-seat_sorted d n seat s = record {
-  history = [];
-  took = λ t. [];
-  went = record {
-    given = [];
-    runs = subst (λ (m : Machine). Run d.core [] [] m) (sym s.core) (run_none d.core);
-    timed = record { picked = tt; last_is = s.heard };
-    many = s.many;
-    tied = λ t below. append-nil (waiting t d) ∙ sym (s.waiting_is t below);
-    compared = compared_still d n s.core s.known s.compared;
-  };
-  submitted_is = refl;
-  taken_is = refl;
-  others_still = λ t differs. refl;
-  others_took = λ t differs. refl;
-}
-
--- The core was asked for the next due moment, if that was not known.
-pub seat_looked : (d n : LoopState) (seat : ℕ) → n.known ≡ true → n.core ≡ d.core
-    → ((count : ℕ) → LooksOnce d.known d.core count d.compared → IsLookWithin d.core count n.compared) → n.mails ≡ d.mails
-    → n.pending ≡ d.pending → n.heard ≡ d.heard
-    → SeatWent seat d [] [] [] n
-seat_looked d n seat known core once mails pending heard = record {
-  history = [];
-  took = λ t. [];
-  went = record {
-    given = [];
-    runs = subst (λ (m : Machine). Run d.core [] [] m) (sym core) (run_none d.core);
-    timed = record { picked = tt; last_is = heard };
-    many = ap length mails;
-    tied = λ t below.
-        append-nil (waiting t d)
-        ∙ ap (λ (ms : List (List Answer)). slice_index_or ms t [] ++ answers_to t d.pending) (sym mails)
-        ∙ ap (λ (xs : List GivenAnswer). slice_index_or n.mails t [] ++ answers_to t xs) (sym pending);
-    compared = compared_looked d n known core once;
-  };
-  submitted_is = refl;
-  taken_is = refl;
-  others_still = λ t differs. refl;
-  others_took = λ t differs. refl;
-}
-
--- The core of a loop stays in order as long as its machine does.
-pub order_on : (d n : LoopState) → length n.mails ≡ length d.mails → n.core ≡ d.core → n.most ≡ d.most → n.known ≡ d.known → n.due ≡ d.due
-    → (n.sorted ≡ true → n.pending ≡ []) → IsInOrder d → IsInOrder n
-order_on d n mails core most known due none o = record {
-  many = mails ∙ o.many ∙ ap (λ (m : Machine). m.settings.seats) (sym core);
-  room = subst (λ (k : ℕ). n.core.settings.seats < k) (sym most) (subst (λ (m : Machine). m.settings.seats < d.most) (sym core) o.room);
-  none_pending = none;
-  due_is = λ k. due ∙ o.due_is (sym known ∙ k) ∙ ap next_due (sym core);
-}
-
-pub order_sorted : (d n : LoopState) → IsSorted d n → (n.sorted ≡ true → n.pending ≡ []) → IsInOrder d → IsInOrder n
-order_sorted d n s none o = order_on d n s.many s.core s.most s.known s.due none o
+use Rattle.bq_host.proofs.WentLemmas.{gave_none, gave_then, none_held, one_step, seat_heard, seat_looked, seat_none, seat_on, seat_sorted}
 
 -- The core of a loop is in order if its machine is ready and its marks about answers are right.
 pub order_ready : {C K : Type 0} (machine : K → Machine) (compared : K → ℕ) (first last : LoopCore C K) → IsReady machine last.timed
@@ -314,28 +36,6 @@ order_ready machine compared first last ready settings mails none o = record {
   none_pending = none;
   due_is = ready.due;
 }
-
--- The new core of a loop is in order.
-pub order_new : (settings : Settings) (d : LoopState) → IsNewLoopCore settings d → IsInOrder d
-order_new settings d new = record {
-  many = ap length new.mails ∙ length-replicate settings.seats none_yet ∙ ap (λ (m : Machine). m.settings.seats) (sym new.core);
-  room = subst (λ (m : Machine). m.settings.seats < d.most) (sym new.core) new.room;
-  none_pending = λ k. new.pending;
-  due_is = λ k. absurd (true≢false (sym k ∙ new.unknown));
-}
-  where
-    none_yet : List Answer
-    none_yet = []
-
--- a clock that was not read gave no reading
-pub gave_none : {C : Type 0} (given : C → List (Option ℕ) → C → Type 0) (clock : C) → GaveReadings given clock [] clock
-gave_none given clock first before h = subst (λ (rs : List (Option ℕ)). given first rs clock) (sym (append-nil before)) h
-
-pub gave_then : {C : Type 0} (given : C → List (Option ℕ) → C → Type 0) (a b c : C) (readings reads : List (Option ℕ))
-    → GaveReadings given a readings b → GaveReadings given b reads c → GaveReadings given a (readings ++ reads) c
-gave_then given a b c readings reads h i first before g =
-    subst (λ (rs : List (Option ℕ)). given first rs c) (append_assoc before readings reads)
-    (i first (before ++ readings) (h first before g))
 
 pub went_none : {C K : Type 0} (machine : K → Machine) (compared : K → ℕ) (given : C → List (Option ℕ) → C → Type 0) (seat : ℕ)
     (core : LoopCore C K) → WentAt machine compared given seat core [] [] core

@@ -10,8 +10,8 @@ use Rattle.bq_job.specs.machine.Machine.{Machine}
 use Rattle.bq_job.specs.promise.History.{steps_at}
 use Rattle.bq_job.specs.promise.LineSteps.{LineSeen}
 use Rattle.bq_event_loop.specs.LoopCores.{WentAt, state_of}
-use Rattle.bq_event_loop.specs.LoopStates.{LoopState}
-use Rattle.bq_event_loop.specs.LoopWent.{SeatWent}
+use Rattle.bq_host.specs.MailStates.{MailState}
+use Rattle.bq_host.specs.Went.{SeatWent}
 use Rattle.bq_driver.specs.Links.{Calls}
 use Rattle.bq_driver.specs.Tending.{AreSame, DoorSeen, GoesOn, IsTended, Tends}
 use Rattle.bq_event_loop.specs.Rows.{AllRested}
@@ -22,7 +22,8 @@ use Rattle.bq_driver.specs.declared.attendant.Attendant.{Attendant}
 use Rattle.bq_driver.specs.declared.attendant.LinePlace.TheVariants.{Done}
 use Rattle.bq_event_loop.specs.declared.loop_core.LoopCore.{LoopCore}
 use Rattle.bq_line.specs.GivenReadings.{GaveReadings}
-use Rattle.bq_event_loop.proofs.LoopCoreLemmas.{loop_on, gave_none, gave_then, seat_none, steps_append, went_none}
+use Rattle.bq_host.proofs.WentLemmas.{core_on, gave_none, gave_then, seat_none, steps_append}
+use Rattle.bq_event_loop.proofs.LoopCoreLemmas.{went_none}
 
 -- the result of a seat's calls at the loop's core
 went_by : {C K : Type 0} (machine : K → Machine) (compared : K → ℕ) (given : C → List (Option ℕ) → C → Type 0) (seat : ℕ)
@@ -36,7 +37,7 @@ went_by {C} {K} machine compared given seat old new submitted taken (inr same) =
 
 module _ {L D : Type 0} (seen : L → LineSeen) (at : D → DoorSeen) where
   -- One seat acted.
-  turn_served : (size : ℕ) (control : List Step) (first core next : LoopState) (readings reads : List (Option ℕ))
+  turn_served : (size : ℕ) (control : List Step) (first core next : MailState) (readings reads : List (Option ℕ))
       (seats : List (Attendant L)) (doors : List D) (i : ℕ) (a new : Attendant L) (d later : D) (submitted : List Step)
       (taken : List Answer)
       → AreServed seen at size control first readings core seats doors → i < length seats
@@ -46,7 +47,7 @@ module _ {L D : Type 0} (seen : L → LineSeen) (at : D → DoorSeen) where
   turn_served size control first core next readings reads seats doors i a new d later submitted taken s below w tends = record {
     history = s.history ++ w.history;
     took = λ t. s.took t ++ w.took t;
-    went = loop_on first core next readings reads s.history w.history s.took w.took s.went w.went;
+    went = core_on first core next readings reads s.history w.history s.took w.took s.went w.went;
     mailed = s.mailed ∙ sym (length-set seats i new);
     doored = length-set doors i later ∙ s.doored ∙ sym (length-set seats i new);
     each = λ t here x y. each_at t (subst (λ n. t < n) (length-set seats i new) here) x y;
@@ -103,14 +104,14 @@ module _ {L D : Type 0} (seen : L → LineSeen) (at : D → DoorSeen) where
       ]
 
   -- A tick was taken, or none was due: no seat submitted or took anything.
-  time_served : (size : ℕ) (control : List Step) (first core next : LoopState) (readings reads : List (Option ℕ))
+  time_served : (size : ℕ) (control : List Step) (first core next : MailState) (readings reads : List (Option ℕ))
       (seats : List (Attendant L)) (doors : List D) (i : ℕ)
       → AreServed seen at size control first readings core seats doors → SeatWent i core reads [] [] next
       → AreServed seen at size control first (readings ++ reads) next seats doors
   time_served size control first core next readings reads seats doors i s w = record {
     history = s.history ++ w.history;
     took = λ t. s.took t ++ w.took t;
-    went = loop_on first core next readings reads s.history w.history s.took w.took s.went w.went;
+    went = core_on first core next readings reads s.history w.history s.took w.took s.went w.went;
     mailed = s.mailed;
     doored = s.doored;
     each = λ t below a d.
@@ -142,14 +143,14 @@ module _ {L D : Type 0} (seen : L → LineSeen) (at : D → DoorSeen) where
       took_still t = sym (append-nil (s.took t)) ∙ ap (λ (xs : List Answer). s.took t ++ xs) (sym (took_none t))
 
   -- The control line submitted these steps.
-  control_served : (size : ℕ) (control more : List Step) (first core next : LoopState) (readings reads : List (Option ℕ))
+  control_served : (size : ℕ) (control more : List Step) (first core next : MailState) (readings reads : List (Option ℕ))
       (seats : List (Attendant L)) (doors : List D)
       → AreServed seen at size control first readings core seats doors → SeatWent (length seats) core reads more [] next
       → AreServed seen at size (control ++ more) first (readings ++ reads) next seats doors
   control_served size control more first core next readings reads seats doors s w = record {
     history = s.history ++ w.history;
     took = λ t. s.took t ++ w.took t;
-    went = loop_on first core next readings reads s.history w.history s.took w.took s.went w.went;
+    went = core_on first core next readings reads s.history w.history s.took w.took s.went w.went;
     mailed = s.mailed;
     doored = s.doored;
     each = λ t below a d.
@@ -172,7 +173,7 @@ module _ {L D : Type 0} (seen : L → LineSeen) (at : D → DoorSeen) where
       took_still t differs = sym (append-nil (s.took t)) ∙ ap (λ (xs : List Answer). s.took t ++ xs) (sym (w.others_took t differs))
 
   -- The seats rested, whatever else was done with them and their doors.
-  rested_served : (same : D → D → Type 0) (size : ℕ) (control : List Step) (first core : LoopState) (readings : List (Option ℕ))
+  rested_served : (same : D → D → Type 0) (size : ℕ) (control : List Step) (first core : MailState) (readings : List (Option ℕ))
       (seats later : List (Attendant L)) (doors after : List D)
       → AllRested seen at same seats doors later after → AreServed seen at size control first readings core seats doors
       → AreServed seen at size control first readings core later after
@@ -340,7 +341,7 @@ module _ {L D : Type 0} (seen : L → LineSeen) (at : D → DoorSeen) where
     serves_same old new row state clock = serves_time old new row 0 (
       [],
       subst (λ c. GaveReadings given old.timed.time.clock [] c) (sym clock) (gave_none given old.timed.time.clock),
-      subst (λ (d : LoopState). SeatWent 0 (state_of machine compared old) [] [] [] d) (sym state)
+      subst (λ (d : MailState). SeatWent 0 (state_of machine compared old) [] [] [] d) (sym state)
           (seat_none (state_of machine compared old) 0),
     )
 

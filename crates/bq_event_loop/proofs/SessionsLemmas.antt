@@ -16,18 +16,18 @@ use Rattle.bq_job.specs.machine.Machine.{Machine}
 use Rattle.bq_job.specs.promise.Runs.{Entry, GoesBy, Run, Transition, answers_to}
 use Rattle.bq_job.specs.machine.Steps.{IsStep, Outcome}
 use Rattle.bq_job.specs.beside.Ties.{AreTied, IsJoined}
-use Rattle.bq_event_loop.specs.LoopStates.{LoopState, IsNewLoopCore, waiting}
+use Rattle.bq_host.specs.MailStates.{MailState, IsNewMailState, waiting}
 use Rattle.bq_driver.specs.Tending.{DoorSeen, IsDoorServed, IsNewDoor, IsNewSeat, IsTended}
 use Rattle.bq_event_loop.specs.Rows.{AreDone}
 use Rattle.bq_event_loop.specs.Serving.{AreServed}
-use Rattle.bq_event_loop.proofs.ComparedLemmas.{compared_all}
-use Rattle.bq_event_loop.proofs.LoopCoreLemmas.{loop_none}
+use Rattle.bq_host.proofs.HasComparedLemmas.{compared_all}
+use Rattle.bq_host.proofs.WentLemmas.{core_none}
 use Rattle.bq_host.specs.Compared.{AreCompared}
 use Rattle.bq_job.specs.promise.Headline.{IsHistoryOf}
 use Rattle.bq_job.specs.machine.Machine.{new_machine}
 use Rattle.bq_job.proofs.JoinLemmas.{doors_owed}
 use Rattle.bq_driver.specs.declared.attendant.Attendant.{Attendant}
-use Rattle.bq_event_loop.proofs.AloneLemmas.{new_mails_are, none_waits}
+use Rattle.bq_host.proofs.WentLemmas.{new_mails_are, none_waits}
 use Rattle.bq_job.specs.beside.SeatDid.{AreLinesServed}
 use Rattle.bq_driver.specs.Tending.{attendant}
 use Rattle.bq_driver.specs.declared.attendant.LinePlace.{LinePlace}
@@ -95,17 +95,17 @@ up_to seat (e ∷ history) h =
         let same : (e.seat == e.seat) ≡ true = eq-eqb e.seat e.seat refl in
         let no : e.what ∷ steps_at e.seat history ≡ [] = rw (x, same) at g in cc
 
-module _ {L D : Type 0} (seen : L → LineSeen) (at : D → DoorSeen) (settings : Settings) (first : LoopState) where
+module _ {L D : Type 0} (seen : L → LineSeen) (at : D → DoorSeen) (settings : Settings) (first : MailState) where
   -- Nothing was served yet.
   pub begins_served : (seats : List (Attendant L)) (doors : List D)
-      → IsNewLoopCore settings first → length seats ≡ settings.seats → length doors ≡ settings.seats
+      → IsNewMailState settings first → length seats ≡ settings.seats → length doors ≡ settings.seats
       → All (IsNewSeat settings.max_job_size) seats → All (λ d. IsNewDoor (at d)) doors
       → AreServed seen at settings.max_job_size [] first [] first seats doors
   begins_served seats doors new many doored seats_new doors_new =
       record {
         history = [];
         took = λ t. [];
-        went = loop_none first;
+        went = core_none first;
         mailed = new_mails_are settings first new ∙ sym many;
         doored = doored ∙ sym many;
         each = λ t below a d.
@@ -117,13 +117,13 @@ module _ {L D : Type 0} (seen : L → LineSeen) (at : D → DoorSeen) (settings 
       }
 
   -- a door whose seat is done, and its answers
-  record IsDoorDone (history : List Entry) (took : ℕ → List Answer) (given : List GivenAnswer) (core : LoopState) (t : ℕ)
+  record IsDoorDone (history : List Entry) (took : ℕ → List Answer) (given : List GivenAnswer) (core : MailState) (t : ℕ)
       (door : DoorSeen) : Type 0 where
     served : IsDoorServed settings.max_job_size door (steps_at t history) (took t)
     answers_are : answers_to t given ≡ took t ++ waiting t core
 
-  module _ (control : List Step) (readings : List (Option ℕ)) (core : LoopState) (seats : List (Attendant L)) (doors : List D)
-      (new : IsNewLoopCore settings first) (many : length seats ≡ settings.seats)
+  module _ (control : List Step) (readings : List (Option ℕ)) (core : MailState) (seats : List (Attendant L)) (doors : List D)
+      (new : IsNewMailState settings first) (many : length seats ≡ settings.seats)
       (s : AreServed seen at settings.max_job_size control first readings core seats doors) (all_done : AreDone seats) where
     door_done : (t : ℕ) → t < length doors → (d : D) → IsDoorDone s.history s.took s.went.given core t (at (slice_index_or doors t d))
     door_done t below d =

@@ -10,8 +10,8 @@ use Rattle.bq_line.specs.GivenReadings.{GaveReadings}
 use Rattle.bq_driver.specs.Tending.{AreSame, DoorSeen, IsTended}
 use Rattle.bq_driver.specs.declared.attendant.Attendant.{Attendant}
 use Rattle.bq_event_loop.specs.LoopCores.{state_of}
-use Rattle.bq_event_loop.specs.LoopStates.{IsInOrder, LoopState}
-use Rattle.bq_event_loop.specs.LoopWent.{LoopWent}
+use Rattle.bq_host.specs.MailStates.{IsInOrder, MailState}
+use Rattle.bq_host.specs.Went.{CoreWent}
 use Rattle.bq_event_loop.specs.Rows.{AreTended}
 use Rattle.bq_event_loop.specs.declared.loop_core.LoopCore.{LoopCore}
 use Rattle.bq_event_loop.specs.declared.row.Row.{Row}
@@ -19,11 +19,11 @@ use Rattle.bq_event_loop.specs.declared.row.Row.{Row}
 -- What was served from the first state on. The core took the steps of one history. Each seat did what
 -- the history has for it, with the answers that were taken out for it. The control line, whose
 -- number comes after those of the seats, submitted these steps. The history has no other steps.
-pub record AreServed {L D : Type 0} (seen : L → LineSeen) (at : D → DoorSeen) (max_job_size : ℕ) (control : List Step) (first : LoopState)
-    (readings : List (Option ℕ)) (core : LoopState) (seats : List (Attendant L)) (doors : List D) : Type 0 where
+pub record AreServed {L D : Type 0} (seen : L → LineSeen) (at : D → DoorSeen) (max_job_size : ℕ) (control : List Step) (first : MailState)
+    (readings : List (Option ℕ)) (core : MailState) (seats : List (Attendant L)) (doors : List D) : Type 0 where
   pub history : List Entry
   pub took : ℕ → List Answer
-  pub went : LoopWent first readings history took core
+  pub went : CoreWent first readings history took core
   pub mailed : length first.mails ≡ length seats
   pub doored : length doors ≡ length seats
   pub each : (seat : ℕ) → seat < length seats → (a : Attendant L) (d : D)
@@ -40,7 +40,7 @@ pub record ServesOn {C K L D : Type 0} (machine : K → Machine) (compared : K �
   pub gave : GaveReadings given old.timed.time.clock reads new.timed.time.clock
   pub mailed : length new.mails.items ≡ length old.mails.items
   pub many : length later.seats.items ≡ length row.seats.items
-  pub served : (max_job_size : ℕ) (before : List Step) (first : LoopState) (readings : List (Option ℕ))
+  pub served : (max_job_size : ℕ) (before : List Step) (first : MailState) (readings : List (Option ℕ))
       → AreServed seen at max_job_size before first readings (state_of machine compared old) row.seats.items row.doors.items
       → AreServed seen at max_job_size (before ++ control) first (readings ++ reads)
       (state_of machine compared new) later.seats.items later.doors.items

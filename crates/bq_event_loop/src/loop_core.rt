@@ -32,7 +32,7 @@ pub struct LoopCore<C, K> {
 impl<C: Clock + Drop, K: QueueCore + Drop> LoopCore<C, K> {
     ghost use Rattle.bq_event_loop.specs.LoopCores.{WentAt, state_of};
     ghost use Rattle.bq_job.specs.beside.NextDue.{is_before, next_due};
-    ghost use Rattle.bq_event_loop.specs.LoopStates.{IsInOrder, IsNewLoopCore, IsSorted};
+    ghost use Rattle.bq_host.specs.MailStates.{IsInOrder, IsNewMailState, IsSorted};
     ghost use Rattle.bq_steps.specs.Limits.{are_in_range};
     ghost use Rattle.bq_driver.specs.Links.{TakesInPlace, as_submitted};
 
@@ -41,7 +41,7 @@ impl<C: Clock + Drop, K: QueueCore + Drop> LoopCore<C, K> {
     /// The error is `BadConfiguration` if the configuration is out of its ranges, and otherwise
     /// `NoMemory`.
     pub fn new(alloc: Global, config: Config, clock: C) -> Result<LoopCore<C, K>, RunFault>
-        ensures made { IfOk result (λ core. IsNewLoopCore config (state_of K.machine K.comparisons core)) }
+        ensures made { IfOk result (λ core. IsNewMailState config (state_of K.machine K.comparisons core)) }
         ensures order { IfOk result (λ core. IsInOrder (state_of K.machine K.comparisons core)) }
         ensures clock { IfOk result (λ core. core.timed.time.clock ≡ clock) }
         ensures bad_configuration { IsErrOf result RunFault.BadConfiguration ↔ IsTrue

@@ -4,8 +4,8 @@ ghost use Rattle.bq_job.specs.declared.answer.Answer.{Answer};
 ghost use Rattle.bq_job.specs.declared.step.Step.{Step};
 ghost use Rattle.bq_driver.specs.Links.{Calls};
 ghost use Rattle.bq_driver.specs.Tending.{GoesOn, IsPlaced, MayEndAt, door_seen};
+ghost use Rattle.bq_host.specs.MailStates.{IsInOrder};
 ghost use Rattle.bq_event_loop.specs.LoopCores.{WentAt, state_of};
-ghost use Rattle.bq_event_loop.specs.LoopStates.{IsInOrder};
 
 use crate::loop_core::LoopCore;
 use bq_driver::attendant::Attendant;

@@ -5,7 +5,7 @@ ghost use Rattle.bq_steps.specs.Limits.{are_in_range};
 ghost use Rattle.bq_driver.specs.Tending.{AreSame, IsNewDoor, IsNewSeat, door_seen};
 ghost use Rattle.bq_event_loop.specs.EventLoopRuns.{IsEventLoopRun};
 ghost use Rattle.bq_event_loop.specs.LoopCores.{state_of};
-ghost use Rattle.bq_event_loop.specs.LoopStates.{IsInOrder, IsNewLoopCore};
+ghost use Rattle.bq_host.specs.MailStates.{IsInOrder, IsNewMailState};
 
 use crate::control_turns::ControlTurns;
 use crate::loop_core::LoopCore;
@@ -108,7 +108,7 @@ fn run_at<
     control: I,
     turns: &mut T,
 ) -> EventLoopRun<D, C, I, K>
-    requires made { IsNewLoopCore config (state_of K.machine K.comparisons core) }
+    requires made { IsNewMailState config (state_of K.machine K.comparisons core) }
     requires order { IsInOrder (state_of K.machine K.comparisons core) }
     requires many { length seats.items ≡ config.seats }
     requires doored { length doors.items ≡ config.seats }

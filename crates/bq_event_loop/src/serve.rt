@@ -3,8 +3,8 @@ ghost use Rattle.std.specs.Prelude.{◌≡◌, ◌<◌, ◌≤◌, true, [], Lis
 ghost use Rattle.bq_job.specs.declared.step.Step.{Step};
 ghost use Rattle.bq_driver.specs.Tending.{door_seen};
 ghost use Rattle.bq_event_loop.specs.ControlTold.{TellsOn};
+ghost use Rattle.bq_host.specs.MailStates.{IsInOrder};
 ghost use Rattle.bq_event_loop.specs.LoopCores.{WentAt, state_of};
-ghost use Rattle.bq_event_loop.specs.LoopStates.{IsInOrder};
 ghost use Rattle.bq_event_loop.specs.Rows.{AreDone};
 ghost use Rattle.bq_event_loop.specs.Serving.{AreReady, ServesOn, TurnServes};
 ghost use Rattle.bq_event_loop.specs.declared.control_turns.Stage.TheVariants as stages;

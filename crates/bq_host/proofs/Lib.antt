@@ -1,4 +1,7 @@
 pub mod ComparedLemmas
+pub mod HasComparedLemmas
 pub mod ListLemmas
+pub mod MailLemmas
 pub mod SendLemmas
 pub mod TimedLemmas
+pub mod WentLemmas

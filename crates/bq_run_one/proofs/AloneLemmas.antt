@@ -1,10 +1,9 @@
 -- A lone line is served at a desk.
-use Rattle.std.proofs.Common.{◌≡◌, ◌≢◌, ℕ, zero, suc, ◌<◌, true, false, true≢false, List, [], ◌∷◌, ◌++◌}
-use Rattle.std.proofs.Common.{Option, length, replicate, refl, sym, ap, ◌∙◌, arith, subst, inl, inr, append-nil, map}
-use Rattle.std.specs.Prelude.{◌==◌, slice_index_or}
+use Rattle.std.proofs.Common.{◌≡◌, ◌≢◌, ℕ, ◌<◌, true, false, List, [], ◌∷◌, ◌++◌}
+use Rattle.std.proofs.Common.{Option, length, refl, sym, ap, ◌∙◌, arith, subst, inl, inr, append-nil, map}
+use Rattle.std.specs.Prelude.{◌==◌}
 use Rattle.std.specs.List.{list_all}
 use Rattle.std.proofs.lemmas.Bool.{cases_Bool, eq-eqb, eqb-true, eqb-false}
-use Rattle.std.proofs.lemmas.List.{length-replicate}
 use Rattle.bq_job.specs.declared.answer.Answer.{Answer}
 use Rattle.bq_job.specs.declared.line_end.LineEnd.{LineEnd}
 use Rattle.bq_job.specs.declared.settings.Settings.{Settings}
@@ -20,26 +19,25 @@ use Rattle.bq_seat.specs.declared.machine.SeatMachine.{SeatMachine}
 use Rattle.bq_driver.specs.Attending.{IsOnLine}
 use Rattle.bq_driver.specs.Carried.{CarriesOn, with_part}
 use Rattle.bq_driver.specs.declared.progress.Progress.{Progress}
-use Rattle.bq_run_one.specs.DeskState.{DeskState, HasMails, IsNewDesk, waiting}
-use Rattle.bq_run_one.specs.DeskWent.{SeatWent}
-use Rattle.bq_run_one.proofs.DeskLemmas.{seat_none, seat_on}
+use Rattle.bq_host.specs.{MailStates.{IsNewMailState, MailState, waiting}, Went.SeatWent}
+use Rattle.bq_host.proofs.WentLemmas.{none_waits, seat_none, seat_on}
 use Rattle.bq_driver.proofs.CarriedLemmas.{none_begun}
 use Rattle.bq_driver.proofs.SeatLemmas.{carried_on, line_served}
 
 -- Starting from a new desk, only this seat did anything, and it served its line.
-pub record IsServingAlone (settings : Settings) (seat : ℕ) (readings : List (Option ℕ)) (desk : DeskState) (machine : SeatMachine)
+pub record IsServingAlone (settings : Settings) (seat : ℕ) (readings : List (Option ℕ)) (desk : MailState) (machine : SeatMachine)
     (seen : LineSeen) (action : Action) (sent : ℕ) : Type 0 where
-  pub first : DeskState
+  pub first : MailState
   pub submitted : List Step
   pub taken : List Answer
-  pub new : IsNewDesk settings first
+  pub new : IsNewMailState settings first
   pub went : SeatWent seat first readings submitted taken desk
   pub before : LineSeen
   pub part : seen ≡ with_part action sent before
   pub on_line : IsOnLine settings.max_job_size machine before action submitted taken
 
-pub begins_alone : (settings : Settings) (seat : ℕ) (desk : DeskState) (machine : SeatMachine) (seen : LineSeen) (action : Action)
-    → IsNewDesk settings desk → IsOnLine settings.max_job_size machine seen action [] []
+pub begins_alone : (settings : Settings) (seat : ℕ) (desk : MailState) (machine : SeatMachine) (seen : LineSeen) (action : Action)
+    → IsNewMailState settings desk → IsOnLine settings.max_job_size machine seen action [] []
     → IsServingAlone settings seat [] desk machine seen action 0
 begins_alone settings seat desk machine seen action new on =
     record {
@@ -53,7 +51,7 @@ begins_alone settings seat desk machine seen action new on =
       on_line = on;
     }
 
-pub goes_on_alone : (result : Progress) (settings : Settings) (seat : ℕ) (readings reads : List (Option ℕ)) (desk next : DeskState)
+pub goes_on_alone : (result : Progress) (settings : Settings) (seat : ℕ) (readings reads : List (Option ℕ)) (desk next : MailState)
     (old new : SeatMachine) (seen later : LineSeen) (action then_action : Action) (sent now : ℕ)
     (submitted : List Step) (taken : List Answer)
     → IsServingAlone settings seat readings desk old seen action sent → SeatWent seat desk reads submitted taken next
@@ -71,33 +69,6 @@ goes_on_alone result settings seat readings reads desk next old new seen later a
       on_line = carried_on result settings.max_job_size old new s.before c.0 action then_action s.submitted submitted s.taken taken
           c.2 s.on_line;
     }
-
--- a new desk has no mail
-abbrev the_empty : List Answer
-the_empty = []
-
-no_mail : (n t : ℕ) → slice_index_or (replicate n []) t [] ≡ the_empty
-no_mail zero t = refl
-no_mail (suc n) zero = refl
-no_mail (suc n) (suc t) = no_mail n t
-
-pub new_mails_are : (settings : Settings) (d : DeskState) → IsNewDesk settings d → length d.mails ≡ settings.seats
-new_mails_are settings d new = ap length new.mails ∙ length-replicate settings.seats the_empty
-
--- A new desk is in order.
-pub mails_of_new : (settings : Settings) (d : DeskState) → IsNewDesk settings d → HasMails d
-mails_of_new settings d new = record {
-  many = new_mails_are settings d new ∙ ap (λ (m : Machine). m.settings.seats) (sym new.core);
-  room = subst (λ (m : Machine). m.settings.seats < d.most) (sym new.core) new.room;
-  due_is = λ known. absurd (true≢false (sym known ∙ new.unknown));
-}
-
--- No answer waits at a new desk.
-pub none_waits : (settings : Settings) (d : DeskState) (seat : ℕ) → IsNewDesk settings d → waiting seat d ≡ []
-none_waits settings d seat new =
-    ap (λ (ms : List (List Answer)). slice_index_or ms seat [] ++ answers_to seat d.pending) new.mails
-    ∙ ap (λ (xs : List Answer). xs ++ answers_to seat d.pending) (no_mail settings.seats seat)
-    ∙ ap (answers_to seat) new.pending
 
 -- steps at one seat only
 alone_there : (seat : ℕ) (history : List Entry) → ((other : ℕ) → other ≢ seat → steps_at other history ≡ [])
@@ -129,7 +100,7 @@ alone_there seat (e ∷ history) h =
         let no : e.what ∷ steps_at e.seat history ≡ [] = rw (x, same) at g in cc
 
 -- A line that has ended: what its seat and the core did, and how it fits together.
-pub over_alone : (settings : Settings) (seat : ℕ) (readings : List (Option ℕ)) (desk : DeskState) (machine : SeatMachine) (seen : LineSeen)
+pub over_alone : (settings : Settings) (seat : ℕ) (readings : List (Option ℕ)) (desk : MailState) (machine : SeatMachine) (seen : LineSeen)
     (end : LineEnd) (sent : ℕ) (s : IsServingAlone settings seat readings desk machine seen (actions.LineOver end) sent)
     → seat < settings.seats → length s.first.mails ≡ settings.seats
     → IsLineJoined settings seat (record { seen = seen; over = end }) readings s.went.history s.went.went.given desk.core

@@ -1,4 +1,3 @@
 pub mod AloneLemmas
 pub mod DeskLemmas
 pub mod DeskSeatLemmas
-pub mod MailLemmas

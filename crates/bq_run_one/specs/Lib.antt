@@ -1,4 +1,2 @@
 pub mod DeskOf
-pub mod DeskState
-pub mod DeskWent
 pub mod RunSettings

@@ -21,8 +21,8 @@ pub struct Desk<C> {
 }
 
 impl<C: Clock + Drop> Desk<C> {
-    ghost use Rattle.bq_run_one.specs.DeskOf.{WentAt, state_of};
-    ghost use Rattle.bq_run_one.specs.DeskState.{HasMails, IsNewDesk, IsSorted, IsStuck};
+    ghost use Rattle.bq_host.specs.MailStates.{IsInOrder, IsNewMailState, IsSorted};
+    ghost use Rattle.bq_run_one.specs.DeskOf.{IsStuck, WentAt, state_of};
     ghost use Rattle.bq_steps.specs.Limits.{are_in_range};
     ghost use Rattle.bq_driver.specs.Links.{Submits, as_submitted};
     ghost use Rattle.std.specs.Prelude.{if◌then◌else◌};
@@ -32,7 +32,7 @@ impl<C: Clock + Drop> Desk<C> {
     /// Returns `BadConfiguration` if a setting is out of its range, and otherwise `NoMemory` if an
     /// allocation fails.
     pub fn new(alloc: Global, config: Config, clock: C) -> Result<Desk<C>, RunFault>
-        ensures made { IfOk result (λ desk. IsNewDesk config (state_of desk)) }
+        ensures made { IfOk result (λ desk. IsNewMailState config (state_of desk)) }
         ensures clock { IfOk result (λ desk. desk.timed.time.clock ≡ clock) }
         ensures bad_configuration { IsErrOf result RunFault.BadConfiguration ↔ IsTrue
             (not (are_in_range config)) }
@@ -52,8 +52,8 @@ impl<C: Clock + Drop> Desk<C> {
     /// The core takes the step of the seat if all answers so far are in the mail. Otherwise the
     /// step is returned: some seat has not checked its mail for a long time.
     pub fn submit(&mut self, seat: Seat, step: Step) -> Result<(), Step>
-        requires mails { HasMails (state_of self.old) }
-        ensures mails { HasMails (state_of self.new) }
+        requires order { IsInOrder (state_of self.old) }
+        ensures order { IsInOrder (state_of self.new) }
         ensures handed_back { IfErr result (λ step. IsStuck (state_of self.new)) }
         ensures went { Submits (WentAt C.given seat) self.old step result self.new }
     {
@@ -66,9 +66,9 @@ impl<C: Clock + Drop> Desk<C> {
 
     /// Returns the oldest answer that waits for the seat. Lets time pass first.
     pub fn mail(&mut self, seat: Seat) -> Option<Answer>
-        requires mails { HasMails (state_of self.old) }
+        requires order { IsInOrder (state_of self.old) }
         requires within { seat < length (state_of self.old).mails }
-        ensures mails { HasMails (state_of self.new) }
+        ensures order { IsInOrder (state_of self.new) }
         ensures went { WentAt C.given seat self.old [] (option_to_list result) self.new }
     {
         self.pass_time(seat);
@@ -85,8 +85,8 @@ impl<C: Clock + Drop> Desk<C> {
 
     // Lets time pass if all answers so far are in the mail.
     fn pass_time(&mut self, seat: Seat)
-        requires mails { HasMails (state_of self.old) }
-        ensures mails { HasMails (state_of self.new) }
+        requires order { IsInOrder (state_of self.old) }
+        ensures order { IsInOrder (state_of self.new) }
         ensures many { length (state_of self.new).mails ≡ length (state_of self.old).mails }
         ensures went { WentAt C.given seat self.old [] [] self.new }
     {
@@ -99,9 +99,9 @@ impl<C: Clock + Drop> Desk<C> {
     // Reads the clock if anything will ever be due, and takes a tick exactly if something is due by
     // then.
     fn tick_if_due(&mut self, seat: Seat)
-        requires mails { HasMails (state_of self.old) }
+        requires order { IsInOrder (state_of self.old) }
         requires empty { (state_of self.old).pending ≡ [] }
-        ensures mails { HasMails (state_of self.new) }
+        ensures order { IsInOrder (state_of self.new) }
         ensures many { length (state_of self.new).mails ≡ length (state_of self.old).mails }
         ensures went { WentAt C.given seat self.old [] [] self.new }
     {
@@ -109,9 +109,9 @@ impl<C: Clock + Drop> Desk<C> {
     }
 
     fn take_mail(&mut self, seat: Seat) -> Option<Answer>
-        requires mails { HasMails (state_of self.old) }
+        requires order { IsInOrder (state_of self.old) }
         requires within { seat < length (state_of self.old).mails }
-        ensures mails { HasMails (state_of self.new) }
+        ensures order { IsInOrder (state_of self.new) }
         ensures went { WentAt C.given seat self.old [] (option_to_list result) self.new }
     {
         self.mails[usize::from(seat)].take_first()
@@ -153,9 +153,9 @@ impl<C: Clock + Drop> Desk<C> {
 
     // The core takes the step at the moment that the clock reads now.
     fn take_step(&mut self, seat: Seat, what: Step)
-        requires mails { HasMails (state_of self.old) }
+        requires order { IsInOrder (state_of self.old) }
         requires empty { (state_of self.old).pending ≡ [] }
-        ensures mails { HasMails (state_of self.new) }
+        ensures order { IsInOrder (state_of self.new) }
         ensures many { length (state_of self.new).mails ≡ length (state_of self.old).mails }
         ensures went { WentAt C.given seat self.old (as_submitted what) [] self.new }
     {

@@ -4,8 +4,8 @@ ghost use Rattle.bq_job.specs.declared.answer.Answer.{Answer};
 ghost use Rattle.bq_job.specs.declared.step.Step.{Step};
 ghost use Rattle.bq_line.specs.Streams.{StaysOver};
 ghost use Rattle.bq_driver.specs.Carried.{CarriedPart};
+ghost use Rattle.bq_host.specs.MailStates.{IsInOrder};
 ghost use Rattle.bq_run_one.specs.DeskOf.{WentAt, state_of};
-ghost use Rattle.bq_run_one.specs.DeskState.{HasMails};
 
 use crate::desk::Desk;
 use bq_driver::attendant::carry_out;
@@ -26,7 +26,7 @@ pub struct DeskSeat<'a, C> {
 }
 
 impl<'a, C: Clock + Drop> Link for DeskSeat<'a, C> {
-    ghost is_ready = { λ l. HasMails (state_of l.desk.now) × (l.seat < length (state_of l.desk.now).mails) };
+    ghost is_ready = { λ l. IsInOrder (state_of l.desk.now) × (l.seat < length (state_of l.desk.now).mails) };
 
     // When the link is dropped, its owner still knows that the desk is the same.
     ghost went = { λ first submitted taken last. (last.desk.ghost_name ≡ first.desk.ghost_name) × (last.seat ≡ first.seat) ×
@@ -64,9 +64,9 @@ pub fn act<L: Line, C: Clock + Drop>(
     seat: Seat,
     buffers: &mut Buffers,
 ) -> Progress
-    requires mails { HasMails (state_of desk.old) }
+    requires order { IsInOrder (state_of desk.old) }
     requires within { seat < length (state_of desk.old).mails }
-    ensures mails { HasMails (state_of desk.new) }
+    ensures order { IsInOrder (state_of desk.new) }
     ensures carried { (submitted : List Step) × (taken : List Answer) × WentAt C.given seat desk.old submitted taken desk.new ×
         CarriedPart result machine.old (L.seen line.old) action.old sent.old machine.new (L.seen line.new) action.new sent.new submitted taken }
     ensures stays { StaysOver L.lies_over line.old line.new }

@@ -4,8 +4,8 @@ ghost use Rattle.bq_seat.specs.Past.{Awaited};
 ghost use Rattle.bq_seat.specs.SeatStands.{awaited};
 ghost use Rattle.bq_line.specs.LineCalls.{new_line};
 ghost use Rattle.bq_line.specs.Streams.{StaysOver};
+ghost use Rattle.bq_host.specs.MailStates.{IsNewMailState};
 ghost use Rattle.bq_run_one.specs.DeskOf.{state_of};
-ghost use Rattle.bq_run_one.specs.DeskState.{IsNewDesk};
 ghost use Rattle.bq_run_one.specs.RunSettings.{is_lone};
 
 use crate::desk::Desk;
@@ -81,7 +81,7 @@ fn serve_line<R: Wait, L: Line + Drop, C: Clock + Drop>(
     machine: SeatMachine,
 ) -> One<L, C>
     requires new { L.seen line ≡ new_line }
-    requires desk { IsNewDesk desk.timed.core.machine.settings (state_of desk) }
+    requires desk { IsNewMailState desk.timed.core.machine.settings (state_of desk) }
     requires lone { desk.timed.core.machine.settings.seats ≡ 1 }
     requires awaits { awaited machine ≡ Awaited.ALine }
     requires limit { machine.reader.max_job_size ≡ desk.timed.core.machine.settings.max_job_size }

@@ -2,7 +2,7 @@ use Rattle.std.proofs.Common.{◌≡◌, ℕ, List, [], ◌∷◌, ◌++◌, ◌
 use Rattle.std.specs.Prelude.{slice_index_or}
 use Rattle.bq_job.specs.declared.answer.Answer.{Answer}
 use Rattle.bq_job.specs.promise.Runs.{answers_to}
-use Rattle.bq_event_loop.proofs.MailLemmas.{posted_at, still_at}
+use Rattle.bq_host.proofs.MailLemmas.{posted_at, still_at}
 use Rattle.bq_event_loop.proofs.loop_core.post.Goals as goal
 
 -- by whether the mail had room for the answer

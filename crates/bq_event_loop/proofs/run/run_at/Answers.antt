@@ -2,9 +2,9 @@ use Rattle.std.proofs.Common.{◌≡◌, ◌∙◌, [], List, length, map, ap, r
 use Rattle.bq_driver.specs.ControlRead.{IsReadToEnd}
 use Rattle.bq_driver.specs.Tending.{door_seen}
 use Rattle.bq_driver.specs.declared.control_line.ControlLine.{ControlLine}
+use Rattle.bq_host.proofs.WentLemmas.{new_mails_are}
 use Rattle.bq_event_loop.specs.LoopCores.{state_of}
 use Rattle.bq_event_loop.specs.Serving.{AreServed}
-use Rattle.bq_event_loop.proofs.AloneLemmas.{new_mails_are}
 use Rattle.bq_event_loop.proofs.ControlLemmas.{told_all}
 use Rattle.bq_event_loop.proofs.RowLemmas.{same_selves, tended_at_first}
 use Rattle.bq_event_loop.proofs.SessionsLemmas.{begins_served, ends_closed, ends_history, ends_settings}

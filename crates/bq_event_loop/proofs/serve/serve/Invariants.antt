@@ -3,7 +3,7 @@ use Rattle.bq_job.specs.declared.step.Step.{Step}
 use Rattle.bq_driver.specs.Tending.{door_seen}
 use Rattle.bq_event_loop.specs.ControlTold.{TellsOn}
 use Rattle.bq_event_loop.specs.LoopCores.{state_of}
-use Rattle.bq_event_loop.specs.LoopStates.{IsInOrder}
+use Rattle.bq_host.specs.MailStates.{IsInOrder}
 use Rattle.bq_event_loop.specs.Rows.{AreTended}
 use Rattle.bq_event_loop.specs.Serving.{ServesOn}
 use Rattle.bq_event_loop.proofs.serve.serve.Given as goal

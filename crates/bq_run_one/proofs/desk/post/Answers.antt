@@ -2,7 +2,7 @@ use Rattle.std.proofs.Common.{◌≡◌, ℕ, List, [], ◌∷◌, ◌++◌, ◌
 use Rattle.std.specs.Prelude.{slice_index_or}
 use Rattle.bq_job.specs.declared.answer.Answer.{Answer}
 use Rattle.bq_job.specs.promise.Runs.{answers_to}
-use Rattle.bq_run_one.proofs.MailLemmas.{posted_at, still_at}
+use Rattle.bq_host.proofs.MailLemmas.{posted_at, still_at}
 use Rattle.bq_run_one.proofs.desk.post.Goals as goal
 
 -- by the result for the answer

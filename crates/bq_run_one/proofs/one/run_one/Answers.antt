@@ -3,13 +3,13 @@ use Rattle.bq_job.specs.declared.settings.Settings.{Settings}
 use Rattle.bq_job.specs.machine.Machine.{Machine}
 use Rattle.bq_job.specs.promise.Headline.{IsHistoryOfLine}
 use Rattle.bq_run_one.specs.DeskOf.{state_of}
-use Rattle.bq_run_one.specs.DeskState.{IsNewDesk}
+use Rattle.bq_host.specs.MailStates.{IsNewMailState}
 use Rattle.bq_run_one.proofs.one.run_one.Goals as goal
 
 pub serve_line-requires-clause-desk : goal.serve_line-requires-clause-desk
 serve_line-requires-clause-desk g c =
     let made = c.in_ok-desk.ensures.made in
-    subst (λ (s : Settings). IsNewDesk s (state_of c.in_ok-desk.desk)) (sym (ap (λ (m : Machine). m.settings) made.core)) made
+    subst (λ (s : Settings). IsNewMailState s (state_of c.in_ok-desk.desk)) (sym (ap (λ (m : Machine). m.settings) made.core)) made
 
 pub serve_line-requires-clause-lone : goal.serve_line-requires-clause-lone
 serve_line-requires-clause-lone g c =

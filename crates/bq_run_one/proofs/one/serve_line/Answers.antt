@@ -2,7 +2,8 @@ use Rattle.std.proofs.Common.{[], ◌++◌, ◌∙◌, ap, sym, subst, arith}
 use Rattle.bq_seat.specs.declared.machine.Action.{Action}
 use Rattle.bq_seat.specs.declared.machine.Action.TheVariants as actions
 use Rattle.bq_run_one.specs.DeskOf.{state_of}
-use Rattle.bq_run_one.proofs.AloneLemmas.{IsServingAlone, begins_alone, goes_on_alone, mails_of_new, new_mails_are, over_alone}
+use Rattle.bq_host.proofs.WentLemmas.{new_mails_are, order_new}
+use Rattle.bq_run_one.proofs.AloneLemmas.{IsServingAlone, begins_alone, goes_on_alone, over_alone}
 use Rattle.bq_driver.proofs.SeatLemmas.{opened_on}
 use Rattle.bq_job.proofs.JoinLemmas.{line_joined}
 use Rattle.bq_run_one.proofs.one.serve_line.Goals as goal
@@ -24,14 +25,14 @@ loop-init g c =
             (g.L.Line.seen c.args.line) c.requires.awaits c.requires.limit c.on-action.ensures c.requires.new),
       );
       stays = λ first over. over;
-      mails = mails_of_new settings (state_of desk) made;
+      order = order_new settings (state_of desk) made;
       within = omega (arith, many, seats);
     }
 
 pub act-progress-requires : goal.act-progress-requires
 act-progress-requires g c =
     record {
-      mails = c.loop.invariant.mails;
+      order = c.loop.invariant.order;
       within = c.loop.invariant.within;
     }
 
@@ -52,7 +53,7 @@ loop-preserved g c =
             c.act-progress.new.sent h.0 h.1 i.2 w.2 h.3.2,
       );
       stays = λ first over. c.act-progress.ensures.stays first (c.loop.invariant.stays first over);
-      mails = c.act-progress.ensures.mails;
+      order = c.act-progress.ensures.order;
       within = omega (arith, w.2.went.many, c.loop.invariant.within);
     }
 

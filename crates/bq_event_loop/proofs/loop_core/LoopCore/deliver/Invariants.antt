@@ -1,6 +1,6 @@
 use Rattle.std.proofs.Common.{◌≡◌, length}
 use Rattle.bq_event_loop.specs.LoopCores.{state_of}
-use Rattle.bq_event_loop.specs.LoopStates.{IsSorted}
+use Rattle.bq_host.specs.MailStates.{IsSorted}
 use Rattle.bq_event_loop.proofs.loop_core.LoopCore.deliver.Given as goal
 
 abbrev pub invariant-loop-seat : goal.invariant-loop-seat

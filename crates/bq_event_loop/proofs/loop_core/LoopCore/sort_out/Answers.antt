@@ -1,5 +1,5 @@
 use Rattle.bq_event_loop.specs.LoopCores.{state_of}
-use Rattle.bq_event_loop.proofs.LoopCoreLemmas.{order_sorted}
+use Rattle.bq_host.proofs.WentLemmas.{order_sorted}
 use Rattle.bq_event_loop.proofs.loop_core.LoopCore.sort_out.Goals as goal
 
 pub returns-clause-order : goal.returns-clause-order

@@ -1,7 +1,7 @@
 use Rattle.std.proofs.Common.{[], refl, arith}
 use Rattle.bq_event_loop.specs.LoopCores.{state_of}
-use Rattle.bq_event_loop.proofs.LoopCoreLemmas.{gave_none}
-use Rattle.bq_event_loop.proofs.MailLemmas.{seat_takes}
+use Rattle.bq_host.proofs.WentLemmas.{gave_none}
+use Rattle.bq_host.proofs.MailLemmas.{seat_takes}
 use Rattle.bq_event_loop.proofs.loop_core.LoopCore.take_mail.Goals as goal
 
 pub returns-clause-went : goal.returns-clause-went

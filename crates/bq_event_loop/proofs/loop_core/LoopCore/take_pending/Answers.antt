@@ -3,8 +3,9 @@ use Rattle.std.specs.Option.{option_to_list}
 use Rattle.bq_job.specs.machine.Dispatch.{GivenAnswer}
 use Rattle.bq_line.specs.GivenReadings.{GaveReadings}
 use Rattle.bq_event_loop.specs.LoopCores.{WentAt, state_of}
-use Rattle.bq_event_loop.proofs.LoopCoreLemmas.{gave_none, went_still, went_then}
-use Rattle.bq_event_loop.proofs.MailLemmas.{seat_takes_pending}
+use Rattle.bq_host.proofs.WentLemmas.{gave_none}
+use Rattle.bq_event_loop.proofs.LoopCoreLemmas.{went_still, went_then}
+use Rattle.bq_host.proofs.MailLemmas.{seat_takes_pending}
 use Rattle.bq_event_loop.proofs.loop_core.LoopCore.take_pending.Goals as goal
 
 pub returns-in_default-clause-went : goal.returns-in_default-clause-went

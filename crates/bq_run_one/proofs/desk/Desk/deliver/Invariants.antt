@@ -1,6 +1,6 @@
 use Rattle.std.proofs.Common.{◌≡◌, length}
 use Rattle.bq_run_one.specs.DeskOf.{state_of}
-use Rattle.bq_run_one.specs.DeskState.{IsSorted}
+use Rattle.bq_host.specs.MailStates.{IsSorted}
 use Rattle.bq_run_one.proofs.desk.Desk.deliver.Given as goal
 
 abbrev pub invariant-loop-seat : goal.invariant-loop-seat

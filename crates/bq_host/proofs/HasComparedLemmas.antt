@@ -1,4 +1,4 @@
--- How the count of a core's comparisons grows.
+-- How the count of a core's comparisons grows with what happens at its mail.
 use Rattle.std.proofs.Common.{◌≡◌, ℕ, Bool, true, false, List, [], ◌∷◌, ◌++◌, Option, refl, sym, ap, ◌∙◌, subst, append-nil, append_assoc}
 use Rattle.bq_job.specs.declared.step.Step.{Step}
 use Rattle.bq_job.specs.machine.Dispatch.{GivenAnswer}
@@ -8,11 +8,10 @@ use Rattle.bq_job.specs.promise.Runs.{Entry}
 use Rattle.bq_steps.specs.Cost.{IsLookWithin, IsStepWithin}
 use Rattle.bq_host.specs.Compared.{AreCompared, AreWithin, LooksOnce}
 use Rattle.bq_host.proofs.ComparedLemmas.{looked_within, within_on}
-use Rattle.bq_event_loop.specs.LoopStates.{LoopState}
-use Rattle.bq_event_loop.specs.LoopWent.{HasCompared}
+use Rattle.bq_host.specs.{MailStates.MailState, Went.HasCompared}
 
 -- After the steps so far, the core took one more.
-pub compared_step : (d n : LoopState) (at seat : ℕ) (what : Step) (outcome : Outcome) (given : List GivenAnswer)
+pub compared_step : (d n : MailState) (at seat : ℕ) (what : Step) (outcome : Outcome) (given : List GivenAnswer)
     → IsStepWithin d.core at seat what outcome given n.core d.compared n.compared → n.known ≡ false
     → (start : Machine) (before : List Entry) (gave : List GivenAnswer) (from : ℕ) → HasCompared start before gave from d
     → HasCompared start (before ++ record { moment = at; seat = seat; what = what } ∷ []) (gave ++ given) from n
@@ -24,14 +23,14 @@ compared_step d n at seat what outcome given step unknown start before gave from
 )
 
 -- no step was taken
-none_more : (start : Machine) (before : List Entry) (gave : List GivenAnswer) (from : ℕ) (d : LoopState)
+none_more : (start : Machine) (before : List Entry) (gave : List GivenAnswer) (from : ℕ) (d : MailState)
     → HasCompared start before gave from d → HasCompared start (before ++ []) (gave ++ []) from d
 none_more start before gave from d h =
     subst (λ (xs : List Entry). HasCompared start xs (gave ++ []) from d) (sym (append-nil before))
     (subst (λ (xs : List GivenAnswer). HasCompared start before xs from d) (sym (append-nil gave)) h)
 
 -- The core was not used.
-pub compared_still : (d n : LoopState) → n.core ≡ d.core → n.known ≡ d.known → n.compared ≡ d.compared
+pub compared_still : (d n : MailState) → n.core ≡ d.core → n.known ≡ d.known → n.compared ≡ d.compared
     → (start : Machine) (before : List Entry) (gave : List GivenAnswer) (from : ℕ) → HasCompared start before gave from d
     → HasCompared start (before ++ []) (gave ++ []) from n
 compared_still d n core known compared start before gave from h = none_more start before gave from n (
@@ -43,7 +42,7 @@ compared_still d n core known compared start before gave from h = none_more star
 )
 
 -- It was asked for the next due moment, if that was not known.
-pub compared_looked : (d n : LoopState) → n.known ≡ true → n.core ≡ d.core
+pub compared_looked : (d n : MailState) → n.known ≡ true → n.core ≡ d.core
     → ((count : ℕ) → LooksOnce d.known d.core count d.compared → IsLookWithin d.core count n.compared)
     → (start : Machine) (before : List Entry) (gave : List GivenAnswer) (from : ℕ) → HasCompared start before gave from d
     → HasCompared start (before ++ []) (gave ++ []) from n
@@ -55,7 +54,7 @@ compared_looked d n known core once start before gave from h = none_more start b
 )
 
 -- One part of a history after another.
-pub compared_on : (first next last : LoopState) (history more : List Entry) (given later : List GivenAnswer)
+pub compared_on : (first next last : MailState) (history more : List Entry) (given later : List GivenAnswer)
     → ((start : Machine) (before : List Entry) (gave : List GivenAnswer) (from : ℕ) → HasCompared start before gave from first
     → HasCompared start (before ++ history) (gave ++ given) from next)
     → ((start : Machine) (before : List Entry) (gave : List GivenAnswer) (from : ℕ) → HasCompared start before gave from next
@@ -68,7 +67,7 @@ compared_on first next last history more given later a b start before gave from 
     (b start (before ++ history) (gave ++ given) from (a start before gave from h)))
 
 -- From a core that has compared nothing.
-pub compared_all : (first last : LoopState) (history : List Entry) (given : List GivenAnswer) → first.known ≡ false → first.compared ≡ 0
+pub compared_all : (first last : MailState) (history : List Entry) (given : List GivenAnswer) → first.known ≡ false → first.compared ≡ 0
     → ((start : Machine) (before : List Entry) (gave : List GivenAnswer) (from : ℕ) → HasCompared start before gave from first
     → HasCompared start (before ++ history) (gave ++ given) from last)
     → AreCompared first.core history given last.core 0 last.compared

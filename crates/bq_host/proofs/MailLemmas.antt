@@ -8,9 +8,8 @@ use Rattle.bq_job.specs.declared.answer.Answer.{Answer}
 use Rattle.bq_job.specs.machine.Dispatch.{GivenAnswer}
 use Rattle.bq_job.specs.promise.Runs.{Run, answers_to}
 use Rattle.bq_job.proofs.RunLemmas.{run_none}
-use Rattle.bq_event_loop.specs.LoopStates.{LoopState, waiting}
-use Rattle.bq_event_loop.specs.LoopWent.{SeatWent}
-use Rattle.bq_event_loop.proofs.ComparedLemmas.{compared_still}
+use Rattle.bq_host.specs.{MailStates.{MailState, waiting}, Went.SeatWent}
+use Rattle.bq_host.proofs.HasComparedLemmas.{compared_still}
 
 not_equal : (a b : ℕ) → a ≢ b → (a == b) ≡ false
 not_equal a b h = elim (cases_Bool (a == b)) [ inl e ↦ absurd (h (eqb-true a b e)) | inr e ↦ e ]
@@ -41,7 +40,7 @@ still_at items i old new below at is =
     ap (λ (x : List Answer). slice_set items i x) (is ∙ at) ∙ set-get_or items i old
 
 -- the seat took its oldest answer
-pub seat_takes : (d n : LoopState) (seat i : ℕ) (old rest taken : List Answer) → i ≡ seat → i < length d.mails
+pub seat_takes : (d n : MailState) (seat i : ℕ) (old rest taken : List Answer) → i ≡ seat → i < length d.mails
     → old ≡ slice_index_or d.mails i old → old ≡ taken ++ rest
     → n.core ≡ d.core → n.known ≡ d.known → n.compared ≡ d.compared → n.heard ≡ d.heard → n.pending ≡ d.pending
     → n.mails ≡ slice_set d.mails i rest → SeatWent seat d [] [] taken n
@@ -91,7 +90,7 @@ seat_takes d n seat i old rest taken same below at is core known compared heard 
     ]
 
 -- A seat whose mail is empty took the oldest pending answer, which was its own.
-pub seat_takes_pending : (d n : LoopState) (seat : ℕ) (answer : Answer) → slice_index_or d.mails seat [] ≡ []
+pub seat_takes_pending : (d n : MailState) (seat : ℕ) (answer : Answer) → slice_index_or d.mails seat [] ≡ []
     → d.pending ≡ (seat, answer) ∷ n.pending
     → n.core ≡ d.core → n.known ≡ d.known → n.compared ≡ d.compared → n.heard ≡ d.heard → n.mails ≡ d.mails
     → SeatWent seat d [] [] (answer ∷ []) n

@@ -1,17 +1,20 @@
--- The state of a loop's core without its clock.
-use Rattle.std.specs.Prelude.{ℕ, ◌≡◌, ◌<◌, ◌≤◌, Bool, true, false, List, [], ◌∷◌, ◌++◌, Option, length, replicate, slice_index_or}
+-- The state of a core with its clock, and the answers that no seat has taken yet.
+use Rattle.std.specs.Prelude.{ℕ, ◌≡◌, ◌<◌, Bool, true, false, List, [], ◌++◌, Option, length, replicate, slice_index_or}
+use Rattle.std.specs.Option.{option_to_list}
 use Rattle.bq_job.specs.beside.NextDue.{next_due}
 use Rattle.bq_job.specs.declared.answer.Answer.{Answer}
 use Rattle.bq_job.specs.declared.settings.Settings.{Settings}
 use Rattle.bq_job.specs.machine.Dispatch.{GivenAnswer}
 use Rattle.bq_job.specs.machine.Machine.{Machine, new_machine}
 use Rattle.bq_job.specs.promise.Runs.{answers_to}
+use Rattle.bq_host.specs.declared.timed_core.TimedCore.{TimedCore}
 
-pub record LoopState : Type 0 where
+pub record MailState : Type 0 where
   pub core : Machine
   -- the mail of each seat, and the answers that are not in it yet
   pub mails : List (List Answer)
   pub pending : List GivenAnswer
+  -- true if it is known that all answers are in the mail
   pub sorted : Bool
   -- the latest moment of the clock
   pub heard : ℕ
@@ -22,12 +25,27 @@ pub record LoopState : Type 0 where
   pub due : Option ℕ
   pub compared : ℕ
 
+-- of a core with its clock, an answer that is held back, and the mail of each seat
+abbrev pub mail_state : {C K : Type 0} → (K → Machine) → (K → ℕ) → TimedCore C K → Option GivenAnswer → List (List Answer) → Bool
+    → MailState
+mail_state machine compared timed held mails sorted = record {
+  core = machine timed.core;
+  mails = mails;
+  pending = option_to_list held ++ timed.outs.given;
+  sorted = sorted;
+  heard = timed.time.moment;
+  most = timed.outs.most;
+  known = timed.is_due_known;
+  due = timed.due;
+  compared = compared timed.core;
+}
+
 -- the answers that wait for a seat
-abbrev pub waiting : ℕ → LoopState → List Answer
+abbrev pub waiting : ℕ → MailState → List Answer
 waiting seat d = slice_index_or d.mails seat [] ++ answers_to seat d.pending
 
--- A new core of a loop.
-pub record IsNewLoopCore (settings : Settings) (d : LoopState) : Type 0 where
+-- a new core, with no answers
+pub record IsNewMailState (settings : Settings) (d : MailState) : Type 0 where
   pub core : d.core ≡ new_machine settings
   pub mails : d.mails ≡ replicate settings.seats []
   pub pending : d.pending ≡ []
@@ -38,14 +56,14 @@ pub record IsNewLoopCore (settings : Settings) (d : LoopState) : Type 0 where
 
 -- Each seat has its mail, there is room for the answers of a step, and the marks about answers and
 -- the next due moment are right.
-pub record IsInOrder (d : LoopState) : Type 0 where
+pub record IsInOrder (d : MailState) : Type 0 where
   pub many : length d.mails ≡ d.core.settings.seats
   pub room : d.core.settings.seats < d.most
   pub none_pending : d.sorted ≡ true → d.pending ≡ []
   pub due_is : d.known ≡ true → d.due ≡ next_due d.core
 
--- Answers moved from one place of a loop's core to another, which makes no difference to any seat.
-pub record IsSorted (first last : LoopState) : Type 0 where
+-- Answers moved from one place to another, which makes no difference to any seat.
+pub record IsSorted (first last : MailState) : Type 0 where
   pub core : last.core ≡ first.core
   pub heard : last.heard ≡ first.heard
   pub most : last.most ≡ first.most

@@ -1,4 +1,5 @@
--- What happened at the core of a loop: the core took steps, and answers were taken out.
+-- What happened at a core with its clock and the mail of its seats: the core took steps, and answers
+-- were taken out.
 use Rattle.std.specs.Prelude.{ℕ, ◌≡◌, ◌≢◌, ◌<◌, List, [], ◌++◌, length, Option}
 use Rattle.bq_job.specs.declared.answer.Answer.{Answer}
 use Rattle.bq_job.specs.declared.step.Step.{Step}
@@ -6,19 +7,21 @@ use Rattle.bq_job.specs.machine.Dispatch.{GivenAnswer}
 use Rattle.bq_job.specs.machine.Machine.{Machine}
 use Rattle.bq_job.specs.promise.History.{IsTimedFrom, steps_at}
 use Rattle.bq_job.specs.promise.Runs.{Entry, Run, answers_to}
+use Rattle.bq_line.specs.GivenReadings.{GaveReadings}
+use Rattle.bq_host.specs.Clocks.{Gives}
 use Rattle.bq_host.specs.Compared.{AreWithin, LooksOnce}
-use Rattle.bq_event_loop.specs.LoopStates.{LoopState, waiting}
+use Rattle.bq_host.specs.MailStates.{MailState, waiting}
 
 -- Along this history, counted from this many comparisons on, the core stayed within the bounds of
 -- its steps, and was asked for the next due moment at most once since the last step.
-abbrev pub HasCompared : Machine → List Entry → List GivenAnswer → ℕ → LoopState → Type 0
+abbrev pub HasCompared : Machine → List Entry → List GivenAnswer → ℕ → MailState → Type 0
 HasCompared start history given from d = (count : ℕ) × AreWithin start history given d.core from count
     × LooksOnce d.known d.core count d.compared
 
 -- The core took the steps of this history at moments of these readings, within its bounds of comparisons, and at each seat these
 -- answers were taken out.
-pub record LoopWent (first : LoopState) (readings : List (Option ℕ)) (history : List Entry)
-    (taken : ℕ → List Answer) (last : LoopState) : Type 0 where
+pub record CoreWent (first : MailState) (readings : List (Option ℕ)) (history : List Entry)
+    (taken : ℕ → List Answer) (last : MailState) : Type 0 where
   pub given : List GivenAnswer
   pub runs : Run first.core history given last.core
   pub timed : IsTimedFrom first.heard readings history last.heard
@@ -28,12 +31,17 @@ pub record LoopWent (first : LoopState) (readings : List (Option ℕ)) (history 
       → HasCompared start (before ++ history) (gave ++ given) from last
 
 -- The same as one seat sees it: it alone submitted these steps and took these answers.
-pub record SeatWent (seat : ℕ) (first : LoopState) (readings : List (Option ℕ))
-    (submitted : List Step) (taken : List Answer) (last : LoopState) : Type 0 where
+pub record SeatWent (seat : ℕ) (first : MailState) (readings : List (Option ℕ))
+    (submitted : List Step) (taken : List Answer) (last : MailState) : Type 0 where
   pub history : List Entry
   pub took : ℕ → List Answer
-  pub went : LoopWent first readings history took last
+  pub went : CoreWent first readings history took last
   pub submitted_is : steps_at seat history ≡ submitted
   pub taken_is : took seat ≡ taken
   pub others_still : (other : ℕ) → other ≢ seat → steps_at other history ≡ []
   pub others_took : (other : ℕ) → other ≢ seat → took other ≡ []
+
+-- The same with a clock, which gave the readings.
+abbrev pub SeatWentBy : {C : Type 0} → Gives C → ℕ → C → MailState → List Step → List Answer → C → MailState → Type 0
+SeatWentBy given seat clock first submitted taken later last =
+    (readings : List (Option ℕ)) × GaveReadings given clock readings later × SeatWent seat first readings submitted taken last
