@@ -18,4 +18,3 @@ mod row;
 mod run;
 mod serve;
 mod turns;
-mod woken;

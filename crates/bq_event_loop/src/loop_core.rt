@@ -4,13 +4,13 @@ ghost use Rattle.std.specs.Prelude.{◌↔◌, ◌&&◌, not, IfErr, IfOk, IfSom
 ghost use Rattle.std.specs.Option.{option_to_list};
 ghost use Rattle.bq_job.specs.promise.Runs.{answers_to};
 
-use crate::woken::Woken;
 use bq_host::{Mail, RunFault, TimedCore, new_mails};
-use bq_job::{Answer, Seat, Step};
+use bq_job::{Answer, NoMemory, Seat, Step};
 use bq_line::clock::Clock;
 use bq_seat::Action;
 use bq_steps::{Config, QueueCore};
 use std::alloc::Global;
+use std::collections::VecDeque;
 
 /// The core with its clock, and the answers that no seat has taken yet. An answer to the seat that
 /// submitted the last step is taken from where the core put it. All other answers go through the
@@ -388,5 +388,47 @@ fn post(
     match mails.get_mut(usize::from(seat)) {
         Some(mail) => mail.put(answer),
         None => Ok(()),
+    }
+}
+
+/// The seats that have mail and were not woken for it yet: a queue of seats, each at most once.
+#[derive(Drop)]
+pub struct Woken {
+    seats: VecDeque<Seat, Global>,
+    marks: Vec<bool, Global>,
+}
+
+impl Woken {
+    /// Allocates room for this many seats.
+    pub fn new(alloc: Global, seats: u16) -> Result<Woken, NoMemory> {
+        let Ok(queue) = VecDeque::with_capacity(alloc, usize::from(seats)) else {
+            return Err(NoMemory);
+        };
+        let Ok(marks) = Vec::from_elem(alloc, false, usize::from(seats)) else {
+            return Err(NoMemory);
+        };
+        Ok(Woken {
+            seats: queue,
+            marks,
+        })
+    }
+
+    /// Adds a seat, unless it is in the queue.
+    pub fn add(&mut self, seat: Seat) {
+        if let Some(mark) = self.marks.get_mut(usize::from(seat)) {
+            if !*mark {
+                *mark = true;
+                let _fits = self.seats.push_back(seat);
+            }
+        }
+    }
+
+    /// Removes and returns the first seat.
+    pub fn take_first(&mut self) -> Option<Seat> {
+        let seat = self.seats.pop_front()?;
+        if let Some(mark) = self.marks.get_mut(usize::from(seat)) {
+            *mark = false;
+        }
+        Some(seat)
     }
 }
