@@ -2,6 +2,7 @@
 //! where something may be found, so that only that place is searched.
 ghost use Rattle.std.specs.Option.{option_copied};
 ghost use Rattle.std.specs.Prelude.{◌≡◌};
+ghost use Rattle.bq_state.specs.Dues.{earlier_of_both, is_end_over};
 ghost use Rattle.bq_state.specs.Knowledge.{nothing_known, with_forgotten, with_job};
 ghost use Rattle.bq_state.specs.Knowledge.{with_joined, with_left, with_moved, with_removal};
 ghost use Rattle.bq_state.specs.Knowledge.{with_tube_changed};
@@ -13,7 +14,6 @@ use bq_jobs::{Moved, Removed};
 pub use clients::Clients;
 pub use first_timeout::{FirstTimeout, first_to_give_up};
 pub use maybe_gone::MaybeGone;
-pub use moments::{earlier_of, is_over};
 pub use tally::Tally;
 pub use wanted::Wanted;
 pub use warns::Warns;
@@ -21,7 +21,6 @@ pub use warns::Warns;
 mod clients;
 mod first_timeout;
 mod maybe_gone;
-mod moments;
 mod tally;
 mod wanted;
 mod warns;
@@ -132,5 +131,26 @@ impl Known {
     {
         self.maybe_gone = MaybeGone::Nothing;
         self.pause_end = tubes.pause_end_left(entries, self.pause_end);
+    }
+}
+
+/// Returns the earlier of two moments, if there is one.
+pub fn earlier_of(a: Option<Moment>, b: Option<Moment>) -> Option<Moment>
+    ensures { result ≡ earlier_of_both a b }
+{
+    match (a, b) {
+        (None, other) => other,
+        (Some(due), None) => Some(due),
+        (Some(due), Some(other)) => Some(due.min(other)),
+    }
+}
+
+/// Returns true if there is a moment and it has come.
+pub fn is_over(end: Option<Moment>, moment: Moment) -> bool
+    ensures { result ≡ is_end_over moment end }
+{
+    match end {
+        None => false,
+        Some(end) => end <= moment,
     }
 }

@@ -6,7 +6,7 @@ ghost use Rattle.bq_state.specs.FirstTimeouts.{AreTimeouts, timeout_after, keeps
 ghost use Rattle.bq_state.specs.SeatTurns.{AreTurnsOf};
 ghost use Rattle.bq_state.specs.WaitingTurns.{at_turn};
 
-use crate::known::moments::earlier_of;
+use crate::known::earlier_of;
 use crate::seats::{self, SeatChange, SeatRecord, Turn};
 use bq_job::Moment;
 
