@@ -1,5 +1,5 @@
 //! The work of a seat's thread at its end of the links. The control line works in the same way.
-ghost use Rattle.std.specs.Prelude.{◌≡◌, [], List, false, true};
+ghost use Rattle.std.specs.Prelude.{◌≡◌, ◌<◌, [], List, false, length, true};
 ghost use Rattle.bq_seat.specs.Past.{Awaited};
 ghost use Rattle.bq_seat.specs.SeatStands.{awaited};
 ghost use Rattle.bq_driver.specs.Tending.{IsDoorServed, IsNewDoor, door_seen, GoesOn, IsPlaced, MayEndAt};
@@ -322,7 +322,8 @@ fn look_often(end: &mut SeatEnd, looks: u32, place: &mut Action) -> bool
     ensures { Looks end.old place.old result place.new end.new }
 {
     for _ in 1..looks {
-        if look(end, place) {
+        if end.has_mail() {
+            take_mail_to(end, place);
             return true;
         }
         spin_loop();
@@ -337,8 +338,18 @@ fn look(end: &mut SeatEnd, place: &mut Action) -> bool
     if !end.has_mail() {
         return false;
     }
-    *place = Action::Write(end.take_mail());
+    take_mail_to(end, place);
     true
+}
+
+// Takes the oldest answer, which is known to wait, as an action that writes it. Not inlined, because
+// it reserves and initializes room for answers, which a poll that finds none does not need.
+#[inline(never)]
+fn take_mail_to(end: &mut SeatEnd, place: &mut Action)
+    requires { 0 < length end.old.waiting }
+    ensures { TakesInPlace EndWent end.old place.old true place.new end.new }
+{
+    *place = Action::Write(end.take_mail());
 }
 
 /// Does one action of a seat that attends to a door, at its end of the links. Returns what moved or
