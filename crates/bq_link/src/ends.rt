@@ -224,6 +224,61 @@ impl SeatEnd {
         }
     }
 
+    /// The same for a step passed by reference, so that it is copied less often. Returns true if it
+    /// was submitted; `step` then has no meaning. Otherwise `step` is unchanged.
+    pub fn submit_in_place<J: Record, R: Wait>(
+        &mut self,
+        rt: &R,
+        intake: &Intake<J>,
+        step: &mut Step,
+    ) -> bool
+        requires intake { self.old.intake ≡ intake.now.id }
+        requires may { MaySubmit J.was intake.now.places self.old.number step.old }
+        ensures submitted { result ≡ true
+            → self.new ≡ record self.old { submitted = self.old.submitted ++ step.old ∷ [] } }
+        ensures unchanged { result ≡ false → (self.new ≡ self.old) × (step.new ≡ step.old) }
+        ensures full { result ≡ false → WasFull J.was intake.now.places self.old }
+    {
+        let given = mem::replace(step, Step::Tick);
+        match intake
+            .queue
+            .try_push_as::<Submits<J>>(&mut self.pass, (self.number, given))
+        {
+            Ok(()) => {
+                intake.core.unpark();
+                true
+            }
+            Err((_, back)) => self.submit_again(rt, intake, step, back),
+        }
+    }
+
+    // The same after one attempt failed: the intake is full, or another thread is in the way. It
+    // tries until it is clear which. Not inlined, because it reserves and initializes room for
+    // steps.
+    #[inline(never)]
+    fn submit_again<J: Record, R: Wait>(
+        &mut self,
+        rt: &R,
+        intake: &Intake<J>,
+        place: &mut Step,
+        step: Step,
+    ) -> bool
+        requires intake { self.old.intake ≡ intake.now.id }
+        requires may { MaySubmit J.was intake.now.places self.old.number step }
+        ensures submitted { result ≡ true
+            → self.new ≡ record self.old { submitted = self.old.submitted ++ step ∷ [] } }
+        ensures unchanged { result ≡ false → (self.new ≡ self.old) × (place.new ≡ step) }
+        ensures full { result ≡ false → WasFull J.was intake.now.places self.old }
+    {
+        match self.submit(rt, intake, step) {
+            Ok(()) => true,
+            Err(back) => {
+                *place = back;
+                false
+            }
+        }
+    }
+
     /// Returns true if an answer waits, which `take_mail` can then take.
     pub fn has_mail(&mut self) -> bool
         ensures some { result ≡ true → 0 < length self.new.waiting }

@@ -27,8 +27,8 @@ use bq_seat::{Action, SeatMachine};
 use std::alloc::Global;
 use std::hint::spin_loop;
 use std::sync::Wait;
+use std::thread;
 use std::time::Duration;
-use std::{mem, thread};
 
 /// How long a seat sleeps, in milliseconds, when its line had no bytes or no room and the call did
 /// not wait for any.
@@ -255,13 +255,7 @@ fn submit_at<R: Wait, J: Record>(
     if matches!(step, Step::Tick) {
         return true;
     }
-    match end.submit(rt, intake, mem::replace(step, Step::Tick)) {
-        Ok(()) => true,
-        Err(back) => {
-            *step = back;
-            false
-        }
-    }
+    end.submit_in_place(rt, intake, step)
 }
 
 // Takes the oldest answer that arrived at an end, as an action that writes it. The end sleeps as
