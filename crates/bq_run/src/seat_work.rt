@@ -272,12 +272,16 @@ fn mail_at<R: Wait>(
     let now = *pace;
     *pace = now.after_look();
     sleep_or_yield(rt, intake, end, now.rest);
-    if look_often(end, now.looks, place) {
+    if look(end, place) {
         pace.is_prompt = !now.rests();
         return true;
     }
     if now.rests() {
         return false;
+    }
+    if look_after_yield(intake, end, now.looks, place) {
+        pace.is_prompt = true;
+        return true;
     }
     look_again(rt, intake, end, now.sleeps, place)
 }
@@ -293,6 +297,23 @@ fn sleep_or_yield<R: Wait>(rt: &R, intake: &Intake<NoTicks>, end: &mut SeatEnd, 
     } else if !intake.are_yields_slow() {
         thread::yield_now();
     }
+}
+
+// Polls up to this many times after a second yield. If many threads share the processor, the first
+// one may end before the core's thread had its turn. To poll there is of no use, and to sleep and be
+// woken costs more than to yield.
+fn look_after_yield(
+    intake: &Intake<NoTicks>,
+    end: &mut SeatEnd,
+    looks: u32,
+    place: &mut Action,
+) -> bool
+    ensures { Looks end.old place.old result place.new end.new }
+{
+    if !intake.are_yields_slow() {
+        thread::yield_now();
+    }
+    look_often(end, looks, place)
 }
 
 // Polls once more, after a sleep if `sleeps` is true. An answer that was found without a sleep
