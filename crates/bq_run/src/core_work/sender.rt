@@ -94,8 +94,9 @@ impl Sender {
     }
 
     // Sends an answer and wakes its end, or keeps it after the others. An answer for a seat that
-    // does not exist is dropped. The check comes before the move, so that an answer is moved only
-    // once.
+    // does not exist is dropped. The check comes before the move, and the function is inlined, so
+    // that an answer is moved only once.
+    #[inline(always)]
     fn send_or_keep(&mut self, intake: &Intake<NoTicks>, seat: Seat, answer: Answer)
         requires places { HasPlaces self.old }
         requires room { length self.old.kept.items < self.old.ends }
