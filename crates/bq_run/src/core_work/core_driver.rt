@@ -168,11 +168,25 @@ impl<C: Clock + Drop, K: QueueCore + Drop> CoreDriver<C, K> {
         ensures took { result ≤ self.new.timed.time.moment - self.old.timed.time.moment }
         ensures rest { self.new ≡ record self.old { timed = record self.old.timed { time = self.new.timed.time } } }
     {
-        self.hear();
+        self.hear_start();
         let start = self.timed.time.moment;
         thread::yield_now();
         self.hear();
         self.timed.time.moment.saturating_sub(start)
+    }
+
+    // Reads the clock before a yield. It does not if the core took a step since it was asked what is
+    // due, because the clock was just read for that step.
+    #[tactic(auto, using(crate::proofs::TurnLemmas::on_still))]
+    fn hear_start(&mut self)
+        requires order { IsInOrder K.machine self.old }
+        ensures on { WorksOn C.given K.machine K.comparisons self.old self.new }
+        ensures moment { self.old.timed.time.moment ≤ self.new.timed.time.moment }
+        ensures rest { self.new ≡ record self.old { timed = record self.old.timed { time = self.new.timed.time } } }
+    {
+        if self.timed.is_due_known {
+            self.hear();
+        }
     }
 
     // Reads the clock once.
