@@ -1,19 +1,14 @@
 -- What happens at the core of a loop, step by step.
 use Rattle.std.proofs.Common.{◌≡◌, ℕ, Bool, true, false, true≢false, not, List, [], ◌∷◌, ◌++◌}
 use Rattle.std.proofs.Common.{Option, length, refl, sym, ap, ◌∙◌, subst, inl, inr}
-use Rattle.std.specs.Prelude.{if◌then◌else◌}
 use Rattle.std.specs.Option.{option_to_list}
 use Rattle.bq_job.specs.declared.answer.Answer.{Answer}
 use Rattle.bq_job.specs.declared.step.Step.{Step}
 use Rattle.bq_job.specs.machine.Dispatch.{GivenAnswer}
-use Rattle.bq_job.specs.promise.History.{is_tick}
 use Rattle.bq_job.specs.machine.Machine.{Machine}
 use Rattle.bq_job.specs.promise.Runs.{answers_to}
-use Rattle.bq_job.specs.declared.step.Step.TheVariants.{Tick}
-use Rattle.bq_steps.specs.Cost.{IsLookWithin, IsStepWithin}
 use Rattle.bq_steps.specs.Outbox.{Outbox}
-use Rattle.bq_host.specs.Timed.{HasLooked, IsReady, LooksAndSteps, PassesOver, TakesStep}
-use Rattle.bq_host.specs.declared.heard_clock.HeardClock.{HeardClock}
+use Rattle.bq_host.specs.Timed.{IsReady, PassesOver}
 use Rattle.bq_host.specs.declared.timed_core.TimedCore.{TimedCore}
 use Rattle.std.specs.Prelude.{slice_index_or}
 use Rattle.bq_driver.specs.Links.{TakesInPlace}
@@ -23,7 +18,7 @@ use Rattle.bq_line.specs.GivenReadings.{GaveReadings}
 use Rattle.bq_job.specs.declared.settings.Settings.{Settings}
 use Rattle.bq_host.specs.MailStates.{IsInOrder, IsSorted}
 use Rattle.bq_event_loop.specs.declared.loop_core.LoopCore.{LoopCore}
-use Rattle.bq_host.proofs.WentLemmas.{gave_none, gave_then, none_held, one_step, seat_heard, seat_looked, seat_none, seat_on, seat_sorted}
+use Rattle.bq_host.proofs.{TimedWentLemmas.{by_then}, WentLemmas.{gave_none, seat_none, seat_sorted}}
 
 -- The core of a loop is in order if its machine is ready and its marks about answers are right.
 pub order_ready : {C K : Type 0} (machine : K → Machine) (compared : K → ℕ) (first last : LoopCore C K) → IsReady machine last.timed
@@ -47,12 +42,8 @@ pub went_then : {C K : Type 0} (machine : K → Machine) (compared : K → ℕ) 
     → WentAt machine compared given other next more later last
     → WentAt machine compared given seat first (submitted ++ more) (taken ++ later) last
 went_then machine compared given seat other first next last submitted more taken later same a b =
-    let b' = subst (λ (n : ℕ). WentAt machine compared given n next more later last) same b in (
-      a.0 ++ b'.0,
-      gave_then given first.timed.time.clock next.timed.time.clock last.timed.time.clock a.0 b'.0 a.1 b'.1,
-      seat_on (state_of machine compared first) (state_of machine compared next)
-          (state_of machine compared last) seat a.0 b'.0 submitted more taken later a.2 b'.2,
-    )
+    by_then given seat other first.timed.time.clock next.timed.time.clock last.timed.time.clock (state_of machine compared first)
+    (state_of machine compared next) (state_of machine compared last) submitted more taken later same a b
 
 pub went_sorted : {C K : Type 0} (machine : K → Machine) (compared : K → ℕ) (given : C → List (Option ℕ) → C → Type 0) (seat : ℕ)
     (first last : LoopCore C K) → IsSorted (state_of machine compared first) (state_of machine compared last)
@@ -62,86 +53,6 @@ went_sorted machine compared given seat first last s same = (
   subst (λ c. GaveReadings given first.timed.time.clock [] c) (sym same) (gave_none given first.timed.time.clock),
   seat_sorted (state_of machine compared first) (state_of machine compared last) seat s,
 )
-
--- The core took a step.
-pub went_step : {C K : Type 0} (machine : K → Machine) (compared : K → ℕ) (given : C → List (Option ℕ) → C → Type 0) (seat : ℕ)
-    (what : Step) (first last : LoopCore C K)
-    → TakesStep given machine compared first.timed seat what last.timed → last.mails ≡ first.mails → last.held ≡ first.held
-    → (state_of machine compared first).pending ≡ []
-    → WentAt machine compared given seat first (if is_tick what then [] else what ∷ []) [] last
-went_step machine compared given seat what first last s mails held empty =
-    let old = first.timed in
-    let new = last.timed in
-    let timed = subst (λ (n : ℕ). IsStepWithin (machine old.core) n seat what s.outcome new.outs.given (machine new.core)
-    (compared old.core) (compared new.core)) s.time.heard s.step in
-    let none : option_to_list last.held ≡ [] =
-    ap (λ (xs : Option GivenAnswer). option_to_list xs) held ∙ none_held (option_to_list first.held) old.outs.given empty in (
-      s.reading ∷ [],
-      s.time.gave,
-      one_step (state_of machine compared first)
-          (state_of machine compared last) seat what s.reading s.outcome new.outs.given timed s.unknown s.time.heard
-          (ap (λ ms. ms.items) mails) empty (ap (λ (xs : List GivenAnswer). xs ++ new.outs.given) none),
-    )
-
--- The core was asked for the next due moment, if it was not known: this makes no difference to any
--- seat.
-went_looked : {C K : Type 0} (machine : K → Machine) (compared : K → ℕ) (given : C → List (Option ℕ) → C → Type 0) (seat : ℕ)
-    (first last : LoopCore C K) (looked : TimedCore C K)
-    → HasLooked machine compared first.timed looked → last.timed ≡ looked → last.mails ≡ first.mails → last.held ≡ first.held
-    → WentAt machine compared given seat first [] [] last
-went_looked machine compared given seat first last looked l e mails held =
-    let time = ap (λ (x : TimedCore _ _). x.time) e ∙ l.time in (
-      [],
-      subst (λ c. GaveReadings given first.timed.time.clock [] c) (sym (ap (λ (h : HeardClock _). h.clock) time))
-          (gave_none given first.timed.time.clock),
-      seat_looked (state_of machine compared first) (state_of machine compared last) seat
-          (ap (λ (x : TimedCore _ _). x.is_due_known) e ∙ l.known) (ap (λ (x : TimedCore _ _). machine x.core) e ∙ l.same)
-          (λ count k. subst (λ (n : ℕ). IsLookWithin (machine first.timed.core) count n)
-          (sym (ap (λ (x : TimedCore _ _). compared x.core) e)) (l.once count k)) (ap (λ ms. ms.items) mails)
-          (ap (λ (xs : Option GivenAnswer). option_to_list xs ++ last.timed.outs.given) held
-          ∙ ap (λ (x : TimedCore _ _). option_to_list first.held ++ x.outs.given) e
-          ∙ ap (λ (o : Outbox). option_to_list first.held ++ o.given) l.outs)
-          (ap (λ (h : HeardClock _). h.moment) time),
-    )
-
--- Time passed, and no step was taken.
-pub went_over : {C K : Type 0} (machine : K → Machine) (compared : K → ℕ) (given : C → List (Option ℕ) → C → Type 0) (seat : ℕ)
-    (first last : LoopCore C K)
-    → PassesOver given machine compared first.timed last.timed → last.mails ≡ first.mails → last.held ≡ first.held
-    → WentAt machine compared given seat first [] [] last
-went_over {C} {K} machine compared given seat first last (looked, l, rest) mails held = elim rest [
-  | inl e ↦ went_looked machine compared given seat first last looked l e mails held
-  | inr h ↦
-      let at : LoopCore C K = record last { timed = looked } in
-      let heard : WentAt machine compared given seat at [] [] last = (
-        h.0 ∷ [],
-        h.1.gave,
-        seat_heard (state_of machine compared at) (state_of machine compared last) seat h.0 (ap (λ (x : TimedCore C K). machine x.core) h.2)
-            (ap (λ (x : TimedCore C K). x.is_due_known) h.2) (ap (λ (x : TimedCore C K). compared x.core) h.2)
-            h.1.heard refl (ap (λ (x : TimedCore C K). option_to_list last.held ++ x.outs.given) h.2),
-      ) in
-      went_then machine compared given seat seat first at last [] [] [] [] refl
-      (went_looked machine compared given seat first at looked l refl mails held) heard
-]
-
--- Time passed, and the core took a tick if something was due.
-pub went_passed : {C K : Type 0} (machine : K → Machine) (compared : K → ℕ) (given : C → List (Option ℕ) → C → Type 0) (seat : ℕ)
-    (first last : LoopCore C K) (ticks : Bool)
-    → (ticks ≡ false → PassesOver given machine compared first.timed last.timed)
-    → (ticks ≡ true → LooksAndSteps given machine compared first.timed seat Tick last.timed)
-    → last.mails ≡ first.mails → last.held ≡ first.held → (state_of machine compared first).pending ≡ []
-    → WentAt machine compared given seat first [] [] last
-went_passed machine compared given seat first last false over ticked mails held empty =
-    went_over machine compared given seat first last (over refl) mails held
-went_passed {C} {K} machine compared given seat first last true over ticked mails held empty =
-    let (looked, l, s) = ticked refl in
-    let at : LoopCore C K = record last { timed = looked } in
-    let none : (state_of machine compared at).pending ≡ [] =
-    ap (λ (xs : Option GivenAnswer). option_to_list xs ++ looked.outs.given) held
-    ∙ ap (λ (o : Outbox). option_to_list first.held ++ o.given) l.outs ∙ empty in
-    went_then machine compared given seat seat first at last [] [] [] [] refl
-    (went_looked machine compared given seat first at looked l refl mails held)
-    (went_step machine compared given seat Tick at last s refl refl none)
 
 -- If no tick was taken, no answer was given.
 pub none_over : {C K : Type 0} (machine : K → Machine) (compared : K → ℕ) (given : C → List (Option ℕ) → C → Type 0)

@@ -4,4 +4,5 @@ pub mod ListLemmas
 pub mod MailLemmas
 pub mod SendLemmas
 pub mod TimedLemmas
+pub mod TimedWentLemmas
 pub mod WentLemmas

@@ -1,6 +1,7 @@
 use Rattle.std.proofs.Common.{refl, ap}
 use Rattle.bq_job.specs.machine.Machine.{Machine}
-use Rattle.bq_event_loop.proofs.LoopCoreLemmas.{none_pending_over, order_ready, went_over}
+use Rattle.bq_host.proofs.TimedWentLemmas.{timed_over}
+use Rattle.bq_event_loop.proofs.LoopCoreLemmas.{none_pending_over, order_ready}
 use Rattle.bq_event_loop.proofs.loop_core.LoopCore.is_due.Goals as goal
 
 pub returns-clause-order : goal.returns-clause-order
@@ -15,5 +16,5 @@ returns-clause-order g c =
 pub returns-clause-went : goal.returns-clause-went
 returns-clause-went g c =
     let old = c.args.self.now in
-    went_over g.K.QueueCore.machine g.K.QueueCore.comparisons g.C.Clock.given 0 old
-    (record old { timed = c.is_due.new.self }) c.is_due.ensures.over refl refl
+    timed_over g.K.QueueCore.machine g.K.QueueCore.comparisons g.C.Clock.given 0 old.timed c.is_due.new.self old.held old.mails.items
+    old.is_sorted old.is_sorted c.is_due.ensures.over

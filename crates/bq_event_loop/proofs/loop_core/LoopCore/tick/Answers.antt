@@ -1,5 +1,6 @@
 use Rattle.std.proofs.Common.{refl, not}
-use Rattle.bq_event_loop.proofs.LoopCoreLemmas.{none_pending_passed, order_ready, went_passed}
+use Rattle.bq_host.proofs.TimedWentLemmas.{timed_passed}
+use Rattle.bq_event_loop.proofs.LoopCoreLemmas.{none_pending_passed, order_ready}
 use Rattle.bq_event_loop.proofs.loop_core.LoopCore.tick.Goals as goal
 
 pub returns-clause-order : goal.returns-clause-order
@@ -15,5 +16,5 @@ pub returns-clause-went : goal.returns-clause-went
 returns-clause-went g c =
     let t = c.tick_if_due-ticks in
     let old = c.args.self.now in
-    went_passed g.K.QueueCore.machine g.K.QueueCore.comparisons g.C.Clock.given 0 old
-    (record old { timed = t.new.self; is_sorted = not t.result }) t.result t.ensures.over t.ensures.ticked refl refl c.requires.empty
+    timed_passed g.K.QueueCore.machine g.K.QueueCore.comparisons g.C.Clock.given 0 old.timed t.new.self old.held old.mails.items
+    old.is_sorted (not t.result) t.result t.ensures.over t.ensures.ticked c.requires.empty

@@ -1,6 +1,7 @@
-use Rattle.std.proofs.Common.{◌∙◌, ap, sym, true≢false}
+use Rattle.std.proofs.Common.{◌∙◌, ap, false, sym, true≢false}
 use Rattle.bq_job.specs.declared.settings.Settings.{Settings}
-use Rattle.bq_run_one.proofs.DeskLemmas.{went_step}
+use Rattle.bq_host.proofs.TimedWentLemmas.{timed_step}
+use Rattle.bq_run_one.specs.DeskOf.{compared_of, machine_of}
 use Rattle.bq_run_one.proofs.desk.Desk.take_step.Goals as goal
 
 pub returns-clause-order : goal.returns-clause-order
@@ -14,5 +15,7 @@ returns-clause-order g c =
     }
 
 pub returns-clause-went : goal.returns-clause-went
-returns-clause-went g c = went_step g.C.Clock.given c.args.seat c.args.what c.args.self.now c.take_step.new.self
-    c.take_step.ensures.taken c.requires.empty
+returns-clause-went g c =
+    let desk = c.args.self.now in
+    timed_step machine_of compared_of g.C.Clock.given c.args.seat c.args.what desk.timed c.take_step.new.self desk.held desk.mails.items
+    false false c.take_step.ensures.taken c.requires.empty
