@@ -600,8 +600,7 @@ where
 {
     match compare_to(key, here, count) {
         Ordering::Less => {
-            let before = here.left_height();
-            if before <= 1 {
+            if !here.is_high_on_left() {
                 return cut_left(here, key, count, found);
             }
             match here {
@@ -613,8 +612,7 @@ where
             }
         }
         Ordering::Greater => {
-            let before = here.right_height();
-            if before <= 1 {
+            if !here.is_high_on_right() {
                 return cut_right(here, key, count, found);
             }
             match here {

@@ -1,6 +1,6 @@
 // A balanced tree of boxes, which contracts see by its entries in order and its height, and the
 // chain of the spare boxes.
-ghost use Rattle.std.specs.Prelude.{◌≡◌, ◌+◌, ◌<◌, max, [], IsSome, IfSome, IfNone, IfOk, Some};
+ghost use Rattle.std.specs.Prelude.{◌≡◌, ◌+◌, ◌<◌, ◌≤◌, max, [], IsSome, IfSome, IfNone, IfOk, Some, true, false};
 ghost use Rattle.bq_index.specs.Tree.{chain_length, entries, entries_of, entry_in, height, height_in};
 ghost use Rattle.bq_index.specs.Tree.{height_of, held, left_in, length_behind, lent, right_in, with_height, differ};
 ghost use Rattle.bq_index.specs.Tree.{IsBalanced, IsBalancedFrom, IsKeyOf, IsLevel, HasParts, DifferByAtMost};
@@ -80,6 +80,46 @@ impl<K, V> Node<K, V> {
             Node::OnRight { right, .. } => right.height(),
             Node::Both { right, .. } => right.height(),
             _ => 0,
+        }
+    }
+
+    // Returns whether a box has something below it.
+    #[tactic(auto, using(crate::proofs::Parts::high_with_both))]
+    fn is_high(&self) -> bool
+        requires { IsLevel self.now }
+        ensures high { result ≡ true → 1 < height_in self.now }
+        ensures low { result ≡ false → height_in self.now ≤ 1 }
+    {
+        match self {
+            Node::Alone { .. } => false,
+            Node::OnLeft { .. } | Node::OnRight { .. } => true,
+            Node::Both { .. } => true,
+            Node::Spare | Node::SpareBefore(_) => false,
+        }
+    }
+
+    // Returns whether the left side has more than one level. A removal asks this at each level, and
+    // to compare heights costs more.
+    pub(crate) fn is_high_on_left(&self) -> bool
+        requires { IsLevel self.now }
+        ensures high { result ≡ true → 1 < height_of (left_in self.now) }
+        ensures low { result ≡ false → height_of (left_in self.now) ≤ 1 }
+    {
+        match self {
+            Node::Both { left, .. } => left.is_high(),
+            _ => false,
+        }
+    }
+
+    // Returns whether the right side has more than one level.
+    pub(crate) fn is_high_on_right(&self) -> bool
+        requires { IsLevel self.now }
+        ensures high { result ≡ true → 1 < height_of (right_in self.now) }
+        ensures low { result ≡ false → height_of (right_in self.now) ≤ 1 }
+    {
+        match self {
+            Node::Both { right, .. } => right.is_high(),
+            _ => false,
         }
     }
 

@@ -82,26 +82,26 @@ returns-in-Equal-clause-found g t c =
     (come_apart c.args.here.now c.requires.here_level) c.requires.in_order c.compare_to.ensures.answer c.in-Equal.is in
     c.take_out.ensures.value ∙ sym w.looked_up
 
-pub returns-then-before-le1-clause-is : goal.returns-then-before-le1-clause-is
-returns-then-before-le1-clause-is g t c =
+pub returns-then-not-is_high_on_left-clause-is : goal.returns-then-not-is_high_on_left-clause-is
+returns-then-not-is_high_on_left-clause-is g t c =
     let w = is_below g.met.K.Ord.total c.args.key.now
     (come_apart c.args.here.now c.requires.here_level) c.requires.in_order c.compare_to.ensures.answer c.in-Less.is in
     c.cut_left.ensures.is ∙ sym w.removed
 
-pub returns-then-before-le1-clause-found : goal.returns-then-before-le1-clause-found
-returns-then-before-le1-clause-found g t c =
+pub returns-then-not-is_high_on_left-clause-found : goal.returns-then-not-is_high_on_left-clause-found
+returns-then-not-is_high_on_left-clause-found g t c =
     let w = is_below g.met.K.Ord.total c.args.key.now
     (come_apart c.args.here.now c.requires.here_level) c.requires.in_order c.compare_to.ensures.answer c.in-Less.is in
     c.cut_left.ensures.found ∙ sym w.looked_up
 
-pub returns-then-before-le1-2-clause-is : goal.returns-then-before-le1-2-clause-is
-returns-then-before-le1-2-clause-is g t c =
+pub returns-then-not-is_high_on_right-clause-is : goal.returns-then-not-is_high_on_right-clause-is
+returns-then-not-is_high_on_right-clause-is g t c =
     let w = is_above g.met.K.Ord.total c.args.key.now
     (come_apart c.args.here.now c.requires.here_level) c.requires.in_order c.compare_to.ensures.answer c.in-Greater.is in
     c.cut_right.ensures.is ∙ sym w.removed
 
-pub returns-then-before-le1-2-clause-found : goal.returns-then-before-le1-2-clause-found
-returns-then-before-le1-2-clause-found g t c =
+pub returns-then-not-is_high_on_right-clause-found : goal.returns-then-not-is_high_on_right-clause-found
+returns-then-not-is_high_on_right-clause-found g t c =
     let w = is_above g.met.K.Ord.total c.args.key.now
     (come_apart c.args.here.now c.requires.here_level) c.requires.in_order c.compare_to.ensures.answer c.in-Greater.is in
     c.cut_right.ensures.found ∙ sym w.looked_up
