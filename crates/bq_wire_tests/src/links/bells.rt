@@ -32,14 +32,27 @@ fn wakes_the_core<R: Wait>(rt: &R, intake: &Shared, core: &mut CoreEnd, end: Sea
     core.take(rt, intake).is_some()
 }
 
+// The same if the step is submitted in place.
+fn wakes_in_place<R: Wait>(rt: &R, intake: &Shared, core: &mut CoreEnd, end: SeatEnd) -> bool
+    requires core { core.old.intake ≡ intake.now.id }
+    requires seat { end.intake ≡ intake.now.id }
+    ensures { core.new.intake ≡ core.old.intake }
+{
+    let mut end = end;
+    let is_submitted = end.submit_in_place(rt, intake, &mut Step::Tick);
+    core.wait(rt, intake, long());
+    let taken = core.take(rt, intake);
+    is_submitted && taken.is_some()
+}
+
 #[test]
 fn each_end_wakes_the_core(rt: HostRuntime) -> Result<(), Fail> {
     let (intake, mut core, (a, b), (c, d)) = links_of_four(rt.alloc())?;
     let start = Instant::now(&rt)?;
     assert!(rt; wakes_the_core(&rt, &intake, &mut core, a));
     assert!(rt; wakes_the_core(&rt, &intake, &mut core, b));
-    assert!(rt; wakes_the_core(&rt, &intake, &mut core, c));
-    assert!(rt; wakes_the_core(&rt, &intake, &mut core, d));
+    assert!(rt; wakes_in_place(&rt, &intake, &mut core, c));
+    assert!(rt; wakes_in_place(&rt, &intake, &mut core, d));
     assert!(rt; was_woken(&rt, start));
     Ok(())
 }
