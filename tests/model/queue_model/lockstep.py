@@ -19,6 +19,7 @@ from .machine import PLAIN, RESERVED
 from .reader import requests_of
 
 SLACK = 350  # milliseconds
+HERE = 20  # milliseconds: an answer that has arrived is read in less
 GONE = 1100  # milliseconds: how late a client that disconnected while its reserve waits may be noticed
 NEAR = 100000  # what is further ahead doesn't happen during a run
 TICKS_AHEAD = 8
@@ -163,7 +164,7 @@ class Run:
                 raise Unclear("two moments came to lie together")
             time.sleep(max(0, ahead[0] + SLACK - now) / 1000)
             self.looked_at = self.now()
-            self.gather(self.machine.step(ahead[0], STEADY, "tick"))
+            self.gather_what_is_here(self.machine.step(ahead[0], STEADY, "tick"))
 
     def gather(self, answers):
         """Reads these answers at their clients."""
@@ -171,6 +172,15 @@ class Run:
         for number, wanted in answers:
             self.clients[number].answer(wanted, until)
             self.hold_to_be_in_time()
+
+    def gather_what_is_here(self, answers):
+        """Reads answers whose moment was SLACK ago, so that they are here. One that comes later may be a different one."""
+        try:
+            self.gather(answers)
+        except Differs:
+            if HERE < self.now() - self.looked_at < 1000 * self.patience:
+                raise Unclear("an answer came more than %d ms after its moment" % SLACK)
+            raise
 
     def hold_to_be_in_time(self):
         """Checks that less time has passed since the last reading than there is before the next moment."""
