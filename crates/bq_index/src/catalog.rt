@@ -4,8 +4,10 @@ ghost use Rattle.std.specs.Option.{option_map, option_copied_mut};
 ghost use Rattle.bq_index.specs.Order.{InOrder};
 ghost use Rattle.std.specs.Map.{lookup, remove_entry};
 ghost use Rattle.std.specs.BTreeMap.{is_at, insert_entry};
+ghost use Rattle.bq_index.specs.Edited.{edited_at};
 
 use super::NoMemory;
+use super::edit::Edit;
 use super::shelf::Shelf;
 use super::walk::{Test, Visitor};
 use std::alloc::Global;
@@ -110,6 +112,17 @@ impl<K: Ord + Drop, V: Drop> Catalog<K, V> {
         ensures ordered { InOrder K.cmp self.old.entries }
     {
         self.shelf.get_mut(key)
+    }
+
+    /// Changes the value at a key in place. Returns what the change returns, or `None` if there is
+    /// no such key.
+    pub fn edit<T: Drop, E: Edit<V, T>>(&mut self, key: &K, edit: &E) -> Option<T>
+        ensures told { result ≡ option_map (E.told edit.now) (lookup (is_at (K.cmp key.now)) self.old.entries) }
+        ensures entries { self.new.entries ≡ edited_at (is_at (K.cmp key.now)) (E.edited edit.now) self.old.entries }
+        ensures spare { self.new.spare ≡ self.old.spare }
+        ensures ordered { InOrder K.cmp self.old.entries }
+    {
+        self.shelf.edit(key, edit)
     }
 
     /// Shows each entry to a visitor, in the order of the keys. The contract also states that there

@@ -10,6 +10,7 @@
 #![tactic(auto)]
 
 pub use catalog::Catalog;
+pub use edit::Edit;
 pub use fault::NoMemory;
 pub use shelf::Shelf;
 pub use tree::BoxSource;
@@ -17,6 +18,7 @@ pub use walk::{Test, Visitor};
 
 mod catalog;
 mod change;
+mod edit;
 mod fault;
 mod find;
 mod rotation;

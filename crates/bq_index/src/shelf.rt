@@ -5,7 +5,9 @@ ghost use Rattle.std.specs.Option.{option_map, option_copied_mut};
 ghost use Rattle.bq_index.specs.Order.{InOrder, entry_from};
 ghost use Rattle.std.specs.Map.{lookup, remove_entry};
 ghost use Rattle.std.specs.BTreeMap.{is_at, insert_entry};
+ghost use Rattle.bq_index.specs.Edited.{edited_at};
 
+use super::edit::{self, Edit};
 use super::tree::{self, BoxSource, Node, Tree};
 use super::walk::{Test, Visitor};
 use super::{NoMemory, change, find, walk};
@@ -217,6 +219,19 @@ impl<K: Ord + Drop, V: Drop> Shelf<K, V> {
             ≡ entry_from (K.cmp key.now) self.old.entries }
     {
         find::next_from(self.tree.top(), key, &mut self.comparisons)
+    }
+
+    /// Changes the value at a key in place. Returns what the change returns, or `None` if there is
+    /// no such key. It needs fewer instructions than a change through `get_mut`.
+    #[tactic(auto, using(crate::proofs::Bound::height_bound))]
+    pub fn edit<T: Drop, E: Edit<V, T>>(&mut self, key: &K, edit: &E) -> Option<T>
+        ensures told { result ≡ option_map (E.told edit.now) (lookup (is_at (K.cmp key.now)) self.old.entries) }
+        ensures entries { self.new.entries ≡ edited_at (is_at (K.cmp key.now)) (E.edited edit.now) self.old.entries }
+        ensures spare { self.new.spare ≡ self.old.spare }
+        ensures ordered { InOrder K.cmp self.old.entries }
+        ensures comparisons { ComparesFew self.old self.new }
+    {
+        edit::edit_tree(&mut self.tree, key, &mut self.comparisons, edit)
     }
 
     // From here to `list`: what a catalog needs, which does not count comparisons. Returns the

@@ -1,0 +1,107 @@
+// A change of the value of an entry in place.
+ghost use Rattle.std.specs.Prelude.{◌≡◌, None, Some};
+ghost use Rattle.std.specs.Option.{option_map};
+ghost use Rattle.std.specs.Map.{lookup};
+ghost use Rattle.std.specs.BTreeMap.{is_at};
+ghost use Rattle.bq_index.specs.Edited.{edited_at, edited_here, edited_in};
+ghost use Rattle.bq_index.specs.Lent.{value_in, value_of};
+ghost use Rattle.bq_index.specs.Order.{InOrder};
+ghost use Rattle.bq_index.specs.Tree.{entries, height, height_in, IsBalanced, IsLevel, RaisedByAtMost};
+
+use super::find::compare_to;
+use super::tree::{Node, Tree, put};
+use std::cmp::Ordering;
+
+/// A change of a value, which also returns something.
+pub trait Edit<V, T> {
+    /// The value after the change.
+    ghost edited: { Self → V → V };
+
+    /// What the change returns.
+    ghost told: { Self → V → T };
+
+    /// Changes a value.
+    fn edit(&self, value: &mut V) -> T
+        ensures value { value.new ≡ edited self.now value.old }
+        ensures told { result ≡ told self.now value.old };
+}
+
+// Changes the value at a key in a tree.
+pub(crate) fn edit_tree<K: Ord, V, T: Drop, E: Edit<V, T>>(
+    tree: &mut Tree<K, V>,
+    key: &K,
+    count: &mut u64,
+    edit: &E,
+) -> Option<T>
+    requires balanced { IsBalanced tree.old }
+    requires in_order { InOrder K.cmp (entries tree.old) }
+    ensures is { entries tree.new ≡ edited_at (is_at (K.cmp key.now)) (E.edited edit.now) (entries tree.old) }
+    ensures balanced { IsBalanced tree.new }
+    ensures told { result ≡ option_map (E.told edit.now) (lookup (is_at (K.cmp key.now)) (entries tree.old)) }
+    ensures counted { RaisedByAtMost (height tree.old) count.old count.new }
+{
+    match tree {
+        Tree::Leaf => None,
+        Tree::Fork(top) => {
+            let mut told = None;
+            edit_below(top, key, count, edit, &mut told);
+            told
+        }
+    }
+}
+
+// Changes the value at a key in a box or below it. A call that lends the value to its caller cannot
+// be recursive (see `value_mut`), so it costs more at each level. What the change returns goes to
+// `told`. So the recursive call is the last thing that happens, and this compiles to a loop.
+fn edit_below<K: Ord, V, T: Drop, E: Edit<V, T>>(
+    node: &mut Node<K, V>,
+    key: &K,
+    count: &mut u64,
+    edit: &E,
+    told: &mut Option<T>,
+)
+    requires level { IsLevel node.old }
+    requires none { told.old ≡ None }
+    ensures is { node.new ≡ edited_in (K.cmp key.now) (E.edited edit.now) node.old }
+    ensures told { told.new ≡ option_map (E.told edit.now) (value_in (K.cmp key.now) node.old) }
+    ensures counted { RaisedByAtMost (height_in node.old) count.old count.new }
+{
+    match compare_to(key, node, count) {
+        Ordering::Less => match node {
+            Node::Both { left, .. } => edit_below(left, key, count, edit, told),
+            Node::OnLeft { left, .. } => edit_below(left, key, count, edit, told),
+            _ => {}
+        },
+        Ordering::Greater => match node {
+            Node::Both { right, .. } => edit_below(right, key, count, edit, told),
+            Node::OnRight { right, .. } => edit_below(right, key, count, edit, told),
+            _ => {}
+        },
+        Ordering::Equal => edit_here(node, edit, told),
+    }
+}
+
+// Changes the value in a box.
+fn edit_here<K, V, T: Drop, E: Edit<V, T>>(node: &mut Node<K, V>, edit: &E, told: &mut Option<T>)
+    requires { told.old ≡ None }
+    ensures is { node.new ≡ edited_here (E.edited edit.now) node.old }
+    ensures told { told.new ≡ option_map (E.told edit.now) (value_of node.old) }
+{
+    match node {
+        Node::Alone { value, .. } => edit_value(value, edit, told),
+        Node::OnLeft { value, .. } => edit_value(value, edit, told),
+        Node::OnRight { value, .. } => edit_value(value, edit, told),
+        Node::Both { value, .. } => edit_value(value, edit, told),
+        Node::Spare | Node::SpareBefore(_) => {}
+    }
+}
+
+// Changes a value. Not inlined, because what the change returns may be large, and each level of the
+// descent would reserve and initialize room for it.
+#[inline(never)]
+fn edit_value<V, T: Drop, E: Edit<V, T>>(value: &mut V, edit: &E, told: &mut Option<T>)
+    ensures is { value.new ≡ E.edited edit.now value.old }
+    ensures told { told.new ≡ Some (E.told edit.now value.old) }
+{
+    put(told, Some(edit.edit(value)));
+}
