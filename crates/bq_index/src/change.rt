@@ -15,7 +15,7 @@ ghost use Rattle.bq_index.specs.Tree.{HasParts, IsBalanced, IsBalancedFrom, IsLe
 
 use super::find::compare_to;
 use super::rotation::{mend, sink_left, sink_right};
-use super::tree::{Node, Tree, fill, put};
+use super::tree::{Node, Tree, fill, keep};
 use std::cmp::Ordering;
 use std::mem;
 
@@ -335,7 +335,7 @@ where
 {
     if is_on_left(here, key, count) {
         let (removed, changed) = shed_left(here);
-        put(found, Tree::Fork(removed));
+        keep(found, Tree::Fork(removed));
         changed
     } else {
         false
@@ -369,7 +369,7 @@ where
 {
     if is_on_right(here, key, count) {
         let (removed, changed) = shed_right(here);
-        put(found, Tree::Fork(removed));
+        keep(found, Tree::Fork(removed));
         changed
     } else {
         false
@@ -560,6 +560,7 @@ where
     requires here_level { IsLevel here.old }
     requires high { 1 < height_in here.old }
     requires fits { height_in here.old < 200 }
+    requires none { found.old ≡ Leaf }
     ensures is { entries_in here.new ≡ entries_of (left_in here.old) ++ entries_of (right_in here.old) }
     ensures value { option_map (λ e. e.1) (entry_of_top found.new) ≡ option_map (λ e. e.1) (entry_in here.old) }
     ensures balanced { IsLevel here.new }
@@ -568,7 +569,7 @@ where
     ensures changed { result ≡ differ (height_in here.old) (height_in here.new) }
 {
     let (removed, changed) = trade(here);
-    put(found, Tree::Fork(removed));
+    keep(found, Tree::Fork(removed));
     changed
 }
 

@@ -5,6 +5,7 @@ ghost use Rattle.bq_index.specs.Tree.{chain_length, entries, entries_of, entry_i
 ghost use Rattle.bq_index.specs.Tree.{height_of, held, left_in, length_behind, lent, right_in, with_height, differ};
 ghost use Rattle.bq_index.specs.Tree.{IsBalanced, IsBalancedFrom, IsKeyOf, IsLevel, HasParts, DifferByAtMost};
 ghost use Rattle.bq_index.specs.declared.tree.Node.TheVariants.{Spare};
+ghost use Rattle.bq_index.specs.declared.tree.Tree.TheVariants.{Leaf};
 
 use super::NoMemory;
 use std::alloc::Global;
@@ -357,6 +358,18 @@ pub(crate) fn put<T: Drop>(place: &mut T, value: T)
     ensures { place.new ≡ value }
 {
     *place = value;
+}
+
+// Stores a tree in a place that has none, so there is nothing to drop.
+#[inline(always)]
+pub(crate) fn keep<K, V>(place: &mut Tree<K, V>, tree: Tree<K, V>)
+where
+    K: Drop,
+    V: Drop,
+    requires none { place.old ≡ Leaf }
+    ensures { place.new ≡ tree }
+{
+    mem::forget(mem::replace(place, tree));
 }
 
 // Fills a spare box. A spare box has nothing to drop, so what it held is forgotten.
