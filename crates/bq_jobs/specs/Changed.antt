@@ -4,6 +4,7 @@ use Rattle.std.specs.Ordering.{nat_cmp}
 use Rattle.std.specs.Map.{lookup, set_value}
 use Rattle.std.specs.BTreeMap.{is_at}
 use Rattle.bq_job.specs.declared.job.Job.{Job}
+use Rattle.bq_index.specs.Edited.{edited_if}
 use Rattle.bq_jobs.specs.declared.row.Moved.{Moved}
 use Rattle.bq_jobs.specs.declared.row.MovedRow.{MovedRow}
 use Rattle.bq_jobs.specs.declared.row.Removed.{Removed}
@@ -53,5 +54,4 @@ entry_at id es = lookup (is_at (nat_cmp id)) es
 
 -- the entries, with the one at this id changed by f if it was found
 abbrev pub with_edited : ℕ → (Job → Job) → Option Job → List (ℕ × Job) → List (ℕ × Job)
-with_edited id f None es = es
-with_edited id f (Some j) es = set_value (is_at (nat_cmp id)) es (f j)
+with_edited id f found es = edited_if f (set_value (is_at (nat_cmp id)) es) es found

@@ -14,7 +14,7 @@ ghost use Rattle.bq_jobs.specs.Seen.{IsBodyOf, IsNumberOf};
 use super::places::{self, Group, ShelfPlace, Timer};
 use super::row::{JobEdit, MovedRow, Row, Standing};
 use super::timers::Timers;
-use bq_index::{BoxSource, Shelf};
+use bq_index::{BoxSource, Edit, Shelf};
 use bq_job::{Body, JobId, Moment, NoMemory};
 use std::alloc::Global;
 use std::marker::Model;
@@ -265,17 +265,25 @@ impl Rows {
     }
 }
 
-// Changes a job in place.
-fn apply<E: JobEdit>(edit: &E, job: &mut Row) -> MovedRow
-    ensures job { job.new ≡ E.edited edit.now job.old }
-    ensures moved { result ≡ row_moved_by (E.edited edit.now) job.old }
-{
-    let (tube, from) = (job.tube, Standing::of_row(job));
-    edit.edit(job);
-    MovedRow {
-        tube,
-        from,
-        to: Standing::of_row(job),
+// A change of a job, which reports what has changed.
+#[derive(Drop)]
+struct Reported<'e, E> {
+    edit: &'e E,
+}
+
+impl<'e, E: JobEdit> Edit<Row, MovedRow> for Reported<'e, E> {
+    ghost edited = { λ r. E.edited r.edit.now };
+
+    ghost told = { λ r. row_moved_by (E.edited r.edit.now) };
+
+    fn edit(&self, job: &mut Row) -> MovedRow {
+        let (tube, from) = (job.tube, Standing::of_row(job));
+        self.edit.edit(job);
+        MovedRow {
+            tube,
+            from,
+            to: Standing::of_row(job),
+        }
     }
 }
 
@@ -288,8 +296,5 @@ fn edit_at<E: JobEdit>(by_id: &mut Shelf<JobId, Row>, id: JobId, edit: &E) -> Op
     ensures spare { by_id.new.spare ≡ by_id.old.spare }
     ensures comparisons { ComparesFew by_id.old by_id.new }
 {
-    if let Some(job) = by_id.get_mut(&id) {
-        return Some(apply(edit, job));
-    }
-    None
+    by_id.edit(&id, &Reported { edit })
 }
