@@ -2,6 +2,7 @@
 use Rattle.std.specs.{Borrow.Bor, BTreeMap.is_at, Cmp.Lexicographic.slice_cmp}
 use Rattle.std.specs.{Map.{lookup, remove_entry, set_value}, Ordering.{is_gt, nat_cmp}}
 use Rattle.std.specs.Prelude.{◌&&◌, ◌++◌, ◌∷◌, if◌then◌else◌, Bool, List, None, Option, Some, [], ℕ, false, is_some, map, not, true}
+use Rattle.bq_index.specs.Edited.{edited_if}
 use Rattle.bq_job.specs.declared.job.Job.{Job}
 use Rattle.bq_job.specs.machine.{Pause, TubeRecord, default_tube, fresh_tube, pause_after_timers, raised, tube_after_timers}
 use Rattle.bq_jobs.specs.declared.row.Moved.{Moved}
@@ -84,8 +85,7 @@ is_named_at name = is_at (slice_cmp nat_cmp name)
 
 -- the entries with f applied to the one that was found
 abbrev pub edited : List ℕ → (KeptTube → KeptTube) → Option KeptTube → List Named → List Named
-edited name f None es = es
-edited name f (Some t) es = set_value (is_named_at name) es (f t)
+edited name f found es = edited_if f (set_value (is_named_at name) es) es found
 
 -- the entries with f applied to the one with this name, if there is one
 abbrev pub edited_at : List ℕ → (KeptTube → KeptTube) → List Named → List Named

@@ -206,7 +206,6 @@ impl Tubes {
     }
 
     /// A job of the tube changed its state.
-    #[tactic(auto, using(crate::proofs::EditLemmas::tallies_change))]
     pub(crate) fn move_job(&mut self, moved: &Moved)
         ensures { self.new ≡ with_tallies_at moved.now.tube (tally_moved moved.now) self.old }
     {
@@ -231,7 +230,6 @@ impl Tubes {
     }
 
     /// Adds the share of a seat to the counts of the tube with this name, or removes it.
-    #[tactic(auto, using(crate::proofs::EditLemmas::crowds_change))]
     pub(crate) fn recount(&mut self, name: &TubeName, moving: Moving, share: Share)
         ensures { self.new ≡ with_crowds_at name.now (recounted moving share) self.old }
     {

@@ -13,7 +13,7 @@ ghost use Rattle.bq_state.specs.Crowds.{recounted};
 use super::pauses::PauseEnd;
 use crate::job_store::later;
 use crate::known::Tally;
-use bq_index::Catalog;
+use bq_index::{Catalog, Edit};
 use bq_job::{Job, Moment, TubeName};
 use bq_jobs::{Moved, Removed};
 use std::marker::Model;
@@ -250,15 +250,35 @@ pub(crate) fn end_pause(catalog: &mut Catalog<TubeName, TubeEntry>, name: &TubeN
     }
 }
 
+// A new job is counted in its tube.
+impl Edit<TubeEntry, ()> for Job {
+    ghost edited = { kept_with };
+
+    ghost told = { λ _ _. tt };
+
+    fn edit(&self, entry: &mut TubeEntry) {
+        entry.add_job(self);
+    }
+}
+
+// A changed job is counted in its new state.
+impl Edit<TubeEntry, ()> for Moved {
+    ghost edited = { kept_moved };
+
+    ghost told = { λ _ _. tt };
+
+    fn edit(&self, entry: &mut TubeEntry) {
+        entry.move_job(self);
+    }
+}
+
 /// Counts a new job in its tube. Here, too, the names are in ascending order.
 pub(crate) fn add_job(catalog: &mut Catalog<TubeName, TubeEntry>, job: &Job)
     ensures entries { catalog.new.entries
         ≡ edited_at job.now.tube (kept_with job.now) catalog.old.entries }
     ensures ordered { InOrder (slice_cmp nat_cmp) catalog.old.entries }
 {
-    if let Some(entry) = catalog.get_mut(&job.tube) {
-        entry.add_job(job);
-    }
+    let _counted = catalog.edit(&job.tube, job);
 }
 
 /// Stops counting the job of this report in its tube, and counts its deletion. Here, too, the names
@@ -278,9 +298,7 @@ pub(crate) fn move_job(catalog: &mut Catalog<TubeName, TubeEntry>, moved: &Moved
     ensures { catalog.new.entries
         ≡ edited_at moved.now.tube (kept_moved moved.now) catalog.old.entries }
 {
-    if let Some(entry) = catalog.get_mut(&moved.tube) {
-        entry.move_job(moved);
-    }
+    let _counted = catalog.edit(&moved.tube, moved);
 }
 
 /// Adds the share of a seat to the counts of the tube with this name, or removes it.
