@@ -129,6 +129,12 @@ pub tube_there : (name : List ℕ) (tallies : List Tally) (crowds : List Crowd) 
     → is_tube_by (has_jobs (tally_at name es tallies)) (has_seats (crowd_at name es crowds)) name ≡ is_tube_of jobs seats name
 tube_there name tallies crowds jobs seats es entries counted was = grind (arith, jobs_there, crowd_there, has_seats_of)
 
+-- If a tube's counts show a client, there is one.
+pub seated_by_counts : (name : List ℕ) (crowds : List Crowd) (seats : List SeatRecord) (es : List TubeRecord) → All (HasTubes es) seats
+    → AreCrowds crowds seats es → has_seats (crowd_at name es crowds) ≡ true → list_any (is_seated_at name) seats ≡ true
+seated_by_counts name crowds seats es has was h =
+    sym (has_seats_of seats name) ∙ ap has_seats (sym (crowd_there name crowds seats es has was)) ∙ h
+
 -- at first there are no clients
 pub first_crowds : (ns : List ℕ) → AreCrowds (no_crowd ∷ []) (map empty_seat ns) (fresh_tube default_tube ∷ [])
 first_crowds ns =

@@ -4,7 +4,7 @@ use Rattle.std.proofs.Common.{ap, false, filter, fold, is_some, length, map, not
 use Rattle.std.proofs.{Common.arith, lemmas.{Grind.common_steps, List.length-map}}
 use Rattle.std.specs.List.{AllByRecursion as All, list_any}
 use Rattle.bq_job.specs.{declared.job.Job.Job, machine.{SeatRecord, TubeRecord, empty_seat, greatest, is_ready, is_ready_state, is_waiting}}
-use Rattle.bq_job.specs.machine.{job_with, next_job, numbers, seat_with, tube_after_timers, watches, watching}
+use Rattle.bq_job.specs.machine.{is_seated_at, job_with, next_job, numbers, seat_with, tube_after_timers, watches, watching}
 use Rattle.bq_job.specs.{reading.TubeName.is_same_name}
 use Rattle.bq_jobs.specs.{Changed.{moved_by, with_changed}, declared.row.Moved.Moved, Kept.{with_added, without}}
 use Rattle.bq_state.specs.declared.{core_parts.CoreParts.CoreParts, job_store.JobChange.JobChange}
@@ -55,17 +55,19 @@ module _ (st : CoreParts) where
       }
 
   -- removed,
-  pub so_without_job : (id : ℕ) (j : Job) → job_with id st.jobs.jobs ≡ Some j
-      → IsSo (without_job j st.known) (without id st.jobs.jobs) st.seats.items
+  pub so_without_job : (id : ℕ) (j : Job) (has_seats : Bool)
+      → (has_seats ≡ true → list_any (is_seated_at j.tube) st.seats.items ≡ true) → job_with id st.jobs.jobs ≡ Some j
+      → IsSo (without_job j has_seats st.known) (without id st.jobs.jobs) st.seats.items
       (record st.tubes { tallies = tallies_without j st.tubes.entries st.tubes.tallies })
-  so_without_job id j found =
+  so_without_job id j has_seats seated found =
       let so = st.sound.known in
       record {
         counts = counted_taken 1 st.next_id id j st.known.tally st.tubes.tallies st.jobs.jobs st.tubes.entries st.sound.ids found
             st.sound.entries.order so.counts;
         clients = so.clients;
         crowds = so.crowds;
-        alive = alive_taken 1 st.next_id id j st.known.maybe_gone st.jobs.jobs st.seats.items st.tubes.entries st.sound.ids found so.alive;
+        alive = alive_taken 1 st.next_id id j st.known.maybe_gone st.jobs.jobs st.seats.items st.tubes.entries has_seats seated
+            st.sound.ids found so.alive;
         wanted_jobs = all_filtered (λ k. All (IsKnown st.known.wanted (counted st.tubes.entries) k) st.seats.items)
             (λ k. not (k.id == id)) st.jobs.jobs so.wanted_jobs;
         warnings = all_filtered (λ k. All (IsWarned st.known.warns k) st.seats.items) (λ k. not (k.id == id)) st.jobs.jobs so.warnings;

@@ -99,21 +99,37 @@ module _ (p : Job → Bool) where
         left_over (suc k.id) next id j jobs,
       )
 
-pub alive_taken : (low next id : ℕ) (j : Job) (maybe : MaybeGone) (jobs : List Job) (seats : List SeatRecord) (entries : List TubeRecord)
-    → AreIdsWithin low jobs next → job_with id jobs ≡ Some j
-    → AreAlive maybe jobs seats entries → AreAlive (with_gone j.tube maybe) (without id jobs) seats entries
-alive_taken low next id j maybe jobs seats entries ids found all =
-    all_weaker (λ t. is_accounted maybe jobs seats t.name ≡ true)
-    (λ t. is_accounted (with_gone j.tube maybe) (without id jobs) seats t.name ≡ true) entries
-    (λ t h. still_accounted maybe (with_gone j.tube maybe) jobs (without id jobs) seats seats t.name
+fewer_alive : (low next id : ℕ) (j : Job) (maybe maybe' : MaybeGone) (jobs : List Job) (seats : List SeatRecord)
+    (entries : List TubeRecord) → AreIdsWithin low jobs next → job_with id jobs ≡ Some j
+    → ((name : List ℕ) → is_same_name name j.tube ≡ true → is_accounted maybe' (without id jobs) seats name ≡ true)
+    → ((name : List ℕ) → may_be_gone maybe name ≡ true → may_be_gone maybe' name ≡ true)
+    → AreAlive maybe jobs seats entries → AreAlive maybe' (without id jobs) seats entries
+fewer_alive low next id j maybe maybe' jobs seats entries ids found its others all =
+    all_weaker (λ t. is_accounted maybe jobs seats t.name ≡ true) (λ t. is_accounted maybe' (without id jobs) seats t.name ≡ true) entries
+    (λ t h. still_accounted maybe maybe' jobs (without id jobs) seats seats t.name
     (λ some. elim (left_over (λ k. is_same_name t.name k.tube) low next id j jobs ids found some) [
-      | inl rest ↦ by_job (with_gone j.tube maybe) (without id jobs) seats t.name rest
-      | inr it ↦ by_gone (with_gone j.tube maybe) (without id jobs) seats t.name (named_gone t.name j.tube maybe it)
+      | inl rest ↦ by_job maybe' (without id jobs) seats t.name rest
+      | inr it ↦ its t.name it
     ])
-    (by_seat (with_gone j.tube maybe) (without id jobs) seats t.name)
-    (λ gone. by_gone (with_gone j.tube maybe) (without id jobs) seats t.name (stays_gone j.tube maybe t.name gone))
+    (by_seat maybe' (without id jobs) seats t.name)
+    (λ gone. by_gone maybe' (without id jobs) seats t.name (others t.name gone))
     h)
     all
+
+-- and if a client uses or watches that tube, it exists
+pub alive_taken : (low next id : ℕ) (j : Job) (maybe : MaybeGone) (jobs : List Job) (seats : List SeatRecord) (entries : List TubeRecord)
+    (has_seats : Bool) → (has_seats ≡ true → list_any (is_seated_at j.tube) seats ≡ true)
+    → AreIdsWithin low jobs next → job_with id jobs ≡ Some j → AreAlive maybe jobs seats entries
+    → AreAlive (if not has_seats then with_gone j.tube maybe else maybe) (without id jobs) seats entries
+alive_taken low next id j maybe jobs seats entries true seated ids found all =
+    fewer_alive low next id j maybe maybe jobs seats entries ids found
+    (λ name same. by_seat maybe (without id jobs) seats name
+    (ap (λ n. list_any (is_seated_at n) seats) (same_name name j.tube same) ∙ seated refl))
+    (λ name h. h) all
+alive_taken low next id j maybe jobs seats entries false seated ids found all =
+    fewer_alive low next id j maybe (with_gone j.tube maybe) jobs seats entries ids found
+    (λ name same. by_gone (with_gone j.tube maybe) (without id jobs) seats name (named_gone name j.tube maybe same))
+    (λ name h. stays_gone j.tube maybe name h) all
 
 -- if a seat was at the tube and still is after a change of seats, the tube is still accounted for
 alive_reseated : (maybe maybe' : MaybeGone) (jobs : List Job) (seats seats' : List SeatRecord) (entries : List TubeRecord)

@@ -1,5 +1,5 @@
 -- What is known without a search: that it is true, and how it changes.
-use Rattle.std.specs.Prelude.{◌≡◌, if◌then◌else◌, Bool, List, None, Option, [], ℕ}
+use Rattle.std.specs.Prelude.{◌≡◌, if◌then◌else◌, Bool, List, None, Option, [], ℕ, not}
 use Rattle.bq_job.specs.{declared.job.Job.Job, machine.{SeatRecord, TubeRecord}}
 use Rattle.bq_jobs.specs.declared.row.Moved.{Moved}
 use Rattle.bq_jobs.specs.declared.row.Removed.{Removed}
@@ -52,13 +52,19 @@ with_job j is_wanted waits k = record k {
   warns = if waits then with_holder_of j.state k.warns else k.warns;
 }
 
--- with one job fewer
-abbrev pub without_job : Job → Known → Known
-without_job j k = record k { tally = tally_without j k.tally; maybe_gone = with_gone j.tube k.maybe_gone }
+-- with one job fewer; whether a client uses or watches its tube is given
+abbrev pub without_job : Job → Bool → Known → Known
+without_job j has_seats k = record k {
+  tally = tally_without j k.tally;
+  maybe_gone = if not has_seats then with_gone j.tube k.maybe_gone else k.maybe_gone;
+}
 
 -- the same from the report about a removed job
-abbrev pub with_removal : Removed → Known → Known
-with_removal r k = record k { tally = tally_left r.at k.tally; maybe_gone = with_gone r.tube k.maybe_gone }
+abbrev pub with_removal : Removed → Bool → Known → Known
+with_removal r has_seats k = record k {
+  tally = tally_left r.at k.tally;
+  maybe_gone = if not has_seats then with_gone r.tube k.maybe_gone else k.maybe_gone;
+}
 
 -- and with a job changed
 abbrev pub with_moved : Moved → Bool → Bool → Known → Known

@@ -83,8 +83,8 @@ pub fn delete(state: &mut CoreParts, id: JobId) -> bool
         return false;
     };
     job_store::let_room_go(&mut state.jobs); // Of a peak in the past.
-    state.known.count_removal(&removed);
-    state.tubes.count_removal(&removed);
+    let has_seats = state.tubes.count_removal(&removed);
+    state.known.count_removal(&removed, has_seats);
     true
 }
 

@@ -73,12 +73,13 @@ impl Known {
         self.warns.warn_holder_if(job.state, waits);
     }
 
-    /// The job of this report is removed.
-    pub(crate) fn count_removal(&mut self, removed: &Removed)
-        ensures { self.new ≡ with_removal removed.now self.old }
+    /// The job of this report is removed. `has_seats` says whether a client uses or watches its
+    /// tube.
+    pub(crate) fn count_removal(&mut self, removed: &Removed, has_seats: bool)
+        ensures { self.new ≡ with_removal removed.now has_seats self.old }
     {
         self.tally.leave(removed.at);
-        self.maybe_gone.add(&removed.tube);
+        self.maybe_gone.add_if(&removed.tube, !has_seats);
     }
 
     /// A job is changed; the arguments describe it after the change.

@@ -9,7 +9,7 @@ ghost use Rattle.bq_job.specs.reading.TubeName.{is_same_name};
 ghost use Rattle.bq_job.specs.machine.Timers.{tube_after_timers};
 ghost use Rattle.bq_state.specs.Counting.{AreCounts, DropsGone, IfCounted, tubes_with, with_crowds_at};
 ghost use Rattle.bq_state.specs.Counting.{with_job_put, with_removal_counted, with_tallies_at};
-ghost use Rattle.bq_state.specs.Crowds.{crowd_at, recounted};
+ghost use Rattle.bq_state.specs.Crowds.{crowd_at, has_seats, recounted};
 ghost use Rattle.bq_state.specs.Dues.{first_pause_end, pause_end_after, pause_end_left};
 ghost use Rattle.bq_state.specs.KeptTubes.{edited_at, kept_changed, record_at};
 ghost use Rattle.bq_state.specs.Leaving.{exists_in};
@@ -198,11 +198,14 @@ impl Tubes {
         entry::add_job(&mut self.kept, job);
     }
 
-    /// Stops counting the job of this report in its tube, and counts its deletion.
-    pub(crate) fn count_removal(&mut self, removed: &Removed)
-        ensures { self.new ≡ with_removal_counted removed.now self.old }
+    /// Stops counting the job of this report in its tube, and counts its deletion. Returns whether
+    /// a client uses or watches the tube.
+    pub(crate) fn count_removal(&mut self, removed: &Removed) -> bool
+        ensures after { self.new ≡ with_removal_counted removed.now self.old }
+        ensures seats { result
+            ≡ has_seats (crowd_at removed.now.tube self.old.entries self.old.crowds) }
     {
-        entry::count_removal(&mut self.kept, removed);
+        entry::count_removal(&mut self.kept, removed)
     }
 
     /// A job of the tube changed its state.

@@ -5,7 +5,8 @@ ghost use Rattle.std.specs.Ordering.{nat_cmp};
 ghost use Rattle.bq_index.specs.Order.{InOrder};
 ghost use Rattle.bq_job.specs.machine.TubeCommands.{with_pause};
 ghost use Rattle.bq_state.specs.KeptTubes.{ended, fresh_entry, kept_after, kept_changed, kept_moved};
-ghost use Rattle.bq_state.specs.KeptTubes.{kept_recounted, kept_removed, record_of, edited_at, kept_with};
+ghost use Rattle.bq_state.specs.KeptTubes.{crowd_by, kept_recounted, kept_removed, record_of, edited_at, is_named_at, kept_with};
+ghost use Rattle.std.specs.Map.{lookup};
 ghost use Rattle.bq_state.specs.PauseEnds.{end_of};
 ghost use Rattle.bq_state.specs.Crowds.{crowd_with, crowd_without, has_seats, is_none, no_crowd};
 ghost use Rattle.bq_state.specs.Crowds.{recounted};
@@ -261,6 +262,19 @@ impl Edit<TubeEntry, ()> for Job {
     }
 }
 
+// A removed job is no longer counted in its tube, and its deletion is. This returns whether a
+// client uses or watches the tube.
+impl Edit<TubeEntry, bool> for Removed {
+    ghost edited = { kept_removed };
+
+    ghost told = { λ _ t. has_seats t.crowd };
+
+    fn edit(&self, entry: &mut TubeEntry) -> bool {
+        entry.count_removal(self);
+        entry.crowd.has_seats()
+    }
+}
+
 // A changed job is counted in its new state.
 impl Edit<TubeEntry, ()> for Moved {
     ghost edited = { kept_moved };
@@ -281,16 +295,16 @@ pub(crate) fn add_job(catalog: &mut Catalog<TubeName, TubeEntry>, job: &Job)
     let _counted = catalog.edit(&job.tube, job);
 }
 
-/// Stops counting the job of this report in its tube, and counts its deletion. Here, too, the names
-/// are in ascending order.
-pub(crate) fn count_removal(catalog: &mut Catalog<TubeName, TubeEntry>, removed: &Removed)
+/// Stops counting the job of this report in its tube, and counts its deletion. Returns whether a
+/// client uses or watches the tube. Here, too, the names are in ascending order.
+pub(crate) fn count_removal(catalog: &mut Catalog<TubeName, TubeEntry>, removed: &Removed) -> bool
     ensures entries { catalog.new.entries
         ≡ edited_at removed.now.tube (kept_removed removed.now) catalog.old.entries }
     ensures ordered { InOrder (slice_cmp nat_cmp) catalog.old.entries }
+    ensures seats { result
+        ≡ has_seats (crowd_by (lookup (is_named_at removed.now.tube) catalog.old.entries)) }
 {
-    if let Some(entry) = catalog.get_mut(&removed.tube) {
-        entry.count_removal(removed);
-    }
+    catalog.edit(&removed.tube, removed).unwrap_or(false)
 }
 
 /// A job of a tube changed its state.

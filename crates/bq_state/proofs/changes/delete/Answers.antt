@@ -10,6 +10,8 @@ use Rattle.bq_jobs.proofs.Told.{nothing_told_of, told_of}
 use Rattle.bq_state.specs.declared.tubes.entry.TubeChange.TheVariants.{CountDelete}
 use Rattle.bq_state.specs.{CoreParts.machine_of, Counting.with_removal_counted, JobChanges.once_deleted}
 use Rattle.bq_state.specs.TubeEntries.{counted, tube_changed_at}
+use Rattle.bq_state.specs.Crowds.{crowd_at, has_seats}
+use Rattle.bq_state.proofs.CrowdPlaces.{seated_by_counts}
 use Rattle.bq_state.proofs.KnowledgeLemmas.{so_without_job, with_count}
 use Rattle.bq_state.proofs.PartsLemmas.{entries_of_fewer, has_of_job, tube_counts, tube_name_kept}
 use Rattle.bq_state.proofs.TubeLemmas.{record_changed}
@@ -49,10 +51,13 @@ invariant_of-state-2 c =
     let names = ap (λ (k : Kept). k.tubes) c.let_room_go.ensures.same ∙ c.in-Some.ensures.tubes in
     let entries = entries_of_fewer (λ k. not (k.id == id)) st.jobs.jobs st.seats.items mid.tubes.entries was.entries in
     let ids = ids_of_filter (λ k. not (k.id == id)) 1 st.next_id st.jobs.jobs was.ids in
-    let so = so_without_job mid id j of.there in
+    let so = so_without_job mid id j c.count_removal-has_seats.result
+    (λ has. seated_by_counts j.tube st.tubes.crowds st.seats.items st.tubes.entries st.sound.entries.of_seats st.sound.known.crowds
+    (sym (ap (λ (r : Removed). has_seats (crowd_at r.tube st.tubes.entries st.tubes.crowds)) is)
+    ∙ sym c.count_removal-has_seats.ensures.seats ∙ has)) of.there in
     record {
-      sound = rw (c.count_removal.ensures, c.count_removal-2.ensures, is, jobs) assumption;
-      numbered = rw (c.count_removal-2.ensures, is, names) mid.numbered;
+      sound = rw (c.count_removal.ensures, c.count_removal-has_seats.ensures.after, is, jobs) assumption;
+      numbered = rw (c.count_removal-has_seats.ensures.after, is, names) mid.numbered;
     }
 
 pub returns-clause-deleted : goal.returns-clause-deleted
@@ -74,7 +79,7 @@ returns-clause-after c =
     let jobs : c.let_room_go.new.jobs.jobs ≡ without j.id st.jobs.jobs =
     ap (λ (k : Kept). k.jobs) c.let_room_go.ensures.same ∙ c.in-Some.ensures.jobs
     ∙ ap (λ n. without n st.jobs.jobs) own in
-    (λ i. record m { tubes = counted (c.count_removal-2.ensures i).entries; jobs = jobs i })
+    (λ i. record m { tubes = counted (c.count_removal-has_seats.ensures.after i).entries; jobs = jobs i })
     ∙ ap (λ (r : Removed). record m { tubes = counted (with_removal_counted r st.tubes).entries; jobs = without j.id m.jobs }) of.is
     ∙ ap (λ tubes. record m { tubes = tubes; jobs = without j.id m.jobs })
     (sym (record_changed j.tube with_delete (tube_counts CountDelete)

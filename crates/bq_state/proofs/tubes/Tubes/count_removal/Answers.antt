@@ -1,11 +1,12 @@
-use Rattle.std.proofs.Common.{refl}
+use Rattle.std.proofs.Common.{◌∙◌, ap, refl}
 use Rattle.bq_state.specs.declared.tubes.entry.TubeChange.TheVariants.{CountDelete}
-use Rattle.bq_state.specs.{KeptTubes.kept_removed, Tallies.tally_left, TubeEntries.tube_changed}
-use Rattle.bq_state.proofs.{EditLemmas.job_counted, EndMoves.edit_stays, NamedLemmas.{change_kept, in_order}, PartsLemmas.tube_name_kept}
+use Rattle.bq_state.specs.Crowds.{crowd_at, has_seats}
+use Rattle.bq_state.specs.{KeptTubes.{KeptTubes, kept_removed}, Tallies.tally_left, TubeEntries.tube_changed}
+use Rattle.bq_state.proofs.{EditLemmas.job_counted, EndMoves.edit_stays, NamedLemmas.{change_kept, found_crowd, in_order}, PartsLemmas.tube_name_kept}
 use Rattle.bq_state.proofs.tubes.Tubes.count_removal.Goals as goal
 
-pub returns : goal.returns
-returns c =
+pub returns-clause-after : goal.returns-clause-after
+returns-clause-after c =
     let r = c.args.removed.now in
     job_counted CountDelete r.tube (kept_removed r)
     (tally_left r.at) c.self.inside.kept.entries _ c.args.self.now c.count_removal.ensures.entries c.self.view_is
@@ -17,3 +18,8 @@ invariant_of-self c =
     let es = c.self.inside.kept.entries in
     edit_stays r.tube (kept_removed r) (tube_changed CountDelete) (change_kept CountDelete) (tube_name_kept CountDelete) es _
     (in_order es c.count_removal.ensures.ordered) c.count_removal.ensures.entries (λ t. refl) c.self.inside.ends c.self.invariant
+
+pub returns-clause-seats : goal.returns-clause-seats
+returns-clause-seats c =
+    c.count_removal.ensures.seats ∙ ap has_seats (found_crowd c.args.removed.now.tube c.self.inside.kept.entries)
+    ∙ ap (λ (k : KeptTubes). has_seats (crowd_at c.args.removed.now.tube k.entries k.crowds)) c.self.view_is
