@@ -1,8 +1,10 @@
 //! Another reference to a job's body.
 
-use crate::jobs::putting::{job, put, tube};
+use crate::jobs::putting::{put_new, tube};
 use bq_job::{JobId, JobState};
 use bq_jobs::NumberedJobs;
+use std::alloc::Global;
+use std::process::Abort;
 use std::test::Fail;
 
 // Returns true if there is a job with this id, and another reference to its body reads these bytes.
@@ -13,16 +15,22 @@ fn reads(jobs: &mut NumberedJobs, id: JobId, bytes: &[u8]) -> bool {
     }
 }
 
-#[test]
-fn bodies_are_shared(rt: HostRuntime) -> Result<(), Fail> {
-    let name = tube(&rt, "default");
-    let mut jobs = NumberedJobs::new();
-    jobs.reserve_one(rt.alloc())?;
-    let own = job(rt.alloc(), 7, name, 3, JobState::Ready)?;
-    assert!(rt; put(rt.alloc(), &mut jobs, own));
-    assert!(rt; reads(&mut jobs, 7, b"abc"));
+// Only a body that is kept can be shared.
+fn share_bodies(rt: &impl Abort, jobs: &mut NumberedJobs) {
+    assert!(rt; reads(jobs, 7, b"abc"));
     assert!(rt; jobs.share_body(8).is_none());
     assert!(rt; jobs.remove(7).is_some());
     assert!(rt; jobs.share_body(7).is_none());
+}
+
+fn put_and_share(rt: &impl Abort, alloc: Global, jobs: &mut NumberedJobs) -> Result<(), Fail> {
+    jobs.reserve_one(alloc)?;
+    assert!(rt; put_new(alloc, jobs, 7, tube(rt, "default"), 3, JobState::Ready)?);
+    share_bodies(rt, jobs);
     Ok(())
+}
+
+#[test]
+fn bodies_are_shared(rt: HostRuntime) -> Result<(), Fail> {
+    put_and_share(&rt, rt.alloc(), &mut NumberedJobs::new())
 }

@@ -1,7 +1,7 @@
 //! The three boxes of a job. The allocation of any of them may fail, and they return to the heap
 //! after a peak.
 
-use crate::jobs::putting::{job, put, tube};
+use crate::jobs::putting::{put_new, tube};
 use bq_index::{BoxSource, NoMemory as Refused};
 use bq_job::{JobId, JobState, NoMemory, TubeName};
 use bq_jobs::NumberedJobs;
@@ -38,7 +38,7 @@ fn fill(
 ) -> Result<(), Fail> {
     for id in 0..end {
         jobs.reserve_one(alloc)?;
-        assert!(rt; put(alloc, jobs, job(alloc, id, name, 0, JobState::Ready)?));
+        assert!(rt; put_new(alloc, jobs, id, name, 0, JobState::Ready)?);
     }
     Ok(())
 }
@@ -52,6 +52,30 @@ fn remove_all(jobs: &mut NumberedJobs, first: JobId, end: JobId) -> bool {
     are_there
 }
 
+// Reserves room for a job from a heap in which one of the allocations fails. Returns true if the
+// call fails for it, and after this many allocations.
+fn fails_at(jobs: &mut NumberedJobs, heap: Global, refused: usize) -> bool {
+    let mut source = Refusing {
+        heap,
+        asked: 0,
+        refused,
+    };
+    jobs.reserve_one_from(&mut source) == Err(NoMemory) && source.asked == refused
+}
+
+// Does the same while all allocations succeed. Returns their number, or `None` if the call fails.
+fn asked_for(jobs: &mut NumberedJobs, heap: Global) -> Option<usize> {
+    let mut source = Refusing {
+        heap,
+        asked: 0,
+        refused: 4,
+    };
+    match jobs.reserve_one_from(&mut source) {
+        Ok(()) => Some(source.asked),
+        Err(_) => None,
+    }
+}
+
 /// Whichever box fails, the others are kept for the next call, which allocates the missing ones.
 fn refuse_one(
     rt: &impl Abort,
@@ -62,19 +86,12 @@ fn refuse_one(
     left: usize,
 ) -> Result<(), Fail> {
     fill(rt, alloc, jobs, name, 1)?;
-    let mut source = Refusing {
-        heap: alloc,
-        asked: 0,
-        refused,
-    };
-    assert!(rt; jobs.reserve_one_from(&mut source) == Err(NoMemory));
-    assert_eq!(rt; (source.asked, jobs.len(), jobs.room()), (refused, 1, 0));
-    assert_eq!(rt; jobs.first_ready(&name), Some(0));
-    source.asked = 0;
-    source.refused = 4;
-    assert!(rt; jobs.reserve_one_from(&mut source).is_ok());
-    assert_eq!(rt; (source.asked, jobs.room()), (left, 1));
-    assert!(rt; put(alloc, jobs, job(alloc, 1, name, 0, JobState::Ready)?));
+    assert!(rt; fails_at(jobs, alloc, refused));
+    assert!(rt; (jobs.len(), jobs.room()) == (1, 0));
+    assert!(rt; jobs.first_ready(&name) == Some(0));
+    assert!(rt; asked_for(jobs, alloc) == Some(left));
+    assert!(rt; jobs.room() == 1);
+    assert!(rt; put_new(alloc, jobs, 1, name, 0, JobState::Ready)?);
     Ok(())
 }
 
@@ -95,6 +112,24 @@ fn give_back_all(jobs: &mut NumberedJobs) -> usize {
     before.saturating_sub(jobs.room())
 }
 
+// Three of 200 jobs are left.
+fn leave_three(rt: &impl Abort, jobs: &mut NumberedJobs) {
+    jobs.give_back();
+    assert!(rt; (jobs.len(), jobs.room()) == (200, 0));
+    assert!(rt; remove_all(jobs, 3, 200));
+    assert!(rt; (jobs.len(), jobs.room()) == (3, 197));
+    assert!(rt; (give_back_all(jobs), jobs.room()) == (194, 3));
+    jobs.give_back();
+    assert!(rt; (jobs.len(), jobs.room()) == (3, 3));
+}
+
+// Then none is left.
+fn leave_none(rt: &impl Abort, jobs: &mut NumberedJobs) {
+    assert!(rt; remove_all(jobs, 0, 3));
+    assert!(rt; give_back_all(jobs) == 6);
+    assert!(rt; (jobs.len(), jobs.room()) == (0, 0));
+}
+
 // A peak of 200 jobs, after which 3 are left and then none.
 fn peak_passes(
     rt: &impl Abort,
@@ -103,22 +138,10 @@ fn peak_passes(
     name: TubeName,
 ) -> Result<(), Fail> {
     fill(rt, alloc, jobs, name, 200)?;
-    jobs.give_back();
-    assert_eq!(rt; (jobs.len(), jobs.room()), (200, 0));
-    assert!(rt; remove_all(jobs, 3, 200));
-    assert_eq!(rt; (jobs.len(), jobs.room()), (3, 197));
-    assert_eq!(rt; (give_back_all(jobs), jobs.room()), (194, 3));
-    jobs.give_back();
-    assert_eq!(rt; (jobs.len(), jobs.room()), (3, 3));
-    assert!(rt; remove_all(jobs, 0, 3));
-    assert_eq!(rt; (give_back_all(jobs), jobs.len(), jobs.room()), (6, 0, 0));
-    let mut source = Refusing {
-        heap: alloc,
-        asked: 0,
-        refused: 4,
-    };
-    assert!(rt; jobs.reserve_one_from(&mut source).is_ok());
-    assert_eq!(rt; (source.asked, jobs.room()), (3, 1));
+    leave_three(rt, jobs);
+    leave_none(rt, jobs);
+    assert!(rt; asked_for(jobs, alloc) == Some(3));
+    assert!(rt; jobs.room() == 1);
     Ok(())
 }
 

@@ -1,6 +1,6 @@
 //! The first job of each kind, by hand.
 
-use crate::jobs::putting::{job, put, tube};
+use crate::jobs::putting::{put_new, tube};
 use bq_job::{JobId, JobState, Pri, Seat};
 use bq_jobs::NumberedJobs;
 use std::alloc::Global;
@@ -67,7 +67,7 @@ fn first_of(rt: &impl Abort, jobs: &mut NumberedJobs, kind: Kind) -> Option<JobI
 fn add_all(rt: &impl Abort, alloc: Global, jobs: &mut NumberedJobs) -> Result<(), Fail> {
     for (id, name, pri, state) in JOBS {
         jobs.reserve_one(alloc)?;
-        assert!(rt; put(alloc, jobs, job(alloc, *id, tube(rt, name), *pri, *state)?));
+        assert!(rt; put_new(alloc, jobs, *id, tube(rt, name), *pri, *state)?);
     }
     assert!(rt; jobs.len() == 16);
     Ok(())
@@ -83,10 +83,13 @@ fn look(rt: &impl Abort, jobs: &mut NumberedJobs) {
     }
 }
 
+fn add_and_look(rt: &impl Abort, alloc: Global, jobs: &mut NumberedJobs) -> Result<(), Fail> {
+    add_all(rt, alloc, jobs)?;
+    look(rt, jobs);
+    Ok(())
+}
+
 #[test]
 fn first_of_each_kind(rt: HostRuntime) -> Result<(), Fail> {
-    let mut jobs = NumberedJobs::new();
-    add_all(&rt, rt.alloc(), &mut jobs)?;
-    look(&rt, &mut jobs);
-    Ok(())
+    add_and_look(&rt, rt.alloc(), &mut NumberedJobs::new())
 }

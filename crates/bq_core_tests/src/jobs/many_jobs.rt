@@ -1,9 +1,10 @@
 //! More jobs than in any other test.
 
-use crate::jobs::putting::{job, put, tube};
+use crate::jobs::putting::{put_new, tube};
 use bq_job::{JobState, NoMemory, TubeName};
 use bq_jobs::NumberedJobs;
 use std::alloc::Global;
+use std::process::Abort;
 use std::test::Fail;
 
 const JOBS: u64 = 3_000;
@@ -13,7 +14,7 @@ fn fill(alloc: Global, jobs: &mut NumberedJobs, name: TubeName) -> Result<bool, 
     for id in 0..JOBS {
         let pri = (JOBS - id) as u32;
         jobs.reserve_one(alloc)?;
-        if !put(alloc, jobs, job(alloc, id, name, pri, JobState::Ready)?) {
+        if !put_new(alloc, jobs, id, name, pri, JobState::Ready)? {
             return Ok(false);
         }
     }
@@ -34,13 +35,21 @@ fn empty(jobs: &mut NumberedJobs, name: &TubeName) -> bool {
     true
 }
 
+fn fill_and_empty(
+    rt: &impl Abort,
+    alloc: Global,
+    jobs: &mut NumberedJobs,
+    name: TubeName,
+) -> Result<(), Fail> {
+    assert!(rt; fill(alloc, jobs, name)?);
+    assert!(rt; (jobs.len(), jobs.room()) == (3_000, 0));
+    assert!(rt; empty(jobs, &name));
+    assert!(rt; (jobs.len(), jobs.room()) == (0, 3_000));
+    Ok(())
+}
+
 #[test]
 fn three_thousand_jobs(rt: HostRuntime) -> Result<(), Fail> {
     let name = tube(&rt, "default");
-    let mut jobs = NumberedJobs::new();
-    assert!(rt; fill(rt.alloc(), &mut jobs, name)?);
-    assert!(rt; (jobs.len(), jobs.room()) == (3_000, 0));
-    assert!(rt; empty(&mut jobs, &name));
-    assert!(rt; (jobs.len(), jobs.room()) == (0, 3_000));
-    Ok(())
+    fill_and_empty(&rt, rt.alloc(), &mut NumberedJobs::new(), name)
 }

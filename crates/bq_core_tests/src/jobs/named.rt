@@ -4,7 +4,7 @@
 use crate::jobs::boxes::Refusing;
 use crate::jobs::firsts::{FIRSTS, JOBS, Kind};
 use crate::jobs::putting::{job, tube};
-use bq_job::{Job, JobId, JobState, NoMemory, TubeName};
+use bq_job::{Job, JobId, JobState, NoMemory, Pri, TubeName};
 use bq_jobs::Jobs;
 use std::alloc::Global;
 use std::process::Abort;
@@ -30,11 +30,24 @@ fn first_of(rt: &impl Abort, jobs: &mut Jobs, kind: Kind) -> Option<JobId> {
     }
 }
 
+// Makes a job and adds it, as `put` does.
+fn put_new(
+    alloc: Global,
+    jobs: &mut Jobs,
+    id: JobId,
+    tube: TubeName,
+    pri: Pri,
+    state: JobState,
+) -> Result<bool, NoMemory> {
+    let job = job(alloc, id, tube, pri, state)?;
+    Ok(put(jobs, job))
+}
+
 // Adds the jobs of all rows.
 fn add_all(rt: &impl Abort, alloc: Global, jobs: &mut Jobs) -> Result<(), Fail> {
     for (id, name, pri, state) in JOBS {
         jobs.reserve_one(alloc)?;
-        assert!(rt; put(jobs, job(alloc, *id, tube(rt, name), *pri, *state)?));
+        assert!(rt; put_new(alloc, jobs, *id, tube(rt, name), *pri, *state)?);
     }
     assert!(rt; jobs.len() == 16);
     Ok(())
@@ -57,16 +70,24 @@ fn is_in(jobs: &mut Jobs, id: JobId, name: &TubeName) -> bool {
     }
 }
 
-#[test]
-fn first_of_each_kind_by_names(rt: HostRuntime) -> Result<(), Fail> {
-    let mut jobs = Jobs::new();
-    add_all(&rt, rt.alloc(), &mut jobs)?;
-    look(&rt, &mut jobs);
+// Each job has the name of its tube.
+fn look_by_id(rt: &impl Abort, jobs: &mut Jobs) {
     for (id, name, _, _) in JOBS {
-        assert!(rt; is_in(&mut jobs, *id, &tube(&rt, name)));
+        assert!(rt; is_in(jobs, *id, &tube(rt, name)));
     }
     assert!(rt; jobs.get(17).is_none());
+}
+
+fn add_and_look(rt: &impl Abort, alloc: Global, jobs: &mut Jobs) -> Result<(), Fail> {
+    add_all(rt, alloc, jobs)?;
+    look(rt, jobs);
+    look_by_id(rt, jobs);
     Ok(())
+}
+
+#[test]
+fn first_of_each_kind_by_names(rt: HostRuntime) -> Result<(), Fail> {
+    add_and_look(&rt, rt.alloc(), &mut Jobs::new())
 }
 
 // Removes a job, changes it and adds it again in the same room.
@@ -80,45 +101,65 @@ fn change(jobs: &mut Jobs, id: JobId, state: JobState) -> bool {
     }
 }
 
-#[test]
-fn job_changed_in_its_room(rt: HostRuntime) -> Result<(), Fail> {
-    let name = tube(&rt, "default");
-    let mut jobs = Jobs::new();
+// Adds the job with id 1 to no others.
+fn put_one(rt: &impl Abort, alloc: Global, jobs: &mut Jobs, name: TubeName) -> Result<(), Fail> {
     assert!(rt; (jobs.len(), jobs.room(), jobs.comparisons()) == (0, 0, 0));
-    jobs.reserve_one(rt.alloc())?;
-    assert!(rt; put(&mut jobs, job(rt.alloc(), 1, name, 3, JobState::Ready)?));
-    assert!(rt; jobs.first_ready(&name) == Some(1));
-    assert!(rt; change(&mut jobs, 1, JobState::Reserved(4, 9)));
-    assert!(rt; (jobs.first_ready(&name), jobs.first_held(4)) == (None, Some(1)));
-    assert!(rt; change(&mut jobs, 1, JobState::Buried(1)));
-    assert!(rt; (jobs.first_held(4), jobs.first_buried(&name)) == (None, Some(1)));
+    jobs.reserve_one(alloc)?;
+    assert!(rt; put_new(alloc, jobs, 1, name, 3, JobState::Ready)?);
+    Ok(())
+}
+
+fn change_one(rt: &impl Abort, jobs: &mut Jobs, name: &TubeName) {
+    assert!(rt; jobs.first_ready(name) == Some(1));
+    assert!(rt; change(jobs, 1, JobState::Reserved(4, 9)));
+    assert!(rt; jobs.first_ready(name).is_none() && jobs.first_held(4) == Some(1));
+    assert!(rt; change(jobs, 1, JobState::Buried(1)));
+    assert!(rt; jobs.first_held(4).is_none() && jobs.first_buried(name) == Some(1));
+}
+
+fn remove_one(rt: &impl Abort, jobs: &mut Jobs) {
     assert!(rt; (jobs.len(), jobs.room()) == (1, 0));
     assert!(rt; jobs.remove(1).is_some());
     assert!(rt; jobs.remove(1).is_none());
     assert!(rt; (jobs.len(), jobs.room()) == (0, 1));
+}
+
+fn put_and_change(
+    rt: &impl Abort,
+    alloc: Global,
+    jobs: &mut Jobs,
+    name: TubeName,
+) -> Result<(), Fail> {
+    put_one(rt, alloc, jobs, name)?;
+    change_one(rt, jobs, &name);
+    remove_one(rt, jobs);
     Ok(())
 }
 
+#[test]
+fn job_changed_in_its_room(rt: HostRuntime) -> Result<(), Fail> {
+    let name = tube(&rt, "default");
+    put_and_change(&rt, rt.alloc(), &mut Jobs::new(), name)
+}
+
 // Whichever of the three boxes of a job fails, the next call allocates the missing ones.
-fn refuse_one(rt: &impl Abort, alloc: Global, refused: usize, left: usize) -> Result<(), Fail> {
-    let mut jobs = Jobs::new();
+fn refuse_one(rt: &impl Abort, alloc: Global, jobs: &mut Jobs, refused: usize, left: usize) {
     let mut source = Refusing {
         heap: alloc,
         asked: 0,
         refused,
     };
     assert!(rt; jobs.reserve_one_from(&mut source) == Err(NoMemory));
-    assert_eq!(rt; (source.asked, jobs.len(), jobs.room()), (refused, 0, 0));
+    assert!(rt; (source.asked, jobs.len(), jobs.room()) == (refused, 0, 0));
     source.asked = 0;
     source.refused = 4;
     assert!(rt; jobs.reserve_one_from(&mut source).is_ok());
-    assert_eq!(rt; (source.asked, jobs.room()), (left, 1));
-    Ok(())
+    assert!(rt; (source.asked, jobs.room()) == (left, 1));
 }
 
 #[test]
-fn each_box_of_a_named_job_refused(rt: HostRuntime) -> Result<(), Fail> {
-    refuse_one(&rt, rt.alloc(), 1, 3)?;
-    refuse_one(&rt, rt.alloc(), 2, 2)?;
-    refuse_one(&rt, rt.alloc(), 3, 1)
+fn each_box_of_a_named_job_refused(rt: HostRuntime) {
+    refuse_one(&rt, rt.alloc(), &mut Jobs::new(), 1, 3);
+    refuse_one(&rt, rt.alloc(), &mut Jobs::new(), 2, 2);
+    refuse_one(&rt, rt.alloc(), &mut Jobs::new(), 3, 1);
 }

@@ -40,6 +40,19 @@ pub fn put(alloc: Global, jobs: &mut NumberedJobs, job: Job) -> bool {
     true
 }
 
+/// Makes a job and adds it, as `put` does.
+pub fn put_new(
+    alloc: Global,
+    jobs: &mut NumberedJobs,
+    id: JobId,
+    tube: TubeName,
+    pri: Pri,
+    state: JobState,
+) -> Result<bool, NoMemory> {
+    let job = job(alloc, id, tube, pri, state)?;
+    Ok(put(alloc, jobs, job))
+}
+
 /// Changes the state of a job by removing it and adding it again.
 pub fn change(alloc: Global, jobs: &mut NumberedJobs, id: JobId, state: JobState) -> bool {
     match jobs.remove(id) {

@@ -29,8 +29,14 @@ impl BoxSource for Refusing {
 /// are spare.
 const REFUSALS: &[(usize, usize, usize)] = &[(4, 3, 3), (1, 1, 0), (2, 2, 1), (3, 3, 2)];
 
-fn reserve_three(rt: &impl Abort, heap: Global, refused: usize, asked: usize, spare: usize) {
-    let mut shelf: Shelf<u64, u64> = Shelf::new();
+fn reserve_three(
+    rt: &impl Abort,
+    heap: Global,
+    shelf: &mut Shelf<u64, u64>,
+    refused: usize,
+    asked: usize,
+    spare: usize,
+) {
     let mut source = Refusing {
         heap,
         asked: 0,
@@ -47,7 +53,7 @@ fn reserve_three(rt: &impl Abort, heap: Global, refused: usize, asked: usize, sp
 #[test]
 fn boxes_one_by_one(rt: HostRuntime) {
     for (refused, asked, spare) in REFUSALS {
-        reserve_three(&rt, rt.alloc(), *refused, *asked, *spare);
+        reserve_three(&rt, rt.alloc(), &mut Shelf::new(), *refused, *asked, *spare);
     }
 }
 
@@ -74,35 +80,48 @@ impl BoxSource for Weighing {
     }
 }
 
+// Returns the size of a box of a shelf that has keys only.
+fn bytes_of_a_key(heap: Global) -> Result<usize, NoMemory> {
+    let mut source = Weighing { heap, size: 0 };
+    let mut keys: Shelf<u64, ()> = Shelf::new();
+    keys.reserve_from(&mut source, 1)?;
+    Ok(source.size)
+}
+
+// The same for keys with values of 16 bytes.
+fn bytes_of_an_entry(heap: Global) -> Result<usize, NoMemory> {
+    let mut source = Weighing { heap, size: 0 };
+    let mut entries: Shelf<u64, (u64, u64)> = Shelf::new();
+    entries.reserve_from(&mut source, 1)?;
+    Ok(source.size)
+}
+
 /// A box has 24 bytes besides its key and its value.
 #[test]
 fn bytes_of_a_box(rt: HostRuntime) -> Result<(), Fail> {
-    let mut source = Weighing {
-        heap: rt.alloc(),
-        size: 0,
-    };
-    let mut keys: Shelf<u64, ()> = Shelf::new();
-    keys.reserve_from(&mut source, 1)?;
-    assert!(rt; source.size == 32);
-    let mut entries: Shelf<u64, (u64, u64)> = Shelf::new();
-    entries.reserve_from(&mut source, 1)?;
-    assert!(rt; source.size == 48);
+    assert!(rt; bytes_of_a_key(rt.alloc())? == 32);
+    assert!(rt; bytes_of_an_entry(rt.alloc())? == 48);
     Ok(())
+}
+
+// Two of three spare boxes are used, and one is returned.
+fn give_one_back(rt: &impl Abort, shelf: &mut Shelf<u64, u64>) {
+    assert!(rt; put(shelf, 7, 70));
+    shelf.give_back();
+    assert!(rt; (shelf.spare(), shelf.len()) == (1, 1) && shelf.get(&7) == Some(&70));
+    assert!(rt; put(shelf, 8, 80));
+    assert!(rt; !put(shelf, 9, 90));
+    shelf.give_back();
+    assert!(rt; (shelf.spare(), shelf.len()) == (0, 2));
 }
 
 /// A box that is returned to the heap is no longer available for an insertion. If none is spare,
 /// none is returned.
 #[test]
 fn one_box_given_back(rt: HostRuntime) -> Result<(), Fail> {
-    let mut shelf: Shelf<u64, u64> = Shelf::new();
+    let mut shelf = Shelf::new();
     shelf.reserve(rt.alloc(), 3)?;
-    assert!(rt; put(&mut shelf, 7, 70));
-    shelf.give_back();
-    assert!(rt; (shelf.spare(), shelf.len(), shelf.get(&7).copied()) == (1, 1, Some(70)));
-    assert!(rt; put(&mut shelf, 8, 80));
-    assert!(rt; !put(&mut shelf, 9, 90));
-    shelf.give_back();
-    assert!(rt; (shelf.spare(), shelf.len()) == (0, 2));
+    give_one_back(&rt, &mut shelf);
     Ok(())
 }
 

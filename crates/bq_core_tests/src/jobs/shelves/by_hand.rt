@@ -2,6 +2,7 @@
 
 use super::putting::put;
 use bq_index::{NoMemory, Shelf};
+use std::alloc::Global;
 use std::process::Abort;
 use std::test::Fail;
 
@@ -40,16 +41,19 @@ fn write_over(rt: &impl Abort, shelf: &mut Shelf<u64, char>) {
     assert!(rt; shelf.get(&3).is_none());
 }
 
+fn use_shelf(rt: &impl Abort, alloc: Global, shelf: &mut Shelf<u64, char>) -> Result<(), Fail> {
+    assert!(rt; room(shelf) == (0, 0) && shelf.comparisons() == 0);
+    shelf.reserve(alloc, 2)?;
+    put_two(rt, shelf);
+    look_on(rt, shelf);
+    take_out(rt, shelf);
+    write_over(rt, shelf);
+    Ok(())
+}
+
 #[test]
 fn shelf_by_hand(rt: HostRuntime) -> Result<(), Fail> {
-    let mut shelf: Shelf<u64, char> = Shelf::new();
-    assert!(rt; room(&shelf) == (0, 0) && shelf.comparisons() == 0);
-    shelf.reserve(rt.alloc(), 2)?;
-    put_two(&rt, &mut shelf);
-    look_on(&rt, &mut shelf);
-    take_out(&rt, &mut shelf);
-    write_over(&rt, &mut shelf);
-    Ok(())
+    use_shelf(&rt, rt.alloc(), &mut Shelf::new())
 }
 
 #[test]

@@ -3,6 +3,7 @@ ghost use Rattle.std.specs.Prelude.{◌≡◌};
 ghost use Rattle.bq_index.specs.Digits.{binary_digits};
 
 use bq_index::Shelf;
+use std::process::Abort;
 use std::test::Fail;
 
 /// Numbers of binary digits, evaluated by the definition.
@@ -71,37 +72,67 @@ fn take(shelf: &mut Shelf<u64, u64>, key: u64, spread: &mut Spread) {
     spread.note(before, shelf.comparisons());
 }
 
-#[test]
-fn comparisons_of_a_call(rt: HostRuntime) -> Result<(), Fail> {
-    let mut shelf: Shelf<u64, u64> = Shelf::new();
-    shelf.reserve(rt.alloc(), 1_024)?;
+/// Calls on an empty shelf.
+fn of_an_empty_shelf(shelf: &mut Shelf<u64, u64>) -> Spread {
     let mut empty = Spread::none();
-    look(&mut shelf, 7, &mut empty);
-    take(&mut shelf, 7, &mut empty);
-    add(&mut shelf, 7, &mut empty);
-    assert!(rt; empty.most <= 2);
-    let mut one = Spread::none();
-    look(&mut shelf, 7, &mut one);
-    take(&mut shelf, 7, &mut one);
-    assert!(rt; (one.fewest, one.most) == (1, 1));
+    look(shelf, 7, &mut empty);
+    take(shelf, 7, &mut empty);
+    add(shelf, 7, &mut empty);
+    empty
+}
 
+/// Calls on a shelf with one entry, which is then empty.
+fn of_one_entry(shelf: &mut Shelf<u64, u64>) -> Spread {
+    let mut one = Spread::none();
+    look(shelf, 7, &mut one);
+    take(shelf, 7, &mut one);
+    one
+}
+
+/// Fills an empty shelf with 1,023 entries, whose keys are even.
+fn fill(shelf: &mut Shelf<u64, u64>) {
     let mut filling = Spread::none();
     for i in 0..1_023u64 {
-        add(&mut shelf, i * 389 % 1_023 * 2, &mut filling);
+        add(shelf, i * 389 % 1_023 * 2, &mut filling);
     }
-    assert!(rt; (shelf.len(), shelf.spare()) == (1_023, 1));
+}
+
+/// Calls that leave the shelf as it was, of which one adds an entry and one removes it.
+fn use_key(shelf: &mut Shelf<u64, u64>, key: u64, spread: &mut Spread) {
+    look(shelf, key, spread);
+    let odd = key % 2 == 1;
+    if odd {
+        add(shelf, key, spread);
+    }
+    take(shelf, key, spread);
+    if !odd {
+        add(shelf, key, spread);
+    }
+}
+
+/// Calls on the full shelf, with keys that it has and with others.
+fn of_a_full_shelf(shelf: &mut Shelf<u64, u64>) -> Spread {
     let mut full = Spread::none();
     for key in 0..2_048u64 {
-        look(&mut shelf, key, &mut full);
-        let odd = key % 2 == 1;
-        if odd {
-            add(&mut shelf, key, &mut full);
-        }
-        take(&mut shelf, key, &mut full);
-        if !odd {
-            add(&mut shelf, key, &mut full);
-        }
+        use_key(shelf, key, &mut full);
     }
+    full
+}
+
+fn compare(rt: &impl Abort, shelf: &mut Shelf<u64, u64>) {
+    assert!(rt; of_an_empty_shelf(shelf).most <= 2);
+    let one = of_one_entry(shelf);
+    assert!(rt; (one.fewest, one.most) == (1, 1));
+    fill(shelf);
+    assert!(rt; (shelf.len(), shelf.spare()) == (1_023, 1));
+    let full = of_a_full_shelf(shelf);
     assert!(rt; full.fewest >= 1 && full.most <= 22);
+}
+
+#[test]
+fn comparisons_of_a_call(rt: HostRuntime) -> Result<(), Fail> {
+    let mut shelf = Shelf::new();
+    shelf.reserve(rt.alloc(), 1_024)?;
+    compare(&rt, &mut shelf);
     Ok(())
 }

@@ -2,6 +2,8 @@
 
 use super::putting::put;
 use bq_index::Shelf;
+use std::alloc::Global;
+use std::process::Abort;
 use std::test::Fail;
 
 const ENTRIES: u64 = 30_011;
@@ -40,15 +42,18 @@ fn empty(shelf: &mut Shelf<u64, u64>) -> bool {
     true
 }
 
-#[test]
-fn thirty_thousand_entries(rt: HostRuntime) -> Result<(), Fail> {
-    let mut shelf: Shelf<u64, u64> = Shelf::new();
-    shelf.reserve(rt.alloc(), 30_011)?;
-    assert!(rt; fill(&mut shelf));
+fn fill_and_empty(rt: &impl Abort, alloc: Global, shelf: &mut Shelf<u64, u64>) -> Result<(), Fail> {
+    shelf.reserve(alloc, 30_011)?;
+    assert!(rt; fill(shelf));
     assert!(rt; (shelf.len(), shelf.spare()) == (30_011, 0));
-    shelf.reserve(rt.alloc(), 2)?;
-    assert!(rt; is_full(&mut shelf));
-    assert!(rt; empty(&mut shelf));
+    shelf.reserve(alloc, 2)?;
+    assert!(rt; is_full(shelf));
+    assert!(rt; empty(shelf));
     assert!(rt; (shelf.len(), shelf.spare()) == (0, 30_013));
     Ok(())
+}
+
+#[test]
+fn thirty_thousand_entries(rt: HostRuntime) -> Result<(), Fail> {
+    fill_and_empty(&rt, rt.alloc(), &mut Shelf::new())
 }
