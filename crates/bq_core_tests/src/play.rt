@@ -3,7 +3,7 @@ use crate::bench::{Bench, config};
 use crate::crowds::has_come;
 use crate::texts::is_wanted;
 use bq_core::Config;
-use bq_job::{Moment, Seat, Step};
+use bq_job::{Answer, Moment, Seat, Step};
 use std::alloc::Global;
 use std::test::Fail;
 
@@ -46,12 +46,20 @@ fn row_of(text: &'static str) -> Option<Row> {
     })
 }
 
+// The answer goes to the seat that a script names, and has the text that follows.
+fn is_told(alloc: Global, to: Seat, answer: &Answer, wanted: &'static str) -> Result<bool, Fail> {
+    match seated(wanted) {
+        Some((seat, text)) => Ok(to == seat && is_wanted(alloc, answer, text)?),
+        None => Ok(false),
+    }
+}
+
 // The oldest remaining answer of the last step is this one.
 fn is_next(alloc: Global, bench: &mut Bench, wanted: &'static str) -> Result<bool, Fail> {
-    let (Some((to, answer)), Some((seat, text))) = (bench.answer(), seated(wanted)) else {
-        return Ok(false);
-    };
-    Ok(to == seat && is_wanted(alloc, &answer, text)?)
+    match bench.answer() {
+        Some((to, answer)) => is_told(alloc, to, &answer, wanted),
+        None => Ok(false),
+    }
 }
 
 // The answers of the last step are exactly those wanted, in order, and nothing failed for lack of

@@ -95,12 +95,17 @@ fn refuse_one(
     Ok(())
 }
 
+// The same in a queue of its own.
+fn refuse_anew(rt: &impl Abort, alloc: Global, refused: usize, left: usize) -> Result<(), Fail> {
+    let name = tube(rt, "default");
+    refuse_one(rt, alloc, &mut NumberedJobs::new(), name, refused, left)
+}
+
 #[test]
 fn each_box_refused_in_turn(rt: HostRuntime) -> Result<(), Fail> {
-    let name = tube(&rt, "default");
-    refuse_one(&rt, rt.alloc(), &mut NumberedJobs::new(), name, 1, 3)?;
-    refuse_one(&rt, rt.alloc(), &mut NumberedJobs::new(), name, 2, 2)?;
-    refuse_one(&rt, rt.alloc(), &mut NumberedJobs::new(), name, 3, 1)
+    refuse_anew(&rt, rt.alloc(), 1, 3)?;
+    refuse_anew(&rt, rt.alloc(), 2, 2)?;
+    refuse_anew(&rt, rt.alloc(), 3, 1)
 }
 
 /// Returns all spare room to the heap, and reports for how many jobs that was.
