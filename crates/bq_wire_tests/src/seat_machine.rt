@@ -101,8 +101,25 @@ fn answers(event: &str, last: &str) -> bool {
     }
 }
 
-// Returns the name of the action that answers an event. The event is passed as a value, or to the
-// method of its own.
+// Passes the event as a value, or to the method of its own. Returns the name of the action that
+// answers it.
+fn answer_to(
+    alloc: Global,
+    machine: &mut SeatMachine,
+    event: Event<'_>,
+    is_in_place: bool,
+) -> &'static str
+    requires { FitsPiece event }
+{
+    if !is_in_place {
+        return name_of(&machine.on(alloc, event));
+    }
+    let mut next = Action::PollMail;
+    pass(alloc, machine, event, &mut next);
+    name_of(&next)
+}
+
+// Returns the name of the action that answers the event of a row.
 fn told(
     alloc: Global,
     machine: &mut SeatMachine,
@@ -111,15 +128,10 @@ fn told(
 ) -> Result<&'static str, Fail> {
     let mut bytes = Vec::new(alloc);
     push_text(&mut bytes, event.strip_prefix("bytes ").unwrap_or(""))?;
-    let Some(event) = event_of(event, bytes.as_slice()) else {
-        return Err(Fail::from("no event"));
-    };
-    if !is_in_place {
-        return Ok(name_of(&machine.on(alloc, event)));
+    match event_of(event, bytes.as_slice()) {
+        Some(event) => Ok(answer_to(alloc, machine, event, is_in_place)),
+        None => Err(Fail::from("no event")),
     }
-    let mut next = Action::PollMail;
-    pass(alloc, machine, event, &mut next);
-    Ok(name_of(&next))
 }
 
 // Passes the machine each event that does not answer an action with this name.
@@ -138,6 +150,23 @@ fn stray(
     Ok(())
 }
 
+// Passes the machine the event of a row, after all that are stray. Returns the name of the action
+// that answers it, which has to be the one of the row.
+fn play_row(
+    rt: &impl Abort,
+    alloc: Global,
+    machine: &mut SeatMachine,
+    last: &str,
+    row: &str,
+    is_in_place: bool,
+) -> Result<&'static str, Fail> {
+    stray(rt, alloc, machine, last, is_in_place)?;
+    let (event, wanted) = row.split_once('|').ok_or("no row")?;
+    let next = told(alloc, machine, event, is_in_place)?;
+    assert!(rt; next == wanted);
+    Ok(next)
+}
+
 // Lines one after another. Each row has an event, and the action that answers it.
 fn play_at(
     rt: &impl Abort,
@@ -148,19 +177,19 @@ fn play_at(
 ) -> Result<(), Fail> {
     let mut last = "over";
     for row in session.split('\n') {
-        let (event, wanted) = row.split_once('|').ok_or("no row")?;
-        stray(rt, alloc, machine, last, is_in_place)?;
-        last = told(alloc, machine, event, is_in_place)?;
-        assert!(rt; last == wanted);
+        last = play_row(rt, alloc, machine, last, row, is_in_place)?;
     }
     Ok(())
 }
 
+fn play_anew(rt: &impl Abort, alloc: Global, session: &str, is_in_place: bool) -> Result<(), Fail> {
+    let mut machine = SeatMachine::new(alloc, 65535)?;
+    play_at(rt, alloc, &mut machine, session, is_in_place)
+}
+
 fn play(rt: &impl Abort, alloc: Global, session: &str) -> Result<(), Fail> {
-    let mut machine = SeatMachine::new(alloc, 65535)?;
-    play_at(rt, alloc, &mut machine, session, false)?;
-    let mut machine = SeatMachine::new(alloc, 65535)?;
-    play_at(rt, alloc, &mut machine, session, true)
+    play_anew(rt, alloc, session, false)?;
+    play_anew(rt, alloc, session, true)
 }
 
 // A line with commands after a wait, and then one that comes in pieces, with a quit inside a body

@@ -8,8 +8,12 @@ const NAMES: &[&str] = &["default", "aZ09-+/;.$_()", "+"];
 
 const NO_NAMES: &[&str] = &["", "-a", "a b", "a\r", "\u{e9}"];
 
+fn named(bytes: &[u8]) -> Result<TubeName, Fail> {
+    Ok(TubeName::new(bytes).ok_or("no name")?)
+}
+
 fn expect_name(rt: &impl Abort, bytes: &[u8]) -> Result<(), Fail> {
-    let name = TubeName::new(bytes).ok_or("no name")?;
+    let name = named(bytes)?;
     assert!(rt; name.as_slice() == bytes);
     assert!(rt; name.clone()? == name);
     assert!(rt; TubeName::new(b"other") != Some(name));
@@ -46,8 +50,8 @@ const IN_ORDER: &[(&str, &str)] = &[
 ];
 
 fn expect_order(rt: &impl Abort, first: &str, second: &str) -> Result<(), Fail> {
-    let first = TubeName::new(first.as_bytes()).ok_or("no name")?;
-    let second = TubeName::new(second.as_bytes()).ok_or("no name")?;
+    let first = named(first.as_bytes())?;
+    let second = named(second.as_bytes())?;
     assert!(rt; first < second);
     assert!(rt; first.cmp(&first).is_eq());
     Ok(())

@@ -1,9 +1,10 @@
 //! Wake-ups: a waiting thread is woken up by what it waits for, even if that came before it waited.
-ghost use Rattle.std.specs.Prelude.{◌≡◌};
+ghost use Rattle.std.specs.Prelude.{◌≡◌, ◌+◌, All, length};
 
-use crate::links::ends::{Shared, links_of_four, submit_one};
+use crate::links::ends::{Shared, last_end, links_of_four, submit_one};
 use bq_job::Step;
 use bq_link::{CoreEnd, SeatEnd};
+use std::process::Abort;
 use std::sync::Wait;
 use std::test::Fail;
 use std::time::{Clock, Duration, Instant};
@@ -45,34 +46,43 @@ fn wakes_in_place<R: Wait>(rt: &R, intake: &Shared, core: &mut CoreEnd, end: Sea
     is_submitted && taken.is_some()
 }
 
+// Each of four ends wakes the core once, two of them by a step that is submitted in place.
+fn all_wake<R: Abort + Wait>(rt: &R, intake: &Shared, core: &mut CoreEnd, seats: &mut Vec<SeatEnd>)
+    requires core { core.old.intake ≡ intake.now.id }
+    requires here { All (λ s. s.intake ≡ intake.now.id) seats.old.items }
+    requires count { length seats.old.items ≡ 4 }
+{
+    assert!(rt; wakes_the_core(rt, intake, core, last_end(intake, seats)));
+    assert!(rt; wakes_the_core(rt, intake, core, last_end(intake, seats)));
+    assert!(rt; wakes_in_place(rt, intake, core, last_end(intake, seats)));
+    assert!(rt; wakes_in_place(rt, intake, core, last_end(intake, seats)));
+}
+
 #[test]
 fn each_end_wakes_the_core(rt: HostRuntime) -> Result<(), Fail> {
-    let (intake, mut core, (a, b), (c, d)) = links_of_four(rt.alloc())?;
     let start = Instant::now(&rt)?;
-    assert!(rt; wakes_the_core(&rt, &intake, &mut core, a));
-    assert!(rt; wakes_the_core(&rt, &intake, &mut core, b));
-    assert!(rt; wakes_in_place(&rt, &intake, &mut core, c));
-    assert!(rt; wakes_in_place(&rt, &intake, &mut core, d));
+    let (intake, mut core, mut seats) = links_of_four(rt.alloc())?;
+    all_wake(&rt, &intake, &mut core, &mut seats);
     assert!(rt; was_woken(&rt, start));
     Ok(())
 }
 
-// The end waits after it was woken up.
-fn hears_its_bell<R: Wait>(rt: &R, intake: &Shared, end: &mut SeatEnd) {
-    intake.wake(end.number());
-    end.wait(rt, intake, long());
+// Each end waits after it was woken up.
+fn all_hear<R: Wait>(rt: &R, intake: &Shared, seats: &mut Vec<SeatEnd>) {
+    for end in seats {
+        intake.wake(end.number());
+        end.wait(rt, intake, long());
+    }
+    // There is no such seat.
+    intake.wake(7);
 }
 
 #[test]
 fn each_end_hears_its_bell(rt: HostRuntime) -> Result<(), Fail> {
-    let (intake, _core, (mut a, mut b), (mut c, mut d)) = links_of_four(rt.alloc())?;
     let start = Instant::now(&rt)?;
-    hears_its_bell(&rt, &intake, &mut a);
-    hears_its_bell(&rt, &intake, &mut b);
-    hears_its_bell(&rt, &intake, &mut c);
-    hears_its_bell(&rt, &intake, &mut d);
-    // There is no such seat.
-    intake.wake(7);
+    let (intake, _core, mut seats) = links_of_four(rt.alloc())?;
+    assert!(rt; seats.len() == 4);
+    all_hear(&rt, &intake, &mut seats);
     assert!(rt; was_woken(&rt, start));
     Ok(())
 }

@@ -26,12 +26,8 @@ pub fn last_ends(alloc: Global, count: u16) -> Result<(Shared, CoreEnd, SeatEnd,
     Ok((intake, core, first, second))
 }
 
-/// The links of four seats, without the control line's end: the intake, the core's end and the
-/// seats' ends.
-pub type Four = (Shared, CoreEnd, (SeatEnd, SeatEnd), (SeatEnd, SeatEnd));
-
-// Removes and returns the last end.
-fn last_end(intake: &Shared, seats: &mut Vec<SeatEnd>) -> SeatEnd
+/// Removes and returns the last end.
+pub fn last_end(intake: &Shared, seats: &mut Vec<SeatEnd>) -> SeatEnd
     requires some { 0 < length seats.old.items }
     requires here { All (λ s. s.intake ≡ intake.now.id) seats.old.items }
     ensures end { result.intake ≡ intake.now.id }
@@ -41,19 +37,16 @@ fn last_end(intake: &Shared, seats: &mut Vec<SeatEnd>) -> SeatEnd
     seats.pop().unwrap()
 }
 
-/// Returns the links of four seats, without the end of the control line.
-pub fn links_of_four(alloc: Global) -> Result<Four, NoMemory>
+/// Returns the links of four seats, without the end of the control line: the intake, the core's end
+/// and the seats' ends.
+pub fn links_of_four(alloc: Global) -> Result<(Shared, CoreEnd, Vec<SeatEnd>), NoMemory>
     ensures core { IfOk result (λ r. r.1.intake ≡ r.0.id) }
-    ensures first { IfOk result (λ r. (r.2.0.intake ≡ r.0.id) × (r.2.1.intake ≡ r.0.id)) }
-    ensures second { IfOk result (λ r. (r.3.0.intake ≡ r.0.id) × (r.3.1.intake ≡ r.0.id)) }
+    ensures seats { IfOk result (λ r. All (λ s. s.intake ≡ r.0.id) r.2.items) }
+    ensures count { IfOk result (λ r. length r.2.items ≡ 4) }
 {
     let (intake, core, mut seats) = links(alloc, 4)?;
     let _control = last_end(&intake, &mut seats);
-    let a = last_end(&intake, &mut seats);
-    let b = last_end(&intake, &mut seats);
-    let c = last_end(&intake, &mut seats);
-    let d = last_end(&intake, &mut seats);
-    Ok((intake, core, (a, b), (c, d)))
+    Ok((intake, core, seats))
 }
 
 /// Submits a step, and tries again while the intake is full.
