@@ -56,7 +56,7 @@ def main():
     parser = argparse.ArgumentParser(prog="tests/memory_faults", description=__doc__, formatter_class=argparse.RawDescriptionHelpFormatter)
     parser.add_argument("--bq", required=True)
     parser.add_argument("--bqd", required=True)
-    parser.add_argument("--library", required=True, help="the test program of bq_memory_tests")
+    parser.add_argument("--library", required=True, help="the test program of bq_serve_tests")
     engines.add_choice(parser)
     parser.add_argument("--minutes", type=float, default=10, help="begin no further case after this many minutes")
     parser.add_argument("--self-check", action="store_true", help="sweep programs that are broken on purpose")

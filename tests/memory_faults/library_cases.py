@@ -1,4 +1,4 @@
-"""Calls of the libraries, in bq_memory_tests: each allocation fails in turn.
+"""Calls of the libraries, in the module `memory` of bq_serve_tests: each allocation fails in turn.
 
 One test prints the outcome of each call on a line, then the steps of a core, one after another (its steps.rt). Its
 output without failures is in library_told.txt. The other prints the steps of a client that holds a job, at a core of
@@ -11,12 +11,12 @@ import re
 from refusal import each_in_turn
 
 # The test's name for its program, and its output if no allocation fails, with the toolchain's last line.
-TEST = "told::all_calls"
+TEST = "memory::told::all_calls"
 TOLD = (pathlib.Path(__file__).resolve().parent / "library_told.txt").read_bytes() + b"\ntest result: ok\n"
 
 # The steps of a client that holds a job, each with its answer. After each of those that need no memory comes a tick,
 # which has no answer.
-HELD = "told::held_job_without_memory"
+HELD = "memory::told::held_job_without_memory"
 HELD_STEPS = [
     (b"connect", b""),
     (b"put", b"INSERTED 1\r\n"),
@@ -41,7 +41,7 @@ HELD_AMPLE = 7
 OUTCOMES = {
     **dict.fromkeys((b"shelf", b"jobs"), {b"refused", b"not begun"}),
     **dict.fromkeys((b"core", b"outs", b"links", b"reader", b"seat", b"lock"), {b"refused"}),
-    **dict.fromkeys((b"run_sessions", b"run_locked"), {b"refused", b"a thread was refused", b"a command was left out", b"not begun"}),
+    **dict.fromkeys((b"run_sessions", b"run_locked"), {b"refused", b"a thread was refused", b"a command was left out"}),
 }
 STEPS = b"steps: "
 FIRST_FREE = b"step bury 2 0\n"

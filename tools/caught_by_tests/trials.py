@@ -67,8 +67,8 @@ def trials(tests):
         Trial("runs", r"^FAILED \w+\.run_(\w+)(?: \(\S+\))?:", ["bq", "bqd"], over("tests/runs", "bq", "bqd"), takes_names=True),
         *(Trial(it, r"^test (\S+) \.\.\. FAILED", [it], lambda built, it=it: [*runner, built[it]]) for it in tests),
         Trial(
-            "memory_faults", r"^(.+): \d+ runs, (?!well$)", ["bq", "bqd", "bq_memory_tests"],
-            lambda built: [*over("tests/memory_faults", "bq", "bqd")(built), "--library", built["bq_memory_tests"]],
+            "memory_faults", r"^(.+): \d+ runs, (?!well$)", ["bq", "bqd", "bq_serve_tests"],
+            lambda built: [*over("tests/memory_faults", "bq", "bqd")(built), "--library", built["bq_serve_tests"]],
         ),
         Trial(
             "model", r"^(.+): FAILED,", ["bq", "bqd"],

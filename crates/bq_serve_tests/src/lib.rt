@@ -1,5 +1,7 @@
 //! Tests of the runs over many doors, by public functions alone. They use clients in memory, the
 //! doors where these connect, and a control line in pieces. Every run has to pass the same tests.
+//! Module `memory` makes calls that fail for lack of memory. Other crates of tests use the public
+//! modules.
 #![tactic(auto)]
 
 pub mod broken;
@@ -9,6 +11,8 @@ pub mod doors;
 pub mod drains;
 #[cfg(test)]
 mod lock;
+#[cfg(test)]
+mod memory;
 pub mod notation;
 pub mod refused;
 #[cfg(test)]

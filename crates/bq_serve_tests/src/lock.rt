@@ -5,4 +5,4 @@ mod failing_lines;
 mod journal;
 mod many_lines;
 mod refused;
-mod runs;
+pub mod runs;

@@ -6,4 +6,4 @@ mod failing_lines;
 mod many_lines;
 mod meeting;
 mod refused;
-mod runs;
+pub mod runs;

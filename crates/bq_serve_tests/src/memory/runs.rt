@@ -1,13 +1,13 @@
 //! Runs over a door that counts how often it is opened. A run that fails opens none.
 
-use crate::makings::config;
-use crate::outcome::{Outcome, tell};
+use super::outcome::{Outcome, tell};
+use crate::clients::Client;
+use crate::doors::CountedDoor;
+use crate::lock::runs::around_a_lock;
+use crate::sessions::runs::{SILENT, by_threads};
+use crate::settings::config;
 use bq_host::RunFault;
-use bq_job::LineEnd;
-use bq_lock::run_locked;
-use bq_serve::run_sessions;
-use bq_serve_tests::clients::{Client, STILL, clock};
-use bq_serve_tests::doors::{CountedDoor, doors};
+use bq_job::{LineEnd, USUAL_BODY};
 use std::alloc::Global;
 use std::io;
 use std::io::Print;
@@ -22,6 +22,9 @@ const ONE: &[&[Client]] = &[&[("put 0 0 1 1~a~reserve-with-timeout 0~quit~", 100
 const WRITTEN: &[u8] = b"INSERTED 1\r\nRESERVED 1 1\r\na\r\n";
 
 const LEFT_OUT: &[u8] = b"OUT_OF_MEMORY\r\nTIMED_OUT\r\n";
+
+/// Room in a journal for all steps of a run.
+const JOURNAL_ROOM: usize = 100;
 
 // The outcome for a client, from what it received.
 fn came_of(written: &[u8]) -> Outcome {
@@ -58,24 +61,16 @@ fn refused(fault: RunFault, opened: &AtomicU64) -> Outcome {
     }
 }
 
-// A control line without input.
-const SILENT: &[u8] = b"";
-
 fn sessions<R: Threads + Wait + Sync>(rt: &R, alloc: Global, opened: &AtomicU64) -> Outcome {
-    let (Ok(doors), Ok(clock)) = (doors(alloc, ONE, opened), clock(alloc, STILL)) else {
-        return Outcome::NotBegun;
-    };
-    match run_sessions(rt, alloc, config(1), doors.all, clock, SILENT) {
+    match by_threads(rt, alloc, config(1, USUAL_BODY), ONE, SILENT, opened) {
         Ok(run) => came_at_all(run.doors.as_slice()),
         Err(fault) => refused(fault, opened),
     }
 }
 
 fn locked<R: Threads + Wait + Sync>(rt: &R, alloc: Global, opened: &AtomicU64) -> Outcome {
-    let (Ok(doors), Ok(clock)) = (doors(alloc, ONE, opened), clock(alloc, STILL)) else {
-        return Outcome::NotBegun;
-    };
-    match run_locked(rt, alloc, config(1), doors.all, clock, SILENT, 100) {
+    let config = config(1, USUAL_BODY);
+    match around_a_lock(rt, alloc, config, ONE, SILENT, JOURNAL_ROOM, opened) {
         Ok(run) => came_at_all(run.doors.as_slice()),
         Err(fault) => refused(fault, opened),
     }

@@ -1,7 +1,7 @@
 //! All calls and steps, one after another. A second test runs the steps of a client that holds a
 //! job.
 
-use crate::{makings, runs, steps};
+use super::{makings, runs, steps};
 use std::test::Fail;
 
 #[test]

@@ -1,7 +1,8 @@
 //! Calls that allocate: each succeeds, or fails and changes nothing.
 
-use crate::outcome::{Outcome, tell};
-use bq_core::{Config, Core, CoreFault, Outs};
+use super::outcome::{Outcome, tell};
+use crate::settings::config;
+use bq_core::{Core, CoreFault, Outs};
 use bq_host::RunFault;
 use bq_index::Shelf;
 use bq_job::{Body, Counts, Job, JobState, TubeName, USUAL_BODY};
@@ -13,16 +14,6 @@ use bq_wire::RequestReader;
 use std::alloc::Global;
 use std::io;
 use std::io::Print;
-
-/// This many seats, and defaults for the rest.
-pub fn config(seats: u16) -> Config {
-    Config {
-        seats,
-        max_job_size: USUAL_BODY,
-        max_jobs: None,
-        requeue_delay: 0,
-    }
-}
 
 fn made_or_refused(is_made: bool) -> Outcome {
     if is_made {
@@ -82,7 +73,7 @@ fn jobs(alloc: Global) -> Outcome {
 }
 
 fn core(alloc: Global) -> Outcome {
-    match Core::new(alloc, config(2)) {
+    match Core::new(alloc, config(2, USUAL_BODY)) {
         Ok(_) => Outcome::Made,
         Err(CoreFault::NoMemory) => Outcome::Refused,
         Err(_) => Outcome::Wrong,
@@ -91,7 +82,7 @@ fn core(alloc: Global) -> Outcome {
 
 // The state under the lock, with a journal.
 fn lock(alloc: Global) -> Outcome {
-    match Locked::new(alloc, config(2), 10) {
+    match Locked::new(alloc, config(2, USUAL_BODY), 10) {
         Ok(_) => Outcome::Made,
         Err(RunFault::NoMemory) => Outcome::Refused,
         Err(_) => Outcome::Wrong,

@@ -1,15 +1,9 @@
 //! Calls that may fail for lack of memory, and steps that must not allocate: the result of each is
 //! a line on standard output. tests/memory_faults runs it again and again, with another allocation
 //! failing each time.
-#![tactic(auto)]
 
-#[cfg(test)]
 mod makings;
-#[cfg(test)]
 mod outcome;
-#[cfg(test)]
 mod runs;
-#[cfg(test)]
 mod steps;
-#[cfg(test)]
 mod told;
