@@ -5,7 +5,7 @@ use crate::order::{RULES, Rule};
 use crate::runs::{PLAIN, Setting, comes_out};
 use crate::script::Limits;
 use crate::worked::MORE;
-use bq_serve_tests::worked::{EXAMPLES, Example};
+use bq_serve_tests::worked::{Example, examples};
 use std::alloc::Global;
 use std::sync::Wait;
 
@@ -46,7 +46,7 @@ fn are_cut<R: Wait>(rt: &R, alloc: Global, examples: &[Example], bytes: usize) -
 #[test]
 fn cut_at_each_byte(rt: HostRuntime) {
     for bytes in 0..LONGEST {
-        assert!(rt; are_cut(&rt, rt.alloc(), EXAMPLES, bytes));
+        assert!(rt; are_cut(&rt, rt.alloc(), examples(), bytes));
     }
     for bytes in 0..LONGEST_OF_MORE {
         assert!(rt; are_cut(&rt, rt.alloc(), MORE, bytes));
@@ -58,7 +58,7 @@ fn few_bytes_at_a_time(rt: HostRuntime) {
     for rule in RULES {
         for bytes in 1..6 {
             let setting = setting(*rule, (bytes, bytes), (6 - bytes, 6 - bytes));
-            assert!(rt; come_out(&rt, rt.alloc(), EXAMPLES, &setting));
+            assert!(rt; come_out(&rt, rt.alloc(), examples(), &setting));
             assert!(rt; come_out(&rt, rt.alloc(), MORE, &setting));
         }
     }

@@ -5,7 +5,7 @@ use crate::order::RULES;
 use crate::runs::{PLAIN, comes_out};
 use bq_job::LineEnd;
 use bq_serve_tests::clients::ROOM;
-use bq_serve_tests::worked::{EXAMPLES, Example};
+use bq_serve_tests::worked::{Example, examples};
 
 /// Runs with known results, besides those of `crate::worked`.
 pub static MORE: &[Example] = &[
@@ -89,7 +89,7 @@ fn worked_runs(rt: HostRuntime) {
     for rule in RULES {
         let mut setting = PLAIN;
         setting.rule = *rule;
-        for (clients, outcomes) in EXAMPLES {
+        for (clients, outcomes) in examples() {
             assert!(rt; comes_out(&rt, rt.alloc(), clients, outcomes, &setting));
         }
     }

@@ -4,10 +4,12 @@
 //! modules.
 #![tactic(auto)]
 
-pub mod broken;
+#[cfg(test)]
+mod broken;
 pub mod clients;
 pub mod control;
-pub mod doors;
+#[cfg(test)]
+mod doors;
 pub mod drains;
 #[cfg(test)]
 mod lock;
@@ -16,7 +18,10 @@ mod memory;
 pub mod notation;
 pub mod refused;
 #[cfg(test)]
+mod scene;
+#[cfg(test)]
 mod sessions;
 pub mod settings;
-pub mod wanted;
+#[cfg(test)]
+mod wanted;
 pub mod worked;

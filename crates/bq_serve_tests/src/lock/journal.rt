@@ -100,20 +100,10 @@ fn written(alloc: Global, door: &CountedDoor) -> Result<Vec<u8, Global>, Fail> {
     Ok(text)
 }
 
-// Returns true if a line of the door had no room for all of its answers.
-fn is_cut_off(door: &CountedDoor) -> bool {
+// Returns true if one of the door's lines ended in this way.
+fn has_ended_by(door: &CountedDoor, end: LineEnd) -> bool {
     for over in door.door.over() {
-        if over.1 == LineEnd::WriteFault {
-            return true;
-        }
-    }
-    false
-}
-
-// Returns true if a read of one of the door's lines failed.
-fn has_failed(door: &CountedDoor) -> bool {
-    for over in door.door.over() {
-        if over.1 == LineEnd::ReadFault {
+        if over.1 == end {
             return true;
         }
     }
@@ -132,11 +122,13 @@ fn lacks_last_job(text: &[u8], wanted: &[u8]) -> bool {
     missing.starts_with(b"RESERVED ")
 }
 
-// Returns true if the text is what the door should have received. If a line fails while its client
-// waits for a job, it may have the answer with the job or not: the fault may be noticed before or
-// after the answer.
+// Returns true if the text is what the door should have received. A line that had no room for all
+// of its answers is cut off. If a line fails while its client waits for a job, it may have the
+// answer with the job or not: the fault may be noticed before or after the answer.
 fn is_due(door: &CountedDoor, text: &[u8], wanted: &[u8]) -> bool {
-    text == wanted || is_cut_off(door) || (has_failed(door) && lacks_last_job(text, wanted))
+    text == wanted
+        || has_ended_by(door, LineEnd::WriteFault)
+        || (has_ended_by(door, LineEnd::ReadFault) && lacks_last_job(text, wanted))
 }
 
 // Returns how often a seat disconnected, according to these entries.

@@ -1,9 +1,10 @@
 //! Runs around a lock with a clock that always reads the same.
 
-use crate::clients::{Client, STILL, clock};
-use crate::control::{Gives, control};
-use crate::doors::{CountedDoor, doors};
+use crate::clients::Client;
+use crate::control::Gives;
+use crate::doors::CountedDoor;
 use crate::lock::journal::is_whole;
+use crate::scene::Scene;
 use crate::settings::config;
 use crate::wanted;
 use crate::wanted::Wanted;
@@ -34,12 +35,14 @@ pub fn around_a_lock<'c, R: Threads + Wait + Sync>(
     room: usize,
     opened: &'c AtomicU64,
 ) -> Result<LockedRun<CountedDoor<'c>, ScriptClock>, RunFault> {
-    let Ok(doors) = doors(alloc, clients, opened) else {
+    let Ok(scene) = Scene::new(alloc, clients, gives, opened) else {
         return Err(RunFault::NoMemory);
     };
-    let (Ok(clock), Ok(control)) = (clock(alloc, STILL), control(alloc, gives)) else {
-        return Err(RunFault::NoMemory);
-    };
+    let Scene {
+        doors,
+        clock,
+        control,
+    } = scene;
     run_locked(rt, alloc, config, doors.all, clock, control, room)
 }
 

@@ -1,4 +1,5 @@
 //! Calls that allocate: each succeeds, or fails and changes nothing.
+ghost use Rattle.std.specs.Prelude.{◌<◌};
 
 use super::outcome::{Outcome, tell};
 use crate::settings::config;
@@ -26,18 +27,29 @@ fn made_or_refused(is_made: bool) -> Outcome {
 // A shelf with one entry gets room for four more.
 fn shelf(alloc: Global) -> Outcome {
     let mut shelf: Shelf<u64, u64> = Shelf::new();
-    if shelf.reserve(alloc, 3).is_err() || shelf.spare() == 0 || shelf.get(&7).is_some() {
+    if shelf.reserve(alloc, 3).is_err() {
+        return Outcome::NotBegun;
+    }
+    grown_shelf(alloc, &mut shelf)
+}
+
+// Adds an entry to a shelf without entries, which has room for it.
+fn grown_shelf(alloc: Global, shelf: &mut Shelf<u64, u64>) -> Outcome {
+    if shelf.spare() == 0 || shelf.get(&7).is_some() {
         return Outcome::NotBegun;
     }
     shelf.insert(7, 70);
     let before = shelf.spare();
     let is_made = shelf.reserve(alloc, 4).is_ok();
     let spare = shelf.spare();
-    let is_same = shelf.len() == 1 && shelf.get(&7) == Some(&70);
-    if !is_same || spare < before || is_made != (spare >= 4) {
+    if !has_one(shelf) || spare < before || is_made != (spare >= 4) {
         return Outcome::Wrong;
     }
     made_or_refused(is_made)
+}
+
+fn has_one(shelf: &mut Shelf<u64, u64>) -> bool {
+    shelf.len() == 1 && shelf.get(&7) == Some(&70)
 }
 
 fn job(alloc: Global) -> Option<Job> {
@@ -57,19 +69,38 @@ fn job(alloc: Global) -> Option<Job> {
 // A collection with one job gets room for one more.
 fn jobs(alloc: Global) -> Outcome {
     let mut jobs = Jobs::new();
-    let Some(job) = job(alloc) else {
-        return Outcome::NotBegun;
-    };
-    if jobs.reserve_one(alloc).is_err() || jobs.room() == 0 || jobs.get(job.id).is_some() {
+    if !has_added(alloc, &mut jobs) {
         return Outcome::NotBegun;
     }
-    jobs.add(job);
     let is_made = jobs.reserve_one(alloc).is_ok();
     let is_same = jobs.len() == 1 && jobs.get(1).is_some();
-    if !is_same || is_made != (jobs.room() == 1) {
-        return Outcome::Wrong;
+    if is_same && is_made == (jobs.room() == 1) {
+        made_or_refused(is_made)
+    } else {
+        Outcome::Wrong
     }
-    made_or_refused(is_made)
+}
+
+// Adds a job, and returns true if there was memory for it.
+fn has_added(alloc: Global, jobs: &mut Jobs) -> bool {
+    if jobs.reserve_one(alloc).is_err() || jobs.room() == 0 {
+        return false;
+    }
+    match job(alloc) {
+        Some(job) => add(jobs, job),
+        None => false,
+    }
+}
+
+// Adds a job to a collection with room for it. Returns false if there is one with its id.
+fn add(jobs: &mut Jobs, job: Job) -> bool
+    requires { 0 < jobs.old.room }
+{
+    if jobs.get(job.id).is_some() {
+        return false;
+    }
+    jobs.add(job);
+    true
 }
 
 fn core(alloc: Global) -> Outcome {

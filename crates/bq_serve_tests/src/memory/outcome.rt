@@ -4,7 +4,7 @@ use std::io;
 use std::io::Print;
 
 /// The outcome of a call or of a step.
-#[derive(Clone, Copy, PartialEq, Eq)]
+#[derive(Clone, Copy)]
 pub enum Outcome {
     /// It succeeded.
     Made,

@@ -132,12 +132,14 @@ static WITHOUT_MEMORY: &[Row] = &[
     (0, 0, Does::Rests),
 ];
 
-/// A core of three seats, the room for its answers, and a reader of the clients' requests.
+/// A core of three seats, the room for its answers, a reader of the clients' requests, and the
+/// next step.
 #[derive(Drop)]
 struct Bench {
     core: Core,
     outs: Outs,
     reader: RequestReader,
+    next: Option<Step>,
     ghost room: { core.machine.settings.seats < outs.most },
 }
 
@@ -149,10 +151,15 @@ impl Bench {
             max_jobs: None,
             requeue_delay: 0,
         };
-        let core = Core::new(alloc, config).ok()?;
-        let outs = Outs::new(alloc, config.seats).ok()?;
         let reader = RequestReader::new(alloc, USUAL_BODY).ok()?;
-        Some(Bench { core, outs, reader })
+        let outs = Outs::new(alloc, config.seats).ok()?;
+        let core = Core::new(alloc, config).ok()?;
+        Some(Bench {
+            core,
+            outs,
+            reader,
+            next: None,
+        })
     }
 
     // Returns the request that the client makes with a line of these words.
@@ -173,8 +180,17 @@ impl Bench {
         }
     }
 
-    fn step(&mut self, alloc: Global, at: Moment, seat: Seat, what: Step) {
-        self.core.step(alloc, at, seat, what, &mut self.outs);
+    // Makes the next step, and returns true if there was memory for it.
+    fn prepare(&mut self, alloc: Global, does: Does) -> bool {
+        self.next = self.step_of(alloc, does);
+        self.next.is_some()
+    }
+
+    // Takes the next step.
+    fn step(&mut self, alloc: Global, at: Moment, seat: Seat) {
+        if let Some(step) = self.next.take() {
+            self.core.step(alloc, at, seat, step, &mut self.outs);
+        }
     }
 
     // Prints the answers of the last step. There are at most two.
@@ -209,16 +225,20 @@ fn tell_answer<R: Print>(rt: &R, seat: Seat, answer: &Answer) -> io::Result<()> 
     rt.write_all(answer_tail(answer))
 }
 
+fn tell_step<R: Print>(rt: &R, does: Does) -> io::Result<()> {
+    let words = does.words();
+    println!(rt; "step {words}")
+}
+
 // Takes the steps of the rows. If an allocation fails for a request itself, it stops there.
 fn tell_rows<R: Print>(rt: &R, alloc: Global, bench: &mut Bench, rows: &[Row]) -> io::Result<()> {
     for (at, seat, does) in rows {
-        let Some(step) = bench.step_of(alloc, *does) else {
-            return println!(rt; "not begun");
-        };
-        let words = does.words();
-        println!(rt; "step {words}")?;
-        bench.step(alloc, *at, *seat, step);
-        println!(rt; "taken")?;
+        if !bench.prepare(alloc, *does) {
+            return rt.write_all(b"not begun\n");
+        }
+        tell_step(rt, *does)?;
+        bench.step(alloc, *at, *seat);
+        rt.write_all(b"taken\n")?;
         bench.tell_answers(rt)?;
     }
     Ok(())
@@ -238,7 +258,7 @@ fn tell_waits<R: Print>(rt: &R, alloc: Global, bench: &mut Bench) -> io::Result<
 }
 
 fn tell_with<R: Print>(rt: &R, alloc: Global, bench: &mut Bench) -> io::Result<()> {
-    println!(rt; "steps: begun")?;
+    rt.write_all(b"steps: begun\n")?;
     tell_first(rt, alloc, bench)?;
     tell_buries(rt, alloc, bench)?;
     tell_waits(rt, alloc, bench)
@@ -248,12 +268,12 @@ fn tell_with<R: Print>(rt: &R, alloc: Global, bench: &mut Bench) -> io::Result<(
 pub fn tell_all<R: Print>(rt: &R, alloc: Global) -> io::Result<()> {
     match Bench::new(alloc) {
         Some(mut bench) => tell_with(rt, alloc, &mut bench),
-        None => println!(rt; "steps: not begun"),
+        None => rt.write_all(b"steps: not begun\n"),
     }
 }
 
 fn tell_held<R: Print>(rt: &R, alloc: Global, bench: &mut Bench) -> io::Result<()> {
-    println!(rt; "steps: begun")?;
+    rt.write_all(b"steps: begun\n")?;
     tell_rows(rt, alloc, bench, HOLDS_A_JOB)?;
     tell_rows(rt, alloc, bench, WITHOUT_MEMORY)
 }
@@ -263,6 +283,6 @@ fn tell_held<R: Print>(rt: &R, alloc: Global, bench: &mut Bench) -> io::Result<(
 pub fn tell_held_job<R: Print>(rt: &R, alloc: Global) -> io::Result<()> {
     match Bench::new(alloc) {
         Some(mut bench) => tell_held(rt, alloc, &mut bench),
-        None => println!(rt; "steps: not begun"),
+        None => rt.write_all(b"steps: not begun\n"),
     }
 }

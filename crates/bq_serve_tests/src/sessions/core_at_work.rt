@@ -119,6 +119,26 @@ fn is_not_found<R: Wait>(rt: &R, end: &mut SeatEnd) -> bool
     unreachable!()
 }
 
+// Submits a request to which a core without jobs answers that no job was found.
+fn asks<R: Wait>(rt: &R, intake: &Intake<NoTicks>, end: &mut SeatEnd) -> bool
+    requires { end.old.intake ≡ intake.now.id }
+    ensures { end.new.intake ≡ end.old.intake }
+{
+    submits(rt, intake, end, Step::Ask(Request::PeekReady))
+}
+
+// Submits one request more than a ring has room for answers.
+fn asks_five<R: Wait>(rt: &R, intake: &Intake<NoTicks>, end: &mut SeatEnd) -> bool
+    requires { end.old.intake ≡ intake.now.id }
+    ensures { end.new.intake ≡ end.old.intake }
+{
+    asks(rt, intake, end)
+        && asks(rt, intake, end)
+        && asks(rt, intake, end)
+        && asks(rt, intake, end)
+        && asks(rt, intake, end)
+}
+
 // The first seat submits one request more than its ring has room for answers, and then the second
 // seat submits one.
 fn ask<R: Wait>(rt: &R, intake: &Intake<NoTicks>, first: &mut SeatEnd, second: &mut SeatEnd) -> bool
@@ -129,12 +149,19 @@ fn ask<R: Wait>(rt: &R, intake: &Intake<NoTicks>, first: &mut SeatEnd, second: &
 {
     submits(rt, intake, first, Step::Connect)
         && submits(rt, intake, second, Step::Connect)
-        && submits(rt, intake, first, Step::Ask(Request::PeekReady))
-        && submits(rt, intake, first, Step::Ask(Request::PeekReady))
-        && submits(rt, intake, first, Step::Ask(Request::PeekReady))
-        && submits(rt, intake, first, Step::Ask(Request::PeekReady))
-        && submits(rt, intake, first, Step::Ask(Request::PeekReady))
-        && submits(rt, intake, second, Step::Ask(Request::PeekReady))
+        && asks_five(rt, intake, first)
+        && asks(rt, intake, second)
+}
+
+// Waits for five answers, and returns true if each says that no job was found.
+fn are_five_not_found<R: Wait>(rt: &R, end: &mut SeatEnd) -> bool
+    ensures { end.new.intake ≡ end.old.intake }
+{
+    is_not_found(rt, end)
+        && is_not_found(rt, end)
+        && is_not_found(rt, end)
+        && is_not_found(rt, end)
+        && is_not_found(rt, end)
 }
 
 // Returns true if the second seat receives its answer while the ring of the first is full, and the
@@ -143,12 +170,15 @@ fn take_late<R: Wait>(rt: &R, first: &mut SeatEnd, second: &mut SeatEnd) -> bool
     ensures first { first.new.intake ≡ first.old.intake }
     ensures second { second.new.intake ≡ second.old.intake }
 {
-    is_not_found(rt, second)
-        && is_not_found(rt, first)
-        && is_not_found(rt, first)
-        && is_not_found(rt, first)
-        && is_not_found(rt, first)
-        && is_not_found(rt, first)
+    is_not_found(rt, second) && are_five_not_found(rt, first)
+}
+
+// Submits that a client is gone, or that the control line has ended.
+fn goes<R: Wait>(rt: &R, intake: &Intake<NoTicks>, end: &mut SeatEnd) -> bool
+    requires { end.old.intake ≡ intake.now.id }
+    ensures { end.new.intake ≡ end.old.intake }
+{
+    submits(rt, intake, end, Step::Gone)
 }
 
 impl<'a> Ends<'a> {
@@ -164,11 +194,8 @@ impl<'a> Ends<'a> {
         } = self;
         let is_asked = ask(rt, intake, &mut first, &mut second);
         let is_right = is_asked && take_late(rt, &mut first, &mut second);
-        submits(rt, intake, &mut first, Step::Gone)
-            && submits(rt, intake, &mut second, Step::Gone)
-            && submits(rt, intake, &mut third, Step::Gone)
-            && submits(rt, intake, &mut control, Step::Gone)
-            && is_right
+        let have_both_gone = goes(rt, intake, &mut first) && goes(rt, intake, &mut second);
+        have_both_gone && goes(rt, intake, &mut third) && goes(rt, intake, &mut control) && is_right
     }
 }
 

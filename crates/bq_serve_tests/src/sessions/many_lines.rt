@@ -2,14 +2,14 @@
 
 use crate::sessions::runs::comes_out;
 use crate::wanted::Wanted;
-use crate::worked::EXAMPLES;
+use crate::worked::examples;
 
 /// How often each run is repeated.
 const TIMES: usize = 10;
 
 #[test]
 fn worked_runs(rt: HostRuntime) {
-    for (clients, outcomes) in EXAMPLES {
+    for (clients, outcomes) in examples() {
         for _ in 0..TIMES {
             assert!(rt; comes_out(&rt, rt.alloc(), clients, Wanted::Lines(outcomes)));
         }

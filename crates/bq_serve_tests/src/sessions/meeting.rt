@@ -10,6 +10,7 @@ mod guest;
 mod guest_control;
 mod guest_door;
 
+use crate::clients::{STILL, clock};
 use crate::sessions::runs::ran;
 use crate::settings::config;
 use awaited::Meeting;
@@ -70,10 +71,13 @@ fn met<'m, R: Threads + Wait + Sync>(
     let Ok(doors) = doors(alloc, meeting, chosen) else {
         return Err(RunFault::NoMemory);
     };
+    let Ok(clock) = clock(alloc, STILL) else {
+        return Err(RunFault::NoMemory);
+    };
     let Ok(control) = BufReader::new(alloc, GuestControl::new(meeting)) else {
         return Err(RunFault::NoMemory);
     };
-    ran(rt, alloc, config(GUESTS, USUAL_BODY), doors, control)
+    ran(rt, alloc, config(GUESTS, USUAL_BODY), doors, clock, control)
 }
 
 // Returns true if the door's client has received an answer, the last one or another, and its line

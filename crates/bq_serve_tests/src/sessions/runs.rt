@@ -3,9 +3,10 @@ ghost use Rattle.std.specs.Prelude.{◌≡◌, IfOk};
 ghost use Rattle.std.specs.List.{All};
 ghost use Rattle.bq_driver.specs.Tending.{IsNewDoor, door_seen};
 
-use crate::clients::{Client, STILL, clock};
-use crate::control::{Control, Gives, control};
-use crate::doors::{CountedDoor, doors};
+use crate::clients::Client;
+use crate::control::{Control, Gives};
+use crate::doors::CountedDoor;
+use crate::scene::Scene;
 use crate::settings::config;
 use crate::wanted::{Wanted, is_right};
 use bq_driver::control_reader::ControlReader;
@@ -35,15 +36,13 @@ pub fn ran<
     alloc: Global,
     config: Config,
     doors: Vec<D, Global>,
+    clock: ScriptClock,
     control: I,
 ) -> Result<Run<D, ScriptClock, I>, RunFault>
     requires new { All
         (λ door. IsNewDoor (door_seen D.is_out D.is_at_end D.lines_over door)) doors.items }
     ensures { IfOk result (λ run. run.core.machine.settings.seats ≡ config.seats) }
 {
-    let Ok(clock) = clock(alloc, STILL) else {
-        return Err(RunFault::NoMemory);
-    };
     run_sessions(rt, alloc, config, doors, clock, control)
 }
 
@@ -58,13 +57,15 @@ pub fn by_threads<'c, R: Threads + Wait + Sync>(
 ) -> Result<Run<CountedDoor<'c>, ScriptClock, Control>, RunFault>
     ensures { IfOk result (λ run. run.core.machine.settings.seats ≡ config.seats) }
 {
-    let Ok(doors) = doors(alloc, clients, opened) else {
+    let Ok(scene) = Scene::new(alloc, clients, gives, opened) else {
         return Err(RunFault::NoMemory);
     };
-    let Ok(control) = control(alloc, gives) else {
-        return Err(RunFault::NoMemory);
-    };
-    ran(rt, alloc, config, doors.all, control)
+    let Scene {
+        doors,
+        clock,
+        control,
+    } = scene;
+    ran(rt, alloc, config, doors.all, clock, control)
 }
 
 /// Returns true if the run of the doors where these clients connect leaves the wanted result.
