@@ -2,7 +2,7 @@
 use denote.RattleType.{RattleType}
 use denote.Param.Send.{AllSend, IsSend, sendable, struct_send}
 use denote.Struct.Declared.{fields, shape}
-use Rattle.bq_host.specs.contracts.heard_clock.HeardClock as HeardClock
+use Rattle.bq_host.specs.contracts.timed_core.HeardClock as HeardClock
 
 pub heard_clock_sends : (C : RattleType) → IsSend C → IsSend (HeardClock.the_field C).row
 heard_clock_sends C s =

@@ -15,7 +15,7 @@ use Rattle.bq_host.specs.Clocks.{Gives}
 use Rattle.bq_host.specs.MailStates.{MailState, mail_state}
 use Rattle.bq_host.specs.Timed.{HasLooked, LooksAndSteps, PassesOver, TakesStep}
 use Rattle.bq_host.specs.Went.{SeatWentBy}
-use Rattle.bq_host.specs.declared.heard_clock.HeardClock.{HeardClock}
+use Rattle.bq_host.specs.declared.timed_core.HeardClock.{HeardClock}
 use Rattle.bq_host.specs.declared.timed_core.TimedCore.{TimedCore}
 use Rattle.bq_host.proofs.WentLemmas.{gave_none, gave_then, none_held, one_step, seat_heard, seat_looked, seat_on}
 

@@ -10,7 +10,7 @@ use Rattle.bq_line.specs.GivenReadings.{GaveReadings}
 use Rattle.bq_steps.specs.Cost.{IsLookWithin, IsStepWithin}
 use Rattle.bq_host.specs.Clocks.{Gives}
 use Rattle.bq_host.specs.Compared.{LooksOnce}
-use Rattle.bq_host.specs.declared.heard_clock.HeardClock.{HeardClock}
+use Rattle.bq_host.specs.declared.timed_core.HeardClock.{HeardClock}
 use Rattle.bq_host.specs.declared.timed_core.TimedCore.{TimedCore}
 
 -- The clock was read once, and its latest moment follows the reading.

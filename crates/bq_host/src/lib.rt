@@ -3,14 +3,12 @@
 #![tactic(auto)]
 
 pub use fault::RunFault;
-pub use heard_clock::HeardClock;
 pub use mail::{Mail, new_mails};
 pub use notices::Notices;
 pub use start::Start;
-pub use timed_core::{TimedCore, new_core};
+pub use timed_core::{HeardClock, TimedCore, new_core};
 
 mod fault;
-mod heard_clock;
 mod mail;
 mod notices;
 mod start;

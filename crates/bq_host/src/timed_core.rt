@@ -1,19 +1,45 @@
-//! A core with its clock.
+//! A core with its clock, and the moment that the clock's readings amount to.
 ghost use Rattle.std.specs.Prelude.{ℕ, ◌≡◌, ◌<◌, ◌↔◌, ◌+◌, [], false, not, true, IfOk, IsErrOf, IsTrue};
 ghost use Rattle.bq_job.specs.beside.NextDue.{is_before, next_due};
 ghost use Rattle.bq_job.specs.machine.Machine.{new_machine};
 ghost use Rattle.bq_steps.specs.Limits.{are_in_range};
 ghost use Rattle.bq_steps.specs.Cost.{IsLookWithin};
 ghost use Rattle.bq_host.specs.Compared.{LooksOnce};
-ghost use Rattle.bq_host.specs.Timed.{HearsDue, IsNewTimed, IsReady, LooksAndSteps, OnlyHears, PassesOver, TakesStep};
+ghost use Rattle.bq_host.specs.Timed.{HasHeard, HearsDue, IsNewTimed, IsReady, LooksAndSteps, OnlyHears, PassesOver, TakesStep};
 
 use crate::fault::RunFault;
-use crate::heard_clock::HeardClock;
 use crate::notices::{Concern, Notices, concern_of};
 use bq_job::{Moment, Seat, Step};
-use bq_line::clock::Clock;
+use bq_line::clock::{Clock, moment_heard};
 use bq_steps::{Config, CoreFault, Outs, QueueCore};
 use std::alloc::Global;
+
+/// A clock, and the moment that its readings so far amount to.
+#[derive(Drop)]
+pub struct HeardClock<C> {
+    pub clock: C,
+    /// The latest moment. It never falls, whatever the clock reads.
+    pub moment: Moment,
+}
+
+impl<C: Clock + Drop> HeardClock<C> {
+    /// Returns a clock that was not read yet: its moment is 0.
+    pub fn new(clock: C) -> HeardClock<C>
+        ensures clock { result.clock ≡ clock }
+        ensures moment { result.moment ≡ 0 }
+    {
+        HeardClock { clock, moment: 0 }
+    }
+
+    /// Reads the clock once and returns the reading. The latest moment follows it.
+    pub fn hear(&mut self) -> Option<Moment>
+        ensures { HasHeard C.given self.old result self.new }
+    {
+        let reading = self.clock.now();
+        self.moment = moment_heard(self.moment, reading);
+        reading
+    }
+}
 
 /// A core that takes each step at the moment that its clock reads then.
 #[derive(Drop)]

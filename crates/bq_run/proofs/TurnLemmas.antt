@@ -12,7 +12,7 @@ use Rattle.bq_steps.specs.Cost.{IsLookWithin}
 use Rattle.bq_steps.specs.Outbox.{Outbox}
 use Rattle.bq_host.specs.Clocks.{Gives}
 use Rattle.bq_host.specs.Timed.{HasHeard, HasLooked, IsReady, LooksAndSteps, PassesOver}
-use Rattle.bq_host.specs.declared.heard_clock.HeardClock.{HeardClock}
+use Rattle.bq_host.specs.declared.timed_core.HeardClock.{HeardClock}
 use Rattle.bq_host.specs.declared.timed_core.TimedCore.{TimedCore}
 use Rattle.bq_run.specs.Worked.{HasTicked, HasWorked, IsInOrder, TookOne, WorksOn, driver_state}
 use Rattle.bq_run.specs.declared.core_work.core_driver.CoreDriver.{CoreDriver}
