@@ -6,8 +6,7 @@ ghost use Rattle.std.specs.Io.{ReadsAtMost, WritesAtMost};
 ghost use Rattle.std.specs.Io.KnownBytes.{Consumes, IsAtEnd, Keeps, ReadConsumes, WriteAppends, prepend_known};
 ghost use Rattle.std.specs.Vec.{vec_capacity};
 
-use super::copy_first;
-use super::readiness::Readiness;
+use super::{Readiness, copy_first};
 use bq_job::NoMemory;
 use std::alloc::Global;
 use std::io;
