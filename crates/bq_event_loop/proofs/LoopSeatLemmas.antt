@@ -5,7 +5,7 @@ use Rattle.bq_job.specs.declared.step.Step.{Step}
 use Rattle.bq_job.specs.machine.Machine.{Machine}
 use Rattle.bq_driver.specs.Links.{Calls}
 use Rattle.bq_event_loop.specs.LoopCores.{WentAt}
-use Rattle.bq_event_loop.specs.declared.{loop_core.LoopCore.LoopCore, loop_seat.LoopSeat.LoopSeat}
+use Rattle.bq_event_loop.specs.declared.loop_core.{LoopCore.LoopCore, LoopSeat.LoopSeat}
 
 abbrev pub LinkWent : {C K : Type 0} → (K → Machine) → (K → ℕ) → (C → List (Option ℕ) → C → Type 0) → LoopSeat C K → List Step
     → List Answer → LoopSeat C K → Type 0

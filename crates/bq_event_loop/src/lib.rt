@@ -12,7 +12,6 @@ pub use turns::{ControlReads, ControlStands, News, Turn, Turns, TurnsFault};
 mod control_turns;
 mod event_loop;
 mod loop_core;
-mod loop_seat;
 mod poller;
 mod row;
 mod run;

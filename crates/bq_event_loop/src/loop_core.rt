@@ -1,12 +1,25 @@
-//! The core of an event loop with its clock and the answers that no seat has taken yet.
+//! The core of an event loop with its clock and the answers that no seat has taken yet, and a seat's
+//! link to it.
 ghost use Rattle.std.specs.Prelude.{◌≡◌, ◌<◌, ◌≤◌, ◌+◌, ◌++◌, ◌∷◌, [], ℕ, List, None, Option, Some, true, false};
 ghost use Rattle.std.specs.Prelude.{◌↔◌, ◌&&◌, not, IfErr, IfOk, IfSome, IsErrOf, IsTrue, IsNone, MatchResult, length, slice_index_or};
 ghost use Rattle.std.specs.Option.{option_to_list};
+ghost use Rattle.bq_job.specs.declared.answer.Answer.{Answer};
+ghost use Rattle.bq_job.specs.declared.step.Step.{Step};
 ghost use Rattle.bq_job.specs.promise.Runs.{answers_to};
+ghost use Rattle.bq_driver.specs.Links.{Calls};
+ghost use Rattle.bq_driver.specs.Tending.{GoesOn, IsPlaced, MayEndAt, door_seen};
+ghost use Rattle.bq_host.specs.MailStates.{IsInOrder};
+ghost use Rattle.bq_event_loop.specs.LoopCores.{WentAt, state_of};
 
+use bq_driver::attendant::Attendant;
+use bq_driver::buffers::Buffers;
+use bq_driver::link::Link;
+use bq_driver::progress::Progress;
 use bq_host::{Mail, RunFault, TimedCore, new_mails};
 use bq_job::{Answer, NoMemory, Seat, Step};
+use bq_line::Door;
 use bq_line::clock::Clock;
+use bq_line::line::Line;
 use bq_seat::Action;
 use bq_steps::{Config, QueueCore};
 use std::alloc::Global;
@@ -30,9 +43,8 @@ pub struct LoopCore<C, K> {
 }
 
 impl<C: Clock + Drop, K: QueueCore + Drop> LoopCore<C, K> {
-    ghost use Rattle.bq_event_loop.specs.LoopCores.{WentAt, state_of};
     ghost use Rattle.bq_job.specs.beside.NextDue.{is_before, next_due};
-    ghost use Rattle.bq_host.specs.MailStates.{IsInOrder, IsNewMailState, IsSorted};
+    ghost use Rattle.bq_host.specs.MailStates.{IsNewMailState, IsSorted};
     ghost use Rattle.bq_steps.specs.Limits.{are_in_range};
     ghost use Rattle.bq_driver.specs.Links.{TakesInPlace, as_submitted};
 
@@ -431,4 +443,54 @@ impl Woken {
         }
         Some(seat)
     }
+}
+
+/// A seat's link to the core of its event loop.
+#[derive(Drop)]
+pub struct LoopSeat<'a, C, K> {
+    core: &'a mut LoopCore<C, K>,
+    seat: Seat,
+}
+
+impl<'a, C: Clock + Drop, K: QueueCore + Drop> Link for LoopSeat<'a, C, K> {
+    ghost is_ready = { λ l. IsInOrder (state_of K.machine K.comparisons l.core.now) × (l.seat < length l.core.now.mails.items) };
+
+    // After the link is dropped, the core is known by its ghost name.
+    ghost went = { λ first submitted taken last. (last.core.ghost_name ≡ first.core.ghost_name) × (last.seat ≡ first.seat) ×
+        WentAt K.machine K.comparisons C.given first.seat first.core.now submitted taken last.core.now };
+
+    fn submit(&mut self, step: &mut Step) -> bool {
+        self.core.submit(self.seat, step)
+    }
+
+    fn mail(&mut self, place: &mut Action) -> bool {
+        self.core.take_to(self.seat, place)
+    }
+}
+
+/// Does one action of a seat that attends to a door, at the core. Returns what moved or what was
+/// missing.
+pub fn attend<L: Line + Drop, D: Door<Line = L>, C: Clock + Drop, K: QueueCore + Drop>(
+    attendant: &mut Attendant<L>,
+    door: &mut D,
+    core: &mut LoopCore<C, K>,
+    seat: Seat,
+    buffers: &mut Buffers,
+) -> Progress
+    requires placed { IsPlaced attendant.old.place
+        (door_seen D.is_out D.is_at_end D.lines_over door.old) }
+    requires order { IsInOrder (state_of K.machine K.comparisons core.old) }
+    requires within { seat < length core.old.mails.items }
+    ensures order { IsInOrder (state_of K.machine K.comparisons core.new) }
+    // The result is one that this place can have. Unless something moved, the seat submitted
+    // nothing and took nothing.
+    ensures progress { MayEndAt result attendant.old.place }
+    ensures still { (result ≡ Progress.Moved → ⊥) → Calls (WentAt K.machine K.comparisons C.given seat) core.old [] [] core.new }
+    ensures went { let at = door_seen D.is_out D.is_at_end D.lines_over in
+        GoesOn (WentAt K.machine K.comparisons C.given seat) core.old core.new L.seen attendant.old (at door.old) attendant.new (at door.new) }
+    ensures same { (first : D) → D.same first door.old → D.same first door.new }
+{
+    let alloc = core.timed.alloc;
+    let mut link = LoopSeat { core, seat };
+    attendant.go_on(alloc, door, &mut link, buffers)
 }

@@ -10,8 +10,7 @@ ghost use Rattle.bq_event_loop.specs.Serving.{AreReady, ServesOn, TurnServes};
 ghost use Rattle.bq_event_loop.specs.declared.control_turns.Stage.TheVariants as stages;
 
 use crate::control_turns::ControlTurns;
-use crate::loop_core::LoopCore;
-use crate::loop_seat::attend;
+use crate::loop_core::{LoopCore, attend};
 use crate::row::Row;
 use crate::turns::{ControlReads, News, Turn, Turns};
 use bq_driver::buffers::Buffers;

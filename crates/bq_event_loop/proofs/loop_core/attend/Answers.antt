@@ -1,5 +1,5 @@
 use Rattle.bq_event_loop.proofs.LoopSeatLemmas.{still_at}
-use Rattle.bq_event_loop.proofs.loop_seat.attend.Goals as goal
+use Rattle.bq_event_loop.proofs.loop_core.attend.Goals as goal
 
 pub returns-clause-still : goal.returns-clause-still
 returns-clause-still g c h =
