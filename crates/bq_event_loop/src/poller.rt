@@ -20,18 +20,16 @@ use control_watch::ControlWatch;
 use mio::event::Event;
 use mio::unix::SourceFd;
 use mio::{Events, Interest, Poll, Token};
-use seat_queue::SeatQueue;
 use std::alloc::Global;
 use std::net::Net;
 use std::os::fd::RawFd;
 use std::rt;
 use std::time::Duration;
-use visit::{Part, Pause, Visit};
+use visits::{Part, Pause, SeatQueue, Visit};
 
 mod accepts;
 mod control_watch;
-mod seat_queue;
-mod visit;
+mod visits;
 
 /// The token of the control line. The token of a line is the number of its seat.
 const CONTROL: Token = Token(usize::MAX);
@@ -447,7 +445,7 @@ fn source_of_line<L: Line + Drop, D: Door<Line = L>>(
 // Returns true if the next action of a seat closes its line.
 fn ends_line<L: Line + Drop, D: Door<Line = L>>(row: &Row<L, D>, seat: usize) -> bool {
     match row.seat(seat) {
-        Some(seat) => visit::ends_line(seat),
+        Some(seat) => visits::ends_line(seat),
         None => false,
     }
 }
