@@ -3,7 +3,7 @@ use Rattle.std.proofs.Common.{◌≡◌, ◌∙◌, ℕ, ◌+◌, zero, suc, Boo
 use Rattle.std.proofs.Common.{[], ◌∷◌, Option, Some, None, length, ap, sym, refl, arith}
 use Rattle.std.specs.List.{All}
 use Rattle.std.specs.declared.net.tcp.TcpListener.{TcpListener}
-use Rattle.bq_driver.specs.Tending.{AreSame}
+use Rattle.bq_line.specs.Tending.{AreSame}
 use Rattle.bq_line.specs.InAll.{in_all}
 use Rattle.bq_host.proofs.ListLemmas.{first_passes, rest_passes}
 use Rattle.bq_job.specs.promise.History.{LineOver}

@@ -1,7 +1,7 @@
 //! The server, from its options to its status.
 ghost use Rattle.std.specs.Prelude.{◌≡◌, ◌≤◌, ◌↔◌, ◌&&◌, ◌==◌, IfErr, IfOk, IsErrOf, IsTrue, false, not, true, vec_len};
 ghost use Rattle.std.specs.List.{All, list_any};
-ghost use Rattle.bq_driver.specs.Tending.{AreSame, IsNewDoor, door_seen};
+ghost use Rattle.bq_line.specs.Tending.{AreSame, IsNewDoor, door_seen};
 ghost use Rattle.bq_program.specs.Statuses.{status_of_server};
 ghost use Rattle.bq_cli.specs.Servers.{IsDoorAt, IsServerLoop, IsServerRun, IsStatusOfLoop};
 ghost use Rattle.bq_cli.specs.Servers.{IsStatusOfServer, IsStatusOfThreads, MayRefuse};
@@ -13,10 +13,10 @@ ghost use Rattle.bq_steps.specs.Limits.{are_in_range};
 use crate::ending::Ending;
 use crate::telling_clock::TellingClock;
 use bq_core::{Config, Core};
-use bq_driver::control_reader::ControlReader;
 use bq_event_loop::{EventLoopRun, run_event_loop};
 use bq_host::RunFault;
 use bq_job::NoMemory;
+use bq_line::control_line::ControlReader;
 use bq_line::line::ReadBuffer;
 use bq_line::{Door, FreeDoors, Refusals, TcpDoor, clock};
 use bq_program::{Fault, Need, Options, Program, tell_cannot_listen, tell_server};

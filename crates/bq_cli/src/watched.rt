@@ -8,7 +8,7 @@ use crate::logging::Logging;
 use crate::server::serve_to;
 use crate::shared::Shared;
 use bq_core::Core;
-use bq_driver::control_reader::ControlReader;
+use bq_line::control_line::ControlReader;
 use bq_program::{BqdOptions, Fault, Need, Options, Program, tell_cannot_listen, tell_fault};
 use bq_steps::QueueCore;
 use std::alloc::Global;

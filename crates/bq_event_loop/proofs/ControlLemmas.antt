@@ -7,10 +7,10 @@ use Rattle.std.specs.Option.{option_to_list}
 use Rattle.bq_job.specs.declared.step.Step.{Step}
 use Rattle.bq_job.specs.declared.step.Step.TheVariants.{Drain, Gone}
 use Rattle.bq_job.specs.promise.ControlDid.{IsControlDone, are_same, drain_word, drains, drains_from, one_if}
-use Rattle.bq_driver.specs.ControlRead.{HasRead, IsOver, IsReadToEnd}
-use Rattle.bq_driver.specs.ControlSeen.{ControlSeen, after_heard}
-use Rattle.bq_driver.specs.declared.control_line.Heard.TheVariants as hears
-use Rattle.bq_driver.proofs.ControlLemmas.{ends_read, fails_read, read_none, read_on, read_same}
+use Rattle.bq_line.specs.ControlRead.{HasRead, IsOver, IsReadToEnd}
+use Rattle.bq_line.specs.ControlSeen.{ControlSeen, after_heard}
+use Rattle.bq_line.specs.declared.control_line.Heard.TheVariants as hears
+use Rattle.bq_line.proofs.ControlLemmas.{ends_read, fails_read, read_none, read_on, read_same}
 use Rattle.bq_event_loop.specs.ControlTold.{HasTold, IsAtStage, IsRead, IsReading, TellsOn, owed_by}
 use Rattle.bq_event_loop.specs.declared.control_turns.ControlTurns.{ControlTurns}
 use Rattle.bq_event_loop.specs.declared.control_turns.Stage.{Stage}

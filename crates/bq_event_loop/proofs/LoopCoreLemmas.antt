@@ -11,7 +11,7 @@ use Rattle.bq_steps.specs.Outbox.{Outbox}
 use Rattle.bq_host.specs.Timed.{IsReady, PassesOver}
 use Rattle.bq_host.specs.declared.timed_core.TimedCore.{TimedCore}
 use Rattle.std.specs.Prelude.{slice_index_or}
-use Rattle.bq_driver.specs.Links.{TakesInPlace}
+use Rattle.bq_line.specs.Links.{TakesInPlace}
 use Rattle.bq_seat.specs.declared.machine.Action.{Action}
 use Rattle.bq_event_loop.specs.LoopCores.{WentAt, state_of}
 use Rattle.bq_line.specs.GivenReadings.{GaveReadings}

@@ -3,7 +3,7 @@ use Rattle.std.proofs.Common.{◌∙◌, ◌≡◌, ℕ, List, [], Option, ap, i
 use Rattle.bq_job.specs.declared.answer.Answer.{Answer}
 use Rattle.bq_job.specs.declared.step.Step.{Step}
 use Rattle.bq_job.specs.machine.Machine.{Machine}
-use Rattle.bq_driver.specs.Links.{Calls}
+use Rattle.bq_line.specs.Links.{Calls}
 use Rattle.bq_event_loop.specs.LoopCores.{WentAt}
 use Rattle.bq_event_loop.specs.declared.loop_core.{LoopCore.LoopCore, LoopSeat.LoopSeat}
 

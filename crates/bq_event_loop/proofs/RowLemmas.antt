@@ -8,9 +8,9 @@ use Rattle.std.proofs.lemmas.List.{get_or-set_other, get_or-set_same, get_or_def
 use Rattle.bq_job.specs.declared.answer.Answer.{Answer}
 use Rattle.bq_job.specs.declared.step.Step.{Step}
 use Rattle.bq_job.specs.promise.LineSteps.{LineSeen}
-use Rattle.bq_driver.specs.Tending.{AreSame, DoorSeen, IsNewDoor, IsNewSeat, IsPlaced, IsTended, Tends}
-use Rattle.bq_driver.specs.declared.attendant.Attendant.{Attendant}
-use Rattle.bq_driver.proofs.TendingLemmas.{tended_new}
+use Rattle.bq_line.specs.Tending.{AreSame, DoorSeen, IsNewDoor, IsNewSeat, IsPlaced, IsTended, Tends}
+use Rattle.bq_line.specs.declared.attendant.Attendant.{Attendant}
+use Rattle.bq_line.proofs.TendingLemmas.{tended_new}
 use Rattle.bq_event_loop.specs.Rows.{AllRested, AllTended, IsSomehowTended}
 
 -- A seat rested, and rested again.

@@ -12,14 +12,14 @@ use Rattle.bq_job.specs.promise.LineSteps.{LineSeen}
 use Rattle.bq_event_loop.specs.LoopCores.{WentAt, state_of}
 use Rattle.bq_host.specs.MailStates.{MailState}
 use Rattle.bq_host.specs.Went.{SeatWent}
-use Rattle.bq_driver.specs.Links.{Calls}
-use Rattle.bq_driver.specs.Tending.{AreSame, DoorSeen, GoesOn, IsTended, Tends}
+use Rattle.bq_line.specs.Links.{Calls}
+use Rattle.bq_line.specs.Tending.{AreSame, DoorSeen, GoesOn, IsTended, Tends}
 use Rattle.bq_event_loop.specs.Rows.{AllRested}
 use Rattle.bq_event_loop.specs.Serving.{AreServed, ServesOn}
 use Rattle.bq_event_loop.specs.declared.row.Row.{Row}
 use Rattle.bq_event_loop.proofs.RowLemmas.{rested_none, same_set}
-use Rattle.bq_driver.specs.declared.attendant.Attendant.{Attendant}
-use Rattle.bq_driver.specs.declared.attendant.LinePlace.TheVariants.{Done}
+use Rattle.bq_line.specs.declared.attendant.Attendant.{Attendant}
+use Rattle.bq_line.specs.declared.attendant.LinePlace.TheVariants.{Done}
 use Rattle.bq_event_loop.specs.declared.loop_core.LoopCore.{LoopCore}
 use Rattle.bq_line.specs.GivenReadings.{GaveReadings}
 use Rattle.bq_host.proofs.WentLemmas.{core_on, gave_none, gave_then, seat_none, steps_append}

@@ -17,7 +17,7 @@ use Rattle.bq_job.specs.promise.Runs.{Entry, GoesBy, Run, Transition, answers_to
 use Rattle.bq_job.specs.machine.Steps.{IsStep, Outcome}
 use Rattle.bq_job.specs.beside.Ties.{AreTied, IsJoined}
 use Rattle.bq_host.specs.MailStates.{MailState, IsNewMailState, waiting}
-use Rattle.bq_driver.specs.Tending.{DoorSeen, IsDoorServed, IsNewDoor, IsNewSeat, IsTended}
+use Rattle.bq_line.specs.Tending.{DoorSeen, IsDoorServed, IsNewDoor, IsNewSeat, IsTended}
 use Rattle.bq_event_loop.specs.Rows.{AreDone}
 use Rattle.bq_event_loop.specs.Serving.{AreServed}
 use Rattle.bq_host.proofs.HasComparedLemmas.{compared_all}
@@ -26,13 +26,13 @@ use Rattle.bq_host.specs.Compared.{AreCompared}
 use Rattle.bq_job.specs.promise.Headline.{IsHistoryOf}
 use Rattle.bq_job.specs.machine.Machine.{new_machine}
 use Rattle.bq_job.proofs.JoinLemmas.{doors_owed}
-use Rattle.bq_driver.specs.declared.attendant.Attendant.{Attendant}
+use Rattle.bq_line.specs.declared.attendant.Attendant.{Attendant}
 use Rattle.bq_host.proofs.WentLemmas.{new_mails_are, none_waits}
 use Rattle.bq_job.specs.beside.SeatDid.{AreLinesServed}
-use Rattle.bq_driver.specs.Tending.{attendant}
-use Rattle.bq_driver.specs.declared.attendant.LinePlace.{LinePlace}
-use Rattle.bq_driver.specs.declared.attendant.LinePlace.TheVariants as places
-use Rattle.bq_driver.proofs.TendingLemmas.{tended_new}
+use Rattle.bq_line.specs.Tending.{attendant}
+use Rattle.bq_line.specs.declared.attendant.LinePlace.{LinePlace}
+use Rattle.bq_line.specs.declared.attendant.LinePlace.TheVariants as places
+use Rattle.bq_line.proofs.TendingLemmas.{tended_new}
 
 -- A seat that is done.
 tended_done : {L : Type 0} (seen : L → LineSeen) (size : ℕ) (a : Attendant L) (door : DoorSeen) (submitted : List Step)

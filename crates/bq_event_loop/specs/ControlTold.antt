@@ -4,8 +4,8 @@ use Rattle.std.specs.Prelude.{ℕ, ◌≡◌, ◌+◌, Bool, true, false, List, 
 use Rattle.std.specs.Io.KnownBytes.{Consumes}
 use Rattle.bq_job.specs.declared.step.Step.{Step, TheVariants.{Drain, Gone}}
 use Rattle.bq_job.specs.promise.ControlDid.{drains, drains_from, one_if}
-use Rattle.bq_driver.specs.ControlRead.{IsOver, IsReadToEnd}
-use Rattle.bq_driver.specs.ControlSeen.{ControlSeen}
+use Rattle.bq_line.specs.ControlRead.{IsOver, IsReadToEnd}
+use Rattle.bq_line.specs.ControlSeen.{ControlSeen}
 use Rattle.bq_event_loop.specs.declared.control_turns.ControlTurns.{ControlTurns}
 use Rattle.bq_event_loop.specs.declared.control_turns.Stage.{Stage}
 use Rattle.bq_event_loop.specs.declared.control_turns.Stage.TheVariants as stages

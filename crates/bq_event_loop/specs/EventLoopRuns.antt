@@ -4,7 +4,7 @@ use Rattle.bq_job.specs.declared.settings.Settings.{Settings}
 use Rattle.bq_job.specs.machine.Machine.{Machine, new_machine}
 use Rattle.bq_job.specs.promise.Headline.{IsHistoryOf}
 use Rattle.bq_job.specs.promise.History.{LineOver}
-use Rattle.bq_driver.specs.ControlRead.{IsReadToEnd}
+use Rattle.bq_line.specs.ControlRead.{IsReadToEnd}
 use Rattle.bq_host.specs.Compared.{AreCompared}
 use Rattle.bq_host.specs.Clocks.{Gives}
 use Rattle.bq_event_loop.specs.declared.run.EventLoopRun.{EventLoopRun}

@@ -3,9 +3,9 @@ use Rattle.std.specs.Prelude.{ℕ, ◌≡◌, ◌<◌, List, [], length, slice_i
 use Rattle.bq_job.specs.declared.answer.Answer.{Answer}
 use Rattle.bq_job.specs.declared.step.Step.{Step}
 use Rattle.bq_job.specs.promise.LineSteps.{LineSeen}
-use Rattle.bq_driver.specs.Tending.{AreSame, DoorSeen, IsTended, Tends}
-use Rattle.bq_driver.specs.declared.attendant.Attendant.{Attendant}
-use Rattle.bq_driver.specs.declared.attendant.LinePlace.TheVariants.{Done}
+use Rattle.bq_line.specs.Tending.{AreSame, DoorSeen, IsTended, Tends}
+use Rattle.bq_line.specs.declared.attendant.Attendant.{Attendant}
+use Rattle.bq_line.specs.declared.attendant.LinePlace.TheVariants.{Done}
 use Rattle.bq_event_loop.specs.declared.row.Row.{Row}
 
 -- A seat has done something for its door's lines, by the rules.

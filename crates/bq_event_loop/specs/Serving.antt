@@ -7,8 +7,8 @@ use Rattle.bq_job.specs.promise.History.{steps_at}
 use Rattle.bq_job.specs.promise.LineSteps.{LineSeen}
 use Rattle.bq_job.specs.promise.Runs.{Entry}
 use Rattle.bq_line.specs.GivenReadings.{GaveReadings}
-use Rattle.bq_driver.specs.Tending.{AreSame, DoorSeen, IsTended}
-use Rattle.bq_driver.specs.declared.attendant.Attendant.{Attendant}
+use Rattle.bq_line.specs.Tending.{AreSame, DoorSeen, IsTended}
+use Rattle.bq_line.specs.declared.attendant.Attendant.{Attendant}
 use Rattle.bq_event_loop.specs.LoopCores.{state_of}
 use Rattle.bq_host.specs.MailStates.{IsInOrder, MailState}
 use Rattle.bq_host.specs.Went.{CoreWent}

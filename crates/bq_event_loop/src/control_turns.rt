@@ -1,14 +1,14 @@
 //! The control line, which is read between the turns of the seats.
 ghost use Rattle.std.specs.Prelude.{◌≡◌, ◌↔◌, IsTrue, [], false};
 ghost use Rattle.std.specs.Option.{option_to_list};
-ghost use Rattle.bq_driver.specs.ControlSeen.{new_control};
+ghost use Rattle.bq_line.specs.ControlSeen.{new_control};
 ghost use Rattle.bq_event_loop.specs.ControlTold.{HasTold, TellsOn, owed_by};
 ghost use Rattle.bq_event_loop.specs.declared.control_turns.Stage.TheVariants as stages;
 
 use crate::turns::ControlStands;
-use bq_driver::control::LineSoFar;
-use bq_driver::control_line::{ControlInput, Heard};
 use bq_job::Step;
+use bq_line::control::LineSoFar;
+use bq_line::control_line::{ControlInput, Heard};
 
 /// How far a control line has been read.
 #[derive(Clone, Copy, Debug, PartialEq, Eq)]

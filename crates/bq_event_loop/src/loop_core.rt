@@ -6,18 +6,16 @@ ghost use Rattle.std.specs.Option.{option_to_list};
 ghost use Rattle.bq_job.specs.declared.answer.Answer.{Answer};
 ghost use Rattle.bq_job.specs.declared.step.Step.{Step};
 ghost use Rattle.bq_job.specs.promise.Runs.{answers_to};
-ghost use Rattle.bq_driver.specs.Links.{Calls};
-ghost use Rattle.bq_driver.specs.Tending.{GoesOn, IsPlaced, MayEndAt, door_seen};
+ghost use Rattle.bq_line.specs.Links.{Calls};
+ghost use Rattle.bq_line.specs.Tending.{GoesOn, IsPlaced, MayEndAt, door_seen};
 ghost use Rattle.bq_host.specs.MailStates.{IsInOrder};
 ghost use Rattle.bq_event_loop.specs.LoopCores.{WentAt, state_of};
 
-use bq_driver::attendant::Attendant;
-use bq_driver::buffers::Buffers;
-use bq_driver::link::Link;
-use bq_driver::progress::Progress;
 use bq_host::{Mail, RunFault, TimedCore, new_mails};
 use bq_job::{Answer, NoMemory, Seat, Step};
 use bq_line::Door;
+use bq_line::attendant::{Attendant, Link, Progress};
+use bq_line::buffers::Buffers;
 use bq_line::clock::Clock;
 use bq_line::line::Line;
 use bq_seat::Action;
@@ -46,7 +44,7 @@ impl<C: Clock + Drop, K: QueueCore + Drop> LoopCore<C, K> {
     ghost use Rattle.bq_job.specs.beside.NextDue.{is_before, next_due};
     ghost use Rattle.bq_host.specs.MailStates.{IsNewMailState, IsSorted};
     ghost use Rattle.bq_steps.specs.Limits.{are_in_range};
-    ghost use Rattle.bq_driver.specs.Links.{TakesInPlace, as_submitted};
+    ghost use Rattle.bq_line.specs.Links.{TakesInPlace, as_submitted};
 
     /// Returns a new core of a loop. All memory but that for jobs and answers is allocated here.
     ///

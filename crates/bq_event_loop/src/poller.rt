@@ -6,15 +6,14 @@
 //! the wait. A seat can act if its line became ready, it has mail, or its last visit was cut short.
 //! If several can, all lines are read first, then all steps are taken, and then all answers are
 //! written, so that each part finds its code and data in the processor's caches.
-ghost use Rattle.bq_driver.specs.Tending.{door_seen};
+ghost use Rattle.bq_line.specs.Tending.{door_seen};
 ghost use Rattle.bq_event_loop.specs.Rows.{AreTended, KeepsRow};
 
 use crate::row::Row;
 use crate::turns::{ControlReads, ControlStands, News, Turn, Turns, TurnsFault};
 use accepts::Accepts;
-use bq_driver::attendant::Looked;
-use bq_driver::progress::Progress;
 use bq_line::Door;
+use bq_line::attendant::{Looked, Progress};
 use bq_line::line::{Line, ReadBuffer, Readiness};
 use control_watch::ControlWatch;
 use mio::event::Event;

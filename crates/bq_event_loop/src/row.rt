@@ -2,11 +2,11 @@
 ghost use Rattle.std.specs.Prelude.{◌≡◌, ◌<◌, ℕ, List, [], true, length, IfOk, IsTrue, vec_len};
 ghost use Rattle.std.specs.List.{All};
 ghost use Rattle.bq_steps.specs.Limits.{is_body_size};
-ghost use Rattle.bq_driver.specs.Tending.{DoorSeen, IsNewSeat, IsPlaced, Tends, door_seen};
+ghost use Rattle.bq_line.specs.Tending.{DoorSeen, IsNewSeat, IsPlaced, Tends, door_seen};
 
-use bq_driver::attendant::{Attendant, Looked};
 use bq_job::NoMemory;
 use bq_line::Door;
+use bq_line::attendant::{Attendant, Looked};
 use bq_line::line::{Line, ReadBuffer, Readiness};
 use std::alloc::Global;
 

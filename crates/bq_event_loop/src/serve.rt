@@ -1,7 +1,7 @@
 //! Many seats, which one thread serves in any order.
 ghost use Rattle.std.specs.Prelude.{◌≡◌, ◌<◌, ◌≤◌, true, [], List, length, slice_index_or};
 ghost use Rattle.bq_job.specs.declared.step.Step.{Step};
-ghost use Rattle.bq_driver.specs.Tending.{door_seen};
+ghost use Rattle.bq_line.specs.Tending.{door_seen};
 ghost use Rattle.bq_event_loop.specs.ControlTold.{TellsOn};
 ghost use Rattle.bq_host.specs.MailStates.{IsInOrder};
 ghost use Rattle.bq_event_loop.specs.LoopCores.{WentAt, state_of};
@@ -13,12 +13,12 @@ use crate::control_turns::ControlTurns;
 use crate::loop_core::{LoopCore, attend};
 use crate::row::Row;
 use crate::turns::{ControlReads, News, Turn, Turns};
-use bq_driver::buffers::Buffers;
-use bq_driver::control_line::ControlInput;
-use bq_driver::progress::Progress;
 use bq_job::Seat;
 use bq_line::Door;
+use bq_line::attendant::Progress;
+use bq_line::buffers::Buffers;
 use bq_line::clock::Clock;
+use bq_line::control_line::ControlInput;
 use bq_line::line::Line;
 use bq_steps::QueueCore;
 use std::sync::Wait;

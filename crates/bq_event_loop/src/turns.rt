@@ -1,12 +1,12 @@
 //! The choice of the next action.
 ghost use Rattle.std.specs.Prelude.{◌≡◌};
-ghost use Rattle.bq_driver.specs.Tending.{door_seen};
+ghost use Rattle.bq_line.specs.Tending.{door_seen};
 ghost use Rattle.bq_event_loop.specs.Rows.{AreTended, KeepsRow};
 
 use crate::row::Row;
-use bq_driver::progress::Progress;
 use bq_host::RunFault;
 use bq_line::Door;
+use bq_line::attendant::Progress;
 use bq_line::line::Line;
 use std::alloc::Global;
 

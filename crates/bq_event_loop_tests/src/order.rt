@@ -1,5 +1,5 @@
 //! Orders in which the seats of a run act.
-ghost use Rattle.bq_driver.specs.Tending.{door_seen};
+ghost use Rattle.bq_line.specs.Tending.{door_seen};
 ghost use Rattle.bq_event_loop.specs.Rows.{AreTended, KeepsRow};
 
 use crate::together::Together;

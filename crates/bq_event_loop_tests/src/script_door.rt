@@ -2,7 +2,7 @@
 ghost use Rattle.std.specs.Prelude.{◌≡◌, ◌≤◌, ◌+◌, [], false, length, map, vec_len, if◌then◌else◌, IfOk};
 ghost use Rattle.std.specs.Vec.{vec_capacity};
 ghost use Rattle.std.specs.List.{All};
-ghost use Rattle.bq_driver.specs.Tending.{IsNewDoor};
+ghost use Rattle.bq_line.specs.Tending.{IsNewDoor};
 
 use crate::parts::parts_of;
 use crate::script::{Limits, Script};

@@ -1,7 +1,15 @@
+pub mod BackLemmas
 pub mod BufferLemmas
+pub mod CarriedLemmas
+pub mod ControlLemmas
+pub mod EventLemmas
 pub mod LineNumberLemmas
 pub mod PartLemmas
 pub mod ReadingsLemmas
+pub mod SeatLemmas
 pub mod SeenLemmas
 pub mod StreamLemmas
+pub mod TailLemmas
+pub mod TendingLemmas
 pub mod TogetherLemmas
+pub mod WritingLemmas

@@ -4,10 +4,10 @@ use Rattle.bq_job.specs.promise.History.{LineOver}
 use Rattle.bq_job.specs.promise.LineSteps.{LineSeen}
 use Rattle.bq_seat.specs.Past.{Awaited}
 use Rattle.bq_seat.specs.SeatStands.{awaited}
-use Rattle.bq_driver.specs.Tending.{IsTended, door_seen}
-use Rattle.bq_driver.specs.declared.attendant.Attendant.{Attendant}
-use Rattle.bq_driver.specs.declared.attendant.LinePlace.TheVariants as places
-use Rattle.bq_driver.proofs.TendingLemmas.{tended_new}
+use Rattle.bq_line.specs.Tending.{IsTended, door_seen}
+use Rattle.bq_line.specs.declared.attendant.Attendant.{Attendant}
+use Rattle.bq_line.specs.declared.attendant.LinePlace.TheVariants as places
+use Rattle.bq_line.proofs.TendingLemmas.{tended_new}
 
 pub tended_first : {L D : Type 0} (seen : L → LineSeen) (is_out is_at_end : D → Bool) (lines_over : D → List LineOver)
     (a : Attendant L) (door : D)

@@ -3,17 +3,16 @@ ghost use Rattle.std.specs.Prelude.{◌≡◌, ◌≤◌, map, reverse, IfOk, If
 ghost use Rattle.std.specs.List.{All};
 ghost use Rattle.bq_steps.specs.Limits.{is_body_size};
 ghost use Rattle.bq_lock.specs.LockedRuns.{IsServedToEnd};
-ghost use Rattle.bq_driver.specs.Tending.{AreSame, IsNewDoor, door_seen};
+ghost use Rattle.bq_line.specs.Tending.{AreSame, IsNewDoor, door_seen};
 
 use crate::bells::Bells;
 use crate::post::{Post, SeatPosts};
 use crate::shared_desk::{OwnedDesk, SharedDesk, SharedSeat};
-use bq_driver::control::submit_control;
-use bq_driver::control_line::ControlLine;
-use bq_driver::control_reader::ControlReader;
 use bq_host::{RunFault, Start};
 use bq_job::{NoMemory, Seat};
 use bq_line::Door;
+use bq_line::control::submit_control;
+use bq_line::control_line::{ControlLine, ControlReader};
 use bq_line::line::Line;
 use std::alloc::Global;
 use std::snapshot::Snapshot;

@@ -4,16 +4,16 @@ ghost use Rattle.std.specs.List.{All};
 ghost use Rattle.bq_steps.specs.Limits.{are_in_range};
 ghost use Rattle.bq_lock.specs.LockedRuns.{IsServedToEnd};
 ghost use Rattle.bq_lock.specs.LockedState.{IsLawfulHold};
-ghost use Rattle.bq_driver.specs.Tending.{AreSame, IsNewDoor, door_seen};
+ghost use Rattle.bq_line.specs.Tending.{AreSame, IsNewDoor, door_seen};
 
 use crate::doors_served::serve_at_desk;
 use crate::locked::Locked;
 use crate::locked_desk::LockedDesk;
 use bq_core::Config;
-use bq_driver::control_reader::ControlReader;
 use bq_host::RunFault;
 use bq_line::Door;
 use bq_line::clock::Clock;
+use bq_line::control_line::ControlReader;
 use bq_line::line::Line;
 use std::alloc::Global;
 use std::sync::{Mutex, Wait};

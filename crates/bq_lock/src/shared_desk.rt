@@ -2,9 +2,9 @@
 ghost use Rattle.std.specs.Prelude.{◌≡◌, ◌≤◌};
 
 use crate::bells::{Bells, Rings};
-use bq_driver::control::ControlLink;
-use bq_driver::link::Link;
 use bq_job::{Answer, Seat, Step};
+use bq_line::attendant::Link;
+use bq_line::control::ControlLink;
 use bq_seat::Action;
 use std::mem;
 use std::sync::{Mutex, Wait};

@@ -19,8 +19,8 @@ use Rattle.bq_job.specs.machine.Steps.{IsStep, Outcome}
 use Rattle.bq_job.specs.beside.Ties.{AreTied}
 use Rattle.bq_link.specs.EndStates.{CoreState, SeatState, sent_to}
 use Rattle.bq_link.specs.Submissions.{AreBelow, steps_of}
-use Rattle.bq_driver.specs.Tending.{DoorSeen, IsDoorServed}
-use Rattle.bq_driver.specs.declared.control_line.ControlLine.{ControlLine}
+use Rattle.bq_line.specs.Tending.{DoorSeen, IsDoorServed}
+use Rattle.bq_line.specs.declared.control_line.ControlLine.{ControlLine}
 use Rattle.bq_job.proofs.JoinLemmas.{doors_owed}
 use Rattle.bq_host.specs.Compared.{AreCompared}
 use Rattle.bq_run.specs.CoreWork.{IsCoreDone}

@@ -3,9 +3,9 @@ use Rattle.std.proofs.Common.{◌≡◌, ℕ, List, inl, inr, subst, sym, append
 use Rattle.bq_job.specs.declared.answer.Answer.{Answer}
 use Rattle.bq_job.specs.declared.step.Step.{Step}
 use Rattle.bq_job.specs.promise.LineSteps.{LineSeen}
-use Rattle.bq_driver.specs.Links.{Calls}
-use Rattle.bq_driver.specs.Tending.{DoorSeen, GoesOn, IsTended}
-use Rattle.bq_driver.specs.declared.attendant.Attendant.{Attendant}
+use Rattle.bq_line.specs.Links.{Calls}
+use Rattle.bq_line.specs.Tending.{DoorSeen, GoesOn, IsTended}
+use Rattle.bq_line.specs.declared.attendant.Attendant.{Attendant}
 use Rattle.bq_link.specs.EndStates.{SeatState}
 use Rattle.bq_run.specs.Ends.{EndWent}
 

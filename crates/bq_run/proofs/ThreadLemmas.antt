@@ -7,7 +7,7 @@ use Rattle.bq_job.specs.declared.settings.Settings.{Settings}
 use Rattle.bq_steps.specs.Limits.{are_in_range}
 use Rattle.std.specs.List.{All}
 use Rattle.std.proofs.lemmas.List.{length-append}
-use Rattle.bq_driver.specs.Tending.{DoorSeen, IsDoorServed}
+use Rattle.bq_line.specs.Tending.{DoorSeen, IsDoorServed}
 use Rattle.bq_host.specs.declared.fault.RunFault.{RunFault}
 use Rattle.bq_host.specs.declared.fault.RunFault.TheVariants.{BadConfiguration, NoMemory}
 use Rattle.bq_link.specs.EndStates.{CoreState, IsSameCore, IsSameSeat, SeatState}

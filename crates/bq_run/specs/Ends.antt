@@ -2,7 +2,7 @@
 use Rattle.std.specs.Prelude.{◌≡◌, Bool, false, List, [], ◌++◌}
 use Rattle.bq_job.specs.declared.answer.Answer.{Answer}
 use Rattle.bq_job.specs.declared.step.Step.{Step}
-use Rattle.bq_driver.specs.Links.{TakesInPlace}
+use Rattle.bq_line.specs.Links.{TakesInPlace}
 use Rattle.bq_run.specs.declared.seat_work.SeatLink.{SeatLink}
 use Rattle.bq_seat.specs.declared.machine.Action.{Action}
 use Rattle.bq_link.specs.EndStates.{IsSameSeat, SeatState}

@@ -3,9 +3,9 @@ use Rattle.std.specs.Prelude.{ℕ, ◌≡◌, ◌||◌, Bool, true, IsTrue, List
 use Rattle.bq_job.specs.declared.settings.Settings.{Settings}
 use Rattle.bq_job.specs.promise.ControlDid.{IsControlDone}
 use Rattle.bq_job.specs.machine.Machine.{Machine}
-use Rattle.bq_driver.specs.ControlRead.{IsReadToEnd}
-use Rattle.bq_driver.specs.Tending.{AreSame, DoorSeen, IsDoorServed}
-use Rattle.bq_driver.specs.declared.control_line.ControlLine.{ControlLine}
+use Rattle.bq_line.specs.ControlRead.{IsReadToEnd}
+use Rattle.bq_line.specs.Tending.{AreSame, DoorSeen, IsDoorServed}
+use Rattle.bq_line.specs.declared.control_line.ControlLine.{ControlLine}
 use Rattle.bq_link.specs.EndStates.{CoreState, IsSameCore, IsSameSeat, SeatState}
 use Rattle.bq_host.specs.Clocks.{Gives}
 use Rattle.bq_run.specs.CoreWork.{IsCoreDone}

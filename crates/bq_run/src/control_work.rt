@@ -1,13 +1,12 @@
 //! The work of the thread that reads the control line.
 ghost use Rattle.std.specs.Prelude.{◌≡◌, ◌||◌, [], true, IsTrue};
 ghost use Rattle.bq_job.specs.promise.ControlDid.{IsControlDone};
-ghost use Rattle.bq_driver.specs.ControlRead.{IsReadToEnd};
+ghost use Rattle.bq_line.specs.ControlRead.{IsReadToEnd};
 ghost use Rattle.bq_link.specs.EndStates.{IsSameSeat};
 ghost use Rattle.bq_run.specs.Ends.{IsNewEnd};
 
 use crate::seat_work::control_at;
-use bq_driver::control_line::ControlLine;
-use bq_driver::control_reader::ControlReader;
+use bq_line::control_line::{ControlLine, ControlReader};
 use bq_link::{Intake, NoTicks, SeatEnd};
 use std::sync::Wait;
 

@@ -16,13 +16,13 @@ use Rattle.bq_job.specs.beside.Ties.{IsLineJoined}
 use Rattle.bq_seat.specs.declared.machine.Action.{Action}
 use Rattle.bq_seat.specs.declared.machine.Action.TheVariants as actions
 use Rattle.bq_seat.specs.declared.machine.SeatMachine.{SeatMachine}
-use Rattle.bq_driver.specs.Attending.{IsOnLine}
-use Rattle.bq_driver.specs.Carried.{CarriesOn, with_part}
-use Rattle.bq_driver.specs.declared.progress.Progress.{Progress}
+use Rattle.bq_line.specs.Attending.{IsOnLine}
+use Rattle.bq_line.specs.Carried.{CarriesOn, with_part}
+use Rattle.bq_line.specs.declared.attendant.Progress.{Progress}
 use Rattle.bq_host.specs.{MailStates.{IsNewMailState, MailState, waiting}, Went.SeatWent}
 use Rattle.bq_host.proofs.WentLemmas.{none_waits, seat_none, seat_on}
-use Rattle.bq_driver.proofs.CarriedLemmas.{none_begun}
-use Rattle.bq_driver.proofs.SeatLemmas.{carried_on, line_served}
+use Rattle.bq_line.proofs.CarriedLemmas.{none_begun}
+use Rattle.bq_line.proofs.SeatLemmas.{carried_on, line_served}
 
 -- Starting from a new desk, only this seat did anything, and it served its line.
 pub record IsServingAlone (settings : Settings) (seat : ℕ) (readings : List (Option ℕ)) (desk : MailState) (machine : SeatMachine)

@@ -3,10 +3,10 @@ use Rattle.std.proofs.Common.{◌≡◌, ℕ, List, [], Option, refl, subst, sym
 use Rattle.bq_job.specs.declared.answer.Answer.{Answer}
 use Rattle.bq_job.specs.declared.step.Step.{Step}
 use Rattle.bq_seat.specs.declared.machine.Action.{Action}
-use Rattle.bq_driver.specs.Carried.{HasGone, MayCall}
+use Rattle.bq_line.specs.Carried.{HasGone, MayCall}
 use Rattle.bq_run_one.specs.DeskOf.{WentAt}
 use Rattle.bq_run_one.specs.declared.desk_seat.DeskSeat.{DeskSeat}
-use Rattle.bq_driver.proofs.CarriedLemmas.{gone}
+use Rattle.bq_line.proofs.CarriedLemmas.{gone}
 use Rattle.bq_run_one.proofs.DeskLemmas.{went_none}
 
 abbrev pub LinkWent : {C : Type 0} → (C → List (Option ℕ) → C → Type 0) → DeskSeat C → List Step → List Answer → DeskSeat C → Type 0

@@ -2,7 +2,7 @@
 ghost use Rattle.std.specs.Prelude.{◌≡◌, false, IfOk, []};
 ghost use Rattle.std.specs.List.{All};
 ghost use Rattle.bq_line.specs.MemDoors.{IsFresh};
-ghost use Rattle.bq_driver.specs.Tending.{IsNewDoor};
+ghost use Rattle.bq_line.specs.Tending.{IsNewDoor};
 
 use crate::clients::{Client, Outcome, parts_of};
 use bq_job::{LineEnd, NoMemory};

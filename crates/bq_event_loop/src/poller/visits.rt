@@ -2,8 +2,7 @@
 //! seat does without waiting, before other seats have their turn.
 
 use crate::turns::Turn;
-use bq_driver::attendant::Attendant;
-use bq_driver::progress::Progress;
+use bq_line::attendant::{Attendant, Progress};
 use bq_line::line::Line;
 use std::alloc::{AllocError, Global};
 use std::collections::VecDeque;

@@ -2,7 +2,7 @@
 ghost use Rattle.std.specs.Prelude.{◌≡◌, ◌++◌, ◌∷◌, ◌+◌, [], IfOk, IsTrue, OnOk, map, reverse, vec_len};
 ghost use Rattle.std.specs.List.{All};
 ghost use Rattle.bq_steps.specs.Limits.{is_body_size};
-ghost use Rattle.bq_driver.specs.Tending.{IsNewDoor, door_seen};
+ghost use Rattle.bq_line.specs.Tending.{IsNewDoor, door_seen};
 ghost use Rattle.bq_link.specs.NewEnds.{AreNewSeats, IsNewCore};
 ghost use Rattle.bq_run.specs.Ends.{IsNewEnd};
 

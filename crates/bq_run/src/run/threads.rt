@@ -1,7 +1,7 @@
 //! The threads of a run. They start together or not at all, and return what they served.
 ghost use Rattle.std.specs.Prelude.{◌≡◌, ◌<◌, ◌≤◌, [], IfOk, IfSome, IsErrOf, IsTrue, map, reverse, vec_capacity, vec_len};
 ghost use Rattle.std.specs.List.{All};
-ghost use Rattle.bq_driver.specs.Tending.{AreSame, IsDoorServed, door_seen};
+ghost use Rattle.bq_line.specs.Tending.{AreSame, IsDoorServed, door_seen};
 ghost use Rattle.bq_link.specs.EndStates.{IsSameSeat};
 ghost use Rattle.bq_run.specs.Threads.{AreOver, AreServed, IsControlOver, IsCoreOver};
 
@@ -9,11 +9,10 @@ use crate::control_work::control_work;
 use crate::run::core_post::CorePost;
 use crate::run::posts::{ControlPost, EndPosts, Ended, EndedEnds, Posts};
 use crate::run::seat_post::SeatPost;
-use bq_driver::control_line::ControlLine;
-use bq_driver::control_reader::ControlReader;
 use bq_host::{RunFault, Start};
 use bq_line::Door;
 use bq_line::clock::Clock;
+use bq_line::control_line::{ControlLine, ControlReader};
 use bq_line::line::Line;
 use bq_link::{CoreEnd, SeatEnd};
 use bq_steps::{Config, QueueCore};

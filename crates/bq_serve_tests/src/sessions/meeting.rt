@@ -3,7 +3,7 @@
 //! control line to its end before it serves.
 ghost use Rattle.std.specs.Prelude.{◌≡◌, IfOk};
 ghost use Rattle.std.specs.List.{All};
-ghost use Rattle.bq_driver.specs.Tending.{IsNewDoor, door_seen};
+ghost use Rattle.bq_line.specs.Tending.{IsNewDoor, door_seen};
 
 mod awaited;
 mod guest;

@@ -1,7 +1,7 @@
 //! Runs by threads over links, with a clock that always reads the same.
 ghost use Rattle.std.specs.Prelude.{◌≡◌, IfOk};
 ghost use Rattle.std.specs.List.{All};
-ghost use Rattle.bq_driver.specs.Tending.{IsNewDoor, door_seen};
+ghost use Rattle.bq_line.specs.Tending.{IsNewDoor, door_seen};
 
 use crate::clients::Client;
 use crate::control::{Control, Gives};
@@ -9,11 +9,11 @@ use crate::doors::CountedDoor;
 use crate::scene::Scene;
 use crate::settings::config;
 use crate::wanted::{Wanted, is_right};
-use bq_driver::control_reader::ControlReader;
 use bq_host::RunFault;
 use bq_job::USUAL_BODY;
 use bq_line::Door;
 use bq_line::clock::ScriptClock;
+use bq_line::control_line::ControlReader;
 use bq_line::line::Line;
 use bq_serve::{Run, run_sessions};
 use bq_steps::Config;

@@ -1,5 +1,5 @@
 use Rattle.std.proofs.Common.{◌≡◌, List, subst, sym, arith}
-use Rattle.bq_driver.specs.Tending.{IsNewDoor}
+use Rattle.bq_line.specs.Tending.{IsNewDoor}
 use Rattle.bq_host.proofs.ListLemmas.{all_pushed}
 use Rattle.bq_cli.specs.Servers.{IsDoorAt, TcpDoor}
 use Rattle.bq_cli.proofs.server.new_doors.Goals as goal

@@ -1,6 +1,6 @@
 use Rattle.std.proofs.Common.{◌≡◌, ◌≤◌, vec_len}
 use Rattle.std.specs.List.{All}
-use Rattle.bq_driver.specs.Tending.{IsNewDoor}
+use Rattle.bq_line.specs.Tending.{IsNewDoor}
 use Rattle.bq_cli.specs.Servers.{IsDoorAt}
 use Rattle.bq_cli.proofs.server.new_doors.Given as goal
 

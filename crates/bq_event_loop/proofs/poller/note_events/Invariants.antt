@@ -1,4 +1,4 @@
-use Rattle.bq_driver.specs.Tending.{door_seen}
+use Rattle.bq_line.specs.Tending.{door_seen}
 use Rattle.bq_event_loop.specs.Rows.{KeepsRow}
 use Rattle.bq_event_loop.proofs.poller.note_events.Given as goal
 

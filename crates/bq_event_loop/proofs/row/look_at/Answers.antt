@@ -1,6 +1,6 @@
 use Rattle.std.proofs.Common.{subst}
-use Rattle.bq_driver.specs.Tending.{IsPlaced, door_seen}
-use Rattle.bq_driver.proofs.TendingLemmas.{tends_still}
+use Rattle.bq_line.specs.Tending.{IsPlaced, door_seen}
+use Rattle.bq_line.proofs.TendingLemmas.{tends_still}
 use Rattle.bq_event_loop.proofs.row.look_at.Goals as goal
 
 pub returns-then-not-is_between-clause-went : goal.returns-then-not-is_between-clause-went

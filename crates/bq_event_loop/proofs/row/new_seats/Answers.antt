@@ -1,7 +1,7 @@
 use Rattle.std.proofs.Common.{List, subst, sym, arith}
 use Rattle.std.specs.List.{All}
-use Rattle.bq_driver.specs.Tending.{IsNewSeat}
-use Rattle.bq_driver.specs.declared.attendant.Attendant.{Attendant}
+use Rattle.bq_line.specs.Tending.{IsNewSeat}
+use Rattle.bq_line.specs.declared.attendant.Attendant.{Attendant}
 use Rattle.bq_host.proofs.ListLemmas.{all_more}
 use Rattle.bq_event_loop.proofs.row.new_seats.Goals as goal
 

@@ -1,6 +1,6 @@
 use Rattle.std.proofs.Common.{◌≡◌, ◌≤◌, vec_len}
 use Rattle.std.specs.List.{All}
-use Rattle.bq_driver.specs.Tending.{IsNewSeat}
+use Rattle.bq_line.specs.Tending.{IsNewSeat}
 use Rattle.bq_event_loop.proofs.row.new_seats.Given as goal
 
 abbrev pub invariant-loop : goal.invariant-loop

@@ -1,7 +1,7 @@
 use Rattle.std.proofs.Common.{◌≡◌, ◌∙◌, [], List, length, map, ap, refl, subst, sym, true}
-use Rattle.bq_driver.specs.ControlRead.{IsReadToEnd}
-use Rattle.bq_driver.specs.Tending.{door_seen}
-use Rattle.bq_driver.specs.declared.control_line.ControlLine.{ControlLine}
+use Rattle.bq_line.specs.ControlRead.{IsReadToEnd}
+use Rattle.bq_line.specs.Tending.{door_seen}
+use Rattle.bq_line.specs.declared.control_line.ControlLine.{ControlLine}
 use Rattle.bq_host.proofs.WentLemmas.{new_mails_are}
 use Rattle.bq_event_loop.specs.LoopCores.{state_of}
 use Rattle.bq_event_loop.specs.Serving.{AreServed}

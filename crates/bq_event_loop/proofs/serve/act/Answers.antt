@@ -1,5 +1,5 @@
 use Rattle.std.proofs.Common.{refl, arith}
-use Rattle.bq_driver.specs.Tending.{door_seen}
+use Rattle.bq_line.specs.Tending.{door_seen}
 use Rattle.bq_event_loop.proofs.RowLemmas.{placed_there, tended_acted}
 use Rattle.bq_event_loop.proofs.ServingLemmas.{serves_acted}
 use Rattle.bq_event_loop.proofs.serve.act.Goals as goal

@@ -1,5 +1,5 @@
 use Rattle.std.proofs.Common.{◌<◌, ◌≤◌, ◌∙◌, [], subst, sym}
-use Rattle.bq_driver.specs.Tending.{door_seen}
+use Rattle.bq_line.specs.Tending.{door_seen}
 use Rattle.bq_event_loop.proofs.ServingLemmas.{serves_on}
 use Rattle.bq_event_loop.proofs.serve.read_and_ask.Goals as goal
 

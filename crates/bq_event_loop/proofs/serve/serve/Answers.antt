@@ -1,5 +1,5 @@
 use Rattle.std.proofs.Common.{◌≤◌, ◌++◌, ◌∙◌, [], ap, length, refl, subst, sym}
-use Rattle.bq_driver.specs.Tending.{door_seen}
+use Rattle.bq_line.specs.Tending.{door_seen}
 use Rattle.bq_event_loop.proofs.ControlLemmas.{tells_none, tells_then}
 use Rattle.bq_event_loop.proofs.LoopCoreLemmas.{order_woken}
 use Rattle.bq_event_loop.proofs.RowLemmas.{rested_none}

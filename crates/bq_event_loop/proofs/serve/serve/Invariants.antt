@@ -1,6 +1,6 @@
 use Rattle.std.proofs.Common.{◌≡◌, ◌≤◌, List, length}
 use Rattle.bq_job.specs.declared.step.Step.{Step}
-use Rattle.bq_driver.specs.Tending.{door_seen}
+use Rattle.bq_line.specs.Tending.{door_seen}
 use Rattle.bq_event_loop.specs.ControlTold.{TellsOn}
 use Rattle.bq_event_loop.specs.LoopCores.{state_of}
 use Rattle.bq_host.specs.MailStates.{IsInOrder}

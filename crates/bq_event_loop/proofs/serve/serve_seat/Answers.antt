@@ -1,5 +1,5 @@
 use Rattle.std.proofs.Common.{[]}
-use Rattle.bq_driver.specs.Tending.{door_seen}
+use Rattle.bq_line.specs.Tending.{door_seen}
 use Rattle.bq_event_loop.proofs.ServingLemmas.{serves_none, serves_on, serves_time}
 use Rattle.bq_event_loop.proofs.serve.serve_seat.Goals as goal
 

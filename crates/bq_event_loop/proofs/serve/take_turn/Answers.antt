@@ -1,5 +1,5 @@
 use Rattle.std.proofs.Common.{◌≤◌, [], subst, sym}
-use Rattle.bq_driver.specs.Tending.{door_seen}
+use Rattle.bq_line.specs.Tending.{door_seen}
 use Rattle.bq_event_loop.proofs.ControlLemmas.{tells_none}
 use Rattle.bq_event_loop.proofs.ServingLemmas.{serves_control, serves_none, serves_time}
 use Rattle.bq_event_loop.proofs.serve.take_turn.Goals as goal

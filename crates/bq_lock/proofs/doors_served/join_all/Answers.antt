@@ -1,9 +1,9 @@
 use Rattle.std.proofs.Common.{◌≡◌, ℕ, arith, subst}
 use Rattle.std.specs.Prelude.{IfSome}
 use Rattle.bq_lock.specs.LockedRuns.{IsServedToEnd}
-use Rattle.bq_driver.specs.Tending.{door_seen}
+use Rattle.bq_line.specs.Tending.{door_seen}
 use Rattle.bq_host.proofs.ListLemmas.{all_pushed, first_passes, rest_passes}
-use Rattle.bq_driver.proofs.BackLemmas.{one_back}
+use Rattle.bq_line.proofs.BackLemmas.{one_back}
 use Rattle.bq_lock.proofs.doors_served.join_all.Goals as goal
 
 pub loop-thread-preserved : goal.loop-thread-preserved

@@ -1,8 +1,8 @@
 use Rattle.std.proofs.Common.{◌≡◌, ◌+◌, vec_len}
 use Rattle.std.specs.List.{All}
 use Rattle.bq_lock.specs.LockedRuns.{IsServedToEnd}
-use Rattle.bq_driver.specs.Tending.{door_seen}
-use Rattle.bq_driver.proofs.BackLemmas.{AreBack}
+use Rattle.bq_line.specs.Tending.{door_seen}
+use Rattle.bq_line.proofs.BackLemmas.{AreBack}
 use Rattle.bq_lock.proofs.doors_served.join_all.Given as goal
 
 abbrev pub invariant-loop-thread : goal.invariant-loop-thread

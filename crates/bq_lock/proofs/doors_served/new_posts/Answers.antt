@@ -1,7 +1,7 @@
 use Rattle.std.proofs.Common.{◌≡◌, ◌-◌, ◌∙◌, List, subst, sym, arith, vec_len}
 use Rattle.std.specs.List.{All}
 use Rattle.std.proofs.lemmas.List.Elements.{All-take}
-use Rattle.bq_driver.specs.Tending.{IsNewDoor, door_seen}
+use Rattle.bq_line.specs.Tending.{IsNewDoor, door_seen}
 use Rattle.bq_host.proofs.ListLemmas.{all_pushed, put_behind}
 use Rattle.bq_lock.proofs.doors_served.new_posts.Goals as goal
 

@@ -1,7 +1,7 @@
 use Rattle.std.proofs.Common.{◌≡◌, ◌≤◌, ◌+◌, ◌++◌, map, vec_len}
 use Rattle.std.specs.Prelude.{reverse}
 use Rattle.std.specs.List.{All}
-use Rattle.bq_driver.specs.Tending.{IsNewDoor, door_seen}
+use Rattle.bq_line.specs.Tending.{IsNewDoor, door_seen}
 use Rattle.bq_lock.proofs.doors_served.new_posts.Given as goal
 
 abbrev pub invariant-loop-door : goal.invariant-loop-door

@@ -2,7 +2,7 @@ use Rattle.std.proofs.Common.{◌≡◌, ◌∙◌, List, ap, false, map, true, 
 use Rattle.std.specs.List.{All}
 use Rattle.std.specs.Prelude.{reverse}
 use Rattle.bq_job.specs.declared.settings.Settings.{Settings}
-use Rattle.bq_driver.specs.Tending.{AreSame, door_seen}
+use Rattle.bq_line.specs.Tending.{AreSame, door_seen}
 use Rattle.bq_host.specs.declared.fault.RunFault.TheVariants.{BadConfiguration}
 use Rattle.bq_link.specs.EndStates.{SeatState}
 use Rattle.bq_run.specs.ThreadRuns.{IsRunOf}

@@ -1,9 +1,9 @@
 use Rattle.std.proofs.Common.{◌∙◌, refl, sym, subst, [], List}
 use Rattle.bq_job.specs.declared.answer.Answer.{Answer}
 use Rattle.bq_job.specs.declared.step.Step.{Step}
-use Rattle.bq_driver.specs.Tending.{IsTended, attendant, door_seen}
-use Rattle.bq_driver.specs.declared.attendant.LinePlace.TheVariants as places
-use Rattle.bq_driver.proofs.TendingLemmas.{tended_new}
+use Rattle.bq_line.specs.Tending.{IsTended, attendant, door_seen}
+use Rattle.bq_line.specs.declared.attendant.LinePlace.TheVariants as places
+use Rattle.bq_line.proofs.TendingLemmas.{tended_new}
 use Rattle.bq_link.specs.EndStates.{IsSameSeat, SeatState}
 use Rattle.bq_run.proofs.SeatWorkLemmas.{tended_on}
 use Rattle.bq_run.proofs.seat_work.seat_work.Goals as goal

@@ -1,4 +1,4 @@
-use Rattle.bq_driver.specs.Tending.{IsTended, door_seen}
+use Rattle.bq_line.specs.Tending.{IsTended, door_seen}
 use Rattle.bq_link.specs.EndStates.{IsSameSeat}
 use Rattle.bq_run.proofs.seat_work.seat_work.Given as goal
 

@@ -4,7 +4,7 @@ use Rattle.bq_seat.specs.declared.machine.Action.TheVariants as actions
 use Rattle.bq_run_one.specs.DeskOf.{state_of}
 use Rattle.bq_host.proofs.WentLemmas.{new_mails_are, order_new}
 use Rattle.bq_run_one.proofs.AloneLemmas.{IsServingAlone, begins_alone, goes_on_alone, over_alone}
-use Rattle.bq_driver.proofs.SeatLemmas.{opened_on}
+use Rattle.bq_line.proofs.SeatLemmas.{opened_on}
 use Rattle.bq_job.proofs.JoinLemmas.{line_joined}
 use Rattle.bq_run_one.proofs.one.serve_line.Goals as goal
 

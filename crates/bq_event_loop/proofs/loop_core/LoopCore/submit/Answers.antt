@@ -1,5 +1,5 @@
 use Rattle.std.proofs.Common.{[], refl}
-use Rattle.bq_driver.specs.Links.{as_submitted}
+use Rattle.bq_line.specs.Links.{as_submitted}
 use Rattle.bq_event_loop.proofs.LoopCoreLemmas.{went_then}
 use Rattle.bq_event_loop.proofs.loop_core.LoopCore.submit.Goals as goal
 

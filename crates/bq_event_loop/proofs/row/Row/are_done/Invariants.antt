@@ -1,7 +1,7 @@
 use Rattle.std.proofs.Common.{◌≡◌, ◌<◌, ℕ}
 use Rattle.std.specs.Prelude.{slice_index_or}
-use Rattle.bq_driver.specs.declared.attendant.Attendant.{Attendant}
-use Rattle.bq_driver.specs.declared.attendant.LinePlace.TheVariants.{Done}
+use Rattle.bq_line.specs.declared.attendant.Attendant.{Attendant}
+use Rattle.bq_line.specs.declared.attendant.LinePlace.TheVariants.{Done}
 use Rattle.bq_event_loop.proofs.row.Row.are_done.Given as goal
 
 abbrev pub invariant-loop-seat : goal.invariant-loop-seat

@@ -1,5 +1,5 @@
 use Rattle.std.proofs.Common.{arith}
-use Rattle.bq_driver.specs.Tending.{door_seen}
+use Rattle.bq_line.specs.Tending.{door_seen}
 use Rattle.bq_event_loop.proofs.RowLemmas.{rested_seat, tended_seat}
 use Rattle.bq_event_loop.proofs.row.Row.exchange.Goals as goal
 

@@ -1,6 +1,6 @@
 use Rattle.std.proofs.Common.{◌++◌, ℕ, [], refl, subst}
-use Rattle.bq_driver.specs.Tending.{IsTended, attendant, door_seen}
-use Rattle.bq_driver.specs.declared.attendant.LinePlace.TheVariants as places
+use Rattle.bq_line.specs.Tending.{IsTended, attendant, door_seen}
+use Rattle.bq_line.specs.declared.attendant.LinePlace.TheVariants as places
 use Rattle.bq_lock.proofs.PostLemmas.{tended_first}
 use Rattle.bq_lock.proofs.post.Post.serve.Goals as goal
 

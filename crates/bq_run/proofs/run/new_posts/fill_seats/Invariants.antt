@@ -1,6 +1,6 @@
 use Rattle.std.proofs.Common.{◌≡◌, ◌++◌, map, vec_len}
 use Rattle.std.specs.List.{All}
-use Rattle.bq_driver.specs.Tending.{IsNewDoor, door_seen}
+use Rattle.bq_line.specs.Tending.{IsNewDoor, door_seen}
 use Rattle.bq_run.specs.Ends.{IsNewEnd}
 use Rattle.std.specs.Prelude.{reverse}
 use Rattle.bq_run.proofs.run.new_posts.fill_seats.Given as goal

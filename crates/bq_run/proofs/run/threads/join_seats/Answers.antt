@@ -1,7 +1,7 @@
 use Rattle.std.proofs.Common.{◌≡◌, ◌++◌, ◌∙◌, ◌∷◌, [], ap, arith, length}
-use Rattle.bq_driver.specs.Tending.{door_seen}
+use Rattle.bq_line.specs.Tending.{door_seen}
 use Rattle.bq_host.proofs.ListLemmas.{first_passes, rest_passes}
-use Rattle.bq_driver.proofs.BackLemmas.{one_back}
+use Rattle.bq_line.proofs.BackLemmas.{one_back}
 use Rattle.bq_run.proofs.ThreadLemmas.{joined_first, served_more}
 use Rattle.bq_run.proofs.run.threads.join_seats.Goals as goal
 

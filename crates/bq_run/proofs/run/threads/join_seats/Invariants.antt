@@ -1,8 +1,8 @@
 use Rattle.std.proofs.Common.{◌≡◌, ◌+◌, ◌<◌, ◌≤◌, ◌++◌, List, length, map, vec_capacity, vec_len}
 use Rattle.std.specs.List.{All}
-use Rattle.bq_driver.specs.Tending.{door_seen}
+use Rattle.bq_line.specs.Tending.{door_seen}
 use Rattle.bq_link.specs.EndStates.{SeatState}
-use Rattle.bq_driver.proofs.BackLemmas.{AreBack}
+use Rattle.bq_line.proofs.BackLemmas.{AreBack}
 use Rattle.bq_run.specs.Threads.{AreServed}
 use Rattle.bq_run.proofs.run.threads.join_seats.Given as goal
 

@@ -1,6 +1,6 @@
 use Rattle.std.proofs.Common.{map}
 use Rattle.bq_line.specs.MemDoors.{line_over}
-use Rattle.bq_driver.specs.Tending.{IsNewDoor}
+use Rattle.bq_line.specs.Tending.{IsNewDoor}
 use Rattle.bq_serve_tests.specs.declared.doors.CountedDoor.{CountedDoor}
 use Rattle.bq_serve_tests.proofs.DoorLemmas.{all_pushed_if}
 use Rattle.bq_serve_tests.proofs.doors.NewDoors.push.Goals as goal

@@ -5,7 +5,7 @@ use Rattle.std.specs.Option.{option_to_list}
 use Rattle.bq_job.specs.declared.line_end.LineEnd.{LineEnd}
 use Rattle.bq_job.specs.promise.History.{LineOver}
 use Rattle.bq_line.specs.declared.line.io_line.IoLine.{IoLine}
-use Rattle.bq_driver.specs.Tending.{IsNewDoor}
+use Rattle.bq_line.specs.Tending.{IsNewDoor}
 use Rattle.bq_serve_tests.specs.declared.sessions.meeting.guest.Guest.{Guest}
 use Rattle.bq_serve_tests.specs.declared.sessions.meeting.guest_door.GuestDoor.{GuestDoor}
 use Rattle.bq_serve_tests.proofs.sessions.meeting.doors.Given as goal

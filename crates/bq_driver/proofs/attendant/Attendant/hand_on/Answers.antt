@@ -1,9 +1,0 @@
-use Rattle.bq_driver.specs.declared.attendant.LinePlace.TheVariants as places
-use Rattle.bq_driver.proofs.TendingLemmas.{tends_from, tends_told}
-use Rattle.bq_driver.proofs.attendant.Attendant.hand_on.Goals as goal
-
-pub returns-in-On : goal.returns-in-On
-returns-in-On g c = λ door.
-    let m = c.args.self.now.machine in
-    tends_from g.L.Line.seen m c.args.self.now.place (places.On c.in-On.line c.in-On.field-1 c.in-On.field-2) door door _ c.in-On.is
-    (tends_told g.L.Line.seen m c.in-On.line c.expect_more.new.self c.in-On.field-1 c.in-On.field-2 door c.expect_more.ensures.seen)

@@ -1,4 +1,0 @@
-use Rattle.bq_driver.proofs.attendant.read.Goals as goal
-
-pub returns-in-Err : goal.returns-in-Err
-returns-in-Err g c = (rw c.in-Err.ensures.seen (c.tell_error.ensures (g.L.Line.seen c.args.line.now)), c.in-Err.ensures.stays)

@@ -1,0 +1,223 @@
+-- The result of carrying out an action that is known by an equation.
+use Rattle.std.proofs.Common.{◌≡◌, ◌⊎◌, ℕ, List, [], ◌++◌, append-nil, refl, sym, ap, ◌∙◌, subst, inl, inr}
+use Rattle.bq_job.specs.declared.answer.Answer.{Answer}
+use Rattle.bq_job.specs.declared.step.Step.{Step}
+use Rattle.bq_job.specs.promise.LineSteps.{LineSeen}
+use Rattle.bq_seat.specs.declared.machine.Action.{Action}
+use Rattle.bq_seat.specs.declared.machine.Action.TheVariants as actions
+use Rattle.bq_seat.specs.declared.machine.SeatMachine.{SeatMachine}
+use Rattle.bq_seat.specs.declared.machine.Event.{Event}
+use Rattle.bq_seat.specs.declared.machine.Event.TheVariants as events
+use Rattle.bq_seat.specs.SeatMoves.{IsMove}
+use Rattle.bq_job.specs.texts.AnswerText.{answer_text}
+use Rattle.bq_line.specs.declared.buffers.Wrote.TheVariants as wrotes
+use Rattle.bq_line.specs.Carried.{CanEnd, Carried, CarriedPart, EndsAs, HasGone, IsPolledAs, IsReadAs, IsSubmittedAs, MayCall, with_part}
+use Rattle.bq_line.specs.declared.attendant.Progress.{Progress}
+use Rattle.bq_line.specs.declared.attendant.Progress.TheVariants as results
+use Rattle.bq_line.specs.Writing.{Resumes}
+use Rattle.bq_line.specs.Links.{Calls}
+use Rattle.bq_line.specs.Tending.{MayEndAt}
+use Rattle.bq_line.specs.declared.attendant.LinePlace.{LinePlace}
+use Rattle.bq_line.specs.declared.attendant.LinePlace.TheVariants as places
+use Rattle.bq_job.specs.declared.line_end.LineEnd.{LineEnd}
+
+abbrev pub Comes : {K : Type 0} → (K → List Step → List Answer → K → Type 0) → Progress → SeatMachine → LineSeen → K → SeatMachine
+    → LineSeen → K → Action → Action → Type 0
+Comes went result old seen link new later after next action =
+    (submitted : List Step) × (taken : List Answer) × HasGone went link action submitted taken after
+    × Carried result old seen action new later next submitted taken
+
+pub comes_by : {K : Type 0} (went : K → List Step → List Answer → K → Type 0) (result : Progress) (old : SeatMachine) (seen : LineSeen)
+    (link : K) (new : SeatMachine) (later : LineSeen) (after : K) (next action same : Action)
+    → action ≡ same → (submitted : List Step) (taken : List Answer) → HasGone went link same submitted taken after
+    → Carried result old seen same new later next submitted taken → Comes went result old seen link new later after next action
+comes_by went result old seen link new later after next action same e submitted taken h c =
+    subst (Comes went result old seen link new later after next) (sym e) (submitted, taken, h, c)
+
+-- the same by parts
+abbrev pub ComesOn : {K : Type 0} → (K → List Step → List Answer → K → Type 0) → Progress → SeatMachine → LineSeen → ℕ → K → SeatMachine
+    → LineSeen → ℕ → K → Action → Action → Type 0
+ComesOn went result old seen sent link new later now after next action =
+    (submitted : List Step) × (taken : List Answer) × HasGone went link action submitted taken after
+    × CarriedPart result old seen action sent new later next now submitted taken
+
+-- Nothing of an answer is written yet.
+pub none_begun : (action : Action) (line : LineSeen) → line ≡ with_part action 0 line
+none_begun (actions.Submit step) line = refl
+none_begun actions.Read line = refl
+none_begun actions.PollMail line = refl
+none_begun (actions.Write answer) line = ap (λ w. record line { written = w }) (sym (append-nil line.written))
+none_begun (actions.LineOver end) line = refl
+none_begun actions.Stray line = refl
+
+-- If no answer is to be written, the line's record is the same.
+same_before : (action : Action) (sent : ℕ) (line : LineSeen) → ((answer : Answer) → action ≡ actions.Write answer → ⊥)
+    → with_part action sent line ≡ line
+same_before (actions.Submit step) sent line other = refl
+same_before actions.Read sent line other = refl
+same_before actions.PollMail sent line other = refl
+same_before (actions.Write answer) sent line other = absurd (other answer refl)
+same_before (actions.LineOver end) sent line other = refl
+same_before actions.Stray sent line other = refl
+
+may_call : (result : Progress) (old : SeatMachine) (seen : LineSeen) (action : Action) (new : SeatMachine) (later : LineSeen)
+    (next : Action) (submitted : List Step) (taken : List Answer)
+    → Carried result old seen action new later next submitted taken → MayCall action submitted taken
+may_call result old seen (actions.Submit step) new later next submitted taken c = tt
+may_call result old seen actions.Read new later next submitted taken c = (c.0, c.1)
+may_call result old seen actions.PollMail new later next submitted taken c = tt
+may_call result old seen (actions.Write answer) new later next submitted taken c = (c.0, c.1)
+may_call result old seen (actions.LineOver end) new later next submitted taken c = (c.none_submitted, c.none_taken)
+may_call result old seen actions.Stray new later next submitted taken c = (c.none_submitted, c.none_taken)
+
+ends_submitted : (result : Progress) (old : SeatMachine) (step : Step) (new : SeatMachine) (next : Action) (submitted : List Step)
+    (taken : List Answer)
+    → IsSubmittedAs result old step new next submitted → taken ≡ [] → EndsAs result (actions.Submit step) submitted taken
+ends_submitted results.Moved old step new next submitted taken c t =
+    record { can_end = inl refl; still = λ moved. absurd (moved refl) }
+ends_submitted results.NotAccepted old step new next submitted taken c t =
+    record { can_end = inr refl; still = λ moved. (c.0, t) }
+ends_submitted _ old step new next submitted taken c t = absurd c
+
+ends_read : (result : Progress) (seen : LineSeen) (event : Event) (later : LineSeen) → IsReadAs result seen event later
+    → (result ≡ results.Moved) ⊎ (result ≡ results.NoBytes)
+ends_read results.Moved seen event later c = inl refl
+ends_read results.NoBytes seen event later c = inr refl
+ends_read _ seen event later c = absurd c
+
+ends_polled : (result : Progress) (old new : SeatMachine) (next : Action) (submitted : List Step) (taken : List Answer)
+    → IsPolledAs result old new next taken → submitted ≡ [] → EndsAs result actions.PollMail submitted taken
+ends_polled results.Moved old new next submitted taken c s = record { can_end = inl refl; still = λ moved. absurd (moved refl) }
+ends_polled results.NoMail old new next submitted taken c s = record { can_end = inr refl; still = λ moved. (s, c.0) }
+ends_polled _ old new next submitted taken c s = absurd c
+
+-- What the result of an action says about it.
+ends_as : (result : Progress) (old : SeatMachine) (seen : LineSeen) (action : Action) (new : SeatMachine) (later : LineSeen) (next : Action)
+    (submitted : List Step) (taken : List Answer) → ((answer : Answer) → action ≡ actions.Write answer → ⊥)
+    → Carried result old seen action new later next submitted taken → EndsAs result action submitted taken
+ends_as result old seen (actions.Submit step) new later next submitted taken other c =
+    ends_submitted result old step new next submitted taken c.2 c.1
+ends_as result old seen actions.Read new later next submitted taken other c =
+    record { can_end = ends_read result seen c.2.0 later c.2.1; still = λ moved. (c.0, c.1) }
+ends_as result old seen actions.PollMail new later next submitted taken other c =
+    ends_polled result old new next submitted taken c.2 c.1
+ends_as result old seen (actions.Write answer) new later next submitted taken other c = absurd (other answer refl)
+ends_as result old seen (actions.LineOver end) new later next submitted taken other c =
+    record { can_end = c.result_is; still = λ moved. (c.none_submitted, c.none_taken) }
+ends_as result old seen actions.Stray new later next submitted taken other c =
+    record { can_end = c.result_is; still = λ moved. (c.none_submitted, c.none_taken) }
+
+-- An action that writes no answer was carried out at once.
+pub at_once : {K : Type 0} (went : K → List Step → List Answer → K → Type 0) (result : Progress) (old : SeatMachine) (seen : LineSeen)
+    (sent : ℕ) (link : K) (new : SeatMachine) (later : LineSeen) (after : K) (next action : Action)
+    → ((answer : Answer) → action ≡ actions.Write answer → ⊥) → Comes went result old seen link new later after next action
+    → ComesOn went result old seen sent link new later 0 after next action
+at_once went result old seen sent link new later after next action other c = (
+  c.0,
+  c.1,
+  c.2,
+  (
+    ends_as result old seen action new later next c.0 c.1 other c.3,
+    may_call result old seen action new later next c.0 c.1 c.3,
+    λ first e. (
+      later,
+      none_begun next later,
+      subst (λ s. Carried result old s action new later next c.0 c.1) (e ∙ same_before action sent first other) c.3,
+    ),
+  ),
+)
+
+-- Nothing is submitted or taken while an answer is written.
+pub ends_write : (result : Progress) (answer : Answer) → CanEnd result (actions.Write answer)
+    → EndsAs result (actions.Write answer) [] []
+ends_write result answer can = record { can_end = can; still = λ moved. (refl, refl) }
+
+-- The rest of the answer was written: all of it, as far as there was room, or it was cut off.
+pub wrote_whole : {K : Type 0} (went : K → List Step → List Answer → K → Type 0) (old : SeatMachine) (seen : LineSeen) (sent : ℕ) (link : K)
+    (new : SeatMachine) (later : LineSeen) (now : ℕ) (next : Action) {action : Action} (answer : Answer)
+    → action ≡ actions.Write answer → Resumes (answer_text answer) sent seen wrotes.Whole now later → IsMove old events.WriteDone next new
+    → ComesOn went results.Moved old seen sent link new later 0 link next action
+wrote_whole went old seen sent link new later now next answer e w move =
+    subst (ComesOn went results.Moved old seen sent link new later 0 link next) (sym e) (
+      [],
+      [],
+      refl,
+      (
+        ends_write results.Moved answer (inl refl),
+        (refl, refl),
+        λ first f. (later, none_begun next later, (refl, refl, inl (w first f, move))),
+      ),
+    )
+
+pub not_yet : {K : Type 0} (went : K → List Step → List Answer → K → Type 0) (old : SeatMachine) (seen : LineSeen) (sent : ℕ) (link : K)
+    (later : LineSeen) (now : ℕ) {action : Action} (answer : Answer)
+    → action ≡ actions.Write answer → Resumes (answer_text answer) sent seen wrotes.NotYet now later
+    → ComesOn went results.NoRoom old seen sent link old later now link (actions.Write answer) action
+not_yet went old seen sent link later now answer e w =
+    subst (ComesOn went results.NoRoom old seen sent link old later now link (actions.Write answer)) (sym e) (
+      [],
+      [],
+      refl,
+      (
+        ends_write results.NoRoom answer (inr refl),
+        (refl, refl),
+        λ first f. (first, w first f, (refl, refl, (refl, refl, refl))),
+      ),
+    )
+
+pub broke_off : {K : Type 0} (went : K → List Step → List Answer → K → Type 0) (old : SeatMachine) (seen : LineSeen) (sent : ℕ) (link : K)
+    (new : SeatMachine) (later : LineSeen) (now : ℕ) (next : Action) {action : Action} (answer : Answer)
+    → action ≡ actions.Write answer → Resumes (answer_text answer) sent seen wrotes.Fault now later → IsMove old events.WriteFault next new
+    → ComesOn went results.Moved old seen sent link new later 0 link next action
+broke_off went old seen sent link new later now next answer e w move =
+    subst (ComesOn went results.Moved old seen sent link new later 0 link next) (sym e) (
+      [],
+      [],
+      refl,
+      (
+        ends_write results.Moved answer (inl refl),
+        (refl, refl),
+        λ first f. (later, none_begun next later, (refl, refl, inr (w first f, move))),
+      ),
+    )
+
+none : (P : List Step → List Answer → Type 0) (submitted : List Step) (taken : List Answer) → submitted ≡ [] → taken ≡ []
+    → P [] [] → P submitted taken
+none P submitted taken s t h = subst (λ xs. P xs taken) (sym s) (subst (P []) (sym t) h)
+
+-- what a link did in an action: what it records of its calls, or nothing if it was not used
+pub gone : {K : Type 0} (went : K → List Step → List Answer → K → Type 0) (P : List Step → List Answer → Type 0) (first last : K)
+    (action : Action) (submitted : List Step) (taken : List Answer)
+    → ((submitted : List Step) (taken : List Answer) → went first submitted taken last → P submitted taken) → (last ≡ first → P [] [])
+    → HasGone went first action submitted taken last → MayCall action submitted taken → P submitted taken
+gone went P first last (actions.Submit step) submitted taken calls alone h c = calls submitted taken h
+gone went P first last actions.PollMail submitted taken calls alone h c = calls submitted taken h
+gone went P first last actions.Read submitted taken calls alone h c = none P submitted taken c.0 c.1 (alone h)
+gone went P first last (actions.Write answer) submitted taken calls alone h c = none P submitted taken c.0 c.1 (alone h)
+gone went P first last (actions.LineOver end) submitted taken calls alone h c = none P submitted taken c.0 c.1 (alone h)
+gone went P first last actions.Stray submitted taken calls alone h c = none P submitted taken c.0 c.1 (alone h)
+
+-- What is known of a place follows from what is known of its action, which does not end the line.
+ends_at : {L : Type 0} (result : Progress) (line : L) (action : Action) (sent : ℕ) → ((end : LineEnd) → action ≡ actions.LineOver end → ⊥)
+    → CanEnd result action → MayEndAt result (places.On line action sent)
+ends_at result line (actions.Submit step) sent other c = c
+ends_at result line actions.Read sent other c = c
+ends_at result line actions.PollMail sent other c = c
+ends_at result line (actions.Write answer) sent other c = c
+ends_at result line (actions.LineOver end) sent other c = absurd (other end refl)
+ends_at result line actions.Stray sent other c = c
+
+pub ends_on : {L : Type 0} (result : Progress) (place : LinePlace L) (line : L) (action : Action) (sent : ℕ)
+    → place ≡ places.On line action sent → ((end : LineEnd) → action ≡ actions.LineOver end → ⊥) → CanEnd result action
+    → MayEndAt result place
+ends_on result place line action sent e other c = subst (MayEndAt result) (sym e) (ends_at result line action sent other c)
+
+-- Unless something moved, the link submitted nothing and took nothing.
+pub rests : {K : Type 0} (went : K → List Step → List Answer → K → Type 0) (result : Progress) (first last : K) (action : Action)
+    (submitted : List Step) (taken : List Answer)
+    → HasGone went first action submitted taken last → MayCall action submitted taken → EndsAs result action submitted taken
+    → (result ≡ results.Moved → ⊥) → Calls went first [] [] last
+rests went result first last action submitted taken h c ends moved =
+    let still = ends.still moved in
+    subst (λ s. Calls went first s [] last) still.0 (subst (λ t. Calls went first submitted t last) still.1
+    (gone went (λ s t. Calls went first s t last) first last action submitted taken (λ s t w. inl w) (λ e. inr (e, refl, refl)) h c))

@@ -1,0 +1,198 @@
+-- A seat and its door continue with each thing that the seat does.
+use Rattle.std.proofs.Common.{ℕ, ◌≡◌, true, false, List, [], ◌∷◌, ◌++◌, refl, sym, ap, ◌∙◌, subst, append-nil, append_assoc, inl, inr}
+use Rattle.bq_job.specs.declared.answer.Answer.{Answer}
+use Rattle.bq_job.specs.declared.line_end.LineEnd.{LineEnd}
+use Rattle.bq_job.specs.declared.step.Step.{Step}
+use Rattle.bq_job.specs.promise.History.{LineOver}
+use Rattle.bq_job.specs.promise.LineSteps.{LineSeen}
+use Rattle.bq_job.specs.beside.SeatDid.{AreLinesServed}
+use Rattle.bq_seat.specs.Past.{Awaited}
+use Rattle.bq_seat.specs.SeatMoves.{IsMove}
+use Rattle.bq_seat.specs.SeatStands.{awaited}
+use Rattle.bq_seat.specs.declared.machine.Action.{Action}
+use Rattle.bq_seat.specs.declared.machine.Action.TheVariants as actions
+use Rattle.bq_seat.specs.declared.machine.Event.TheVariants as events
+use Rattle.bq_seat.specs.declared.machine.SeatMachine.{SeatMachine}
+use Rattle.bq_line.specs.Attending.{IsOnLine}
+use Rattle.bq_line.specs.Carried.{CarriedPart, CarriesOn, HasGone}
+use Rattle.bq_line.specs.declared.attendant.Progress.{Progress}
+use Rattle.bq_line.specs.LineCalls.{new_line}
+use Rattle.bq_line.specs.Links.{Calls}
+use Rattle.bq_line.specs.Tending.{DoorSeen, GoesOn, IsNewDoor, IsNewSeat, IsTended, Tends, attendant}
+use Rattle.bq_line.specs.declared.attendant.Attendant.{Attendant}
+use Rattle.bq_line.specs.declared.attendant.LinePlace.{LinePlace}
+use Rattle.bq_line.specs.declared.attendant.LinePlace.TheVariants as places
+use Rattle.bq_job.proofs.JoinLemmas.{lines_more}
+use Rattle.bq_line.proofs.CarriedLemmas.{gone, none_begun}
+use Rattle.bq_line.proofs.SeatLemmas.{carried_on, line_served, opened_on}
+
+-- nothing more was submitted and taken
+none_more : {L : Type 0} (seen : L → LineSeen) (size : ℕ) (a : Attendant L) (door : DoorSeen) (before : List Step) (got : List Answer)
+    → IsTended seen size a door before got → IsTended seen size a door (before ++ []) (got ++ [])
+none_more seen size a door before got h =
+    subst (λ (xs : List Step). IsTended seen size a door xs (got ++ [])) (sym (append-nil before))
+    (subst (λ (ys : List Answer). IsTended seen size a door before ys) (sym (append-nil got)) h)
+
+pub tends_still : {L : Type 0} (seen : L → LineSeen) (a : Attendant L) (door : DoorSeen) → Tends seen a door [] [] a door
+tends_still seen a door size before got h = none_more seen size a door before got h
+
+-- A line was opened.
+pub tends_opened : {L : Type 0} (seen : L → LineSeen) (old new : SeatMachine) (line : L) (action : Action) (door next : DoorSeen)
+    → IsMove old events.Opened action new → next.lines_over ≡ door.lines_over → next.is_out ≡ true → next.is_at_end ≡ false
+    → seen line ≡ new_line
+    → Tends seen (attendant old places.Between) door [] [] (attendant new (places.On line action 0)) next
+tends_opened seen old new line action door next move over out more fresh size before got t =
+    let a = t.attends in
+    let at = a.at_place in
+    none_more seen size (attendant new (places.On line action 0)) next before got (record {
+      attends = record {
+        before = a.before;
+        now = [];
+        got = a.got;
+        getting = [];
+        of_lines = subst (λ (lines : List LineOver). AreLinesServed size lines a.before a.got) (sym over) a.of_lines;
+        at_place = (seen line, none_begun action (seen line), opened_on size old new action (seen line) at.2 at.3 move fresh);
+        submitted_is = a.submitted_is ∙ ap (λ (xs : List Step). a.before ++ xs) at.0;
+        taken_is = a.taken_is ∙ ap (λ (xs : List Answer). a.got ++ xs) at.1;
+      };
+      placed = (out, more);
+    })
+
+-- No more lines come.
+pub tends_at_end : {L : Type 0} (seen : L → LineSeen) (machine : SeatMachine) (door next : DoorSeen)
+    → next.lines_over ≡ door.lines_over → next.is_out ≡ false → next.is_at_end ≡ true
+    → Tends seen (attendant machine places.Between) door [] [] (attendant machine places.Leaving) next
+tends_at_end seen machine door next over inside ended size before got t =
+    let a = t.attends in
+    let at = a.at_place in
+    none_more seen size (attendant machine places.Leaving) next before got (record {
+      attends = record {
+        before = a.before;
+        now = a.now;
+        got = a.got;
+        getting = a.getting;
+        of_lines = subst (λ (lines : List LineOver). AreLinesServed size lines a.before a.got) (sym over) a.of_lines;
+        at_place = (at.0, at.1);
+        submitted_is = a.submitted_is;
+        taken_is = a.taken_is;
+      };
+      placed = (inside, ended);
+    })
+
+-- A line that has ended was shut.
+pub tends_shut : {L : Type 0} (seen : L → LineSeen) (machine : SeatMachine) (line : L) (end : LineEnd) (sent : ℕ) (door next : DoorSeen)
+    → next.lines_over ≡ door.lines_over ++ record { seen = seen line; over = end } ∷ [] → next.is_out ≡ false
+    → next.is_at_end ≡ door.is_at_end
+    → Tends seen (attendant machine (places.On line (actions.LineOver end) sent)) door [] [] (attendant machine places.Between) next
+tends_shut seen machine line end sent door next left inside still size before got t =
+    let a = t.attends in
+    let over : LineOver = record { seen = seen line; over = end } in
+    let on : IsOnLine size machine (seen line) (actions.LineOver end) a.now a.getting =
+    subst (λ (x : LineSeen). IsOnLine size machine x (actions.LineOver end) a.now a.getting) (sym a.at_place.1) a.at_place.2 in
+    let waits : awaited machine ≡ Awaited.ALine = let e = on.awaits in cc in
+    none_more seen size (attendant machine places.Between) next before got (record {
+      attends = record {
+        before = a.before ++ a.now;
+        now = [];
+        got = a.got ++ a.getting;
+        getting = [];
+        of_lines = subst (λ (lines : List LineOver). AreLinesServed size lines (a.before ++ a.now) (a.got ++ a.getting)) (sym left)
+            (lines_more size door.lines_over over a.before a.now a.got a.getting a.of_lines
+            (line_served size machine (seen line) end a.now a.getting on));
+        at_place = (refl, refl, waits, on.limit_is);
+        submitted_is = a.submitted_is ∙ sym (append-nil (a.before ++ a.now));
+        taken_is = a.taken_is ∙ sym (append-nil (a.got ++ a.getting));
+      };
+      placed = (inside, still ∙ t.placed.1);
+    })
+
+-- An action of the line was carried out, or a part of it.
+tends_carried : {L : Type 0} (result : Progress) (seen : L → LineSeen) (old new : SeatMachine) (line later : L)
+    (action next : Action) (sent now : ℕ) (submitted : List Step) (taken : List Answer) (door : DoorSeen)
+    → CarriesOn result old (seen line) action sent new (seen later) next now submitted taken
+    → Tends seen (attendant old (places.On line action sent)) door submitted taken (attendant new (places.On later next now)) door
+tends_carried result seen old new line later action next sent now submitted taken door carries size before got t =
+    let a = t.attends in
+    let at = a.at_place in
+    let c = carries at.0 at.1 in
+    record {
+      attends = record {
+        before = a.before;
+        now = a.now ++ submitted;
+        got = a.got;
+        getting = a.getting ++ taken;
+        of_lines = a.of_lines;
+        at_place = (c.0, c.1, carried_on result size old new at.0 c.0 action next a.now submitted a.getting taken c.2 at.2);
+        submitted_is = ap (λ (xs : List Step). xs ++ submitted) a.submitted_is ∙ append_assoc a.before a.now submitted;
+        taken_is = ap (λ (xs : List Answer). xs ++ taken) a.taken_is ∙ append_assoc a.got a.getting taken;
+      };
+      placed = t.placed;
+    }
+
+-- the same with the link's calls
+pub tends_acted : {K L : Type 0} (went : K → List Step → List Answer → K → Type 0) (result : Progress) (first last : K)
+    (seen : L → LineSeen) (old new : SeatMachine) (line later : L) (action next : Action) (sent now : ℕ)
+    (submitted : List Step) (taken : List Answer)
+    → HasGone went first action submitted taken last
+    → CarriedPart result old (seen line) action sent new (seen later) next now submitted taken
+    → (Calls went first submitted taken last)
+    × ((door : DoorSeen) → Tends seen (attendant old (places.On line action sent)) door submitted taken
+    (attendant new (places.On later next now)) door)
+tends_acted went result first last seen old new line later action next sent now submitted taken h carried = (
+  gone went (λ s t. Calls went first s t last) first last action submitted taken (λ s t w. inl w) (λ e. inr (e, refl, refl)) h carried.1,
+  λ door. tends_carried result seen old new line later action next sent now submitted taken door carried.2,
+)
+
+-- A new seat at a new door.
+pub tended_new : {L : Type 0} (seen : L → LineSeen) (size : ℕ) (a : Attendant L) (door : DoorSeen) → IsNewSeat size a → IsNewDoor door
+    → IsTended seen size a door [] []
+tended_new {L} seen size a door seat new =
+    subst (λ (q : LinePlace L). IsTended seen size (attendant a.machine q) door [] []) (sym seat.place) (record {
+      attends = record {
+        before = [];
+        now = [];
+        got = [];
+        getting = [];
+        of_lines = subst (λ (lines : List LineOver). AreLinesServed size lines [] []) (sym new.none_over) (refl, refl);
+        at_place = (refl, refl, seat.awaits, seat.limit);
+        submitted_is = refl;
+        taken_is = refl;
+      };
+      placed = (new.inside, new.more);
+    })
+
+-- the place where a seat starts, by an equation
+pub from_place : {K L : Type 0} (went : K → List Step → List Answer → K → Type 0) (first last : K) (seen : L → LineSeen)
+    (machine new : SeatMachine) (place same later : LinePlace L) (door next : DoorSeen)
+    → place ≡ same → GoesOn went first last seen (attendant machine same) door (attendant new later) next
+    → GoesOn went first last seen (attendant machine place) door (attendant new later) next
+from_place {L} went first last seen machine new place same later door next e h =
+    subst (λ (q : LinePlace L). GoesOn went first last seen (attendant machine q) door (attendant new later) next) (sym e) h
+
+-- The same by an equation, if the link is not used.
+pub tends_from : {L : Type 0} (seen : L → LineSeen) (machine : SeatMachine) (place same : LinePlace L) (door next : DoorSeen)
+    (later : Attendant L)
+    → place ≡ same → Tends seen (attendant machine same) door [] [] later next → Tends seen (attendant machine place) door [] [] later next
+tends_from {L} seen machine place same door next later e h =
+    subst (λ (q : LinePlace L). Tends seen (attendant machine q) door [] [] later next) (sym e) h
+
+-- The open line was given a hint, and its record is unchanged.
+pub tends_told : {L : Type 0} (seen : L → LineSeen) (machine : SeatMachine) (line later : L) (action : Action) (sent : ℕ) (door : DoorSeen)
+    → seen later ≡ seen line → Tends seen (attendant machine (places.On line action sent)) door [] []
+    (attendant machine (places.On later action sent)) door
+tends_told seen machine line later action sent door same size before got t =
+    let a = t.attends in
+    let at = a.at_place in
+    none_more seen size (attendant machine (places.On later action sent)) door before got (record {
+      attends = record {
+        before = a.before;
+        now = a.now;
+        got = a.got;
+        getting = a.getting;
+        of_lines = a.of_lines;
+        at_place = (at.0, same ∙ at.1, at.2);
+        submitted_is = a.submitted_is;
+        taken_is = a.taken_is;
+      };
+      placed = t.placed;
+    })

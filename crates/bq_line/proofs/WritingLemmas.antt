@@ -1,0 +1,76 @@
+-- Texts that are written in several parts.
+use Rattle.std.proofs.Common.{◌≡◌, ℕ, ◌+◌, ◌-◌, ◌≤◌, Bool, true, false, nat_lt, List, [], ◌++◌, append-nil}
+use Rattle.std.proofs.Common.{refl, sym, ap, subst, ◌∙◌, arith, length, take, take_all, drop, take-add, append_assoc, if◌then◌else◌}
+use Rattle.std.proofs.lemmas.Bool.Decides.{nat_tests}
+use Rattle.std.proofs.lemmas.Grind.{common_steps}
+use Rattle.std.proofs.lemmas.List.{take-append-drop, drop-append-le, drop_all}
+use Rattle.std.proofs.Math.Seq.{drop-append-add}
+use Rattle.bq_job.specs.promise.LineSteps.{LineSeen, IsBeginning}
+use Rattle.bq_job.specs.declared.line_end.LineFault.TheVariants as faults
+use Rattle.bq_line.specs.LineCalls.{with_line_fault}
+use Rattle.bq_line.specs.declared.buffers.Wrote.{Wrote}
+use Rattle.bq_line.specs.declared.buffers.Wrote.TheVariants as wrotes
+use Rattle.bq_line.specs.Writing.{BreaksOff, WritesOn, with_begun, with_written}
+
+-- a further part is written
+pub written_joined : (old mid new : LineSeen) (first more : List ℕ) → mid ≡ with_written first old
+    → new ≡ with_written more mid → new ≡ with_written (first ++ more) old
+written_joined old mid new first more m n =
+    n ∙ ap (with_written more) m ∙ ap (λ w. record old { written = w }) (append_assoc old.written first more)
+
+-- bytes of the rest are written
+pub written_on : (old mid new : LineSeen) (bytes rest : List ℕ) (done n : ℕ) → mid ≡ with_written (take done bytes) old
+    → rest ≡ take (length bytes - done) (drop done bytes) → new ≡ with_written (take n rest) mid
+    → new ≡ with_written (take (done + n) bytes) old
+written_on old mid new bytes rest done n m rest_is h =
+    let whole : take (length bytes - done) (drop done bytes) ≡ drop done bytes = grind (arith, common_steps) in
+    rw (take-add done n bytes, ← whole, ← rest_is) (written_joined old mid new (take done bytes) (take n rest) m h)
+
+-- nothing more was written before the fault
+pub breaks_off : (old mid new : LineSeen) (text cut : List ℕ) → IsBeginning cut text → mid ≡ with_written cut old
+    → new ≡ with_line_fault faults.Write mid → BreaksOff text old new
+breaks_off old mid new text cut begins m n = record { cut = cut; is_beginning = begins; seen = n ∙ ap (with_line_fault faults.Write) m }
+
+pub breaks_at_once : (old new : LineSeen) (text : List ℕ) → new ≡ with_line_fault faults.Write old → BreaksOff text old new
+breaks_at_once old new text n = record {
+  cut = [];
+  is_beginning = (text, refl);
+  seen = n ∙ ap (λ w. with_line_fault faults.Write (record old { written = w })) (sym (append-nil old.written));
+}
+
+pub take_begins : (n : ℕ) (bytes : List ℕ) → IsBeginning (take n bytes) bytes
+take_begins n bytes = (drop n bytes, sym (take-append-drop n bytes))
+
+-- the rest was written up to here
+pub written_from : (old mid new : LineSeen) (bytes : List ℕ) (done n : ℕ) → mid ≡ with_begun bytes done old
+    → new ≡ with_written (take n (drop done bytes)) mid → new ≡ with_begun bytes (done + n) old
+written_from old mid new bytes done n m h =
+    rw (take-add done n bytes) (written_joined old mid new (take done bytes) (take n (drop done bytes)) m h)
+
+-- There is no room yet, or the write failed.
+pub stops : (text : List ℕ) (old new first : LineSeen) (sent : ℕ) (wrote : Wrote) (none_yet : Bool) → old ≡ with_begun text sent first
+    → wrote ≡ (if none_yet then wrotes.NotYet else wrotes.Fault) → new ≡ (if none_yet then old else with_line_fault faults.Write old)
+    → WritesOn text first wrote sent new
+stops text old new first sent wrote true at w n = subst (λ v. WritesOn text first v sent new) (sym w) (n ∙ at)
+stops text old new first sent wrote false at w n =
+    subst (λ v. WritesOn text first v sent new) (sym w) (breaks_off first old new text (take sent text) (take_begins sent text) at n)
+
+-- All of it was written.
+pub whole_on : (text : List ℕ) (new first : LineSeen) (sent : ℕ) → length text ≤ sent → new ≡ with_begun text sent first
+    → new ≡ with_written text first
+whole_on text new first sent all n = n ∙ ap (λ bytes. with_written bytes first) (take_all sent text all)
+
+-- what remains of two parts
+pub left_of_two : (n : ℕ) (xs ys : List ℕ) → drop n (xs ++ ys) ≡ drop n xs ++ drop (n - length xs) ys
+left_of_two n xs ys = by (nat_lt n (length xs)) refl
+  where
+    by : (b : Bool) → nat_lt n (length xs) ≡ b → drop n (xs ++ ys) ≡ drop n xs ++ drop (n - length xs) ys
+    by true h =
+        let within : n ≤ length xs = grind (arith, nat_tests, h) in
+        let none : n - length xs ≡ 0 = omega (arith, within) in
+        drop-append-le n xs ys within ∙ ap (λ m. drop n xs ++ drop m ys) (sym none)
+    by false h =
+        let beyond : length xs ≤ n = grind (arith, nat_tests, h) in
+        let parts : n ≡ length xs + (n - length xs) = omega (arith, beyond) in
+        ap (λ m. drop m (xs ++ ys)) parts ∙ drop-append-add xs ys (n - length xs)
+        ∙ ap (λ l. l ++ drop (n - length xs) ys) (sym (drop_all n xs beyond))

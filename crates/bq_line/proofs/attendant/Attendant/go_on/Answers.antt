@@ -1,0 +1,74 @@
+use Rattle.std.proofs.Common.{◌≡◌, [], refl, sym, subst, inl, inr}
+use Rattle.bq_seat.specs.declared.machine.Action.TheVariants as actions
+use Rattle.bq_line.specs.declared.attendant.LinePlace.{LinePlace}
+use Rattle.bq_line.specs.declared.attendant.LinePlace.TheVariants as places
+use Rattle.bq_line.specs.Tending.{GoesOn, MayEndAt, attendant, door_seen}
+use Rattle.bq_line.specs.declared.attendant.Progress.TheVariants as results
+use Rattle.bq_line.proofs.CarriedLemmas.{ends_on, rests}
+use Rattle.bq_line.proofs.TendingLemmas.{from_place, tends_acted, tends_still}
+use Rattle.bq_line.proofs.attendant.Attendant.go_on.Goals as goal
+
+pub returns-in-Between-clause-went : goal.returns-in-Between-clause-went
+returns-in-Between-clause-went g c =
+    let at = door_seen g.D.Door.is_out g.D.Door.is_at_end g.D.Door.lines_over in
+    from_place g.K.Link.went c.args.link.now c.args.link.now g.L.Line.seen c.args.self.now.machine c.open_in_place.new.machine
+    c.args.self.now.place places.Between c.open_in_place.new.place (at c.args.door.now) (at c.open_in_place.new.door)
+    c.in-Between.is ([], [], inr (refl, refl, refl), c.open_in_place.ensures.went)
+
+pub returns-in-LineOver-clause-went : goal.returns-in-LineOver-clause-went
+returns-in-LineOver-clause-went g c =
+    let at = door_seen g.D.Door.is_out g.D.Door.is_at_end g.D.Door.lines_over in
+    let m = c.args.self.now.machine in
+    let over : c.args.self.now.place ≡ places.On c.in-On.line (actions.LineOver c.in-LineOver.end) c.in-On.sent =
+    let first = c.in-On.is in let second = c.in-LineOver.is in cc in
+    from_place g.K.Link.went c.args.link.now c.args.link.now g.L.Line.seen m m c.args.self.now.place
+    (places.On c.in-On.line (actions.LineOver c.in-LineOver.end) c.in-On.sent) c.shut_line.new.place (at c.args.door.now)
+    (at c.shut_line.new.door)
+    over ([], [], inr (refl, refl, refl), c.shut_line.ensures.went m)
+
+pub returns-in_default-clause-went : goal.returns-in_default-clause-went
+returns-in_default-clause-went g c =
+    let at = door_seen g.D.Door.is_out g.D.Door.is_at_end g.D.Door.lines_over c.args.door.now in
+    let new = c.carry_out.new in
+    let h = c.carry_out.ensures.carried in
+    let t = tends_acted g.K.Link.went _ _ _ g.L.Line.seen _ _ c.in-On.line new.line _ _ c.in-On.sent new.sent h.0 h.1 h.2 h.3 in
+    from_place g.K.Link.went c.args.link.now new.link g.L.Line.seen c.args.self.now.machine new.machine c.args.self.now.place
+    (places.On c.in-On.line c.in-On.action c.in-On.sent)
+    (places.On new.line new.action new.sent) at at c.in-On.is (h.0, h.1, t.0, t.1 at)
+
+pub returns-in-Done-clause-went : goal.returns-in-Done-clause-went
+returns-in-Done-clause-went g c =
+    let at = door_seen g.D.Door.is_out g.D.Door.is_at_end g.D.Door.lines_over in
+    ([], [], inr (refl, refl, refl), tends_still g.L.Line.seen _ (at c.args.door.now))
+
+pub returns-in-Leaving-clause-went : goal.returns-in-Leaving-clause-went
+returns-in-Leaving-clause-went g c =
+    let at = door_seen g.D.Door.is_out g.D.Door.is_at_end g.D.Door.lines_over in
+    c.leave.ensures.went c.args.self.now.machine (at c.args.door.now)
+
+pub returns-in_default-clause-progress : goal.returns-in_default-clause-progress
+returns-in_default-clause-progress g c =
+    ends_on _ _ c.in-On.line c.in-On.action c.in-On.sent c.in-On.is c.in_default.not-LineOver c.carry_out.ensures.carried.3.0.can_end
+
+pub returns-in_default-clause-still : goal.returns-in_default-clause-still
+returns-in_default-clause-still g c = λ moved.
+    let h = c.carry_out.ensures.carried in
+    rests g.K.Link.went _ _ _ c.in-On.action h.0 h.1 h.2 h.3.1 h.3.0 moved
+
+pub returns-in-LineOver-clause-progress : goal.returns-in-LineOver-clause-progress
+returns-in-LineOver-clause-progress g c =
+    let over : c.args.self.now.place ≡ places.On c.in-On.line (actions.LineOver c.in-LineOver.end) c.in-On.sent =
+    let first = c.in-On.is in let second = c.in-LineOver.is in cc in
+    subst (MayEndAt results.Moved) (sym over) refl
+
+pub returns-in-Between-clause-progress : goal.returns-in-Between-clause-progress
+returns-in-Between-clause-progress g c = subst (MayEndAt results.Moved) (sym c.in-Between.is) refl
+
+pub returns-in-Done-clause-progress : goal.returns-in-Done-clause-progress
+returns-in-Done-clause-progress g c = subst (MayEndAt results.NothingToDo) (sym c.in-Done.is) refl
+
+pub returns-in-Leaving-clause-still : goal.returns-in-Leaving-clause-still
+returns-in-Leaving-clause-still g c = λ moved. inl (c.leave.ensures.still moved)
+
+pub returns-in-Done-clause-still : goal.returns-in-Done-clause-still
+returns-in-Done-clause-still g c = λ moved. inr (refl, refl, refl)

@@ -1,0 +1,50 @@
+use Rattle.std.proofs.Common.{[], ◌∷◌, refl, ap}
+use Rattle.bq_seat.specs.declared.machine.Action.TheVariants as actions
+use Rattle.bq_line.specs.Links.{as_submitted}
+use Rattle.bq_line.specs.declared.attendant.Progress.TheVariants as results
+use Rattle.bq_line.proofs.CarriedLemmas.{comes_by}
+use Rattle.bq_line.proofs.attendant.act.Goals as goal
+
+pub returns-then-submit-clause-carried : goal.returns-then-submit-clause-carried
+returns-then-submit-clause-carried g c =
+    comes_by g.K.Link.went results.Moved _ _ _ _ _ _ _ _ (actions.Submit c.in-Submit.step) c.in-Submit.is (as_submitted c.in-Submit.step) []
+    (rw c.if-submit.true at c.submit.ensures.went) (refl, refl, (refl, c.submitted.ensures))
+
+pub returns-else-submit-clause-carried : goal.returns-else-submit-clause-carried
+returns-else-submit-clause-carried g c =
+    let back = rw c.if-submit.false at c.submit.ensures.went in
+    comes_by g.K.Link.went results.NotAccepted _ _ _ _ _ _ _ _ (actions.Submit c.in-Submit.step) c.in-Submit.is [] [] back.1
+    (refl, refl, (refl, ap actions.Submit back.0, refl))
+
+pub returns-in-Read-clause-carried : goal.returns-in-Read-clause-carried
+returns-in-Read-clause-carried g c = comes_by g.K.Link.went _ _ _ _ _ _ _ _ _ actions.Read c.in-Read.is [] [] refl c.read.ensures.0
+
+pub returns-in-Read-clause-stays : goal.returns-in-Read-clause-stays
+returns-in-Read-clause-stays g c = c.read.ensures.1
+
+pub returns-in-Write-clause-carried : goal.returns-in-Write-clause-carried
+returns-in-Write-clause-carried g c =
+    comes_by g.K.Link.went results.NoRoom _ _ _ _ _ _ _ _ (actions.Write c.in-Write.field-0) c.in-Write.is [] [] refl
+    (refl, refl, (refl, c.in-Write.is, refl))
+
+pub returns-then-mail-clause-carried : goal.returns-then-mail-clause-carried
+returns-then-mail-clause-carried g c =
+    let came = rw c.if-mail.true at c.mail.ensures.went in
+    comes_by g.K.Link.went results.Moved _ _ _ _ _ _ _ _ actions.PollMail c.in-PollMail.is [] (came.0 ∷ []) came.2
+    (refl, refl, (came.0, refl, c.mail-then-mail.ensures came.0 came.1))
+
+pub returns-else-mail-clause-carried : goal.returns-else-mail-clause-carried
+returns-else-mail-clause-carried g c =
+    let none = rw c.if-mail.false at c.mail.ensures.went in
+    comes_by g.K.Link.went results.NoMail _ _ _ _ _ _ _ _ actions.PollMail c.in-PollMail.is [] [] none.1
+    (c.expect_more.ensures.seen, refl, (refl, c.nothing_yet.ensures))
+
+pub returns-in-LineOver-clause-carried : goal.returns-in-LineOver-clause-carried
+returns-in-LineOver-clause-carried g c =
+    comes_by g.K.Link.went results.NothingToDo _ _ _ _ _ _ _ _ (actions.LineOver c.in-LineOver.field-0) c.in-LineOver.is [] [] refl
+    (record { result_is = refl; machine = refl; line = refl; action_is = c.in-LineOver.is; none_submitted = refl; none_taken = refl })
+
+pub returns-in-Stray-clause-carried : goal.returns-in-Stray-clause-carried
+returns-in-Stray-clause-carried g c =
+    comes_by g.K.Link.went results.NothingToDo _ _ _ _ _ _ _ _ actions.Stray c.in-Stray.is [] [] refl
+    (record { result_is = refl; machine = refl; line = refl; action_is = c.in-Stray.is; none_submitted = refl; none_taken = refl })

@@ -1,0 +1,62 @@
+-- What a seat has done so far.
+use Rattle.std.specs.Prelude.{ℕ, ◌≡◌, List, [], ◌∷◌, ◌++◌, Option, Some, None}
+use Rattle.bq_job.specs.declared.answer.Answer.{Answer}
+use Rattle.bq_job.specs.declared.line_end.LineFault.{LineFault}
+use Rattle.bq_job.specs.declared.line_end.LineFault.TheVariants as faults
+use Rattle.bq_job.specs.declared.step.Step.{Step}
+use Rattle.bq_job.specs.declared.step.Step.TheVariants.{Gone}
+use Rattle.bq_job.specs.promise.History.{LineOver}
+use Rattle.bq_job.specs.promise.LineSteps.{IsCutOff, LineSeen, answers_text}
+use Rattle.bq_job.specs.beside.SeatDid.{AreLinesServed}
+use Rattle.bq_seat.specs.Past.{Awaited, Past, awaited_by, with_action}
+use Rattle.bq_seat.specs.Finds.{Finds}
+use Rattle.bq_seat.specs.SeatStands.{StandsFor, awaited}
+use Rattle.bq_seat.specs.Served.{seen_line}
+use Rattle.bq_seat.specs.declared.machine.Action.{Action}
+use Rattle.bq_seat.specs.declared.machine.SeatMachine.{SeatMachine}
+use Rattle.bq_line.specs.Carried.{with_part}
+use Rattle.bq_line.specs.declared.attendant.LinePlace.{LinePlace}
+use Rattle.bq_line.specs.declared.attendant.LinePlace.TheVariants as places
+
+-- what was written of the answers that were given for writing: all of it, except after a write
+-- fault
+abbrev pub IsWrittenSo : Option LineFault → List Answer → List ℕ → Type 0
+IsWrittenSo None handed written = written ≡ answers_text handed
+IsWrittenSo (Some faults.Read) handed written = written ≡ answers_text handed
+IsWrittenSo (Some faults.Write) handed written = IsCutOff handed written
+
+-- An open line while this action is carried out: the steps and answers submitted and taken for it
+-- up to the event that the action answers.
+pub record IsOnLine (max_job_size : ℕ) (machine : SeatMachine) (seen : LineSeen) (action : Action)
+    (submitted : List Step) (taken : List Answer) : Type 0 where
+  pub past : Past
+  pub written : List ℕ
+  pub submitted_is : past.steps ≡ submitted
+  pub taken_is : taken ≡ past.mail ++ past.late_mail
+  pub writes : IsWrittenSo past.fault past.written written
+  pub seen_is : seen ≡ seen_line written past
+  pub stands : StandsFor machine (with_action action past)
+  pub found : Finds max_job_size action past
+  pub awaits : awaited_by action ≡ Some (awaited machine)
+  pub limit_is : machine.reader.max_job_size ≡ max_job_size
+
+-- what was done for the open line
+abbrev pub IsAt : {L : Type 0} → (L → LineSeen) → ℕ → SeatMachine → LinePlace L → List Step → List Answer → Type 0
+IsAt seen max_job_size machine places.Between submitted taken =
+    (submitted ≡ []) × (taken ≡ []) × (awaited machine ≡ Awaited.ALine) × (machine.reader.max_job_size ≡ max_job_size)
+IsAt seen max_job_size machine (places.On line action sent) submitted taken =
+    (first : LineSeen) × (seen line ≡ with_part action sent first) × IsOnLine max_job_size machine first action submitted taken
+IsAt seen max_job_size machine places.Leaving submitted taken = (submitted ≡ []) × (taken ≡ [])
+IsAt seen max_job_size machine places.Done submitted taken = (submitted ≡ Gone ∷ []) × (taken ≡ [])
+
+-- What a seat did: the lines that have ended, and then the open one.
+pub record IsAttending {L : Type 0} (seen : L → LineSeen) (max_job_size : ℕ) (machine : SeatMachine) (place : LinePlace L)
+    (lines : List LineOver) (submitted : List Step) (taken : List Answer) : Type 0 where
+  pub before : List Step
+  pub now : List Step
+  pub got : List Answer
+  pub getting : List Answer
+  pub of_lines : AreLinesServed max_job_size lines before got
+  pub at_place : IsAt seen max_job_size machine place now getting
+  pub submitted_is : submitted ≡ before ++ now
+  pub taken_is : taken ≡ got ++ getting

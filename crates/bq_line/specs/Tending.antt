@@ -1,0 +1,93 @@
+-- A seat that attends to a door, and what it does at each of its turns.
+use Rattle.std.specs.Prelude.{ℕ, ◌≡◌, ◌⊎◌, Bool, true, false, List, [], ◌∷◌, ◌++◌}
+use Rattle.bq_job.specs.declared.answer.Answer.{Answer}
+use Rattle.bq_job.specs.declared.step.Step.{Step}
+use Rattle.bq_job.specs.promise.History.{LineOver}
+use Rattle.bq_job.specs.promise.LineSteps.{LineSeen}
+use Rattle.bq_job.specs.beside.SeatDid.{IsSeatDone}
+use Rattle.bq_seat.specs.Past.{Awaited}
+use Rattle.bq_seat.specs.SeatStands.{awaited}
+use Rattle.bq_seat.specs.declared.machine.SeatMachine.{SeatMachine}
+use Rattle.bq_line.specs.Attending.{IsAttending}
+use Rattle.bq_line.specs.Carried.{CanEnd}
+use Rattle.bq_line.specs.Links.{Calls}
+use Rattle.bq_line.specs.declared.attendant.Attendant.{Attendant}
+use Rattle.bq_line.specs.declared.attendant.LinePlace.{LinePlace}
+use Rattle.bq_line.specs.declared.attendant.LinePlace.TheVariants as places
+use Rattle.bq_line.specs.declared.attendant.Progress.{Progress}
+use Rattle.bq_line.specs.declared.attendant.Progress.TheVariants as results
+use Rattle.bq_seat.specs.declared.machine.Action.TheVariants as actions
+
+abbrev pub attendant : {L : Type 0} → SeatMachine → LinePlace L → Attendant L
+attendant machine place = record { machine = machine; place = place }
+
+-- what a door records
+pub record DoorSeen : Type 0 where
+  pub is_out : Bool
+  pub is_at_end : Bool
+  pub lines_over : List LineOver
+
+-- the same, from the members of the trait Door
+abbrev pub door_seen : {D : Type 0} → (D → Bool) → (D → Bool) → (D → List LineOver) → D → DoorSeen
+door_seen is_out is_at_end lines_over door = record { is_out = is_out door; is_at_end = is_at_end door; lines_over = lines_over door }
+
+-- No line was opened, and more may come.
+pub record IsNewDoor (door : DoorSeen) : Type 0 where
+  pub inside : door.is_out ≡ false
+  pub more : door.is_at_end ≡ false
+  pub none_over : door.lines_over ≡ []
+
+-- A line is open if and only if the seat is on it. A door has ended once its seat leaves.
+abbrev pub IsPlaced : {L : Type 0} → LinePlace L → DoorSeen → Type 0
+IsPlaced places.Between door = (door.is_out ≡ false) × (door.is_at_end ≡ false)
+IsPlaced (places.On line action sent) door = (door.is_out ≡ true) × (door.is_at_end ≡ false)
+IsPlaced places.Leaving door = (door.is_out ≡ false) × (door.is_at_end ≡ true)
+IsPlaced places.Done door = (door.is_out ≡ false) × (door.is_at_end ≡ true)
+
+-- What a seat has done so far: it submitted these steps and took these answers, and its door is in
+-- the matching state.
+pub record IsTended {L : Type 0} (seen : L → LineSeen) (max_job_size : ℕ) (a : Attendant L) (door : DoorSeen)
+    (submitted : List Step) (taken : List Answer) : Type 0 where
+  pub attends : IsAttending seen max_job_size a.machine a.place door.lines_over submitted taken
+  pub placed : IsPlaced a.place door
+
+-- Whatever the seat did before, it continued with these steps and answers.
+abbrev pub Tends : {L : Type 0} → (L → LineSeen) → Attendant L → DoorSeen → List Step → List Answer → Attendant L → DoorSeen → Type 0
+Tends seen old at_old submitted taken new at_new =
+    (max_job_size : ℕ) (before : List Step) (got : List Answer) → IsTended seen max_job_size old at_old before got
+    → IsTended seen max_job_size new at_new (before ++ submitted) (got ++ taken)
+
+-- A seat and its link continued.
+abbrev pub GoesOn : {K L : Type 0} → (K → List Step → List Answer → K → Type 0) → K → K → (L → LineSeen)
+    → Attendant L → DoorSeen → Attendant L → DoorSeen → Type 0
+GoesOn went first last seen old at_old new at_new =
+    (submitted : List Step) × (taken : List Answer) × Calls went first submitted taken last
+    × Tends seen old at_old submitted taken new at_new
+
+-- The results that an action of a seat at this place can have.
+abbrev pub MayEndAt : {L : Type 0} → Progress → LinePlace L → Type 0
+MayEndAt result places.Between = result ≡ results.Moved
+MayEndAt result (places.On line (actions.LineOver end) sent) = result ≡ results.Moved
+MayEndAt result (places.On line action sent) = CanEnd result action
+MayEndAt result places.Leaving = (result ≡ results.Moved) ⊎ (result ≡ results.NotAccepted)
+MayEndAt result places.Done = result ≡ results.NothingToDo
+
+-- A new seat.
+pub record IsNewSeat {L : Type 0} (max_job_size : ℕ) (a : Attendant L) : Type 0 where
+  pub place : a.place ≡ places.Between
+  pub awaits : awaited a.machine ≡ Awaited.ALine
+  pub limit : a.machine.reader.max_job_size ≡ max_job_size
+
+-- A door that a seat served until its end. For each line that has ended, the seat submitted the
+-- line's steps, took an answer to each of its requests, and wrote these answers; finally it
+-- submitted that no more lines come.
+pub record IsDoorServed (max_job_size : ℕ) (door : DoorSeen) (submitted : List Step) (taken : List Answer) : Type 0 where
+  pub done : IsSeatDone max_job_size door.lines_over submitted taken
+  pub inside : door.is_out ≡ false
+  pub at_end : door.is_at_end ≡ true
+
+-- The doors that come back are those that were passed in, in order.
+abbrev pub AreSame : {D : Type 0} → (D → D → Type 0) → List D → List D → Type 0
+AreSame same [] [] = Unit {0}
+AreSame same (first ∷ firsts) (last ∷ lasts) = same first last × AreSame same firsts lasts
+AreSame same _ _ = ⊥

@@ -1,0 +1,489 @@
+//! A seat that attends to a door: it serves the door's lines one after another, one action at a
+//! time. Also its link to the core, and how one action is carried out at its line and its link.
+ghost use Rattle.std.specs.Prelude.{◌≡◌, ◌≤◌, ◌↔◌, [], true, false, not, IfOk, IsTrue, ◌<◌, ◌++◌, ℕ, List, length};
+ghost use Rattle.bq_seat.specs.Outstanding.{ReadsWith};
+ghost use Rattle.bq_seat.specs.Past.{Awaited};
+ghost use Rattle.bq_seat.specs.SeatStands.{awaited};
+ghost use Rattle.bq_seat.specs.declared.machine.SeatMachine.{SeatMachine};
+ghost use Rattle.bq_line.specs.Tending.{DoorSeen, GoesOn, IsPlaced, MayEndAt, Tends, attendant, door_seen};
+ghost use Rattle.bq_job.specs.declared.answer.Answer.{Answer};
+ghost use Rattle.bq_job.specs.declared.step.Step.{Step};
+ghost use Rattle.bq_job.specs.promise.LineSteps.{LineSeen};
+ghost use Rattle.bq_line.specs.Streams.{StaysOver};
+ghost use Rattle.bq_line.specs.Carried.{Carried, CarriedPart, HasGone};
+ghost use Rattle.bq_line.specs.Links.{Calls, SubmitsInPlace, TakesInPlace};
+
+use crate::buffers::{Buffers, Wrote, read, write_answer};
+use crate::door::{Door, Opening};
+use crate::line::{Line, ReadBuffer, Readiness};
+use bq_job::{LARGEST_BODY, LineEnd, NoMemory, Step};
+use bq_seat::{Action, Event, SeatMachine};
+use std::alloc::Global;
+use std::mem;
+use std::os::fd::RawFd;
+
+/// A seat's link to the core. Steps and answers are passed by reference, so they are not copied.
+pub trait Link {
+    /// The core and the link are ready for a call.
+    ghost is_ready: { Self → Type 0 };
+
+    /// From the first link, the seat submitted these steps and took these answers, and the second
+    /// link is what remained.
+    ghost went: { Self → List Step → List Answer → Self → Type 0 };
+
+    /// Submits the step and returns true; `step` then has no meaning. If there is no room for it
+    /// now, leaves it as it was and returns false.
+    fn submit(&mut self, step: &mut Step) -> bool
+        requires ready { is_ready self.old }
+        ensures ready { is_ready self.new }
+        ensures went { SubmitsInPlace went self.old step.old result step.new self.new };
+
+    /// Takes the oldest waiting answer, puts it into `place` as an action that writes it, and
+    /// returns true. If there is none, leaves `place` as it was and returns false. A link between
+    /// threads may sleep here for up to a second, until an answer comes.
+    fn mail(&mut self, place: &mut Action) -> bool
+        requires ready { is_ready self.old }
+        ensures ready { is_ready self.new }
+        ensures went { TakesInPlace went self.old place.old result place.new self.new };
+}
+
+/// Whether an action of a seat moved something. If it moved nothing, the seat submitted no step and
+/// took no answer, and the value says what was missing.
+#[derive(Clone, Copy, Debug, PartialEq, Eq)]
+pub enum Progress {
+    /// Something moved.
+    Moved,
+    /// The link did not accept the step. The same step is submitted again.
+    NotAccepted,
+    /// No answer has come.
+    NoMail,
+    /// The line has no bytes yet.
+    NoBytes,
+    /// The line has no room yet for the rest of the answer, which remains to be written.
+    NoRoom,
+    /// There was nothing to do.
+    NothingToDo,
+}
+
+impl Progress {
+    /// Returns true if something moved.
+    pub fn has_moved(self) -> bool
+        ensures { IsTrue result ↔ (self ≡ Progress.Moved) }
+    {
+        matches!(self, Progress::Moved)
+    }
+}
+
+/// Where a seat is with its door.
+#[derive(Drop)]
+pub enum LinePlace<L> {
+    /// The next line has to be opened.
+    Between,
+    /// This line is open, and the action is its next one. If the action writes an answer, the
+    /// number says how many bytes of it were written already.
+    On(L, Action, usize),
+    /// No more lines come, which has to be submitted.
+    Leaving,
+    /// It was submitted that no more lines come.
+    Done,
+}
+
+/// The result of opening the next line without waiting.
+#[derive(Clone, Copy, Debug, PartialEq, Eq)]
+pub enum Looked {
+    /// A line was opened.
+    Opened,
+    /// No client has connected yet. The system reports when one has.
+    NotYet,
+    /// No connection can be accepted for a while. The system does not report when that ends.
+    Later,
+    /// No more lines come.
+    NoMore,
+}
+
+/// A seat, and where it is with its door.
+#[derive(Drop)]
+pub struct Attendant<L> {
+    pub machine: SeatMachine,
+    pub place: LinePlace<L>,
+}
+
+impl<L: Line + Drop> Attendant<L> {
+    /// Returns a seat whose door has not been opened. Bodies may have at most `max_job_size` bytes.
+    /// Everything except bodies is allocated here; returns `NoMemory` if that fails.
+    pub fn new(alloc: Global, max_job_size: u32) -> Result<Attendant<L>, NoMemory>
+        requires { (1 ≤ max_job_size) × (max_job_size ≤ LARGEST_BODY) }
+        ensures place { IfOk result (λ a. a.place ≡ LinePlace.Between) }
+        ensures awaits { IfOk result (λ a. awaited a.machine ≡ Awaited.ALine) }
+        ensures limit { IfOk result (λ a. a.machine.reader.max_job_size ≡ max_job_size) }
+    {
+        let machine = SeatMachine::new(alloc, max_job_size)?;
+        Ok(Attendant {
+            machine,
+            place: LinePlace::Between,
+        })
+    }
+
+    /// Returns true if its door has ended and that was submitted.
+    pub fn is_done(&self) -> bool
+        ensures { IsTrue result ↔ (self.now.place ≡ LinePlace.Done) }
+    {
+        matches!(self.place, LinePlace::Done)
+    }
+
+    /// Returns true if the seat is blocked on input: it wants to read and has no outstanding
+    /// answer.
+    pub fn awaits_line(&self) -> bool
+        ensures reads { IsTrue result
+            → (line : L) × (sent : ℕ) × (self.now.place ≡ LinePlace.On line Action.Read sent) }
+        ensures outstanding { (line : L) (sent : ℕ) → self.now.place ≡ LinePlace.On line Action.Read sent
+            → ReadsWith (not result) self.now.machine }
+    {
+        matches!(self.place, LinePlace::On(_, Action::Read, _)) && !self.machine.has_outstanding()
+    }
+
+    /// Returns true if it wants to read while an answer is outstanding.
+    pub fn reads_on(&self) -> bool {
+        matches!(self.place, LinePlace::On(_, Action::Read, _)) && self.machine.has_outstanding()
+    }
+
+    /// Returns true if it wants to read its line.
+    pub fn reads(&self) -> bool {
+        matches!(self.place, LinePlace::On(_, Action::Read, _))
+    }
+
+    /// Returns true if it wants to submit a step, possibly again.
+    pub fn submits(&self) -> bool {
+        matches!(
+            self.place,
+            LinePlace::On(_, Action::Submit(_), _) | LinePlace::Leaving
+        )
+    }
+
+    /// Returns true if it wants to check its mail for an answer.
+    pub fn polls_mail(&self) -> bool {
+        matches!(self.place, LinePlace::On(_, Action::PollMail, _))
+    }
+
+    /// Returns true if it wants to write an answer.
+    pub fn writes(&self) -> bool {
+        matches!(self.place, LinePlace::On(_, Action::Write(_), _))
+    }
+
+    /// Returns true if it is blocked on input that has not come, as far as its line knows: it wants
+    /// to read and has no outstanding answer.
+    pub fn awaits_bytes(&self) -> bool {
+        match &self.place {
+            LinePlace::On(line, Action::Read, _) => {
+                !line.may_give() && !self.machine.has_outstanding()
+            }
+            _ => false,
+        }
+    }
+
+    /// Returns true if it has to read or write again although nothing moved and no event will
+    /// report it, because the call was interrupted.
+    pub fn tries_again(&self) -> bool {
+        match &self.place {
+            LinePlace::On(line, Action::Read, _) => line.may_give(),
+            LinePlace::On(line, Action::Write(_), _) => line.may_take(),
+            _ => false,
+        }
+    }
+
+    /// Returns true if its next line has to be opened.
+    pub fn is_between(&self) -> bool
+        ensures { IsTrue result ↔ (self.now.place ≡ LinePlace.Between) }
+    {
+        matches!(self.place, LinePlace::Between)
+    }
+
+    /// Returns the descriptor on which the system reports that the open line is ready, if there is
+    /// one.
+    pub fn source(&self) -> Option<RawFd> {
+        match &self.place {
+            LinePlace::On(line, _, _) => line.source(),
+            _ => None,
+        }
+    }
+
+    /// Records what the system reported about the line's readiness.
+    pub fn note_ready(&mut self, ready: Readiness)
+        ensures { (door : DoorSeen) → Tends L.seen self.old door [] [] self.new door }
+    {
+        if let LinePlace::On(line, _, _) = &mut self.place {
+            line.note_ready(ready);
+        }
+    }
+
+    /// Swaps the read buffer of the open line with this one if both are empty.
+    pub fn exchange(&mut self, buffer: &mut ReadBuffer)
+        ensures { (door : DoorSeen) → Tends L.seen self.old door [] [] self.new door }
+    {
+        if let LinePlace::On(line, _, _) = &mut self.place {
+            line.exchange(buffer);
+        }
+    }
+
+    /// Sends what the line holds back for further answers.
+    pub fn hand_on(&mut self)
+        ensures { (door : DoorSeen) → Tends L.seen self.old door [] [] self.new door }
+    {
+        if let LinePlace::On(line, _, _) = &mut self.place {
+            line.expect_more(false);
+        }
+    }
+
+    /// Opens the next line without waiting for it. `may_have_come` is false if no client can have
+    /// connected since the last call.
+    pub fn look<D: Door<Line = L>>(
+        &mut self,
+        alloc: Global,
+        door: &mut D,
+        may_have_come: bool,
+    ) -> Looked
+        requires between { self.old.place ≡ LinePlace.Between }
+        requires inside { D.is_out door.old ≡ false }
+        requires more { D.is_at_end door.old ≡ false }
+        ensures went { let at = door_seen D.is_out D.is_at_end D.lines_over in
+            Tends L.seen self.old (at door.old) [] [] self.new (at door.new) }
+        ensures same { (first : D) → D.same first door.old → D.same first door.new }
+    {
+        match door.look(may_have_come) {
+            Ok(Opening::Line(line)) => {
+                let action = self.machine.on(alloc, Event::Opened);
+                self.place = LinePlace::On(line, action, 0);
+                Looked::Opened
+            }
+            Ok(Opening::NotYet) => Looked::NotYet,
+            Ok(Opening::Later) => Looked::Later,
+            Ok(Opening::NoMore) => {
+                self.place = LinePlace::Leaving;
+                Looked::NoMore
+            }
+            Err(_) => {
+                self.place = LinePlace::Leaving;
+                Looked::NoMore
+            }
+        }
+    }
+
+    /// Carries out one action of the seat. A step that was not accepted is submitted again at the
+    /// next call.
+    pub fn go_on<D: Door<Line = L>, K: Link>(
+        &mut self,
+        alloc: Global,
+        door: &mut D,
+        link: &mut K,
+        buffers: &mut Buffers,
+    ) -> Progress
+        requires placed { IsPlaced self.old.place
+            (door_seen D.is_out D.is_at_end D.lines_over door.old) }
+        requires ready { K.is_ready link.old }
+        ensures ready { K.is_ready link.new }
+        // The result is one that this place can have. Unless something moved, the seat submitted
+        // nothing and took nothing.
+        ensures progress { MayEndAt result self.old.place }
+        ensures still { (result ≡ Progress.Moved → ⊥) → Calls K.went link.old [] [] link.new }
+        // Whatever it did before, it continued with the steps that it submitted and the answers
+        // that it took.
+        ensures went { let at = door_seen D.is_out D.is_at_end D.lines_over in
+            GoesOn K.went link.old link.new L.seen self.old (at door.old) self.new (at door.new) }
+        // The door is still the same.
+        ensures same { (first : D) → D.same first door.old → D.same first door.new }
+    {
+        // An open line stays in place until it ends.
+        match &mut self.place {
+            LinePlace::On(line, action, sent) => match action {
+                Action::LineOver(end) => {
+                    let end = *end;
+                    shut_line(&mut self.place, door, end);
+                    Progress::Moved
+                }
+                other => carry_out(alloc, &mut self.machine, other, sent, line, link, buffers),
+            },
+            LinePlace::Between => {
+                open_in_place(alloc, &mut self.machine, &mut self.place, door);
+                Progress::Moved
+            }
+            LinePlace::Leaving => leave(&mut self.place, link),
+            LinePlace::Done => Progress::NothingToDo,
+        }
+    }
+}
+
+// Opens the next line in its place. A separate function, because its caller would otherwise reserve and initialize
+// room for a line on every path.
+#[inline(never)]
+fn open_in_place<L: Line + Drop, D: Door<Line = L>>(
+    alloc: Global,
+    machine: &mut SeatMachine,
+    place: &mut LinePlace<L>,
+    door: &mut D,
+)
+    requires inside { D.is_out door.old ≡ false }
+    requires more { D.is_at_end door.old ≡ false }
+    ensures opened { place.new ≡ LinePlace.Between → ⊥ }
+    ensures went { let at = door_seen D.is_out D.is_at_end D.lines_over in
+        Tends L.seen (attendant machine.old LinePlace.Between) (at door.old) [] [] (attendant machine.new place.new) (at door.new) }
+    ensures same { (first : D) → D.same first door.old → D.same first door.new }
+{
+    *place = open_line(alloc, machine, door);
+}
+
+// Opens the next line, or learns that no more come.
+fn open_line<L: Line + Drop, D: Door<Line = L>>(
+    alloc: Global,
+    machine: &mut SeatMachine,
+    door: &mut D,
+) -> LinePlace<L>
+    requires inside { D.is_out door.old ≡ false }
+    requires more { D.is_at_end door.old ≡ false }
+    ensures opened { result ≡ LinePlace.Between → ⊥ }
+    ensures went { let at = door_seen D.is_out D.is_at_end D.lines_over in
+        Tends L.seen (attendant machine.old LinePlace.Between) (at door.old) [] [] (attendant machine.new result) (at door.new) }
+    ensures same { (first : D) → D.same first door.old → D.same first door.new }
+{
+    match door.open() {
+        Ok(Some(line)) => LinePlace::On(line, machine.on(alloc, Event::Opened), 0),
+        Ok(None) => LinePlace::Leaving,
+        Err(_) => LinePlace::Leaving,
+    }
+}
+
+// Shuts the line, and frees its place. A separate function, because its caller would otherwise
+// reserve and initialize room for a line on every path.
+#[inline(never)]
+fn shut_line<L: Line + Drop, D: Door<Line = L>>(
+    place: &mut LinePlace<L>,
+    door: &mut D,
+    end: LineEnd,
+)
+    requires over { (line : L) × (sent : ℕ) × (place.old ≡ LinePlace.On line (Action.LineOver end) sent) }
+    requires placed { IsPlaced place.old (door_seen D.is_out D.is_at_end D.lines_over door.old) }
+    ensures went { let at = door_seen D.is_out D.is_at_end D.lines_over in
+        (machine : SeatMachine) → Tends L.seen (attendant machine place.old) (at door.old) [] [] (attendant machine place.new) (at door.new) }
+    ensures same { (first : D) → D.same first door.old → D.same first door.new }
+{
+    if let LinePlace::On(line, _, _) = mem::replace(place, LinePlace::Between) {
+        door.shut(line, end);
+    }
+}
+
+// Submits that no more lines come.
+fn leave<L: Line + Drop, K: Link>(place: &mut LinePlace<L>, link: &mut K) -> Progress
+    requires leaving { place.old ≡ LinePlace.Leaving }
+    requires ready { K.is_ready link.old }
+    ensures ready { K.is_ready link.new }
+    ensures progress { MayEndAt result place.old }
+    ensures still { (result ≡ Progress.Moved → ⊥) → K.went link.old [] [] link.new }
+    ensures went { (machine : SeatMachine) (door : DoorSeen)
+        → GoesOn K.went link.old link.new L.seen (attendant machine place.old) door (attendant machine place.new) door }
+{
+    if link.submit(&mut Step::Gone) {
+        *place = LinePlace::Done;
+        Progress::Moved
+    } else {
+        Progress::NotAccepted
+    }
+}
+
+/// Carries out one action of a seat's machine, and replaces it by the machine's next action. An
+/// action that ends the line does nothing here. The contents of `buffers` have no meaning before or
+/// after.
+///
+/// If the action writes an answer, `sent` is the number of its bytes that were written before.
+/// Bytes for which the line has no room remain to be written.
+///
+/// The result says what moved or what was missing: a step was not accepted, there was no mail, or
+/// the line had no bytes or no room yet. The same action can then be tried again later.
+pub fn carry_out<L: Line, K: Link>(
+    alloc: Global,
+    machine: &mut SeatMachine,
+    action: &mut Action,
+    sent: &mut usize,
+    line: &mut L,
+    link: &mut K,
+    buffers: &mut Buffers,
+) -> Progress
+    requires ready { K.is_ready link.old }
+    ensures ready { K.is_ready link.new }
+    ensures carried { (submitted : List Step) × (taken : List Answer) × HasGone K.went link.old action.old submitted taken link.new
+        × CarriedPart result machine.old (L.seen line.old) action.old sent.old machine.new (L.seen line.new) action.new sent.new submitted taken }
+    ensures stays { StaysOver L.lies_over line.old line.new }
+{
+    match action {
+        Action::Write(answer) => {
+            expect_answers(machine, line);
+            match write_answer(line, answer, sent, buffers) {
+                Wrote::Whole => {
+                    *sent = 0;
+                    machine.write_done(alloc, action);
+                    Progress::Moved
+                }
+                Wrote::NotYet => Progress::NoRoom,
+                Wrote::Fault => {
+                    *sent = 0;
+                    machine.write_fault(action);
+                    Progress::Moved
+                }
+            }
+        }
+        other => {
+            *sent = 0;
+            act(alloc, machine, other, line, link, buffers)
+        }
+    }
+}
+
+// Does the same for an action that writes nothing.
+fn act<L: Line, K: Link>(
+    alloc: Global,
+    machine: &mut SeatMachine,
+    action: &mut Action,
+    line: &mut L,
+    link: &mut K,
+    buffers: &mut Buffers,
+) -> Progress
+    requires ready { K.is_ready link.old }
+    ensures ready { K.is_ready link.new }
+    ensures carried { (submitted : List Step) × (taken : List Answer) × HasGone K.went link.old action.old submitted taken link.new ×
+        Carried result machine.old (L.seen line.old) action.old machine.new (L.seen line.new) action.new submitted taken }
+    ensures stays { StaysOver L.lies_over line.old line.new }
+{
+    match action {
+        Action::Submit(step) => {
+            if link.submit(step) {
+                machine.submitted(alloc, action);
+                Progress::Moved
+            } else {
+                Progress::NotAccepted
+            }
+        }
+        Action::Read => read(alloc, machine, action, line, &mut buffers.piece),
+        Action::PollMail => {
+            if link.mail(action) {
+                machine.mail(action);
+                Progress::Moved
+            } else {
+                // The answer may take long.
+                line.expect_more(false);
+                machine.nothing_yet(action);
+                Progress::NoMail
+            }
+        }
+        Action::Write(_) => Progress::NoRoom,
+        Action::LineOver(_) => Progress::NothingToDo,
+        Action::Stray => Progress::NothingToDo,
+    }
+}
+
+// Another answer is written soon if more bytes came after the command whose answer is written now.
+fn expect_answers<L: Line>(machine: &SeatMachine, line: &mut L)
+    ensures seen { L.seen line.new ≡ L.seen line.old }
+    ensures stays { StaysOver L.lies_over line.old line.new }
+{
+    if machine.has_unread() || line.has_unread() {
+        line.expect_more(true);
+    }
+}

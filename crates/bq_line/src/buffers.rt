@@ -1,0 +1,424 @@
+//! How a seat reads its line and writes answers to it: the buffers of a seat, from which answers are
+//! written, and into which the line is read.
+ghost use Rattle.std.specs.Prelude.{ℕ, List, [], ◌≡◌, ◌<◌, ◌≤◌, ◌+◌, ◌++◌, drop, length, take, false, true, if◌then◌else◌};
+ghost use Rattle.std.specs.Io.{ReadsAtMost, WritesAtMost};
+ghost use Rattle.std.specs.IoError.{error_kind};
+ghost use Rattle.bq_job.specs.promise.LineSteps.{LineSeen};
+ghost use Rattle.bq_job.specs.texts.AnswerText.{answer_text};
+ghost use Rattle.bq_line.specs.LineCalls.{after_fill, after_read, after_write, is_nothing_yet};
+ghost use Rattle.bq_line.specs.Streams.{StaysOver};
+ghost use Rattle.bq_line.specs.Carried.{Carried, ReadsLine};
+ghost use Rattle.bq_line.specs.Writing.{Resumes, WritesOn, with_written};
+
+use crate::attendant::Progress;
+use crate::line::{Line, is_nothing_yet};
+use bq_job::Answer;
+use bq_seat::{Action, PIECE_ROOM, SeatMachine};
+use bq_wire::{HeadBuf, answer_body, answer_head, answer_tail, push_bytes};
+use std::alloc::Global;
+use std::io;
+
+/// The buffers of a seat. They are made once per run, since new ones would be filled with zeros
+/// first.
+#[derive(Drop)]
+pub struct Buffers {
+    /// Most answers with a body are joined here, and a line without a buffer of its own is read into
+    /// it.
+    pub piece: [u8; PIECE_ROOM],
+    /// For the head of an answer.
+    pub head: HeadBuf,
+}
+
+impl Buffers {
+    /// Returns buffers whose contents have no meaning.
+    pub fn new() -> Buffers {
+        Buffers {
+            piece: [0; PIECE_ROOM],
+            head: HeadBuf::new(),
+        }
+    }
+}
+
+/// How far the writing of a text got.
+#[derive(Clone, Copy, Debug, PartialEq, Eq)]
+pub enum Wrote {
+    /// All of it is written.
+    Whole,
+    /// There is no room for the rest yet.
+    NotYet,
+    /// A write failed.
+    Fault,
+}
+
+/// Writes the rest of the text of an answer, of which `sent` bytes were written before, and flushes
+/// the line.
+///
+/// It goes out in one write if the line takes all of it. The contents of the buffers have no
+/// meaning before and after. If there is no room yet for all of it, `sent` becomes the number of bytes
+/// written so far.
+pub fn write_answer<L: Line>(
+    line: &mut L,
+    answer: &Answer,
+    sent: &mut usize,
+    buffers: &mut Buffers,
+) -> Wrote
+    ensures text { Resumes (answer_text answer.now) sent.old (L.seen line.old) result sent.new (L.seen line.new) }
+    ensures stays { StaysOver L.lies_over line.old line.new }
+{
+    match write_text(line, answer, sent, buffers) {
+        Wrote::Whole => flush(line),
+        Wrote::NotYet => Wrote::NotYet,
+        Wrote::Fault => Wrote::Fault,
+    }
+}
+
+// Flushes the line after all of a text was written.
+fn flush<L: Line>(line: &mut L) -> Wrote
+    ensures text { (text : List ℕ) (first : LineSeen) (sent : ℕ) → L.seen line.old ≡ with_written text first
+        → WritesOn text first result sent (L.seen line.new) }
+    ensures stays { StaysOver L.lies_over line.old line.new }
+{
+    match line.flush() {
+        Ok(()) => Wrote::Whole,
+        Err(_) => Wrote::Fault,
+    }
+}
+
+// Most texts have few or no bytes after the head. These are appended to the head's own buffer, so
+// that no other is needed.
+fn write_text<L: Line>(
+    line: &mut L,
+    answer: &Answer,
+    sent: &mut usize,
+    buffers: &mut Buffers,
+) -> Wrote
+    ensures text { Resumes (answer_text answer.now) sent.old (L.seen line.old) result sent.new (L.seen line.new) }
+    ensures stays { StaysOver L.lies_over line.old line.new }
+{
+    answer_head(answer, &mut buffers.head);
+    let body = answer_body(answer);
+    let tail = answer_tail(answer);
+    if have_room(&buffers.head, body, tail) {
+        write_behind(line, &mut buffers.head, body, tail, sent)
+    } else {
+        write_long(
+            line,
+            &mut buffers.piece,
+            buffers.head.as_slice(),
+            body,
+            tail,
+            sent,
+        )
+    }
+}
+
+// Returns true if the head's buffer has room for the other parts.
+fn have_room(head: &HeadBuf, body: &[u8], tail: &[u8]) -> bool
+    ensures { result ≡ true → length head.now.items + length body.now + length tail.now ≤ 256 }
+{
+    let left = head.remaining_capacity();
+    body.len() <= left && tail.len() <= left - body.len()
+}
+
+// Appends the other parts to the head, and writes the rest of them together.
+fn write_behind<L: Line>(
+    line: &mut L,
+    head: &mut HeadBuf,
+    body: &[u8],
+    tail: &[u8],
+    sent: &mut usize,
+) -> Wrote
+    requires { length head.old.items + length body.now + length tail.now ≤ 256 }
+    ensures text { Resumes (head.old.items ++ body.now ++ tail.now) sent.old (L.seen line.old) result sent.new (L.seen line.new) }
+    ensures stays { StaysOver L.lies_over line.old line.new }
+{
+    push_bytes(head, body);
+    push_bytes(head, tail);
+    write_rest(line, head.as_slice(), sent)
+}
+
+// Most other texts are joined in the room. A longer one is written from where its parts are, since
+// copying a large body costs more than a gathered write.
+fn write_long<L: Line>(
+    line: &mut L,
+    room: &mut [u8],
+    head: &[u8],
+    body: &[u8],
+    tail: &[u8],
+    sent: &mut usize,
+) -> Wrote
+    requires few { length head.now + length tail.now ≤ 258 }
+    ensures text { Resumes (head.now ++ body.now ++ tail.now) sent.old (L.seen line.old) result sent.new (L.seen line.new) }
+    ensures stays { StaysOver L.lies_over line.old line.new }
+{
+    if fits(room.len(), head, body, tail) {
+        write_joined(line, room, head, body, tail, sent)
+    } else {
+        write_parts(line, head, body, tail, sent)
+    }
+}
+
+// Joins the parts of a text, which fit into the room, and writes the rest of it.
+fn write_joined<L: Line>(
+    line: &mut L,
+    room: &mut [u8],
+    head: &[u8],
+    body: &[u8],
+    tail: &[u8],
+    sent: &mut usize,
+) -> Wrote
+    requires { length head.now + length body.now + length tail.now ≤ length room.old }
+    ensures text { Resumes (head.now ++ body.now ++ tail.now) sent.old (L.seen line.old) result sent.new (L.seen line.new) }
+    ensures stays { StaysOver L.lies_over line.old line.new }
+{
+    let behind_head = put(room, 0, head);
+    let behind_body = put(room, behind_head, body);
+    let end = put(room, behind_body, tail);
+    write_rest(line, &room[..end], sent)
+}
+
+// Writes the rest of three parts, as much at a time as one call takes.
+fn write_parts<L: Line>(
+    line: &mut L,
+    head: &[u8],
+    body: &[u8],
+    tail: &[u8],
+    sent: &mut usize,
+) -> Wrote
+    requires few { length head.now + length tail.now ≤ 258 }
+    ensures text { Resumes (head.now ++ body.now ++ tail.now) sent.old (L.seen line.old) result sent.new (L.seen line.new) }
+    ensures stays { StaysOver L.lies_over line.old line.new }
+{
+    let mut done = *sent;
+    while !is_whole(head, body, tail, done) {
+        match write_some(line, head, body, tail, done) {
+            Ok(count) => {
+                if count == 0 {
+                    return Wrote::Fault;
+                }
+                done += count;
+            }
+            Err(e) => {
+                *sent = done;
+                return after_error(&e);
+            }
+        }
+    }
+    Wrote::Whole
+}
+
+// Returns true if `done` bytes are all of the three parts.
+fn is_whole(head: &[u8], body: &[u8], tail: &[u8], done: usize) -> bool
+    ensures whole { result ≡ true → length (head.now ++ body.now ++ tail.now) ≤ done }
+    ensures more { result ≡ false → done < length (head.now ++ body.now ++ tail.now) }
+{
+    done >= head.len()
+        && done - head.len() >= body.len()
+        && done - head.len() - body.len() >= tail.len()
+}
+
+// Makes one write from what follows the first `done` bytes of three parts.
+fn write_some<L: Line>(
+    line: &mut L,
+    head: &[u8],
+    body: &[u8],
+    tail: &[u8],
+    done: usize,
+) -> io::Result<usize>
+    requires { done < length (head.now ++ body.now ++ tail.now) }
+    ensures bound { WritesAtMost result (drop done (head.now ++ body.now ++ tail.now)) }
+    ensures seen { L.seen line.new
+        ≡ after_write result (drop done (head.now ++ body.now ++ tail.now)) (L.seen line.old) }
+    ensures stays { StaysOver L.lies_over line.old line.new }
+{
+    if done < head.len() {
+        line.write_together(behind(done, head), body, tail)
+    } else {
+        write_of_two(line, body, tail, done - head.len())
+    }
+}
+
+// Makes one write from what follows the first `done` bytes of two parts.
+fn write_of_two<L: Line>(line: &mut L, body: &[u8], tail: &[u8], done: usize) -> io::Result<usize>
+    requires { done < length (body.now ++ tail.now) }
+    ensures bound { WritesAtMost result (drop done (body.now ++ tail.now)) }
+    ensures seen { L.seen line.new
+        ≡ after_write result (drop done (body.now ++ tail.now)) (L.seen line.old) }
+    ensures stays { StaysOver L.lies_over line.old line.new }
+{
+    if done < body.len() {
+        line.write_together(behind(done, body), tail, &[])
+    } else {
+        line.write(behind(done - body.len(), tail))
+    }
+}
+
+// The bytes after the first `count`.
+fn behind(count: usize, bytes: &[u8]) -> &[u8]
+    ensures { result.now ≡ drop count bytes.now }
+{
+    &bytes[count.min(bytes.len())..]
+}
+
+// Returns true if `room` bytes hold all three parts.
+fn fits(room: usize, head: &[u8], body: &[u8], tail: &[u8]) -> bool
+    ensures { result ≡ true → length head.now + length body.now + length tail.now ≤ room }
+{
+    head.len() <= room
+        && body.len() <= room - head.len()
+        && tail.len() <= room - head.len() - body.len()
+}
+
+// Copies the bytes to this place of the room, and returns where they end.
+fn put(room: &mut [u8], at: usize, bytes: &[u8]) -> usize
+    requires { at + length bytes.now ≤ length room.old }
+    ensures end { result ≡ at + length bytes.now }
+    ensures held { take result room.new ≡ take at room.old ++ bytes.now }
+    ensures len { length room.new ≡ length room.old }
+{
+    let end = at + bytes.len();
+    room[at..end].copy_from_slice(bytes);
+    end
+}
+
+// Writes the bytes after the first `sent`, until all are written, there is no room yet, or a write
+// fails.
+fn write_rest<L: Line>(line: &mut L, bytes: &[u8], sent: &mut usize) -> Wrote
+    ensures text { Resumes bytes.now sent.old (L.seen line.old) result sent.new (L.seen line.new) }
+    ensures stays { StaysOver L.lies_over line.old line.new }
+{
+    let mut done = *sent;
+    while done < bytes.len() {
+        match line.write(&bytes[done..]) {
+            Ok(count) => {
+                if count == 0 {
+                    return Wrote::Fault;
+                }
+                done += count;
+            }
+            Err(e) => {
+                *sent = done;
+                return after_error(&e);
+            }
+        }
+    }
+    Wrote::Whole
+}
+
+fn after_error(e: &io::Error) -> Wrote
+    ensures { result
+        ≡ (if is_nothing_yet (error_kind e.now) then Wrote.NotYet else Wrote.Fault) }
+{
+    if is_nothing_yet(e) {
+        Wrote::NotYet
+    } else {
+        Wrote::Fault
+    }
+}
+
+/// Reads the line once and passes what came to the seat's machine, which puts its next action into
+/// `next`. Bytes in the line's own buffer are passed on without copying them. A line without a
+/// buffer is read into `piece`.
+pub fn read<L: Line>(
+    alloc: Global,
+    machine: &mut SeatMachine,
+    next: &mut Action,
+    line: &mut L,
+    piece: &mut [u8],
+) -> Progress
+    requires { length piece.old ≡ PIECE_ROOM }
+    ensures { ReadsLine L.seen L.lies_over result machine.old line.old machine.new line.new next.new }
+{
+    match fill_line(machine, line) {
+        Ok(()) => hand_on(alloc, machine, next, line, piece),
+        Err(e) => tell_error(alloc, machine, next, &e),
+    }
+}
+
+// If the line's own buffer is empty, it has none or its input has ended.
+fn hand_on<L: Line>(
+    alloc: Global,
+    machine: &mut SeatMachine,
+    next: &mut Action,
+    line: &mut L,
+    piece: &mut [u8],
+) -> Progress
+    requires { length piece.old ≡ PIECE_ROOM }
+    ensures { ReadsLine L.seen L.lies_over result machine.old line.old machine.new line.new next.new }
+{
+    let count = line.unread().len().min(PIECE_ROOM);
+    if count == 0 {
+        return read_piece(alloc, machine, next, line, piece);
+    }
+    machine.bytes(alloc, &line.unread()[..count], next);
+    line.take_unread(count);
+    Progress::Moved
+}
+
+fn read_piece<L: Line>(
+    alloc: Global,
+    machine: &mut SeatMachine,
+    next: &mut Action,
+    line: &mut L,
+    piece: &mut [u8],
+) -> Progress
+    requires { length piece.old ≡ PIECE_ROOM }
+    ensures { ReadsLine L.seen L.lies_over result machine.old line.old machine.new line.new next.new }
+{
+    match read_line(machine, line, piece) {
+        Ok(0) => {
+            machine.end_of_input(next);
+            Progress::Moved
+        }
+        Ok(count) => {
+            machine.bytes(alloc, &piece[..count], next);
+            Progress::Moved
+        }
+        Err(e) => tell_error(alloc, machine, next, &e),
+    }
+}
+
+// There are no bytes yet, or the read failed.
+fn tell_error(
+    alloc: Global,
+    machine: &mut SeatMachine,
+    next: &mut Action,
+    e: &io::Error,
+) -> Progress
+    ensures { (seen : LineSeen)
+        → Carried result machine.old seen Action.Read machine.new
+        (after_fill (Err e.now) seen) next.new [] [] }
+{
+    if is_nothing_yet(e) {
+        machine.nothing_yet(next);
+        Progress::NoBytes
+    } else {
+        machine.read_fault(next);
+        Progress::Moved
+    }
+}
+
+// Reading waits only if no answer is outstanding. All answers so far are sent before.
+fn fill_line<L: Line>(machine: &SeatMachine, line: &mut L) -> io::Result<()>
+    ensures seen { L.seen line.new ≡ after_fill result (L.seen line.old) }
+    ensures stays { StaysOver L.lies_over line.old line.new }
+{
+    if !line.has_unread() {
+        line.expect_more(false);
+    }
+    line.fill(!machine.has_outstanding())
+}
+
+// Does the same for a line without a buffer of its own.
+fn read_line<L: Line>(machine: &SeatMachine, line: &mut L, piece: &mut [u8]) -> io::Result<usize>
+    requires { 0 < length piece.old }
+    ensures bound { ReadsAtMost result piece.new }
+    ensures seen { L.seen line.new ≡ after_read result piece.new (L.seen line.old) }
+    ensures stays { StaysOver L.lies_over line.old line.new }
+{
+    if machine.has_outstanding() {
+        line.read_now(piece)
+    } else {
+        line.read(piece)
+    }
+}
