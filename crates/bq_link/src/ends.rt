@@ -48,7 +48,6 @@ const RING_PLACES: usize = 4;
 
 impl CoreEnd {
     // Makes the next seat's end, and the ring between it and the core's end.
-    #[tactic(auto, using(crate::proofs::PassLemmas::makes))]
     pub(crate) fn next_end<J: Record>(
         &mut self,
         alloc: Global,
@@ -60,8 +59,12 @@ impl CoreEnd {
         ensures seat { IfOk result (λ seat. seat ≡ next_seat self.old seat.ring) }
     {
         let number = self.rings.len() as u16;
-        let (ring, mail) = RingBuffer::new(alloc, RING_PLACES)?;
-        self.rings.push(ring)?;
+        let Ok((ring, mail)) = RingBuffer::new(alloc, RING_PLACES) else {
+            return Err(AllocError);
+        };
+        let Ok(()) = self.rings.push(ring) else {
+            return Err(AllocError);
+        };
         let pass = intake.queue.another::<NextEnd>(&mut self.pass);
         Ok(SeatEnd { number, pass, mail })
     }

@@ -38,9 +38,13 @@ fn all_ends<J: Record>(
     ensures core { IfOk result (λ r. (r.1.intake ≡ r.0.id) × IsNewCore ends r.1) }
     ensures seats { IfOk result (λ r. (length r.2.items ≡ ends) × AreNewSeats r.1 r.2.items) }
 {
-    let (intake, mut core) = no_ends(alloc, ends)?;
-    let seats = seat_ends(alloc, &intake, &mut core, ends)?;
-    Ok((intake, core, seats))
+    let Ok((intake, mut core)) = no_ends(alloc, ends) else {
+        return Err(AllocError);
+    };
+    match seat_ends(alloc, &intake, &mut core, ends) {
+        Ok(seats) => Ok((intake, core, seats)),
+        Err(_) => Err(AllocError),
+    }
 }
 
 fn seat_ends<J: Record>(
@@ -56,9 +60,13 @@ fn seat_ends<J: Record>(
     ensures seats { IfOk result
         (λ seats. (length seats.items ≡ ends) × AreNewSeats core.new seats.items) }
 {
-    let mut seats = Vec::with_capacity(alloc, ends)?;
+    let Ok(mut seats) = Vec::with_capacity(alloc, ends) else {
+        return Err(AllocError);
+    };
     for _number in 0..ends {
-        let seat = core.next_end(alloc, intake)?;
+        let Ok(seat) = core.next_end(alloc, intake) else {
+            return Err(AllocError);
+        };
         seats.push_reserved(seat);
     }
     Ok(seats)
@@ -73,9 +81,15 @@ fn no_ends<J: Record>(alloc: Global, ends: usize) -> Result<(Intake<J>, CoreEnd)
     ensures bells { IfOk result (λ r. r.0.bells ≡ ends) }
     ensures core { IfOk result (λ r. (r.1.intake ≡ r.0.id) × IsNewCore 0 r.1) }
 {
-    let seats = bells(alloc, ends)?;
-    let rings = Vec::with_capacity(alloc, ends)?;
-    let (queue, pass) = RuledArrayQueue::ruled(alloc, 2 * ends)?;
+    let Ok(seats) = bells(alloc, ends) else {
+        return Err(AllocError);
+    };
+    let Ok(rings) = Vec::with_capacity(alloc, ends) else {
+        return Err(AllocError);
+    };
+    let Ok((queue, pass)) = RuledArrayQueue::ruled(alloc, 2 * ends) else {
+        return Err(AllocError);
+    };
     let intake = Intake {
         queue,
         core: Parker::new(),
@@ -88,9 +102,11 @@ fn no_ends<J: Record>(alloc: Global, ends: usize) -> Result<(Intake<J>, CoreEnd)
 fn bells(alloc: Global, ends: usize) -> Result<Vec<Parker>, AllocError>
     ensures { IfOk result (λ bells. length bells.items ≡ ends) }
 {
-    let mut bells = Vec::with_capacity(alloc, ends)?;
+    let Ok(mut bells) = Vec::with_capacity(alloc, ends) else {
+        return Err(AllocError);
+    };
     for _number in 0..ends {
-        bells.push(Parker::new())?;
+        bells.push_reserved(Parker::new());
     }
     Ok(bells)
 }

@@ -6,8 +6,8 @@ use Rattle.bq_link.proofs.making.seat_ends.Goals as goal
 pub loop-number-preserved : goal.loop-number-preserved
 loop-number-preserved g c =
     let so_far = c.loop-number.invariant in
-    let seat = c.in_ok-seat.seat in
-    let made = c.in_ok-seat.ensures in
+    let seat = c.in-Ok-next_end.seat in
+    let made = c.in-Ok-next_end.ensures in
     record {
       intake = ap (λ k. k.intake) made.core ∙ so_far.intake;
       core = core_more _ c.loop-number.core _ seat.ring made.core so_far.core;
