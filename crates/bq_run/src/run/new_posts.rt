@@ -1,5 +1,5 @@
 //! The posts of a run, before its threads start.
-ghost use Rattle.std.specs.Prelude.{◌≡◌, ◌++◌, ◌∷◌, ◌+◌, [], IfOk, IsTrue, OnOk, map, reverse, vec_len};
+ghost use Rattle.std.specs.Prelude.{◌≡◌, ◌≤◌, ◌++◌, ◌∷◌, ◌+◌, [], IfOk, IsTrue, OnOk, map, reverse, vec_capacity, vec_len};
 ghost use Rattle.std.specs.List.{All};
 ghost use Rattle.bq_steps.specs.Limits.{is_body_size};
 ghost use Rattle.bq_line.specs.Tending.{IsNewDoor, door_seen};
@@ -12,19 +12,12 @@ use crate::run::seat_post::SeatPost;
 use bq_job::NoMemory;
 use bq_line::Door;
 use bq_line::clock::Clock;
-use bq_line::line::Line;
 use bq_link::{CoreEnd, Intake, NoTicks, SeatEnd};
 use bq_steps::QueueCore;
 use std::alloc::Global;
 
 /// Returns the posts of a run with this core, at these ends of its links.
-pub fn new_posts<
-    'a,
-    L: Line + Drop,
-    D: Door<Line = L> + Drop,
-    C: Clock + Drop,
-    K: QueueCore + Drop,
->(
+pub fn new_posts<'a, D: Door + Drop, C: Clock + Drop, K: QueueCore + Drop>(
     alloc: Global,
     intake: &'a Intake<NoTicks>,
     new_core: NewCore<K>,
@@ -53,7 +46,9 @@ pub fn new_posts<
         unreachable!()
     };
     let max_job_size = new_core.config.max_job_size;
-    let seats = new_seats(alloc, max_job_size, intake, ends, doors)?;
+    let Ok(seats) = new_seats(alloc, max_job_size, intake, ends, doors) else {
+        return Err(NoMemory);
+    };
     Ok(Posts {
         ends: EndPosts {
             seats,
@@ -71,7 +66,7 @@ pub fn new_posts<
 }
 
 // Returns a post for each door, the last one first.
-fn new_seats<'a, L: Line + Drop, D: Door<Line = L> + Drop>(
+fn new_seats<'a, D: Door + Drop>(
     alloc: Global,
     max_job_size: u32,
     intake: &'a Intake<NoTicks>,
@@ -92,20 +87,23 @@ fn new_seats<'a, L: Line + Drop, D: Door<Line = L> + Drop>(
     let Ok(mut posts) = Vec::with_capacity(alloc, doors.len()) else {
         return Err(NoMemory);
     };
-    fill_seats(
+    let filled = fill_seats(
         alloc,
         max_job_size,
         intake,
         &mut ends,
         &mut doors,
         &mut posts,
-    )?;
-    Ok(posts)
+    );
+    match filled {
+        Ok(()) => Ok(posts),
+        Err(NoMemory) => Err(NoMemory),
+    }
 }
 
 // The same, into a vector that has room. The caller drops what is left, so that this happens in one
 // place.
-fn fill_seats<'a, L: Line + Drop, D: Door<Line = L> + Drop>(
+fn fill_seats<'a, D: Door + Drop>(
     alloc: Global,
     max_job_size: u32,
     intake: &'a Intake<NoTicks>,
@@ -120,6 +118,7 @@ fn fill_seats<'a, L: Line + Drop, D: Door<Line = L> + Drop>(
     requires new { All
         (λ door. IsNewDoor (door_seen D.is_out D.is_at_end D.lines_over door)) doors.old.items }
     requires none { posts.old.items ≡ [] }
+    requires room { vec_len doors.old ≤ vec_capacity posts.old }
     ensures limits { OnOk result
         (All (λ post. post.max_job_size ≡ max_job_size) posts.new.items) }
     ensures ends { OnOk result (reverse (map (λ p. p.end) posts.new.items) ≡ ends.old.items) }
@@ -129,10 +128,10 @@ fn fill_seats<'a, L: Line + Drop, D: Door<Line = L> + Drop>(
         let Some(end) = ends.pop() else {
             unreachable!()
         };
-        let post = SeatPost::new(alloc, max_job_size, intake, end, door)?;
-        let Ok(()) = posts.push(post) else {
+        let Ok(post) = SeatPost::new(alloc, max_job_size, intake, end, door) else {
             return Err(NoMemory);
         };
+        posts.push_reserved(post);
     }
     Ok(())
 }

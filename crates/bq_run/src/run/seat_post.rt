@@ -33,7 +33,7 @@ pub struct SeatPost<'a, D: Door> {
     ghost new_door: { IsNewDoor (door_seen D.is_out D.is_at_end D.lines_over door) },
 }
 
-impl<'a, L: Line + Drop, D: Door<Line = L> + Drop> SeatPost<'a, D> {
+impl<'a, D: Door + Drop> SeatPost<'a, D> {
     /// Returns a post at this end. All memory but that for bodies is allocated here.
     pub fn new(
         alloc: Global,
@@ -50,7 +50,9 @@ impl<'a, L: Line + Drop, D: Door<Line = L> + Drop> SeatPost<'a, D> {
         ensures limit { IfOk result (λ post. post.max_job_size ≡ max_job_size) }
         ensures door { IfOk result (λ post. post.door ≡ door) }
     {
-        let machine = SeatMachine::new(alloc, max_job_size)?;
+        let Ok(machine) = SeatMachine::new(alloc, max_job_size) else {
+            return Err(NoMemory);
+        };
         Ok(SeatPost {
             alloc,
             intake,
@@ -60,7 +62,9 @@ impl<'a, L: Line + Drop, D: Door<Line = L> + Drop> SeatPost<'a, D> {
             max_job_size,
         })
     }
+}
 
+impl<'a, L: Line + Drop, D: Door<Line = L> + Drop> SeatPost<'a, D> {
     /// Serves the door to its end, and returns it with the end of the links. Returns `None` if a
     /// thread was not started; then the door was not opened.
     pub fn serve<R: Wait>(self, rt: &R, start: &Start) -> Option<(SeatEnd, D)>

@@ -194,7 +194,7 @@ fn serve_ends<
     start: &'s Start,
     control: I,
 ) -> Result<EndedEnds<D, I>, RunFault>
-    requires threads { vec_len rooms.0 ≡ 0 }
+    requires threads { (vec_len rooms.0 ≡ 0) × (vec_len posts.seats ≤ vec_capacity rooms.0) }
     requires ends { (rooms.1.items ≡ []) × (vec_len posts.seats < vec_capacity rooms.1) }
     requires doors { (rooms.2.items ≡ []) × (vec_len posts.seats ≤ vec_capacity rooms.2) }
     ensures fault { IsErrOf result RunFault.BadConfiguration → ⊥ }
@@ -216,29 +216,37 @@ fn serve_ends<
         return Err(RunFault::ThreadRefused);
     }
     let (control_end, control) = serve_control(rt, control_post, control);
-    let (ends, doors) = join_seats(rt, threads, ends, doors, max_job_size)?;
-    Ok(EndedEnds {
-        ends,
-        doors,
-        control_end,
-        control,
-    })
+    match join_seats(rt, threads, ends, doors, max_job_size) {
+        Ok((ends, doors)) => Ok(EndedEnds {
+            ends,
+            doors,
+            control_end,
+            control,
+        }),
+        Err(fault) => Err(fault),
+    }
 }
 
 // Allocates room for the threads of this many seats, and for what they return, with the control
 // line's end.
 fn new_rooms<D: Door + Drop>(alloc: Global, seats: usize) -> Result<Rooms<D>, AllocError>
-    ensures threads { IfOk result (λ r. vec_len r.0 ≡ 0) }
+    ensures threads { IfOk result (λ r. (vec_len r.0 ≡ 0) × (seats ≤ vec_capacity r.0)) }
     ensures ends { IfOk result (λ r. (r.1.items ≡ []) × (seats < vec_capacity r.1)) }
     ensures doors { IfOk result (λ r. (r.2.items ≡ []) × (seats ≤ vec_capacity r.2)) }
 {
     let Some(all_ends) = seats.checked_add(1) else {
         return Err(AllocError);
     };
-    let threads = Vec::with_capacity(alloc, seats)?;
-    let ends = Vec::with_capacity(alloc, all_ends)?;
-    let doors = Vec::with_capacity(alloc, seats)?;
-    Ok((threads, ends, doors))
+    let Ok(threads) = Vec::with_capacity(alloc, seats) else {
+        return Err(AllocError);
+    };
+    let Ok(ends) = Vec::with_capacity(alloc, all_ends) else {
+        return Err(AllocError);
+    };
+    match Vec::with_capacity(alloc, seats) {
+        Ok(doors) => Ok((threads, ends, doors)),
+        Err(_) => Err(AllocError),
+    }
 }
 
 fn serve_control<R: Wait, I: ControlReader + Drop>(
@@ -268,6 +276,7 @@ fn start_seats<
     threads: &mut SeatThreads<D>,
 ) -> bool
     requires none { vec_len threads.old ≡ 0 }
+    requires room { vec_len posts ≤ vec_capacity threads.old }
     requires limits { All (λ post. post.max_job_size ≡ max_job_size) posts.items }
     ensures ends { IsTrue result
         → map (λ t. t.promise.end.value) threads.new.items ≡ reverse (map (λ p. p.end) posts.entry.items) }
@@ -281,9 +290,7 @@ fn start_seats<
         let Some(thread) = start_seat(scope, rt, post, start) else {
             return false;
         };
-        let Ok(()) = threads.push(thread) else {
-            return false;
-        };
+        threads.push_reserved(thread);
     }
     true
 }

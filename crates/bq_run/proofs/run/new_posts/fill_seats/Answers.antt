@@ -10,16 +10,18 @@ loop-door-preserved g c =
     let i = c.loop-door.invariant in
     record {
       many = let h = i.many in let e = c.in-Some.ensures.len in let f = c.in-Some-pop.ensures.len in omega arith;
-      limits = all_pushed c.loop-door.posts.items _ c.in_ok-post.post
-          (λ p. p.max_job_size ≡ c.args.max_job_size) c.in-Ok.ensures.items i.limits c.in_ok-post.ensures.limit;
+      room = let h = i.room in let d = c.in-Some.ensures.len in let f = c.push_reserved.ensures.len in
+          let e = c.push_reserved.ensures.capacity in omega arith;
+      limits = all_pushed c.loop-door.posts.items _ c.in-Ok.post
+          (λ p. p.max_job_size ≡ c.args.max_job_size) c.push_reserved.ensures.items i.limits c.in-Ok.ensures.limit;
       of_intake = all_taken (vec_len c.loop-door.ends - 1) c.loop-door.ends.items _
           (λ e. e.intake ≡ c.args.intake.now.id) c.pop-in-Some.ensures.rest i.of_intake;
       new_ends = all_taken (vec_len c.loop-door.ends - 1) c.loop-door.ends.items _ (λ e. IsNewEnd e) c.pop-in-Some.ensures.rest i.new_ends;
       new = all_taken (vec_len c.loop-door.doors - 1) c.loop-door.doors.items _ (λ d. IsNewDoor (at d)) c.pop.ensures.rest i.new;
-      whole = put_behind (λ p. p.end) c.loop-door.ends.items _ c.in-Some-pop.end c.loop-door.posts.items _ c.in_ok-post.post
-          c.in-Some-pop.ensures.items c.in-Ok.ensures.items c.in_ok-post.ensures.end ∙ i.whole;
-      doors = put_behind (λ p. p.door) c.loop-door.doors.items _ c.in-Some.door c.loop-door.posts.items _ c.in_ok-post.post
-          c.in-Some.ensures.items c.in-Ok.ensures.items c.in_ok-post.ensures.door ∙ i.doors;
+      whole = put_behind (λ p. p.end) c.loop-door.ends.items _ c.in-Some-pop.end c.loop-door.posts.items _ c.in-Ok.post
+          c.in-Some-pop.ensures.items c.push_reserved.ensures.items c.in-Ok.ensures.end ∙ i.whole;
+      doors = put_behind (λ p. p.door) c.loop-door.doors.items _ c.in-Some.door c.loop-door.posts.items _ c.in-Ok.post
+          c.in-Some.ensures.items c.push_reserved.ensures.items c.in-Ok.ensures.door ∙ i.doors;
     }
 
 pub new-requires-clause-of_intake : goal.new-requires-clause-of_intake

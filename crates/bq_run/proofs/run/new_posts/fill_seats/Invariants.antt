@@ -1,4 +1,4 @@
-use Rattle.std.proofs.Common.{◌≡◌, ◌++◌, map, vec_len}
+use Rattle.std.proofs.Common.{◌≡◌, ◌+◌, ◌≤◌, ◌++◌, map, vec_capacity, vec_len}
 use Rattle.std.specs.List.{All}
 use Rattle.bq_line.specs.Tending.{IsNewDoor, door_seen}
 use Rattle.bq_run.specs.Ends.{IsNewEnd}
@@ -8,6 +8,7 @@ use Rattle.bq_run.proofs.run.new_posts.fill_seats.Given as goal
 abbrev pub invariant-loop-door : goal.invariant-loop-door
 invariant-loop-door g l = record {
   many : vec_len l.ends ≡ vec_len l.doors;
+  room : vec_len l.posts + vec_len l.doors ≤ vec_capacity l.posts;
   limits : All (λ post. post.max_job_size ≡ l.max_job_size) l.posts.items;
   of_intake : All (λ end. end.intake ≡ l.intake.id) l.ends.items;
   new_ends : All (λ end. IsNewEnd end) l.ends.items;

@@ -12,14 +12,15 @@ loop-post-preserved g c =
       limits = all_taken (vec_len c.loop-post.posts - 1) c.loop-post.posts.items _
           (λ p. p.max_job_size ≡ size) c.pop.ensures.rest c.loop-post.invariant.limits;
       promised = all_pushed c.loop-post.threads.items _ started.thread
-          (λ t. t.promise.max_job_size ≡ size) c.in-Ok.ensures.items c.loop-post.invariant.promised (started.ensures.limit ∙ limit);
-      count = let h = c.loop-post.invariant.count in let a = c.in-Some.ensures.len in let b = c.in-Ok.ensures.len in omega arith;
+          (λ t. t.promise.max_job_size ≡ size) c.push_reserved.ensures.items c.loop-post.invariant.promised (started.ensures.limit ∙ limit);
+      count = let h = c.loop-post.invariant.count in let a = c.in-Some.ensures.len in let b = c.push_reserved.ensures.len in omega arith;
+      room = let h = c.loop-post.invariant.room in let a = c.push_reserved.ensures.capacity in omega arith;
       whole =
           handed_on (λ p. p.end) (λ t. t.promise.end.value) c.loop-post.posts.items _ c.in-Some.post c.loop-post.threads.items _
-          started.thread c.in-Some.ensures.items c.in-Ok.ensures.items
+          started.thread c.in-Some.ensures.items c.push_reserved.ensures.items
           started.ensures.end ∙ c.loop-post.invariant.whole;
       doors =
           handed_on (λ p. p.door) (λ t. t.promise.door.value) c.loop-post.posts.items _ c.in-Some.post c.loop-post.threads.items _
-          started.thread c.in-Some.ensures.items c.in-Ok.ensures.items
+          started.thread c.in-Some.ensures.items c.push_reserved.ensures.items
           started.ensures.door ∙ c.loop-post.invariant.doors;
     }
