@@ -1,5 +1,5 @@
 //! The threads of a run around one lock, one for each door.
-ghost use Rattle.std.specs.Prelude.{◌≡◌, ◌≤◌, map, reverse, IfOk, IfSome, IsErrOf, IsTrue, vec_len};
+ghost use Rattle.std.specs.Prelude.{◌≡◌, ◌≤◌, map, reverse, IfOk, IfSome, IsErrOf, IsTrue, vec_capacity, vec_len};
 ghost use Rattle.std.specs.List.{All};
 ghost use Rattle.bq_steps.specs.Limits.{is_body_size};
 ghost use Rattle.bq_lock.specs.LockedRuns.{IsServedToEnd};
@@ -76,7 +76,7 @@ fn serve_in_scope<
 >(
     rt: &R,
     alloc: Global,
-    posts: SeatPosts<L, D>,
+    posts: SeatPosts<D>,
     desk: &K,
     bells: &Bells,
     start: &Start,
@@ -118,11 +118,11 @@ fn serve_in_scope<
 }
 
 // Returns a post for each door, the last one first.
-fn new_posts<L: Line + Drop, D: Door<Line = L> + Drop>(
+fn new_posts<D: Door + Drop>(
     alloc: Global,
     max_job_size: u32,
     mut doors: Vec<D, Global>,
-) -> Result<Vec<Post<L, D>, Global>, NoMemory>
+) -> Result<Vec<Post<D>, Global>, NoMemory>
     requires size { IsTrue (is_body_size max_job_size) }
     requires few { vec_len doors ≤ 65535 }
     requires new { All
@@ -137,10 +137,10 @@ fn new_posts<L: Line + Drop, D: Door<Line = L> + Drop>(
         return Err(NoMemory);
     };
     while let Some(door) = doors.pop() {
-        let post = Post::new(alloc, max_job_size, doors.len() as u16, door)?;
-        let Ok(()) = posts.push(post) else {
+        let Ok(post) = Post::new(alloc, max_job_size, doors.len() as u16, door) else {
             return Err(NoMemory);
         };
+        posts.push_reserved(post);
     }
     Ok(posts)
 }
@@ -172,7 +172,7 @@ fn serve_all<
     scope: &'s Scope<'s, E>,
     rt: &'s R,
     alloc: Global,
-    posts: SeatPosts<L, D>,
+    posts: SeatPosts<D>,
     desk: &'s K,
     bells: &'s Bells,
     start: &'s Start,
@@ -188,10 +188,10 @@ fn serve_all<
 {
     let SeatPosts { all, max_job_size } = posts;
     let seats = all.len();
-    let (Ok(mut threads), Ok(doors)) = (
-        Vec::with_capacity(alloc, seats),
-        Vec::with_capacity(alloc, seats),
-    ) else {
+    let Ok(mut threads) = Vec::with_capacity(alloc, seats) else {
+        return Err(RunFault::NoMemory);
+    };
+    let Ok(doors) = Vec::with_capacity(alloc, seats) else {
         return Err(RunFault::NoMemory);
     };
     let all_started = start_threads(
@@ -232,7 +232,7 @@ fn start_threads<
 >(
     scope: &'s Scope<'s, E>,
     rt: &'s R,
-    mut posts: Vec<Post<L, D>, Global>,
+    mut posts: Vec<Post<D>, Global>,
     desk: &'s K,
     bells: &'s Bells,
     start: &'s Start,
@@ -240,6 +240,7 @@ fn start_threads<
     threads: &mut Vec<PromisedHandle<Option<D>, DoorPromise<D>>, Global>,
 ) -> bool
     requires none { vec_len threads.old ≡ 0 }
+    requires room { vec_len posts ≤ vec_capacity threads.old }
     requires limits { All (λ post. post.max_job_size ≡ max_job_size) posts.items }
     ensures many { IsTrue result → vec_len threads.new ≡ vec_len posts }
     ensures limits { IsTrue result
@@ -257,9 +258,7 @@ fn start_threads<
         else {
             return false;
         };
-        let Ok(()) = threads.push(thread) else {
-            return false;
-        };
+        threads.push_reserved(thread);
     }
     true
 }
@@ -272,6 +271,7 @@ fn join_all<R: Threads, D: Door + Drop + Send>(
     max_job_size: u32,
 ) -> Result<Vec<D, Global>, RunFault>
     requires none { vec_len doors ≡ 0 }
+    requires room { vec_len threads ≤ vec_capacity doors }
     requires limits { All (λ thread. thread.promise.max_job_size ≡ max_job_size) threads.items }
     ensures fault { IsErrOf result RunFault.BadConfiguration → ⊥ }
     ensures many { IfOk result (λ all. vec_len all ≡ vec_len threads) }
@@ -285,9 +285,7 @@ fn join_all<R: Threads, D: Door + Drop + Send>(
         let Some(door) = thread.join(rt) else {
             return Err(RunFault::ThreadRefused);
         };
-        let Ok(()) = doors.push(door) else {
-            return Err(RunFault::NoMemory);
-        };
+        doors.push_reserved(door);
     }
     Ok(doors)
 }

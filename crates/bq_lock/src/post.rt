@@ -22,7 +22,7 @@ use std::thread;
 
 /// A new seat and its door.
 #[derive(Drop)]
-pub struct Post<L: Line + Drop, D: Door<Line = L>> {
+pub struct Post<D: Door> {
     alloc: Global,
     seat: Seat,
     pub max_job_size: u32,
@@ -35,21 +35,18 @@ pub struct Post<L: Line + Drop, D: Door<Line = L>> {
     ghost none_over: { D.lines_over door ≡ [] },
 }
 
-impl<L: Line + Drop, D: Door<Line = L> + Drop> Post<L, D> {
+impl<D: Door + Drop> Post<D> {
     /// Returns a post of this seat. All memory but that for bodies is allocated here.
-    pub fn new(
-        alloc: Global,
-        max_job_size: u32,
-        seat: Seat,
-        door: D,
-    ) -> Result<Post<L, D>, NoMemory>
+    pub fn new(alloc: Global, max_job_size: u32, seat: Seat, door: D) -> Result<Post<D>, NoMemory>
         requires size { IsTrue (is_body_size max_job_size) }
         requires new { IsNewDoor (door_seen D.is_out D.is_at_end D.lines_over door) }
         ensures seat { IfOk result (λ post. post.seat ≡ seat) }
         ensures limit { IfOk result (λ post. post.max_job_size ≡ max_job_size) }
         ensures door { IfOk result (λ post. post.door ≡ door) }
     {
-        let machine = SeatMachine::new(alloc, max_job_size)?;
+        let Ok(machine) = SeatMachine::new(alloc, max_job_size) else {
+            return Err(NoMemory);
+        };
         Ok(Post {
             alloc,
             seat,
@@ -58,7 +55,9 @@ impl<L: Line + Drop, D: Door<Line = L> + Drop> Post<L, D> {
             door,
         })
     }
+}
 
+impl<L: Line + Drop, D: Door<Line = L> + Drop> Post<D> {
     /// Serves the door to its end and returns it. Returns `None` if a thread was not started; then
     /// the door was not opened.
     pub fn serve<R: Wait, K: SharedDesk>(
@@ -118,8 +117,8 @@ fn yield_after(progress: Progress) {
 
 /// Posts that share one limit of body sizes.
 #[derive(Drop)]
-pub struct SeatPosts<L: Line + Drop, D: Door<Line = L>> {
-    pub all: Vec<Post<L, D>, Global>,
+pub struct SeatPosts<D: Door> {
+    pub all: Vec<Post<D>, Global>,
     pub max_job_size: u32,
     ghost limits: { All (λ post. post.max_job_size ≡ max_job_size) all.items },
 }

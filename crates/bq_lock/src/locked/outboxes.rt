@@ -24,7 +24,9 @@ impl Outboxes {
         ensures answered { IfOk result (λ outboxes. outboxes.answered.items ≡ []) }
         ensures room { IfOk result (λ outboxes. seats < vec_capacity outboxes.answered) }
     {
-        let mails = new_mails(alloc, seats)?;
+        let Ok(mails) = new_mails(alloc, seats) else {
+            return Err(NoMemory);
+        };
         match Vec::with_capacity(alloc, usize::from(seats) + 1) {
             Ok(answered) => Ok(Outboxes { mails, answered }),
             Err(_) => Err(NoMemory),

@@ -17,11 +17,12 @@ loop-thread-preserved g c =
     let here = rw c.in-Some-join.is at served in
     let same = rw c.in-Some-join.is at c.join.ensures.1 in
     record {
-      many = let h = c.loop-thread.invariant.many in let e = step.1 in let p = c.in-Ok.ensures.len in omega arith;
+      many = let h = c.loop-thread.invariant.many in let e = step.1 in let p = c.push_reserved.ensures.len in omega arith;
+      room = let h = c.loop-thread.invariant.room in let a = c.push_reserved.ensures.capacity in omega arith;
       limits = rest_passes c.loop-thread.thread-iterator.rest.items _ c.in-Some.thread
           (λ t. t.promise.max_job_size ≡ c.args.max_job_size) step.0 limits;
       back = one_back g.D.Door.same (λ t. t.promise.door.value) c.args.threads.items c.loop-thread.thread-iterator.rest.items _
-          c.in-Some.thread c.loop-thread.doors.items _ c.in-Some-join.door step.0 c.in-Ok.ensures.items same c.loop-thread.invariant.back;
+          c.in-Some.thread c.loop-thread.doors.items _ c.in-Some-join.door step.0 c.push_reserved.ensures.items same c.loop-thread.invariant.back;
       served = all_pushed c.loop-thread.doors.items _ c.in-Some-join.door
-          (λ d. IsServedToEnd c.args.max_job_size (at d)) c.in-Ok.ensures.items c.loop-thread.invariant.served here;
+          (λ d. IsServedToEnd c.args.max_job_size (at d)) c.push_reserved.ensures.items c.loop-thread.invariant.served here;
     }

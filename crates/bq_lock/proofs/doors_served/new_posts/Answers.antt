@@ -10,11 +10,12 @@ loop-door-preserved g c =
     let at = door_seen g.D.Door.is_out g.D.Door.is_at_end g.D.Door.lines_over in
     record {
       few = let h = c.loop-door.invariant.few in let e = c.pop.ensures.len in omega arith;
-      many = let h = c.loop-door.invariant.many in let e = c.in-Some.ensures.len in let p = c.in-Ok-push.ensures.len in omega arith;
-      doors = put_behind (λ p. p.door) c.loop-door.doors.items _ c.in-Some.door c.loop-door.posts.items _ c.in_ok-post.post
-          c.in-Some.ensures.items c.in-Ok-push.ensures.items c.in_ok-post.ensures.door ∙ c.loop-door.invariant.doors;
-      limits = all_pushed c.loop-door.posts.items _ c.in_ok-post.post
-          (λ p. p.max_job_size ≡ c.args.max_job_size) c.in-Ok-push.ensures.items c.loop-door.invariant.limits c.in_ok-post.ensures.limit;
+      many = let h = c.loop-door.invariant.many in let e = c.in-Some.ensures.len in let p = c.push_reserved.ensures.len in omega arith;
+      room = let h = c.loop-door.invariant.room in let a = c.push_reserved.ensures.capacity in omega arith;
+      doors = put_behind (λ p. p.door) c.loop-door.doors.items _ c.in-Some.door c.loop-door.posts.items _ c.in-Ok-new.post
+          c.in-Some.ensures.items c.push_reserved.ensures.items c.in-Ok-new.ensures.door ∙ c.loop-door.invariant.doors;
+      limits = all_pushed c.loop-door.posts.items _ c.in-Ok-new.post
+          (λ p. p.max_job_size ≡ c.args.max_job_size) c.push_reserved.ensures.items c.loop-door.invariant.limits c.in-Ok-new.ensures.limit;
       new = subst (λ (xs : List g.row.D.Denot). All (λ d. IsNewDoor (at d)) xs) (sym c.pop.ensures.rest)
           (All-take (λ d. IsNewDoor (at d)) (vec_len c.loop-door.doors - 1) c.loop-door.doors.items c.loop-door.invariant.new);
     }

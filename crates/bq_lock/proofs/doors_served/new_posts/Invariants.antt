@@ -1,4 +1,4 @@
-use Rattle.std.proofs.Common.{◌≡◌, ◌≤◌, ◌+◌, ◌++◌, map, vec_len}
+use Rattle.std.proofs.Common.{◌≡◌, ◌≤◌, ◌+◌, ◌++◌, map, vec_capacity, vec_len}
 use Rattle.std.specs.Prelude.{reverse}
 use Rattle.std.specs.List.{All}
 use Rattle.bq_line.specs.Tending.{IsNewDoor, door_seen}
@@ -8,6 +8,7 @@ abbrev pub invariant-loop-door : goal.invariant-loop-door
 invariant-loop-door g l = record {
   few : vec_len l.doors ≤ 65535;
   many : vec_len l.posts + vec_len l.doors ≡ vec_len l.fn.doors;
+  room : vec_len l.fn.doors ≤ vec_capacity l.posts;
   doors : l.doors.items ++ reverse (map (λ post. post.door) l.posts.items) ≡ l.fn.doors.items;
   limits : All (λ post. post.max_job_size ≡ l.max_job_size) l.posts.items;
   new : All (λ door. IsNewDoor (door_seen (g.D.Door.is_out) (g.D.Door.is_at_end) (g.D.Door.lines_over) door)) l.doors.items;

@@ -9,6 +9,7 @@ loop-post-init g c =
     let none = nil_from_length c.args.threads.now.items (let e = c.requires.none in omega arith) in
     record {
       many = let e = c.requires.none in omega arith;
+      room = c.requires.room;
       doors = ap (λ ts. map (λ thread. thread.promise.door.value) ts ++ reverse (map (λ post. post.door) c.args.posts.items)) none;
       limits = c.requires.limits;
       promised = λ k d below. absurd (let e = c.requires.none in omega (arith, below));
@@ -19,13 +20,14 @@ loop-post-preserved g c =
     let limit = popped_passes c.loop-post.posts.items _ c.in-Some.post
     (λ p. p.max_job_size ≡ c.args.max_job_size) c.in-Some.ensures.items c.loop-post.invariant.limits in
     record {
-      many = let h = c.loop-post.invariant.many in let e = c.in-Some.ensures.len in let p = c.in-Ok-push.ensures.len in omega arith;
+      many = let h = c.loop-post.invariant.many in let e = c.in-Some.ensures.len in let p = c.push_reserved.ensures.len in omega arith;
+      room = let h = c.loop-post.invariant.room in let a = c.push_reserved.ensures.capacity in omega arith;
       doors = handed_on (λ post. post.door) (λ thread. thread.promise.door.value) c.loop-post.posts.items _ c.in-Some.post
-          c.loop-post.threads.items _ c.in-Ok.thread c.in-Some.ensures.items c.in-Ok-push.ensures.items
+          c.loop-post.threads.items _ c.in-Ok.thread c.in-Some.ensures.items c.push_reserved.ensures.items
           (ap (λ promise. promise.door.value) c.in-Ok.ensures.ok ∙ c.of.ensures) ∙ c.loop-post.invariant.doors;
       limits = all_taken (vec_len c.loop-post.posts - 1) c.loop-post.posts.items _
           (λ p. p.max_job_size ≡ c.args.max_job_size) c.pop.ensures.rest c.loop-post.invariant.limits;
       promised = all_pushed c.loop-post.threads.items _ c.in-Ok.thread
-          (λ t. t.promise.max_job_size ≡ c.args.max_job_size) c.in-Ok-push.ensures.items c.loop-post.invariant.promised
+          (λ t. t.promise.max_job_size ≡ c.args.max_job_size) c.push_reserved.ensures.items c.loop-post.invariant.promised
           (ap (λ promise. promise.max_job_size) c.in-Ok.ensures.ok ∙ limit);
     }
