@@ -1,5 +1,6 @@
 pub mod Finds
 pub mod InTurn
+pub mod Lent
 pub mod Looks
 pub mod Outstanding
 pub mod Past

@@ -4,9 +4,11 @@
 #![tactic(auto)]
 
 pub use bq_job::LineEnd;
+pub use byte_buffer::ByteBuffer;
 pub use laws::pasts_are_orderly;
 pub use machine::{Action, Event, PIECE_ROOM, SeatMachine};
 
 mod by_value;
+mod byte_buffer;
 mod laws;
 mod machine;

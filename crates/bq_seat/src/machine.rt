@@ -1,11 +1,11 @@
-//! The state machine of a connection, and the bytes that it keeps.
-ghost use Rattle.std.specs.Prelude.{◌≡◌, ◌==◌, ◌≤◌, [], ◌++◌, length, drop, not, IfOk, if◌then◌else◌};
+//! The state machine of a connection.
+ghost use Rattle.std.specs.Prelude.{◌≡◌, ◌==◌, ◌≤◌, length, not, IfOk, if◌then◌else◌};
 ghost use Rattle.bq_seat.specs.SeatParts.{asking_stage};
 
+use crate::byte_buffer::ByteBuffer;
 use bq_job::{Answer, LARGEST_BODY, LineEnd, NoMemory, Request, Step};
 use bq_wire::RequestReader;
 use std::alloc::Global;
-use std::marker::Model;
 
 /// What happened at a connection in answer to the machine's last action.
 #[derive(Debug, Drop)]
@@ -79,7 +79,7 @@ enum Stage {
 pub struct SeatMachine {
     reader: RequestReader,
     /// Bytes that came after the submitted requests.
-    kept: Kept,
+    kept: ByteBuffer<PIECE_ROOM>,
     stage: Stage,
     /// True if the end of the client's input was submitted.
     end_told: bool,
@@ -103,7 +103,7 @@ impl SeatMachine {
         ensures limit { IfOk result (λ machine. machine.reader.max_job_size ≡ max_job_size) }
     {
         let reader = RequestReader::new(alloc, max_job_size)?;
-        let kept = Kept::new(alloc)?;
+        let kept = ByteBuffer::new(alloc)?;
         Ok(SeatMachine {
             reader,
             kept,
@@ -384,96 +384,3 @@ fn stage_of(request: &Request) -> Stage
 
 /// The largest piece of bytes that can be passed in at once.
 pub const PIECE_ROOM: usize = 4096;
-
-/// Bytes that were passed in and have not been parsed. In contracts, its value is the list of these
-/// bytes.
-#[derive(Drop)]
-pub struct Kept {
-    room: Vec<u8, Global>,
-    from: usize,
-    to: usize,
-}
-
-impl Model for Kept {
-    ghost use Rattle.std.specs.Prelude.{◌≡◌, ◌≤◌, List, ℕ, take, drop, length};
-    ghost use Rattle.bq_seat.specs.declared.machine.TheConstants.{PIECE_ROOM};
-
-    ghost Value = { List ℕ };
-
-    ghost view = { λ k. drop k.from (take k.to k.room.items) };
-
-    ghost invariant = { λ k. (k.from ≤ k.to) × (k.to ≤ length k.room.items) × (length k.room.items ≡ PIECE_ROOM) };
-}
-
-impl Kept {
-    /// Allocates room for the largest piece. Returns `NoMemory` if that fails.
-    pub fn new(alloc: Global) -> Result<Kept, NoMemory>
-        ensures { IfOk result (λ kept. kept ≡ []) }
-    {
-        match vec![in alloc; 0; PIECE_ROOM] {
-            Ok(room) => Ok(Kept {
-                room,
-                from: 0,
-                to: 0,
-            }),
-            Err(_) => Err(NoMemory),
-        }
-    }
-
-    /// Removes all bytes.
-    pub fn clear(&mut self)
-        ensures { self.new ≡ [] }
-    {
-        self.from = 0;
-        self.to = 0;
-    }
-
-    /// Returns true if no bytes are kept.
-    pub fn is_empty(&self) -> bool
-        ensures { result ≡ (length self.now == 0) }
-    {
-        self.from == self.to
-    }
-
-    /// Returns the kept bytes.
-    pub fn as_slice(&self) -> &[u8]
-        ensures { result.now ≡ self.now }
-    {
-        &self.room[self.from..self.to]
-    }
-
-    /// Replaces the kept bytes with this piece.
-    pub fn replace(&mut self, piece: &[u8])
-        requires { length piece.now ≤ PIECE_ROOM }
-        ensures { self.new ≡ piece.now }
-    {
-        write_front(&mut self.room, piece);
-        self.from = 0;
-        self.to = piece.len();
-    }
-
-    /// Replaces the kept bytes with this piece without its first `n` bytes.
-    pub fn replace_by_rest(&mut self, piece: &[u8], n: usize)
-        requires fits { length piece.now ≤ PIECE_ROOM }
-        requires within { n ≤ length piece.now }
-        ensures { self.new ≡ drop n piece.now }
-    {
-        self.replace(&piece[n..]);
-    }
-
-    /// Removes the first `n` bytes.
-    pub fn drop_front(&mut self, n: usize)
-        requires { n ≤ length self.old }
-        ensures { self.new ≡ drop n self.old }
-    {
-        self.from += n;
-    }
-}
-
-// Overwrites the first bytes of `room` with `bytes`.
-fn write_front(room: &mut [u8], bytes: &[u8])
-    requires { length bytes.now ≤ length room.old }
-    ensures { room.new ≡ bytes.now ++ drop (length bytes.now) room.old }
-{
-    room[..bytes.len()].copy_from_slice(bytes);
-}

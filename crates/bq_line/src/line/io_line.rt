@@ -4,7 +4,7 @@ ghost use Rattle.std.specs.Io.KnownBytes.{Keeps, ReadConsumes, WriteAppends};
 ghost use Rattle.bq_line.specs.LineCalls.{after_fill, after_flush, after_read, after_write};
 ghost use Rattle.bq_line.specs.Streams.{StaysOver};
 
-use crate::line::stream::{Duplex, ReadBuffer, read_by};
+use crate::line::stream::{Duplex, ReadBuffer, fill, read_by, read_through};
 use crate::line::{Line, Readiness, is_nothing_yet, note_fault};
 use boxcar::tag::{Names, Tag};
 use bq_job::LineFault;
@@ -262,7 +262,7 @@ impl<S: Duplex> BufferedLine<S> {
             ≡ after_read result buf.new (⟦<BufferedLine<S> as Line>⟧.seen self.old) }
         ensures stays { StaysOver ⟦<BufferedLine<S> as Line>⟧.lies_over self.old self.new }
     {
-        let result = self.came.read(&mut self.line.stream, buf, waits);
+        let result = read_through(&mut self.came, &mut self.line.stream, buf, waits);
         self.line.note_read(&result, buf);
         result
     }
@@ -300,7 +300,7 @@ impl<S: Duplex> Line for BufferedLine<S> {
     }
 
     fn fill(&mut self, waits: bool) -> io::Result<()> {
-        let result = self.came.fill(&mut self.line.stream, waits);
+        let result = fill(&mut self.came, &mut self.line.stream, waits);
         if let Err(e) = &result {
             self.line.note_error(e);
         }

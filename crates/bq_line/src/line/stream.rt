@@ -1,17 +1,14 @@
 //! Streams in both directions: what a line is built on, what a connection needs of a stream, the
-//! connection, and the buffer that a stream is read into.
-ghost use Rattle.std.specs.Prelude.{◌≡◌, ◌==◌, ◌≤◌, ◌<◌, ℕ, [], Bool, IfOk, OnErr, OnOk, List, None, Option, ◌++◌};
-ghost use Rattle.std.specs.Prelude.{drop, false, length, min, take, true, vec_len};
+//! connection, and how a stream is read into a buffer.
+ghost use Rattle.std.specs.Prelude.{◌≡◌, ℕ, [], Bool, OnErr, OnOk, List, None, Option, ◌++◌};
+ghost use Rattle.std.specs.Prelude.{drop, false, length, min, take, true};
 ghost use Rattle.std.specs.Io.{ReadsAtMost, WritesAtMost};
-ghost use Rattle.std.specs.Io.KnownBytes.{Consumes, IsAtEnd, Keeps, ReadConsumes, WriteAppends, prepend_known};
-ghost use Rattle.std.specs.Vec.{vec_capacity};
+ghost use Rattle.std.specs.Io.KnownBytes.{IsAtEnd, Keeps, ReadConsumes, WriteAppends, prepend_known};
 
 use super::{Readiness, copy_first};
-use bq_job::NoMemory;
-use std::alloc::Global;
+use bq_seat::ByteBuffer;
 use std::io;
 use std::io::{ErrorKind, IoSlice, Read, Write};
-use std::marker::Model;
 use std::net::TcpStream;
 use std::os::fd::{AsRawFd, RawFd};
 
@@ -409,157 +406,69 @@ impl<S: Socket> Duplex for Connection<S> {
 /// The largest number of bytes that one read of a stream takes into a buffer.
 pub const READ_ROOM: usize = 65536;
 
-/// Bytes that a stream returned and no caller has taken yet. The memory is allocated once and not
-/// touched before the first read, so an idle connection uses hardly any. In contracts, its value is
-/// the list of these bytes.
-#[derive(Drop)]
-pub struct ReadBuffer {
-    room: Vec<u8, Global>,
-    from: usize,
-    to: usize,
-}
+/// Bytes that a stream returned and no caller has taken yet.
+pub type ReadBuffer = ByteBuffer<READ_ROOM>;
 
-impl Model for ReadBuffer {
-    ghost use Rattle.std.specs.Prelude.{◌≤◌, List, ℕ, take, drop, length};
-    ghost use Rattle.std.specs.Vec.{vec_capacity};
-    ghost use Rattle.bq_line.specs.declared.line.stream.TheConstants.{READ_ROOM};
-
-    ghost Value = { List ℕ };
-
-    ghost view = { λ b. drop b.from (take b.to b.room.items) };
-
-    ghost invariant = { λ b. (b.from ≤ b.to) × (b.to ≤ length b.room.items) × (READ_ROOM ≤ vec_capacity b.room) };
-}
-
-impl ReadBuffer {
-    /// Returns an empty buffer. Returns `NoMemory` if its allocation fails.
-    pub fn new(alloc: Global) -> Result<ReadBuffer, NoMemory>
-        ensures { IfOk result (λ buffer. buffer ≡ []) }
-    {
-        match Vec::with_capacity(alloc, READ_ROOM) {
-            Ok(room) => Ok(ReadBuffer {
-                room,
-                from: 0,
-                to: 0,
-            }),
-            Err(_) => Err(NoMemory),
-        }
-    }
-
-    /// Drops all bytes.
-    pub fn clear(&mut self)
-        ensures { self.new ≡ [] }
-    {
-        self.from = 0;
-        self.to = 0;
-    }
-
-    /// Returns true if the buffer holds no bytes.
-    pub fn is_empty(&self) -> bool
-        ensures { result ≡ (length self.now == 0) }
-    {
-        self.from == self.to
-    }
-
-    /// Drops the first `n` bytes.
-    pub fn drop_front(&mut self, n: usize)
-        requires { n ≤ length self.old }
-        ensures { self.new ≡ drop n self.old }
-    {
-        self.from += n;
-    }
-
-    /// Returns the bytes in the buffer.
-    pub fn as_slice(&self) -> &[u8]
-        ensures { result.now ≡ self.now }
-    {
-        &self.room[self.from..self.to]
-    }
-
-    /// Reads the stream once if the buffer is empty. `waits` says whether that may wait for bytes.
-    #[inline(always)]
-    pub fn fill<S: Duplex>(&mut self, stream: &mut S, waits: bool) -> io::Result<()>
-        ensures bytes { Keeps (prepend_known self.old (S.remaining stream.old))
-            (prepend_known self.new (S.remaining stream.new)) }
-        ensures end { OnOk result (self.new ≡ [] → IsAtEnd (S.remaining stream.new)) }
-        ensures apart { Keeps (S.contents stream.old) (S.contents stream.new) }
-    {
-        if self.is_empty() {
-            self.refill(stream, waits)
-        } else {
-            Ok(())
-        }
-    }
-
-    /// Reads from the buffer. If it is empty, reads the stream into it once first.
-    pub fn read<S: Duplex>(
-        &mut self,
-        stream: &mut S,
-        buf: &mut [u8],
-        waits: bool,
-    ) -> io::Result<usize>
-        ensures bound { ReadsAtMost result buf.new }
-        ensures bytes { ReadConsumes (prepend_known self.old (S.remaining stream.old)) (prepend_known self.new (S.remaining stream.new))
-            result buf.new }
-        ensures apart { Keeps (S.contents stream.old) (S.contents stream.new) }
-    {
-        self.fill(stream, waits)?;
-        Ok(self.give(buf))
-    }
-
-    // Moves as many bytes as possible from the front into `buf`, and returns how many.
-    fn give(&mut self, buf: &mut [u8]) -> usize
-        ensures count { result ≡ min (length self.old) (length buf.old) }
-        ensures given { take result buf.new ≡ take result self.old }
-        ensures left { self.new ≡ drop result self.old }
-    {
-        let count = copy_first(self.as_slice(), buf);
-        self.from += count;
-        count
-    }
-
-    fn refill<S: Duplex>(&mut self, stream: &mut S, waits: bool) -> io::Result<()>
-        requires { self.old ≡ [] }
-        ensures bytes { Keeps (S.remaining stream.old)
-            (prepend_known self.new (S.remaining stream.new)) }
-        ensures end { OnOk result (self.new ≡ [] → IsAtEnd (S.remaining stream.new)) }
-        ensures apart { Keeps (S.contents stream.old) (S.contents stream.new) }
-    {
-        self.from = 0;
-        self.to = 0;
-        make_whole(&mut self.room);
-        let count = read_once(stream, &mut self.room, waits)?;
-        self.to = count;
+/// Reads the stream into the buffer once if the buffer is empty. `waits` says whether that may wait
+/// for bytes.
+#[inline(always)]
+pub fn fill<S: Duplex>(buffer: &mut ReadBuffer, stream: &mut S, waits: bool) -> io::Result<()>
+    ensures bytes { Keeps (prepend_known buffer.old (S.remaining stream.old))
+        (prepend_known buffer.new (S.remaining stream.new)) }
+    ensures end { OnOk result (buffer.new ≡ [] → IsAtEnd (S.remaining stream.new)) }
+    ensures apart { Keeps (S.contents stream.old) (S.contents stream.new) }
+{
+    if buffer.is_empty() {
+        refill(buffer, stream, waits)
+    } else {
         Ok(())
     }
 }
 
-// Extends the vector to its whole room, so that all of it can be read into.
-fn make_whole(room: &mut Vec<u8, Global>)
-    requires { READ_ROOM ≤ vec_capacity room.old }
-    ensures len { READ_ROOM ≤ vec_len room.new }
-    ensures capacity { READ_ROOM ≤ vec_capacity room.new }
-{
-    if room.len() < READ_ROOM {
-        let _fits = room.resize(READ_ROOM, 0);
-    }
-}
-
-// Reads a stream into the room once.
-#[tactic(auto, using(std::proofs::lemmas::List::with_items_is))]
-fn read_once<S: Duplex>(
+/// Reads from the buffer. If it is empty, reads the stream into it once first.
+pub fn read_through<S: Duplex>(
+    buffer: &mut ReadBuffer,
     stream: &mut S,
-    room: &mut Vec<u8, Global>,
+    buf: &mut [u8],
     waits: bool,
 ) -> io::Result<usize>
-    ensures capacity { vec_capacity room.new ≡ vec_capacity room.old }
-    ensures bound { IfOk result (λ n. n ≤ vec_len room.new) }
-    ensures bytes { IfOk result
-        (λ n. Consumes (S.remaining stream.old) (S.remaining stream.new) (take n room.new.items)) }
-    ensures end { IfOk result
-        (λ n. n ≡ 0 → 0 < vec_len room.old → IsAtEnd (S.remaining stream.new)) }
-    ensures err { OnErr result (Keeps (S.remaining stream.old) (S.remaining stream.new)) }
+    ensures bound { ReadsAtMost result buf.new }
+    ensures bytes { ReadConsumes (prepend_known buffer.old (S.remaining stream.old)) (prepend_known buffer.new (S.remaining stream.new))
+        result buf.new }
     ensures apart { Keeps (S.contents stream.old) (S.contents stream.new) }
 {
-    read_by(stream, room.as_mut_slice(), waits)
+    fill(buffer, stream, waits)?;
+    Ok(give(buffer, buf))
+}
+
+// Moves as many bytes as possible from the front of the buffer into `buf`, and returns how many.
+fn give(buffer: &mut ReadBuffer, buf: &mut [u8]) -> usize
+    ensures count { result ≡ min (length buffer.old) (length buf.old) }
+    ensures given { take result buf.new ≡ take result buffer.old }
+    ensures left { buffer.new ≡ drop result buffer.old }
+{
+    let count = copy_first(buffer.as_slice(), buf);
+    buffer.drop_front(count);
+    count
+}
+
+// Reads the stream into the whole room of an empty buffer, and keeps what came.
+fn refill<S: Duplex>(buffer: &mut ReadBuffer, stream: &mut S, waits: bool) -> io::Result<()>
+    requires { buffer.old ≡ [] }
+    ensures bytes { Keeps (S.remaining stream.old)
+        (prepend_known buffer.new (S.remaining stream.new)) }
+    ensures end { OnOk result (buffer.new ≡ [] → IsAtEnd (S.remaining stream.new)) }
+    ensures apart { Keeps (S.contents stream.old) (S.contents stream.new) }
+{
+    buffer.make_full();
+    match read_by(stream, buffer.as_mut_slice(), waits) {
+        Ok(count) => {
+            buffer.truncate(count);
+            Ok(())
+        }
+        Err(e) => {
+            buffer.clear();
+            Err(e)
+        }
+    }
 }

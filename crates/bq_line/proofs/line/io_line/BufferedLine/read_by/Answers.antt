@@ -6,8 +6,8 @@ use Rattle.bq_line.proofs.line.io_line.BufferedLine.read_by.Goals as goal
 
 pub returns-clause-stays : goal.returns-clause-stays
 returns-clause-stays g c first over =
-    let read = c.read-result in
+    let read = c.read_through-result in
     let of : g.row.S.Denot → StreamSeen =
-    λ s. record { left = prepend_known read.new.self (g.S.Duplex.remaining s); held = g.S.Duplex.contents s } in
+    λ s. record { left = prepend_known read.new.buffer (g.S.Duplex.remaining s); held = g.S.Duplex.contents s } in
     read_noted first _ (of read.new.stream) _ _ _ read.result read.new.buf _ read.auto.buf c.requires read.ensures.bytes read.ensures.apart
     c.note_read.ensures.seen (ap of c.note_read.ensures.stream) over

@@ -8,6 +8,6 @@ pub returns-in-Err-clause-stays : goal.returns-in-Err-clause-stays
 returns-in-Err-clause-stays g c first over =
     let fill = c.fill-result in
     let of : g.row.S.Denot → StreamSeen =
-    λ s. record { left = prepend_known fill.new.self (g.S.Duplex.remaining s); held = g.S.Duplex.contents s } in
+    λ s. record { left = prepend_known fill.new.buffer (g.S.Duplex.remaining s); held = g.S.Duplex.contents s } in
     failed_noted first _ (of fill.new.stream) _ _ _ c.in-Err.e fill.ensures.bytes fill.ensures.apart c.note_error.ensures.seen
     (ap of c.note_error.ensures.stream) over

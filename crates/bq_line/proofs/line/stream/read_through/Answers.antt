@@ -1,5 +1,5 @@
 use Rattle.bq_line.proofs.BufferLemmas.{given_first}
-use Rattle.bq_line.proofs.line.stream.ReadBuffer.read.Goals as goal
+use Rattle.bq_line.proofs.line.stream.read_through.Goals as goal
 
 pub returns-clause-bytes : goal.returns-clause-bytes
 returns-clause-bytes g c =
