@@ -14,10 +14,10 @@ ghost use Rattle.bq_job.specs.declared.step.Step.TheVariants as steps;
 use crate::job_acts::{NewJob, NewTurn};
 use crate::{job_acts, kicks, statistics_acts, timers, tube_acts};
 use bq_job::{Answer, JobId, Refusal, Request, Seat, Step};
+use bq_state::changes;
 use bq_state::core_parts::CoreParts;
 use bq_state::job_store::JobKind;
 use bq_state::seats::SeatChange;
-use bq_state::{changes, counters};
 use bq_steps::Outs;
 use std::alloc::Global;
 
@@ -28,7 +28,7 @@ fn connect(state: &mut CoreParts, seat: Seat)
 {
     if state.is_free(seat) {
         changes::change_seat(state, seat, &SeatChange::Connect);
-        counters::count_connection(state);
+        changes::count_connection(state);
     }
 }
 
@@ -176,7 +176,7 @@ fn reply_to(
             }
         },
         Step::Drain => {
-            counters::start_draining(state);
+            changes::start_draining(state);
             Reply::Silent
         }
         Step::Tick | Step::Gone => Reply::Silent,

@@ -19,7 +19,7 @@ use bq_jobs::{adds_at_the_end, next_is_free};
 use bq_state::core_parts::CoreParts;
 use bq_state::job_store::{JobChange, JobTest};
 use bq_state::seats::SeatChange;
-use bq_state::{changes, counters, job_store, seats};
+use bq_state::{changes, job_store, seats};
 use std::alloc::Global;
 
 /// A new job, as its client wants it, without its body.
@@ -102,7 +102,7 @@ pub(crate) fn put(
     let id = job.id;
     next_is_free();
     adds_at_the_end();
-    counters::count_put(state);
+    changes::count_put(state);
     changes::add(state, job);
     Reply::Inserted(id)
 }
@@ -115,7 +115,7 @@ pub(crate) fn reserve(state: &mut CoreParts, seat: Seat, until: Option<Moment>)
     ensures asks { AsksAsChanged state.old.jobs state.new.jobs }
 {
     changes::note_leases(state, seat);
-    let ticket = counters::give_ticket(state);
+    let ticket = changes::give_ticket(state);
     let change = SeatChange::Wait(ticket, until);
     changes::change_seat(state, seat, &change);
 }
@@ -210,7 +210,7 @@ pub(crate) fn bury(state: &mut CoreParts, seat: Seat, id: JobId, pri: Pri, told:
         *told = Answer::NotFound;
         return;
     }
-    let number = counters::give_burial_number(state);
+    let number = changes::give_burial_number(state);
     let change = JobChange::Bury(number, pri);
     changes::change_job(state, id, &change);
     *told = Answer::Buried;

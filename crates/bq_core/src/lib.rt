@@ -8,7 +8,6 @@ pub use bq_steps::{Config, CoreFault, Outs};
 pub use step::Core;
 
 mod acts;
-mod at_once;
 mod dispatch;
 mod job_acts;
 mod kicks;

@@ -11,7 +11,7 @@ ghost use Rattle.bq_steps.specs.Outbox.{outcome_of};
 ghost use Rattle.bq_core.specs.Serving.{NoneIsGone, ServesAsking, TakesStepWithin};
 ghost use Rattle.bq_core.specs.Turns.{HasRoom};
 
-use crate::{at_once, dispatch, timers, waits};
+use crate::{dispatch, timers, waits};
 use bq_job::{LARGEST_BODY, MOST_SEATS, Moment, Seat, Step};
 use bq_state::core_parts::CoreParts;
 use bq_state::tubes::Tubes;
@@ -72,7 +72,7 @@ fn take_step(
     changes::raise_moment(state, at);
     timers::fire(state);
     serve(state, outs);
-    at_once::act_or_hand_out(state, alloc, seat, what, outs);
+    dispatch::act_or_hand_out(state, alloc, seat, what, outs);
     serve(state, outs);
 }
 

@@ -31,7 +31,7 @@ use bq_state::core_parts::CoreParts;
 use bq_state::job_store::JobChange;
 use bq_state::known::{FirstTimeout, Warns, earlier_of, first_to_give_up};
 use bq_state::seats::{SeatRecord, Turn};
-use bq_state::{changes, counters, job_store, seats};
+use bq_state::{changes, job_store, seats};
 
 // Returns the first delayed job that is due. If no job is delayed, nothing is searched.
 #[tactic(auto, using(bq_state::proofs::PartsLemmas::compared_sound))]
@@ -115,7 +115,7 @@ fn expire(state: &mut CoreParts) -> bool
     ensures asks { Asks (if result then 9 else 1) state.old.jobs state.new.jobs }
 {
     let expired = expire_first(state);
-    counters::count_timeout_if(state, expired);
+    changes::count_timeout_if(state, expired);
     expired
 }
 

@@ -5,10 +5,10 @@ use Rattle.std.specs.Map.{lookup, set_value}
 use Rattle.std.specs.BTreeMap.{is_at}
 use Rattle.bq_job.specs.declared.job.Job.{Job}
 use Rattle.bq_index.specs.Edited.{edited_if}
-use Rattle.bq_jobs.specs.declared.row.Moved.{Moved}
-use Rattle.bq_jobs.specs.declared.row.MovedRow.{MovedRow}
-use Rattle.bq_jobs.specs.declared.row.Removed.{Removed}
-use Rattle.bq_jobs.specs.declared.row.Standing.{Standing}
+use Rattle.bq_jobs.specs.declared.rows.Moved.{Moved}
+use Rattle.bq_jobs.specs.declared.rows.MovedRow.{MovedRow}
+use Rattle.bq_jobs.specs.declared.rows.Removed.{Removed}
+use Rattle.bq_jobs.specs.declared.rows.Standing.{Standing}
 use Rattle.bq_jobs.specs.Names.{number_in}
 
 abbrev pub standing : Job → Standing

@@ -2,10 +2,10 @@
 use Rattle.std.specs.Prelude.{Option, ℕ}
 use Rattle.std.specs.Option.{option_map}
 use Rattle.bq_job.specs.declared.job.Job.{Job}
-use Rattle.bq_jobs.specs.declared.row.Moved.{Moved}
-use Rattle.bq_jobs.specs.declared.row.MovedRow.{MovedRow}
-use Rattle.bq_jobs.specs.declared.row.Removed.{Removed}
-use Rattle.bq_jobs.specs.declared.row.Standing.{Standing}
+use Rattle.bq_jobs.specs.declared.rows.Moved.{Moved}
+use Rattle.bq_jobs.specs.declared.rows.MovedRow.{MovedRow}
+use Rattle.bq_jobs.specs.declared.rows.Removed.{Removed}
+use Rattle.bq_jobs.specs.declared.rows.Standing.{Standing}
 use Rattle.bq_jobs.specs.Changed.{moved_in}
 use Rattle.bq_jobs.specs.Names.{number_in}
 use Rattle.bq_jobs.specs.Numbering.{Numbering, name_of}

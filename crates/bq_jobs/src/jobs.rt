@@ -21,8 +21,7 @@ ghost use Rattle.bq_jobs.specs.Places.{held_by, list_of};
 ghost use Rattle.bq_jobs.specs.Ranks.{first_held, first_timed, id_in};
 
 use super::places::{Group, JobList, Timer};
-use super::row::{self, JobEdit, Moved, MovedRow, Removed, Row, Standing};
-use super::rows::Rows;
+use super::rows::{self, JobEdit, Moved, MovedRow, Removed, Row, Rows, Standing};
 use super::tubes::{NumberedTubes, TubeNumber};
 use bq_index::BoxSource;
 use bq_job::{Body, Job, JobId, Moment, NoMemory, Seat, TubeName};
@@ -134,7 +133,7 @@ impl NumberedJobs {
         ensures comparisons { ComparesAtMost 4 self.old self.new }
     {
         if let Some(number) = self.tubes.number_of(&job.tube) {
-            self.rows.add(job.id, row::row_of(job, number));
+            self.rows.add(job.id, rows::row_of(job, number));
         }
     }
 
@@ -437,7 +436,7 @@ fn job_of(tubes: &NumberedTubes, id: JobId, row: Option<Row>) -> Option<Job>
     let row = row?;
     match tubes.name_of(row.tube.get()) {
         None => None,
-        Some(tube) => Some(row::job_of(id, row, *tube)),
+        Some(tube) => Some(rows::job_of(id, row, *tube)),
     }
 }
 

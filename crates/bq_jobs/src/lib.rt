@@ -18,14 +18,13 @@
 
 pub use jobs::{NumberedJobs, adds_at_the_end, chosen_has_its_id, next_is_free};
 pub use named_jobs::Jobs;
-pub use row::{JobEdit, Moved, Removed, Row, Standing};
+pub use rows::{JobEdit, Moved, Removed, Row, Standing};
 pub use tubes::TubeNumber;
 
 mod jobs;
 mod named_group;
 mod named_jobs;
 mod places;
-mod row;
 mod rows;
 mod timers;
 mod tubes;

@@ -8,7 +8,7 @@ ghost use Rattle.std.specs.Prelude.{◌≡◌, ◌<◌, ◌^◌};
 ghost use Rattle.bq_jobs.specs.Places.{group_place, held_by, list_of, timer_place};
 
 use super::places::{self, JobList, ShelfPlace, Timer};
-use super::row::Standing;
+use super::rows::Standing;
 use bq_job::{Job, JobId, JobState, Seat, TubeName};
 use std::cmp::Ordering;
 use std::marker::Model;

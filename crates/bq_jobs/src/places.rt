@@ -10,7 +10,7 @@ ghost use Rattle.bq_index.specs.Shelf.{ComparesFew};
 ghost use Rattle.bq_jobs.specs.PlaceOrder.{ComparesTwice, first_rank, holds_place, with_place, without_place};
 ghost use Rattle.std.specs.Option.{ForSome};
 
-use super::row::{Row, Standing};
+use super::rows::{Row, Standing};
 use super::tubes::TubeNumber;
 use bq_index::{BoxSource, Shelf};
 use bq_job::{JobId, JobState, NoMemory, Seat};

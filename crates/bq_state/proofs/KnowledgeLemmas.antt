@@ -6,7 +6,7 @@ use Rattle.std.specs.List.{AllByRecursion as All, list_any}
 use Rattle.bq_job.specs.{declared.job.Job.Job, machine.{SeatRecord, TubeRecord, empty_seat, greatest, is_ready, is_ready_state, is_waiting}}
 use Rattle.bq_job.specs.machine.{is_seated_at, job_with, next_job, numbers, seat_with, tube_after_timers, watches, watching}
 use Rattle.bq_job.specs.{reading.TubeName.is_same_name}
-use Rattle.bq_jobs.specs.{Changed.{moved_by, with_changed}, declared.row.Moved.Moved, Kept.{with_added, without}}
+use Rattle.bq_jobs.specs.{Changed.{moved_by, with_changed}, declared.rows.Moved.Moved, Kept.{with_added, without}}
 use Rattle.bq_state.specs.declared.{core_parts.CoreParts.CoreParts, job_store.JobChange.JobChange}
 use Rattle.bq_state.specs.declared.{seats.SeatChange.SeatChange, tubes.entry.{Moving.TheVariants.{Comes, Goes}, TubeChange.TubeChange}}
 use Rattle.bq_state.specs.{Clients.{clients_with, clients_without}, CoreParts.machine_of}

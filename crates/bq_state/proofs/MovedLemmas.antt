@@ -5,7 +5,7 @@ use Rattle.std.proofs.lemmas.Grind.{common_steps}
 use Rattle.std.specs.List.{list_any}
 use Rattle.bq_job.specs.{declared.job.Job.Job, beside.AreIdsWithin, machine.{SeatRecord, TubeRecord, greatest, is_ready_state, job_with}}
 use Rattle.bq_job.specs.{reading.TubeName.is_same_name}
-use Rattle.bq_jobs.specs.declared.row.Moved.{Moved}
+use Rattle.bq_jobs.specs.declared.rows.Moved.{Moved}
 use Rattle.bq_jobs.specs.{Changed.{IgnoresTube, KeepsId, KeepsTube, moved_by, with_changed}, Kept.{with_added, without}}
 use Rattle.bq_jobs.proofs.Changes.{changed as changed_by_id, found_id}
 use Rattle.bq_state.specs.declared.known.{maybe_gone.MaybeGone.MaybeGone, wanted.Wanted.Wanted, tally.Tally.Tally, warns.Warns.Warns}

@@ -1,7 +1,7 @@
 -- Records of tubes whose counts are those of jobs and of seats.
 use Rattle.std.specs.Prelude.{◌≡◌, List, Option, ℕ, filter, map}
 use Rattle.bq_job.specs.{declared.job.Job.Job, machine.SeatRecord}
-use Rattle.bq_jobs.specs.declared.row.Removed.{Removed}
+use Rattle.bq_jobs.specs.declared.rows.Removed.{Removed}
 use Rattle.bq_state.specs.declared.known.{maybe_gone.MaybeGone.MaybeGone, tally.Tally.Tally}
 use Rattle.bq_state.specs.declared.tubes.entry.{Crowd.Crowd, Moving.Moving, Share.Share, TubeChange.TheVariants.{CountDelete, CountPut}}
 use Rattle.bq_state.specs.{Crowds.{crowds_at, crowds_at_all, crowds_of, crowds_provided, crowds_recounted_for}, KeptTubes.KeptTubes}

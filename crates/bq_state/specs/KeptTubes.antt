@@ -5,8 +5,8 @@ use Rattle.std.specs.Prelude.{◌&&◌, ◌++◌, ◌∷◌, if◌then◌else◌
 use Rattle.bq_index.specs.Edited.{edited_if}
 use Rattle.bq_job.specs.declared.job.Job.{Job}
 use Rattle.bq_job.specs.machine.{Pause, TubeRecord, default_tube, fresh_tube, pause_after_timers, raised, tube_after_timers}
-use Rattle.bq_jobs.specs.declared.row.Moved.{Moved}
-use Rattle.bq_jobs.specs.declared.row.Removed.{Removed}
+use Rattle.bq_jobs.specs.declared.rows.Moved.{Moved}
+use Rattle.bq_jobs.specs.declared.rows.Removed.{Removed}
 use Rattle.bq_state.specs.declared.{known.tally.Tally.Tally, tubes.entry.{Crowd.Crowd, Moving.Moving}}
 use Rattle.bq_state.specs.declared.tubes.entry.{Share.Share, TubeChange.{TubeChange, TheVariants.{CountDelete, CountPut}}}
 use Rattle.bq_state.specs.{Crowds.{has_seats, no_crowd, recounted}}

@@ -1,8 +1,8 @@
 -- What is known without a search: that it is true, and how it changes.
 use Rattle.std.specs.Prelude.{◌≡◌, if◌then◌else◌, Bool, List, None, Option, [], ℕ, not}
 use Rattle.bq_job.specs.{declared.job.Job.Job, machine.{SeatRecord, TubeRecord}}
-use Rattle.bq_jobs.specs.declared.row.Moved.{Moved}
-use Rattle.bq_jobs.specs.declared.row.Removed.{Removed}
+use Rattle.bq_jobs.specs.declared.rows.Moved.{Moved}
+use Rattle.bq_jobs.specs.declared.rows.Removed.{Removed}
 use Rattle.bq_state.specs.declared.{known.Known.Known, seats.SeatChange.SeatChange, tubes.entry.{Share.Share, TubeChange.TubeChange}}
 use Rattle.bq_state.specs.{Clients.{clients_of, clients_with, clients_without}, Crowds.AreCrowds, Leaving.gone_of}
 use Rattle.bq_state.specs.{Dues.{first_pause_end, pause_end_after, pause_end_left}, MaybeGoneTubes.{AreAlive, with_gone, with_existing}}

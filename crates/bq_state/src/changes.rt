@@ -1,5 +1,6 @@
-//! Operations that change the state of a core.
-ghost use Rattle.std.specs.Prelude.{◌≡◌, ◌&&◌, ◌<◌, ◌≤◌, OnErr, [], None, true, false, fold, is_some, length, map, nat_lt, if◌then◌else◌, IfOk};
+//! Operations that change the state of a core: its jobs, seats and tubes, the counts of what happened,
+//! and the numbers that are given out in order.
+ghost use Rattle.std.specs.Prelude.{◌≡◌, ◌+◌, ◌&&◌, ◌<◌, ◌≤◌, OnErr, [], None, true, false, fold, is_some, length, map, nat_le, nat_lt, if◌then◌else◌, IfOk};
 ghost use Rattle.std.specs.List.{list_any};
 ghost use Rattle.bq_job.specs.beside.NameOrder.{is_in_order};
 ghost use Rattle.bq_job.specs.machine.Changes.{is_held_by, is_ready_state, is_waiting, job_with, seat_with, with_job, with_seat};
@@ -9,7 +10,8 @@ ghost use Rattle.bq_job.specs.reading.TubeName.{is_same_name};
 ghost use Rattle.bq_job.specs.machine.Timers.{at_moment};
 ghost use Rattle.bq_job.specs.machine.TubeOrder.{tubes};
 ghost use Rattle.bq_job.specs.machine.Tubes.{forgetting, watches, with_tube};
-ghost use Rattle.bq_job.specs.machine.JobCommands.{with_put};
+ghost use Rattle.bq_job.specs.machine.JobCommands.{last_id, with_put};
+ghost use Rattle.bq_job.specs.machine.Limits.{grown, raised};
 ghost use Rattle.bq_jobs.specs.Kept.{ComparesAtMost, with_added};
 ghost use Rattle.bq_state.specs.Asking.{Asks};
 ghost use Rattle.bq_state.specs.Crowds.{may_wait};
@@ -40,6 +42,9 @@ use bq_job::{Job, JobId, JobState, Moment, NoMemory, Seat, TubeName};
 use bq_jobs::{Moved, NumberedJobs};
 use bq_steps::Config;
 use std::alloc::Global;
+
+// The last id that is given out. Its put makes the core drain, so the next id always fits.
+const LAST_ID: JobId = u64::MAX - 1;
 
 /// Makes room for a job if there is none. Returns `NoMemory` if an allocation fails; then nothing
 /// has changed.
@@ -320,6 +325,65 @@ pub fn forget_tubes(state: &mut CoreParts)
         .tubes
         .forget_gone(&mut state.jobs, &state.known.maybe_gone);
     state.known.forget_tubes(entries, &state.tubes);
+}
+
+/// Counts a connection that was opened.
+pub fn count_connection(state: &mut CoreParts)
+    ensures { held state.new ≡ record (held state.old) { connections = raised state.old.connections } }
+{
+    state.connections = state.connections.saturating_add(1);
+}
+
+/// Rejects puts from now on.
+pub fn start_draining(state: &mut CoreParts)
+    ensures { held state.new ≡ record (held state.old) { draining = true } }
+{
+    state.draining = true;
+}
+
+/// Counts a put, and gives the next id out.
+#[tactic(auto, using(crate::proofs::PartsLemmas::sound_given))]
+pub fn count_put(state: &mut CoreParts)
+    requires accepts { state.old.draining ≡ false }
+    ensures { held state.new ≡ record (held state.old)
+        { next_id = state.old.next_id + 1; puts = raised state.old.puts; draining = nat_le last_id state.old.next_id } }
+{
+    state.draining = state.next_id >= LAST_ID;
+    state.next_id += 1;
+    state.puts = state.puts.saturating_add(1);
+}
+
+/// Returns the next ticket, for a client that begins to wait.
+pub fn give_ticket(state: &mut CoreParts) -> u64
+    ensures ticket { result ≡ raised state.old.tickets }
+    ensures after { held state.new ≡ record (held state.old) { tickets = raised state.old.tickets } }
+{
+    state.tickets = state.tickets.saturating_add(1);
+    state.tickets
+}
+
+/// Returns the next burial number, for a job that is buried.
+pub fn give_burial_number(state: &mut CoreParts) -> u64
+    ensures number { result ≡ raised state.old.burials }
+    ensures after { held state.new ≡ record (held state.old) { burials = raised state.old.burials } }
+{
+    state.burials = state.burials.saturating_add(1);
+    state.burials
+}
+
+// Returns 1 if something happened, otherwise 0.
+fn times(happened: bool) -> u64
+    ensures { result ≡ (if happened then 1 else 0) }
+{
+    if happened { 1 } else { 0 }
+}
+
+/// Counts an expired reservation, if one has expired.
+pub fn count_timeout_if(state: &mut CoreParts, has_expired: bool)
+    ensures { held state.new ≡ record (held state.old)
+        { timeouts = grown (if has_expired then 1 else 0) state.old.timeouts } }
+{
+    state.timeouts = state.timeouts.saturating_add(times(has_expired));
 }
 
 /// Sets the current moment. A moment below the last one counts as the last one.

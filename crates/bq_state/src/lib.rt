@@ -7,7 +7,6 @@
 
 pub mod changes;
 pub mod core_parts;
-pub mod counters;
 pub mod job_store;
 pub mod known;
 pub mod name_lists;

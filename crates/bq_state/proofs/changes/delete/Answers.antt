@@ -4,7 +4,7 @@ use Rattle.bq_job.specs.machine.{job_with, with_delete}
 use Rattle.bq_job.proofs.KeptLemmas.{ids_of_filter}
 use Rattle.bq_jobs.specs.Changed.{removed_from}
 use Rattle.bq_jobs.specs.Kept.{Kept, without}
-use Rattle.bq_jobs.specs.declared.row.Removed.{Removed}
+use Rattle.bq_jobs.specs.declared.rows.Removed.{Removed}
 use Rattle.bq_jobs.proofs.Changes.{found_id, without_none}
 use Rattle.bq_jobs.proofs.Told.{nothing_told_of, told_of}
 use Rattle.bq_state.specs.declared.tubes.entry.TubeChange.TheVariants.{CountDelete}

@@ -3,7 +3,7 @@ use Rattle.bq_job.specs.machine.{raised, reserved_by, seat_with, with_job, Machi
 use Rattle.bq_state.specs.{CoreParts.{machine_held, machine_of}, SeatStates.is_asking, WantedJobs.is_nothing}
 use Rattle.bq_core.specs.AtOnce.{is_reserve}
 use Rattle.bq_core.proofs.{AskLemmas.{asks_more, asks_then}, AtOnceLemmas.{asking_client, given_at_once}}
-use Rattle.bq_core.proofs.at_once.reserve.Goals as goal
+use Rattle.bq_core.proofs.dispatch.reserve.Goals as goal
 
 pub returns-clause-given : goal.returns-clause-given
 returns-clause-given c _ =

@@ -5,7 +5,7 @@ use Rattle.bq_jobs.specs.Kept.{Kept}
 use Rattle.bq_state.specs.{Asking.AsksAsChanged, CoreParts.machine_of, Cost.waited}
 use Rattle.bq_core.specs.{Acting.Acts, Turns.HasRoom}
 use Rattle.bq_core.proofs.{AskLemmas.{asks_more, asks_none}, AtOnceLemmas.looked_then, TurnLemmas.gives_nothing}
-use Rattle.bq_core.proofs.at_once.act_or_hand_out.Goals as goal
+use Rattle.bq_core.proofs.dispatch.act_or_hand_out.Goals as goal
 
 pub returns-then-reserve : goal.returns-then-reserve
 returns-then-reserve c = c.if-reserve.ensures.given refl
