@@ -19,7 +19,7 @@ use Rattle.bq_event_loop.specs.EventLoopRuns.{IsEventLoopRun}
 use Rattle.bq_event_loop.specs.declared.run.EventLoopRun.{EventLoopRun}
 use Rattle.bq_run.specs.ThreadRuns.{IsRunOf}
 use Rattle.bq_run.specs.declared.run.Run.{Run}
-use Rattle.bq_steps.specs.Limits.{are_in_range}
+use Rattle.bq_core_api.specs.Limits.{are_in_range}
 use Rattle.bq_cli.specs.declared.telling_clock.TellingClock.{TellingClock}
 
 -- a door that accepts TCP connections

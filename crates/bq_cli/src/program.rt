@@ -6,9 +6,9 @@ ghost use Rattle.bq_cli.specs.declared.logging.Logging.{Logging};
 
 use crate::watched::listen_and_serve;
 use bq_core::Core;
+use bq_core_api::QueueCore;
 use bq_line::control_line::ControlReader;
 use bq_program::{BqdOptions, OptionFault, Program, Stop, bqd_options, tell_stop, words};
-use bq_steps::QueueCore;
 use std::io::{BufReader, Eprint, Print, Read};
 use std::net::{Net, TcpListener, TcpStream};
 use std::rt::{Clock, Env};

@@ -8,11 +8,12 @@ ghost use Rattle.bq_cli.specs.Servers.{IsStatusOfServer, IsStatusOfThreads, MayR
 ghost use Rattle.bq_cli.specs.Servers.{came_of_doors, came_of_loop, came_of_run, settings_of};
 ghost use Rattle.bq_event_loop.specs.EventLoopRuns.{IsEventLoopRun};
 ghost use Rattle.bq_run.specs.ThreadRuns.{IsRunOf};
-ghost use Rattle.bq_steps.specs.Limits.{are_in_range};
+ghost use Rattle.bq_core_api.specs.Limits.{are_in_range};
 
 use crate::ending::Ending;
 use crate::telling_clock::TellingClock;
 use bq_core::{Config, Core};
+use bq_core_api::QueueCore;
 use bq_event_loop::{EventLoopRun, run_event_loop};
 use bq_host::RunFault;
 use bq_job::NoMemory;
@@ -21,7 +22,6 @@ use bq_line::line::ReadBuffer;
 use bq_line::{Door, FreeDoors, Refusals, TcpDoor, clock};
 use bq_program::{Fault, Need, Options, Program, tell_cannot_listen, tell_server};
 use bq_run::{Run, run_threads};
-use bq_steps::QueueCore;
 use std::alloc::Global;
 use std::io;
 use std::io::{Eprint, Print};

@@ -12,7 +12,7 @@ use Rattle.bq_job.specs.{machine.{with_tube, Machine.Machine}, reading.TubeName.
 use Rattle.bq_job.specs.declared.answer.Answer.TheVariants as answers
 use Rattle.bq_job.specs.declared.step.Step.TheVariants as steps
 use Rattle.bq_job.proofs.ListLemmas.{found_passes}
-use Rattle.bq_steps.specs.Outbox.{Outbox}
+use Rattle.bq_core_api.specs.Outbox.{Outbox}
 use Rattle.bq_jobs.proofs.Changes.{found_id}
 use Rattle.bq_state.specs.{JobChanges.is_passed_by, SeatChanges.AreNumbered, SeatStates.{is_asking, is_connected, is_free}}
 use Rattle.bq_state.proofs.{PartsLemmas.{changed_there, seat_there}, TubeLemmas.some_left}

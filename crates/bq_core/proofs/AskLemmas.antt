@@ -3,7 +3,7 @@ use Rattle.std.proofs.Common.{◌*◌, ◌+◌, ◌<◌, ◌≡◌, ◌≤◌, L
 use Rattle.std.proofs.{lemmas.{Grind.common_steps, List.Sums.sum_by_more, Nat.mul-le}, Math.Nat.add-mul}
 use Rattle.std.specs.List.{sum_by}
 use Rattle.bq_index.specs.Digits.{binary_digits}
-use Rattle.bq_steps.specs.Cost.{changed_jobs}
+use Rattle.bq_core_api.specs.Cost.{changed_jobs}
 use Rattle.bq_jobs.specs.Kept.{ComparesAtMost, Kept}
 use Rattle.bq_jobs.proofs.Counting.{digits_rise}
 use Rattle.bq_state.specs.Asking.{Asks, AsksAsChanged, AsksWithin, search_among}

@@ -11,7 +11,7 @@ use Rattle.bq_job.specs.declared.answer.Answer.TheVariants as answers
 use Rattle.bq_job.specs.declared.request.Request.TheVariants as requests
 use Rattle.bq_job.specs.declared.step.Step.TheVariants as steps
 use Rattle.bq_job.proofs.{KeptLemmas.only_seat, QuietLemmas.forgets_nothing}
-use Rattle.bq_steps.specs.{Cost.changed_jobs, Outbox.Outbox}
+use Rattle.bq_core_api.specs.{Cost.changed_jobs, Outbox.Outbox}
 use Rattle.bq_jobs.specs.{Kept.Kept, Seen.IsBodyOf}
 use Rattle.bq_state.specs.declared.{core_parts.CoreParts.CoreParts, known.wanted.Wanted.TheVariants.{Client, Nothing}}
 use Rattle.bq_state.specs.declared.{seats.SeatChange.TheVariants.Wait}

@@ -8,7 +8,7 @@ use Rattle.bq_job.specs.machine.{is_held_by, is_reserved, job_with, kicked, with
 use Rattle.bq_job.specs.{beside.{AreIdsWithin, waiting_count}, declared.job.{Job.Job, JobState.JobState}}
 use Rattle.bq_job.specs.declared.job.JobState.TheVariants as states
 use Rattle.bq_job.proofs.{DispatchLemmas.turn_of, LawfulLemmas.end_of, ListLemmas.count_cons, LookupLemmas.job_in_map}
-use Rattle.bq_steps.specs.{Cost.{changed_jobs, is_gone_or_changed, is_same_job, tubes_watched}, Outbox.Outbox}
+use Rattle.bq_core_api.specs.{Cost.{changed_jobs, is_gone_or_changed, is_same_job, tubes_watched}, Outbox.Outbox}
 use Rattle.bq_jobs.proofs.Changes.{all_found}
 use Rattle.bq_state.specs.{Cost.waited_tubes, declared.job_store.JobKind.JobKind, JobKinds.is_of}
 use Rattle.bq_core.specs.{Kicking.all_kicked, Turns.Gives}

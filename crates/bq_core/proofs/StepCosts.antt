@@ -7,7 +7,7 @@ use Rattle.bq_job.specs.{declared.step.Step.Step, beside.waiting_count}
 use Rattle.bq_job.specs.machine.{DispatchTurn, GivenAnswer, SeatRecord, Serves, WaitEndTurn, has_refused_share}
 use Rattle.bq_job.specs.machine.{is_waiting, next_end, next_job, without_wait, Machine.Machine}
 use Rattle.bq_job.proofs.LawfulLemmas.{leaves_acted}
-use Rattle.bq_steps.specs.{Cost.{IsStepWithin, changed_jobs, ripening, tubes_watched, watched_tubes}, Outbox.Outbox}
+use Rattle.bq_core_api.specs.{Cost.{IsStepWithin, changed_jobs, ripening, tubes_watched, watched_tubes}, Outbox.Outbox}
 use Rattle.bq_jobs.specs.Kept.{Kept}
 use Rattle.bq_state.specs.declared.core_parts.CoreParts.{CoreParts}
 use Rattle.bq_state.specs.{Asking.{Asks, AsksByTurn, AsksWithin, search_among}, CoreParts.machine_of, Cost.{waited, waited_tubes}}

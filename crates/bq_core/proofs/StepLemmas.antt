@@ -12,7 +12,7 @@ use Rattle.bq_job.specs.{beside.{IsLawful, waiting_count}, declared.{job.Job.Job
 use Rattle.bq_job.proofs.{DispatchLemmas.turn_of, KeptLemmas.{Keeps, kept_of_lawful}}
 use Rattle.bq_job.proofs.LawfulLemmas.{end_of, kept_of_timers, leaves_acted, length_addressed, only_tubes, seats_many, served}
 use Rattle.bq_job.proofs.{ListLemmas.list_all_agree, QuietLemmas.forgets_nothing}
-use Rattle.bq_steps.specs.Outbox.{Outbox}
+use Rattle.bq_core_api.specs.Outbox.{Outbox}
 use Rattle.bq_state.specs.{CoreParts.machine_of, declared.core_parts.CoreParts.CoreParts}
 use Rattle.bq_core.specs.{Acting.Acts, AtOnce.waiting_at, Serving.{NoneIsGone, ServesInto}, Turns.{Gives, HasRoom, none_refused}}
 use Rattle.bq_core.proofs.TurnLemmas.{chain_joined, refused_joined, room_kept}

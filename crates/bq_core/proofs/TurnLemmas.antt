@@ -9,7 +9,7 @@ use Rattle.bq_job.specs.{beside.waiting_count, declared.{answer.Answer.Answer, f
 use Rattle.bq_job.specs.machine.{with_job, with_seat, without_wait, Machine.Machine}
 use Rattle.bq_job.specs.declared.answer.Answer.TheVariants as answers
 use Rattle.bq_job.proofs.{ChoiceLemmas.first_of_none_passes, ComputedLemmas.{next_seat_waits, waiting_falls}}
-use Rattle.bq_steps.specs.Outbox.{Outbox}
+use Rattle.bq_core_api.specs.Outbox.{Outbox}
 use Rattle.bq_core.specs.{HandOuts.{AddsHandOut, HandsOut}, Turns.{Gives, HasRoom, none_refused}, WaitEnds.AddsWaitEnd}
 
 -- a hand-out makes the client stop waiting, whether the reference was given or not

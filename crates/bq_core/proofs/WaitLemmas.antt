@@ -12,7 +12,7 @@ use Rattle.bq_job.proofs.ChoiceLemmas.{first_of_none_passes, first_of_passes, pa
 use Rattle.bq_job.proofs.{ComputedLemmas.waiting_falls, KeptLemmas.only_seat, ChoiceLemmas.pair_other, ListLemmas.one_or_none}
 use Rattle.bq_job.proofs.ListLemmas.{all_always, all_at, all_from_members, all_of_map, count_cons}
 use Rattle.bq_job.proofs.ListLemmas.{found_passes, list_any_not, list_any_with, none_pass}
-use Rattle.bq_steps.specs.Outbox.{Outbox}
+use Rattle.bq_core_api.specs.Outbox.{Outbox}
 use Rattle.bq_state.specs.declared.core_parts.CoreParts.{CoreParts}
 use Rattle.bq_state.specs.{CoreParts.machine_of, EndingWaits.{AreLookedAt, is_after, left_after, told_at_end, turn_of, waits_after}}
 use Rattle.bq_state.proofs.PartsLemmas.{seat_read, some_at}

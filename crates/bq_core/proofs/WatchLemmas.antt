@@ -7,7 +7,7 @@ use Rattle.bq_job.specs.machine.{Effect, Memory, SeatRecord, acted, after_close,
 use Rattle.bq_job.specs.machine.{empty_seat, is_waiting, numbers, with_end, with_seat, Machine.Machine}
 use Rattle.bq_job.proofs.{CommandKinds.kind_of, EachEvent.{IsSeat, each_acted}, EffectKinds.Kind, KeptLemmas.only_seat}
 use Rattle.bq_job.proofs.ListLemmas.{all_always, all_pass, all_weaker, count_cons}
-use Rattle.bq_steps.specs.Cost.{tubes_watched, watched_tubes}
+use Rattle.bq_core_api.specs.Cost.{tubes_watched, watched_tubes}
 use Rattle.bq_state.specs.Cost.{waited, waited_tubes}
 
 sum_no_more : {X : Type 0} (f g : X → ℕ) (xs : List X) → All (λ x. f x ≤ g x) xs → sum_by f xs ≤ sum_by g xs

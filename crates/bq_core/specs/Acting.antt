@@ -3,7 +3,7 @@ use Rattle.std.specs.Prelude.{◌&&◌, ◌++◌, ◌||◌, ◌≡◌, Bool, IsT
 use Rattle.bq_job.specs.{declared.{answer.Answer.Answer, step.Step.Step}, machine.{Effect, Memory, acted, addressed, is_growth_refused}}
 use Rattle.bq_job.specs.declared.answer.Answer.TheVariants as answers
 use Rattle.bq_job.specs.machine.{is_possible, is_share_refused, may_be_left_out, shares_body, Machine.Machine}
-use Rattle.bq_steps.specs.Outbox.{Outbox}
+use Rattle.bq_core_api.specs.Outbox.{Outbox}
 use Rattle.bq_core.specs.declared.acts.Reply.{Reply, TheVariants.{Deleted, Inserted, LeftOut, Silent, Told, Unshared}}
 
 -- The outcome of a request. It had this effect, with this answer; or it was skipped because an

@@ -5,7 +5,7 @@ use Rattle.bq_job.specs.machine.{DispatchTurn, forgetting, has_refused_share, ra
 use Rattle.bq_job.specs.declared.request.Request.TheVariants as requests
 use Rattle.bq_job.specs.declared.step.Step.TheVariants as steps
 use Rattle.bq_jobs.specs.Kept.{Kept}
-use Rattle.bq_steps.specs.{Cost.changed_jobs, Outbox.Outbox}
+use Rattle.bq_core_api.specs.{Cost.changed_jobs, Outbox.Outbox}
 use Rattle.bq_state.specs.{Asking.{Asks, AsksWithin}, Cost.waited}
 use Rattle.bq_core.specs.{Acting.Acts, Turns.Gives}
 

@@ -3,7 +3,7 @@ use Rattle.std.specs.{Option.option_map, Prelude.{◌++◌, ◌||◌, ◌∷◌,
 use Rattle.bq_job.specs.declared.{fault.NoMemory.NoMemory, job.Job.Job}
 use Rattle.bq_job.specs.machine.{GivenAnswer, IsHandOut, SeatRecord, is_out_of_memory, next_job, next_seat}
 use Rattle.bq_job.specs.machine.{reserved_by, with_job, with_seat, without_wait, Machine.Machine}
-use Rattle.bq_steps.specs.Outbox.{Outbox}
+use Rattle.bq_core_api.specs.Outbox.{Outbox}
 
 -- the client at this seat gets the next job, if there is one
 abbrev pub IsPicked : Machine → ℕ → Type 0

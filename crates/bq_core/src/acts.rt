@@ -13,12 +13,12 @@ ghost use Rattle.bq_job.specs.declared.step.Step.TheVariants as steps;
 
 use crate::job_acts::{NewJob, NewTurn};
 use crate::{job_acts, kicks, statistics_acts, timers, tube_acts};
+use bq_core_api::Outs;
 use bq_job::{Answer, JobId, Refusal, Request, Seat, Step};
 use bq_state::changes;
 use bq_state::core_parts::CoreParts;
 use bq_state::job_store::JobKind;
 use bq_state::seats::SeatChange;
-use bq_steps::Outs;
 use std::alloc::Global;
 
 fn connect(state: &mut CoreParts, seat: Seat)

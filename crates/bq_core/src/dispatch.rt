@@ -26,6 +26,7 @@ ghost use Rattle.bq_core.specs.Turns.{Gives, HasRoom};
 ghost use Rattle.bq_core.specs.Serving.{IsLastTurn, NoneIsGone};
 
 use crate::acts;
+use bq_core_api::Outs;
 use bq_job::{Answer, Body, JobId, NoMemory, Request, Seat, Step, TubeName};
 use bq_jobs::NumberedJobs;
 use bq_state::core_parts::CoreParts;
@@ -34,7 +35,6 @@ use bq_state::known::Wanted;
 use bq_state::seats::{SeatChange, SeatRecord, Turn};
 use bq_state::tubes::Tubes;
 use bq_state::{changes, seats};
-use bq_steps::Outs;
 use std::alloc::Global;
 
 // A client that watches more tubes than this waits first, so that a look that finds no job costs

@@ -3,7 +3,7 @@ ghost use Rattle.bq_job.specs.declared.job.Job.{Job};
 ghost use Rattle.bq_job.specs.machine.JobCommands.{after_kick, kick_effect, kickable, kicked};
 ghost use Rattle.bq_state.specs.Asking.{Asks, AsksAsChanged};
 ghost use Rattle.bq_state.specs.Searching.{Searches};
-ghost use Rattle.bq_steps.specs.Cost.{changed_jobs};
+ghost use Rattle.bq_core_api.specs.Cost.{changed_jobs};
 ghost use Rattle.bq_state.specs.JobKinds.{is_of};
 ghost use Rattle.bq_core.specs.Kicking.{KicksFirst, jobs_of};
 ghost use Rattle.bq_core.specs.Replying.{RepliesAt};

@@ -4,7 +4,7 @@
 //! `bq_state` contains its state and the operations on it. This crate decides what happens when.
 #![tactic(auto)]
 
-pub use bq_steps::{Config, CoreFault, Outs};
+pub use bq_core_api::{Config, CoreFault, Outs};
 pub use step::Core;
 
 mod acts;

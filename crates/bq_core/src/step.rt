@@ -4,20 +4,20 @@ ghost use Rattle.bq_job.specs.beside.Lawful.{IsLawful};
 ghost use Rattle.bq_job.specs.machine.Machine.{new_machine};
 ghost use Rattle.bq_job.specs.beside.NextDue.{next_due};
 ghost use Rattle.bq_job.specs.machine.Steps.{IsStep};
-ghost use Rattle.bq_steps.specs.Cost.{IsLookWithin, IsStepWithin};
-ghost use Rattle.bq_steps.specs.Limits.{is_body_size, is_job_limit, is_seat_count};
+ghost use Rattle.bq_core_api.specs.Cost.{IsLookWithin, IsStepWithin};
+ghost use Rattle.bq_core_api.specs.Limits.{is_body_size, is_job_limit, is_seat_count};
 ghost use Rattle.bq_state.specs.CoreParts.{machine_of};
-ghost use Rattle.bq_steps.specs.Outbox.{outcome_of};
+ghost use Rattle.bq_core_api.specs.Outbox.{outcome_of};
 ghost use Rattle.bq_core.specs.Serving.{NoneIsGone, ServesAsking, TakesStepWithin};
 ghost use Rattle.bq_core.specs.Turns.{HasRoom};
 
 use crate::{dispatch, timers, waits};
+use bq_core_api::{Config, CoreFault, Outs, QueueCore};
 use bq_job::{LARGEST_BODY, MOST_SEATS, Moment, Seat, Step};
 use bq_state::core_parts::CoreParts;
 use bq_state::tubes::Tubes;
 use bq_state::waiting::Waiting;
 use bq_state::{changes, seats};
-use bq_steps::{Config, CoreFault, Outs, QueueCore};
 use std::alloc::Global;
 use std::marker::Model;
 

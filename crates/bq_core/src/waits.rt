@@ -17,13 +17,13 @@ ghost use Rattle.bq_core.specs.Serving.{IsLastTurn};
 ghost use Rattle.bq_core.specs.Turns.{Gives, HasRoom, none_refused};
 ghost use Rattle.bq_core.specs.WaitEnds.{EndsWait, LooksAt};
 
+use bq_core_api::Outs;
 use bq_job::{Answer, JobId, Moment, Seat};
 use bq_jobs::NumberedJobs;
 use bq_state::core_parts::CoreParts;
 use bq_state::known::{self, FirstTimeout};
 use bq_state::seats::{SeatChange, Turn};
 use bq_state::{changes, seats};
-use bq_steps::Outs;
 
 // Returns true if a moment was found and comes within a second.
 fn is_soon(found: Option<(Moment, JobId)>, moment: Moment) -> bool

@@ -7,7 +7,7 @@ use Rattle.bq_job.specs.declared.step.Step.{Step}
 use Rattle.bq_job.specs.machine.Dispatch.{GivenAnswer}
 use Rattle.bq_job.specs.machine.Machine.{Machine}
 use Rattle.bq_job.specs.promise.Runs.{answers_to}
-use Rattle.bq_steps.specs.Outbox.{Outbox}
+use Rattle.bq_core_api.specs.Outbox.{Outbox}
 use Rattle.bq_host.specs.Timed.{IsReady, PassesOver}
 use Rattle.bq_host.specs.declared.timed_core.TimedCore.{TimedCore}
 use Rattle.std.specs.Prelude.{slice_index_or}

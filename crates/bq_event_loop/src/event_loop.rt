@@ -1,18 +1,18 @@
 //! The run by an event loop over epoll.
 ghost use Rattle.std.specs.Prelude.{◌≡◌, ◌↔◌, ◌&&◌, ◌==◌, true, false, not, IfOk, IsErrOf, IsTrue, vec_len};
 ghost use Rattle.std.specs.List.{All};
-ghost use Rattle.bq_steps.specs.Limits.{are_in_range};
+ghost use Rattle.bq_core_api.specs.Limits.{are_in_range};
 ghost use Rattle.bq_line.specs.Tending.{AreSame, IsNewDoor, door_seen};
 ghost use Rattle.bq_event_loop.specs.EventLoopRuns.{IsEventLoopRun};
 
 use crate::poller::Poller;
 use crate::run::{EventLoopRun, run_turns};
+use bq_core_api::{Config, QueueCore};
 use bq_host::RunFault;
 use bq_line::Door;
 use bq_line::clock::Clock;
 use bq_line::control_line::ControlReader;
 use bq_line::line::Line;
-use bq_steps::{Config, QueueCore};
 use std::alloc::Global;
 use std::net::Net;
 use std::os::fd::RawFd;

@@ -11,6 +11,7 @@ ghost use Rattle.bq_line.specs.Tending.{GoesOn, IsPlaced, MayEndAt, door_seen};
 ghost use Rattle.bq_host.specs.MailStates.{IsInOrder};
 ghost use Rattle.bq_event_loop.specs.LoopCores.{WentAt, state_of};
 
+use bq_core_api::{Config, QueueCore};
 use bq_host::{Mail, RunFault, TimedCore, new_mails};
 use bq_job::{Answer, NoMemory, Seat, Step};
 use bq_line::Door;
@@ -19,7 +20,6 @@ use bq_line::buffers::Buffers;
 use bq_line::clock::Clock;
 use bq_line::line::Line;
 use bq_seat::Action;
-use bq_steps::{Config, QueueCore};
 use std::alloc::Global;
 use std::collections::VecDeque;
 
@@ -43,7 +43,7 @@ pub struct LoopCore<C, K> {
 impl<C: Clock + Drop, K: QueueCore + Drop> LoopCore<C, K> {
     ghost use Rattle.bq_job.specs.beside.NextDue.{is_before, next_due};
     ghost use Rattle.bq_host.specs.MailStates.{IsNewMailState, IsSorted};
-    ghost use Rattle.bq_steps.specs.Limits.{are_in_range};
+    ghost use Rattle.bq_core_api.specs.Limits.{are_in_range};
     ghost use Rattle.bq_line.specs.Links.{TakesInPlace, as_submitted};
 
     /// Returns a new core of a loop. All memory but that for jobs and answers is allocated here.

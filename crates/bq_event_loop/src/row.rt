@@ -1,7 +1,7 @@
 //! The seats of a run, each with its door.
 ghost use Rattle.std.specs.Prelude.{◌≡◌, ◌<◌, ℕ, List, [], true, length, IfOk, IsTrue, vec_len};
 ghost use Rattle.std.specs.List.{All};
-ghost use Rattle.bq_steps.specs.Limits.{is_body_size};
+ghost use Rattle.bq_core_api.specs.Limits.{is_body_size};
 ghost use Rattle.bq_line.specs.Tending.{DoorSeen, IsNewSeat, IsPlaced, Tends, door_seen};
 
 use bq_job::NoMemory;

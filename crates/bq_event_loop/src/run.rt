@@ -1,7 +1,7 @@
 //! The run of many doors by one thread that owns the core.
 ghost use Rattle.std.specs.Prelude.{◌≡◌, ◌↔◌, ◌&&◌, ◌==◌, true, false, not, length, IfOk, IsErrOf, IsTrue, vec_len};
 ghost use Rattle.std.specs.List.{All};
-ghost use Rattle.bq_steps.specs.Limits.{are_in_range};
+ghost use Rattle.bq_core_api.specs.Limits.{are_in_range};
 ghost use Rattle.bq_line.specs.Tending.{AreSame, IsNewDoor, IsNewSeat, door_seen};
 ghost use Rattle.bq_event_loop.specs.EventLoopRuns.{IsEventLoopRun};
 ghost use Rattle.bq_event_loop.specs.LoopCores.{state_of};
@@ -12,6 +12,7 @@ use crate::loop_core::LoopCore;
 use crate::row::{Row, new_seats};
 use crate::serve::serve;
 use crate::turns::{Turns, TurnsFault};
+use bq_core_api::{Config, QueueCore};
 use bq_host::RunFault;
 use bq_job::steps_keep_settings;
 use bq_line::Door;
@@ -20,7 +21,6 @@ use bq_line::buffers::Buffers;
 use bq_line::clock::Clock;
 use bq_line::control_line::{ControlLine, ControlReader};
 use bq_line::line::Line;
-use bq_steps::{Config, QueueCore};
 use std::alloc::Global;
 use std::sync::Wait;
 

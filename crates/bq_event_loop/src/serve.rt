@@ -13,6 +13,7 @@ use crate::control_turns::ControlTurns;
 use crate::loop_core::{LoopCore, attend};
 use crate::row::Row;
 use crate::turns::{ControlReads, News, Turn, Turns};
+use bq_core_api::QueueCore;
 use bq_job::Seat;
 use bq_line::Door;
 use bq_line::attendant::Progress;
@@ -20,7 +21,6 @@ use bq_line::buffers::Buffers;
 use bq_line::clock::Clock;
 use bq_line::control_line::ControlInput;
 use bq_line::line::Line;
-use bq_steps::QueueCore;
 use std::sync::Wait;
 
 /// Serves all seats and the control line, one turn at a time, until every seat is done and the control line is over.

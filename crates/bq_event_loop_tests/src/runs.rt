@@ -6,6 +6,7 @@ use crate::script::Limits;
 use crate::script_door::{Cut, ScriptDoor, doors};
 use crate::together::Together;
 use bq_core::Core;
+use bq_core_api::Config;
 use bq_event_loop::{ControlReads, EventLoopRun, TurnsFault, run_turns};
 use bq_host::RunFault;
 use bq_job::{Moment, USUAL_BODY};
@@ -14,7 +15,6 @@ use bq_serve_tests::clients::{Client, Outcome, STILL, clock};
 use bq_serve_tests::control::{Control, Gives, control};
 use bq_serve_tests::settings::config;
 use bq_serve_tests::worked::opens_of;
-use bq_steps::Config;
 use std::alloc::Global;
 use std::sync::Wait;
 

@@ -4,7 +4,7 @@ use Rattle.std.proofs.Common.{◌++◌, refl, sym, ap, ◌∙◌, subst, arith, 
 use Rattle.bq_job.specs.machine.Dispatch.{GivenAnswer}
 use Rattle.bq_job.specs.machine.Machine.{Machine}
 use Rattle.bq_job.specs.promise.Runs.{Entry}
-use Rattle.bq_steps.specs.Cost.{IsLookWithin}
+use Rattle.bq_core_api.specs.Cost.{IsLookWithin}
 use Rattle.bq_host.specs.Compared.{AreWithin, IsEntryWithin, LooksOnce}
 
 -- without a query for the next due moment, nothing was compared

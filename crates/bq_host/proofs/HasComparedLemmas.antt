@@ -5,7 +5,7 @@ use Rattle.bq_job.specs.machine.Dispatch.{GivenAnswer}
 use Rattle.bq_job.specs.machine.Machine.{Machine}
 use Rattle.bq_job.specs.machine.Steps.{Outcome}
 use Rattle.bq_job.specs.promise.Runs.{Entry}
-use Rattle.bq_steps.specs.Cost.{IsLookWithin, IsStepWithin}
+use Rattle.bq_core_api.specs.Cost.{IsLookWithin, IsStepWithin}
 use Rattle.bq_host.specs.Compared.{AreCompared, AreWithin, LooksOnce}
 use Rattle.bq_host.proofs.ComparedLemmas.{looked_within, within_on}
 use Rattle.bq_host.specs.{MailStates.MailState, Went.HasCompared}

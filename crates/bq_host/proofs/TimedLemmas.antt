@@ -2,7 +2,7 @@
 use Rattle.std.proofs.Common.{◌≡◌, ℕ, true, Option, ◌∙◌, ap}
 use Rattle.bq_job.specs.beside.NextDue.{next_due}
 use Rattle.bq_job.specs.machine.Machine.{Machine}
-use Rattle.bq_steps.specs.Cost.{IsLookWithin}
+use Rattle.bq_core_api.specs.Cost.{IsLookWithin}
 use Rattle.bq_host.specs.Compared.{LooksOnce}
 use Rattle.bq_host.specs.Timed.{HasLooked}
 use Rattle.bq_host.specs.declared.timed_core.TimedCore.{TimedCore}

@@ -9,8 +9,8 @@ use Rattle.bq_job.specs.machine.Dispatch.{GivenAnswer}
 use Rattle.bq_job.specs.machine.Machine.{Machine}
 use Rattle.bq_job.specs.promise.History.{is_tick}
 use Rattle.bq_line.specs.GivenReadings.{GaveReadings}
-use Rattle.bq_steps.specs.Cost.{IsLookWithin, IsStepWithin}
-use Rattle.bq_steps.specs.Outbox.{Outbox}
+use Rattle.bq_core_api.specs.Cost.{IsLookWithin, IsStepWithin}
+use Rattle.bq_core_api.specs.Outbox.{Outbox}
 use Rattle.bq_host.specs.Clocks.{Gives}
 use Rattle.bq_host.specs.MailStates.{MailState, mail_state}
 use Rattle.bq_host.specs.Timed.{HasLooked, LooksAndSteps, PassesOver, TakesStep}

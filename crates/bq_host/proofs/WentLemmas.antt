@@ -16,7 +16,7 @@ use Rattle.bq_job.specs.promise.Runs.{Entry, Run, answers_to}
 use Rattle.bq_job.proofs.OneClientLemmas.{answers_append}
 use Rattle.bq_job.proofs.RunLemmas.{run_append, run_from, run_none}
 use Rattle.bq_line.specs.GivenReadings.{GaveReadings}
-use Rattle.bq_steps.specs.Cost.{IsLookWithin, IsStepWithin}
+use Rattle.bq_core_api.specs.Cost.{IsLookWithin, IsStepWithin}
 use Rattle.bq_host.specs.Compared.{LooksOnce}
 use Rattle.bq_host.specs.MailStates.{MailState, IsInOrder, IsNewMailState, IsSorted, waiting}
 use Rattle.bq_host.specs.Went.{CoreWent, SeatWent}

@@ -4,7 +4,7 @@ use Rattle.bq_job.specs.machine.Dispatch.{GivenAnswer}
 use Rattle.bq_job.specs.machine.Machine.{Machine}
 use Rattle.bq_job.specs.machine.Steps.{Outcome}
 use Rattle.bq_job.specs.promise.Runs.{Entry}
-use Rattle.bq_steps.specs.Cost.{IsLookWithin, IsStepWithin}
+use Rattle.bq_core_api.specs.Cost.{IsLookWithin, IsStepWithin}
 
 -- The core was asked for the next due moment at most once, and then took the step of this entry.
 -- Both stayed within their bounds of comparisons.

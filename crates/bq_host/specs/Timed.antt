@@ -7,7 +7,7 @@ use Rattle.bq_job.specs.machine.Machine.{Machine, new_machine}
 use Rattle.bq_job.specs.machine.Steps.{Outcome}
 use Rattle.bq_job.specs.promise.History.{moment_heard}
 use Rattle.bq_line.specs.GivenReadings.{GaveReadings}
-use Rattle.bq_steps.specs.Cost.{IsLookWithin, IsStepWithin}
+use Rattle.bq_core_api.specs.Cost.{IsLookWithin, IsStepWithin}
 use Rattle.bq_host.specs.Clocks.{Gives}
 use Rattle.bq_host.specs.Compared.{LooksOnce}
 use Rattle.bq_host.specs.declared.timed_core.HeardClock.{HeardClock}

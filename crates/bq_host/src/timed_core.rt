@@ -2,16 +2,16 @@
 ghost use Rattle.std.specs.Prelude.{ℕ, ◌≡◌, ◌<◌, ◌↔◌, ◌+◌, [], false, not, true, IfOk, IsErrOf, IsTrue};
 ghost use Rattle.bq_job.specs.beside.NextDue.{is_before, next_due};
 ghost use Rattle.bq_job.specs.machine.Machine.{new_machine};
-ghost use Rattle.bq_steps.specs.Limits.{are_in_range};
-ghost use Rattle.bq_steps.specs.Cost.{IsLookWithin};
+ghost use Rattle.bq_core_api.specs.Limits.{are_in_range};
+ghost use Rattle.bq_core_api.specs.Cost.{IsLookWithin};
 ghost use Rattle.bq_host.specs.Compared.{LooksOnce};
 ghost use Rattle.bq_host.specs.Timed.{HasHeard, HearsDue, IsNewTimed, IsReady, LooksAndSteps, OnlyHears, PassesOver, TakesStep};
 
 use crate::fault::RunFault;
 use crate::notices::{Concern, Notices, concern_of};
+use bq_core_api::{Config, CoreFault, Outs, QueueCore};
 use bq_job::{Moment, Seat, Step};
 use bq_line::clock::{Clock, moment_heard};
-use bq_steps::{Config, CoreFault, Outs, QueueCore};
 use std::alloc::Global;
 
 /// A clock, and the moment that its readings so far amount to.

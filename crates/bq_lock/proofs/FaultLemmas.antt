@@ -3,7 +3,7 @@ use Rattle.std.proofs.Common.{◌≡◌, ◌==◌, ◌&&◌, Bool, ℕ, true, fa
 use Rattle.std.specs.Prelude.{◌↔◌, IsErrOf, IsTrue, Result, Ok, Err}
 use Rattle.std.proofs.lemmas.Bool.{cases_Bool, eq-eqb}
 use Rattle.bq_job.specs.declared.settings.Settings.{Settings}
-use Rattle.bq_steps.specs.Limits.{are_in_range, is_body_size, is_job_limit, is_seat_count}
+use Rattle.bq_core_api.specs.Limits.{are_in_range, is_body_size, is_job_limit, is_seat_count}
 use Rattle.bq_host.specs.declared.fault.RunFault.{RunFault}
 use Rattle.bq_host.specs.declared.fault.RunFault.TheVariants.{BadConfiguration}
 

@@ -10,7 +10,7 @@ use Rattle.bq_lock.specs.contracts.locked.Locked as Locked
 use Rattle.bq_lock.specs.contracts.locked.journal.Journal as Journal
 use Rattle.bq_lock.specs.contracts.locked.outboxes.Outboxes as Outboxes
 use Rattle.bq_lock.specs.contracts.locked_desk.LockedDesk as LockedDesk
-use Rattle.bq_steps.proofs.SendLemmas.{outs_sends}
+use Rattle.bq_core_api.proofs.SendLemmas.{outs_sends}
 use Rattle.std.proofs.Crossing as Crossing
 
 outboxes_sends : IsSend (Outboxes.the_field).row

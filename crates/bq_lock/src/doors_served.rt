@@ -1,7 +1,7 @@
 //! The threads of a run around one lock, one for each door.
 ghost use Rattle.std.specs.Prelude.{◌≡◌, ◌≤◌, map, reverse, IfOk, IfSome, IsErrOf, IsTrue, vec_capacity, vec_len};
 ghost use Rattle.std.specs.List.{All};
-ghost use Rattle.bq_steps.specs.Limits.{is_body_size};
+ghost use Rattle.bq_core_api.specs.Limits.{is_body_size};
 ghost use Rattle.bq_lock.specs.LockedRuns.{IsServedToEnd};
 ghost use Rattle.bq_line.specs.Tending.{AreSame, IsNewDoor, door_seen};
 

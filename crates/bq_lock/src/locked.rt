@@ -1,6 +1,6 @@
 //! The content of the one lock of a server.
 ghost use Rattle.std.specs.Prelude.{◌≡◌, ◌↔◌, IfOk, IsErrOf, IsTrue, not};
-ghost use Rattle.bq_steps.specs.Limits.{are_in_range};
+ghost use Rattle.bq_core_api.specs.Limits.{are_in_range};
 ghost use Rattle.bq_job.specs.beside.NextDue.{next_due};
 ghost use Rattle.bq_lock.specs.LockedState.{IsLawfulHold, new_locked, oldest_for, without_oldest};
 ghost use Rattle.bq_lock.specs.LockedSteps.{TakesStep};

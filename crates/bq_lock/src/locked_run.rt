@@ -1,7 +1,7 @@
 //! A run around one lock, with a thread for each door.
 ghost use Rattle.std.specs.Prelude.{◌≡◌, ◌↔◌, ◌&&◌, ◌==◌, not, IfOk, IsErrOf, IsTrue, vec_len};
 ghost use Rattle.std.specs.List.{All};
-ghost use Rattle.bq_steps.specs.Limits.{are_in_range};
+ghost use Rattle.bq_core_api.specs.Limits.{are_in_range};
 ghost use Rattle.bq_lock.specs.LockedRuns.{IsServedToEnd};
 ghost use Rattle.bq_lock.specs.LockedState.{IsLawfulHold};
 ghost use Rattle.bq_line.specs.Tending.{AreSame, IsNewDoor, door_seen};

@@ -1,7 +1,7 @@
 //! A seat with its door, for a thread of its own.
 ghost use Rattle.std.specs.Prelude.{◌≡◌, IfOk, IfSome, IsTrue, false, []};
 ghost use Rattle.std.specs.List.{All};
-ghost use Rattle.bq_steps.specs.Limits.{is_body_size};
+ghost use Rattle.bq_core_api.specs.Limits.{is_body_size};
 ghost use Rattle.bq_seat.specs.Past.{Awaited};
 ghost use Rattle.bq_seat.specs.SeatStands.{awaited};
 ghost use Rattle.bq_lock.specs.LockedRuns.{IsServedToEnd};

@@ -4,7 +4,7 @@ use Rattle.std.proofs.Common.{◌∷◌, ◌++◌, Some, map, length, refl, sym,
 use Rattle.std.specs.Prelude.{◌↔◌, IsErrOf, IsTrue, Result}
 use Rattle.std.proofs.lemmas.Bool.{eq-eqb}
 use Rattle.bq_job.specs.declared.settings.Settings.{Settings}
-use Rattle.bq_steps.specs.Limits.{are_in_range}
+use Rattle.bq_core_api.specs.Limits.{are_in_range}
 use Rattle.std.specs.List.{All}
 use Rattle.std.proofs.lemmas.List.{length-append}
 use Rattle.bq_line.specs.Tending.{DoorSeen, IsDoorServed}

@@ -8,8 +8,8 @@ use Rattle.bq_job.specs.declared.step.Step.TheVariants.{Tick}
 use Rattle.bq_job.specs.machine.Machine.{Machine}
 use Rattle.bq_job.specs.machine.Steps.{IsStep}
 use Rattle.bq_job.specs.promise.History.{moment_heard}
-use Rattle.bq_steps.specs.Cost.{IsLookWithin}
-use Rattle.bq_steps.specs.Outbox.{Outbox}
+use Rattle.bq_core_api.specs.Cost.{IsLookWithin}
+use Rattle.bq_core_api.specs.Outbox.{Outbox}
 use Rattle.bq_host.specs.Clocks.{Gives}
 use Rattle.bq_host.specs.Timed.{HasHeard, HasLooked, IsReady, LooksAndSteps, PassesOver}
 use Rattle.bq_host.specs.declared.timed_core.HeardClock.{HeardClock}

@@ -19,7 +19,7 @@ use Rattle.bq_link.specs.EndStates.{CoreState, sent_to}
 use Rattle.bq_link.specs.NewEnds.{IsNewCore}
 use Rattle.bq_link.specs.Submissions.{AreBelow, steps_of}
 use Rattle.bq_link.proofs.SubmissionLemmas.{below_push, of_other, of_own}
-use Rattle.bq_steps.specs.Cost.{IsLookWithin, IsStepWithin}
+use Rattle.bq_core_api.specs.Cost.{IsLookWithin, IsStepWithin}
 use Rattle.bq_host.specs.Compared.{AreWithin, IsEntryWithin, LooksOnce}
 use Rattle.bq_host.proofs.ComparedLemmas.{looked_within, within_on}
 use Rattle.bq_run.specs.CoreWork.{HasGone, IsCoreDone, no_ticks, steps_made}

@@ -15,9 +15,9 @@ mod gone_ends;
 mod sender;
 mod yielding;
 
+use bq_core_api::{Outs, QueueCore};
 use bq_line::clock::Clock;
 use bq_link::{CoreEnd, Intake, NoTicks};
-use bq_steps::{Outs, QueueCore};
 use core_driver::CoreDriver;
 use std::alloc::Global;
 use std::sync::Wait;

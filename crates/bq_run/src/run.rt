@@ -1,11 +1,12 @@
 //! Many doors, each served by a thread of its own.
 ghost use Rattle.std.specs.Prelude.{◌≡◌, ◌↔◌, ◌++◌, ◌∷◌, ◌&&◌, ◌==◌, [], false, true, not, map, IfOk, IsErrOf, IsTrue, vec_len};
 ghost use Rattle.std.specs.List.{All};
-ghost use Rattle.bq_steps.specs.Limits.{are_in_range};
+ghost use Rattle.bq_core_api.specs.Limits.{are_in_range};
 ghost use Rattle.bq_line.specs.Tending.{AreSame, IsNewDoor, door_seen};
 ghost use Rattle.bq_run.specs.Linked.{ArePaired, AreSettled, AreStill, IsCoreStill};
 ghost use Rattle.bq_run.specs.ThreadRuns.{IsRunOf};
 
+use bq_core_api::{Config, QueueCore};
 use bq_host::{RunFault, Start};
 use bq_job::steps_keep_settings;
 use bq_line::Door;
@@ -13,7 +14,6 @@ use bq_line::clock::Clock;
 use bq_line::control_line::{ControlLine, ControlReader};
 use bq_line::line::Line;
 use bq_link::{CoreEnd, Intake, NoTicks, SeatEnd, links};
-use bq_steps::{Config, QueueCore};
 use core_post::NewCore;
 use new_posts::new_posts;
 use posts::{Ended, EndedEnds};

@@ -1,6 +1,6 @@
 -- The settings of a run.
 use Rattle.std.specs.Prelude.{Bool, ◌&&◌, ◌==◌}
-use Rattle.bq_steps.specs.Limits.{are_in_range}
+use Rattle.bq_core_api.specs.Limits.{are_in_range}
 use Rattle.bq_job.specs.declared.settings.Settings.{Settings}
 
 -- one seat, and every other setting in its range

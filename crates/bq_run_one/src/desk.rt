@@ -23,7 +23,7 @@ pub struct Desk<C> {
 impl<C: Clock + Drop> Desk<C> {
     ghost use Rattle.bq_host.specs.MailStates.{IsInOrder, IsNewMailState, IsSorted};
     ghost use Rattle.bq_run_one.specs.DeskOf.{IsStuck, WentAt, state_of};
-    ghost use Rattle.bq_steps.specs.Limits.{are_in_range};
+    ghost use Rattle.bq_core_api.specs.Limits.{are_in_range};
     ghost use Rattle.bq_line.specs.Links.{Submits, as_submitted};
     ghost use Rattle.std.specs.Prelude.{if◌then◌else◌};
 

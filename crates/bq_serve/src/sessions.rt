@@ -1,17 +1,17 @@
 //! The run over doors by threads, with the core of `bq_core`.
 ghost use Rattle.std.specs.Prelude.{◌≡◌, ◌↔◌, ◌&&◌, ◌==◌, false, true, not, IfOk, IsErrOf, IsTrue, vec_len};
 ghost use Rattle.std.specs.List.{All};
-ghost use Rattle.bq_steps.specs.Limits.{are_in_range};
+ghost use Rattle.bq_core_api.specs.Limits.{are_in_range};
 ghost use Rattle.bq_line.specs.Tending.{AreSame, IsNewDoor, door_seen};
 ghost use Rattle.bq_run.specs.ThreadRuns.{IsRunOf};
 
 use bq_core::{Config, Core};
+use bq_core_api::QueueCore;
 use bq_host::RunFault;
 use bq_line::Door;
 use bq_line::clock::Clock;
 use bq_line::control_line::ControlReader;
 use bq_line::line::Line;
-use bq_steps::QueueCore;
 use std::alloc::Global;
 use std::sync::Wait;
 use std::thread::Threads;

@@ -1,7 +1,7 @@
 //! The settings of the runs.
 ghost use Rattle.std.specs.Prelude.{◌≡◌};
 
-use bq_steps::Config;
+use bq_core_api::Config;
 
 /// Returns a configuration with this many seats, this limit of body sizes, and the usual other
 /// settings.

@@ -2,7 +2,7 @@
 use Rattle.std.specs.Prelude.{◌*◌, ◌+◌, ◌-◌, ◌≡◌, ◌≤◌, ℕ, length, max}
 use Rattle.bq_index.specs.Digits.{binary_digits}
 use Rattle.bq_jobs.specs.Kept.{Kept}
-use Rattle.bq_steps.specs.{Cost.changed_jobs, Outbox.Outbox}
+use Rattle.bq_core_api.specs.{Cost.changed_jobs, Outbox.Outbox}
 
 -- twice the number of binary digits of a little more than twice the jobs: the most comparisons that
 -- one search among them takes

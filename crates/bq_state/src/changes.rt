@@ -38,9 +38,9 @@ use crate::tubes::{Moving, TubeChange, Tubes};
 use crate::waiting::Waiting;
 use crate::watch_list::default_tube;
 use crate::{job_store, seats, shares};
+use bq_core_api::Config;
 use bq_job::{Job, JobId, JobState, Moment, NoMemory, Seat, TubeName};
 use bq_jobs::{Moved, NumberedJobs};
-use bq_steps::Config;
 use std::alloc::Global;
 
 // The last id that is given out. Its put makes the core drain, so the next id always fits.

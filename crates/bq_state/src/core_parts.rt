@@ -8,9 +8,9 @@ use crate::seats::SeatRecord;
 use crate::tubes::{Crowd, Tubes};
 use crate::waiting::Waiting;
 use crate::{job_store, seats};
+use bq_core_api::Config;
 use bq_job::{Body, Job, JobId, Moment, NoMemory, Seat, TubeName};
 use bq_jobs::NumberedJobs;
-use bq_steps::Config;
 use std::alloc::Global;
 
 /// The state of a core. Its invariants are stated here, once: code that builds or changes a state

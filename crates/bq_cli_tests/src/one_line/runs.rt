@@ -1,12 +1,12 @@
 //! Runs of one line.
 
+use bq_core_api::Config;
 use bq_host::RunFault;
 use bq_job::{Moment, NoMemory};
 use bq_line::clock::ScriptClock;
 use bq_line::line::{MemLine, Part};
 use bq_run_one::{One, run_one};
 use bq_serve_tests::clients::{clock, parts_of};
-use bq_steps::Config;
 use std::alloc::Global;
 use std::sync::Wait;
 

@@ -5,9 +5,9 @@ ghost use Rattle.bq_job.specs.promise.Runs.{answers_to};
 ghost use Rattle.bq_link.specs.EndStates.{room_for};
 ghost use Rattle.bq_link.specs.Submissions.{MayTake};
 
+use bq_core_api::Outs;
 use bq_job::{Answer, Seat, Step};
 use bq_link::{CoreEnd, Intake, NoTicks, Record};
-use bq_steps::Outs;
 use std::alloc::Global;
 use std::collections::VecDeque;
 use std::mem;

@@ -1,16 +1,16 @@
 //! The core with its end of the links and the clock, for a thread of its own.
 ghost use Rattle.std.specs.Prelude.{◌≡◌, ◌<◌, ◌+◌, ◌↔◌, [], IfOk, IfSome, IsErrOf, IsTrue, not};
 ghost use Rattle.bq_job.specs.machine.Machine.{new_machine};
-ghost use Rattle.bq_steps.specs.Limits.{are_in_range};
+ghost use Rattle.bq_core_api.specs.Limits.{are_in_range};
 ghost use Rattle.bq_link.specs.NewEnds.{IsNewCore};
 ghost use Rattle.bq_run.specs.CoreWork.{IsNewRoom};
 ghost use Rattle.bq_run.specs.Threads.{IsCoreOver};
 
 use crate::core_work::{CoreRoom, core_work};
+use bq_core_api::{Config, Outs, QueueCore};
 use bq_host::{RunFault, Start, new_core};
 use bq_line::clock::Clock;
 use bq_link::{CoreEnd, Intake, NoTicks};
-use bq_steps::{Config, Outs, QueueCore};
 use std::alloc::Global;
 use std::sync::Wait;
 

@@ -1,7 +1,7 @@
 //! The posts of a run, before its threads start.
 ghost use Rattle.std.specs.Prelude.{◌≡◌, ◌≤◌, ◌++◌, ◌∷◌, ◌+◌, [], IfOk, IsTrue, OnOk, map, reverse, vec_capacity, vec_len};
 ghost use Rattle.std.specs.List.{All};
-ghost use Rattle.bq_steps.specs.Limits.{is_body_size};
+ghost use Rattle.bq_core_api.specs.Limits.{is_body_size};
 ghost use Rattle.bq_line.specs.Tending.{IsNewDoor, door_seen};
 ghost use Rattle.bq_link.specs.NewEnds.{AreNewSeats, IsNewCore};
 ghost use Rattle.bq_run.specs.Ends.{IsNewEnd};
@@ -9,11 +9,11 @@ ghost use Rattle.bq_run.specs.Ends.{IsNewEnd};
 use crate::run::core_post::{CorePost, NewCore};
 use crate::run::posts::{ControlPost, EndPosts, Posts};
 use crate::run::seat_post::SeatPost;
+use bq_core_api::QueueCore;
 use bq_job::NoMemory;
 use bq_line::Door;
 use bq_line::clock::Clock;
 use bq_link::{CoreEnd, Intake, NoTicks, SeatEnd};
-use bq_steps::QueueCore;
 use std::alloc::Global;
 
 /// Returns the posts of a run with this core, at these ends of its links.

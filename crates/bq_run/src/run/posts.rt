@@ -5,10 +5,10 @@ ghost use Rattle.bq_run.specs.Ends.{IsNewEnd};
 
 use crate::run::core_post::CorePost;
 use crate::run::seat_post::SeatPost;
+use bq_core_api::QueueCore;
 use bq_line::Door;
 use bq_line::control_line::ControlLine;
 use bq_link::{CoreEnd, Intake, NoTicks, SeatEnd};
-use bq_steps::QueueCore;
 use std::alloc::Global;
 
 /// The control line's new end of the links.

@@ -1,6 +1,6 @@
 //! A seat with its door and its end of the links, for a thread of its own.
 ghost use Rattle.std.specs.Prelude.{◌≡◌, IfOk, IfSome, IsTrue};
-ghost use Rattle.bq_steps.specs.Limits.{is_body_size};
+ghost use Rattle.bq_core_api.specs.Limits.{is_body_size};
 ghost use Rattle.bq_seat.specs.Past.{Awaited};
 ghost use Rattle.bq_seat.specs.SeatStands.{awaited};
 ghost use Rattle.bq_line.specs.Tending.{IsDoorServed, IsNewDoor, door_seen};

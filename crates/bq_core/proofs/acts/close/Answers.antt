@@ -3,7 +3,7 @@ use Rattle.bq_job.specs.{declared.job.JobState.JobState, machine.{is_reserved, t
 use Rattle.bq_job.specs.declared.answer.Answer.TheVariants as answers
 use Rattle.bq_job.proofs.BecomeLemmas.{free_by_delay}
 use Rattle.bq_jobs.specs.Kept.{Kept}
-use Rattle.bq_steps.specs.Cost.{changed_jobs}
+use Rattle.bq_core_api.specs.Cost.{changed_jobs}
 use Rattle.bq_state.specs.declared.seats.SeatChange.TheVariants.{Clear}
 use Rattle.bq_state.specs.{Asking.AsksAsChanged, CoreParts.machine_of, SeatChanges.seat_changed}
 use Rattle.bq_core.specs.FiredTimers.{after_giving_back}

@@ -1,6 +1,6 @@
 use Rattle.std.proofs.Common.{◌*◌, ◌+◌, ap, arith, length, refl, subst, sym}
 use Rattle.bq_job.specs.machine.{Machine.Machine, DispatchTurn, has_refused_share}
-use Rattle.bq_steps.specs.Outbox.{Outbox}
+use Rattle.bq_core_api.specs.Outbox.{Outbox}
 use Rattle.bq_jobs.specs.Kept.{Kept}
 use Rattle.bq_state.specs.{Asking.AsksAsChanged, CoreParts.machine_of, Cost.waited}
 use Rattle.bq_core.specs.{Acting.Acts, Turns.HasRoom}

@@ -1,6 +1,6 @@
 use Rattle.std.proofs.{Common.{◌-◌, ap, arith, length, refl}, lemmas.Grind.common_steps}
 use Rattle.bq_job.specs.machine.{DispatchTurn, has_refused_share}
-use Rattle.bq_steps.specs.Outbox.{Outbox}
+use Rattle.bq_core_api.specs.Outbox.{Outbox}
 use Rattle.bq_state.specs.{CoreParts.machine_of, Cost.{waited, waited_tubes}}
 use Rattle.bq_core.proofs.{AskLemmas.{asks_more, asks_none, asks_then}, TurnLemmas.{gives_joined, gives_nothing, refused_joined, room_kept}}
 use Rattle.bq_core.proofs.CostLemmas.{handed_stop, no_shorter, one_longer, one_more_turn, waited_less}

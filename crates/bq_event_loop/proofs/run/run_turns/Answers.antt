@@ -1,7 +1,7 @@
 use Rattle.std.proofs.Common.{◌≡◌, ◌==◌, ◌&&◌, true, vec_len, arith, inl, inr, refl}
 use Rattle.std.proofs.lemmas.Bool.{cases_Bool, eq-eqb}
 use Rattle.bq_host.specs.declared.fault.RunFault.TheVariants.{BadConfiguration}
-use Rattle.bq_steps.specs.Limits.{are_in_range}
+use Rattle.bq_core_api.specs.Limits.{are_in_range}
 use Rattle.bq_event_loop.proofs.run.run_turns.Goals as goal
 
 pub returns-in-Err-clause-bad_configuration : goal.returns-in-Err-clause-bad_configuration

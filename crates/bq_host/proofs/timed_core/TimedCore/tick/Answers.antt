@@ -2,7 +2,7 @@ use Rattle.std.proofs.Common.{◌<◌, ◌∙◌, ap, refl, subst, sym}
 use Rattle.std.proofs.lemmas.Bool.{false≢true}
 use Rattle.bq_job.specs.declared.settings.Settings.{Settings}
 use Rattle.bq_job.specs.declared.step.Step.TheVariants.{Tick}
-use Rattle.bq_steps.specs.Cost.{IsStepWithin}
+use Rattle.bq_core_api.specs.Cost.{IsStepWithin}
 use Rattle.bq_host.specs.declared.timed_core.TimedCore.{TimedCore}
 use Rattle.bq_host.proofs.timed_core.TimedCore.tick.Goals as goal
 

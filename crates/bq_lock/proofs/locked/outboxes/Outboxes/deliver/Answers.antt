@@ -1,5 +1,5 @@
 use Rattle.std.proofs.Common.{◌≡◌, ◌∷◌, [], ℕ, List, ◌++◌, sym, ap, ◌∙◌, arith, subst}
-use Rattle.bq_steps.specs.Outbox.{Outbox}
+use Rattle.bq_core_api.specs.Outbox.{Outbox}
 use Rattle.bq_lock.proofs.DeliveryLemmas.{IsDelivering, delivering_one, items_of_ok}
 use Rattle.bq_lock.proofs.locked.outboxes.Outboxes.deliver.Goals as goal
 

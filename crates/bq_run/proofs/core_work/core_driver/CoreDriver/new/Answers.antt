@@ -1,6 +1,6 @@
 use Rattle.std.proofs.Common.{◌≡◌, ◌∙◌, ◌+◌, ◌<◌, ◌≤◌, [], ap, arith, deque_capacity, false, true≢false, length, refl, subst, sym}
 use Rattle.std.proofs.lemmas.List.{length-replicate}
-use Rattle.bq_steps.specs.Outbox.{Outbox}
+use Rattle.bq_core_api.specs.Outbox.{Outbox}
 use Rattle.bq_run.proofs.WorkedLemmas.{known_none, none_pending, worked_none}
 use Rattle.bq_run.proofs.core_work.core_driver.CoreDriver.new.Goals as goal
 

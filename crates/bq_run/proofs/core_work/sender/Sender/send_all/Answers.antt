@@ -1,5 +1,5 @@
 use Rattle.std.proofs.Common.{◌∙◌, ◌++◌, arith, ap, refl}
-use Rattle.bq_steps.specs.Outbox.{Outbox}
+use Rattle.bq_core_api.specs.Outbox.{Outbox}
 use Rattle.bq_run.proofs.SendingLemmas.{sent_before, sent_next, sent_on}
 use Rattle.bq_run.proofs.core_work.sender.Sender.send_all.Goals as goal
 

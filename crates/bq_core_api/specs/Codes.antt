@@ -1,7 +1,7 @@
 -- The numbers of faults.
 use Rattle.std.specs.Prelude.{ℕ}
-use Rattle.bq_steps.specs.declared.config.CoreFault.{CoreFault}
-use Rattle.bq_steps.specs.declared.config.CoreFault.TheVariants as faults
+use Rattle.bq_core_api.specs.declared.config.CoreFault.{CoreFault}
+use Rattle.bq_core_api.specs.declared.config.CoreFault.TheVariants as faults
 
 abbrev pub fault_code : CoreFault → ℕ
 fault_code faults.BadSeats = 302

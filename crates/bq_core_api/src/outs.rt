@@ -18,7 +18,7 @@ pub struct Outs {
 impl Model for Outs {
     ghost use Rattle.std.specs.Prelude.{◌≤◌};
     ghost use Rattle.std.specs.VecDeque.{deque_capacity};
-    ghost use Rattle.bq_steps.specs.Outbox.{Outbox};
+    ghost use Rattle.bq_core_api.specs.Outbox.{Outbox};
 
     ghost Value = { Outbox };
 

@@ -4,8 +4,8 @@ ghost use Rattle.bq_job.specs.beside.Lawful.{IsLawful};
 ghost use Rattle.bq_job.specs.beside.NextDue.{next_due};
 ghost use Rattle.bq_job.specs.machine.Machine.{Machine, new_machine};
 ghost use Rattle.bq_job.specs.machine.Steps.{IsStep};
-ghost use Rattle.bq_steps.specs.Cost.{IsLookWithin, IsStepWithin};
-ghost use Rattle.bq_steps.specs.Limits.{is_body_size, is_job_limit, is_seat_count};
+ghost use Rattle.bq_core_api.specs.Cost.{IsLookWithin, IsStepWithin};
+ghost use Rattle.bq_core_api.specs.Limits.{is_body_size, is_job_limit, is_seat_count};
 
 use crate::config::{Config, CoreFault};
 use crate::outs::Outs;

@@ -1,5 +1,5 @@
 ghost use Rattle.std.specs.Prelude.{◌≡◌};
-ghost use Rattle.bq_steps.specs.Codes.{fault_code};
+ghost use Rattle.bq_core_api.specs.Codes.{fault_code};
 
 /// The settings of a core.
 pub use bq_job::Settings as Config;
