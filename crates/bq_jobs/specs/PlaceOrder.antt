@@ -15,6 +15,10 @@ use Rattle.bq_jobs.specs.declared.places.ShelfPlace.{ShelfPlace}
 abbrev pub numbers_cmp : {G : Type 0} → ShelfPlace G → ShelfPlace G → Ordering
 numbers_cmp = then_cmp (on (λ p. p.at) nat_cmp) (on (λ p. p.id) nat_cmp)
 
+-- the number and the id of a place
+abbrev pub rank_of : {G : Type 0} → ShelfPlace G → ℕ × ℕ
+rank_of p = (p.at, p.id)
+
 module _ {G : Type 0} (compare : G → G → Ordering) where
   -- by group, then by number, then by id
   abbrev pub place_cmp : ShelfPlace G → ShelfPlace G → Ordering

@@ -268,7 +268,7 @@ pub enum Timer {
 }
 
 impl<G> ShelfPlace<G> {
-    ghost use Rattle.bq_jobs.specs.PlaceOrder.{numbers_cmp};
+    ghost use Rattle.bq_jobs.specs.PlaceOrder.{numbers_cmp, rank_of};
 
     /// Returns the place of a job in a group.
     pub(crate) fn of(group: G, at: u64, id: JobId) -> ShelfPlace<G>
@@ -279,6 +279,13 @@ impl<G> ShelfPlace<G> {
             id: Halves::of(id),
             group,
         }
+    }
+
+    /// Returns the number and the id of a place.
+    pub(crate) fn rank(&self) -> (u64, JobId)
+        ensures { result ≡ rank_of self.now }
+    {
+        (self.at.get(), self.id.get())
     }
 
     // Compares two places within a group.
@@ -425,7 +432,7 @@ pub(crate) fn first_rank<G: Ord + Drop + Copy>(
     let front = ShelfPlace::of(group, 0, 0);
     let (place, ()) = order.next_from(&front)?;
     if group.cmp(&place.group).is_eq() {
-        Some((place.at.get(), place.id.get()))
+        Some(place.rank())
     } else {
         None
     }

@@ -1,8 +1,10 @@
 //! The places of jobs among all delays and leases.
-ghost use Rattle.std.specs.Prelude.{◌≡◌, ◌+◌, ◌-◌, ◌<◌, ◌≤◌, [], length, is_some, if◌then◌else◌, IsSome, OnOk, None};
+ghost use Rattle.std.specs.Prelude.{◌≡◌, ◌==◌, ◌&&◌, ◌+◌, ◌-◌, ◌<◌, ◌≤◌, [], length, is_some, if◌then◌else◌, IsSome, OnOk, None};
 ghost use Rattle.std.specs.Option.{ForSome};
 ghost use Rattle.bq_index.specs.Shelf.{ComparesFew};
-ghost use Rattle.bq_jobs.specs.PlaceOrder.{ComparesTwice, first_rank, holds_place, with_place, without_place};
+ghost use Rattle.bq_job.specs.machine.Changes.{is_pair_before};
+ghost use Rattle.bq_jobs.specs.FirstLeases.{is_known_first, is_new_first, lease_with, lease_without};
+ghost use Rattle.bq_jobs.specs.PlaceOrder.{ComparesTwice, first_rank, holds_place, rank_of, with_place, without_place};
 ghost use Rattle.bq_jobs.specs.declared.places.Timer.TheVariants.{Lease};
 
 use super::places::{self, ShelfPlace, Timer};
@@ -21,7 +23,7 @@ pub enum FirstLease {
 /// contracts see it as that shelf.
 ///
 /// A core asks for the first lease before and after each step, but few steps change it. So it is
-/// kept until a place is added or removed.
+/// kept until its own place is removed. A lease that is added is compared with it.
 #[derive(Drop)]
 pub(crate) struct Timers {
     places: Shelf<ShelfPlace<Timer>, ()>,
@@ -90,7 +92,7 @@ impl Timers {
         ensures comparisons { ComparesFew self.old self.new }
     {
         if let Some(place) = place {
-            self.lease = FirstLease::Unknown;
+            note_added(&mut self.lease, &place);
             self.places.insert(place, ());
         }
     }
@@ -105,7 +107,7 @@ impl Timers {
         ensures comparisons { ComparesFew self.old self.new }
     {
         if let Some(place) = place {
-            self.lease = FirstLease::Unknown;
+            note_removed(&mut self.lease, &place);
             let _held = self.places.remove(&place);
         }
     }
@@ -155,4 +157,64 @@ impl Timers {
         self.lease = FirstLease::Known(first);
         first
     }
+}
+
+// Changes what is known of the first lease when a place is added. Most places leave it as it is, and
+// then nothing is written.
+fn note_added(lease: &mut FirstLease, place: &ShelfPlace<Timer>)
+    ensures { lease.new ≡ lease_with place.now.group (rank_of place.now) lease.old }
+{
+    if is_new_first(lease, place) {
+        *lease = FirstLease::Known(Some(place.rank()));
+    }
+}
+
+// Returns true if a place that is added is the first lease, as far as the first lease was known.
+fn is_new_first(lease: &FirstLease, place: &ShelfPlace<Timer>) -> bool
+    ensures { result ≡ is_new_first place.now.group (rank_of place.now) lease.now }
+{
+    match place.group {
+        Timer::Due => false,
+        Timer::Lease => match lease {
+            FirstLease::Unknown => false,
+            FirstLease::Known(None) => true,
+            FirstLease::Known(Some(first)) => is_before(place.rank(), *first),
+        },
+    }
+}
+
+// Returns true if a lease ends before another one.
+fn is_before(lease: (Moment, JobId), other: (Moment, JobId)) -> bool
+    ensures { result ≡ is_pair_before lease.0 lease.1 other.0 other.1 }
+{
+    lease.0 < other.0 || lease.0 == other.0 && lease.1 < other.1
+}
+
+// Changes what is known of the first lease when a place is removed.
+fn note_removed(lease: &mut FirstLease, place: &ShelfPlace<Timer>)
+    ensures { lease.new ≡ lease_without place.now.group (rank_of place.now) lease.old }
+{
+    if is_known_first(lease, place) {
+        *lease = FirstLease::Unknown;
+    }
+}
+
+// Returns true if a place is that of the first lease, as far as that is known.
+fn is_known_first(lease: &FirstLease, place: &ShelfPlace<Timer>) -> bool
+    ensures { result ≡ is_known_first place.now.group (rank_of place.now) lease.now }
+{
+    match place.group {
+        Timer::Due => false,
+        Timer::Lease => match lease {
+            FirstLease::Unknown | FirstLease::Known(None) => false,
+            FirstLease::Known(Some(first)) => is_same(place.rank(), *first),
+        },
+    }
+}
+
+// Returns true if two leases are one.
+fn is_same(lease: (Moment, JobId), other: (Moment, JobId)) -> bool
+    ensures { result ≡ (other.0 == lease.0 && other.1 == lease.1) }
+{
+    other.0 == lease.0 && other.1 == lease.1
 }
