@@ -8,10 +8,12 @@ ghost use Rattle.bq_run.specs.CoreWork.{IsNewRoom, RanToEnd};
 ghost use Rattle.bq_run.specs.Worked.{IsAtWork, IsInOrder};
 
 pub use core_room::CoreRoom;
+pub use polling::most_looks;
 
 mod core_driver;
 mod core_room;
 mod gone_ends;
+mod polling;
 mod sender;
 mod yielding;
 
@@ -25,7 +27,7 @@ use std::sync::Wait;
 /// Takes the steps that arrive at the core's end of the links, takes ticks when something is due,
 /// and sends each end its answers, until no end has more to submit.
 ///
-/// It takes every waiting step, polls a few times for more, and then sleeps until a step arrives or
+/// It takes every waiting step, polls for a while for more, and then sleeps until a step arrives or
 /// something is due. If the ring of an end is full, its answers are kept and tried again while
 /// others are served. There is room to keep as many answers as there are ends.
 pub fn core_work<R: Wait, C: Clock + Drop, K: QueueCore + Drop>(

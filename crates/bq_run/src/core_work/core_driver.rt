@@ -5,6 +5,7 @@ ghost use Rattle.bq_run.specs.Rests.{longest_rest};
 
 use crate::core_work::core_room::CoreRoom;
 use crate::core_work::gone_ends::GoneEnds;
+use crate::core_work::polling::Polling;
 use crate::core_work::sender::Sender;
 use crate::core_work::yielding::Yielding;
 use bq_core_api::{Outs, QueueCore};
@@ -18,24 +19,21 @@ use std::sync::Wait;
 use std::thread;
 use std::time::Duration;
 
-/// How many times it polls for a next step before it sleeps. A client that just received an answer
-/// mostly sends its next command at once, and to sleep and be woken takes longer than a few polls.
-const LOOKS: u32 = 20;
-
 /// The longest sleep, in milliseconds.
 const HOUR: u64 = 3_600_000;
 
 /// The sleep while a ring is full, in milliseconds.
 const RING_REST: u64 = 1;
 
-/// The core with its clock, its end of the links, the answers that were not sent yet, and when its
-/// thread yields.
+/// The core with its clock, its end of the links, the answers that were not sent yet, and how its
+/// thread waits: when it yields, and how often it polls.
 #[derive(Drop)]
 pub struct CoreDriver<C, K> {
     pub timed: TimedCore<C, K>,
     pub sender: Sender,
     pub gone: GoneEnds,
     pub yielding: Yielding,
+    pub polling: Polling,
 }
 
 impl<C: Clock + Drop, K: QueueCore + Drop> CoreDriver<C, K> {
@@ -78,7 +76,12 @@ impl<C: Clock + Drop, K: QueueCore + Drop> CoreDriver<C, K> {
         ensures work { IsAtWork C.given K.machine K.comparisons
             (K.machine core).settings (K.comparisons core) clock result }
     {
-        let CoreRoom { kept, aside, gone } = room;
+        let CoreRoom {
+            kept,
+            aside,
+            gone,
+            looks,
+        } = room;
         let ends = gone.len();
         CoreDriver {
             timed: TimedCore::over(alloc, core, outs, clock),
@@ -90,6 +93,7 @@ impl<C: Clock + Drop, K: QueueCore + Drop> CoreDriver<C, K> {
             },
             gone: GoneEnds::none(gone),
             yielding: Yielding::new(),
+            polling: Polling::new(looks),
         }
     }
 
@@ -293,19 +297,33 @@ impl<C: Clock + Drop, K: QueueCore + Drop> CoreDriver<C, K> {
         }
     }
 
-    // Waits until a step arrives or something is due: it polls a few times, and sleeps if it found
-    // none.
+    // Waits until a step arrives or something is due: it polls for a while, and sleeps if it found
+    // no step.
     fn await_step<R: Wait>(&mut self, rt: &R, intake: &Intake<NoTicks>)
+        requires intake { self.old.sender.end.intake ≡ intake.now.id }
+        requires order { IsInOrder K.machine self.old }
+        ensures on { WorksOn C.given K.machine K.comparisons self.old self.new }
+        ensures rest { self.new ≡ record self.old { polling = self.new.polling } }
+        ensures noted { self.new.polling.last ≡ self.old.timed.time.moment }
+    {
+        let looks = self.polling.begin(self.timed.time.moment);
+        if !self.look_often(intake, looks) {
+            self.rest(rt, intake);
+        }
+    }
+
+    // Polls up to this many times. Returns true if a step waits.
+    fn look_often(&mut self, intake: &Intake<NoTicks>, looks: u32) -> bool
         requires intake { self.old.sender.end.intake ≡ intake.now.id }
         ensures { self.new ≡ self.old }
     {
-        for _ in 0..LOOKS {
+        for _ in 0..looks {
             if !self.sender.has_none(intake) {
-                return;
+                return true;
             }
             spin_loop();
         }
-        self.rest(rt, intake);
+        false
     }
 
     // Sleeps until a step arrives or it is time to check again.
@@ -339,6 +357,7 @@ impl<C: Clock + Drop, K: QueueCore + Drop> CoreDriver<C, K> {
             sender,
             gone: _,
             yielding: _,
+            polling: _,
         } = self;
         (sender.end, timed.core, timed.time.clock)
     }

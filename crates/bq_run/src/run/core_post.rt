@@ -6,13 +6,14 @@ ghost use Rattle.bq_link.specs.NewEnds.{IsNewCore};
 ghost use Rattle.bq_run.specs.CoreWork.{IsNewRoom};
 ghost use Rattle.bq_run.specs.Threads.{IsCoreOver};
 
-use crate::core_work::{CoreRoom, core_work};
+use crate::core_work::{CoreRoom, core_work, most_looks};
 use bq_core_api::{Config, Outs, QueueCore};
 use bq_host::{RunFault, Start, new_core};
 use bq_line::clock::Clock;
 use bq_link::{CoreEnd, Intake, NoTicks};
 use std::alloc::Global;
 use std::sync::Wait;
+use std::thread::Threads;
 
 /// A new core, and what its thread needs besides.
 #[derive(Drop)]
@@ -64,7 +65,7 @@ pub struct CorePost<'a, C, K: QueueCore> {
 impl<'a, C: Clock + Drop, K: QueueCore + Drop> CorePost<'a, C, K> {
     /// Serves all ends until no end submits more steps, and returns the end, the core and the
     /// clock. Returns `None` if a thread was not started.
-    pub fn serve<R: Wait>(self, rt: &R, start: &Start) -> Option<(CoreEnd, K, C)>
+    pub fn serve<R: Threads + Wait>(self, rt: &R, start: &Start) -> Option<(CoreEnd, K, C)>
         ensures { IfSome result
             (λ r. IsCoreOver C.given self.entry.new_core.config self.entry.end self.entry.clock r.0 (K.machine r.1) (K.comparisons r.1) r.2) }
     {
@@ -82,6 +83,7 @@ impl<'a, C: Clock + Drop, K: QueueCore + Drop> CorePost<'a, C, K> {
             room,
         } = new_core;
         if start.wait(rt) {
+            let room = room.with_looks(most_looks(rt));
             Some(core_work(rt, alloc, intake, end, core, outs, room, clock))
         } else {
             None

@@ -11,12 +11,10 @@ returns-then-not-has_room-clause-on g c =
     (sym c.rest.ensures) c.send_all-has_room.ensures.on
 
 pub returns-then-not-go_on-clause-on : goal.returns-then-not-go_on-clause-on
-returns-then-not-go_on-clause-on g c =
-    subst (λ (h : CoreDriver _ _). WorksOn g.C.Clock.given g.K.QueueCore.machine g.K.QueueCore.comparisons c.args.self.now h)
-    (sym c.await_step.ensures)
+returns-then-not-go_on-clause-on g c = on_both _ _ _ c.args.self.now c.go_on.new.self c.await_step.new.self
     (on_both _ _ _ c.args.self.now c.give_way.new.self c.go_on.new.self
     (on_both _ _ _ c.args.self.now c.send_all-has_room.new.self c.give_way.new.self c.send_all-has_room.ensures.on c.give_way.ensures.on)
-    c.go_on.ensures.on)
+    c.go_on.ensures.on) c.await_step.ensures.on
 
 pub returns-else-not-go_on-clause-on : goal.returns-else-not-go_on-clause-on
 returns-else-not-go_on-clause-on g c = on_both _ _ _ c.args.self.now c.give_way.new.self c.go_on.new.self
@@ -26,7 +24,7 @@ returns-else-not-go_on-clause-on g c = on_both _ _ _ c.args.self.now c.give_way.
 pub returns-then-not-go_on-clause-stuck : goal.returns-then-not-go_on-clause-stuck
 returns-then-not-go_on-clause-stuck g c =
     let stuck = λ (h : CoreDriver _ _). AreStuck h.sender.end h.sender.kept.items in
-    subst stuck (sym c.await_step.ensures)
+    subst stuck (sym c.await_step.ensures.rest)
     (c.go_on.ensures.stuck (subst stuck (sym c.give_way.ensures.rest) c.send_all-has_room.ensures.stuck))
 
 pub returns-else-not-go_on-clause-stuck : goal.returns-else-not-go_on-clause-stuck
