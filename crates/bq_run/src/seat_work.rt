@@ -119,13 +119,51 @@ const FIRST_REST: u64 = 100;
 const LONGEST_REST: u64 = 1_000;
 
 /// How many times a seat polls for an answer before it sleeps, if the answer before came while it
-/// polled. If the core's thread is awake it answers within a few microseconds, and to sleep and be
-/// woken takes longer.
-const LOOKS: u32 = 40;
+/// polled. The core's thread then runs on another processor, and answers within a few microseconds.
+const LOOKS: u32 = 1_000;
+
+/// How many times it polls if the answer before had come when it yielded. The core's thread then
+/// mostly shares the processor, where polls are of little use.
+const SOME_LOOKS: u32 = 40;
 
 /// How many times it polls if it had to sleep for the answer before: the core's thread then sleeps
 /// between two commands, and takes longer to wake.
 const FEW_LOOKS: u32 = 2;
+
+/// After this many sleeps for answers in a row it polls `LOOKS` times once, because the core's thread
+/// may be awake between two commands by now.
+const TRY_AFTER: u8 = 8;
+
+/// How the last answer came.
+#[derive(Clone, Copy)]
+enum Arrival {
+    /// It was there when the seat had yielded.
+    AfterYield,
+    /// While the seat polled.
+    WhilePolling,
+    /// After a sleep. The number says how many sleeps in a row came before that one.
+    AfterSleep(u8),
+}
+
+impl Arrival {
+    // Returns how many times a seat polls for its next answer.
+    fn looks(self) -> u32 {
+        match self {
+            Arrival::AfterYield => SOME_LOOKS,
+            Arrival::WhilePolling => LOOKS,
+            Arrival::AfterSleep(TRY_AFTER) => LOOKS,
+            Arrival::AfterSleep(_) => FEW_LOOKS,
+        }
+    }
+
+    // Returns what is noted of the next answer if the seat sleeps for it.
+    fn after_sleep(self) -> Arrival {
+        match self {
+            Arrival::AfterSleep(many) if many < TRY_AFTER => Arrival::AfterSleep(many + 1),
+            _ => Arrival::AfterSleep(0),
+        }
+    }
+}
 
 /// How a seat waits for its next answer.
 #[derive(Clone, Copy)]
@@ -138,8 +176,8 @@ pub struct Pace {
     // take long, it does not: the miss is returned at once, so that bytes that the line holds back
     // are written first.
     sleeps: bool,
-    // Whether the last answer came while it polled.
-    is_prompt: bool,
+    // How the last answer came.
+    last: Arrival,
 }
 
 impl Pace {
@@ -149,7 +187,7 @@ impl Pace {
             rest: 0,
             looks: 1,
             sleeps: false,
-            is_prompt: false,
+            last: Arrival::AfterSleep(0),
         }
     }
 
@@ -157,19 +195,26 @@ impl Pace {
     fn after(self, step: &Step) -> Pace {
         Pace {
             rest: 0,
-            looks: if self.is_prompt { LOOKS } else { FEW_LOOKS },
+            looks: self.last.looks(),
             sleeps: !may_wait(step),
-            is_prompt: self.is_prompt,
+            last: self.last,
         }
     }
 
-    // Returns the pace after a poll. The caller notes it if the poll found an answer.
+    // Returns the pace after a poll. The caller notes it if the seat does not sleep for its answer.
     fn after_look(self) -> Pace {
         Pace {
             rest: self.rest.saturating_mul(2).clamp(FIRST_REST, LONGEST_REST),
             looks: 1,
             sleeps: false,
-            is_prompt: false,
+            last: self.last.after_sleep(),
+        }
+    }
+
+    // Notes an answer that was there before the seat polled, at this pace.
+    fn note_yield(&mut self, now: Pace) {
+        if !now.rests() {
+            self.last = Arrival::AfterYield;
         }
     }
 
@@ -271,14 +316,13 @@ fn mail_at<R: Wait>(
     *pace = now.after_look();
     sleep_or_yield(rt, intake, end, now.rest);
     if look(end, place) {
-        pace.is_prompt = !now.rests();
+        pace.note_yield(now);
         return true;
     }
     if now.rests() {
         return false;
     }
-    if look_after_yield(intake, end, now.looks, place) {
-        pace.is_prompt = true;
+    if look_after_yield(intake, end, now.looks, pace, place) {
         return true;
     }
     look_again(rt, intake, end, now.sleeps, place)
@@ -304,6 +348,7 @@ fn look_after_yield(
     intake: &Intake<NoTicks>,
     end: &mut SeatEnd,
     looks: u32,
+    pace: &mut Pace,
     place: &mut Action,
 ) -> bool
     ensures { Looks end.old place.old result place.new end.new }
@@ -311,7 +356,22 @@ fn look_after_yield(
     if !intake.are_yields_slow() {
         thread::yield_now();
     }
-    look_often(end, looks, place)
+    if look(end, place) {
+        pace.last = Arrival::AfterYield;
+        return true;
+    }
+    look_for_long(end, looks, pace, place)
+}
+
+// Polls up to this many times, and notes it if that found an answer.
+fn look_for_long(end: &mut SeatEnd, looks: u32, pace: &mut Pace, place: &mut Action) -> bool
+    ensures { Looks end.old place.old result place.new end.new }
+{
+    let found = look_often(end, looks, place);
+    if found {
+        pace.last = Arrival::WhilePolling;
+    }
+    found
 }
 
 // Polls once more, after a sleep if `sleeps` is true. An answer that was found without a sleep
