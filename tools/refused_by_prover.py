@@ -4,7 +4,7 @@
     tools/refused_by_prover.py [CRATE ..] [--gate] [--lanes N] [--beside LOG]
 
 --gate: only those of must-fail/gate, which the gate tries. --beside: LOG is the output of an `rt ci` that runs meanwhile;
-the bugs of a crate are tried once it says that the crate is proved.
+the bugs of a crate are tried once it says that the crates below are proved. It judges the crate itself.
 
 A page has a line 'file: src/NAME.rt', and pairs of lines 'old: TEXT' and 'new: TEXT': a text that is in that file once,
 and what replaces it.
@@ -270,12 +270,12 @@ def proved(log):
     return found, any(re.match(r"\d+ passed, \d+ failed", it) for it in lines)
 
 
-def awaited(name, log):
-    """Waits until the log says that a crate and those below it are proved, or `rt ci` has ended. Returns whether it is proved."""
+def awaited(names, log):
+    """Waits until the log says that these crates are proved, or `rt ci` has ended. Returns whether they are proved."""
     while True:
         found, has_ended = proved(log)
-        if name in found or has_ended:
-            return name in found
+        if found.issuperset(names) or has_ended:
+            return found.issuperset(names)
         time.sleep(1)
 
 
@@ -294,10 +294,10 @@ def tried(name, edits, words):
     return verdicts, time.monotonic() - begun
 
 
-def in_turn(lanes, beside, name, *given):
-    """Tries the edits of a crate when a lane is free and, if there is a log, once its `rt ci` has proved the crate."""
-    if beside and not awaited(name, beside):
-        return {edit: "NOT TRIED: the crate isn't proved" for edit in given[0]}, 0
+def in_turn(lanes, beside, below, name, *given):
+    """Tries the edits of a crate when a lane is free and, if there is a log, once its `rt ci` has proved the crates below it."""
+    if beside and not awaited(below, beside):
+        return {edit: "NOT TRIED: a crate below isn't proved" for edit in given[0]}, 0
     with lanes:
         while beside and free_memory() <= FOR_A_CHECK:
             time.sleep(1)
@@ -324,7 +324,9 @@ def main():
     uses, pages, passed, failed = crates.listed(), pages_of(words.crates, words.gate), 0, 0
     lanes = threading.Semaphore(words.lanes)
     with concurrent.futures.ThreadPoolExecutor(len(pages) or 1) as pool:
-        calls = {pool.submit(in_turn, lanes, words.beside, name, edits, check_of(name, uses)): name for name, edits in pages.items()}
+        calls = {}
+        for name, edits in pages.items():
+            calls[pool.submit(in_turn, lanes, words.beside, crates.below(name, uses), name, edits, check_of(name, uses))] = name
         for call in concurrent.futures.as_completed(calls):
             verdicts, seconds = call.result()
             for edit, verdict in sorted(verdicts.items(), key=lambda it: it[0].name()):
