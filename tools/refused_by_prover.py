@@ -16,6 +16,9 @@ from one check, which says of each function why it has no proof. If a function o
 check refused, that does not judge it: its edit goes into the next round, which begins from what this one checked. An
 edit of no function, or one that no round can judge, is tried by a check of the crate with no holes.
 
+A function that calls itself can't have a hole. So an edit in a function that reaches one, as each insertion into a tree
+does, is tried by a proof of that function too. It takes minutes: keep such an edit out of must-fail/gate.
+
 A function counts as refused if the check fails at a goal of its own. If it fails only because a file of proofs names
 what the edit removed, the edit says nothing about the contract, and fails. So does one that can't be made or read.
 
