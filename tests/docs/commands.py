@@ -27,6 +27,9 @@ CONTROL = "/run/bqd.control"
 
 RULES = []
 
+# How many seconds a command of a page may take. The command that makes a package takes a while on a busy machine.
+LONGEST = 5 * PATIENCE
+
 # The operator's programs, which the package installs next to the server.
 OPERATORS = ["bqctl", "bqd-drain", "bqd-top", "bqd-web"]
 
@@ -88,7 +91,7 @@ class Room:
     def ends(self, command, sent=b"", status=0):
         """Returns the output of a command that ends by itself with this status."""
         with self.started(command, stderr=subprocess.STDOUT) as process:
-            output, _ = process.communicate(sent, PATIENCE)
+            output, _ = process.communicate(sent, LONGEST)
         if process.returncode != status:
             raise AssertionError(f"{command!r} ended with {process.returncode}: {output.decode(errors='replace')}")
         return output.decode(errors="replace")
