@@ -18,7 +18,6 @@ use super::timers::Timers;
 use super::tubes::TubeNumber;
 use bq_index::{BoxSource, Edit, Shelf};
 use bq_job::{Body, Counts, Job, JobId, JobState, Moment, NoMemory, Pri, Seat, TubeName};
-use std::alloc::Global;
 use std::marker::Model;
 use std::snapshot::Snapshot;
 
@@ -278,19 +277,9 @@ impl Rows {
             .saturating_add(self.timers.comparisons())
     }
 
-    /// Makes room for a job, if there is none. What was allocated before a failure is kept for the
-    /// next call.
-    pub(crate) fn reserve_one(&mut self, alloc: Global) -> Result<(), NoMemory>
-        ensures ok { OnOk result (self.new ≡ record self.old { room = max self.old.room 1 }) }
-        ensures refused { OnErr result (self.old.room ≡ 0) }
-        ensures same { OnErr result (self.new ≡ self.old) }
-    {
-        let mut heap = alloc;
-        self.reserve_one_from(&mut heap)
-    }
-
-    /// The same, with boxes from a source. The boxes of the other orders are allocated first, so
-    /// there is no room for a job until all of its boxes are there.
+    /// Makes room for a job, if there is none, with boxes from a source. What was allocated before a
+    /// failure is kept for the next call. The boxes of the other orders are allocated first, so there
+    /// is no room for a job until all of its boxes are there.
     pub(crate) fn reserve_one_from<S: BoxSource>(&mut self, source: &mut S) -> Result<(), NoMemory>
         ensures ok { OnOk result (self.new ≡ record self.old { room = max self.old.room 1 }) }
         ensures refused { OnErr result (self.old.room ≡ 0) }

@@ -145,13 +145,6 @@ impl<I> ControlLine<I> {
             read: ByteRecord::new(),
         }
     }
-
-    /// Returns the reader, whatever was read from it.
-    pub fn into_reader(self) -> I
-        ensures { result ≡ self.reader }
-    {
-        self.reader
-    }
 }
 
 impl<I: ControlReader> ControlInput for ControlLine<I> {
