@@ -16,7 +16,9 @@ returns-in-Both-clause-is g t c =
 pub returns-in-Both-node-clause-is : goal.returns-in-Both-node-clause-is
 returns-in-Both-node-clause-is g t c =
     let e : c.deref_mut-in-Both-node.result.now ≡ c.in-Both-node.right.value = search rules in
-    let a = subst (λ n. Comparison g.K.Ord.cmp c.args.key.now (entry_in n) c.compare_to.result) c.in-Both-node.is c.compare_to.ensures.answer in
+    let a = subst (λ n. Comparison g.K.Ord.cmp c.args.key.now (entry_in n) c.compare_to.result) c.in-Both-node.is
+    c.compare_to.ensures.answer in
     rw c.in-Both-node.is (edited_right (g.K.Ord.cmp c.args.key.now) (g.E.Edit.edited c.args.edit.now) c.in-Both-node.height
     c.in-Both-node.key _ c.in-Both-node.left.value _ c.in-Both-node.right.value c.in-Both-node.value c.edit_below-in-Both-node.new.node
-    (sym a ∙ c.in-Greater.is) (c.edit_below-in-Both-node.ensures.is ∙ ap (edited_in (g.K.Ord.cmp c.args.key.now) (g.E.Edit.edited c.args.edit.now)) e))
+    (sym a ∙ c.in-Greater.is)
+    (c.edit_below-in-Both-node.ensures.is ∙ ap (edited_in (g.K.Ord.cmp c.args.key.now) (g.E.Edit.edited c.args.edit.now)) e))

@@ -8,7 +8,8 @@ returns-then-deliver-clause-went g c =
     let seat = c.args.seat in
     let desk = c.args.self.now in
     let sorted = went_sorted given seat desk c.deliver.new.self c.deliver.ensures.sorted c.deliver.ensures.clock in
-    let ticked = went_then given seat seat desk c.deliver.new.self c.tick_if_due.new.self [] [] [] [] refl sorted c.tick_if_due.ensures.went in
+    let ticked = went_then given seat seat desk c.deliver.new.self c.tick_if_due.new.self [] [] [] [] refl sorted
+    c.tick_if_due.ensures.went in
     went_then given seat seat desk c.tick_if_due.new.self c.deliver-all.new.self [] [] [] [] refl ticked
     (went_sorted given seat c.tick_if_due.new.self c.deliver-all.new.self c.deliver-all.ensures.sorted c.deliver-all.ensures.clock)
 

@@ -2,7 +2,8 @@ use Rattle.std.proofs.Common.{◌∙◌, ap, refl}
 use Rattle.bq_state.specs.declared.tubes.entry.TubeChange.TheVariants.{CountDelete}
 use Rattle.bq_state.specs.Crowds.{crowd_at, has_seats}
 use Rattle.bq_state.specs.{KeptTubes.{KeptTubes, kept_removed}, Tallies.tally_left, TubeEntries.tube_changed}
-use Rattle.bq_state.proofs.{EditLemmas.job_counted, EndMoves.edit_stays, NamedLemmas.{change_kept, found_crowd, in_order}, PartsLemmas.tube_name_kept}
+use Rattle.bq_state.proofs.{EditLemmas.job_counted, EndMoves.edit_stays, NamedLemmas.{change_kept, found_crowd, in_order}}
+use Rattle.bq_state.proofs.PartsLemmas.{tube_name_kept}
 use Rattle.bq_state.proofs.tubes.Tubes.count_removal.Goals as goal
 
 pub returns-clause-after : goal.returns-clause-after
