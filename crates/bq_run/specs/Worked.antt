@@ -17,7 +17,7 @@ use Rattle.bq_host.specs.Timed.{IsReady}
 use Rattle.bq_host.specs.Clocks.{Gives}
 use Rattle.bq_run.specs.CoreWork.{HasGone, no_ticks, steps_made}
 use Rattle.bq_run.specs.Flags.{AreAllSet}
-use Rattle.bq_run.specs.Sending.{IsAtRest}
+use Rattle.bq_run.specs.Sending.{AreStuck, IsAtRest}
 use Rattle.bq_run.specs.declared.core_work.gone_ends.GoneEnds.{GoneEnds}
 use Rattle.bq_run.specs.declared.core_work.core_driver.CoreDriver.{CoreDriver}
 
@@ -113,6 +113,16 @@ abbrev pub TurnWent : {C K : Type 0} → (K → Machine) → CoreDriver C K → 
 TurnWent machine old new =
     (length new.sender.kept.items ≡ new.sender.ends)
     ⊎ (TookOne old.sender.end new.sender.end ⊎ (HasTicked machine old new ⊎ IsIdle machine old new))
+
+-- What the core found when it looked for work. Answers that were stuck at full rings still are. If the
+-- result is false, an empty intake had the property `was` after the last step that was taken, and
+-- nothing is due. If it is true, the core took a step or a tick.
+abbrev pub FindsWork : {C K : Type 0} → (List (ℕ × Step) → List (ℕ × Step) → Type 0) → (K → Machine) → CoreDriver C K → CoreDriver C K → Bool
+    → Type 0
+FindsWork was machine old new result =
+    (AreStuck old.sender.end old.sender.kept.items → AreStuck new.sender.end new.sender.kept.items)
+    × (result ≡ false → was old.sender.end.taken []) × (result ≡ false → IsIdle machine old new)
+    × (result ≡ true → TookOne old.sender.end new.sender.end ⊎ HasTicked machine old new)
 
 -- Nothing is left to do.
 pub record IsOver {C K : Type 0} (h : CoreDriver C K) : Type 0 where

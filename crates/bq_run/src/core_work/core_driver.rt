@@ -1,5 +1,5 @@
 //! The core with everything that its thread needs.
-ghost use Rattle.std.specs.Prelude.{◌≡◌, ◌⊎◌, ◌↔◌, ◌<◌, ◌≤◌, ◌+◌, ◌-◌, [], false, not, true, length};
+ghost use Rattle.std.specs.Prelude.{◌≡◌, ◌↔◌, ◌<◌, ◌≤◌, ◌+◌, ◌-◌, [], false, not, true, length};
 ghost use Rattle.bq_job.specs.beside.NextDue.{is_before, next_due};
 ghost use Rattle.bq_run.specs.Rests.{longest_rest};
 
@@ -45,11 +45,11 @@ impl<C: Clock + Drop, K: QueueCore + Drop> CoreDriver<C, K> {
     ghost use Rattle.bq_run.specs.CoreWork.{IsNewRoom};
     ghost use Rattle.bq_run.specs.Sending.{AreStuck};
     ghost use Rattle.bq_run.specs.Worked.{
+      FindsWork,
       HasTicked,
       IsAtWork,
       IsInOrder,
       IsOver,
-      TookOne,
       TurnWent,
       WorksOn,
       gone_after,
@@ -214,13 +214,7 @@ impl<C: Clock + Drop, K: QueueCore + Drop> CoreDriver<C, K> {
         requires order { IsInOrder K.machine self.old }
         requires none { self.old.timed.outs.given ≡ [] }
         ensures on { WorksOn C.given K.machine K.comparisons self.old self.new }
-        ensures stuck { AreStuck self.old.sender.end self.old.sender.kept.items
-            → AreStuck self.new.sender.end self.new.sender.kept.items }
-        ensures empty { result ≡ false → J.was self.old.sender.end.taken [] }
-        ensures idle { result ≡ false
-            → is_before self.new.timed.time.moment (next_due (K.machine self.old.timed.core)) ≡ true }
-        ensures busy { result ≡ true → TookOne self.old.sender.end self.new.sender.end
-            ⊎ HasTicked K.machine self.old self.new }
+        ensures found { FindsWork J.was K.machine self.old self.new result }
     {
         if self.sender.has_none(intake) {
             self.tick_if_due()
@@ -238,13 +232,7 @@ impl<C: Clock + Drop, K: QueueCore + Drop> CoreDriver<C, K> {
         requires order { IsInOrder K.machine self.old }
         requires none { self.old.timed.outs.given ≡ [] }
         ensures on { WorksOn C.given K.machine K.comparisons self.old self.new }
-        ensures stuck { AreStuck self.old.sender.end self.old.sender.kept.items
-            → AreStuck self.new.sender.end self.new.sender.kept.items }
-        ensures empty { result ≡ false → J.was self.old.sender.end.taken [] }
-        ensures idle { result ≡ false
-            → is_before self.new.timed.time.moment (next_due (K.machine self.old.timed.core)) ≡ true }
-        ensures busy { result ≡ true → TookOne self.old.sender.end self.new.sender.end
-            ⊎ HasTicked K.machine self.old self.new }
+        ensures found { FindsWork J.was K.machine self.old self.new result }
     {
         match self.sender.next_step(rt, intake) {
             Some(taken) => {

@@ -1,5 +1,6 @@
-use Rattle.std.proofs.Common.{◌∙◌, ◌++◌, ◌∷◌, [], ap, subst}
+use Rattle.std.proofs.Common.{◌∙◌, ◌++◌, ◌∷◌, [], ap, inl, subst, sym}
 use Rattle.bq_link.specs.EndStates.{CoreState}
+use Rattle.bq_run.specs.Sending.{AreStuck}
 use Rattle.bq_run.specs.Worked.{WorksOn, driver_state}
 use Rattle.bq_run.specs.declared.core_work.sender.Sender.{Sender}
 use Rattle.bq_run.proofs.WorkedLemmas.{pending_on, worked_step}
@@ -34,3 +35,12 @@ returns-in-None-clause-on g c =
     subst (λ (s : Sender). WorksOn g.C.Clock.given g.K.QueueCore.machine g.K.QueueCore.comparisons
     (record c.args.self.now { sender = s }) c.tick_if_due.new.self) c.in-None.ensures.none.0
     c.tick_if_due.ensures.on
+
+pub returns-in-Some-clause-found : goal.returns-in-Some-clause-found
+returns-in-Some-clause-found g c =
+    let sender = c.take_step.ensures.sender ∙ c.in-Some.ensures.taken in (
+      λ stuck. subst (λ (s : Sender). AreStuck s.end s.kept.items) (sym sender) stuck,
+      λ e. absurd cc,
+      λ e. absurd cc,
+      λ e. inl (c.in-Some.taken, ap (λ (s : Sender). s.end.taken) sender),
+    )

@@ -25,11 +25,11 @@ pub returns-then-not-go_on-clause-stuck : goal.returns-then-not-go_on-clause-stu
 returns-then-not-go_on-clause-stuck g c =
     let stuck = λ (h : CoreDriver _ _). AreStuck h.sender.end h.sender.kept.items in
     subst stuck (sym c.await_step.ensures.rest)
-    (c.go_on.ensures.stuck (subst stuck (sym c.give_way.ensures.rest) c.send_all-has_room.ensures.stuck))
+    (c.go_on.ensures.found.0 (subst stuck (sym c.give_way.ensures.rest) c.send_all-has_room.ensures.stuck))
 
 pub returns-else-not-go_on-clause-stuck : goal.returns-else-not-go_on-clause-stuck
 returns-else-not-go_on-clause-stuck g c =
-    c.go_on.ensures.stuck (subst (λ (h : CoreDriver _ _). AreStuck h.sender.end h.sender.kept.items) (sym c.give_way.ensures.rest)
+    c.go_on.ensures.found.0 (subst (λ (h : CoreDriver _ _). AreStuck h.sender.end h.sender.kept.items) (sym c.give_way.ensures.rest)
     c.send_all-has_room.ensures.stuck)
 
 pub returns-else-not-go_on-clause-turned : goal.returns-else-not-go_on-clause-turned
@@ -39,7 +39,7 @@ returns-else-not-go_on-clause-turned g c = λ _.
     let busy = busy_from g.K.QueueCore.machine c.args.self.now c.give_way.new.self c.go_on.new.self
     (ap (λ (h : CoreDriver _ _). h.sender.end.taken) waited ∙ sent.taken)
     (ap (λ (h : CoreDriver _ _). h.timed.core) waited ∙ ap (λ (h : CoreDriver _ _). h.timed.core) sent.rest)
-    (c.go_on.ensures.busy (let e = c.if-not-go_on.false in cc)) in
+    (c.go_on.ensures.found.3 (let e = c.if-not-go_on.false in cc)) in
     elim busy [
       | inl t ↦ inr (inl t)
       | inr h ↦ inr (inr (inl h))
