@@ -71,16 +71,16 @@ fn refusal_answer(why: Refusal) -> Answer
 // Carries out a request that a connected client may make. A call initializes the room for all its
 // large values before it begins, whichever branch it takes. So commands that need a name or a job
 // by value are kept in functions of their own (`inline(never)`).
-fn answer(
+fn carry_out(
     state: &mut CoreParts,
     alloc: Global,
     seat: Seat,
     request: &Request,
-    told: &mut Answer,
+    answer: &mut Answer,
 ) -> Reply
     requires asks { is_asking (seat_with seat state.old.seats.items) ≡ true }
     ensures reply { RepliesAt seat (takes_memory request.now)
-        (asked request.now) state.old result told.new state.new }
+        (asked request.now) state.old result answer.new state.new }
     ensures asks { AsksAsChanged state.old.jobs state.new.jobs }
 {
     match *request {
@@ -89,7 +89,7 @@ fn answer(
             delay,
             ttr,
             ref body,
-        } => job_acts::put(state, alloc, seat, NewJob { pri, delay, ttr }, body, told),
+        } => job_acts::put(state, alloc, seat, NewJob { pri, delay, ttr }, body, answer),
         Request::Reserve => {
             job_acts::reserve(state, seat, None);
             Reply::Silent
@@ -98,45 +98,47 @@ fn answer(
             job_acts::reserve_until(state, seat, seconds);
             Reply::Silent
         }
-        Request::ReserveJob { id } => job_acts::reserve_job(state, seat, id, told),
-        Request::Delete { id } => job_acts::delete(state, seat, id, told),
+        Request::ReserveJob { id } => job_acts::reserve_job(state, seat, id, answer),
+        Request::Delete { id } => job_acts::delete(state, seat, id, answer),
         Request::Release { id, pri, delay } => {
-            job_acts::release(state, seat, id, NewTurn { pri, delay }, told);
+            job_acts::release(state, seat, id, NewTurn { pri, delay }, answer);
             Reply::Told
         }
         Request::Bury { id, pri } => {
-            job_acts::bury(state, seat, id, pri, told);
+            job_acts::bury(state, seat, id, pri, answer);
             Reply::Told
         }
         Request::Touch { id } => {
-            job_acts::touch(state, seat, id, told);
+            job_acts::touch(state, seat, id, answer);
             Reply::Told
         }
-        Request::Kick { bound } => kicks::kick(state, seat, bound, told),
+        Request::Kick { bound } => kicks::kick(state, seat, bound, answer),
         Request::KickJob { id } => {
-            job_acts::kick_job(state, id, told);
+            job_acts::kick_job(state, id, answer);
             Reply::Told
         }
-        Request::Use { ref tube } => tube_acts::use_tube(state, alloc, seat, tube, told),
-        Request::ListTubeUsed => tube_acts::list_tube_used(state, seat, told),
-        Request::Watch { ref tube } => tube_acts::watch(state, alloc, seat, tube, told),
-        Request::Ignore { ref tube } => tube_acts::ignore(state, seat, tube, told),
-        Request::Peek { id } => tube_acts::peek(state, id, told),
-        Request::PeekReady => tube_acts::peek_first(state, seat, JobKind::Ready, told),
-        Request::PeekDelayed => tube_acts::peek_first(state, seat, JobKind::Delayed, told),
-        Request::PeekBuried => tube_acts::peek_first(state, seat, JobKind::Buried, told),
+        Request::Use { ref tube } => tube_acts::use_tube(state, alloc, seat, tube, answer),
+        Request::ListTubeUsed => tube_acts::list_tube_used(state, seat, answer),
+        Request::Watch { ref tube } => tube_acts::watch(state, alloc, seat, tube, answer),
+        Request::Ignore { ref tube } => tube_acts::ignore(state, seat, tube, answer),
+        Request::Peek { id } => tube_acts::peek(state, id, answer),
+        Request::PeekReady => tube_acts::peek_first(state, seat, JobKind::Ready, answer),
+        Request::PeekDelayed => tube_acts::peek_first(state, seat, JobKind::Delayed, answer),
+        Request::PeekBuried => tube_acts::peek_first(state, seat, JobKind::Buried, answer),
         Request::PauseTube { ref tube, delay } => {
-            tube_acts::pause(state, tube, delay, told);
+            tube_acts::pause(state, tube, delay, answer);
             Reply::Told
         }
-        Request::StatsJob { id } => statistics_acts::stats_job(state, alloc, id, told),
-        Request::StatsTube { ref tube } => statistics_acts::stats_tube(state, alloc, tube, told),
-        Request::Stats => statistics_acts::stats(state, alloc, told),
-        Request::ListTubes => statistics_acts::list_tubes(state, alloc, told),
-        Request::ListTubesWatched => statistics_acts::list_tubes_watched(state, alloc, seat, told),
+        Request::StatsJob { id } => statistics_acts::stats_job(state, alloc, id, answer),
+        Request::StatsTube { ref tube } => statistics_acts::stats_tube(state, alloc, tube, answer),
+        Request::Stats => statistics_acts::stats(state, alloc, answer),
+        Request::ListTubes => statistics_acts::list_tubes(state, alloc, answer),
+        Request::ListTubesWatched => statistics_acts::list_tubes_watched(
+            state, alloc, seat, answer,
+        ),
         Request::Quit => Reply::Silent,
         Request::Refused(why) => {
-            *told = refusal_answer(why);
+            *answer = refusal_answer(why);
             Reply::Told
         }
     }
@@ -148,10 +150,10 @@ fn reply_to(
     alloc: Global,
     seat: Seat,
     what: &Step,
-    told: &mut Answer,
+    answer: &mut Answer,
 ) -> Reply
     ensures reply { RepliesBy (step_takes_memory what.now)
-        (λ m. effect m seat what.now) state.old result told.new state.new }
+        (λ m. effect m seat what.now) state.old result answer.new state.new }
     ensures asks { AsksAsChanged state.old.jobs state.new.jobs }
 {
     match *what {
@@ -160,7 +162,7 @@ fn reply_to(
             Reply::Silent
         }
         Step::Ask(ref request) => if state.is_asking(seat) {
-            answer(state, alloc, seat, request, told)
+            carry_out(state, alloc, seat, request, answer)
         } else {
             Reply::Silent
         },
@@ -170,8 +172,8 @@ fn reply_to(
         }
         Step::Close => match close(state, seat) {
             None => Reply::Silent,
-            Some(answer) => {
-                *told = answer;
+            Some(closed) => {
+                *answer = closed;
                 Reply::Told
             }
         },
@@ -191,10 +193,10 @@ pub(crate) fn act(state: &mut CoreParts, alloc: Global, seat: Seat, what: &Step,
         (machine_of state.new) }
     ensures asks { AsksAsChanged state.old.jobs state.new.jobs }
 {
-    let mut told = Answer::Closed;
-    match reply_to(state, alloc, seat, what, &mut told) {
+    let mut answer = Answer::Closed;
+    match reply_to(state, alloc, seat, what, &mut answer) {
         Reply::Silent => {}
-        Reply::Told => outs.push(seat, told),
+        Reply::Told => outs.push(seat, answer),
         Reply::Inserted(id) => outs.push(seat, Answer::Inserted(id)),
         Reply::Deleted => outs.push(seat, Answer::Deleted),
         Reply::LeftOut => {
@@ -208,7 +210,7 @@ pub(crate) fn act(state: &mut CoreParts, alloc: Global, seat: Seat, what: &Step,
     }
 }
 
-/// The outcome of a request. An answer is written to the `told` argument, because it may contain a
+/// The outcome of a request. An answer is written to the `answer` argument, because it may contain a
 /// tube's name, which would have to be copied. The most frequent answers have outcomes of their own:
 /// these are put together where the answer goes, and not copied at all.
 #[derive(Clone, Copy)]

@@ -74,19 +74,19 @@ pub(crate) fn put(
     seat: Seat,
     new: NewJob,
     body: &Body,
-    told: &mut Answer,
+    answer: &mut Answer,
 ) -> Reply
     requires asks { is_asking (seat_with seat state.old.seats.items) ≡ true }
     ensures reply { RepliesAt seat true
-        (put_effect new.pri new.delay new.ttr body.now) state.old result told.new state.new }
+        (put_effect new.pri new.delay new.ttr body.now) state.old result answer.new state.new }
     ensures asks { AsksAsChanged state.old.jobs state.new.jobs }
 {
     if state.draining {
-        *told = Answer::Draining;
+        *answer = Answer::Draining;
         return Reply::Told;
     }
     if is_full(state) {
-        *told = Answer::OutOfMemory;
+        *answer = Answer::OutOfMemory;
         return Reply::Told;
     }
     let Some(client) = seats::find(state.seats.as_slice(), seat) else {
@@ -131,17 +131,22 @@ pub(crate) fn reserve_until(state: &mut CoreParts, seat: Seat, seconds: u32)
 }
 
 /// Reserves a job that no client holds, in any tube.
-pub(crate) fn reserve_job(state: &mut CoreParts, seat: Seat, id: JobId, told: &mut Answer) -> Reply
+pub(crate) fn reserve_job(
+    state: &mut CoreParts,
+    seat: Seat,
+    id: JobId,
+    answer: &mut Answer,
+) -> Reply
     ensures reply { RepliesTo seat false
-        (reserve_job_effect id) state.old result told.new state.new }
+        (reserve_job_effect id) state.old result answer.new state.new }
     ensures asks { AsksAsChanged state.old.jobs state.new.jobs }
 {
     if !state.has_job(id, JobTest::Free) {
-        *told = Answer::NotFound;
+        *answer = Answer::NotFound;
         return Reply::Told;
     }
     let Some(shared) = state.share(id) else {
-        *told = Answer::NotFound;
+        *answer = Answer::NotFound;
         return Reply::Told;
     };
     let Ok(body) = shared else {
@@ -149,34 +154,34 @@ pub(crate) fn reserve_job(state: &mut CoreParts, seat: Seat, id: JobId, told: &m
     };
     let change = JobChange::HandOut(seat, state.moment);
     changes::change_job(state, id, &change);
-    *told = Answer::Reserved(id, body);
+    *answer = Answer::Reserved(id, body);
     Reply::Told
 }
 
 /// Removes a job that no client holds, or that this client holds.
 #[inline(never)]
-pub(crate) fn delete(state: &mut CoreParts, seat: Seat, id: JobId, told: &mut Answer) -> Reply
-    ensures reply { RepliesTo seat false (delete_effect id) state.old result told.new state.new }
+pub(crate) fn delete(state: &mut CoreParts, seat: Seat, id: JobId, answer: &mut Answer) -> Reply
+    ensures reply { RepliesTo seat false (delete_effect id) state.old result answer.new state.new }
     ensures asks { AsksAsChanged state.old.jobs state.new.jobs }
 {
     if !state.has_job(id, JobTest::FreeFor(seat)) {
-        return not_found(told);
+        return not_found(answer);
     }
     if changes::delete(state, id) {
         Reply::Deleted
     } else {
-        not_found(told)
+        not_found(answer)
     }
 }
 
 // Answers that there is no such job. Not inlined, because its caller would otherwise reserve and
 // initialize room for an answer.
 #[inline(never)]
-fn not_found(told: &mut Answer) -> Reply
-    ensures told { told.new ≡ answers.NotFound }
+fn not_found(answer: &mut Answer) -> Reply
+    ensures answer { answer.new ≡ answers.NotFound }
     ensures reply { result ≡ Reply.Told }
 {
-    *told = Answer::NotFound;
+    *answer = Answer::NotFound;
     Reply::Told
 }
 
@@ -186,60 +191,60 @@ pub(crate) fn release(
     seat: Seat,
     id: JobId,
     with: NewTurn,
-    told: &mut Answer,
+    answer: &mut Answer,
 )
     ensures reply { AnswersTo seat
-        (release_effect id with.pri with.delay) state.old told.new state.new }
+        (release_effect id with.pri with.delay) state.old answer.new state.new }
     ensures asks { AsksAsChanged state.old.jobs state.new.jobs }
 {
     if !state.has_job(id, JobTest::HeldBy(seat)) {
-        *told = Answer::NotFound;
+        *answer = Answer::NotFound;
         return;
     }
     let change = JobChange::Release(with.pri, with.delay, state.moment);
     changes::change_job(state, id, &change);
-    *told = Answer::Released;
+    *answer = Answer::Released;
 }
 
 /// Buries a job that the client holds.
-pub(crate) fn bury(state: &mut CoreParts, seat: Seat, id: JobId, pri: Pri, told: &mut Answer)
-    ensures reply { AnswersTo seat (bury_effect id pri) state.old told.new state.new }
+pub(crate) fn bury(state: &mut CoreParts, seat: Seat, id: JobId, pri: Pri, answer: &mut Answer)
+    ensures reply { AnswersTo seat (bury_effect id pri) state.old answer.new state.new }
     ensures asks { AsksAsChanged state.old.jobs state.new.jobs }
 {
     if !state.has_job(id, JobTest::HeldBy(seat)) {
-        *told = Answer::NotFound;
+        *answer = Answer::NotFound;
         return;
     }
     let number = changes::give_burial_number(state);
     let change = JobChange::Bury(number, pri);
     changes::change_job(state, id, &change);
-    *told = Answer::Buried;
+    *answer = Answer::Buried;
 }
 
 /// Restarts the time to run of a job that the client holds.
-pub(crate) fn touch(state: &mut CoreParts, seat: Seat, id: JobId, told: &mut Answer)
-    ensures reply { AnswersTo seat (touch_effect id) state.old told.new state.new }
+pub(crate) fn touch(state: &mut CoreParts, seat: Seat, id: JobId, answer: &mut Answer)
+    ensures reply { AnswersTo seat (touch_effect id) state.old answer.new state.new }
     ensures asks { AsksAsChanged state.old.jobs state.new.jobs }
 {
     let Some(ttr) = state.time_to_run(id, seat) else {
-        *told = Answer::NotFound;
+        *answer = Answer::NotFound;
         return;
     };
     let change = JobChange::Touch(seat, job_store::later(state.moment, ttr));
     changes::change_job(state, id, &change);
-    *told = Answer::Touched;
+    *answer = Answer::Touched;
 }
 
 /// Makes a buried or delayed job ready.
-pub(crate) fn kick_job(state: &mut CoreParts, id: JobId, told: &mut Answer)
+pub(crate) fn kick_job(state: &mut CoreParts, id: JobId, answer: &mut Answer)
     ensures reply { (s : SeatRecord)
-        → kick_job_effect id (machine_of state.old) s ≡ telling told.new (machine_of state.new) }
+        → kick_job_effect id (machine_of state.old) s ≡ telling answer.new (machine_of state.new) }
     ensures asks { AsksAsChanged state.old.jobs state.new.jobs }
 {
     if !state.has_job(id, JobTest::Kickable) {
-        *told = Answer::NotFound;
+        *answer = Answer::NotFound;
         return;
     }
     changes::change_job(state, id, &JobChange::Kick);
-    *told = Answer::Kicked;
+    *answer = Answer::Kicked;
 }

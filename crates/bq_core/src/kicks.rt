@@ -86,8 +86,8 @@ fn kick_in(state: &mut CoreParts, tube: &TubeName, bound: u32) -> u64
 
 /// Kicks at most `bound` jobs of the tube that the client uses.
 #[tactic(auto, using(crate::proofs::AskLemmas::within))]
-pub(crate) fn kick(state: &mut CoreParts, seat: Seat, bound: u32, told: &mut Answer) -> Reply
-    ensures reply { RepliesAt seat false (kick_effect bound) state.old result told.new state.new }
+pub(crate) fn kick(state: &mut CoreParts, seat: Seat, bound: u32, answer: &mut Answer) -> Reply
+    ensures reply { RepliesAt seat false (kick_effect bound) state.old result answer.new state.new }
     ensures asks { AsksAsChanged state.old.jobs state.new.jobs }
 {
     let Some(client) = seats::find(state.seats.as_slice(), seat) else {
@@ -95,6 +95,6 @@ pub(crate) fn kick(state: &mut CoreParts, seat: Seat, bound: u32, told: &mut Ans
     };
     let tube = *client.used();
     let count = kick_in(state, &tube, bound);
-    *told = Answer::KickedCount(count);
+    *answer = Answer::KickedCount(count);
     Reply::Told
 }

@@ -29,7 +29,7 @@ fn text_of_job(
     moment: Moment,
 ) -> Option<Result<Text, NoMemory>>
     ensures none { is_some result ≡ is_some (job_with id jobs.old.jobs) }
-    ensures text { IfSome result (λ told. IfOk told (TellsJob moment (job_with id jobs.old.jobs))) }
+    ensures text { IfSome result (λ text. IfOk text (TellsJob moment (job_with id jobs.old.jobs))) }
     ensures same { jobs.new ≡ record jobs.old { comparisons = jobs.new.comparisons } }
     ensures comparisons { ComparesAtMost 2 jobs.old jobs.new }
 {
@@ -41,17 +41,22 @@ fn text_of_job(
 }
 
 /// Answers with the statistics of the job with this id.
-pub(crate) fn stats_job(state: &mut CoreParts, alloc: Global, id: JobId, told: &mut Answer) -> Reply
-    ensures reply { RepliesBy true (stats_job_effect id) state.old result told.new state.new }
+pub(crate) fn stats_job(
+    state: &mut CoreParts,
+    alloc: Global,
+    id: JobId,
+    answer: &mut Answer,
+) -> Reply
+    ensures reply { RepliesBy true (stats_job_effect id) state.old result answer.new state.new }
     ensures asks { AsksAsChanged state.old.jobs state.new.jobs }
 {
     match text_of_job(&mut state.jobs, alloc, id, state.moment) {
         None => {
-            *told = Answer::NotFound;
+            *answer = Answer::NotFound;
             Reply::Told
         }
         Some(Ok(text)) => {
-            *told = Answer::Ok(text);
+            *answer = Answer::Ok(text);
             Reply::Told
         }
         Some(Err(_)) => Reply::LeftOut,
@@ -84,17 +89,17 @@ pub(crate) fn stats_tube(
     state: &CoreParts,
     alloc: Global,
     tube: &TubeName,
-    told: &mut Answer,
+    answer: &mut Answer,
 ) -> Reply
-    ensures { RepliesBy true (stats_tube_effect tube.now) state.now result told.new state.now }
+    ensures { RepliesBy true (stats_tube_effect tube.now) state.now result answer.new state.now }
 {
     if !changes::is_tube(state, tube) {
-        *told = Answer::NotFound;
+        *answer = Answer::NotFound;
         return Reply::Told;
     }
     match tube_text(alloc, tube, &tube_numbers(state, tube)) {
         Ok(text) => {
-            *told = Answer::Ok(text);
+            *answer = Answer::Ok(text);
             Reply::Told
         }
         Err(_) => Reply::LeftOut,
@@ -119,12 +124,12 @@ fn server_numbers(state: &CoreParts) -> ServerNumbers
 }
 
 /// Answers with the statistics of the server.
-pub(crate) fn stats(state: &CoreParts, alloc: Global, told: &mut Answer) -> Reply
-    ensures { RepliesBy true stats_effect state.now result told.new state.now }
+pub(crate) fn stats(state: &CoreParts, alloc: Global, answer: &mut Answer) -> Reply
+    ensures { RepliesBy true stats_effect state.now result answer.new state.now }
 {
     match server_text(alloc, &server_numbers(state)) {
         Ok(text) => {
-            *told = Answer::Ok(text);
+            *answer = Answer::Ok(text);
             Reply::Told
         }
         Err(_) => Reply::LeftOut,
@@ -132,15 +137,15 @@ pub(crate) fn stats(state: &CoreParts, alloc: Global, told: &mut Answer) -> Repl
 }
 
 /// Answers with the list of the existing tubes.
-pub(crate) fn list_tubes(state: &CoreParts, alloc: Global, told: &mut Answer) -> Reply
-    ensures { RepliesBy true list_tubes_effect state.now result told.new state.now }
+pub(crate) fn list_tubes(state: &CoreParts, alloc: Global, answer: &mut Answer) -> Reply
+    ensures { RepliesBy true list_tubes_effect state.now result answer.new state.now }
 {
     let Ok(names) = changes::tube_names(state, alloc) else {
         return Reply::LeftOut;
     };
     match names_text(alloc, names.as_slice()) {
         Ok(text) => {
-            *told = Answer::Ok(text);
+            *answer = Answer::Ok(text);
             Reply::Told
         }
         Err(_) => Reply::LeftOut,
@@ -153,9 +158,9 @@ pub(crate) fn list_tubes_watched(
     state: &CoreParts,
     alloc: Global,
     seat: Seat,
-    told: &mut Answer,
+    answer: &mut Answer,
 ) -> Reply
-    ensures { RepliesAt seat true list_watched_effect state.now result told.new state.now }
+    ensures { RepliesAt seat true list_watched_effect state.now result answer.new state.now }
 {
     let Some(client) = seats::find(state.seats.as_slice(), seat) else {
         return Reply::Silent;
@@ -165,7 +170,7 @@ pub(crate) fn list_tubes_watched(
     };
     match names_text(alloc, names.as_slice()) {
         Ok(text) => {
-            *told = Answer::Ok(text);
+            *answer = Answer::Ok(text);
             Reply::Told
         }
         Err(_) => Reply::LeftOut,

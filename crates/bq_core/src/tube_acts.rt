@@ -27,29 +27,29 @@ pub(crate) fn use_tube(
     alloc: Global,
     seat: Seat,
     tube: &TubeName,
-    told: &mut Answer,
+    answer: &mut Answer,
 ) -> Reply
-    ensures reply { RepliesTo seat true (use_effect tube.now) state.old result told.new state.new }
+    ensures reply { RepliesTo seat true (use_effect tube.now) state.old result answer.new state.new }
     ensures asks { AsksAsChanged state.old.jobs state.new.jobs }
 {
     if changes::provide_tube(state, alloc, tube).is_err() {
         return Reply::LeftOut;
     }
     changes::change_seat(state, seat, &SeatChange::Use(*tube));
-    *told = Answer::Using(*tube);
+    *answer = Answer::Using(*tube);
     Reply::Told
 }
 
 /// Answers with the tube that the client's jobs go into.
 #[inline(never)]
-pub(crate) fn list_tube_used(state: &CoreParts, seat: Seat, told: &mut Answer) -> Reply
+pub(crate) fn list_tube_used(state: &CoreParts, seat: Seat, answer: &mut Answer) -> Reply
     ensures { RepliesAt seat false
-        (λ m s. telling (answers.Using s.used) m) state.now result told.new state.now }
+        (λ m s. telling (answers.Using s.used) m) state.now result answer.new state.now }
 {
     match seats::find(state.seats.as_slice(), seat) {
         None => Reply::Silent,
         Some(client) => {
-            *told = Answer::Using(*client.used());
+            *answer = Answer::Using(*client.used());
             Reply::Told
         }
     }
@@ -62,22 +62,22 @@ pub(crate) fn watch(
     alloc: Global,
     seat: Seat,
     tube: &TubeName,
-    told: &mut Answer,
+    answer: &mut Answer,
 ) -> Reply
     ensures reply { RepliesAt seat true
-        (watch_effect tube.now) state.old result told.new state.new }
+        (watch_effect tube.now) state.old result answer.new state.new }
     ensures asks { AsksAsChanged state.old.jobs state.new.jobs }
 {
     let Some(client) = seats::find(state.seats.as_slice(), seat) else {
         return Reply::Silent;
     };
     if client.watches(tube) {
-        *told = Answer::Watching(client.watch_count() as u64);
+        *answer = Answer::Watching(client.watch_count() as u64);
         return Reply::Told;
     }
     match changes::watch_tube(state, alloc, seat, tube) {
         Ok(count) => {
-            *told = Answer::Watching(count);
+            *answer = Answer::Watching(count);
             Reply::Told
         }
         Err(_) => Reply::LeftOut,
@@ -86,52 +86,57 @@ pub(crate) fn watch(
 
 /// The client no longer watches this tube, unless it is the only one.
 #[inline(never)]
-pub(crate) fn ignore(state: &mut CoreParts, seat: Seat, tube: &TubeName, told: &mut Answer) -> Reply
+pub(crate) fn ignore(
+    state: &mut CoreParts,
+    seat: Seat,
+    tube: &TubeName,
+    answer: &mut Answer,
+) -> Reply
     ensures reply { RepliesAt seat false
-        (ignore_effect tube.now) state.old result told.new state.new }
+        (ignore_effect tube.now) state.old result answer.new state.new }
     ensures asks { AsksAsChanged state.old.jobs state.new.jobs }
 {
     let Some(client) = seats::find(state.seats.as_slice(), seat) else {
         return Reply::Silent;
     };
     if !client.watches_other(tube) {
-        *told = Answer::NotIgnored;
+        *answer = Answer::NotIgnored;
         return Reply::Told;
     }
     let count = changes::ignore_tube(state, seat, tube);
-    *told = Answer::Watching(count);
+    *answer = Answer::Watching(count);
     Reply::Told
 }
 
 /// Pauses a tube, if it exists.
 #[tactic(auto, using(bq_state::proofs::PartsLemmas::tube_has_entry))]
-pub(crate) fn pause(state: &mut CoreParts, tube: &TubeName, seconds: u32, told: &mut Answer)
+pub(crate) fn pause(state: &mut CoreParts, tube: &TubeName, seconds: u32, answer: &mut Answer)
     ensures reply { pause_effect tube.now seconds (machine_of state.old)
-        ≡ telling told.new (machine_of state.new) }
+        ≡ telling answer.new (machine_of state.new) }
     ensures asks { AsksAsChanged state.old.jobs state.new.jobs }
 {
     if !changes::is_tube(state, tube) {
-        *told = Answer::NotFound;
+        *answer = Answer::NotFound;
         return;
     }
     let change = TubeChange::Pause(seconds, state.moment);
     changes::change_tube(state, tube, change);
-    *told = Answer::Paused;
+    *answer = Answer::Paused;
 }
 
 // Shows the job with this id.
 #[tactic(auto, using(crate::proofs::ToldLemmas::shown_so))]
-fn show(state: &mut CoreParts, id: JobId, told: &mut Answer) -> Reply
-    ensures reply { RepliesBy false (peek_effect id) state.old result told.new state.new }
+fn show(state: &mut CoreParts, id: JobId, answer: &mut Answer) -> Reply
+    ensures reply { RepliesBy false (peek_effect id) state.old result answer.new state.new }
     ensures asks { Asks 1 state.old.jobs state.new.jobs }
 {
     match state.share(id) {
         None => {
-            *told = Answer::NotFound;
+            *answer = Answer::NotFound;
             Reply::Told
         }
         Some(Ok(body)) => {
-            *told = Answer::Found(id, body);
+            *answer = Answer::Found(id, body);
             Reply::Told
         }
         Some(Err(_)) => Reply::Unshared,
@@ -139,11 +144,11 @@ fn show(state: &mut CoreParts, id: JobId, told: &mut Answer) -> Reply
 }
 
 /// Shows the job with this id.
-pub(crate) fn peek(state: &mut CoreParts, id: JobId, told: &mut Answer) -> Reply
-    ensures reply { RepliesBy false (peek_effect id) state.old result told.new state.new }
+pub(crate) fn peek(state: &mut CoreParts, id: JobId, answer: &mut Answer) -> Reply
+    ensures reply { RepliesBy false (peek_effect id) state.old result answer.new state.new }
     ensures asks { AsksAsChanged state.old.jobs state.new.jobs }
 {
-    show(state, id, told)
+    show(state, id, answer)
 }
 
 // Returns the id of the first job of this kind in the tube that the client uses.
@@ -161,17 +166,17 @@ pub(crate) fn peek_first(
     state: &mut CoreParts,
     seat: Seat,
     kind: JobKind,
-    told: &mut Answer,
+    answer: &mut Answer,
 ) -> Reply
     ensures reply { RepliesAt seat false
-        (peek_first_effect kind) state.old result told.new state.new }
+        (peek_first_effect kind) state.old result answer.new state.new }
     ensures asks { AsksAsChanged state.old.jobs state.new.jobs }
 {
     match first_used(state, seat, kind) {
         None => {
-            *told = Answer::NotFound;
+            *answer = Answer::NotFound;
             Reply::Told
         }
-        Some(id) => show(state, id, told),
+        Some(id) => show(state, id, answer),
     }
 }

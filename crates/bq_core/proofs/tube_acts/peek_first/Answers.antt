@@ -14,6 +14,6 @@ returns-in-Some-clause-reply c s found =
     let same : machine_of c.first_used.new.state ≡ m = ap machine_held c.in-Some.ensures.kept.same in
     let shows : showing m (job_with c.in-Some.id m.jobs) ≡ showing m (first_of p before m.jobs) =
     ap (showing m) (one.found ∙ sym one.first) in
-    subst (λ e. Replies false m e c.show.result c.show.new.told (machine_of c.show.new.state)) shows
-    (subst (λ (x : Machine). Replies false x (showing x (job_with c.in-Some.id x.jobs)) c.show.result c.show.new.told
+    subst (λ e. Replies false m e c.show.result c.show.new.answer (machine_of c.show.new.state)) shows
+    (subst (λ (x : Machine). Replies false x (showing x (job_with c.in-Some.id x.jobs)) c.show.result c.show.new.answer
     (machine_of c.show.new.state)) same c.show.ensures.reply)

@@ -1,5 +1,5 @@
 use Rattle.bq_core.proofs.ActLemmas.{number_found}
-use Rattle.bq_core.proofs.acts.answer.Goals as goal
+use Rattle.bq_core.proofs.acts.carry_out.Goals as goal
 
 pub returns-in-Reserve-clause-reply : goal.returns-in-Reserve-clause-reply
 returns-in-Reserve-clause-reply c s found =
