@@ -234,9 +234,7 @@ pub(crate) fn change(catalog: &mut Catalog<TubeName, TubeEntry>, name: &TubeName
         ≡ edited_at name.now (kept_changed what) catalog.old.entries }
     ensures ordered { InOrder (slice_cmp nat_cmp) catalog.old.entries }
 {
-    if let Some(entry) = catalog.get_mut(name) {
-        entry.change(what);
-    }
+    let _changed = catalog.edit(name, &what);
 }
 
 /// Ends the pause of the tube with this name, if it is due. Here, too, the names are in ascending
@@ -246,8 +244,49 @@ pub(crate) fn end_pause(catalog: &mut Catalog<TubeName, TubeEntry>, name: &TubeN
         ≡ edited_at name.now (ended moment) catalog.old.entries }
     ensures ordered { InOrder (slice_cmp nat_cmp) catalog.old.entries }
 {
-    if let Some(entry) = catalog.get_mut(name) {
-        entry.fire_timer(moment);
+    let _changed = catalog.edit(name, &PauseTimer { moment });
+}
+
+impl Edit<TubeEntry, ()> for TubeChange {
+    ghost edited = { kept_changed };
+
+    ghost told = { λ _ _. tt };
+
+    fn edit(&self, entry: &mut TubeEntry) {
+        entry.change(*self);
+    }
+}
+
+// The timer of a pause fires at this moment, if the pause is due.
+#[derive(Clone, Copy)]
+struct PauseTimer {
+    moment: Moment,
+}
+
+impl Edit<TubeEntry, ()> for PauseTimer {
+    ghost edited = { λ timer. ended timer.moment };
+
+    ghost told = { λ _ _. tt };
+
+    fn edit(&self, entry: &mut TubeEntry) {
+        entry.fire_timer(self.moment);
+    }
+}
+
+// The share of a seat is added to the counts of a tube, or removed.
+#[derive(Clone, Copy)]
+struct ShareChange {
+    moving: Moving,
+    share: Share,
+}
+
+impl Edit<TubeEntry, ()> for ShareChange {
+    ghost edited = { λ c. kept_recounted c.moving c.share };
+
+    ghost told = { λ _ _. tt };
+
+    fn edit(&self, entry: &mut TubeEntry) {
+        entry.recount(self.moving, self.share);
     }
 }
 
@@ -325,9 +364,7 @@ pub(crate) fn recount(
     ensures { catalog.new.entries
         ≡ edited_at name.now (kept_recounted moving share) catalog.old.entries }
 {
-    if let Some(entry) = catalog.get_mut(name) {
-        entry.recount(moving, share);
-    }
+    let _counted = catalog.edit(name, &ShareChange { moving, share });
 }
 
 /// How a seat counts at a tube: whether its client uses it, watches it, and waits for its jobs.
