@@ -5,6 +5,8 @@
 #[cfg(test)]
 mod answers;
 #[cfg(test)]
+mod byte_buffer;
+#[cfg(test)]
 mod cut_readings;
 #[cfg(test)]
 mod examples;
