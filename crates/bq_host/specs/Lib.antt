@@ -1,6 +1,7 @@
 pub mod Clocks
 pub mod Compared
 pub mod FaultCodes
+pub mod Journals
 pub mod LastParts
 pub mod MailStates
 pub mod Timed

@@ -19,9 +19,10 @@ use Rattle.bq_job.specs.machine.Steps.{IsStep, Outcome}
 use Rattle.bq_job.proofs.LawfulLemmas.{new_is_lawful}
 use Rattle.bq_job.proofs.OneClientLemmas.{answers_append}
 use Rattle.bq_job.proofs.ReplayLemmas.{replay_more, replay_none}
+use Rattle.bq_host.specs.Journals.{JournalState, with_entry, without_entry}
 use Rattle.bq_host.specs.LastParts.{EndsWith, last_part}
-use Rattle.bq_lock.specs.LockedState.{IsLawfulHold, IsReplayed, JournalState, LockedState, locked_of, new_locked, outbox_at, without_oldest}
-use Rattle.bq_lock.specs.LockedSteps.{AreDelivered, IsAdded, IsLeftOut, TakesStep, with_entry, without_entry}
+use Rattle.bq_lock.specs.LockedState.{IsLawfulHold, IsReplayed, LockedState, locked_of, new_locked, outbox_at, without_oldest}
+use Rattle.bq_lock.specs.LockedSteps.{AreDelivered, IsAdded, IsLeftOut, TakesStep}
 use Rattle.bq_lock.proofs.DeliveryLemmas.{few_delivered, outbox_past}
 use Rattle.bq_lock.proofs.LastPartLemmas.{ends_with_drop, ends_with_last, ends_with_more, ends_with_none, ends_with_then}
 

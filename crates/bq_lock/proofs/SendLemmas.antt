@@ -4,10 +4,8 @@ use denote.Param.Send.{AllSend, IsSend, sendable, recorded_send, struct_send}
 use denote.Struct.Declared.{fields, shape}
 use denote.Struct.Struct.{Struct}
 use Rattle.bq_core.proofs.SendLemmas.{core_sends}
-use Rattle.bq_host.proofs.SendLemmas.{heard_clock_sends}
-use Rattle.bq_job.specs.contracts.journal.Entry as Entry
+use Rattle.bq_host.proofs.SendLemmas.{heard_clock_sends, journal_sends}
 use Rattle.bq_lock.specs.contracts.locked.Locked as Locked
-use Rattle.bq_lock.specs.contracts.locked.journal.Journal as Journal
 use Rattle.bq_lock.specs.contracts.locked.outboxes.Outboxes as Outboxes
 use Rattle.bq_lock.specs.contracts.locked_desk.LockedDesk as LockedDesk
 use Rattle.bq_core_api.proofs.SendLemmas.{outs_sends}
@@ -15,12 +13,6 @@ use Rattle.std.proofs.Crossing as Crossing
 
 outboxes_sends : IsSend (Outboxes.the_field).row
 outboxes_sends = search (Crossing.crosses, sendable) depth 60 fits 20000
-
-entry_sends : IsSend Entry.the_row
-entry_sends = search (Crossing.crosses, sendable) depth 60 fits 20000
-
-journal_sends : IsSend (Journal.the_field).row
-journal_sends = search (entry_sends, Crossing.crosses, sendable) depth 60 fits 20000
 
 locked_sends : IsSend (Locked.the_field).row
 locked_sends = search (core_sends, outs_sends, outboxes_sends, journal_sends, Crossing.crosses, sendable) depth 60 fits 20000

@@ -1,20 +1,14 @@
 -- The content of the lock, and its invariant.
-use Rattle.std.specs.Prelude.{ℕ, Bool, true, ◌≡◌, ◌≤◌, List, [], Option, drop, length, replicate, slice_get, slice_index_or, slice_set}
+use Rattle.std.specs.Prelude.{ℕ, true, ◌≡◌, ◌≤◌, List, [], Option, drop, length, replicate, slice_get, slice_index_or, slice_set}
 use Rattle.bq_job.specs.declared.answer.Answer.{Answer}
-use Rattle.bq_job.specs.declared.journal.Entry.{Entry}
 use Rattle.bq_job.specs.declared.settings.Settings.{Settings}
 use Rattle.bq_job.specs.machine.Dispatch.{GivenAnswer}
 use Rattle.bq_job.specs.beside.Lawful.{IsLawful}
 use Rattle.bq_job.specs.machine.Machine.{Machine, new_machine}
 use Rattle.bq_job.specs.beside.Replay.{Replay}
 use Rattle.bq_job.specs.promise.Runs.{answers_to}
+use Rattle.bq_host.specs.Journals.{JournalState}
 use Rattle.bq_host.specs.LastParts.{EndsWith}
-
--- the entries of a journal, how many it has room for in all, and whether it is complete
-pub record JournalState : Type 0 where
-  pub entries : List Entry
-  pub capacity : ℕ
-  pub whole : Bool
 
 pub record LockedState : Type 0 where
   pub machine : Machine

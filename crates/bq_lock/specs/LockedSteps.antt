@@ -1,5 +1,5 @@
 -- The effect of a step on the content of the lock.
-use Rattle.std.specs.Prelude.{ℕ, Bool, false, ◌≡◌, ◌<◌, ◌⊎◌, ◌&&◌, not, List, [], ◌∷◌, ◌++◌, map, length, IsTrue}
+use Rattle.std.specs.Prelude.{ℕ, Bool, ◌≡◌, ◌<◌, ◌⊎◌, List, ◌++◌, map, length, IsTrue}
 use Rattle.bq_job.specs.declared.answer.Answer.{Answer}
 use Rattle.bq_job.specs.declared.journal.Entry.{Entry}
 use Rattle.bq_job.specs.declared.step.Step.{Step}
@@ -7,22 +7,14 @@ use Rattle.bq_job.specs.machine.Dispatch.{GivenAnswer}
 use Rattle.bq_job.specs.promise.Runs.{answers_to}
 use Rattle.bq_job.specs.beside.StepBody.{has_body}
 use Rattle.bq_job.specs.machine.Steps.{IsStep, Outcome}
+use Rattle.bq_host.specs.Journals.{JournalState, with_entry, without_entry}
 use Rattle.bq_host.specs.LastParts.{last_part}
-use Rattle.bq_lock.specs.LockedState.{JournalState, LockedState, outbox_at}
+use Rattle.bq_lock.specs.LockedState.{LockedState, outbox_at}
 
 -- The answers went into the outboxes of their seats, each of which keeps the last four.
 pub record AreDelivered (given : List GivenAnswer) (old new : List (List Answer)) : Type 0 where
   pub many : length new ≡ length old
   pub each : (seat : ℕ) → seat < length old → outbox_at seat new ≡ last_part 4 (outbox_at seat old ++ answers_to seat given)
-
--- the journal with one more entry; `unshared` tells whether the allocation of a reference to a body
--- failed in the step
-abbrev pub with_entry : Entry → Bool → JournalState → JournalState
-with_entry entry unshared old = record old { entries = old.entries ++ entry ∷ []; whole = old.whole && not unshared }
-
--- the journal after a step without an entry
-abbrev pub without_entry : JournalState → JournalState
-without_entry old = record old { whole = false }
 
 -- The step's entry was added.
 pub record IsAdded (old : JournalState) (entry : Entry) (unshared : Bool) (new : JournalState) : Type 0 where

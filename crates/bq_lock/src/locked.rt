@@ -5,13 +5,11 @@ ghost use Rattle.bq_job.specs.beside.NextDue.{next_due};
 ghost use Rattle.bq_lock.specs.LockedState.{IsLawfulHold, new_locked, oldest_for, without_oldest};
 ghost use Rattle.bq_lock.specs.LockedSteps.{TakesStep};
 
-mod journal;
 mod outboxes;
 
 use bq_core::{Config, Core, Outs};
-use bq_host::{RunFault, new_core};
+use bq_host::{Journal, RunFault, new_core};
 use bq_job::{Answer, Entry, Moment, Seat, Step};
-use journal::Journal;
 use outboxes::Outboxes;
 use std::alloc::Global;
 use std::marker::Model;

@@ -1,7 +1,7 @@
-//! The journal under the lock.
+//! The journal of the steps that a core took.
 ghost use Rattle.std.specs.Prelude.{◌≡◌, ◌<◌, [], IfOk, IfSome, IsNone, IsSome, IsTrue, length, true};
 ghost use Rattle.bq_job.specs.beside.StepBody.{has_body};
-ghost use Rattle.bq_lock.specs.LockedSteps.{with_entry, without_entry};
+ghost use Rattle.bq_host.specs.Journals.{with_entry, without_entry};
 
 use bq_job::{Entry, Moment, NoMemory, Seat, Step};
 use std::alloc::Global;
@@ -18,7 +18,7 @@ pub struct Journal {
 impl Model for Journal {
     ghost use Rattle.std.specs.Prelude.{◌≤◌};
     ghost use Rattle.std.specs.Vec.{vec_capacity};
-    ghost use Rattle.bq_lock.specs.LockedState.{JournalState};
+    ghost use Rattle.bq_host.specs.Journals.{JournalState};
 
     ghost Value = { JournalState };
 
