@@ -7,11 +7,11 @@ use Rattle.crossbeam_queue.specs.Fifo.{Pushes, Pops, Learns}
 use Rattle.bq_job.specs.declared.step.Step.{Step}
 use Rattle.bq_link.specs.declared.ends.View.{View}
 use Rattle.bq_link.specs.Delivery.{Delivers, IsCorePass, IsSeatPass, WaitsOf, core_view}
-use Rattle.bq_link.specs.Submissions.{AreBelow, Covers, MaySubmit, MayTake, Past, steps_of}
+use Rattle.bq_link.specs.Submissions.{AreBelow, Covers, MaySubmit, MayTake, Invariant, steps_of}
 use Rattle.bq_link.proofs.ViewLemmas.{apart, differ, each_more, each_set, no}
 use Rattle.bq_link.proofs.SubmissionLemmas.{below_at, below_push, covers_push, of_other, of_own}
 
-pub begins : (was : Past) → was [] [] → Delivers was [] (core_view [] [] 0 ∷ [])
+pub begins : (was : Invariant) → was [] [] → Delivers was [] (core_view [] [] 0 ∷ [])
 begins was start = record {
   core = 0;
   owner = λ _. None;
@@ -35,7 +35,7 @@ core_grows core owner history taken t from j u is old may = let o = old may in (
   covers_push history t u.told o.4,
 )
 
-pub submits : (was : Past) (n pass : ℕ) (v : View) (step : Step) → v.submits ≡ true → MaySubmit was n v.number step
+pub submits : (was : Invariant) (n pass : ℕ) (v : View) (step : Step) → v.submits ≡ true → MaySubmit was n v.number step
     → Pushes (Delivers was) n pass v (v.number, step) (λ w. w ≡ record v { submitted = v.submitted ++ step ∷ [] })
 submits was n pass v step may stays items views room h at =
     let w : View = record v { submitted = v.submitted ++ step ∷ [] } in
@@ -65,14 +65,14 @@ submits was n pass v step may stays items views room h at =
     )
 
 -- the same, if the pass's number is known under another name
-pub submits_as : (was : Past) (n pass : ℕ) (v : View) (number : ℕ) (step : Step) → v.submits ≡ true → v.number ≡ number
+pub submits_as : (was : Invariant) (n pass : ℕ) (v : View) (number : ℕ) (step : Step) → v.submits ≡ true → v.number ≡ number
     → MaySubmit was n number step → Pushes (Delivers was) n pass v (number, step)
     (λ w. w ≡ record v { submitted = v.submitted ++ step ∷ [] })
 submits_as was n pass v number step may is =
     subst (λ k. MaySubmit was n k step → Pushes (Delivers was) n pass v (k, step)
     (λ w. w ≡ record v { submitted = v.submitted ++ step ∷ [] })) is (submits was n pass v step may)
 
-pub takes : (was : Past) (pass : ℕ) (v : View) → v.takes ≡ true → MayTake was
+pub takes : (was : Invariant) (pass : ℕ) (v : View) → v.takes ≡ true → MayTake was
     → Pops (Delivers was) pass v (λ x w. (w ≡ record v { taken = v.taken ++ x ∷ [] }) × (x.0 < v.made))
 takes was pass v may stays x items views h at =
     let w : View = record v { taken = v.taken ++ x ∷ [] } in
@@ -95,28 +95,28 @@ takes was pass v may stays x items views h at =
     )
 
 -- if the intake is full
-pub waits : (was : Past) (pass : ℕ) (v : View) → v.submits ≡ true → Learns (Delivers was) pass v (WaitsOf was v)
+pub waits : (was : Invariant) (pass : ℕ) (v : View) → v.submits ≡ true → Learns (Delivers was) pass v (WaitsOf was v)
 waits was pass v may items views h at = (h.taken, h.real, ap (steps_of v.number) (sym h.whole) ∙ (h.seats pass v at may).1)
 
 -- the taken steps and those that wait, as the core's pass sees them
-seen : (was : Past) (pass : ℕ) (v : View) (items : List (ℕ × Step)) (views : List View) → v.takes ≡ true → (h : Delivers was items views)
-    → get_elem? views pass ≡ some v → h.history ≡ v.taken ++ items
+seen : (was : Invariant) (pass : ℕ) (v : View) (items : List (ℕ × Step)) (views : List View) → v.takes ≡ true
+    → (h : Delivers was items views) → get_elem? views pass ≡ some v → h.history ≡ v.taken ++ items
 seen was pass v items views may h at = h.whole ∙ ap (λ l. l ++ items) (sym (h.takes pass v at may).1)
 
--- the record holds for both
-real : (was : Past) (pass : ℕ) (v : View) (items : List (ℕ × Step)) (views : List View) → v.takes ≡ true → (h : Delivers was items views)
-    → get_elem? views pass ≡ some v → was v.taken items
+-- the invariant holds for both
+real : (was : Invariant) (pass : ℕ) (v : View) (items : List (ℕ × Step)) (views : List View) → v.takes ≡ true
+    → (h : Delivers was items views) → get_elem? views pass ≡ some v → was v.taken items
 real was pass v items views may h at = subst (λ l. was l items) (sym (h.takes pass v at may).1) h.real
 
 -- if the intake is empty
-pub covered : (was : Past) (pass : ℕ) (v : View) → v.takes ≡ true
+pub covered : (was : Invariant) (pass : ℕ) (v : View) → v.takes ≡ true
     → Learns (Delivers was) pass v (λ items. was v.taken items × Covers (v.taken ++ items) v.told)
 covered was pass v may items views h at = (
   real was pass v items views may h at,
   subst (λ l. Covers l v.told) (seen was pass v items views may h at) (h.takes pass v at may).4,
 )
 
-pub compares : (was : Past) (pass : ℕ) (v : View) → v.takes ≡ true → v.submits ≡ true
+pub compares : (was : Invariant) (pass : ℕ) (v : View) → v.takes ≡ true → v.submits ≡ true
     → Learns (Delivers was) pass v (λ items. was v.taken items × (steps_of v.number (v.taken ++ items) ≡ v.submitted))
 compares was pass v may and items views h at =
     (real was pass v items views may h at, ap (steps_of v.number) (sym (seen was pass v items views may h at)) ∙ (h.seats pass v at and).1)

@@ -7,12 +7,12 @@ use Rattle.crossbeam_queue.specs.Fifo.{Forks, Merges}
 use Rattle.crossbeam_queue.proofs.Lists.{at_set}
 use Rattle.bq_link.specs.declared.ends.View.{View}
 use Rattle.bq_link.specs.Delivery.{Delivers, IsCorePass, IsSeatPass, blank_view, seat_view}
-use Rattle.bq_link.specs.Submissions.{Past}
+use Rattle.bq_link.specs.Submissions.{Invariant}
 use Rattle.bq_link.proofs.SubmissionLemmas.{below_more, of_none}
 use Rattle.bq_link.proofs.ViewLemmas.{Each, apart, differ, each_more, each_set, given, given_else, given_here, no}
 
 -- a pass that permits nothing
-pub blanks : (was : Past) (pass : ℕ) (v : View) → Forks (Delivers was) pass v v blank_view
+pub blanks : (was : Invariant) (pass : ℕ) (v : View) → Forks (Delivers was) pass v v blank_view
 blanks was pass v items views h at = record {
   core = h.core;
   owner = h.owner;
@@ -27,7 +27,7 @@ blanks was pass v items views h at = record {
 }
 
 -- the next end
-pub makes : (was : Past) (pass : ℕ) (v : View) → v.takes ≡ true
+pub makes : (was : Invariant) (pass : ℕ) (v : View) → v.takes ≡ true
     → Forks (Delivers was) pass v (record v { made = v.made + 1 }) (seat_view v.made [])
 makes was pass v may items views h at =
     let left : View = record v { made = v.made + 1 } in
@@ -66,7 +66,7 @@ makes was pass v may items views h at =
     }
 
 -- the core's pass absorbs that of an end
-pub joins : (was : Past) (pass : ℕ) (v : View) (other : ℕ) (w : View) → v.takes ≡ true → w.submits ≡ true
+pub joins : (was : Invariant) (pass : ℕ) (v : View) (other : ℕ) (w : View) → v.takes ≡ true → w.submits ≡ true
     → Merges (Delivers was) pass v other w (record v {
       submits = true;
       number = w.number;
@@ -106,7 +106,7 @@ joins was pass v other w may and items views h at two at' =
     }
 
 -- and splits it off again
-pub parts : (was : Past) (pass : ℕ) (v : View) → v.takes ≡ true → v.submits ≡ true
+pub parts : (was : Invariant) (pass : ℕ) (v : View) → v.takes ≡ true → v.submits ≡ true
     → Forks (Delivers was) pass v (record v { submits = false }) (seat_view v.number v.submitted)
 parts was pass v may and items views h at =
     let left : View = record v { submits = false } in

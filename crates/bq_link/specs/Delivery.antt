@@ -4,7 +4,7 @@ use mathlib.Core.Option.{some}
 use lib.ListN.{get_elem?}
 use Rattle.bq_job.specs.declared.step.Step.{Step}
 use Rattle.bq_link.specs.declared.ends.View.{View}
-use Rattle.bq_link.specs.Submissions.{AreBelow, Covers, Past, steps_of}
+use Rattle.bq_link.specs.Submissions.{AreBelow, Covers, Invariant, steps_of}
 
 -- what an end's thread knows: the steps that it submitted
 abbrev pub seat_view : ℕ → List Step → View
@@ -47,8 +47,8 @@ IsCorePass core owner history taken pass v = v.takes ≡ true
     × AreBelow v.made history × Covers history v.told
 
 -- the submitted steps are those that were taken and then those that wait, each pass knows its part,
--- and the record holds
-pub record Delivers (was : Past) (items : List (ℕ × Step)) (views : List View) : Type 0 where
+-- and the intake's invariant holds
+pub record Delivers (was : Invariant) (items : List (ℕ × Step)) (views : List View) : Type 0 where
   pub core : ℕ
   pub owner : ℕ → Option ℕ
   pub history : List (ℕ × Step)
@@ -59,5 +59,5 @@ pub record Delivers (was : Past) (items : List (ℕ × Step)) (views : List View
   pub takes : (pass : ℕ) (v : View) → get_elem? views pass ≡ some v → IsCorePass core owner history taken pass v
 
 -- some steps were taken, and with those that wait, the end's steps are all that it submitted
-abbrev pub WaitsOf : Past → View → List (ℕ × Step) → Type 0
+abbrev pub WaitsOf : Invariant → View → List (ℕ × Step) → Type 0
 WaitsOf was v items = (taken : List (ℕ × Step)) × was taken items × (steps_of v.number (taken ++ items) ≡ v.submitted)

@@ -4,7 +4,7 @@ use denote.RawPtr.{Ptr}
 use Rattle.atomic_table.specs.Seated.{TableId}
 use Rattle.bq_job.specs.declared.answer.Answer.{Answer}
 use Rattle.bq_job.specs.declared.step.Step.{Step}
-use Rattle.bq_link.specs.Submissions.{Past, steps_of}
+use Rattle.bq_link.specs.Submissions.{Invariant, steps_of}
 
 -- the identity of a ring
 pub record RingId : Type 0 where
@@ -59,7 +59,7 @@ IsPair core seat = (core.intake ≡ seat.intake) × (slice_get core.rings seat.n
 
 -- at some moment this many steps waited in the intake, and every step that the end submitted was
 -- taken or among them
-abbrev pub WasFull : Past → ℕ → SeatState → Type 0
+abbrev pub WasFull : Invariant → ℕ → SeatState → Type 0
 WasFull was places seat = (taken waiting : List (ℕ × Step)) × was taken waiting
     × (length waiting ≡ places) × (steps_of seat.number (taken ++ waiting) ≡ seat.submitted)
 

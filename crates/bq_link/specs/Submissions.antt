@@ -15,15 +15,15 @@ Covers all known = AllByRecursion (λ k. (more : List Step) × (steps_of k.0 all
 abbrev pub AreBelow : ℕ → List (ℕ × Step) → Type 0
 AreBelow ends all = AllByRecursion (λ t. t.0 < ends) all
 
--- a property of an intake at each moment: of the steps taken so far, and of those that wait
-abbrev pub Past : Type 1
-Past = List (ℕ × Step) → List (ℕ × Step) → Type 0
+-- an invariant of an intake: a property of the steps taken so far and of those that wait
+abbrev pub Invariant : Type 1
+Invariant = List (ℕ × Step) → List (ℕ × Step) → Type 0
 
 -- it still holds after this step is appended to an intake that isn't full
-abbrev pub MaySubmit : Past → ℕ → ℕ → Step → Type 0
+abbrev pub MaySubmit : Invariant → ℕ → ℕ → Step → Type 0
 MaySubmit was places number step = (taken waiting : List (ℕ × Step))
     → length waiting < places → was taken waiting → was taken (waiting ++ (number, step) ∷ [])
 
 -- it still holds after the oldest step is removed
-abbrev pub MayTake : Past → Type 0
+abbrev pub MayTake : Invariant → Type 0
 MayTake was = (taken waiting : List (ℕ × Step)) (t : ℕ × Step) → was taken (t ∷ waiting) → was (taken ++ t ∷ []) waiting

@@ -48,10 +48,10 @@ const RING_PLACES: usize = 4;
 
 impl CoreEnd {
     // Makes the next seat's end, and the ring between it and the core's end.
-    pub(crate) fn next_end<J: Record>(
+    pub(crate) fn next_end<I: IntakeInvariant>(
         &mut self,
         alloc: Global,
-        intake: &Intake<J>,
+        intake: &Intake<I>,
     ) -> Result<SeatEnd, AllocError>
         requires intake { self.old.intake ≡ intake.now.id }
         requires few { length self.old.rings < 65536 }
@@ -75,17 +75,21 @@ impl CoreEnd {
     /// For `None` the contract states that at some moment after the last step was taken, the intake
     /// was empty; so everything that the core knows to be submitted was taken. It does not say
     /// whether that moment is during this call.
-    pub fn take<J: Record, R: Wait>(&mut self, rt: &R, intake: &Intake<J>) -> Option<(Seat, Step)>
+    pub fn take<I: IntakeInvariant, R: Wait>(
+        &mut self,
+        rt: &R,
+        intake: &Intake<I>,
+    ) -> Option<(Seat, Step)>
         requires intake { self.old.intake ≡ intake.now.id }
-        requires may { MayTake J.was }
+        requires may { MayTake I.was }
         ensures taken { IfSome result
             (λ t. self.new ≡ record self.old { taken = self.old.taken ++ t ∷ [] }) }
         ensures number { IfSome result (λ t. t.0 < length self.old.rings) }
         ensures none { IfNone result (self.new ≡ self.old) }
         ensures empty { IfNone result
-            (J.was self.old.taken [] × Covers self.old.taken self.old.told) }
+            (I.was self.old.taken [] × Covers self.old.taken self.old.told) }
     {
-        intake.queue.pop_as::<Takes<J>, R>(rt, &mut self.pass)
+        intake.queue.pop_as::<Takes<I>, R>(rt, &mut self.pass)
     }
 
     /// Returns true if no step waits. If there is none, this call changes nothing, whereas `take`
@@ -93,13 +97,13 @@ impl CoreEnd {
     ///
     /// For true the contract states the same as that of `take` for `None`.
     #[tactic(auto, using(crate::proofs::DeliveryLemmas::covered))]
-    pub fn is_empty<J: Record>(&mut self, intake: &Intake<J>) -> bool
+    pub fn is_empty<I: IntakeInvariant>(&mut self, intake: &Intake<I>) -> bool
         requires intake { self.old.intake ≡ intake.now.id }
         ensures same { self.new ≡ self.old }
         ensures empty { result ≡ true
-            → J.was self.old.taken [] × Covers self.old.taken self.old.told }
+            → I.was self.old.taken [] × Covers self.old.taken self.old.told }
     {
-        intake.queue.is_empty_as::<Takes<J>>(&mut self.pass)
+        intake.queue.is_empty_as::<Takes<I>>(&mut self.pass)
     }
 
     /// Returns true if the ring of the end with this number has room for one more answer, which
@@ -144,10 +148,10 @@ impl CoreEnd {
 
     /// For a thread that owns both ends: records in the core's end what the seat's end submitted.
     /// All of it was taken or still waits.
-    pub fn compare<J: Record>(&mut self, intake: &Intake<J>, seat: &mut SeatEnd)
+    pub fn compare<I: IntakeInvariant>(&mut self, intake: &Intake<I>, seat: &mut SeatEnd)
         requires core { self.old.intake ≡ intake.now.id }
         requires seat { seat.old.intake ≡ intake.now.id }
-        ensures waits { (waiting : List (ℕ × AStep)) × J.was self.old.taken waiting
+        ensures waits { (waiting : List (ℕ × AStep)) × I.was self.old.taken waiting
             × (seat.old.submitted
             ≡ steps_of seat.old.number self.old.taken ++ steps_of seat.old.number waiting) }
         ensures told { self.new ≡ with_told self.old seat.old }
@@ -157,13 +161,13 @@ impl CoreEnd {
         let blank = queue.another::<Blank>(&mut self.pass);
         let pass = mem::replace(&mut seat.pass, blank);
         queue.absorb::<InHand>(&mut self.pass, pass);
-        queue.learn_as::<Compares<J>>(&mut self.pass);
+        queue.learn_as::<Compares<I>>(&mut self.pass);
         seat.pass = queue.another::<InHand>(&mut self.pass);
     }
 
     /// Waits until a step is submitted, for at most `most`. It may return earlier, and does not
     /// report why it returned.
-    pub fn wait<J: Record, R: Wait>(&mut self, rt: &R, intake: &Intake<J>, most: Duration)
+    pub fn wait<I: IntakeInvariant, R: Wait>(&mut self, rt: &R, intake: &Intake<I>, most: Duration)
         ensures { self.new ≡ self.old }
     {
         intake.core.park_timeout(rt, most);
@@ -203,22 +207,22 @@ impl SeatEnd {
     ///
     /// For a returned step the contract states that at some moment after this end last submitted a
     /// step, the intake was full. It does not say whether that moment is during this call.
-    pub fn submit<J: Record, R: Wait>(
+    pub fn submit<I: IntakeInvariant, R: Wait>(
         &mut self,
         rt: &R,
-        intake: &Intake<J>,
+        intake: &Intake<I>,
         step: Step,
     ) -> Result<(), Step>
         requires intake { self.old.intake ≡ intake.now.id }
-        requires may { MaySubmit J.was intake.now.places self.old.number step }
+        requires may { MaySubmit I.was intake.now.places self.old.number step }
         ensures submitted { OnOk result
             (self.new ≡ record self.old { submitted = self.old.submitted ++ step ∷ [] }) }
         ensures handed_back { IfErr result (λ back. back ≡ step) }
         ensures unchanged { OnErr result (self.new ≡ self.old) }
-        ensures full { OnErr result (WasFull J.was intake.now.places self.old) }
+        ensures full { OnErr result (WasFull I.was intake.now.places self.old) }
     {
         let queue = &intake.queue;
-        match queue.push_as::<Submits<J>, R>(rt, &mut self.pass, (self.number, step)) {
+        match queue.push_as::<Submits<I>, R>(rt, &mut self.pass, (self.number, step)) {
             Ok(()) => {
                 intake.core.unpark();
                 Ok(())
@@ -229,23 +233,23 @@ impl SeatEnd {
 
     /// The same for a step passed by reference, so that it is copied less often. Returns true if it
     /// was submitted; `step` then has no meaning. Otherwise `step` is unchanged.
-    pub fn submit_in_place<J: Record, R: Wait>(
+    pub fn submit_in_place<I: IntakeInvariant, R: Wait>(
         &mut self,
         rt: &R,
-        intake: &Intake<J>,
+        intake: &Intake<I>,
         step: &mut Step,
     ) -> bool
         requires intake { self.old.intake ≡ intake.now.id }
-        requires may { MaySubmit J.was intake.now.places self.old.number step.old }
+        requires may { MaySubmit I.was intake.now.places self.old.number step.old }
         ensures submitted { result ≡ true
             → self.new ≡ record self.old { submitted = self.old.submitted ++ step.old ∷ [] } }
         ensures unchanged { result ≡ false → (self.new ≡ self.old) × (step.new ≡ step.old) }
-        ensures full { result ≡ false → WasFull J.was intake.now.places self.old }
+        ensures full { result ≡ false → WasFull I.was intake.now.places self.old }
     {
         let given = mem::replace(step, Step::Tick);
         match intake
             .queue
-            .try_push_as::<Submits<J>>(&mut self.pass, (self.number, given))
+            .try_push_as::<Submits<I>>(&mut self.pass, (self.number, given))
         {
             Ok(()) => {
                 intake.core.unpark();
@@ -259,19 +263,19 @@ impl SeatEnd {
     // tries until it is clear which. Not inlined, because it reserves and initializes room for
     // steps.
     #[inline(never)]
-    fn submit_again<J: Record, R: Wait>(
+    fn submit_again<I: IntakeInvariant, R: Wait>(
         &mut self,
         rt: &R,
-        intake: &Intake<J>,
+        intake: &Intake<I>,
         place: &mut Step,
         step: Step,
     ) -> bool
         requires intake { self.old.intake ≡ intake.now.id }
-        requires may { MaySubmit J.was intake.now.places self.old.number step }
+        requires may { MaySubmit I.was intake.now.places self.old.number step }
         ensures submitted { result ≡ true
             → self.new ≡ record self.old { submitted = self.old.submitted ++ step ∷ [] } }
         ensures unchanged { result ≡ false → (self.new ≡ self.old) × (place.new ≡ step) }
-        ensures full { result ≡ false → WasFull J.was intake.now.places self.old }
+        ensures full { result ≡ false → WasFull I.was intake.now.places self.old }
     {
         match self.submit(rt, intake, step) {
             Ok(()) => true,
@@ -304,7 +308,7 @@ impl SeatEnd {
 
     /// Waits until an answer is sent to this end, for at most `most`. It may return earlier, and
     /// does not report why it returned.
-    pub fn wait<J: Record, R: Wait>(&mut self, rt: &R, intake: &Intake<J>, most: Duration)
+    pub fn wait<I: IntakeInvariant, R: Wait>(&mut self, rt: &R, intake: &Intake<I>, most: Duration)
         ensures { self.new ≡ self.old }
     {
         if let Some(bell) = intake.seats.get(usize::from(self.number)) {
@@ -316,14 +320,14 @@ impl SeatEnd {
 /// The state that all ends share: the submitted steps that were not taken, a bell for each end, and
 /// whether yields are slow. A bell is a wake-up for one thread.
 #[derive(Drop)]
-pub struct Intake<J: Record> {
-    pub(crate) queue: RuledArrayQueue<(Seat, Step), View, Delivery<J>>,
+pub struct Intake<I: IntakeInvariant> {
+    pub(crate) queue: RuledArrayQueue<(Seat, Step), View, Delivery<I>>,
     pub(crate) core: Parker,
     pub(crate) seats: Vec<Parker>,
     pub(crate) are_yields_slow: AtomicBool,
 }
 
-impl<J: Record> Model for Intake<J> {
+impl<I: IntakeInvariant> Model for Intake<I> {
     ghost use Rattle.std.specs.Prelude.{ℕ, length};
     ghost use Rattle.bq_link.specs.EndStates.{IntakeState};
 
@@ -338,7 +342,7 @@ impl<J: Record> Model for Intake<J> {
     } };
 }
 
-impl<J: Record> Intake<J> {
+impl<I: IntakeInvariant> Intake<I> {
     /// Wakes up the thread of an end, so that it polls its mail. If the thread is not waiting, its
     /// next wait returns at once. A number without an end has no effect.
     pub fn wake(&self, seat: Seat) {
@@ -361,11 +365,11 @@ impl<J: Record> Intake<J> {
     }
 }
 
-/// A property of an intake, of the steps taken so far and those that wait. It holds at every
-/// moment. The caller of `links` chooses it, and every submission and every taken step must keep
-/// it. The calls of the ends are proved for any record, so whatever they state by means of it about
-/// a moment comes from the intake.
-pub trait Record {
+/// An invariant of an intake: a property of the steps taken so far and those that wait, which holds
+/// at every moment. The caller of `links` chooses it, and every submission and every taken step must
+/// keep it. The calls of the ends are proved for any invariant, so whatever they state by means of it
+/// about a moment comes from the intake.
+pub trait IntakeInvariant {
     ghost was: { List (ℕ × AStep) → List (ℕ × AStep) → Type 0 };
 }
 
@@ -384,44 +388,44 @@ pub struct View {
 }
 
 /// The submitted steps are those that were taken and then those that wait.
-pub struct Delivery<J> {
-    record: PhantomData<J>,
+pub struct Delivery<I> {
+    invariant: PhantomData<I>,
 }
 
-impl<J: Record> Protocol<(Seat, Step), View> for Delivery<J> {
+impl<I: IntakeInvariant> Protocol<(Seat, Step), View> for Delivery<I> {
     ghost use Rattle.std.specs.Prelude.{[]};
     ghost use Rattle.bq_link.specs.Delivery.{Delivers, core_view};
 
-    ghost holds = { Delivers J.was };
+    ghost holds = { Delivers I.was };
 
     ghost first = { core_view [] [] 0 };
 }
 
 /// A step is appended; if that fails, the intake is full.
-pub struct Submits<J> {
-    record: PhantomData<J>,
+pub struct Submits<I> {
+    invariant: PhantomData<I>,
 }
 
-impl<J: Record> Outcome<(Seat, Step), View> for Submits<J> {
+impl<I: IntakeInvariant> Outcome<(Seat, Step), View> for Submits<I> {
     ghost then = { λ v x w. w ≡ record v { submitted = v.submitted ++ x.1 ∷ [] } };
 }
 
-impl<J: Record> Lesson<(Seat, Step), View> for Submits<J> {
-    ghost fact = { λ v items. WaitsOf J.was v items };
+impl<I: IntakeInvariant> Lesson<(Seat, Step), View> for Submits<I> {
+    ghost fact = { λ v items. WaitsOf I.was v items };
 }
 
 /// The oldest step is removed; if there is none, everything that the core knows to be submitted was
 /// taken.
-pub struct Takes<J> {
-    record: PhantomData<J>,
+pub struct Takes<I> {
+    invariant: PhantomData<I>,
 }
 
-impl<J: Record> Outcome<(Seat, Step), View> for Takes<J> {
+impl<I: IntakeInvariant> Outcome<(Seat, Step), View> for Takes<I> {
     ghost then = { λ v x w. (w ≡ record v { taken = v.taken ++ x ∷ [] }) × (x.0 < v.made) };
 }
 
-impl<J: Record> Lesson<(Seat, Step), View> for Takes<J> {
-    ghost fact = { λ v items. J.was v.taken items × Covers (v.taken ++ items) v.told };
+impl<I: IntakeInvariant> Lesson<(Seat, Step), View> for Takes<I> {
+    ghost fact = { λ v items. I.was v.taken items × Covers (v.taken ++ items) v.told };
 }
 
 /// The core's pass makes that of the next end.
@@ -464,10 +468,10 @@ impl Split<View> for InHand {
 
 /// The steps of the end that the core took, and then those that wait, are those that the end
 /// submitted.
-pub struct Compares<J> {
-    record: PhantomData<J>,
+pub struct Compares<I> {
+    invariant: PhantomData<I>,
 }
 
-impl<J: Record> Lesson<(Seat, Step), View> for Compares<J> {
-    ghost fact = { λ v items. J.was v.taken items × (steps_of v.number (v.taken ++ items) ≡ v.submitted) };
+impl<I: IntakeInvariant> Lesson<(Seat, Step), View> for Compares<I> {
+    ghost fact = { λ v items. I.was v.taken items × (steps_of v.number (v.taken ++ items) ≡ v.submitted) };
 }

@@ -9,7 +9,7 @@ pub fn pairs_stay()
     ensures { PairsStay }
 {}
 
-/// For each end and each size of an intake there is a record that the end keeps, that holds for
+/// For each end and each size of an intake there is an invariant that the end keeps, that holds for
 /// each intake with a free place, and that rules out a refusal. So a `submit` that returns a step
 /// has met a full intake after the last step that it submitted.
 #[tactic(auto, using(crate::proofs::LookLemmas::no_refusal))]
@@ -17,8 +17,8 @@ pub fn refusals_are_of_full_intakes()
     ensures { (places : ℕ) (seat : SeatState) → TellsNoRefusal places seat }
 {}
 
-/// For any list of taken steps there is a record that the core keeps, that holds for each intake in
-/// which a step waits, and that rules out an empty intake. So a `take` that returns `None` has met
+/// For any list of taken steps there is an invariant that the core keeps, that holds for each intake
+/// in which a step waits, and that rules out an empty intake. So a `take` that returns `None` has met
 /// an empty intake after the last step that it took.
 #[tactic(auto, using(crate::proofs::LookLemmas::none_empty))]
 pub fn empty_looks_are_of_empty_intakes()

@@ -6,7 +6,7 @@
 #![tactic(auto)]
 
 pub use anything::Anything;
-pub use ends::{CoreEnd, Intake, Record, SeatEnd};
+pub use ends::{CoreEnd, Intake, IntakeInvariant, SeatEnd};
 pub use laws::{empty_looks_are_of_empty_intakes, pairs_stay, refusals_are_of_full_intakes};
 pub use making::links;
 pub use no_ticks::NoTicks;

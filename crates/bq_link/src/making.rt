@@ -1,7 +1,7 @@
 ghost use Rattle.std.specs.Prelude.{◌≡◌, ◌+◌, ◌*◌, ◌≤◌, [], IfOk, OnOk, length};
 ghost use Rattle.bq_link.specs.NewEnds.{AreNewSeats, IsNewCore};
 
-use crate::ends::{CoreEnd, Intake, Record, SeatEnd};
+use crate::ends::{CoreEnd, Intake, IntakeInvariant, SeatEnd};
 use bq_job::NoMemory;
 use crossbeam_queue::RuledArrayQueue;
 use std::alloc::{AllocError, Global};
@@ -10,12 +10,12 @@ use std::thread::Parker;
 
 /// Makes an intake for `seats` seats, an end for each of them, then one for the control line, and
 /// one for the core. All memory of the links is allocated here; returns `NoMemory` if that fails.
-pub fn links<J: Record>(
+pub fn links<I: IntakeInvariant>(
     alloc: Global,
     seats: u16,
-) -> Result<(Intake<J>, CoreEnd, Vec<SeatEnd>), NoMemory>
+) -> Result<(Intake<I>, CoreEnd, Vec<SeatEnd>), NoMemory>
     requires seats { (1 ≤ seats) × (seats ≤ 256) }
-    requires start { J.was [] [] }
+    requires start { I.was [] [] }
     ensures intake { IfOk result (λ r. r.0.places ≡ 2 * (seats + 1)) }
     ensures bells { IfOk result (λ r. r.0.bells ≡ seats + 1) }
     ensures core { IfOk result (λ r. (r.1.intake ≡ r.0.id) × IsNewCore (seats + 1) r.1) }
@@ -27,12 +27,12 @@ pub fn links<J: Record>(
     }
 }
 
-fn all_ends<J: Record>(
+fn all_ends<I: IntakeInvariant>(
     alloc: Global,
     ends: usize,
-) -> Result<(Intake<J>, CoreEnd, Vec<SeatEnd>), AllocError>
+) -> Result<(Intake<I>, CoreEnd, Vec<SeatEnd>), AllocError>
     requires ends { (1 ≤ ends) × (ends ≤ 257) }
-    requires start { J.was [] [] }
+    requires start { I.was [] [] }
     ensures intake { IfOk result (λ r. r.0.places ≡ 2 * ends) }
     ensures bells { IfOk result (λ r. r.0.bells ≡ ends) }
     ensures core { IfOk result (λ r. (r.1.intake ≡ r.0.id) × IsNewCore ends r.1) }
@@ -47,9 +47,9 @@ fn all_ends<J: Record>(
     }
 }
 
-fn seat_ends<J: Record>(
+fn seat_ends<I: IntakeInvariant>(
     alloc: Global,
-    intake: &Intake<J>,
+    intake: &Intake<I>,
     core: &mut CoreEnd,
     ends: usize,
 ) -> Result<Vec<SeatEnd>, AllocError>
@@ -74,9 +74,12 @@ fn seat_ends<J: Record>(
 
 // The intake, and the core's end before any seat's end is made.
 #[tactic(auto, using(crate::proofs::DeliveryLemmas::begins))]
-fn no_ends<J: Record>(alloc: Global, ends: usize) -> Result<(Intake<J>, CoreEnd), AllocError>
+fn no_ends<I: IntakeInvariant>(
+    alloc: Global,
+    ends: usize,
+) -> Result<(Intake<I>, CoreEnd), AllocError>
     requires ends { (1 ≤ ends) × (ends ≤ 257) }
-    requires start { J.was [] [] }
+    requires start { I.was [] [] }
     ensures intake { IfOk result (λ r. r.0.places ≡ 2 * ends) }
     ensures bells { IfOk result (λ r. r.0.bells ≡ ends) }
     ensures core { IfOk result (λ r. (r.1.intake ≡ r.0.id) × IsNewCore 0 r.1) }

@@ -1,11 +1,11 @@
-//! The record of a run's intake.
+//! The invariant of a run's intake.
 
-use crate::ends::Record;
+use crate::ends::IntakeInvariant;
 
 /// No submitted step is a tick; only the core lets time pass.
 pub struct NoTicks;
 
-impl Record for NoTicks {
+impl IntakeInvariant for NoTicks {
     ghost use Rattle.std.specs.Prelude.{◌++◌};
     ghost use Rattle.bq_link.specs.Ticks.{IsTickless};
 

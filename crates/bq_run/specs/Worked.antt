@@ -11,7 +11,7 @@ use Rattle.bq_job.specs.machine.Machine.{Machine, new_machine}
 use Rattle.bq_job.specs.promise.Runs.{Entry, Run, answers_to}
 use Rattle.bq_job.specs.machine.Steps.{IsStep, Outcome}
 use Rattle.bq_link.specs.EndStates.{CoreState, IsSameCore, sent_to}
-use Rattle.bq_link.specs.Submissions.{AreBelow, steps_of}
+use Rattle.bq_link.specs.Submissions.{AreBelow, Invariant, steps_of}
 use Rattle.bq_host.specs.Compared.{AreWithin, LooksOnce}
 use Rattle.bq_host.specs.Timed.{IsReady}
 use Rattle.bq_host.specs.Clocks.{Gives}
@@ -115,10 +115,9 @@ TurnWent machine old new =
     ⊎ (TookOne old.sender.end new.sender.end ⊎ (HasTicked machine old new ⊎ IsIdle machine old new))
 
 -- What the core found when it looked for work. Answers that were stuck at full rings still are. If the
--- result is false, an empty intake had the property `was` after the last step that was taken, and
--- nothing is due. If it is true, the core took a step or a tick.
-abbrev pub FindsWork : {C K : Type 0} → (List (ℕ × Step) → List (ℕ × Step) → Type 0) → (K → Machine) → CoreDriver C K → CoreDriver C K → Bool
-    → Type 0
+-- result is false, the intake's invariant held of an empty intake after the last step that was taken,
+-- and nothing is due. If it is true, the core took a step or a tick.
+abbrev pub FindsWork : {C K : Type 0} → Invariant → (K → Machine) → CoreDriver C K → CoreDriver C K → Bool → Type 0
 FindsWork was machine old new result =
     (AreStuck old.sender.end old.sender.kept.items → AreStuck new.sender.end new.sender.kept.items)
     × (result ≡ false → was old.sender.end.taken []) × (result ≡ false → IsIdle machine old new)

@@ -20,7 +20,7 @@ use bq_line::buffers::Buffers;
 use bq_line::control::{ControlLink, submit_control};
 use bq_line::control_line::ControlInput;
 use bq_line::line::Line;
-use bq_link::{Intake, NoTicks, Record, SeatEnd};
+use bq_link::{Intake, IntakeInvariant, NoTicks, SeatEnd};
 use bq_seat::{Action, SeatMachine};
 use std::alloc::Global;
 use std::hint::spin_loop;
@@ -280,20 +280,20 @@ impl<'a, R: Wait> ControlLink for SeatLink<'a, R> {
 // Submits the step in `step`, and leaves it there if the intake is full. A tick is never submitted
 // by a seat and is dropped.
 //
-// The contract holds for any property that the intake has at each moment: if the step was not
-// submitted, a full intake had it after the last step that this end submitted.
-fn submit_at<R: Wait, J: Record>(
+// The contract holds for any invariant of the intake: if the step was not submitted, it held of a
+// full intake after the last step that this end submitted.
+fn submit_at<R: Wait, I: IntakeInvariant>(
     rt: &R,
-    intake: &Intake<J>,
+    intake: &Intake<I>,
     end: &mut SeatEnd,
     step: &mut Step,
 ) -> bool
     requires intake { end.old.intake ≡ intake.now.id }
     requires may { is_tick step.old ≡ false
-        → MaySubmit J.was intake.now.places end.old.number step.old }
+        → MaySubmit I.was intake.now.places end.old.number step.old }
     ensures intake { end.new.intake ≡ intake.now.id }
     ensures went { SubmitsInPlace EndWent end.old step.old result step.new end.new }
-    ensures full { result ≡ false → WasFull J.was intake.now.places end.old }
+    ensures full { result ≡ false → WasFull I.was intake.now.places end.old }
 {
     if matches!(step, Step::Tick) {
         return true;

@@ -20,7 +20,7 @@ pub use bq_line::line::{
 pub use bq_line::{
     Door, DoorFault, FreeDoors, Listen, ListenDoor, MemDoor, OpenDoors, Opening, Refusals, TcpDoor,
 };
-pub use bq_link::{Anything, CoreEnd, Intake, NoTicks, Record, SeatEnd, links};
+pub use bq_link::{Anything, CoreEnd, Intake, IntakeInvariant, NoTicks, SeatEnd, links};
 pub use bq_lock::{Locked, LockedRun, run_locked};
 pub use bq_run::control_work::control_work;
 pub use bq_run::core_work::{CoreRoom, core_work};

@@ -12,7 +12,7 @@ use bq_core_api::{Outs, QueueCore};
 use bq_host::TimedCore;
 use bq_job::{Seat, Step};
 use bq_line::clock::Clock;
-use bq_link::{CoreEnd, Intake, NoTicks, Record};
+use bq_link::{CoreEnd, Intake, IntakeInvariant, NoTicks};
 use std::alloc::Global;
 use std::hint::spin_loop;
 use std::sync::Wait;
@@ -206,15 +206,15 @@ impl<C: Clock + Drop, K: QueueCore + Drop> CoreDriver<C, K> {
     // Takes the oldest waiting step. If there is none, it takes a tick if something is due. Returns
     // true if there was something to do.
     //
-    // The contract holds for any property that the intake has at each moment: if there was nothing
-    // to do, an empty intake had it after the last step that was taken.
-    fn go_on<R: Wait, J: Record>(&mut self, rt: &R, intake: &Intake<J>) -> bool
+    // The contract holds for any invariant of the intake: if there was nothing to do, it held of an
+    // empty intake after the last step that was taken.
+    fn go_on<R: Wait, I: IntakeInvariant>(&mut self, rt: &R, intake: &Intake<I>) -> bool
         requires intake { self.old.sender.end.intake ≡ intake.now.id }
-        requires may { MayTake J.was }
+        requires may { MayTake I.was }
         requires order { IsInOrder K.machine self.old }
         requires none { self.old.timed.outs.given ≡ [] }
         ensures on { WorksOn C.given K.machine K.comparisons self.old self.new }
-        ensures found { FindsWork J.was K.machine self.old self.new result }
+        ensures found { FindsWork I.was K.machine self.old self.new result }
     {
         if self.sender.has_none(intake) {
             self.tick_if_due()
@@ -226,13 +226,13 @@ impl<C: Clock + Drop, K: QueueCore + Drop> CoreDriver<C, K> {
     // The same when a step was seen. It is not inlined because it needs stack space for steps,
     // which a function initializes when it starts.
     #[inline(never)]
-    fn take_one<R: Wait, J: Record>(&mut self, rt: &R, intake: &Intake<J>) -> bool
+    fn take_one<R: Wait, I: IntakeInvariant>(&mut self, rt: &R, intake: &Intake<I>) -> bool
         requires intake { self.old.sender.end.intake ≡ intake.now.id }
-        requires may { MayTake J.was }
+        requires may { MayTake I.was }
         requires order { IsInOrder K.machine self.old }
         requires none { self.old.timed.outs.given ≡ [] }
         ensures on { WorksOn C.given K.machine K.comparisons self.old self.new }
-        ensures found { FindsWork J.was K.machine self.old self.new result }
+        ensures found { FindsWork I.was K.machine self.old self.new result }
     {
         match self.sender.next_step(rt, intake) {
             Some(taken) => {

@@ -7,7 +7,7 @@ ghost use Rattle.bq_link.specs.Submissions.{MayTake};
 
 use bq_core_api::Outs;
 use bq_job::{Answer, Seat, Step};
-use bq_link::{CoreEnd, Intake, NoTicks, Record};
+use bq_link::{CoreEnd, Intake, IntakeInvariant, NoTicks};
 use std::alloc::Global;
 use std::collections::VecDeque;
 use std::mem;
@@ -52,25 +52,25 @@ impl Sender {
     }
 
     /// Takes the oldest step out of the intake.
-    pub fn next_step<R: Wait, J: Record>(
+    pub fn next_step<R: Wait, I: IntakeInvariant>(
         &mut self,
         rt: &R,
-        intake: &Intake<J>,
+        intake: &Intake<I>,
     ) -> Option<(Seat, Step)>
         requires intake { self.old.end.intake ≡ intake.now.id }
-        requires may { MayTake J.was }
+        requires may { MayTake I.was }
         ensures taken { IfSome result
             (λ t. self.new ≡ record self.old { end = record self.old.end { taken = self.old.end.taken ++ t ∷ [] } }) }
         ensures number { IfSome result (λ t. t.0 < length self.old.end.rings) }
-        ensures none { IfNone result ((self.new ≡ self.old) × J.was self.old.end.taken []) }
+        ensures none { IfNone result ((self.new ≡ self.old) × I.was self.old.end.taken []) }
     {
         self.end.take(rt, intake)
     }
 
     /// Returns true if no step waits.
-    pub fn has_none<J: Record>(&mut self, intake: &Intake<J>) -> bool
+    pub fn has_none<I: IntakeInvariant>(&mut self, intake: &Intake<I>) -> bool
         requires intake { self.old.end.intake ≡ intake.now.id }
-        ensures empty { result ≡ true → J.was self.old.end.taken [] }
+        ensures empty { result ≡ true → I.was self.old.end.taken [] }
         ensures same { self.new ≡ self.old }
     {
         self.end.is_empty(intake)

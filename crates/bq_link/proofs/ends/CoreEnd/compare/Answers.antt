@@ -31,7 +31,7 @@ returns-clause-waits g c =
     let submitted = ap (λ v. v.submitted) joined ∙ ap (λ (p : Pass (ℕ × Step) View). (view p).submitted) pass
     ∙ ap (λ s. s.submitted) c.seat.view_is in (
       seen.0,
-      subst (λ l. g.J.Record.was l seen.0) taken seen.1.0,
+      subst (λ l. g.I.IntakeInvariant.was l seen.0) taken seen.1.0,
       of_parts c.args.seat.now.number c.args.self.now.taken seen.0 _
           ((λ i. steps_of (sym number i) (sym taken i ++ seen.0)) ∙ seen.1.1 ∙ submitted),
     )
