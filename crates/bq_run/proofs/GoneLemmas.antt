@@ -9,7 +9,7 @@ use Rattle.bq_job.specs.promise.ControlDid.{IsControlDone, drains}
 use Rattle.bq_job.specs.promise.History.{LineOver}
 use Rattle.bq_job.specs.promise.LineOwed.{IsLineOwed}
 use Rattle.bq_job.specs.beside.SeatDid.{AreLinesServed, IsSeatDone}
-use Rattle.bq_run.specs.CoreWork.{HasGone}
+use Rattle.bq_thread_work.specs.CoreWork.{HasGone}
 
 abbrev is_gone : Step → Bool
 is_gone steps.Gone = true

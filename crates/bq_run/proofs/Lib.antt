@@ -1,9 +1,4 @@
-pub mod EndLemmas
 pub mod GoneLemmas
 pub mod LinkedLemmas
-pub mod SeatWorkLemmas
-pub mod SendingLemmas
 pub mod SettleLemmas
 pub mod ThreadLemmas
-pub mod TurnLemmas
-pub mod WorkedLemmas

@@ -23,7 +23,7 @@ use Rattle.bq_line.specs.Tending.{DoorSeen, IsDoorServed}
 use Rattle.bq_line.specs.declared.control_line.ControlLine.{ControlLine}
 use Rattle.bq_job.proofs.JoinLemmas.{doors_owed}
 use Rattle.bq_host.specs.Compared.{AreCompared}
-use Rattle.bq_run.specs.CoreWork.{IsCoreDone}
+use Rattle.bq_thread_work.specs.CoreWork.{IsCoreDone}
 use Rattle.bq_link.specs.Ticks.{IsTickless}
 use Rattle.bq_run.specs.Linked.{AreSettled, AreStill, IsCoreStill, IsEndOf, IsLinked, IsSettled}
 use Rattle.bq_run.specs.Threads.{AreServed, IsControlOver, IsCoreOver}

@@ -13,7 +13,7 @@ use Rattle.bq_host.specs.declared.fault.RunFault.TheVariants.{BadConfiguration, 
 use Rattle.bq_link.specs.EndStates.{CoreState, IsSameCore, IsSameSeat, SeatState}
 use Rattle.bq_link.specs.NewEnds.{AreNewSeats}
 use Rattle.atomic_table.specs.Seated.{TableId}
-use Rattle.bq_run.specs.Ends.{IsNewEnd}
+use Rattle.bq_thread_work.specs.Ends.{IsNewEnd}
 use Rattle.bq_run.specs.Linked.{ArePaired}
 use Rattle.bq_run.specs.Threads.{AreServed}
 

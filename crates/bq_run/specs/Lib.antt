@@ -1,9 +1,3 @@
-pub mod CoreWork
-pub mod Ends
-pub mod Flags
 pub mod Linked
-pub mod Rests
-pub mod Sending
 pub mod ThreadRuns
 pub mod Threads
-pub mod Worked

@@ -8,7 +8,7 @@ use Rattle.bq_line.specs.Tending.{AreSame, DoorSeen, IsDoorServed}
 use Rattle.bq_line.specs.declared.control_line.ControlLine.{ControlLine}
 use Rattle.bq_link.specs.EndStates.{CoreState, IsSameCore, IsSameSeat, SeatState}
 use Rattle.bq_host.specs.Clocks.{Gives}
-use Rattle.bq_run.specs.CoreWork.{IsCoreDone}
+use Rattle.bq_thread_work.specs.CoreWork.{IsCoreDone}
 use Rattle.bq_run.specs.declared.run.posts.EndedEnds.{EndedEnds}
 
 -- The seats' threads have ended, in the order of their seats: each has the end that it began with,

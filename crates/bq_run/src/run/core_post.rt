@@ -3,14 +3,14 @@ ghost use Rattle.std.specs.Prelude.{◌≡◌, ◌<◌, ◌+◌, ◌↔◌, [], 
 ghost use Rattle.bq_job.specs.machine.Machine.{new_machine};
 ghost use Rattle.bq_core_api.specs.Limits.{are_in_range};
 ghost use Rattle.bq_link.specs.NewEnds.{IsNewCore};
-ghost use Rattle.bq_run.specs.CoreWork.{IsNewRoom};
+ghost use Rattle.bq_thread_work.specs.CoreWork.{IsNewRoom};
 ghost use Rattle.bq_run.specs.Threads.{IsCoreOver};
 
-use crate::core_work::{CoreRoom, core_work, most_looks};
 use bq_core_api::{Config, Outs, QueueCore};
 use bq_host::{RunFault, Start, new_core};
 use bq_line::clock::Clock;
 use bq_link::{CoreEnd, Intake, NoTicks};
+use bq_thread_work::core_work::{CoreRoom, core_work, most_looks};
 use std::alloc::Global;
 use std::sync::Wait;
 use std::thread::Threads;

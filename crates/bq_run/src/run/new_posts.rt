@@ -4,7 +4,7 @@ ghost use Rattle.std.specs.List.{All};
 ghost use Rattle.bq_core_api.specs.Limits.{is_body_size};
 ghost use Rattle.bq_line.specs.Tending.{IsNewDoor, door_seen};
 ghost use Rattle.bq_link.specs.NewEnds.{AreNewSeats, IsNewCore};
-ghost use Rattle.bq_run.specs.Ends.{IsNewEnd};
+ghost use Rattle.bq_thread_work.specs.Ends.{IsNewEnd};
 
 use crate::run::core_post::{CorePost, NewCore};
 use crate::run::posts::{ControlPost, EndPosts, Posts};

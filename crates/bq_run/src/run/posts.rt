@@ -1,7 +1,7 @@
 //! What the threads of a run begin with, and what they return.
 ghost use Rattle.std.specs.Prelude.{◌≡◌, ◌<◌, vec_capacity, vec_len};
 ghost use Rattle.std.specs.List.{All};
-ghost use Rattle.bq_run.specs.Ends.{IsNewEnd};
+ghost use Rattle.bq_thread_work.specs.Ends.{IsNewEnd};
 
 use crate::run::core_post::CorePost;
 use crate::run::seat_post::SeatPost;

@@ -5,15 +5,15 @@ ghost use Rattle.bq_seat.specs.Past.{Awaited};
 ghost use Rattle.bq_seat.specs.SeatStands.{awaited};
 ghost use Rattle.bq_line.specs.Tending.{IsDoorServed, IsNewDoor, door_seen};
 ghost use Rattle.bq_link.specs.EndStates.{IsSameSeat};
-ghost use Rattle.bq_run.specs.Ends.{IsNewEnd};
+ghost use Rattle.bq_thread_work.specs.Ends.{IsNewEnd};
 
-use crate::seat_work::seat_work;
 use bq_host::Start;
 use bq_job::NoMemory;
 use bq_line::Door;
 use bq_line::line::Line;
 use bq_link::{Intake, NoTicks, SeatEnd};
 use bq_seat::SeatMachine;
+use bq_thread_work::seat_work::seat_work;
 use std::alloc::Global;
 use std::sync::Wait;
 

@@ -5,7 +5,6 @@ ghost use Rattle.bq_line.specs.Tending.{AreSame, IsDoorServed, door_seen};
 ghost use Rattle.bq_link.specs.EndStates.{IsSameSeat};
 ghost use Rattle.bq_run.specs.Threads.{AreOver, AreServed, IsControlOver, IsCoreOver};
 
-use crate::control_work::control_work;
 use crate::run::core_post::CorePost;
 use crate::run::posts::{ControlPost, EndPosts, Ended, EndedEnds, Posts};
 use crate::run::seat_post::SeatPost;
@@ -16,6 +15,7 @@ use bq_line::clock::Clock;
 use bq_line::control_line::{ControlLine, ControlReader};
 use bq_line::line::Line;
 use bq_link::{CoreEnd, SeatEnd};
+use bq_thread_work::control_work::control_work;
 use std::alloc::{AllocError, Global};
 use std::snapshot::Snapshot;
 use std::sync::Wait;

@@ -1,6 +1,6 @@
 //! The core at work for ends that the test controls.
 ghost use Rattle.std.specs.Prelude.{◌≡◌, ◌+◌, ◌<◌, [], All, IfOk, false, length};
-ghost use Rattle.bq_run.specs.CoreWork.{IsNewRoom};
+ghost use Rattle.bq_thread_work.specs.CoreWork.{IsNewRoom};
 ghost use Rattle.bq_job.specs.promise.History.{is_tick};
 ghost use Rattle.bq_link.specs.NewEnds.{IsNewCore};
 
@@ -10,7 +10,7 @@ use bq_core::{Core, Outs};
 use bq_job::{Answer, NoMemory, Request, Step, USUAL_BODY};
 use bq_line::clock::ScriptClock;
 use bq_link::{CoreEnd, Intake, NoTicks, SeatEnd, links};
-use bq_run::core_work::{CoreRoom, core_work};
+use bq_thread_work::core_work::{CoreRoom, core_work};
 use std::alloc::{AllocError, Global};
 use std::sync::Wait;
 use std::test::Fail;

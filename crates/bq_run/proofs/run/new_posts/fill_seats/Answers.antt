@@ -1,6 +1,6 @@
 use Rattle.std.proofs.Common.{◌≡◌, ◌-◌, ◌∙◌, vec_len, arith}
 use Rattle.bq_line.specs.Tending.{IsNewDoor, door_seen}
-use Rattle.bq_run.specs.Ends.{IsNewEnd}
+use Rattle.bq_thread_work.specs.Ends.{IsNewEnd}
 use Rattle.bq_host.proofs.ListLemmas.{all_pushed, all_taken, popped_passes, put_behind}
 use Rattle.bq_run.proofs.run.new_posts.fill_seats.Goals as goal
 

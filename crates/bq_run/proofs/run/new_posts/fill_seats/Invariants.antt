@@ -1,7 +1,7 @@
 use Rattle.std.proofs.Common.{◌≡◌, ◌+◌, ◌≤◌, ◌++◌, map, vec_capacity, vec_len}
 use Rattle.std.specs.List.{All}
 use Rattle.bq_line.specs.Tending.{IsNewDoor, door_seen}
-use Rattle.bq_run.specs.Ends.{IsNewEnd}
+use Rattle.bq_thread_work.specs.Ends.{IsNewEnd}
 use Rattle.std.specs.Prelude.{reverse}
 use Rattle.bq_run.proofs.run.new_posts.fill_seats.Given as goal
 

@@ -1,5 +1,5 @@
 use Rattle.std.proofs.Common.{◌≡◌, ◌-◌, vec_len}
-use Rattle.bq_run.specs.Ends.{IsNewEnd}
+use Rattle.bq_thread_work.specs.Ends.{IsNewEnd}
 use Rattle.bq_host.proofs.ListLemmas.{all_taken, popped_passes}
 use Rattle.bq_run.proofs.ThreadLemmas.{new_ends, new_intakes}
 use Rattle.bq_run.proofs.run.new_posts.new_posts.Goals as goal

@@ -1,8 +1,0 @@
-use Rattle.bq_run.specs.Worked.{WorksOn}
-use Rattle.bq_run.proofs.core_work.run_out.Given as goal
-
-abbrev pub invariant-loop : goal.invariant-loop
-invariant-loop g l = record {
-  iterator : (goal.iterator-loop g).can_next l.iterator' × (goal.iterator-loop g).is_finite l.iterator';
-  on : WorksOn g.C.Clock.given g.K.QueueCore.machine g.K.QueueCore.comparisons l.fn.driver l.driver;
-}

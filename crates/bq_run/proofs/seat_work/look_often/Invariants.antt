@@ -1,5 +1,0 @@
-use Rattle.std.proofs.Common.{◌≡◌}
-use Rattle.bq_run.proofs.seat_work.look_often.Given as goal
-
-abbrev pub invariant-loop : goal.invariant-loop
-invariant-loop l = record { same : l.end ≡ l.fn.end; place : l.place ≡ l.fn.place }

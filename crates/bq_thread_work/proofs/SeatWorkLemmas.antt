@@ -1,0 +1,28 @@
+-- A seat at work at its end of the links.
+use Rattle.std.proofs.Common.{◌≡◌, ℕ, List, inl, inr, subst, sym, append-nil, ◌∙◌, ap, ◌++◌}
+use Rattle.bq_job.specs.declared.answer.Answer.{Answer}
+use Rattle.bq_job.specs.declared.step.Step.{Step}
+use Rattle.bq_job.specs.promise.LineSteps.{LineSeen}
+use Rattle.bq_line.specs.Links.{Calls}
+use Rattle.bq_line.specs.Tending.{DoorSeen, GoesOn, IsTended}
+use Rattle.bq_line.specs.declared.attendant.Attendant.{Attendant}
+use Rattle.bq_link.specs.EndStates.{SeatState}
+use Rattle.bq_thread_work.specs.Ends.{EndWent}
+
+-- the state of an end after these calls
+calls_at : (old new : SeatState) (submitted : List Step) (taken : List Answer) → Calls EndWent old submitted taken new
+    → (old.submitted ++ submitted ≡ new.submitted) × (old.taken ++ taken ≡ new.taken)
+calls_at old new submitted taken (inl w) = (sym w.1, sym w.2)
+calls_at old new submitted taken (inr (same, none, nil)) = (
+  ap (λ (xs : List Step). old.submitted ++ xs) none ∙ append-nil old.submitted ∙ ap (λ (e : SeatState). e.submitted) (sym same),
+  ap (λ (xs : List Answer). old.taken ++ xs) nil ∙ append-nil old.taken ∙ ap (λ (e : SeatState). e.taken) (sym same),
+)
+
+-- what a seat did is what its end shows, and this does not change
+pub tended_on : {L : Type 0} (seen : L → LineSeen) (size : ℕ) (old new : SeatState) (a b : Attendant L) (door next : DoorSeen)
+    → GoesOn EndWent old new seen a door b next → IsTended seen size a door old.submitted old.taken
+    → IsTended seen size b next new.submitted new.taken
+tended_on seen size old new a b door next h t =
+    let c = calls_at old new h.0 h.1 h.2 in
+    subst (λ (xs : List Step). IsTended seen size b next xs new.taken) c.0
+    (subst (λ (ys : List Answer). IsTended seen size b next (old.submitted ++ h.0) ys) c.1 (h.3 size old.submitted old.taken t))

@@ -1,0 +1,92 @@
+-- Answers are sent one after another, or kept.
+use Rattle.std.proofs.Common.{◌≡◌, ◌≢◌, ℕ, ◌<◌, List, [], ◌∷◌, ◌++◌, length, refl, sym, ap, ◌∙◌, inl, inr, append-nil, append_assoc, subst}
+use Rattle.std.specs.Prelude.{◌==◌}
+use Rattle.std.proofs.lemmas.Bool.{cases_Bool, eqb-true, eqb-false}
+use Rattle.std.proofs.lemmas.List.{get_or-set_other}
+use Rattle.bq_job.specs.declared.answer.Answer.{Answer}
+use Rattle.bq_job.specs.machine.Dispatch.{GivenAnswer}
+use Rattle.bq_job.specs.promise.Runs.{answers_to}
+use Rattle.bq_job.proofs.OneClientLemmas.{answers_append}
+use Rattle.bq_link.specs.EndStates.{CoreState, room_for, sent_to}
+use Rattle.bq_link.specs.EndChanges.{with_room, with_sent}
+use Rattle.bq_thread_work.specs.Sending.{AreSent}
+
+-- one sending after another
+pub sent_on : (a b c : CoreState) (xs ys zs : List GivenAnswer) → AreSent a xs b ys → AreSent b ys c zs → AreSent a xs c zs
+sent_on a b c xs ys zs h i = record {
+  intake = i.intake ∙ h.intake;
+  rings = i.rings ∙ h.rings;
+  taken = i.taken ∙ h.taken;
+  each = λ seat within. i.each seat (subst (λ (rings : List _). seat < length rings) (sym h.rings) within) ∙ h.each seat within;
+}
+
+-- with other answers after them
+pub sent_before : (a b : CoreState) (xs ys more : List GivenAnswer) → AreSent a xs b ys → AreSent a (xs ++ more) b (ys ++ more)
+sent_before a b xs ys more h = record {
+  intake = h.intake;
+  rings = h.rings;
+  taken = h.taken;
+  each = λ seat within. parted seat (sent_to b seat) ys ∙ ap (λ (all : List Answer). all ++ answers_to seat more) (h.each seat within)
+      ∙ sym (parted seat (sent_to a seat) xs);
+}
+  where
+    parted : (seat : ℕ) (sent : List Answer) (these : List GivenAnswer)
+        → sent ++ answers_to seat (these ++ more) ≡ (sent ++ answers_to seat these) ++ answers_to seat more
+    parted seat sent these = ap (λ (all : List Answer). sent ++ all) (answers_append seat these more)
+        ∙ sym (append_assoc sent (answers_to seat these) (answers_to seat more))
+
+-- one answer is the next to be sent, and the others follow
+pub sent_next : (a b : CoreState) (kept left rest new : List GivenAnswer) (g : GivenAnswer) → left ≡ g ∷ rest
+    → AreSent a (kept ++ g ∷ []) b new → AreSent a (kept ++ left) b (new ++ rest)
+sent_next a b kept left rest new g is h =
+    subst (λ (all : List GivenAnswer). AreSent a all b (new ++ rest))
+    (append_assoc kept (g ∷ []) rest ∙ ap (λ (all : List GivenAnswer). kept ++ all) (sym is))
+    (sent_before a b (kept ++ g ∷ []) new rest h)
+
+-- the answer of another end
+pub to_other : (seat t : ℕ) (answer : Answer) → seat ≢ t → answers_to t ((seat, answer) ∷ []) ≡ []
+to_other seat t answer other = elim (cases_Bool (seat == t)) [
+  | inl e ↦ absurd (other (eqb-true seat t e))
+  | inr e ↦ rw e refl
+]
+
+to_own : (seat : ℕ) (answer : Answer) → answers_to seat ((seat, answer) ∷ []) ≡ answer ∷ []
+to_own seat answer = elim (cases_Bool (seat == seat)) [
+  | inl e ↦ rw e refl
+  | inr e ↦ absurd (eqb-false seat seat e refl)
+]
+
+-- the answers sent to another end
+sent_else : (old new : CoreState) (seat t : ℕ) (answer : Answer) → new ≡ with_room (with_sent old seat answer) seat (room_for new seat)
+    → t ≢ seat → sent_to new t ≡ sent_to old t
+sent_else old new seat t answer is other =
+    ap (λ (c : CoreState). sent_to c t) is ∙ get_or-set_other old.sent seat t (sent_to old seat ++ answer ∷ []) [] other
+
+-- an answer is sent if none is kept for its end
+pub sent_one : (old new : CoreState) (kept : List GivenAnswer) (seat : ℕ) (answer : Answer)
+    → new ≡ with_room (with_sent old seat answer) seat (room_for new seat)
+    → sent_to new seat ≡ sent_to old seat ++ answer ∷ [] → answers_to seat kept ≡ [] → AreSent old (kept ++ (seat, answer) ∷ []) new kept
+sent_one old new kept seat answer is to none = record {
+  intake = ap (λ (c : CoreState). c.intake) is;
+  rings = ap (λ (c : CoreState). c.rings) is;
+  taken = ap (λ (c : CoreState). c.taken) is;
+  each = λ t within. elim (cases_Bool (seat == t)) [
+    | inl e ↦ subst (λ (n : ℕ). sent_to new n ++ answers_to n kept ≡ sent_to old n ++ answers_to n (kept ++ (seat, answer) ∷ []))
+        (eqb-true seat t e) own
+    | inr e ↦ elsewhere t (eqb-false seat t e)
+  ];
+}
+  where
+    own : sent_to new seat ++ answers_to seat kept ≡ sent_to old seat ++ answers_to seat (kept ++ (seat, answer) ∷ [])
+    own =
+        ap (λ (all : List Answer). sent_to new seat ++ all) none ∙ append-nil (sent_to new seat) ∙ to
+        ∙ ap (λ (all : List Answer). sent_to old seat ++ all)
+        (sym (answers_append seat kept ((seat, answer) ∷ [])
+        ∙ ap (λ (all : List Answer). all ++ answers_to seat ((seat, answer) ∷ [])) none ∙ to_own seat answer))
+
+    elsewhere : (t : ℕ) → seat ≢ t → sent_to new t ++ answers_to t kept ≡ sent_to old t ++ answers_to t (kept ++ (seat, answer) ∷ [])
+    elsewhere t other =
+        ap (λ (all : List Answer). all ++ answers_to t kept) (sent_else old new seat t answer is (λ e. other (sym e)))
+        ∙ ap (λ (all : List Answer). sent_to old t ++ all)
+        (sym (answers_append t kept ((seat, answer) ∷ [])
+        ∙ ap (λ (all : List Answer). answers_to t kept ++ all) (to_other seat t answer other) ∙ append-nil (answers_to t kept)))

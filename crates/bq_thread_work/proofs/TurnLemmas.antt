@@ -1,0 +1,162 @@
+-- How the turns of the core's driver combine.
+use Rattle.std.proofs.Common.{◌≡◌, ℕ, Bool, true, false, List, [], ◌∷◌, ◌++◌, Option, Some, None}
+use Rattle.std.proofs.Common.{◌≤◌, ◌⊎◌, ◌∙◌, arith, refl, sym, ap, subst, inl, inr}
+use Rattle.std.proofs.Math.Nat.{le-max_left}
+use Rattle.bq_job.specs.declared.settings.Settings.{Settings}
+use Rattle.bq_job.specs.declared.step.Step.{Step}
+use Rattle.bq_job.specs.declared.step.Step.TheVariants.{Tick}
+use Rattle.bq_job.specs.machine.Machine.{Machine}
+use Rattle.bq_job.specs.machine.Steps.{IsStep}
+use Rattle.bq_job.specs.promise.History.{moment_heard}
+use Rattle.bq_core_api.specs.Cost.{IsLookWithin}
+use Rattle.bq_core_api.specs.Outbox.{Outbox}
+use Rattle.bq_host.specs.Clocks.{Gives}
+use Rattle.bq_host.specs.Timed.{HasHeard, HasLooked, IsReady, LooksAndSteps, PassesOver}
+use Rattle.bq_host.specs.declared.timed_core.HeardClock.{HeardClock}
+use Rattle.bq_host.specs.declared.timed_core.TimedCore.{TimedCore}
+use Rattle.bq_thread_work.specs.Worked.{HasTicked, HasWorked, IsInOrder, TookOne, WorksOn, driver_state}
+use Rattle.bq_thread_work.specs.declared.core_work.core_driver.CoreDriver.{CoreDriver}
+use Rattle.bq_thread_work.proofs.WorkedLemmas.{pending_on, worked_heard, worked_looked, worked_tick}
+
+-- Nothing was done.
+pub on_still : {C K : Type 0} (given : Gives C) (machine : K → Machine) (compared : K → ℕ) (h : CoreDriver C K) → IsInOrder machine h
+    → WorksOn given machine compared h h
+on_still given machine compared h order = record { order = order; end = (refl, refl); settings = refl; work = λ settings from first w. w }
+
+-- One thing was done, and then another.
+pub on_both : {C K : Type 0} (given : Gives C) (machine : K → Machine) (compared : K → ℕ) (old mid new : CoreDriver C K)
+    → WorksOn given machine compared old mid → WorksOn given machine compared mid new
+    → WorksOn given machine compared old new
+on_both given machine compared old mid new a b = record {
+  order = b.order;
+  end = (b.end.0 ∙ a.end.0, b.end.1 ∙ a.end.1);
+  settings = b.settings ∙ a.settings;
+  work = λ settings from first w. b.work settings from first (a.work settings from first w);
+}
+
+-- The core was asked for the next due moment, if it was not known.
+looked_on : {C K : Type 0} (machine : K → Machine) (compared : K → ℕ) (old : CoreDriver C K) (t looked : TimedCore C K)
+    → HasLooked machine compared old.timed looked → t ≡ looked
+    → (settings : Settings) (from : ℕ) (readings : List (Option ℕ)) → HasWorked settings from readings (driver_state machine compared old)
+    → HasWorked settings from readings (driver_state machine compared (record old { timed = t }))
+looked_on machine compared old t looked l e settings from readings w =
+    worked_looked settings from readings (driver_state machine compared old) (driver_state machine compared (record old { timed = t })) w
+    (ap (λ (x : TimedCore _ _). machine x.core) e ∙ l.same)
+    (ap (λ (x : TimedCore _ _). x.time.moment) e ∙ ap (λ (h : HeardClock _). h.moment) l.time) refl
+    (ap (λ (x : TimedCore _ _). old.sender.kept.items ++ x.outs.given) e ∙ ap (λ (o : Outbox). old.sender.kept.items ++ o.given) l.outs)
+    refl (ap (λ (x : TimedCore _ _). x.is_due_known) e ∙ l.known)
+    (λ count k. subst (λ (n : ℕ). IsLookWithin (machine old.timed.core) count n)
+    (sym (ap (λ (x : TimedCore _ _). compared x.core) e)) (l.once count k))
+
+-- Time passed, and no step was taken.
+pub on_over : {C K : Type 0} (given : Gives C) (machine : K → Machine) (compared : K → ℕ) (old : CoreDriver C K) (t : TimedCore C K)
+    → IsInOrder machine old → IsReady machine t → PassesOver given machine compared old.timed t
+    → WorksOn given machine compared old (record old { timed = t })
+on_over {C} {K} given machine compared old t order ready (looked, l, rest) = record {
+  order = record { ready = ready; sender = order.sender; many = order.many; all = order.all };
+  end = (refl, refl);
+  settings = elim rest [
+    | inl e ↦ ap (λ (x : TimedCore C K). (machine x.core).settings) e ∙ ap (λ (m : Machine). m.settings) l.same
+    | inr h ↦ ap (λ (x : TimedCore C K). (machine x.core).settings) h.2 ∙ ap (λ (m : Machine). m.settings) l.same
+  ];
+  work = λ settings from first w. elim rest [
+    | inl e ↦ (
+      w.0,
+      subst (λ (h : HeardClock C). given first w.0 h.clock) (sym (ap (λ (x : TimedCore C K). x.time) e ∙ l.time)) w.1,
+      looked_on machine compared old t looked l e settings from w.0 w.2,
+    )
+    | inr h ↦ (
+      w.0 ++ h.0 ∷ [],
+      h.1.gave first w.0 (subst (λ (x : HeardClock C). given first w.0 x.clock) (sym l.time) w.1),
+      worked_heard settings from w.0 (driver_state machine compared (record old { timed = looked }))
+          (driver_state machine compared (record old { timed = t })) h.0
+          (looked_on machine compared old looked looked l refl settings from w.0 w.2)
+          (ap (λ (x : TimedCore C K). machine x.core) h.2) h.1.heard refl
+          (ap (λ (x : TimedCore C K). old.sender.kept.items ++ x.outs.given) h.2) refl (ap (λ (x : TimedCore C K). x.is_due_known) h.2)
+          (ap (λ (x : TimedCore C K). compared x.core) h.2),
+    )
+  ];
+}
+
+-- A reading never lowers the latest moment.
+pub not_lowered : (last next : ℕ) (reading : Option ℕ) → next ≡ moment_heard last reading → last ≤ next
+not_lowered last next None e = omega (arith, e)
+not_lowered last next (Some moment) e = subst (λ (n : ℕ). last ≤ n) (sym e) (le-max_left last moment)
+
+-- The clock was read, and nothing else happened.
+pub on_heard : {C K : Type 0} (given : Gives C) (machine : K → Machine) (compared : K → ℕ) (old : CoreDriver C K) (time : HeardClock C)
+    (reading : Option ℕ) → IsInOrder machine old → HasHeard given old.timed.time reading time
+    → WorksOn given machine compared old (record old { timed = record old.timed { time = time } })
+on_heard {C} {K} given machine compared old time reading order h = record {
+  order = record {
+    ready = record { room = order.ready.room; due = order.ready.due };
+    sender = order.sender;
+    many = order.many;
+    all = order.all;
+  };
+  end = (refl, refl);
+  settings = refl;
+  work = λ settings from first w. (
+    w.0 ++ reading ∷ [],
+    h.gave first w.0 w.1,
+    worked_heard settings from w.0 (driver_state machine compared old)
+        (driver_state machine compared (record old { timed = record old.timed { time = time } })) reading w.2 refl h.heard refl refl refl
+        refl refl,
+  );
+}
+
+-- Time passed, and the core took a tick.
+pub on_ticked : {C K : Type 0} (given : Gives C) (machine : K → Machine) (compared : K → ℕ) (old : CoreDriver C K) (t : TimedCore C K)
+    → IsInOrder machine old → IsReady machine t → old.timed.outs.given ≡ [] → LooksAndSteps given machine compared old.timed 0 Tick t
+    → WorksOn given machine compared old (record old { timed = t })
+on_ticked {C} {K} given machine compared old t order ready none (looked, l, s) = record {
+  order = record { ready = ready; sender = order.sender; many = order.many; all = order.all };
+  end = (refl, refl);
+  settings = s.settings ∙ ap (λ (m : Machine). m.settings) l.same;
+  work = λ settings from first w. (
+    w.0 ++ s.reading ∷ [],
+    s.time.gave first w.0 (subst (λ (x : HeardClock C). given first w.0 x.clock) (sym l.time) w.1),
+    worked_tick settings from w.0 (driver_state machine compared (record old { timed = looked }))
+        (driver_state machine compared (record old { timed = t })) s.reading s.outcome t.outs.given
+        (looked_on machine compared old looked looked l refl settings from w.0 w.2) s.step s.time.heard refl
+        (pending_on old.sender.kept.items old.sender.kept.items looked.outs.given t.outs.given refl
+        (ap (λ (o : Outbox). o.given) l.outs ∙ none)) refl s.unknown,
+  );
+}
+
+pub on_passed : {C K : Type 0} (given : Gives C) (machine : K → Machine) (compared : K → ℕ) (old : CoreDriver C K) (t : TimedCore C K)
+    (ticks : Bool) → IsInOrder machine old → IsReady machine t → old.timed.outs.given ≡ []
+    → (ticks ≡ false → PassesOver given machine compared old.timed t)
+    → (ticks ≡ true → LooksAndSteps given machine compared old.timed 0 Tick t)
+    → WorksOn given machine compared old (record old { timed = t })
+on_passed given machine compared old t true order ready none over ticked =
+    on_ticked given machine compared old t order ready none (ticked refl)
+on_passed given machine compared old t false order ready none over ticked = on_over given machine compared old t order ready (over refl)
+
+-- If no step was taken, the machine is the same.
+pub still_over : {C K : Type 0} (given : Gives C) (machine : K → Machine) (compared : K → ℕ) (old t : TimedCore C K)
+    → PassesOver given machine compared old t → machine t.core ≡ machine old.core
+still_over {C} {K} given machine compared old t (looked, l, rest) = elim rest [
+  | inl e ↦ ap (λ (x : TimedCore C K). machine x.core) e ∙ l.same
+  | inr h ↦ ap (λ (x : TimedCore C K). machine x.core) h.2 ∙ l.same
+]
+
+pub has_ticked : {C K : Type 0} (given : Gives C) (machine : K → Machine) (compared : K → ℕ) (old : CoreDriver C K) (t : TimedCore C K)
+    → LooksAndSteps given machine compared old.timed 0 Tick t → HasTicked machine old (record old { timed = t })
+has_ticked given machine compared old t (looked, l, s) = record {
+  outcome = s.outcome;
+  step = subst (λ (m : Machine). IsStep m t.time.moment 0 Tick s.outcome t.outs.given (machine t.core)) l.same s.step.step;
+}
+
+-- What was taken after the clock was read and answers were sent.
+pub busy_from : {C K : Type 0} (machine : K → Machine) (old mid new : CoreDriver C K) → mid.sender.end.taken ≡ old.sender.end.taken
+    → mid.timed.core ≡ old.timed.core → TookOne mid.sender.end new.sender.end ⊎ HasTicked machine mid new
+    → TookOne old.sender.end new.sender.end ⊎ HasTicked machine old new
+busy_from {C} {K} machine old mid new taken core busy = elim busy [
+  | inl t ↦ inl (t.0, t.1 ∙ ap (λ (steps : List (ℕ × Step)). steps ++ t.0 ∷ []) taken)
+  | inr h ↦ inr (record {
+    outcome = h.outcome;
+    step = subst (λ (k : K). IsStep (machine k) new.timed.time.moment 0 Tick h.outcome new.timed.outs.given (machine new.timed.core))
+        core h.step;
+  })
+]

@@ -1,0 +1,46 @@
+use Rattle.std.proofs.Common.{◌≡◌, ◌∙◌, ◌+◌, ◌<◌, ◌≤◌, [], ap, arith, deque_capacity, false, true≢false, length, refl, subst, sym}
+use Rattle.std.proofs.lemmas.List.{length-replicate}
+use Rattle.bq_core_api.specs.Outbox.{Outbox}
+use Rattle.bq_thread_work.proofs.WorkedLemmas.{known_none, none_pending, worked_none}
+use Rattle.bq_thread_work.proofs.core_work.core_driver.CoreDriver.new.Goals as goal
+
+pub returns-clause-order : goal.returns-clause-order
+returns-clause-order g c =
+    let machine = g.K.QueueCore.machine in
+    let ends = (machine c.args.core).settings.seats + 1 in
+    let none = c.requires.room.none_gone in
+    let many : c.len-ends.result ≡ ends = c.len-ends.ensures ∙ c.args.room.gone.ok.0 ∙ ap length none ∙ length-replicate ends false in
+    let flags = ap (λ v. v.items) c.none.ensures.flags in
+    let over = c.over.ensures in
+    record {
+      ready = record {
+        room = subst (λ k. (machine k).settings.seats < c.over.result.outs.most) (sym over.core)
+            (subst (λ (o : Outbox). (machine c.args.core).settings.seats < o.most) (sym over.outs) c.requires.outs);
+        due = λ known. absurd (true≢false (sym known ∙ over.unknown));
+      };
+      sender = record {
+        places = record {
+          ends = c.requires.ends.rings ∙ sym many;
+          for_kept = subst (λ n. n ≤ deque_capacity c.args.room.kept) (sym many) c.requires.room.for_kept;
+          for_aside = subst (λ n. n ≤ deque_capacity c.args.room.aside) (sym many) c.requires.room.for_aside;
+        };
+        few = subst (λ kept. length kept ≤ c.len-ends.result) (sym c.requires.room.none_kept) (omega arith);
+        none_aside = c.requires.room.none_aside;
+      };
+      many = ap length (flags ∙ none) ∙ length-replicate ends false ∙ sym many;
+      all = known_none c.none.result (machine c.args.core).settings.seats (flags ∙ none) c.none.ensures.all;
+    }
+
+pub returns-clause-work : goal.returns-clause-work
+returns-clause-work g c =
+    let machine = g.K.QueueCore.machine in
+    let over = c.over.ensures in (
+      [],
+      subst (λ clock. g.C.Clock.given c.args.clock [] clock) (sym over.clock) (g.met.C.Clock.none_given c.args.clock),
+      worked_none (machine c.args.core).settings (g.K.QueueCore.comparisons c.args.core) _ ((machine c.args.core).settings.seats + 1)
+          (ap machine over.core ∙ c.requires.core) over.none_heard c.requires.ends
+          (none_pending c.args.room.kept.items c.over.result.outs.given c.requires.room.none_kept
+          (ap (λ (o : Outbox). o.given) over.outs ∙ c.requires.none_given))
+          (ap (λ v. v.items) c.none.ensures.flags ∙ c.requires.room.none_gone) over.unknown
+          (ap g.K.QueueCore.comparisons over.core),
+    )

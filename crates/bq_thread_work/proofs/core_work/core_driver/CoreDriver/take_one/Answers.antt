@@ -1,0 +1,46 @@
+use Rattle.std.proofs.Common.{◌∙◌, ◌++◌, ◌∷◌, [], ap, inl, subst, sym}
+use Rattle.bq_link.specs.EndStates.{CoreState}
+use Rattle.bq_thread_work.specs.Sending.{AreStuck}
+use Rattle.bq_thread_work.specs.Worked.{WorksOn, driver_state}
+use Rattle.bq_thread_work.specs.declared.core_work.sender.Sender.{Sender}
+use Rattle.bq_thread_work.proofs.WorkedLemmas.{pending_on, worked_step}
+use Rattle.bq_thread_work.proofs.core_work.core_driver.CoreDriver.take_one.Goals as goal
+
+pub returns-in-Some-clause-on : goal.returns-in-Some-clause-on
+returns-in-Some-clause-on g c =
+    let t = c.take_step.ensures.taken in
+    let old = c.args.self.now in
+    let new = c.take_step.new.self in
+    let state = driver_state g.K.QueueCore.machine g.K.QueueCore.comparisons in
+    let sender = c.take_step.ensures.sender ∙ c.in-Some.ensures.taken in
+    let end = ap (λ (s : Sender). s.end) sender in
+    record {
+      order = c.take_step.ensures.order;
+      end = (ap (λ (e : CoreState). e.intake) end, ap (λ (e : CoreState). e.rings) end);
+      settings = t.settings;
+      work = λ settings from first w. (
+        w.0 ++ t.reading ∷ [],
+        t.time.gave first w.0 w.1,
+        worked_step settings from w.0 (state old)
+            (state new) c.in-Some.taken.0 c.in-Some.taken.1 t.reading t.outcome new.timed.outs.given c.in-Some.ensures.number
+            w.2 t.step t.time.heard
+            end
+            (pending_on new.sender.kept.items old.sender.kept.items old.timed.outs.given new.timed.outs.given
+            (ap (λ (s : Sender). s.kept.items) sender) c.requires.none) c.take_step.ensures.marked t.unknown,
+      );
+    }
+
+pub returns-in-None-clause-on : goal.returns-in-None-clause-on
+returns-in-None-clause-on g c =
+    subst (λ (s : Sender). WorksOn g.C.Clock.given g.K.QueueCore.machine g.K.QueueCore.comparisons
+    (record c.args.self.now { sender = s }) c.tick_if_due.new.self) c.in-None.ensures.none.0
+    c.tick_if_due.ensures.on
+
+pub returns-in-Some-clause-found : goal.returns-in-Some-clause-found
+returns-in-Some-clause-found g c =
+    let sender = c.take_step.ensures.sender ∙ c.in-Some.ensures.taken in (
+      λ stuck. subst (λ (s : Sender). AreStuck s.end s.kept.items) (sym sender) stuck,
+      λ e. absurd cc,
+      λ e. absurd cc,
+      λ e. inl (c.in-Some.taken, ap (λ (s : Sender). s.end.taken) sender),
+    )
