@@ -10,7 +10,7 @@ use Rattle.bq_job.specs.promise.History.{IsTimedFrom}
 use Rattle.bq_job.specs.machine.Machine.{Machine, new_machine}
 use Rattle.bq_job.specs.promise.Runs.{Entry, Run, answers_to}
 use Rattle.bq_job.specs.machine.Steps.{IsStep, Outcome}
-use Rattle.bq_link.specs.EndStates.{CoreState, IsSameCore, sent_to}
+use Rattle.bq_link.specs.EndStates.{CoreState, IntakeState, IsSameCore, sent_to}
 use Rattle.bq_link.specs.Submissions.{AreBelow, Invariant, steps_of}
 use Rattle.bq_host.specs.Compared.{AreWithin, LooksOnce}
 use Rattle.bq_host.specs.Timed.{IsReady}
@@ -79,6 +79,10 @@ pub record IsInOrder {C K : Type 0} (machine : K → Machine) (h : CoreDriver C 
   pub sender : IsAtRest h.sender
   pub many : length h.gone.flags.items ≡ h.sender.ends
   pub all : KnowsAll h.gone
+
+-- The driver is in order, and its end is one of this intake's.
+abbrev pub IsInOrderAt : {C K : Type 0} → (K → Machine) → IntakeState → CoreDriver C K → Type 0
+IsInOrderAt machine intake h = (h.sender.end.intake ≡ intake.id) × IsInOrder machine h
 
 -- The driver is still in order, and has the same end and settings. The work went on from whatever
 -- was done before.

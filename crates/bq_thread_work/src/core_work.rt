@@ -5,7 +5,7 @@ ghost use Rattle.bq_job.specs.machine.Machine.{new_machine};
 ghost use Rattle.bq_link.specs.EndStates.{IsSameCore};
 ghost use Rattle.bq_link.specs.NewEnds.{IsNewCore};
 ghost use Rattle.bq_thread_work.specs.CoreWork.{IsNewRoom, RanToEnd};
-ghost use Rattle.bq_thread_work.specs.Worked.{IsAtWork, IsInOrder};
+ghost use Rattle.bq_thread_work.specs.Worked.{IsAtWork, IsInOrderAt};
 
 pub use core_room::CoreRoom;
 pub use polling::most_looks;
@@ -65,8 +65,7 @@ fn run_out<R: Wait, C: Clock + Drop, K: QueueCore + Drop>(
     intake: &Intake<NoTicks>,
     driver: CoreDriver<C, K>,
 ) -> (CoreEnd, K, C)
-    requires intake { driver.sender.end.intake ≡ intake.now.id }
-    requires order { IsInOrder K.machine driver }
+    requires order { IsInOrderAt K.machine intake.now driver }
     ensures end { IsSameCore driver.sender.end result.0 }
     ensures ran { (settings : Settings) (from : ℕ) (first : C) → IsAtWork C.given K.machine K.comparisons settings from first driver
         → length driver.sender.end.rings ≡ settings.seats + 1

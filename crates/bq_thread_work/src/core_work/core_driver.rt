@@ -49,6 +49,7 @@ impl<C: Clock + Drop, K: QueueCore + Drop> CoreDriver<C, K> {
       HasTicked,
       IsAtWork,
       IsInOrder,
+      IsInOrderAt,
       IsOver,
       TurnWent,
       WorksOn,
@@ -100,8 +101,7 @@ impl<C: Clock + Drop, K: QueueCore + Drop> CoreDriver<C, K> {
     /// Makes one turn: sends answers, and takes a step or waits for one. It may yield before. Returns
     /// true if everything is done.
     pub fn turn<R: Wait>(&mut self, rt: &R, intake: &Intake<NoTicks>) -> bool
-        requires intake { self.old.sender.end.intake ≡ intake.now.id }
-        requires order { IsInOrder K.machine self.old }
+        requires order { IsInOrderAt K.machine intake.now self.old }
         ensures on { WorksOn C.given K.machine K.comparisons self.old self.new }
         ensures over { result ≡ true → IsOver self.new }
         ensures stuck { AreStuck self.new.sender.end self.new.sender.kept.items }
@@ -150,8 +150,7 @@ impl<C: Clock + Drop, K: QueueCore + Drop> CoreDriver<C, K> {
     // processor. After a slow yield some waits begin without one. The intake passes on to the
     // seats' threads whether the last yield was slow.
     fn give_way(&mut self, intake: &Intake<NoTicks>)
-        requires intake { self.old.sender.end.intake ≡ intake.now.id }
-        requires order { IsInOrder K.machine self.old }
+        requires order { IsInOrderAt K.machine intake.now self.old }
         ensures on { WorksOn C.given K.machine K.comparisons self.old self.new }
         ensures rest { self.new ≡ record self.old { timed = record self.old.timed { time = self.new.timed.time }; yielding = self.new.yielding } }
         // A wait that begins without a yield is only counted.
@@ -209,9 +208,8 @@ impl<C: Clock + Drop, K: QueueCore + Drop> CoreDriver<C, K> {
     // The contract holds for any invariant of the intake: if there was nothing to do, it held of an
     // empty intake after the last step that was taken.
     fn go_on<R: Wait, I: IntakeInvariant>(&mut self, rt: &R, intake: &Intake<I>) -> bool
-        requires intake { self.old.sender.end.intake ≡ intake.now.id }
+        requires order { IsInOrderAt K.machine intake.now self.old }
         requires may { MayTake I.was }
-        requires order { IsInOrder K.machine self.old }
         requires none { self.old.timed.outs.given ≡ [] }
         ensures on { WorksOn C.given K.machine K.comparisons self.old self.new }
         ensures found { FindsWork I.was K.machine self.old self.new result }
@@ -227,9 +225,8 @@ impl<C: Clock + Drop, K: QueueCore + Drop> CoreDriver<C, K> {
     // which a function initializes when it starts.
     #[inline(never)]
     fn take_one<R: Wait, I: IntakeInvariant>(&mut self, rt: &R, intake: &Intake<I>) -> bool
-        requires intake { self.old.sender.end.intake ≡ intake.now.id }
+        requires order { IsInOrderAt K.machine intake.now self.old }
         requires may { MayTake I.was }
-        requires order { IsInOrder K.machine self.old }
         requires none { self.old.timed.outs.given ≡ [] }
         ensures on { WorksOn C.given K.machine K.comparisons self.old self.new }
         ensures found { FindsWork I.was K.machine self.old self.new result }
@@ -288,8 +285,7 @@ impl<C: Clock + Drop, K: QueueCore + Drop> CoreDriver<C, K> {
     // Waits until a step arrives or something is due: it polls for a while, and sleeps if it found
     // no step.
     fn await_step<R: Wait>(&mut self, rt: &R, intake: &Intake<NoTicks>)
-        requires intake { self.old.sender.end.intake ≡ intake.now.id }
-        requires order { IsInOrder K.machine self.old }
+        requires order { IsInOrderAt K.machine intake.now self.old }
         ensures on { WorksOn C.given K.machine K.comparisons self.old self.new }
         ensures rest { self.new ≡ record self.old { polling = self.new.polling } }
         ensures noted { self.new.polling.last ≡ self.old.timed.time.moment }

@@ -9,7 +9,7 @@ use Rattle.bq_thread_work.proofs.core_work.run_out.Goals as goal
 pub loop-init : goal.loop-init
 loop-init g c = record {
   iterator = (tt, tt);
-  on = on_still _ _ _ c.args.driver c.requires.order;
+  on = on_still _ _ _ c.args.driver c.requires.order.1;
 }
 
 pub loop-preserved : goal.loop-preserved
