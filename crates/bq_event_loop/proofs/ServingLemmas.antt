@@ -1,5 +1,5 @@
 -- Seats are served in turn: one acts, and the others stay as they were.
-use Rattle.std.proofs.Common.{◌≡◌, ◌≢◌, ℕ, ◌+◌, ◌<◌, List, [], ◌++◌, Option, length, refl, sym}
+use Rattle.std.proofs.Common.{◌≡◌, ◌≢◌, ℕ, ◌+◌, ◌<◌, ◌≤◌, List, [], ◌++◌, Option, length, refl, sym}
 use Rattle.std.proofs.Common.{ap, ◌∙◌, arith, subst, inl, inr, append-nil, append_assoc, slice_set, slice_index_or, nat_lt}
 use Rattle.std.specs.Prelude.{◌==◌}
 use Rattle.std.proofs.lemmas.Bool.{cases_Bool, eqb-true, eqb-false, ltb-true, ltb-false}
@@ -15,7 +15,7 @@ use Rattle.bq_host.specs.Went.{SeatWent}
 use Rattle.bq_line.specs.Links.{Calls}
 use Rattle.bq_line.specs.Tending.{AreSame, DoorSeen, GoesOn, IsTended, Tends}
 use Rattle.bq_event_loop.specs.Rows.{AllRested}
-use Rattle.bq_event_loop.specs.Serving.{AreServed, ServesOn}
+use Rattle.bq_event_loop.specs.Serving.{AreReadyFor, AreServed, ServesOn, TurnServes}
 use Rattle.bq_event_loop.specs.declared.row.Row.{Row}
 use Rattle.bq_event_loop.proofs.RowLemmas.{rested_none, same_set}
 use Rattle.bq_line.specs.declared.attendant.Attendant.{Attendant}
@@ -238,6 +238,15 @@ module _ {L D : Type 0} (seen : L → LineSeen) (at : D → DoorSeen) where
     serves_on old core new row mid later control a b =
         subst (λ (xs : List Step). ServesOn machine compared given seen at same old row xs new later) (append-nil control)
         (serves_then old core new row mid later control [] a b)
+
+    -- After a turn the core and its seats are ready for another one of the same seat.
+    pub still_ready : (seat : ℕ) (old new : LoopCore C K) (row later : Row L D)
+        → TurnServes machine compared given seen at same old row [] new later → AreReadyFor machine compared seen at seat old row
+        → AreReadyFor machine compared seen at seat new later
+    still_ready seat old new row later s r = (
+      (s.0, s.1, s.2.mailed ∙ r.0.2 ∙ sym s.2.many, subst (λ n. n ≤ 65535) (sym s.2.many) r.0.3),
+      subst (λ n. seat < n) (sym s.2.many) r.1,
+    )
 
     -- One seat acted.
     pub serves_turn : (old new : LoopCore C K) (row later : Row L D) (i seat : ℕ) (a next : Attendant L) (d door : D)

@@ -1,5 +1,5 @@
 -- Seats that are served at the core of a loop, in any order.
-use Rattle.std.specs.Prelude.{ℕ, ◌≡◌, ◌<◌, List, [], ◌++◌, length, Option, slice_index_or}
+use Rattle.std.specs.Prelude.{ℕ, ◌≡◌, ◌<◌, ◌≤◌, List, [], ◌++◌, length, Option, slice_index_or}
 use Rattle.bq_job.specs.declared.answer.Answer.{Answer}
 use Rattle.bq_job.specs.declared.step.Step.{Step}
 use Rattle.bq_job.specs.machine.Machine.{Machine}
@@ -47,10 +47,17 @@ pub record ServesOn {C K L D : Type 0} (machine : K → Machine) (compared : K �
   pub same_doors : (doors : List D) → AreSame same doors row.doors.items → AreSame same doors later.doors.items
 
 -- The core of a loop and its seats are ready for a turn. The core is in order. Each seat has done
--- something for its door's lines, by the rules, and has its mail.
+-- something for its door's lines, by the rules, and has its mail. The numbers of the seats and of
+-- the control line fit in 16 bits.
 abbrev pub AreReady : {C K L D : Type 0} → (K → Machine) → (K → ℕ) → (L → LineSeen) → (D → DoorSeen) → LoopCore C K → Row L D → Type 0
 AreReady machine compared seen at core row =
     IsInOrder (state_of machine compared core) × AreTended seen at row × (length core.mails.items ≡ length row.seats.items)
+    × (length row.seats.items ≤ 65535)
+
+-- The same, and this is one of the seats.
+abbrev pub AreReadyFor : {C K L D : Type 0} → (K → Machine) → (K → ℕ) → (L → LineSeen) → (D → DoorSeen) → ℕ → LoopCore C K → Row L D
+    → Type 0
+AreReadyFor machine compared seen at seat core row = AreReady machine compared seen at core row × (seat < length row.seats.items)
 
 -- A turn left the core and its seats in order, and the service went on.
 abbrev pub TurnServes : {C K L D : Type 0} → (K → Machine) → (K → ℕ) → (C → List (Option ℕ) → C → Type 0)

@@ -9,7 +9,7 @@ ghost use Rattle.bq_job.specs.promise.Runs.{answers_to};
 ghost use Rattle.bq_line.specs.Links.{Calls};
 ghost use Rattle.bq_line.specs.Tending.{GoesOn, IsPlaced, MayEndAt, door_seen};
 ghost use Rattle.bq_host.specs.MailStates.{IsInOrder};
-ghost use Rattle.bq_event_loop.specs.LoopCores.{WentAt, state_of};
+ghost use Rattle.bq_event_loop.specs.LoopCores.{IsInOrderFor, WentAt, WentInOrder, state_of};
 
 use bq_core_api::{Config, QueueCore};
 use bq_host::{Mail, RunFault, TimedCore, new_mails};
@@ -93,8 +93,7 @@ impl<C: Clock + Drop, K: QueueCore + Drop> LoopCore<C, K> {
     fn take_step(&mut self, seat: Seat, what: &Step)
         requires order { IsInOrder (state_of K.machine K.comparisons self.old) }
         requires empty { (state_of K.machine K.comparisons self.old).pending ≡ [] }
-        ensures order { IsInOrder (state_of K.machine K.comparisons self.new) }
-        ensures went { WentAt K.machine K.comparisons C.given seat self.old (as_submitted what.now) [] self.new }
+        ensures went { WentInOrder K.machine K.comparisons C.given seat self.old (as_submitted what.now) [] self.new }
     {
         self.is_sorted = false;
         self.timed.take_step(seat, what);
@@ -103,8 +102,7 @@ impl<C: Clock + Drop, K: QueueCore + Drop> LoopCore<C, K> {
     /// Takes the oldest answer to the seat, if there is one, and puts it into `place` as an action
     /// that writes it. Returns false and leaves `place` as it was if there is none.
     pub fn take_to(&mut self, seat: Seat, place: &mut Action) -> bool
-        requires order { IsInOrder (state_of K.machine K.comparisons self.old) }
-        requires within { seat < length self.old.mails.items }
+        requires ready { IsInOrderFor K.machine K.comparisons seat self.old }
         ensures order { IsInOrder (state_of K.machine K.comparisons self.new) }
         ensures went { TakesInPlace (WentAt K.machine K.comparisons C.given seat) self.old place.old result place.new self.new }
     {
@@ -125,8 +123,7 @@ impl<C: Clock + Drop, K: QueueCore + Drop> LoopCore<C, K> {
     // answers.
     #[inline(never)]
     fn take_kept(&mut self, seat: Seat, place: &mut Action) -> bool
-        requires order { IsInOrder (state_of K.machine K.comparisons self.old) }
-        requires within { seat < length self.old.mails.items }
+        requires ready { IsInOrderFor K.machine K.comparisons seat self.old }
         ensures order { IsInOrder (state_of K.machine K.comparisons self.new) }
         ensures went { TakesInPlace (WentAt K.machine K.comparisons C.given seat) self.old place.old result place.new self.new }
     {
@@ -142,8 +139,7 @@ impl<C: Clock + Drop, K: QueueCore + Drop> LoopCore<C, K> {
     // The same if no earlier answer waits: mostly the core's only answer is for this seat. It goes
     // from where the core put it right to its place.
     fn take_new(&mut self, seat: Seat, place: &mut Action) -> bool
-        requires order { IsInOrder (state_of K.machine K.comparisons self.old) }
-        requires within { seat < length self.old.mails.items }
+        requires ready { IsInOrderFor K.machine K.comparisons seat self.old }
         requires empty { slice_index_or self.old.mails.items seat [] ≡ [] }
         requires none_held { self.old.held ≡ None }
         ensures order { IsInOrder (state_of K.machine K.comparisons self.new) }
@@ -180,10 +176,8 @@ impl<C: Clock + Drop, K: QueueCore + Drop> LoopCore<C, K> {
 
     // Takes the oldest answer to the seat, if there is one.
     fn take(&mut self, seat: Seat) -> Option<Answer>
-        requires order { IsInOrder (state_of K.machine K.comparisons self.old) }
-        requires within { seat < length self.old.mails.items }
-        ensures order { IsInOrder (state_of K.machine K.comparisons self.new) }
-        ensures went { WentAt K.machine K.comparisons C.given seat self.old [] (option_to_list result) self.new }
+        requires ready { IsInOrderFor K.machine K.comparisons seat self.old }
+        ensures went { WentInOrder K.machine K.comparisons C.given seat self.old [] (option_to_list result) self.new }
     {
         match self.take_mail(seat) {
             Some(answer) => Some(answer),
@@ -194,11 +188,9 @@ impl<C: Clock + Drop, K: QueueCore + Drop> LoopCore<C, K> {
     // The same if the seat has no mail. Mostly the core's only answer is for this seat and was not
     // put into the mail.
     fn take_pending(&mut self, seat: Seat) -> Option<Answer>
-        requires order { IsInOrder (state_of K.machine K.comparisons self.old) }
-        requires within { seat < length self.old.mails.items }
+        requires ready { IsInOrderFor K.machine K.comparisons seat self.old }
         requires empty { slice_index_or self.old.mails.items seat [] ≡ [] }
-        ensures order { IsInOrder (state_of K.machine K.comparisons self.new) }
-        ensures went { WentAt K.machine K.comparisons C.given seat self.old [] (option_to_list result) self.new }
+        ensures went { WentInOrder K.machine K.comparisons C.given seat self.old [] (option_to_list result) self.new }
     {
         let Some((first, answer)) = self.next_pending() else {
             return None;
@@ -227,11 +219,9 @@ impl<C: Clock + Drop, K: QueueCore + Drop> LoopCore<C, K> {
     }
 
     fn take_mail(&mut self, seat: Seat) -> Option<Answer>
-        requires order { IsInOrder (state_of K.machine K.comparisons self.old) }
-        requires within { seat < length self.old.mails.items }
-        ensures order { IsInOrder (state_of K.machine K.comparisons self.new) }
+        requires ready { IsInOrderFor K.machine K.comparisons seat self.old }
         ensures many { length self.new.mails.items ≡ length self.old.mails.items }
-        ensures went { WentAt K.machine K.comparisons C.given seat self.old [] (option_to_list result) self.new }
+        ensures went { WentInOrder K.machine K.comparisons C.given seat self.old [] (option_to_list result) self.new }
         ensures none { IsNone result → slice_index_or self.new.mails.items seat [] ≡ [] }
     {
         self.mails[usize::from(seat)].take_first()
@@ -242,10 +232,9 @@ impl<C: Clock + Drop, K: QueueCore + Drop> LoopCore<C, K> {
     #[inline(always)]
     pub fn sort(&mut self, seat: Seat) -> bool
         requires order { IsInOrder (state_of K.machine K.comparisons self.old) }
-        ensures order { IsInOrder (state_of K.machine K.comparisons self.new) }
         ensures many { length self.new.mails.items ≡ length self.old.mails.items }
         ensures none { result ≡ true → (state_of K.machine K.comparisons self.new).pending ≡ [] }
-        ensures went { WentAt K.machine K.comparisons C.given seat self.old [] [] self.new }
+        ensures went { WentInOrder K.machine K.comparisons C.given seat self.old [] [] self.new }
     {
         if self.is_sorted {
             return true;
@@ -321,8 +310,7 @@ impl<C: Clock + Drop, K: QueueCore + Drop> LoopCore<C, K> {
     /// many milliseconds something is due next, or `None` if nothing is; 0 if a tick was taken.
     pub fn pass_time(&mut self) -> Option<u64>
         requires order { IsInOrder (state_of K.machine K.comparisons self.old) }
-        ensures order { IsInOrder (state_of K.machine K.comparisons self.new) }
-        ensures went { WentAt K.machine K.comparisons C.given 0 self.old [] [] self.new }
+        ensures went { WentInOrder K.machine K.comparisons C.given 0 self.old [] [] self.new }
     {
         let ticks = self.tick_if_due();
         let _all = self.sort(0);
@@ -342,8 +330,7 @@ impl<C: Clock + Drop, K: QueueCore + Drop> LoopCore<C, K> {
     // can be taken yet because an answer waits for room in a mail.
     fn tick_if_due(&mut self) -> bool
         requires order { IsInOrder (state_of K.machine K.comparisons self.old) }
-        ensures order { IsInOrder (state_of K.machine K.comparisons self.new) }
-        ensures went { WentAt K.machine K.comparisons C.given 0 self.old [] [] self.new }
+        ensures went { WentInOrder K.machine K.comparisons C.given 0 self.old [] [] self.new }
     {
         if self.sort(0) {
             self.tick()
@@ -356,10 +343,9 @@ impl<C: Clock + Drop, K: QueueCore + Drop> LoopCore<C, K> {
     // now.
     fn is_due(&mut self) -> bool
         requires order { IsInOrder (state_of K.machine K.comparisons self.old) }
-        ensures order { IsInOrder (state_of K.machine K.comparisons self.new) }
         ensures due { result
             ≡ not (is_before self.new.timed.time.moment (next_due (K.machine self.old.timed.core))) }
-        ensures went { WentAt K.machine K.comparisons C.given 0 self.old [] [] self.new }
+        ensures went { WentInOrder K.machine K.comparisons C.given 0 self.old [] [] self.new }
     {
         self.timed.is_due()
     }
@@ -368,10 +354,9 @@ impl<C: Clock + Drop, K: QueueCore + Drop> LoopCore<C, K> {
     fn tick(&mut self) -> bool
         requires order { IsInOrder (state_of K.machine K.comparisons self.old) }
         requires empty { (state_of K.machine K.comparisons self.old).pending ≡ [] }
-        ensures order { IsInOrder (state_of K.machine K.comparisons self.new) }
         ensures due { result
             ≡ not (is_before self.new.timed.time.moment (next_due (K.machine self.old.timed.core))) }
-        ensures went { WentAt K.machine K.comparisons C.given 0 self.old [] [] self.new }
+        ensures went { WentInOrder K.machine K.comparisons C.given 0 self.old [] [] self.new }
     {
         let ticks = self.timed.tick_if_due(0);
         self.is_sorted = !ticks;
@@ -451,7 +436,7 @@ pub struct LoopSeat<'a, C, K> {
 }
 
 impl<'a, C: Clock + Drop, K: QueueCore + Drop> Link for LoopSeat<'a, C, K> {
-    ghost is_ready = { λ l. IsInOrder (state_of K.machine K.comparisons l.core.now) × (l.seat < length l.core.now.mails.items) };
+    ghost is_ready = { λ l. IsInOrderFor K.machine K.comparisons l.seat l.core.now };
 
     // After the link is dropped, the core is known by its ghost name.
     ghost went = { λ first submitted taken last. (last.core.ghost_name ≡ first.core.ghost_name) × (last.seat ≡ first.seat) ×
@@ -477,8 +462,7 @@ pub fn attend<L: Line + Drop, D: Door<Line = L>, C: Clock + Drop, K: QueueCore +
 ) -> Progress
     requires placed { IsPlaced attendant.old.place
         (door_seen D.is_out D.is_at_end D.lines_over door.old) }
-    requires order { IsInOrder (state_of K.machine K.comparisons core.old) }
-    requires within { seat < length core.old.mails.items }
+    requires ready { IsInOrderFor K.machine K.comparisons seat core.old }
     ensures order { IsInOrder (state_of K.machine K.comparisons core.new) }
     // The result is one that this place can have. Unless something moved, the seat submitted
     // nothing and took nothing.

@@ -1,12 +1,12 @@
 //! Many seats, which one thread serves in any order.
-ghost use Rattle.std.specs.Prelude.{◌≡◌, ◌<◌, ◌≤◌, true, [], List, length, slice_index_or};
+ghost use Rattle.std.specs.Prelude.{◌≡◌, ◌≤◌, true, [], List, length, slice_index_or};
 ghost use Rattle.bq_job.specs.declared.step.Step.{Step};
 ghost use Rattle.bq_line.specs.Tending.{door_seen};
 ghost use Rattle.bq_event_loop.specs.ControlTold.{TellsOn};
 ghost use Rattle.bq_host.specs.MailStates.{IsInOrder};
 ghost use Rattle.bq_event_loop.specs.LoopCores.{WentAt, state_of};
 ghost use Rattle.bq_event_loop.specs.Rows.{AreDone};
-ghost use Rattle.bq_event_loop.specs.Serving.{AreReady, ServesOn, TurnServes};
+ghost use Rattle.bq_event_loop.specs.Serving.{AreReady, AreReadyFor, ServesOn, TurnServes};
 ghost use Rattle.bq_event_loop.specs.declared.control_turns.Stage.TheVariants as stages;
 
 use crate::control_turns::ControlTurns;
@@ -41,7 +41,6 @@ pub fn serve<
     buffers: &mut Buffers,
 )
     requires ready { AreReady K.machine K.comparisons L.seen (door_seen D.is_out D.is_at_end D.lines_over) core.old row.old }
-    requires few { length row.old.seats.items ≤ 65535 }
     ensures done { AreDone row.new.seats.items }
     ensures over { control.new.stage ≡ stages.Over }
     ensures served { (told : List Step) × TellsOn I.seen I.remaining I.may_fail control.old told control.new
@@ -81,7 +80,6 @@ fn take_turn<
     news: &mut News,
 ) -> bool
     requires ready { AreReady K.machine K.comparisons L.seen (door_seen D.is_out D.is_at_end D.lines_over) core.old row.old }
-    requires few { length row.old.seats.items ≤ 65535 }
     ensures done { result ≡ true → AreDone row.new.seats.items }
     ensures over { result ≡ true → control.new.stage ≡ stages.Over }
     ensures served { (told : List Step) × TellsOn I.seen I.remaining I.may_fail control.old told control.new
@@ -154,7 +152,6 @@ fn serve_seat<L: Line + Drop, D: Door<Line = L>, C: Clock + Drop, K: QueueCore +
     extent: Extent,
 ) -> Progress
     requires ready { AreReady K.machine K.comparisons L.seen (door_seen D.is_out D.is_at_end D.lines_over) core.old row.old }
-    requires few { length row.old.seats.items ≤ 65535 }
     ensures served { TurnServes K.machine K.comparisons C.given L.seen (door_seen D.is_out D.is_at_end D.lines_over) D.same
         core.old row.old [] core.new row.new }
 {
@@ -176,9 +173,7 @@ fn act_to_extent<L: Line + Drop, D: Door<Line = L>, C: Clock + Drop, K: QueueCor
     buffers: &mut Buffers,
     extent: Extent,
 ) -> Progress
-    requires ready { AreReady K.machine K.comparisons L.seen (door_seen D.is_out D.is_at_end D.lines_over) core.old row.old }
-    requires few { length row.old.seats.items ≤ 65535 }
-    requires below { seat < length row.old.seats.items }
+    requires ready { AreReadyFor K.machine K.comparisons L.seen (door_seen D.is_out D.is_at_end D.lines_over) seat core.old row.old }
     ensures served { TurnServes K.machine K.comparisons C.given L.seen (door_seen D.is_out D.is_at_end D.lines_over) D.same
         core.old row.old [] core.new row.new }
 {
@@ -195,9 +190,7 @@ fn do_command<L: Line + Drop, D: Door<Line = L>, C: Clock + Drop, K: QueueCore +
     seat: usize,
     buffers: &mut Buffers,
 ) -> Progress
-    requires ready { AreReady K.machine K.comparisons L.seen (door_seen D.is_out D.is_at_end D.lines_over) core.old row.old }
-    requires few { length row.old.seats.items ≤ 65535 }
-    requires below { seat < length row.old.seats.items }
+    requires ready { AreReadyFor K.machine K.comparisons L.seen (door_seen D.is_out D.is_at_end D.lines_over) seat core.old row.old }
     ensures served { TurnServes K.machine K.comparisons C.given L.seen (door_seen D.is_out D.is_at_end D.lines_over) D.same
         core.old row.old [] core.new row.new }
 {
@@ -215,9 +208,7 @@ fn read_and_ask<L: Line + Drop, D: Door<Line = L>, C: Clock + Drop, K: QueueCore
     seat: usize,
     buffers: &mut Buffers,
 ) -> Progress
-    requires ready { AreReady K.machine K.comparisons L.seen (door_seen D.is_out D.is_at_end D.lines_over) core.old row.old }
-    requires few { length row.old.seats.items ≤ 65535 }
-    requires below { seat < length row.old.seats.items }
+    requires ready { AreReadyFor K.machine K.comparisons L.seen (door_seen D.is_out D.is_at_end D.lines_over) seat core.old row.old }
     ensures served { TurnServes K.machine K.comparisons C.given L.seen (door_seen D.is_out D.is_at_end D.lines_over) D.same
         core.old row.old [] core.new row.new }
 {
@@ -235,9 +226,7 @@ fn act_and_poll<L: Line + Drop, D: Door<Line = L>, C: Clock + Drop, K: QueueCore
     seat: usize,
     buffers: &mut Buffers,
 ) -> Progress
-    requires ready { AreReady K.machine K.comparisons L.seen (door_seen D.is_out D.is_at_end D.lines_over) core.old row.old }
-    requires few { length row.old.seats.items ≤ 65535 }
-    requires below { seat < length row.old.seats.items }
+    requires ready { AreReadyFor K.machine K.comparisons L.seen (door_seen D.is_out D.is_at_end D.lines_over) seat core.old row.old }
     ensures served { TurnServes K.machine K.comparisons C.given L.seen (door_seen D.is_out D.is_at_end D.lines_over) D.same
         core.old row.old [] core.new row.new }
 {
@@ -254,9 +243,7 @@ fn act<L: Line + Drop, D: Door<Line = L>, C: Clock + Drop, K: QueueCore + Drop>(
     seat: usize,
     buffers: &mut Buffers,
 ) -> Progress
-    requires ready { AreReady K.machine K.comparisons L.seen (door_seen D.is_out D.is_at_end D.lines_over) core.old row.old }
-    requires few { length row.old.seats.items ≤ 65535 }
-    requires below { seat < length row.old.seats.items }
+    requires ready { AreReadyFor K.machine K.comparisons L.seen (door_seen D.is_out D.is_at_end D.lines_over) seat core.old row.old }
     ensures served { TurnServes K.machine K.comparisons C.given L.seen (door_seen D.is_out D.is_at_end D.lines_over) D.same
         core.old row.old [] core.new row.new }
 {

@@ -1,4 +1,4 @@
-use Rattle.std.proofs.Common.{◌≡◌, ◌∙◌, [], List, length, map, ap, refl, subst, sym, true}
+use Rattle.std.proofs.Common.{◌≡◌, ◌∙◌, [], List, arith, length, map, ap, refl, subst, sym, true}
 use Rattle.bq_line.specs.ControlRead.{IsReadToEnd}
 use Rattle.bq_line.specs.Tending.{door_seen}
 use Rattle.bq_line.specs.declared.control_line.ControlLine.{ControlLine}
@@ -10,15 +10,19 @@ use Rattle.bq_event_loop.proofs.RowLemmas.{same_selves, tended_at_first}
 use Rattle.bq_event_loop.proofs.SessionsLemmas.{begins_served, ends_closed, ends_history, ends_settings}
 use Rattle.bq_event_loop.proofs.run.run_at.Goals as goal
 
-pub serve-requires-clause-ready : goal.serve-requires-clause-ready
-serve-requires-clause-ready g c =
-    let at = door_seen g.D.Door.is_out g.D.Door.is_at_end g.D.Door.lines_over in (
-      c.requires.order,
-      tended_at_first g.L.Line.seen at c.args.config.max_job_size c.args.seats.items c.args.doors.items
-          (c.requires.doored ∙ sym c.requires.many) c.requires.new_seats c.requires.new_doors,
-      new_mails_are c.args.config (state_of g.K.QueueCore.machine g.K.QueueCore.comparisons c.args.core) c.requires.made
-          ∙ sym c.requires.many,
-    )
+pub serve-requires : goal.serve-requires
+serve-requires g c =
+    let at = door_seen g.D.Door.is_out g.D.Door.is_at_end g.D.Door.lines_over in
+    record {
+      ready = (
+        c.requires.order,
+        tended_at_first g.L.Line.seen at c.args.config.max_job_size c.args.seats.items c.args.doors.items
+            (c.requires.doored ∙ sym c.requires.many) c.requires.new_seats c.requires.new_doors,
+        new_mails_are c.args.config (state_of g.K.QueueCore.machine g.K.QueueCore.comparisons c.args.core) c.requires.made
+            ∙ sym c.requires.many,
+        (let many = c.requires.many in omega arith),
+      );
+    }
 
 pub returns-clause-served : goal.returns-clause-served
 returns-clause-served g c =

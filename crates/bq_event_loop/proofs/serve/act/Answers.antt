@@ -1,4 +1,4 @@
-use Rattle.std.proofs.Common.{refl, arith}
+use Rattle.std.proofs.Common.{◌<◌, refl, subst, sym}
 use Rattle.bq_line.specs.Tending.{door_seen}
 use Rattle.bq_event_loop.proofs.RowLemmas.{placed_there, tended_acted}
 use Rattle.bq_event_loop.proofs.ServingLemmas.{serves_acted}
@@ -9,10 +9,12 @@ attend-requires-clause-placed g c =
     let at = door_seen g.D.Door.is_out g.D.Door.is_at_end g.D.Door.lines_over in
     let row = c.args.row.now in
     placed_there g.L.Line.seen at row.seats.items row.doors.items c.args.seat c.index_mut.result.now c.index_mut-2.result.now
-    c.requires.below c.requires.ready.1 c.index_mut.ensures.value c.index_mut-2.ensures.value
+    c.requires.ready.1 c.requires.ready.0.1 c.index_mut.ensures.value c.index_mut-2.ensures.value
 
-pub attend-requires-clause-order : goal.attend-requires-clause-order
-attend-requires-clause-order g c = c.requires.ready.0
+pub attend-requires-clause-ready : goal.attend-requires-clause-ready
+attend-requires-clause-ready g c =
+    let r = c.requires.ready in
+    (r.0.0, subst (λ n. c.args.seat < n) (sym r.0.2) r.1)
 
 pub returns : goal.returns
 returns g c =
@@ -23,11 +25,11 @@ returns g c =
       served = (
         c.attend.ensures.order,
         tended_acted g.L.Line.seen at row.seats.items row.doors.items c.args.seat c.index_mut.result.now c.attend.new.attendant
-            c.index_mut-2.result.now c.attend.new.door goes.0 goes.1 c.requires.below c.requires.ready.1 c.index_mut.ensures.value
+            c.index_mut-2.result.now c.attend.new.door goes.0 goes.1 c.requires.ready.1 c.requires.ready.0.1 c.index_mut.ensures.value
             c.index_mut-2.ensures.value goes.3,
         serves_acted g.L.Line.seen at g.K.QueueCore.machine g.K.QueueCore.comparisons g.C.Clock.given g.D.Door.same c.args.core.now
             c.attend.new.core row _ c.args.seat c.args.seat c.index_mut.result.now c.attend.new.attendant
-            c.index_mut-2.result.now c.attend.new.door refl c.requires.below c.index_mut.ensures.value c.index_mut-2.ensures.value
+            c.index_mut-2.result.now c.attend.new.door refl c.requires.ready.1 c.index_mut.ensures.value c.index_mut-2.ensures.value
             c.attend.ensures.went c.attend.ensures.same refl refl,
       );
     }

@@ -1,15 +1,15 @@
-use Rattle.std.proofs.Common.{◌<◌, ◌≤◌, ◌∙◌, [], subst, sym}
+use Rattle.std.proofs.Common.{[]}
 use Rattle.bq_line.specs.Tending.{door_seen}
-use Rattle.bq_event_loop.proofs.ServingLemmas.{serves_on}
+use Rattle.bq_event_loop.proofs.ServingLemmas.{serves_on, still_ready}
 use Rattle.bq_event_loop.proofs.serve.do_command.Goals as goal
 
 pub act-requires : goal.act-requires
 act-requires g c =
-    let s = c.read_and_ask-progress.ensures.served in
+    let at = door_seen g.D.Door.is_out g.D.Door.is_at_end g.D.Door.lines_over in
+    let one = c.read_and_ask-progress.new in
     record {
-      ready = (s.0, s.1, s.2.mailed ∙ c.requires.ready.2 ∙ sym s.2.many);
-      few = subst (λ n. n ≤ 65535) (sym s.2.many) c.requires.few;
-      below = subst (λ n. c.args.seat < n) (sym s.2.many) c.requires.below;
+      ready = still_ready g.L.Line.seen at g.K.QueueCore.machine g.K.QueueCore.comparisons g.C.Clock.given g.D.Door.same c.args.seat
+          c.args.core.now one.core c.args.row.now one.row c.read_and_ask-progress.ensures.served c.requires.ready;
     }
 
 pub returns-then-writes : goal.returns-then-writes

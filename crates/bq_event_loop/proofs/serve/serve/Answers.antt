@@ -11,10 +11,7 @@ loop-init g c =
     let at = door_seen g.D.Door.is_out g.D.Door.is_at_end g.D.Door.lines_over in
     record {
       iterator = (tt, tt);
-      order = c.requires.ready.0;
-      tended = c.requires.ready.1;
-      mailed = c.requires.ready.2;
-      few = c.requires.few;
+      ready = c.requires.ready;
       served = (
         [],
         tells_none g.I.ControlInput.seen g.I.ControlInput.remaining g.I.ControlInput.may_fail c.args.control.now,
@@ -23,20 +20,14 @@ loop-init g c =
       );
     }
 
-pub take_turn-requires-clause-ready : goal.take_turn-requires-clause-ready
-take_turn-requires-clause-ready g c =
+pub take_turn-requires : goal.take_turn-requires
+take_turn-requires g c =
     let at = door_seen g.D.Door.is_out g.D.Door.is_at_end g.D.Door.lines_over in
     let row = c.loop.row in
+    let ready = c.loop.invariant.ready in
     let keeps = c.next-turn.ensures.keeps in
     let rests = keeps.1 row (rested_none g.L.Line.seen at g.D.Door.same row.seats.items row.doors.items) in
-    (c.loop.invariant.order, keeps.0, c.loop.invariant.mailed ∙ sym rests.many)
-
-pub take_turn-requires-clause-few : goal.take_turn-requires-clause-few
-take_turn-requires-clause-few g c =
-    let at = door_seen g.D.Door.is_out g.D.Door.is_at_end g.D.Door.lines_over in
-    let row = c.loop.row in
-    let rests = c.next-turn.ensures.keeps.1 row (rested_none g.L.Line.seen at g.D.Door.same row.seats.items row.doors.items) in
-    subst (λ n. n ≤ 65535) (sym rests.many) c.loop.invariant.few
+    record { ready = (ready.0, keeps.0, ready.2 ∙ sym rests.many, subst (λ n. n ≤ 65535) (sym rests.many) ready.3) }
 
 pub returns-then-take_turn-clause-served : goal.returns-then-take_turn-clause-served
 returns-then-take_turn-clause-served g c =
@@ -80,10 +71,12 @@ loop-preserved g c =
     (serves_woken g.L.Line.seen at machine compared g.C.Clock.given g.D.Door.same core woken later same) in
     record {
       iterator = (tt, tt);
-      order = order_woken machine compared core woken same t.2.0;
-      tended = t.2.1;
-      mailed = all.mailed ∙ c.requires.ready.2 ∙ sym all.many;
-      few = subst (λ n. n ≤ 65535) (sym all.many) c.requires.few;
+      ready = (
+        order_woken machine compared core woken same t.2.0,
+        t.2.1,
+        all.mailed ∙ c.requires.ready.2 ∙ sym all.many,
+        subst (λ n. n ≤ 65535) (sym all.many) c.requires.ready.3,
+      );
       served = (
         i.0 ++ t.0,
         tells_then g.I.ControlInput.seen g.I.ControlInput.remaining g.I.ControlInput.may_fail c.args.control.now c.loop.control

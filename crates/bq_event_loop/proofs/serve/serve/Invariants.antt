@@ -1,20 +1,15 @@
-use Rattle.std.proofs.Common.{◌≡◌, ◌≤◌, List, length}
+use Rattle.std.proofs.Common.{List}
 use Rattle.bq_job.specs.declared.step.Step.{Step}
 use Rattle.bq_line.specs.Tending.{door_seen}
 use Rattle.bq_event_loop.specs.ControlTold.{TellsOn}
-use Rattle.bq_event_loop.specs.LoopCores.{state_of}
-use Rattle.bq_host.specs.MailStates.{IsInOrder}
-use Rattle.bq_event_loop.specs.Rows.{AreTended}
-use Rattle.bq_event_loop.specs.Serving.{ServesOn}
+use Rattle.bq_event_loop.specs.Serving.{AreReady, ServesOn}
 use Rattle.bq_event_loop.proofs.serve.serve.Given as goal
 
 abbrev pub invariant-loop : goal.invariant-loop
 invariant-loop g l = record {
   iterator : (goal.iterator-loop g).can_next l.iterator' × (goal.iterator-loop g).is_finite l.iterator';
-  order : IsInOrder (state_of g.K.QueueCore.machine g.K.QueueCore.comparisons l.core);
-  tended : AreTended g.L.Line.seen (door_seen g.D.Door.is_out g.D.Door.is_at_end g.D.Door.lines_over) l.row;
-  mailed : length l.core.mails.items ≡ length l.row.seats.items;
-  few : length l.row.seats.items ≤ 65535;
+  ready : AreReady g.K.QueueCore.machine g.K.QueueCore.comparisons g.L.Line.seen
+      (door_seen g.D.Door.is_out g.D.Door.is_at_end g.D.Door.lines_over) l.core l.row;
   served : (told : List Step) × TellsOn g.I.ControlInput.seen g.I.ControlInput.remaining g.I.ControlInput.may_fail
       l.fn.control told l.control
       × ServesOn g.K.QueueCore.machine g.K.QueueCore.comparisons g.C.Clock.given g.L.Line.seen

@@ -25,11 +25,11 @@ returns-then-not-polls_mail g c =
     let s = c.act_to_extent-progress.ensures.served in
     record {
       served = (
-        c.sort-all.ensures.order,
+        c.sort-all.ensures.went.0,
         s.1,
         serves_on g.L.Line.seen at g.K.QueueCore.machine g.K.QueueCore.comparisons g.C.Clock.given g.D.Door.same c.args.core.now new.core
             c.sort-all.new.self c.args.row.now new.row new.row [] s.2
             (serves_time g.L.Line.seen at g.K.QueueCore.machine g.K.QueueCore.comparisons g.C.Clock.given g.D.Door.same new.core
-            c.sort-all.new.self new.row 0 c.sort-all.ensures.went),
+            c.sort-all.new.self new.row 0 c.sort-all.ensures.went.1),
       );
     }

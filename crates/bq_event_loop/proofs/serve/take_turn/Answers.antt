@@ -28,7 +28,7 @@ pub serve_control-requires : goal.serve_control-requires
 serve_control-requires g c =
     record {
       order = c.requires.ready.0;
-      few = subst (λ n. n ≤ 65535) (sym c.requires.ready.2) c.requires.few;
+      few = subst (λ n. n ≤ 65535) (sym c.requires.ready.2) c.requires.ready.3;
     }
 
 pub pass_time-news-requires : goal.pass_time-news-requires
@@ -54,9 +54,9 @@ returns-else-is_over-clause-served g c =
       [],
       tells_none g.I.ControlInput.seen g.I.ControlInput.remaining g.I.ControlInput.may_fail c.args.control.now,
       (
-        c.pass_time-news.ensures.order,
+        c.pass_time-news.ensures.went.0,
         c.requires.ready.1,
         serves_time g.L.Line.seen at g.K.QueueCore.machine g.K.QueueCore.comparisons g.C.Clock.given g.D.Door.same c.args.core.now
-            c.pass_time-news.new.self c.args.row.now 0 c.pass_time-news.ensures.went,
+            c.pass_time-news.new.self c.args.row.now 0 c.pass_time-news.ensures.went.1,
       ),
     )

@@ -4,17 +4,13 @@ use Rattle.bq_host.proofs.TimedWentLemmas.{timed_over}
 use Rattle.bq_event_loop.proofs.LoopCoreLemmas.{none_pending_over, order_ready}
 use Rattle.bq_event_loop.proofs.loop_core.LoopCore.is_due.Goals as goal
 
-pub returns-clause-order : goal.returns-clause-order
-returns-clause-order g c =
+pub returns-clause-went : goal.returns-clause-went
+returns-clause-went g c =
     let d = c.is_due.ensures in
     let machine = g.K.QueueCore.machine in
     let compared = g.K.QueueCore.comparisons in
-    let old = c.args.self.now in
-    order_ready machine compared old (record old { timed = c.is_due.new.self }) d.ready (ap (λ (m : Machine). m.settings) d.same) refl
-    (none_pending_over machine compared g.C.Clock.given old c.is_due.new.self d.over c.requires.order) c.requires.order
-
-pub returns-clause-went : goal.returns-clause-went
-returns-clause-went g c =
-    let old = c.args.self.now in
-    timed_over g.K.QueueCore.machine g.K.QueueCore.comparisons g.C.Clock.given 0 old.timed c.is_due.new.self old.held old.mails.items
-    old.is_sorted old.is_sorted c.is_due.ensures.over
+    let old = c.args.self.now in (
+      order_ready machine compared old (record old { timed = c.is_due.new.self }) d.ready (ap (λ (m : Machine). m.settings) d.same) refl
+          (none_pending_over machine compared g.C.Clock.given old c.is_due.new.self d.over c.requires.order) c.requires.order,
+      timed_over machine compared g.C.Clock.given 0 old.timed c.is_due.new.self old.held old.mails.items old.is_sorted old.is_sorted d.over,
+    )

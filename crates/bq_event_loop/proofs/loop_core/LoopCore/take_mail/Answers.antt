@@ -1,4 +1,4 @@
-use Rattle.std.proofs.Common.{[], refl, arith}
+use Rattle.std.proofs.Common.{[], refl, arith, rules}
 use Rattle.bq_event_loop.specs.LoopCores.{state_of}
 use Rattle.bq_host.proofs.WentLemmas.{gave_none}
 use Rattle.bq_host.proofs.MailLemmas.{seat_takes}
@@ -6,10 +6,13 @@ use Rattle.bq_event_loop.proofs.loop_core.LoopCore.take_mail.Goals as goal
 
 pub returns-clause-went : goal.returns-clause-went
 returns-clause-went g c = (
-  [],
-  gave_none g.C.Clock.given c.args.self.now.timed.time.clock,
-  seat_takes (state_of g.K.QueueCore.machine g.K.QueueCore.comparisons c.args.self.now) _ c.args.seat c.from.result c.index_mut.result.now
-      c.take_first.new.self _ c.from.ensures (let e = c.from.ensures in let b = c.requires.within in
-      omega arith) c.index_mut.ensures.value c.take_first.ensures.oldest
-      refl refl refl refl refl refl,
+  search rules,
+  (
+    [],
+    gave_none g.C.Clock.given c.args.self.now.timed.time.clock,
+    seat_takes (state_of g.K.QueueCore.machine g.K.QueueCore.comparisons c.args.self.now) _ c.args.seat c.from.result c.index_mut.result.now
+        c.take_first.new.self _ c.from.ensures (let e = c.from.ensures in let b = c.requires.ready.1 in
+        omega arith) c.index_mut.ensures.value c.take_first.ensures.oldest
+        refl refl refl refl refl refl,
+  ),
 )

@@ -3,18 +3,14 @@ use Rattle.bq_host.proofs.TimedWentLemmas.{timed_passed}
 use Rattle.bq_event_loop.proofs.LoopCoreLemmas.{none_pending_passed, order_ready}
 use Rattle.bq_event_loop.proofs.loop_core.LoopCore.tick.Goals as goal
 
-pub returns-clause-order : goal.returns-clause-order
-returns-clause-order g c =
-    let t = c.tick_if_due-ticks in
-    let machine = g.K.QueueCore.machine in
-    let compared = g.K.QueueCore.comparisons in
-    let old = c.args.self.now in
-    order_ready machine compared old (record old { timed = t.new.self; is_sorted = not t.result }) t.ensures.ready t.ensures.settings refl
-    (none_pending_passed machine compared g.C.Clock.given old t.new.self t.result t.ensures.over c.requires.empty) c.requires.order
-
 pub returns-clause-went : goal.returns-clause-went
 returns-clause-went g c =
     let t = c.tick_if_due-ticks in
-    let old = c.args.self.now in
-    timed_passed g.K.QueueCore.machine g.K.QueueCore.comparisons g.C.Clock.given 0 old.timed t.new.self old.held old.mails.items
-    old.is_sorted (not t.result) t.result t.ensures.over t.ensures.ticked c.requires.empty
+    let machine = g.K.QueueCore.machine in
+    let compared = g.K.QueueCore.comparisons in
+    let old = c.args.self.now in (
+      order_ready machine compared old (record old { timed = t.new.self; is_sorted = not t.result }) t.ensures.ready t.ensures.settings refl
+          (none_pending_passed machine compared g.C.Clock.given old t.new.self t.result t.ensures.over c.requires.empty) c.requires.order,
+      timed_passed machine compared g.C.Clock.given 0 old.timed t.new.self old.held old.mails.items old.is_sorted (not t.result) t.result
+          t.ensures.over t.ensures.ticked c.requires.empty,
+    )
