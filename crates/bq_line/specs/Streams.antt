@@ -1,12 +1,27 @@
 -- The state of a stream in both directions, and what a line over it moved.
-use Rattle.std.specs.Prelude.{ℕ, ◌≡◌, true, List, Option, IfSome}
-use Rattle.std.specs.Io.KnownBytes.{Appends, Consumes}
+use Rattle.std.specs.Prelude.{ℕ, ◌≡◌, true, List, Option, Result, IfSome}
+use Rattle.std.specs.Io.{ReadsAtMost, WritesAtMost}
+use Rattle.std.specs.Io.KnownBytes.{Appends, Consumes, Keeps, ReadConsumes, WriteAppends}
 use Rattle.bq_job.specs.promise.LineSteps.{LineSeen}
 
 -- the bytes that are left to read, and those that were written, if they are known
 pub record StreamSeen : Type 0 where
   pub left : Option (List ℕ)
   pub held : Option (List ℕ)
+
+-- A read put the next bytes that the stream had left into `buf`, at most as many as fit. A read of no
+-- bytes, into a buffer with room, means that none were left. An error leaves them as they were.
+abbrev pub ReadsFrom : {E : Type 0} → Option (List ℕ) → Option (List ℕ) → Result ℕ E → List ℕ → Type 0
+ReadsFrom left later result buf = ReadsAtMost result buf × ReadConsumes left later result buf
+
+-- A write took bytes from the front of `buf`, and the stream holds them after what it held. An error
+-- leaves what it held as it was.
+abbrev pub WritesTo : {E : Type 0} → Option (List ℕ) → Option (List ℕ) → Result ℕ E → List ℕ → Type 0
+WritesTo held later result buf = WritesAtMost result buf × WriteAppends held later result buf
+
+-- No byte was read from the stream, and none was written to it.
+abbrev pub MovesNothing : {S : Type 0} → (S → Option (List ℕ)) → (S → Option (List ℕ)) → S → S → Type 0
+MovesNothing remaining contents old new = Keeps (remaining old) (remaining new) × Keeps (contents old) (contents new)
 
 -- The line is over a stream that had the state `first` before the line was made, and has `last`
 -- now. The line read the bytes that the stream returned since then, and it wrote the bytes that the

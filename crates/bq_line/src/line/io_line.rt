@@ -1,8 +1,8 @@
 ghost use Rattle.std.specs.Prelude.{◌≡◌, ◌<◌, [], Err, None, false, length, take, ◌++◌};
-ghost use Rattle.std.specs.Io.{ReadsAtMost, WritesAtMost};
-ghost use Rattle.std.specs.Io.KnownBytes.{Keeps, ReadConsumes, WriteAppends};
+ghost use Rattle.std.specs.Io.{ReadsAtMost};
+ghost use Rattle.std.specs.Io.KnownBytes.{Keeps};
 ghost use Rattle.bq_line.specs.LineCalls.{after_fill, after_flush, after_read, after_write};
-ghost use Rattle.bq_line.specs.Streams.{StaysOver};
+ghost use Rattle.bq_line.specs.Streams.{MovesNothing, ReadsFrom, StaysOver, WritesTo};
 
 use crate::line::stream::{Duplex, ReadBuffer, fill, read_by, read_through};
 use crate::line::{Line, Readiness, is_nothing_yet, note_fault};
@@ -79,10 +79,9 @@ impl<S: Duplex> IoLine<S> {
     // Reads the stream once; `waits` says whether that may wait.
     fn read_by(&mut self, buf: &mut [u8], waits: bool) -> io::Result<usize>
         requires { 0 < length buf.old }
-        ensures bound { ReadsAtMost result buf.new }
         ensures seen { ⟦<IoLine<S> as Line>⟧.seen self.new
             ≡ after_read result buf.new (⟦<IoLine<S> as Line>⟧.seen self.old) }
-        ensures stream { ReadConsumes (S.remaining self.old.stream)
+        ensures stream { ReadsFrom (S.remaining self.old.stream)
             (S.remaining self.new.stream) result buf.new }
         ensures stays { StaysOver ⟦<IoLine<S> as Line>⟧.lies_over self.old self.new }
     {
@@ -119,10 +118,9 @@ impl<S: Duplex> Line for IoLine<S> {
 
     fn read(&mut self, buf: &mut [u8]) -> io::Result<usize>
         requires { 0 < length buf.old }
-        ensures bound { ReadsAtMost result buf.new }
         ensures seen { ⟦<IoLine<S> as Line>⟧.seen self.new
             ≡ after_read result buf.new (⟦<IoLine<S> as Line>⟧.seen self.old) }
-        ensures stream { ReadConsumes (S.remaining self.old.stream)
+        ensures stream { ReadsFrom (S.remaining self.old.stream)
             (S.remaining self.new.stream) result buf.new }
         ensures stays { StaysOver ⟦<IoLine<S> as Line>⟧.lies_over self.old self.new }
     {
@@ -131,10 +129,9 @@ impl<S: Duplex> Line for IoLine<S> {
 
     fn read_now(&mut self, buf: &mut [u8]) -> io::Result<usize>
         requires { 0 < length buf.old }
-        ensures bound { ReadsAtMost result buf.new }
         ensures seen { ⟦<IoLine<S> as Line>⟧.seen self.new
             ≡ after_read result buf.new (⟦<IoLine<S> as Line>⟧.seen self.old) }
-        ensures stream { ReadConsumes (S.remaining self.old.stream)
+        ensures stream { ReadsFrom (S.remaining self.old.stream)
             (S.remaining self.new.stream) result buf.new }
         ensures stays { StaysOver ⟦<IoLine<S> as Line>⟧.lies_over self.old self.new }
     {
@@ -149,10 +146,9 @@ impl<S: Duplex> Line for IoLine<S> {
 
     fn write(&mut self, buf: &[u8]) -> io::Result<usize>
         requires { 0 < length buf.now }
-        ensures bound { WritesAtMost result buf.now }
         ensures seen { ⟦<IoLine<S> as Line>⟧.seen self.new
             ≡ after_write result buf.now (⟦<IoLine<S> as Line>⟧.seen self.old) }
-        ensures stream { WriteAppends (S.contents self.old.stream)
+        ensures stream { WritesTo (S.contents self.old.stream)
             (S.contents self.new.stream) result buf.now }
         ensures apart { Keeps (S.remaining self.old.stream) (S.remaining self.new.stream) }
         ensures stays { StaysOver ⟦<IoLine<S> as Line>⟧.lies_over self.old self.new }
@@ -168,10 +164,9 @@ impl<S: Duplex> Line for IoLine<S> {
 
     fn write_together(&mut self, first: &[u8], second: &[u8], third: &[u8]) -> io::Result<usize>
         requires { 0 < length first.now }
-        ensures bound { WritesAtMost result (first.now ++ second.now ++ third.now) }
         ensures seen { ⟦<IoLine<S> as Line>⟧.seen self.new
             ≡ after_write result (first.now ++ second.now ++ third.now) (⟦<IoLine<S> as Line>⟧.seen self.old) }
-        ensures stream { WriteAppends (S.contents self.old.stream)
+        ensures stream { WritesTo (S.contents self.old.stream)
             (S.contents self.new.stream) result (first.now ++ second.now ++ third.now) }
         ensures apart { Keeps (S.remaining self.old.stream) (S.remaining self.new.stream) }
         ensures stays { StaysOver ⟦<IoLine<S> as Line>⟧.lies_over self.old self.new }
@@ -188,8 +183,7 @@ impl<S: Duplex> Line for IoLine<S> {
     fn flush(&mut self) -> io::Result<()>
         ensures seen { ⟦<IoLine<S> as Line>⟧.seen self.new
             ≡ after_flush result (⟦<IoLine<S> as Line>⟧.seen self.old) }
-        ensures stream { Keeps (S.contents self.old.stream) (S.contents self.new.stream) }
-        ensures apart { Keeps (S.remaining self.old.stream) (S.remaining self.new.stream) }
+        ensures stream { MovesNothing S.remaining S.contents self.old.stream self.new.stream }
         ensures stays { StaysOver ⟦<IoLine<S> as Line>⟧.lies_over self.old self.new }
     {
         let result = self.stream.flush();
@@ -201,8 +195,7 @@ impl<S: Duplex> Line for IoLine<S> {
 
     fn expect_more(&mut self, more: bool)
         ensures seen { ⟦<IoLine<S> as Line>⟧.seen self.new ≡ ⟦<IoLine<S> as Line>⟧.seen self.old }
-        ensures stream { Keeps (S.contents self.old.stream) (S.contents self.new.stream) }
-        ensures apart { Keeps (S.remaining self.old.stream) (S.remaining self.new.stream) }
+        ensures stream { MovesNothing S.remaining S.contents self.old.stream self.new.stream }
         ensures stays { StaysOver ⟦<IoLine<S> as Line>⟧.lies_over self.old self.new }
     {
         self.stream.expect_more(more);
@@ -222,8 +215,7 @@ impl<S: Duplex> Line for IoLine<S> {
 
     fn note_ready(&mut self, ready: Readiness)
         ensures seen { ⟦<IoLine<S> as Line>⟧.seen self.new ≡ ⟦<IoLine<S> as Line>⟧.seen self.old }
-        ensures stream { Keeps (S.contents self.old.stream) (S.contents self.new.stream) }
-        ensures apart { Keeps (S.remaining self.old.stream) (S.remaining self.new.stream) }
+        ensures stream { MovesNothing S.remaining S.contents self.old.stream self.new.stream }
         ensures stays { StaysOver ⟦<IoLine<S> as Line>⟧.lies_over self.old self.new }
     {
         self.stream.note_ready(ready);

@@ -4,6 +4,7 @@ ghost use Rattle.std.specs.Prelude.{◌≡◌, ℕ, [], Bool, OnErr, OnOk, List,
 ghost use Rattle.std.specs.Prelude.{drop, false, length, min, take, true};
 ghost use Rattle.std.specs.Io.{ReadsAtMost, WritesAtMost};
 ghost use Rattle.std.specs.Io.KnownBytes.{IsAtEnd, Keeps, ReadConsumes, WriteAppends, prepend_known};
+ghost use Rattle.bq_line.specs.Streams.{MovesNothing, ReadsFrom, WritesTo};
 
 use super::{Readiness, copy_first};
 use bq_seat::ByteBuffer;
@@ -100,8 +101,7 @@ fn would_block() -> io::Error {
 
 /// Reads a stream once; `waits` says whether that may wait for bytes.
 pub fn read_by<S: Duplex>(stream: &mut S, buf: &mut [u8], waits: bool) -> io::Result<usize>
-    ensures bound { ReadsAtMost result buf.new }
-    ensures bytes { ReadConsumes (S.remaining stream.old) (S.remaining stream.new) result buf.new }
+    ensures bytes { ReadsFrom (S.remaining stream.old) (S.remaining stream.new) result buf.new }
     ensures apart { Keeps (S.contents stream.old) (S.contents stream.new) }
 {
     if waits {
@@ -224,8 +224,7 @@ impl<S: Socket> Connection<S> {
     // Reads the stream once if it is ready.
     #[inline(always)]
     fn read_ready(&mut self, buf: &mut [u8], ready: Readiness) -> io::Result<usize>
-        ensures bound { ReadsAtMost result buf.new }
-        ensures bytes { ReadConsumes (S.remaining self.old.stream) (S.remaining self.new.stream) result buf.new }
+        ensures bytes { ReadsFrom (S.remaining self.old.stream) (S.remaining self.new.stream) result buf.new }
         ensures apart { Keeps (S.contents self.old.stream) (S.contents self.new.stream) }
     {
         if !ready.reads {
@@ -242,8 +241,7 @@ impl<S: Socket> Connection<S> {
     // Writes to the stream once if it is ready.
     #[inline(always)]
     fn write_ready(&mut self, buf: &[u8], ready: Readiness) -> io::Result<usize>
-        ensures bound { WritesAtMost result buf.now }
-        ensures bytes { WriteAppends (S.contents self.old.stream) (S.contents self.new.stream) result buf.now }
+        ensures bytes { WritesTo (S.contents self.old.stream) (S.contents self.new.stream) result buf.now }
         ensures apart { Keeps (S.remaining self.old.stream) (S.remaining self.new.stream) }
     {
         if !ready.writes {
@@ -261,8 +259,7 @@ impl<S: Socket> Connection<S> {
         third: &[u8],
         ready: Readiness,
     ) -> io::Result<usize>
-        ensures bound { WritesAtMost result (first.now ++ second.now ++ third.now) }
-        ensures bytes { WriteAppends (S.contents self.old.stream) (S.contents self.new.stream)
+        ensures bytes { WritesTo (S.contents self.old.stream) (S.contents self.new.stream)
             result (first.now ++ second.now ++ third.now) }
         ensures apart { Keeps (S.remaining self.old.stream) (S.remaining self.new.stream) }
     {
@@ -281,8 +278,7 @@ impl<S: Socket> Connection<S> {
         ensures made { OnOk result ((self.old.waits ≡ waits → ⊥) → S.is_set_to_wait waits self.new.stream) }
         ensures kept { OnErr result (self.new.waits ≡ self.old.waits) }
         ensures gathers { self.new.gathers ≡ self.old.gathers }
-        ensures remaining { Keeps (S.remaining self.old.stream) (S.remaining self.new.stream) }
-        ensures contents { Keeps (S.contents self.old.stream) (S.contents self.new.stream) }
+        ensures bytes { MovesNothing S.remaining S.contents self.old.stream self.new.stream }
     {
         if self.waits != waits {
             self.stream.set_waits(waits)?;
@@ -297,8 +293,7 @@ impl<S: Socket> Connection<S> {
         ensures made { OnOk result ((self.old.gathers ≡ gathers → ⊥) → S.is_set_to_gather gathers self.new.stream) }
         ensures kept { OnErr result (self.new.gathers ≡ self.old.gathers) }
         ensures waits { self.new.waits ≡ self.old.waits }
-        ensures remaining { Keeps (S.remaining self.old.stream) (S.remaining self.new.stream) }
-        ensures contents { Keeps (S.contents self.old.stream) (S.contents self.new.stream) }
+        ensures bytes { MovesNothing S.remaining S.contents self.old.stream self.new.stream }
     {
         if self.gathers != gathers {
             self.stream.set_gathers(gathers)?;
@@ -316,8 +311,7 @@ impl<S: Socket> Duplex for Connection<S> {
     ghost contents = { λ connection. S.contents connection.stream };
 
     fn read(&mut self, buf: &mut [u8]) -> io::Result<usize>
-        ensures bound { ReadsAtMost result buf.new }
-        ensures bytes { ReadConsumes (S.remaining self.old.stream) (S.remaining self.new.stream) result buf.new }
+        ensures bytes { ReadsFrom (S.remaining self.old.stream) (S.remaining self.new.stream) result buf.new }
         ensures apart { Keeps (S.contents self.old.stream) (S.contents self.new.stream) }
         ensures waits { self.old.ready ≡ None → OnOk result (self.new.waits ≡ true) }
     {
@@ -329,8 +323,7 @@ impl<S: Socket> Duplex for Connection<S> {
     }
 
     fn read_now(&mut self, buf: &mut [u8]) -> io::Result<usize>
-        ensures bound { ReadsAtMost result buf.new }
-        ensures bytes { ReadConsumes (S.remaining self.old.stream) (S.remaining self.new.stream) result buf.new }
+        ensures bytes { ReadsFrom (S.remaining self.old.stream) (S.remaining self.new.stream) result buf.new }
         ensures apart { Keeps (S.contents self.old.stream) (S.contents self.new.stream) }
         ensures waits { self.old.ready ≡ None → OnOk result (self.new.waits ≡ false) }
     {
@@ -342,8 +335,7 @@ impl<S: Socket> Duplex for Connection<S> {
     }
 
     fn write(&mut self, buf: &[u8]) -> io::Result<usize>
-        ensures bound { WritesAtMost result buf.now }
-        ensures bytes { WriteAppends (S.contents self.old.stream) (S.contents self.new.stream) result buf.now }
+        ensures bytes { WritesTo (S.contents self.old.stream) (S.contents self.new.stream) result buf.now }
         ensures apart { Keeps (S.remaining self.old.stream) (S.remaining self.new.stream) }
         ensures waits { self.old.ready ≡ None → OnOk result (self.new.waits ≡ true) }
     {
@@ -356,8 +348,7 @@ impl<S: Socket> Duplex for Connection<S> {
     }
 
     fn write_together(&mut self, first: &[u8], second: &[u8], third: &[u8]) -> io::Result<usize>
-        ensures bound { WritesAtMost result (first.now ++ second.now ++ third.now) }
-        ensures bytes { WriteAppends (S.contents self.old.stream) (S.contents self.new.stream)
+        ensures bytes { WritesTo (S.contents self.old.stream) (S.contents self.new.stream)
             result (first.now ++ second.now ++ third.now) }
         ensures apart { Keeps (S.remaining self.old.stream) (S.remaining self.new.stream) }
         ensures waits { self.old.ready ≡ None → OnOk result (self.new.waits ≡ true) }
@@ -432,8 +423,7 @@ pub fn read_through<S: Duplex>(
     buf: &mut [u8],
     waits: bool,
 ) -> io::Result<usize>
-    ensures bound { ReadsAtMost result buf.new }
-    ensures bytes { ReadConsumes (prepend_known buffer.old (S.remaining stream.old)) (prepend_known buffer.new (S.remaining stream.new))
+    ensures bytes { ReadsFrom (prepend_known buffer.old (S.remaining stream.old)) (prepend_known buffer.new (S.remaining stream.new))
         result buf.new }
     ensures apart { Keeps (S.contents stream.old) (S.contents stream.new) }
 {

@@ -9,5 +9,5 @@ returns-clause-stays g c first over =
     let of : g.row.S.Denot → StreamSeen = λ s.
     record { left = prepend_known came (g.S.Duplex.remaining s); held = g.S.Duplex.contents s } in
     wrote_noted first (of c.args.self.now.line.stream) (of c.write.new.self.stream) _ _ c.write.result c.args.buf.now
-    (prepend_kept came _ _ c.write.ensures.apart) c.write.ensures.stream
+    (prepend_kept came _ _ c.write.ensures.apart) c.write.ensures.stream.1
     c.write.ensures.seen over

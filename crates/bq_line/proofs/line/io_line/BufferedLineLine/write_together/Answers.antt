@@ -11,5 +11,5 @@ returns-clause-stays g c first over =
     record { left = prepend_known came (g.S.Duplex.remaining s); held = g.S.Duplex.contents s } in
     wrote_noted first (of c.args.self.now.line.stream) (of c.write_together.new.self.stream) _ _ c.write_together.result
     (c.args.first.now ++ c.args.second.now ++ c.args.third.now)
-    (prepend_kept came _ _ c.write_together.ensures.apart) c.write_together.ensures.stream
+    (prepend_kept came _ _ c.write_together.ensures.apart) c.write_together.ensures.stream.1
     c.write_together.ensures.seen over
