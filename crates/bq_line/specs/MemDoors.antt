@@ -16,6 +16,10 @@ seen_of line = record {
   fault = line.fault;
 }
 
+-- The client has the same parts, and as many bytes can still be written to it.
+abbrev pub KeepsPartsAndRoom : MemLine → MemLine → Type 0
+KeepsPartsAndRoom old new = (new.parts ≡ old.parts) × (new.room ≡ old.room)
+
 -- the line is unused
 abbrev pub IsFresh : MemLine → Type 0
 IsFresh line = seen_of line ≡ new_line

@@ -41,6 +41,8 @@ pub struct MemLine {
 }
 
 impl MemLine {
+    ghost use Rattle.bq_line.specs.MemDoors.{KeepsPartsAndRoom};
+
     /// Returns a line with these parts, to which `room` bytes can be written. Returns `NoMemory` if
     /// the allocation of that room fails.
     #[tactic(auto, using(crate::proofs::PartLemmas::at_first))]
@@ -79,8 +81,7 @@ impl MemLine {
         ensures place { self.new.place
             ≡ open_place self.old.parts.items self.old.place self.old.offset
             (vec_len self.old.written) }
-        ensures parts { self.new.parts ≡ self.old.parts }
-        ensures room { self.new.room ≡ self.old.room }
+        ensures kept { KeepsPartsAndRoom self.old self.new }
     {
         let (place, offset) = next_open(&self.parts, self.place, self.offset, self.written.len());
         self.place = place;
@@ -98,8 +99,7 @@ impl MemLine {
         ensures answered { IsAnsweredBy (slice_get self.old.parts.items self.old.place) result }
         ensures place { self.new.place
             ≡ place_after (slice_get self.old.parts.items self.old.place) self.old.place }
-        ensures parts { self.new.parts ≡ self.old.parts }
-        ensures room { self.new.room ≡ self.old.room }
+        ensures kept { KeepsPartsAndRoom self.old self.new }
     {
         match self.parts.get(self.place) {
             None => {
@@ -125,6 +125,7 @@ impl MemLine {
 impl Line for MemLine {
     ghost use Rattle.std.specs.Prelude.{[], Some};
     ghost use Rattle.bq_line.specs.LineParts.{all_bytes};
+    ghost use Rattle.bq_line.specs.MemDoors.{KeepsPartsAndRoom};
 
     ghost seen = { λ line. record {
       read = bytes_up_to line.parts.items line.place line.offset;
@@ -153,8 +154,7 @@ impl Line for MemLine {
             ≡ place_after (slice_get self.old.parts.items
             (open_place self.old.parts.items self.old.place self.old.offset (vec_len self.old.written)))
             (open_place self.old.parts.items self.old.place self.old.offset (vec_len self.old.written)) }
-        ensures parts { self.new.parts ≡ self.old.parts }
-        ensures room { self.new.room ≡ self.old.room }
+        ensures kept { KeepsPartsAndRoom self.old self.new }
     {
         self.pass_parts();
         self.read_part(buf)
@@ -175,8 +175,7 @@ impl Line for MemLine {
             ≡ place_after (slice_get self.old.parts.items
             (open_place self.old.parts.items self.old.place self.old.offset (vec_len self.old.written)))
             (open_place self.old.parts.items self.old.place self.old.offset (vec_len self.old.written)) }
-        ensures parts { self.new.parts ≡ self.old.parts }
-        ensures room { self.new.room ≡ self.old.room }
+        ensures kept { KeepsPartsAndRoom self.old self.new }
     {
         self.read(buf)
     }
