@@ -5,6 +5,10 @@ use Rattle.bq_line.specs.LineCalls.{new_line}
 use Rattle.bq_line.specs.declared.door.Opening.{Opening}
 use Rattle.bq_line.specs.declared.door.Opening.TheVariants as openings
 
+-- No line is open, and more may come.
+abbrev pub MayOpen : Bool → Bool → Type 0
+MayOpen is_out is_at_end = (is_out ≡ false) × (is_at_end ≡ false)
+
 -- An unused line was opened, or the door has ended.
 abbrev pub IsOpened : {L E : Type 0} → (L → LineSeen) → Bool → Bool → Result (Option L) E → Type 0
 IsOpened seen is_out is_at_end (Ok (Some line)) = (is_out ≡ true) × (is_at_end ≡ false) × (seen line ≡ new_line)

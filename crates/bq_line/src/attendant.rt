@@ -1,10 +1,11 @@
 //! A seat that attends to a door: it serves the door's lines one after another, one action at a
 //! time. Also its link to the core, and how one action is carried out at its line and its link.
-ghost use Rattle.std.specs.Prelude.{◌≡◌, ◌≤◌, ◌↔◌, [], true, false, not, IfOk, IsTrue, ◌<◌, ◌++◌, ℕ, List, length};
+ghost use Rattle.std.specs.Prelude.{◌≡◌, ◌≤◌, ◌↔◌, [], true, not, IfOk, IsTrue, ◌<◌, ◌++◌, ℕ, List, length};
 ghost use Rattle.bq_seat.specs.Outstanding.{ReadsWith};
 ghost use Rattle.bq_seat.specs.Past.{Awaited};
 ghost use Rattle.bq_seat.specs.SeatStands.{awaited};
 ghost use Rattle.bq_seat.specs.declared.machine.SeatMachine.{SeatMachine};
+ghost use Rattle.bq_line.specs.Doors.{MayOpen};
 ghost use Rattle.bq_line.specs.Tending.{DoorSeen, GoesOn, IsPlaced, MayEndAt, Tends, attendant, door_seen};
 ghost use Rattle.bq_job.specs.declared.answer.Answer.{Answer};
 ghost use Rattle.bq_job.specs.declared.step.Step.{Step};
@@ -243,8 +244,7 @@ impl<L: Line + Drop> Attendant<L> {
         may_have_come: bool,
     ) -> Looked
         requires between { self.old.place ≡ LinePlace.Between }
-        requires inside { D.is_out door.old ≡ false }
-        requires more { D.is_at_end door.old ≡ false }
+        requires more { MayOpen (D.is_out door.old) (D.is_at_end door.old) }
         ensures went { let at = door_seen D.is_out D.is_at_end D.lines_over in
             Tends L.seen self.old (at door.old) [] [] self.new (at door.new) }
         ensures same { (first : D) → D.same first door.old → D.same first door.new }
@@ -321,8 +321,7 @@ fn open_in_place<L: Line + Drop, D: Door<Line = L>>(
     place: &mut LinePlace<L>,
     door: &mut D,
 )
-    requires inside { D.is_out door.old ≡ false }
-    requires more { D.is_at_end door.old ≡ false }
+    requires more { MayOpen (D.is_out door.old) (D.is_at_end door.old) }
     ensures opened { place.new ≡ LinePlace.Between → ⊥ }
     ensures went { let at = door_seen D.is_out D.is_at_end D.lines_over in
         Tends L.seen (attendant machine.old LinePlace.Between) (at door.old) [] [] (attendant machine.new place.new) (at door.new) }
@@ -337,8 +336,7 @@ fn open_line<L: Line + Drop, D: Door<Line = L>>(
     machine: &mut SeatMachine,
     door: &mut D,
 ) -> LinePlace<L>
-    requires inside { D.is_out door.old ≡ false }
-    requires more { D.is_at_end door.old ≡ false }
+    requires more { MayOpen (D.is_out door.old) (D.is_at_end door.old) }
     ensures opened { result ≡ LinePlace.Between → ⊥ }
     ensures went { let at = door_seen D.is_out D.is_at_end D.lines_over in
         Tends L.seen (attendant machine.old LinePlace.Between) (at door.old) [] [] (attendant machine.new result) (at door.new) }

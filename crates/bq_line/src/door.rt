@@ -1,7 +1,7 @@
 //! Doors, at which clients connect one after another.
 ghost use Rattle.std.specs.Prelude.{◌≡◌, Bool, List, [], ◌∷◌, ◌++◌, true, false};
 ghost use Rattle.bq_job.specs.promise.History.{LineOver};
-ghost use Rattle.bq_line.specs.Doors.{IsLookedFor, IsOpened};
+ghost use Rattle.bq_line.specs.Doors.{IsLookedFor, IsOpened, MayOpen};
 
 pub use free_doors::FreeDoors;
 pub use listen::Listen;
@@ -76,8 +76,7 @@ pub trait Door {
     /// Waits for the next line and opens it. `None` means that no more lines come, and so does an
     /// error.
     fn open(&mut self) -> Result<Option<Self::Line>, DoorFault>
-        requires inside { is_out self.old ≡ false }
-        requires more { is_at_end self.old ≡ false }
+        requires more { MayOpen (is_out self.old) (is_at_end self.old) }
         ensures opened { IsOpened Self.Line.seen (is_out self.new) (is_at_end self.new) result }
         ensures over { lines_over self.new ≡ lines_over self.old }
         ensures same { (first : Self) → same first self.old → same first self.new };
@@ -86,8 +85,7 @@ pub trait Door {
     /// connected since the last call, so that no system call is needed. After an error no more
     /// lines come.
     fn look(&mut self, may_have_come: bool) -> Result<Opening<Self::Line>, DoorFault>
-        requires inside { is_out self.old ≡ false }
-        requires more { is_at_end self.old ≡ false }
+        requires more { MayOpen (is_out self.old) (is_at_end self.old) }
         ensures opened { IsLookedFor Self.Line.seen (is_out self.new) (is_at_end self.new) result }
         ensures over { lines_over self.new ≡ lines_over self.old }
         ensures same { (first : Self) → same first self.old → same first self.new };

@@ -1,5 +1,5 @@
 ghost use Rattle.std.specs.Prelude.{◌≡◌, ◌↔◌, [], IfOk, IsNone, IsSome, OnErr, OnOk, Some, false, true};
-ghost use Rattle.bq_line.specs.Doors.{IsLookedFor, IsNoMore, IsOpened};
+ghost use Rattle.bq_line.specs.Doors.{IsLookedFor, IsNoMore, IsOpened, MayOpen};
 ghost use Rattle.bq_line.specs.InAll.{in_all};
 
 use super::accept::{Accepted, accept, accept_now};
@@ -206,8 +206,7 @@ impl<'l, R: Wait + Clock + Eprint, S: Socket + Drop + Send, T: Listen<Stream = S
     ghost same_self = { λ door. (refl, refl) };
 
     fn open(&mut self) -> Result<Option<BufferedLine<Connection<S>>>, DoorFault>
-        requires inside { self.old.is_out ≡ false }
-        requires more { self.old.is_at_end ≡ false }
+        requires more { MayOpen self.old.is_out self.old.is_at_end }
         ensures opened { IsOpened ⟦<BufferedLine<Connection<S>> as Line>⟧.seen
             self.new.is_out self.new.is_at_end result }
         ensures over { self.new.over ≡ self.old.over }
@@ -246,8 +245,7 @@ impl<'l, R: Wait + Clock + Eprint, S: Socket + Drop + Send, T: Listen<Stream = S
         &mut self,
         may_have_come: bool,
     ) -> Result<Opening<BufferedLine<Connection<S>>>, DoorFault>
-        requires inside { self.old.is_out ≡ false }
-        requires more { self.old.is_at_end ≡ false }
+        requires more { MayOpen self.old.is_out self.old.is_at_end }
         ensures opened { IsLookedFor ⟦<BufferedLine<Connection<S>> as Line>⟧.seen
             self.new.is_out self.new.is_at_end result }
         ensures over { self.new.over ≡ self.old.over }

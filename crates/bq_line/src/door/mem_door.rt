@@ -3,7 +3,7 @@ ghost use Rattle.std.specs.Prelude.{◌↔◌, IfErr, IfOk, IsNone, false, true}
 ghost use Rattle.std.specs.List.{All};
 ghost use Rattle.std.specs.Option.{option_to_list};
 ghost use Rattle.std.specs.Vec.{vec_capacity};
-ghost use Rattle.bq_line.specs.Doors.{IsLookedFor, IsOpened};
+ghost use Rattle.bq_line.specs.Doors.{IsLookedFor, IsOpened, MayOpen};
 ghost use Rattle.bq_line.specs.MemDoors.{IsFresh, line_over};
 
 use super::{Door, DoorFault, Opening};
@@ -96,8 +96,7 @@ impl Door for MemDoor {
     ghost same_self = { λ door. refl };
 
     fn open(&mut self) -> Result<Option<MemLine>, DoorFault>
-        requires inside { self.old.is_out ≡ false }
-        requires more { self.old.is_at_end ≡ false }
+        requires more { MayOpen self.old.is_out self.old.is_at_end }
         ensures opened { IsOpened ⟦<MemLine as Line>⟧.seen
             self.new.is_out self.new.is_at_end result }
         ensures over { self.new.over ≡ self.old.over }
@@ -122,8 +121,7 @@ impl Door for MemDoor {
 
     // Its lines are never waited for.
     fn look(&mut self, _may_have_come: bool) -> Result<Opening<MemLine>, DoorFault>
-        requires inside { self.old.is_out ≡ false }
-        requires more { self.old.is_at_end ≡ false }
+        requires more { MayOpen self.old.is_out self.old.is_at_end }
         ensures opened { IsLookedFor ⟦<MemLine as Line>⟧.seen
             self.new.is_out self.new.is_at_end result }
         ensures over { self.new.over ≡ self.old.over }

@@ -20,13 +20,13 @@ last_but_one (suc n) (z ∷ xs) ys x e = last_but_one n xs ys x e
 pub invariant_of-self : goal.invariant_of-self
 invariant_of-self c =
     let door = c.args.self.now in
-    let room = rw c.requires.inside at door.room in
+    let room = rw c.requires.more.0 at door.room in
     record {
       room = omega (arith, ap length c.in-Some.ensures.items, room);
       fresh = behind IsFresh c.in-Some.line c.pop_front.new.self.items door.coming.items c.in-Some.ensures.items door.fresh;
-      all = let all = rw c.requires.inside at door.all in omega (arith, ap length c.in-Some.ensures.items, all);
+      all = let all = rw c.requires.more.0 at door.all in omega (arith, ap length c.in-Some.ensures.items, all);
       last =
-          let all = rw c.requires.inside at door.all in
+          let all = rw c.requires.more.0 at door.all in
           let one = ap length c.in-Some.ensures.items in
           let put_in = door.put_in.lines.value.items in
           let next = last_but_one (length put_in - length door.coming.items) put_in c.pop_front.new.self.items c.in-Some.line
@@ -34,5 +34,5 @@ invariant_of-self c =
           let same : suc (length put_in - length door.coming.items) ≡ length put_in - length c.pop_front.new.self.items =
           omega (arith, all, one) in
           next ∙ ap (λ n. drop n put_in) same;
-      end = λ at_end. let more = c.requires.more in cc;
+      end = λ at_end. let more = c.requires.more.1 in cc;
     }
