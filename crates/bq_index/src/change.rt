@@ -11,7 +11,8 @@ ghost use Rattle.bq_index.specs.Order.{InOrder, LacksKeyOf, with_entry};
 ghost use Rattle.bq_index.specs.Tree.{entries, entries_in, entries_of, entry_in, entry_of_top, height, height_in, height_of, left_in, right_in};
 ghost use Rattle.bq_index.specs.declared.tree.Node.TheVariants.{Spare};
 ghost use Rattle.bq_index.specs.declared.tree.Tree.TheVariants.{Leaf};
-ghost use Rattle.bq_index.specs.Tree.{HasParts, IsBalanced, IsBalancedFrom, IsLevel, IsWithoutFirst, RaisedByAtMost, differ};
+ghost use Rattle.bq_index.specs.Tree.{HasParts, IsBalanced, IsBalancedFrom, IsLevel, IsLevelWithSide, IsLowered, IsWithoutFirst};
+ghost use Rattle.bq_index.specs.Tree.{IsRaised, LosesEntry, RaisedByAtMost};
 
 use super::find::compare_to;
 use super::rotation::{mend, sink_left, sink_right};
@@ -32,10 +33,7 @@ where
     requires low { height_in node.value ≡ 1 }
     ensures is { entries_in here.new ≡ entries_in node.value
         ++ (option_to_list (entry_in here.old) ++ entries_of (right_in here.old)) }
-    ensures balanced { IsLevel here.new }
-    ensures not_lower { height_in here.old ≤ height_in here.new }
-    ensures not_higher { height_in here.new ≤ height_in here.old + 1 }
-    ensures changed { result ≡ differ (height_in here.old) (height_in here.new) }
+    ensures raised { IsRaised here.old here.new result }
 {
     match mem::replace(here, Node::Spare) {
         Node::Alone { key, value } => {
@@ -79,10 +77,7 @@ where
     requires low { height_in node.value ≡ 1 }
     ensures is { entries_in here.new ≡ entries_of (left_in here.old)
         ++ (option_to_list (entry_in here.old) ++ entries_in node.value) }
-    ensures balanced { IsLevel here.new }
-    ensures not_lower { height_in here.old ≤ height_in here.new }
-    ensures not_higher { height_in here.new ≤ height_in here.old + 1 }
-    ensures changed { result ≡ differ (height_in here.old) (height_in here.new) }
+    ensures raised { IsRaised here.old here.new result }
 {
     match mem::replace(here, Node::Spare) {
         Node::Alone { key, value } => {
@@ -126,10 +121,7 @@ where
     requires absent { LacksKeyOf K.cmp (entry_in node.value) (entries_in here.old) }
     requires fits { height_in here.old < 200 }
     ensures is { entries_in here.new ≡ with_entry K.cmp (entry_in node.value) (entries_in here.old) }
-    ensures balanced { IsLevel here.new }
-    ensures not_lower { height_in here.old ≤ height_in here.new }
-    ensures not_higher { height_in here.new ≤ height_in here.old + 1 }
-    ensures changed { result ≡ differ (height_in here.old) (height_in here.new) }
+    ensures raised { IsRaised here.old here.new result }
     ensures counted { RaisedByAtMost (height_in here.old) count.old count.new }
 {
     match compare_to(node.key(), here, count) {
@@ -238,10 +230,7 @@ where
     requires here_level { IsLevel here.old }
     requires low { height_of (left_in here.old) ≡ 1 }
     ensures is { entries_in here.new ≡ option_to_list (entry_in here.old) ++ entries_of (right_in here.old) }
-    ensures balanced { IsLevel here.new }
-    ensures not_higher { height_in here.new ≤ height_in here.old }
-    ensures not_lower { height_in here.old ≤ height_in here.new + 1 }
-    ensures changed { result.1 ≡ differ (height_in here.old) (height_in here.new) }
+    ensures lowered { IsLowered here.old here.new result.1 }
     ensures shed { Some result.0.value ≡ left_in here.old }
 {
     match mem::replace(here, Node::Spare) {
@@ -278,10 +267,7 @@ where
     requires here_level { IsLevel here.old }
     requires low { height_of (right_in here.old) ≡ 1 }
     ensures is { entries_in here.new ≡ entries_of (left_in here.old) ++ (option_to_list (entry_in here.old) ++ []) }
-    ensures balanced { IsLevel here.new }
-    ensures not_higher { height_in here.new ≤ height_in here.old }
-    ensures not_lower { height_in here.old ≤ height_in here.new + 1 }
-    ensures changed { result.1 ≡ differ (height_in here.old) (height_in here.new) }
+    ensures lowered { IsLowered here.old here.new result.1 }
     ensures shed { Some result.0.value ≡ right_in here.old }
 {
     match mem::replace(here, Node::Spare) {
@@ -325,12 +311,9 @@ where
     requires none { found.old ≡ Leaf }
     ensures is { entries_in here.new ≡ remove_entry (is_at (K.cmp key.now)) (entries_of (left_in here.old))
         ++ (option_to_list (entry_in here.old) ++ entries_of (right_in here.old)) }
-    ensures balanced { IsLevel here.new }
     ensures found { option_map (λ e. e.1) (entry_of_top found.new)
         ≡ lookup (is_at (K.cmp key.now)) (entries_of (left_in here.old)) }
-    ensures not_higher { height_in here.new ≤ height_in here.old }
-    ensures not_lower { height_in here.old ≤ height_in here.new + 1 }
-    ensures changed { result ≡ differ (height_in here.old) (height_in here.new) }
+    ensures lowered { IsLowered here.old here.new result }
     ensures counted { RaisedByAtMost (height_of (left_in here.old)) count.old count.new }
 {
     if is_on_left(here, key, count) {
@@ -359,12 +342,9 @@ where
     requires none { found.old ≡ Leaf }
     ensures is { entries_in here.new ≡ entries_of (left_in here.old)
         ++ (option_to_list (entry_in here.old) ++ remove_entry (is_at (K.cmp key.now)) (entries_of (right_in here.old))) }
-    ensures balanced { IsLevel here.new }
     ensures found { option_map (λ e. e.1) (entry_of_top found.new)
         ≡ lookup (is_at (K.cmp key.now)) (entries_of (right_in here.old)) }
-    ensures not_higher { height_in here.new ≤ height_in here.old }
-    ensures not_lower { height_in here.old ≤ height_in here.new + 1 }
-    ensures changed { result ≡ differ (height_in here.old) (height_in here.new) }
+    ensures lowered { IsLowered here.old here.new result }
     ensures counted { RaisedByAtMost (height_of (right_in here.old)) count.old count.new }
 {
     if is_on_right(here, key, count) {
@@ -407,12 +387,7 @@ where
     V: Drop,
     requires here_level { IsLevel here.old }
     requires low { height_of (left_in here.old) ≡ 1 }
-    ensures is { entries_in here.new ≡ entries_of (left_in here.old) ++ entries_of (right_in here.old) }
-    ensures balanced { IsLevel here.new }
-    ensures not_higher { height_in here.new ≤ height_in here.old }
-    ensures not_lower { height_in here.old ≤ height_in here.new + 1 }
-    ensures changed { result.1 ≡ differ (height_in here.old) (height_in here.new) }
-    ensures entry { entry_in result.0.value ≡ entry_in here.old }
+    ensures traded { LosesEntry here.old here.new result.0.value result.1 }
     ensures level { IsLevel result.0.value }
     ensures alone { height_in result.0.value ≡ 1 }
 {
@@ -439,12 +414,7 @@ where
     V: Drop,
     requires here_level { IsLevel here.old }
     requires low { height_of (right_in here.old) ≡ 1 }
-    ensures is { entries_in here.new ≡ entries_of (left_in here.old) ++ entries_of (right_in here.old) }
-    ensures balanced { IsLevel here.new }
-    ensures not_higher { height_in here.new ≤ height_in here.old }
-    ensures not_lower { height_in here.old ≤ height_in here.new + 1 }
-    ensures changed { result.1 ≡ differ (height_in here.old) (height_in here.new) }
-    ensures entry { entry_in result.0.value ≡ entry_in here.old }
+    ensures traded { LosesEntry here.old here.new result.0.value result.1 }
     ensures level { IsLevel result.0.value }
     ensures alone { height_in result.0.value ≡ 1 }
 {
@@ -468,9 +438,7 @@ fn take_first<K, V>(here: &mut Node<K, V>) -> (Box<Node<K, V>>, bool)
 where
     K: Drop,
     V: Drop,
-    requires here_level { IsLevel here.old }
-    requires high { 1 < height_in here.old }
-    requires fits { height_in here.old < 200 }
+    requires { IsLevelWithSide here.old }
     ensures { IsWithoutFirst here.old here.new result.0.value result.1 }
 {
     let low = here.left_height();
@@ -499,12 +467,7 @@ where
     requires here_level { IsLevel here.old }
     requires high { 1 < height_of (right_in here.old) }
     requires fits { height_in here.old < 200 }
-    ensures is { entries_in here.new ≡ entries_of (left_in here.old) ++ entries_of (right_in here.old) }
-    ensures balanced { IsLevel here.new }
-    ensures not_higher { height_in here.new ≤ height_in here.old }
-    ensures not_lower { height_in here.old ≤ height_in here.new + 1 }
-    ensures changed { result.1 ≡ differ (height_in here.old) (height_in here.new) }
-    ensures entry { entry_in result.0.value ≡ entry_in here.old }
+    ensures { LosesEntry here.old here.new result.0.value result.1 }
 {
     match here {
         Node::Both {
@@ -530,15 +493,8 @@ fn trade<K, V>(here: &mut Node<K, V>) -> (Box<Node<K, V>>, bool)
 where
     K: Drop,
     V: Drop,
-    requires here_level { IsLevel here.old }
-    requires high { 1 < height_in here.old }
-    requires fits { height_in here.old < 200 }
-    ensures is { entries_in here.new ≡ entries_of (left_in here.old) ++ entries_of (right_in here.old) }
-    ensures balanced { IsLevel here.new }
-    ensures not_higher { height_in here.new ≤ height_in here.old }
-    ensures not_lower { height_in here.old ≤ height_in here.new + 1 }
-    ensures changed { result.1 ≡ differ (height_in here.old) (height_in here.new) }
-    ensures entry { entry_in result.0.value ≡ entry_in here.old }
+    requires { IsLevelWithSide here.old }
+    ensures { LosesEntry here.old here.new result.0.value result.1 }
 {
     let low = here.right_height();
     if low == 0 {
@@ -557,16 +513,11 @@ fn take_out<K, V>(here: &mut Node<K, V>, found: &mut Tree<K, V>) -> bool
 where
     K: Drop,
     V: Drop,
-    requires here_level { IsLevel here.old }
-    requires high { 1 < height_in here.old }
-    requires fits { height_in here.old < 200 }
+    requires here_level { IsLevelWithSide here.old }
     requires none { found.old ≡ Leaf }
     ensures is { entries_in here.new ≡ entries_of (left_in here.old) ++ entries_of (right_in here.old) }
     ensures value { option_map (λ e. e.1) (entry_of_top found.new) ≡ option_map (λ e. e.1) (entry_in here.old) }
-    ensures balanced { IsLevel here.new }
-    ensures not_higher { height_in here.new ≤ height_in here.old }
-    ensures not_lower { height_in here.old ≤ height_in here.new + 1 }
-    ensures changed { result ≡ differ (height_in here.old) (height_in here.new) }
+    ensures lowered { IsLowered here.old here.new result }
 {
     let (removed, changed) = trade(here);
     keep(found, Tree::Fork(removed));
@@ -585,18 +536,13 @@ fn remove_below<K: Ord, V>(
 where
     K: Drop,
     V: Drop,
-    requires here_level { IsLevel here.old }
-    requires high { 1 < height_in here.old }
+    requires here_level { IsLevelWithSide here.old }
     requires in_order { InOrder K.cmp (entries_in here.old) }
-    requires fits { height_in here.old < 200 }
     requires none { found.old ≡ Leaf }
     ensures is { entries_in here.new ≡ remove_entry (is_at (K.cmp key.now)) (entries_in here.old) }
-    ensures balanced { IsLevel here.new }
     ensures found { option_map (λ e. e.1) (entry_of_top found.new)
         ≡ lookup (is_at (K.cmp key.now)) (entries_in here.old) }
-    ensures not_higher { height_in here.new ≤ height_in here.old }
-    ensures not_lower { height_in here.old ≤ height_in here.new + 1 }
-    ensures changed { result ≡ differ (height_in here.old) (height_in here.new) }
+    ensures lowered { IsLowered here.old here.new result }
     ensures counted { RaisedByAtMost (height_in here.old) count.old count.new }
 {
     match compare_to(key, here, count) {

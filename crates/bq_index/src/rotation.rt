@@ -2,7 +2,7 @@
 // small stack frames.
 ghost use Rattle.std.specs.Prelude.{◌≡◌, ◌+◌, ◌<◌, max, None, Some, IsFalse};
 ghost use Rattle.bq_index.specs.Tree.{entry_in, height, height_in, height_of, held, left_in, right_in};
-ghost use Rattle.bq_index.specs.Tree.{IsBalanced, IsBalancedFrom, IsNearlyLevel, DifferByAtMost, HasItsHeight, IsMended, IsRebalanced, differ};
+ghost use Rattle.bq_index.specs.Tree.{AreBalanced, IsBalancedFrom, IsNearlyLevel, DifferByAtMost, HasItsHeight, IsMended, IsRebalanced, differ};
 
 use super::tree::{Node, Tree, fill, open, put};
 use std::mem;
@@ -400,8 +400,7 @@ fn balance<K, V>(node: &mut Node<K, V>, left: Tree<K, V>, entry: (K, V), right: 
 where
     K: Drop,
     V: Drop,
-    requires left_balanced { IsBalanced left }
-    requires right_balanced { IsBalanced right }
+    requires balanced { AreBalanced left right }
     requires near { DifferByAtMost 2 (height left) (height right) }
     requires fits { max (height left) (height right) < 254 }
     ensures { IsRebalanced (held left) (Some entry) (held right) (Some node.new) }
@@ -423,8 +422,7 @@ fn lean_left<K, V>(node: &mut Node<K, V>, left: Tree<K, V>, entry: (K, V), right
 where
     K: Drop,
     V: Drop,
-    requires left_balanced { IsBalanced left }
-    requires right_balanced { IsBalanced right }
+    requires balanced { AreBalanced left right }
     requires higher { height left ≡ height right + 2 }
     requires fits { height left < 254 }
     ensures { IsRebalanced (held left) (Some entry) (held right) (Some node.new) }
@@ -450,8 +448,7 @@ fn lean_right<K, V>(node: &mut Node<K, V>, left: Tree<K, V>, entry: (K, V), righ
 where
     K: Drop,
     V: Drop,
-    requires left_balanced { IsBalanced left }
-    requires right_balanced { IsBalanced right }
+    requires balanced { AreBalanced left right }
     requires higher { height right ≡ height left + 2 }
     requires fits { height right < 254 }
     ensures { IsRebalanced (held left) (Some entry) (held right) (Some node.new) }

@@ -3,7 +3,7 @@
 ghost use Rattle.std.specs.Prelude.{◌≡◌, ◌+◌, ◌<◌, ◌≤◌, max, [], IsSome, IfSome, IfNone, IfOk, Some, true, false};
 ghost use Rattle.bq_index.specs.Tree.{chain_length, entries, entries_of, entry_in, height, height_in};
 ghost use Rattle.bq_index.specs.Tree.{height_of, held, left_in, length_behind, lent, right_in, with_height, differ};
-ghost use Rattle.bq_index.specs.Tree.{IsBalanced, IsBalancedFrom, IsKeyOf, IsLevel, HasParts, DifferByAtMost};
+ghost use Rattle.bq_index.specs.Tree.{AreBalanced, IsBalanced, IsBalancedFrom, IsKeyOf, IsLevel, HasParts, DifferByAtMost};
 ghost use Rattle.bq_index.specs.declared.tree.Node.TheVariants.{Spare};
 ghost use Rattle.bq_index.specs.declared.tree.Tree.TheVariants.{Leaf};
 
@@ -193,8 +193,7 @@ impl<K, V> Node<K, V> {
 
     // Returns a box of two trees with an entry between them, whose height is `high`.
     pub(crate) fn of(high: u8, left: Tree<K, V>, entry: (K, V), right: Tree<K, V>) -> Self
-        requires left_balanced { IsBalanced left }
-        requires right_balanced { IsBalanced right }
+        requires balanced { AreBalanced left right }
         requires near { DifferByAtMost 1 (height left) (height right) }
         requires known { high ≡ max (height left) (height right) + 1 }
         ensures parts { HasParts (Some result) (held left) (Some entry) (held right) }
@@ -217,8 +216,7 @@ impl<K, V> Node<K, V> {
 
     // The same, with the height computed from the heights of both sides.
     pub(crate) fn over(left: Tree<K, V>, entry: (K, V), right: Tree<K, V>) -> Self
-        requires left_balanced { IsBalanced left }
-        requires right_balanced { IsBalanced right }
+        requires balanced { AreBalanced left right }
         requires near { DifferByAtMost 1 (height left) (height right) }
         requires fits { max (height left) (height right) < 255 }
         ensures parts { HasParts (Some result) (held left) (Some entry) (held right) }

@@ -103,10 +103,7 @@ returns-in_default g t c =
     let none : left_in c.args.here.now ≡ None = search rules in
     record {
       is = hung_left g.K.Ord.cmp _ c.args.here.now w c.hang_left.new.here c.args.node.value none c.requires.alone.is c.hang_left.ensures.is;
-      balanced = c.hang_left.ensures.balanced;
-      not_lower = c.hang_left.ensures.not_lower;
-      not_higher = c.hang_left.ensures.not_higher;
-      changed = c.hang_left.ensures.changed;
+      raised = c.hang_left.ensures.raised;
       counted = (c.compare_to.ensures.counted.0, omega (arith, c.compare_to.ensures.counted.1, p.high));
     }
 
@@ -119,9 +116,6 @@ returns-in_default-here g t c =
     record {
       is = hung_right g.K.Ord.cmp _ c.args.here.now w c.hang_right.new.here c.args.node.value none c.requires.alone.is
           c.hang_right.ensures.is;
-      balanced = c.hang_right.ensures.balanced;
-      not_lower = c.hang_right.ensures.not_lower;
-      not_higher = c.hang_right.ensures.not_higher;
-      changed = c.hang_right.ensures.changed;
+      raised = c.hang_right.ensures.raised;
       counted = (c.compare_to.ensures.counted.0, omega (arith, c.compare_to.ensures.counted.1, p.high));
     }

@@ -8,7 +8,7 @@ use Rattle.bq_index.proofs.change.+remove_below.Goals as goal
 
 pub remove_below-shrunk-requires : goal.remove_below-shrunk-requires
 remove_below-shrunk-requires g t c κs within =
-    let p = come_apart c.args.here.now c.requires.here_level in
+    let p = come_apart c.args.here.now c.requires.here_level.0 in
     let same : left_in c.args.here.now ≡ Some c.in-Both.left.value = ap left_in c.in-Both.is in
     let lower : height_in c.in-Both.left.value < height_in c.args.here.now = omega (arith, p.high, ap height_of same) in
     let high : 1 < height_in c.in-Both.left.value = search (rules, ap height_of same) in
@@ -20,7 +20,7 @@ remove_below-shrunk-requires g t c κs within =
 
 pub remove_below-shrunk-requires-in-Both-here : goal.remove_below-shrunk-requires-in-Both-here
 remove_below-shrunk-requires-in-Both-here g t c κs within =
-    let p = come_apart c.args.here.now c.requires.here_level in
+    let p = come_apart c.args.here.now c.requires.here_level.0 in
     let same : right_in c.args.here.now ≡ Some c.in-Both-here.right.value = ap right_in c.in-Both-here.is in
     let lower : height_in c.in-Both-here.right.value < height_in c.args.here.now = omega (arith, p.high, ap height_of same) in
     let high : 1 < height_in c.in-Both-here.right.value = search (rules, ap height_of same) in
@@ -32,7 +32,7 @@ remove_below-shrunk-requires-in-Both-here g t c κs within =
 
 pub returns-in-Both-clause-is : goal.returns-in-Both-clause-is
 returns-in-Both-clause-is g t c =
-    let p = come_apart c.args.here.now c.requires.here_level in
+    let p = come_apart c.args.here.now c.requires.here_level.0 in
     let w = is_below g.met.K.Ord.total c.args.key.now p c.requires.in_order c.compare_to.ensures.answer c.in-Less.is in
     let e : c.deref_mut.result.now ≡ c.in-Both.left.value = search rules in
     let low = c.remove_below-shrunk.ensures.is ∙ ap (λ n. remove_entry (is_at (g.K.Ord.cmp c.args.key.now)) (entries_in n)) e in
@@ -42,7 +42,7 @@ returns-in-Both-clause-is g t c =
 
 pub returns-in-Both-clause-found : goal.returns-in-Both-clause-found
 returns-in-Both-clause-found g t c =
-    let p = come_apart c.args.here.now c.requires.here_level in
+    let p = come_apart c.args.here.now c.requires.here_level.0 in
     let w = is_below g.met.K.Ord.total c.args.key.now p c.requires.in_order c.compare_to.ensures.answer c.in-Less.is in
     let e : c.deref_mut.result.now ≡ c.in-Both.left.value = search rules in
     let same : left_in c.args.here.now ≡ Some c.in-Both.left.value = ap left_in c.in-Both.is in
@@ -51,7 +51,7 @@ returns-in-Both-clause-found g t c =
 
 pub returns-in-Both-here-clause-is : goal.returns-in-Both-here-clause-is
 returns-in-Both-here-clause-is g t c =
-    let p = come_apart c.args.here.now c.requires.here_level in
+    let p = come_apart c.args.here.now c.requires.here_level.0 in
     let w = is_above g.met.K.Ord.total c.args.key.now p c.requires.in_order c.compare_to.ensures.answer c.in-Greater.is in
     let e : c.deref_mut-in-Both-here.result.now ≡ c.in-Both-here.right.value = search rules in
     let low = c.remove_below-shrunk-in-Both-here.ensures.is
@@ -63,7 +63,7 @@ returns-in-Both-here-clause-is g t c =
 
 pub returns-in-Both-here-clause-found : goal.returns-in-Both-here-clause-found
 returns-in-Both-here-clause-found g t c =
-    let p = come_apart c.args.here.now c.requires.here_level in
+    let p = come_apart c.args.here.now c.requires.here_level.0 in
     let w = is_above g.met.K.Ord.total c.args.key.now p c.requires.in_order c.compare_to.ensures.answer c.in-Greater.is in
     let e : c.deref_mut-in-Both-here.result.now ≡ c.in-Both-here.right.value = search rules in
     let same : right_in c.args.here.now ≡ Some c.in-Both-here.right.value = ap right_in c.in-Both-here.is in
@@ -73,35 +73,35 @@ returns-in-Both-here-clause-found g t c =
 pub returns-in-Equal-clause-is : goal.returns-in-Equal-clause-is
 returns-in-Equal-clause-is g t c =
     let w = is_at_entry g.met.K.Ord.total c.args.key.now
-    (come_apart c.args.here.now c.requires.here_level) c.requires.in_order c.compare_to.ensures.answer c.in-Equal.is in
+    (come_apart c.args.here.now c.requires.here_level.0) c.requires.in_order c.compare_to.ensures.answer c.in-Equal.is in
     c.take_out.ensures.is ∙ sym w.removed
 
 pub returns-in-Equal-clause-found : goal.returns-in-Equal-clause-found
 returns-in-Equal-clause-found g t c =
     let w = is_at_entry g.met.K.Ord.total c.args.key.now
-    (come_apart c.args.here.now c.requires.here_level) c.requires.in_order c.compare_to.ensures.answer c.in-Equal.is in
+    (come_apart c.args.here.now c.requires.here_level.0) c.requires.in_order c.compare_to.ensures.answer c.in-Equal.is in
     c.take_out.ensures.value ∙ sym w.looked_up
 
 pub returns-then-not-is_high_on_left-clause-is : goal.returns-then-not-is_high_on_left-clause-is
 returns-then-not-is_high_on_left-clause-is g t c =
     let w = is_below g.met.K.Ord.total c.args.key.now
-    (come_apart c.args.here.now c.requires.here_level) c.requires.in_order c.compare_to.ensures.answer c.in-Less.is in
+    (come_apart c.args.here.now c.requires.here_level.0) c.requires.in_order c.compare_to.ensures.answer c.in-Less.is in
     c.cut_left.ensures.is ∙ sym w.removed
 
 pub returns-then-not-is_high_on_left-clause-found : goal.returns-then-not-is_high_on_left-clause-found
 returns-then-not-is_high_on_left-clause-found g t c =
     let w = is_below g.met.K.Ord.total c.args.key.now
-    (come_apart c.args.here.now c.requires.here_level) c.requires.in_order c.compare_to.ensures.answer c.in-Less.is in
+    (come_apart c.args.here.now c.requires.here_level.0) c.requires.in_order c.compare_to.ensures.answer c.in-Less.is in
     c.cut_left.ensures.found ∙ sym w.looked_up
 
 pub returns-then-not-is_high_on_right-clause-is : goal.returns-then-not-is_high_on_right-clause-is
 returns-then-not-is_high_on_right-clause-is g t c =
     let w = is_above g.met.K.Ord.total c.args.key.now
-    (come_apart c.args.here.now c.requires.here_level) c.requires.in_order c.compare_to.ensures.answer c.in-Greater.is in
+    (come_apart c.args.here.now c.requires.here_level.0) c.requires.in_order c.compare_to.ensures.answer c.in-Greater.is in
     c.cut_right.ensures.is ∙ sym w.removed
 
 pub returns-then-not-is_high_on_right-clause-found : goal.returns-then-not-is_high_on_right-clause-found
 returns-then-not-is_high_on_right-clause-found g t c =
     let w = is_above g.met.K.Ord.total c.args.key.now
-    (come_apart c.args.here.now c.requires.here_level) c.requires.in_order c.compare_to.ensures.answer c.in-Greater.is in
+    (come_apart c.args.here.now c.requires.here_level.0) c.requires.in_order c.compare_to.ensures.answer c.in-Greater.is in
     c.cut_right.ensures.found ∙ sym w.looked_up
