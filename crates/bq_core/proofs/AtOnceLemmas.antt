@@ -15,7 +15,8 @@ use Rattle.bq_core_api.specs.{Cost.changed_jobs, Outbox.Outbox}
 use Rattle.bq_jobs.specs.{Kept.Kept, Seen.IsBodyOf}
 use Rattle.bq_state.specs.declared.{core_parts.CoreParts.CoreParts, known.wanted.Wanted.TheVariants.{Client, Nothing}}
 use Rattle.bq_state.specs.declared.{seats.SeatChange.TheVariants.Wait}
-use Rattle.bq_state.specs.{Asking.{Asks, AsksAsChanged, AsksWithin, search_among}, CoreParts.machine_of, Cost.waited}
+use Rattle.bq_jobs.specs.Searching.{Asks}
+use Rattle.bq_state.specs.{Asking.{AsksAsChanged, AsksWithin, search_among}, CoreParts.machine_of, Cost.waited}
 use Rattle.bq_state.specs.{Offers.{next_rank, with_offer}, SeatChanges.AreNumbered, SeatStates.is_asking, WantedJobs.{AreKnown, is_nothing}}
 use Rattle.bq_state.proofs.{PartsLemmas.numbered_after, WantedLemmas.{known_nothing, known_of_seat, none_known}, TubeLemmas.paused_is}
 use Rattle.bq_core.specs.{AtOnce.{ActsOrGives, is_reserve, waiting_at}, Serving.NoneIsGone, Turns.Gives}

@@ -4,7 +4,8 @@ use Rattle.std.specs.{List.sum_by, Prelude.fold}
 use Rattle.bq_job.specs.{declared.job.Job.Job, machine.{SeatRecord, TubeRecord}}
 use Rattle.bq_job.proofs.ChoiceLemmas.{pair_order}
 use Rattle.bq_jobs.specs.Kept.{Kept}
-use Rattle.bq_state.specs.{Asking.Asks, Cost.waited_tubes, Offers.{better_rank, with_offers}}
+use Rattle.bq_jobs.specs.Searching.{Asks}
+use Rattle.bq_state.specs.{Cost.waited_tubes, Offers.{better_rank, with_offers}}
 use Rattle.bq_state.specs.{SeatChanges.AreNumbered, WaitingTurns.{by_seat, turns_of, waited_at}}
 use Rattle.bq_state.proofs.{SeatPlaces.place_is_seat, WalkLemmas.{chosen, chosen_twice, walked}}
 

@@ -10,7 +10,8 @@ use Rattle.bq_job.proofs.LawfulLemmas.{leaves_acted}
 use Rattle.bq_core_api.specs.{Cost.{IsStepWithin, changed_jobs, ripening, tubes_watched, watched_tubes}, Outbox.Outbox}
 use Rattle.bq_jobs.specs.Kept.{Kept}
 use Rattle.bq_state.specs.declared.core_parts.CoreParts.{CoreParts}
-use Rattle.bq_state.specs.{Asking.{Asks, AsksByTurn, AsksWithin, search_among}, CoreParts.machine_of, Cost.{waited, waited_tubes}}
+use Rattle.bq_jobs.specs.Searching.{Asks}
+use Rattle.bq_state.specs.{Asking.{AsksByTurn, AsksWithin, search_among}, CoreParts.machine_of, Cost.{waited, waited_tubes}}
 use Rattle.bq_core.specs.{AtOnce.kept_at, Serving.{NoneIsGone, ServesAsking, ServesInto}, Turns.{Gives, none_refused}}
 use Rattle.bq_core.proofs.{AskLemmas.{asks_more, asks_then, search_grows}, StepLemmas.{Begun, keeps, serves_after, serves_into, whole_step}}
 use Rattle.bq_core.proofs.CostLemmas.{ended_stop, entries_less, given_length, handed_stop, waited_less}

@@ -6,7 +6,8 @@ use Rattle.bq_job.specs.declared.request.Request.TheVariants as requests
 use Rattle.bq_job.specs.declared.step.Step.TheVariants as steps
 use Rattle.bq_jobs.specs.Kept.{Kept}
 use Rattle.bq_core_api.specs.{Cost.changed_jobs, Outbox.Outbox}
-use Rattle.bq_state.specs.{Asking.{Asks, AsksWithin}, Cost.waited}
+use Rattle.bq_jobs.specs.Searching.{Asks}
+use Rattle.bq_state.specs.{Asking.AsksWithin, Cost.waited}
 use Rattle.bq_core.specs.{Acting.Acts, Turns.Gives}
 
 abbrev pub is_reserve_request : Request → Bool

@@ -4,7 +4,8 @@ use Rattle.bq_job.specs.declared.step.Step.{Step}
 use Rattle.bq_job.specs.{beside.waiting_count, machine.{GivenAnswer, Serves, has_refused_share, is_tube, Machine.Machine}}
 use Rattle.bq_jobs.specs.Kept.{Kept}
 use Rattle.bq_core_api.specs.{Cost.IsStepWithin, Outbox.{Outbox, outcome_of}}
-use Rattle.bq_state.specs.{Asking.Asks, CoreParts.machine_of, Cost.waited, declared.core_parts.CoreParts.CoreParts}
+use Rattle.bq_jobs.specs.Searching.{Asks}
+use Rattle.bq_state.specs.{CoreParts.machine_of, Cost.waited, declared.core_parts.CoreParts.CoreParts}
 use Rattle.bq_core.specs.Turns.{HasRoom}
 
 -- there was no next turn, and nothing happened

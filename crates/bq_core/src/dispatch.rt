@@ -11,7 +11,8 @@ ghost use Rattle.bq_job.specs.machine.Dispatch.{DispatchTurn, is_wait_before, ne
 ghost use Rattle.bq_job.specs.machine.Limits.{raised};
 ghost use Rattle.bq_job.specs.machine.Steps.{has_refused_share};
 ghost use Rattle.bq_jobs.specs.Seen.{IsBodyOf};
-ghost use Rattle.bq_state.specs.Asking.{Asks, AsksByTurn};
+ghost use Rattle.bq_jobs.specs.Searching.{Asks};
+ghost use Rattle.bq_state.specs.Asking.{AsksByTurn};
 ghost use Rattle.bq_state.specs.Cost.{waited, waited_tubes};
 ghost use Rattle.bq_core.specs.AtOnce.{ActsOrGives, is_reserve};
 ghost use Rattle.bq_core.specs.HandOuts.{HandsOut, IsPicked, handed_to};

@@ -1,8 +1,8 @@
 ghost use Rattle.std.specs.Prelude.{◌≡◌, ◌<◌, ◌≤◌, ◌+◌, ◌*◌, [], false, length, take, true, if◌then◌else◌};
 ghost use Rattle.bq_job.specs.declared.job.Job.{Job};
 ghost use Rattle.bq_job.specs.machine.JobCommands.{after_kick, kick_effect, kickable, kicked};
-ghost use Rattle.bq_state.specs.Asking.{Asks, AsksAsChanged};
-ghost use Rattle.bq_state.specs.Searching.{Searches};
+ghost use Rattle.bq_jobs.specs.Searching.{Asks, Searches};
+ghost use Rattle.bq_state.specs.Asking.{AsksAsChanged};
 ghost use Rattle.bq_core_api.specs.Cost.{changed_jobs};
 ghost use Rattle.bq_state.specs.JobKinds.{is_of};
 ghost use Rattle.bq_core.specs.Kicking.{KicksFirst, jobs_of};

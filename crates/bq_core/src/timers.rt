@@ -4,8 +4,7 @@ ghost use Rattle.std.specs.Prelude.{◌≡◌, ◌<◌, ◌+◌, ◌*◌, true, 
 ghost use Rattle.std.specs.Prelude.{count_by, fold, length};
 ghost use Rattle.std.specs.List.{list_any};
 ghost use Rattle.bq_job.specs.machine.Timers.{after_timers, is_due, is_expired};
-ghost use Rattle.bq_state.specs.Asking.{Asks};
-ghost use Rattle.bq_state.specs.Searching.{Searches};
+ghost use Rattle.bq_jobs.specs.Searching.{Asks, Searches};
 ghost use Rattle.bq_core.specs.FiredTimers.{ExpiresOne, IsOne, after_job_timers, is_ripe, is_some_due};
 ghost use Rattle.bq_core.specs.FiredTimers.{is_some_expired, after_giving_back};
 ghost use Rattle.bq_state.specs.Keeping.{Looks};

@@ -7,7 +7,7 @@ ghost use Rattle.bq_job.specs.machine.Dispatch.{is_wait_before};
 ghost use Rattle.bq_job.specs.machine.Machine.{SeatRecord};
 ghost use Rattle.bq_job.specs.machine.Waits.{WaitEndTurn, is_ending_lease, next_end};
 ghost use Rattle.bq_jobs.specs.Kept.{ComparesAtMost};
-ghost use Rattle.bq_state.specs.Asking.{Asks};
+ghost use Rattle.bq_jobs.specs.Searching.{Asks};
 ghost use Rattle.bq_state.specs.CoreParts.{held, machine_of};
 ghost use Rattle.bq_state.specs.EndingWaits.{AreLookedAt, has_waited, is_lease_short, is_soon, left_after, may_end};
 ghost use Rattle.bq_state.specs.EndingWaits.{told_at_end, waits_after};

@@ -1,5 +1,5 @@
 -- Bounds on the number of comparisons.
-use Rattle.std.proofs.Common.{◌≡◌, ℕ, zero, suc, ◌+◌, ◌*◌, ◌/◌, ◌≤◌, true, false, List, min, length, arith, subst, inl, inr}
+use Rattle.std.proofs.Common.{◌≡◌, ℕ, zero, suc, ◌+◌, ◌*◌, ◌/◌, ◌≤◌, true, false, List, min, length, ap, arith, subst, inl, inr}
 use Rattle.std.specs.Prelude.{◌==◌}
 use Rattle.std.proofs.lemmas.Bool.{cases_Bool}
 use Rattle.std.proofs.lemmas.Bool.Decides.{nat_tests}
@@ -7,6 +7,7 @@ use Rattle.bq_index.specs.Digits.{binary_digits, digits_up_to}
 use Rattle.bq_job.specs.declared.job.Job.{Job}
 use Rattle.bq_job.specs.machine.Limits.{greatest}
 use Rattle.bq_jobs.specs.Kept.{Kept, search_bound}
+use Rattle.bq_jobs.specs.Searching.{Searches}
 
 -- a lower number does not have more digits
 pub digits_rise : (most more n m : ℕ) → n ≤ m → m ≤ more → digits_up_to most n ≤ digits_up_to more m
@@ -42,3 +43,13 @@ pub few_more : (n : ℕ) (seen old : Kept) (sum new : ℕ) → seen ≡ old → 
 few_more n seen old sum new e is l u =
     subst (λ (m : Kept). (m.comparisons ≤ min new greatest) × (min new greatest ≤ m.comparisons + n * search_bound m.jobs)) e
     (rw is (sum_rises sum new (n * search_bound seen.jobs) l u))
+
+-- the same for a call that changes nothing
+pub searched : (n : ℕ) (seen old : Kept) (sum new : ℕ) → seen ≡ old → seen.comparisons ≡ min sum greatest → sum ≤ new
+    → new ≤ sum + n * search_bound seen.jobs → Searches n old (record seen { comparisons = min new greatest })
+searched n seen old sum new e is l u =
+    let few = few_more n seen old sum new e is l u in
+    record {
+      same = ap (λ (m : Kept). record m { comparisons = min new greatest }) e;
+      asks = record { many = ap (λ (m : Kept). length m.jobs) e; stays = few.0; rise = few.1 };
+    }

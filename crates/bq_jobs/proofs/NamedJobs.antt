@@ -20,6 +20,8 @@ use Rattle.bq_jobs.specs.Changed.{IgnoresTube, moved_by, moved_in, removed_from,
 use Rattle.bq_jobs.specs.Numbering.{AreNumbered, IsNumbered, IsPaired, Numbering, kept_named}
 use Rattle.bq_jobs.specs.Numbering.{name_of, named, number_of, with_known, without_known}
 use Rattle.bq_jobs.specs.Names.{number_in}
+use Rattle.bq_jobs.specs.Room.{Removes}
+use Rattle.bq_jobs.specs.Searching.{FindsById}
 use Rattle.bq_jobs.specs.Told.{job_told, moved_told, removed_told}
 use Rattle.bq_jobs.specs.Seen.{IsBodyOf, IsNumberOf, IsTubeOf, but_for_tube, in_tube}
 use Rattle.bq_jobs.proofs.Changes.{stays_in}
@@ -103,7 +105,7 @@ added_named k j (r ∷ rows) = elim (cases_Bool (nat_lt r.id j.id)) [
   | inr e ↦ rw e refl
 ]
 
-pub without_named : (k : Numbering) (id : ℕ) (rows : List Job) → without id (map (named k) rows) ≡ map (named k) (without id rows)
+without_named : (k : Numbering) (id : ℕ) (rows : List Job) → without id (map (named k) rows) ≡ map (named k) (without id rows)
 without_named k id [] = refl
 without_named k id (r ∷ rows) = elim (cases_Bool (r.id == id)) [
   | inl e ↦ rw e (without_named k id rows)
@@ -351,10 +353,11 @@ length_named k [] = refl
 length_named k (j ∷ rows) = ap suc (length_named k rows)
 
 -- A bound on the comparisons for records is a bound for their jobs.
-pub counted_as : (k : Numbering) (rows old new : Kept) → kept_named rows k ≡ old → ComparesAtMost 1 rows new → ComparesAtMost 1 old new
-counted_as k rows old new is few =
-    subst (λ (m : Kept). ComparesAtMost 1 m new) is
-    (few.0, subst (λ n. new.comparisons ≤ rows.comparisons + 1 * (2 * binary_digits (2 * n + 2))) (sym (length_named k rows.jobs)) few.1)
+pub counted_as : (n : ℕ) (k : Numbering) (rows old new : Kept) → kept_named rows k ≡ old → ComparesAtMost n rows new
+    → ComparesAtMost n old new
+counted_as n k rows old new is few =
+    subst (λ (m : Kept). ComparesAtMost n m new) is
+    (few.0, subst (λ i. new.comparisons ≤ rows.comparisons + n * (2 * binary_digits (2 * i + 2))) (sym (length_named k rows.jobs)) few.1)
 
 -- The record of a job.
 record IsNamedFrom (k : Numbering) (o : Option Job) (j : Job) : Type 0 where
@@ -370,12 +373,35 @@ named_from : (k : Numbering) (id : ℕ) (rows : List Job) (j : Job) → job_with
     → IsNamedFrom k (job_with id rows) j
 named_from k id rows j e = named_from_by k (job_with id rows) j (sym (job_named k id rows) ∙ e)
 
-pub some_named : (k : Numbering) (id : ℕ) (rows : List Job) → is_some (job_with id rows) ≡ is_some (job_with id (map (named k) rows))
-some_named k id rows = of (job_with id rows) ∙ ap is_some (sym (job_named k id rows))
-  where
-    of : (o : Option Job) → is_some o ≡ is_some (option_map (named k) o)
-    of None = refl
-    of (Some j) = refl
+pub some_mapped : {A B : Type 0} (f : A → B) (o : Option A) → is_some (option_map f o) ≡ is_some o
+some_mapped f None = refl
+some_mapped f (Some x) = refl
+
+pub some_named : (k : Numbering) (id : ℕ) (rows : List Job) → is_some (job_with id (map (named k) rows)) ≡ is_some (job_with id rows)
+some_named k id rows = ap is_some (job_named k id rows) ∙ some_mapped (named k) (job_with id rows)
+
+-- What a search or a removal does to records, it does to their jobs.
+module _ {A B : Type 0} (k : Numbering) (id : ℕ) (rows new old : Kept) (row : Option A) (told : Option B) (is : kept_named rows k ≡ old)
+    (same : is_some told ≡ is_some row) where
+  pub finds_named : FindsById id row rows new → FindsById id told old (kept_named new k)
+  finds_named f =
+      let few = counted_as 1 k rows (kept_named rows k) new refl (f.1.asks.stays, f.1.asks.rise) in
+      subst (λ m. FindsById id told m (kept_named new k)) is (
+        same ∙ f.0 ∙ sym (some_named k id rows.jobs),
+        record {
+          same = ap (λ (m : Kept). kept_named m k) f.1.same;
+          asks = record { many = ap (λ (m : Kept). length (map (named k) m.jobs)) f.1.same; stays = few.0; rise = few.1 };
+        },
+      )
+
+  pub removes_named : Removes id row rows new → Removes id told old (kept_named new k)
+  removes_named r =
+      subst (λ m. Removes id told m (kept_named new k)) is (
+        ap (map (named k)) r.0 ∙ sym (without_named k id rows.jobs),
+        r.1 ∙ ap (λ b. rows.room + (if b then 1 else 0)) (sym same),
+        job_named k id new.jobs ∙ ap (option_map (named k)) r.2,
+        counted_as 4 k rows (kept_named rows k) new refl r.3,
+      )
 
 pub no_name : (k : Numbering) (id : ℕ) (rows : List Job) → AreNumbered k rows → (n : ℕ) → true ≡ is_some (job_with id rows)
     → IsNumberOf (job_with id rows) n → name_of n k ≡ None → ⊥
@@ -410,10 +436,10 @@ body_told k id rows (Err e) is = tt
 -- what the search takes for an addition, a removal, a change and another reference to a body
 pub ruleset additions = (ids_named, none_named, numbered_added, numbered_row, row_added)
 
-pub ruleset removals = (job_named, numbered_without, some_named, told_rows, without_named)
+pub ruleset removals = (job_named, numbered_without, told_rows)
 
-pub ruleset discards = (job_named, numbered_without, some_named, told_removed, without_named)
+pub ruleset discards = (job_named, numbered_without, told_removed)
 
 pub ruleset changes = (changed_named, ids_named, numbered_changed, told_moved)
 
-pub ruleset shares = (some_named, no_name, tube_is, body_told)
+pub ruleset shares = (no_name, tube_is, body_told)

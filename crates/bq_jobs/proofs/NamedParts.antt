@@ -2,14 +2,14 @@
 -- records apply to them.
 use Rattle.std.proofs.Common.{◌≡◌, ℕ, Some, None}
 use Rattle.std.specs.Ordering.{nat_cmp}
-use Rattle.std.specs.Map.{lookup, remove_entry}
+use Rattle.std.specs.Map.{lookup}
 use Rattle.std.specs.BTreeMap.{is_at, insert_entry}
 use Rattle.bq_job.specs.declared.job.Job.{Job}
 use Rattle.bq_job.specs.machine.Changes.{job_with}
 use Rattle.bq_jobs.specs.declared.named_jobs.Jobs.TheInside.{Inside}
 use Rattle.bq_jobs.specs.declared.rows.Rows.TheInside.{Inside as Parts}
 use Rattle.bq_jobs.specs.Inside.{jobs_of}
-use Rattle.bq_jobs.specs.Kept.{with_added, without}
+use Rattle.bq_jobs.specs.Kept.{with_added}
 use Rattle.bq_jobs.proofs.Shelved as of_rows
 use Rattle.bq_jobs.proofs.Shelved.{AreShelved}
 
@@ -28,13 +28,5 @@ pub jobs_added : (j : Job) (s : Inside) → AreShelved (parts s) → job_with j.
     → jobs_of (insert_entry nat_cmp s.by_id.entries j.id j) ≡ with_added j (jobs_of s.by_id.entries)
 jobs_added j s h free = of_rows.jobs_added j (parts s) h free
 
-pub jobs_removed : (id : ℕ) (s : Inside) → AreShelved (parts s)
-    → jobs_of (remove_entry (is_at (nat_cmp id)) s.by_id.entries) ≡ without id (jobs_of s.by_id.entries)
-jobs_removed id s h = of_rows.jobs_removed id (parts s) h
-
-pub gone_after : (id : ℕ) (s : Inside) → AreShelved (parts s)
-    → job_with id (jobs_of (remove_entry (is_at (nat_cmp id)) s.by_id.entries)) ≡ None
-gone_after id s h = of_rows.gone_after id (parts s) h
-
 -- what the search takes for a removal
-pub ruleset removals = (found_in, found_own, gone_after, jobs_removed)
+pub ruleset removals = (found_in, found_own)

@@ -1,7 +1,7 @@
 -- What is kept after additions, removals and allocations.
 use Rattle.std.proofs.Common.{◌≡◌, ℕ, suc, ◌+◌, ◌<◌, ◌≤◌, ◌^◌, ◌*◌, List, [], ◌∷◌, Some}
 use Rattle.std.proofs.Common.{None, map, length, cond, arith, refl, sym, ap, ◌∙◌, subst, inl, inr}
-use Rattle.std.specs.Prelude.{is_some, ◌==◌}
+use Rattle.std.specs.Prelude.{is_some, ◌==◌, Option}
 use Rattle.std.specs.Ordering.{nat_cmp}
 use Rattle.std.specs.Map.{lookup, remove_entry, set_value}
 use Rattle.std.specs.BTreeMap.{is_at, insert_entry}
@@ -15,13 +15,14 @@ use Rattle.bq_jobs.specs.contracts.places.GroupOrd.TheImpl.Laws as group_laws
 use Rattle.bq_jobs.specs.contracts.places.TimerOrd.TheImpl.Laws as timer_laws
 use Rattle.bq_jobs.specs.declared.rows.Rows.TheInside.{Inside as Parts}
 use Rattle.bq_jobs.specs.Changed.{KeepsId, with_changed}
-use Rattle.bq_jobs.specs.Inside.{ById, IsOrderOf, IsShelved, jobs_of, with_id}
-use Rattle.bq_jobs.specs.Kept.{search_bound, with_added, without}
+use Rattle.bq_jobs.specs.Inside.{ById, IsOrderOf, IsShelved, jobs_of, kept_in, with_id}
+use Rattle.bq_jobs.specs.Kept.{Kept, search_bound, with_added, without}
 use Rattle.bq_jobs.specs.PlaceOrder.{with_place, without_place}
 use Rattle.bq_jobs.specs.Places.{timer_place, group_place}
+use Rattle.bq_jobs.specs.Room.{Removes}
 use Rattle.bq_jobs.proofs.ById.{insert_by_id, lookup_by_id, remove_by_id, same_jobs, set_by_id}
 use Rattle.bq_jobs.proofs.Changes.{added_within, changed, found_id, not_there, without_none, without_within}
-use Rattle.bq_jobs.proofs.Counting.{search_is_bounded}
+use Rattle.bq_jobs.proofs.Counting.{few_more, search_is_bounded}
 use Rattle.bq_jobs.proofs.Firsts.{group_cmp, timer_cmp, timer_own, group_own}
 use Rattle.bq_jobs.proofs.Orders.{order_added, order_moved, order_removed, order_search}
 
@@ -121,6 +122,10 @@ shelved_removed id j s n h found a =
           (2 ^ 64) id j jobs s.by_id.spare n.by_id.spare s.timers n.timers h.in_timers h.ids found a.room a.timers a.timer_spare;
     })
 
+-- how often keys were compared
+abbrev pub compared : Parts → ℕ
+compared s = s.by_id.comparisons + s.groups.comparisons + s.timers.comparisons
+
 -- the comparisons of a search in each order
 module _ (s : Parts) (h : AreShelved s) where
   pub group_search : 2 * binary_digits (length s.groups.entries + 1) ≤ search_bound (jobs_of s.by_id.entries)
@@ -143,12 +148,19 @@ shelved_same id s by_id h none entries spare =
       timed = subst (λ room. IsOrderOf timer_cmp timer_place jobs room s.timers) (sym spare) h.in_timers;
     })
 
--- after its removal, an id finds no job
-pub gone_after : (id : ℕ) (s : Parts) → AreShelved s → job_with id (jobs_of (remove_entry (is_at (nat_cmp id)) s.by_id.entries)) ≡ None
-gone_after id s h = ap (job_with id) (jobs_removed id s h) ∙ not_there id (jobs_of s.by_id.entries)
+-- what a removal does
+pub removes : {A : Type 0} (id : ℕ) (s n : Parts) (old : Kept) (removed : Option A) → AreShelved s
+    → kept_in s.by_id s.groups s.timers ≡ old → n.by_id.entries ≡ remove_entry (is_at (nat_cmp id)) s.by_id.entries
+    → n.by_id.spare ≡ s.by_id.spare + cond (is_some removed) 1 0 → compared s ≤ compared n
+    → compared n ≤ compared s + 4 * search_bound (jobs_of s.by_id.entries) → Removes id removed old (kept_in n.by_id n.groups n.timers)
+removes id s n old removed h is entries spare l u =
+    let jobs : jobs_of n.by_id.entries ≡ without id (jobs_of s.by_id.entries) = ap jobs_of entries ∙ jobs_removed id s h in
+    let seen = kept_in s.by_id s.groups s.timers in
+    subst (λ m. Removes id removed m (kept_in n.by_id n.groups n.timers)) is
+    (jobs, spare, ap (job_with id) jobs ∙ not_there id (jobs_of s.by_id.entries), few_more 4 seen seen _ _ refl refl l u)
 
 -- what the search takes for a removal
-pub ruleset removals = (found_in, found_own, gone_after, jobs_removed)
+pub ruleset removals = (found_in, found_own)
 
 -- after a change
 pub record Changed (j k : Job) (s n : Parts) : Type 0 where

@@ -13,6 +13,8 @@ pub mod Numbering
 pub mod PlaceOrder
 pub mod Places
 pub mod Ranks
+pub mod Room
+pub mod Searching
 pub mod Seen
 pub mod Stages
 pub mod Told

@@ -1,7 +1,7 @@
 //! The jobs of a work queue, kept with the numbers of their tubes.
 ghost use Rattle.std.specs.Option.{option_and_then, option_map};
 ghost use Rattle.std.specs.Prelude.{◌≡◌, ◌+◌, ◌-◌, ◌<◌, ◌^◌, if◌then◌else◌, [], ℕ, List};
-ghost use Rattle.std.specs.Prelude.{nat_lt, true, false, length, max, is_some, IfOk, IfSome, None, OnOk, OnErr};
+ghost use Rattle.std.specs.Prelude.{nat_lt, true, false, length, IfOk, IfSome, None, OnErr};
 ghost use Rattle.bq_job.specs.machine.Changes.{first_of, is_held_by, job_with};
 ghost use Rattle.bq_job.specs.machine.Dispatch.{is_job_before};
 ghost use Rattle.bq_job.specs.machine.JobCommands.{is_buried_in, is_delayed_in};
@@ -14,11 +14,13 @@ ghost use Rattle.bq_jobs.specs.Changed.{IgnoresTube, KeepsId, moved_by, removed_
 ghost use Rattle.bq_jobs.specs.Numbering.{is_known};
 ghost use Rattle.bq_jobs.specs.Seen.{IsBodyOf, IsTubeOf, but_for_tube};
 ghost use Rattle.bq_jobs.specs.Told.{job_told, moved_told, removed_told};
-ghost use Rattle.bq_jobs.specs.Kept.{ComparesAtMost, ranked, with_added, without};
+ghost use Rattle.bq_jobs.specs.Kept.{ComparesAtMost, ranked, with_added};
 ghost use Rattle.bq_jobs.specs.Laws.{AddsAtTheEnd, ChosenHasItsId, NextIsFree};
 ghost use Rattle.bq_jobs.specs.Leases.{deadline_of, is_lease_before};
 ghost use Rattle.bq_jobs.specs.Places.{held_by, list_of};
 ghost use Rattle.bq_jobs.specs.Ranks.{first_held, first_timed, id_in};
+ghost use Rattle.bq_jobs.specs.Room.{MakesRoom, Removes};
+ghost use Rattle.bq_jobs.specs.Searching.{FindsById, Searches};
 
 use super::places::{Group, JobList, Timer};
 use super::rows::{self, JobEdit, Moved, MovedRow, Removed, Row, Rows, Standing};
@@ -90,9 +92,7 @@ impl NumberedJobs {
     /// Makes room for a job, if there is none. What was allocated before a failure is kept for the
     /// next call.
     pub fn reserve_one(&mut self, alloc: Global) -> Result<(), NoMemory>
-        ensures ok { OnOk result (self.new ≡ record self.old { room = max self.old.room 1 }) }
-        ensures refused { OnErr result (self.old.room ≡ 0) }
-        ensures same { OnErr result (self.new ≡ self.old) }
+        ensures { MakesRoom result self.old self.new }
     {
         let mut heap = alloc;
         self.reserve_one_from(&mut heap)
@@ -101,9 +101,7 @@ impl NumberedJobs {
     /// The same, with boxes from a source. The boxes of the other orders are allocated first, so
     /// there is no room for a job until all of its boxes are there.
     pub fn reserve_one_from<S: BoxSource>(&mut self, source: &mut S) -> Result<(), NoMemory>
-        ensures ok { OnOk result (self.new ≡ record self.old { room = max self.old.room 1 }) }
-        ensures refused { OnErr result (self.old.room ≡ 0) }
-        ensures same { OnErr result (self.new ≡ self.old) }
+        ensures { MakesRoom result self.old self.new }
     {
         self.rows.reserve_one_from(source)
     }
@@ -141,12 +139,9 @@ impl NumberedJobs {
     #[tactic(auto, using(crate::proofs::NamedJobs::removals))]
     pub fn remove(&mut self, id: JobId) -> Option<Job>
         ensures job { result ≡ job_with id self.old.jobs }
-        ensures jobs { self.new.jobs ≡ without id self.old.jobs }
         ensures tubes { self.new.tubes ≡ self.old.tubes }
-        ensures room { self.new.room ≡ self.old.room + (if is_some result then 1 else 0) }
         ensures id { IfSome result (λ job. job.id ≡ id) }
-        ensures gone { job_with id self.new.jobs ≡ None }
-        ensures comparisons { ComparesAtMost 4 self.old self.new }
+        ensures left { Removes id result self.old self.new }
     {
         let row = self.rows.remove(id);
         job_of(&self.tubes, id, row)
@@ -157,11 +152,8 @@ impl NumberedJobs {
     #[tactic(auto, using(crate::proofs::NamedJobs::discards))]
     pub fn discard(&mut self, id: JobId) -> Option<Removed>
         ensures removed { result ≡ option_map removed_from (job_with id self.old.jobs) }
-        ensures jobs { self.new.jobs ≡ without id self.old.jobs }
         ensures tubes { self.new.tubes ≡ self.old.tubes }
-        ensures room { self.new.room ≡ self.old.room + (if is_some result then 1 else 0) }
-        ensures gone { job_with id self.new.jobs ≡ None }
-        ensures comparisons { ComparesAtMost 4 self.old self.new }
+        ensures left { Removes id result self.old self.new }
     {
         let removed = self.rows.discard(id);
         removed_of(&self.tubes, removed)
@@ -198,8 +190,7 @@ impl NumberedJobs {
     #[tactic(auto, using(crate::proofs::NamedJobs::tube_named, crate::proofs::NamedJobs::no_tube_named))]
     pub fn tube_of(&mut self, id: JobId) -> Option<TubeName>
         ensures tube { result ≡ option_map (λ j. j.tube) (job_with id self.old.jobs) }
-        ensures same { self.new ≡ record self.old { comparisons = self.new.comparisons } }
-        ensures comparisons { ComparesAtMost 1 self.old self.new }
+        ensures kept { Searches 1 self.old self.new }
     {
         let number = self.rows.number_of(id)?;
         self.tubes.name_of(number).copied()
@@ -209,11 +200,9 @@ impl NumberedJobs {
     /// for that.
     #[tactic(auto, using(crate::proofs::NamedJobs::shares))]
     pub fn share(&mut self, id: JobId) -> Option<(TubeName, Result<Body, NoMemory>)>
-        ensures none { is_some result ≡ is_some (job_with id self.old.jobs) }
         ensures tube { IfSome result (λ s. IsTubeOf (job_with id self.old.jobs) s.0) }
         ensures body { IfSome result (λ s. IfOk s.1 (IsBodyOf (job_with id self.old.jobs))) }
-        ensures same { self.new ≡ record self.old { comparisons = self.new.comparisons } }
-        ensures comparisons { ComparesAtMost 1 self.old self.new }
+        ensures kept { FindsById id result self.old self.new }
     {
         let (number, body) = self.rows.share(id)?;
         let tube = self.tubes.name_of(number)?;
@@ -224,10 +213,8 @@ impl NumberedJobs {
     /// look up the name of the job's tube.
     #[tactic(auto, using(crate::proofs::NamedJobs::shares))]
     pub fn share_body(&mut self, id: JobId) -> Option<Result<Body, NoMemory>>
-        ensures none { is_some result ≡ is_some (job_with id self.old.jobs) }
         ensures body { IfSome result (λ s. IfOk s (IsBodyOf (job_with id self.old.jobs))) }
-        ensures same { self.new ≡ record self.old { comparisons = self.new.comparisons } }
-        ensures comparisons { ComparesAtMost 1 self.old self.new }
+        ensures kept { FindsById id result self.old self.new }
     {
         self.rows.share_body(id)
     }
@@ -237,8 +224,7 @@ impl NumberedJobs {
     pub fn first_ready(&mut self, tube: &TubeName) -> Option<JobId>
         ensures id { result
             ≡ option_map (λ j. j.id) (first_of (is_ready_in tube.now) is_job_before self.old.jobs) }
-        ensures same { self.new ≡ record self.old { comparisons = self.new.comparisons } }
-        ensures comparisons { ComparesAtMost 1 self.old self.new }
+        ensures kept { Searches 1 self.old self.new }
     {
         id_in(self.first_listed(JobList::Ready, tube))
     }
@@ -249,8 +235,7 @@ impl NumberedJobs {
         ensures id { result
             ≡ option_map (λ j. j.id)
             (first_of (is_delayed_in tube.now) is_due_before self.old.jobs) }
-        ensures same { self.new ≡ record self.old { comparisons = self.new.comparisons } }
-        ensures comparisons { ComparesAtMost 1 self.old self.new }
+        ensures kept { Searches 1 self.old self.new }
     {
         id_in(self.first_listed(JobList::Delayed, tube))
     }
@@ -261,8 +246,7 @@ impl NumberedJobs {
         ensures id { result
             ≡ option_map (λ j. j.id)
             (first_of (is_buried_in tube.now) is_buried_before self.old.jobs) }
-        ensures same { self.new ≡ record self.old { comparisons = self.new.comparisons } }
-        ensures comparisons { ComparesAtMost 1 self.old self.new }
+        ensures kept { Searches 1 self.old self.new }
     {
         id_in(self.first_listed(JobList::Buried, tube))
     }
@@ -273,8 +257,7 @@ impl NumberedJobs {
         ensures id { result
             ≡ option_map (λ j. j.id)
             (first_of (λ j. is_delayed j.state) is_due_before self.old.jobs) }
-        ensures same { self.new ≡ record self.old { comparisons = self.new.comparisons } }
-        ensures comparisons { ComparesAtMost 1 self.old self.new }
+        ensures kept { Searches 1 self.old self.new }
     {
         id_in(self.first_timed(Timer::Due))
     }
@@ -286,8 +269,7 @@ impl NumberedJobs {
         ensures id { result
             ≡ option_map (λ j. j.id)
             (first_of (λ j. is_reserved j.state) is_lease_before self.old.jobs) }
-        ensures same { self.new ≡ record self.old { comparisons = self.new.comparisons } }
-        ensures comparisons { ComparesAtMost 1 self.old self.new }
+        ensures kept { Searches 1 self.old self.new }
     {
         id_in(self.first_timed(Timer::Lease))
     }
@@ -298,8 +280,7 @@ impl NumberedJobs {
     pub fn first_held(&mut self, seat: Seat) -> Option<JobId>
         ensures id { result
             ≡ option_map (λ j. j.id) (first_of (is_held_by seat) is_lease_before self.old.jobs) }
-        ensures same { self.new ≡ record self.old { comparisons = self.new.comparisons } }
-        ensures comparisons { ComparesAtMost 1 self.old self.new }
+        ensures kept { Searches 1 self.old self.new }
     {
         id_in(self.first_at_seat(seat))
     }
@@ -311,8 +292,7 @@ impl NumberedJobs {
         ensures rank { result
             ≡ option_map (ranked (λ j. j.pri))
             (first_of (is_ready_in tube.now) is_job_before self.old.jobs) }
-        ensures same { self.new ≡ record self.old { comparisons = self.new.comparisons } }
-        ensures comparisons { ComparesAtMost 1 self.old self.new }
+        ensures kept { Searches 1 self.old self.new }
     {
         self.first_listed(JobList::Ready, tube)
     }
@@ -323,8 +303,7 @@ impl NumberedJobs {
         ensures rank { result
             ≡ option_map (ranked (λ j. due_of j.state))
             (first_of (λ j. is_delayed j.state) is_due_before self.old.jobs) }
-        ensures same { self.new ≡ record self.old { comparisons = self.new.comparisons } }
-        ensures comparisons { ComparesAtMost 1 self.old self.new }
+        ensures kept { Searches 1 self.old self.new }
     {
         self.first_timed(Timer::Due)
     }
@@ -335,8 +314,7 @@ impl NumberedJobs {
     pub fn next_deadline(&mut self) -> Option<(Moment, JobId)>
         ensures rank { result ≡ option_map (ranked (λ j. deadline_of j.state))
             (first_of (λ j. is_reserved j.state) is_lease_before self.old.jobs) }
-        ensures same { self.new ≡ record self.old { comparisons = self.new.comparisons } }
-        ensures comparisons { ComparesAtMost 1 self.old self.new }
+        ensures kept { Searches 1 self.old self.new }
     {
         self.first_timed(Timer::Lease)
     }
@@ -348,8 +326,7 @@ impl NumberedJobs {
         ensures rank { result
             ≡ option_map (ranked (λ j. deadline_of j.state))
             (first_of (is_held_by seat) is_lease_before self.old.jobs) }
-        ensures same { self.new ≡ record self.old { comparisons = self.new.comparisons } }
-        ensures comparisons { ComparesAtMost 1 self.old self.new }
+        ensures kept { Searches 1 self.old self.new }
     {
         self.first_at_seat(seat)
     }
@@ -359,8 +336,7 @@ impl NumberedJobs {
     #[tactic(auto, using(crate::proofs::NamedFirsts::listed_told, crate::proofs::NamedFirsts::none_listed))]
     fn first_listed(&mut self, list: JobList, tube: &TubeName) -> Option<(u64, JobId)>
         ensures rank { result ≡ first_held (list_of tube.now list) self.old.jobs }
-        ensures same { self.new ≡ record self.old { comparisons = self.new.comparisons } }
-        ensures comparisons { ComparesAtMost 1 self.old self.new }
+        ensures kept { Searches 1 self.old self.new }
     {
         let number = self.tubes.number_of(tube)?;
         self.rows
@@ -371,8 +347,7 @@ impl NumberedJobs {
     #[tactic(auto, using(crate::proofs::NamedFirsts::seat_told))]
     fn first_at_seat(&mut self, seat: Seat) -> Option<(Moment, JobId)>
         ensures rank { result ≡ first_held (held_by seat) self.old.jobs }
-        ensures same { self.new ≡ record self.old { comparisons = self.new.comparisons } }
-        ensures comparisons { ComparesAtMost 1 self.old self.new }
+        ensures kept { Searches 1 self.old self.new }
     {
         self.rows.first_of_group(Group::held(seat))
     }
@@ -381,8 +356,7 @@ impl NumberedJobs {
     #[tactic(auto, using(crate::proofs::NamedFirsts::timed_told))]
     fn first_timed(&mut self, timer: Timer) -> Option<(Moment, JobId)>
         ensures rank { result ≡ first_timed timer self.old.jobs }
-        ensures same { self.new ≡ record self.old { comparisons = self.new.comparisons } }
-        ensures comparisons { ComparesAtMost 1 self.old self.new }
+        ensures kept { Searches 1 self.old self.new }
     {
         self.rows.first_of_timer(timer)
     }

@@ -1,16 +1,18 @@
 //! The jobs of a work queue, each with the name of its tube.
 ghost use Rattle.std.specs.Option.{option_map};
-ghost use Rattle.std.specs.Prelude.{◌≡◌, ◌+◌, ◌-◌, ◌<◌, ◌^◌, if◌then◌else◌, []};
-ghost use Rattle.std.specs.Prelude.{length, max, is_some, IfSome, None, OnOk, OnErr};
+ghost use Rattle.std.specs.Prelude.{◌≡◌, ◌+◌, ◌<◌, ◌^◌, []};
+ghost use Rattle.std.specs.Prelude.{length, IfSome, None};
 ghost use Rattle.bq_job.specs.machine.Changes.{first_of, is_held_by, job_with};
 ghost use Rattle.bq_job.specs.machine.Dispatch.{is_job_before};
 ghost use Rattle.bq_job.specs.machine.JobCommands.{is_buried_in, is_delayed_in};
 ghost use Rattle.bq_job.specs.machine.JobStates.{is_buried_before, is_delayed, is_due_before, is_reserved};
 ghost use Rattle.bq_job.specs.beside.Lawful.{AreIdsWithin};
 ghost use Rattle.bq_job.specs.machine.TubeCommands.{is_ready_in};
-ghost use Rattle.bq_jobs.specs.Kept.{ComparesAtMost, with_added, without};
+ghost use Rattle.bq_jobs.specs.Kept.{ComparesAtMost, with_added};
 ghost use Rattle.bq_jobs.specs.Leases.{is_lease_before};
 ghost use Rattle.bq_jobs.specs.Ranks.{first_held, first_timed};
+ghost use Rattle.bq_jobs.specs.Room.{MakesRoom, Removes};
+ghost use Rattle.bq_jobs.specs.Searching.{Searches};
 
 use super::jobs::id_in;
 use super::named_group::{self, NamedGroup};
@@ -86,9 +88,7 @@ impl Jobs {
     /// Makes room for a job, if there is none. What was allocated before a failure is kept for the
     /// next call. No other call allocates.
     pub fn reserve_one(&mut self, alloc: Global) -> Result<(), NoMemory>
-        ensures ok { OnOk result (self.new ≡ record self.old { room = max self.old.room 1 }) }
-        ensures refused { OnErr result (self.old.room ≡ 0) }
-        ensures same { OnErr result (self.new ≡ self.old) }
+        ensures { MakesRoom result self.old self.new }
     {
         let mut heap = alloc;
         self.reserve_one_from(&mut heap)
@@ -97,9 +97,7 @@ impl Jobs {
     /// The same, with boxes from a source. The boxes of the other orders are allocated first, so
     /// there is no room for a job until all of its boxes are there.
     pub fn reserve_one_from<S: BoxSource>(&mut self, source: &mut S) -> Result<(), NoMemory>
-        ensures ok { OnOk result (self.new ≡ record self.old { room = max self.old.room 1 }) }
-        ensures refused { OnErr result (self.old.room ≡ 0) }
-        ensures same { OnErr result (self.new ≡ self.old) }
+        ensures { MakesRoom result self.old self.new }
     {
         if self.by_id.spare() > 0 {
             return Ok(());
@@ -134,11 +132,8 @@ impl Jobs {
     #[tactic(auto, using(crate::proofs::NamedParts::removals))]
     pub fn remove(&mut self, id: JobId) -> Option<Job>
         ensures job { result ≡ job_with id self.old.jobs }
-        ensures jobs { self.new.jobs ≡ without id self.old.jobs }
-        ensures room { self.new.room ≡ self.old.room + (if is_some result then 1 else 0) }
         ensures id { IfSome result (λ job. job.id ≡ id) }
-        ensures gone { job_with id self.new.jobs ≡ None }
-        ensures comparisons { ComparesAtMost 4 self.old self.new }
+        ensures left { Removes id result self.old self.new }
     {
         let job = self.by_id.remove(&id)?;
         places::leave(&mut self.groups, named_group::place_of(&job));
@@ -159,8 +154,7 @@ impl Jobs {
     pub fn first_ready(&mut self, tube: &TubeName) -> Option<JobId>
         ensures id { result
             ≡ option_map (λ j. j.id) (first_of (is_ready_in tube.now) is_job_before self.old.jobs) }
-        ensures same { self.new ≡ record self.old { comparisons = self.new.comparisons } }
-        ensures comparisons { ComparesAtMost 1 self.old self.new }
+        ensures kept { Searches 1 self.old self.new }
     {
         id_in(self.first_of_group(NamedGroup::list(JobList::Ready, tube)))
     }
@@ -171,8 +165,7 @@ impl Jobs {
         ensures id { result
             ≡ option_map (λ j. j.id)
             (first_of (is_delayed_in tube.now) is_due_before self.old.jobs) }
-        ensures same { self.new ≡ record self.old { comparisons = self.new.comparisons } }
-        ensures comparisons { ComparesAtMost 1 self.old self.new }
+        ensures kept { Searches 1 self.old self.new }
     {
         id_in(self.first_of_group(NamedGroup::list(JobList::Delayed, tube)))
     }
@@ -183,8 +176,7 @@ impl Jobs {
         ensures id { result
             ≡ option_map (λ j. j.id)
             (first_of (is_buried_in tube.now) is_buried_before self.old.jobs) }
-        ensures same { self.new ≡ record self.old { comparisons = self.new.comparisons } }
-        ensures comparisons { ComparesAtMost 1 self.old self.new }
+        ensures kept { Searches 1 self.old self.new }
     {
         id_in(self.first_of_group(NamedGroup::list(JobList::Buried, tube)))
     }
@@ -195,8 +187,7 @@ impl Jobs {
         ensures id { result
             ≡ option_map (λ j. j.id)
             (first_of (λ j. is_delayed j.state) is_due_before self.old.jobs) }
-        ensures same { self.new ≡ record self.old { comparisons = self.new.comparisons } }
-        ensures comparisons { ComparesAtMost 1 self.old self.new }
+        ensures kept { Searches 1 self.old self.new }
     {
         id_in(self.first_of_timer(Timer::Due))
     }
@@ -208,8 +199,7 @@ impl Jobs {
         ensures id { result
             ≡ option_map (λ j. j.id)
             (first_of (λ j. is_reserved j.state) is_lease_before self.old.jobs) }
-        ensures same { self.new ≡ record self.old { comparisons = self.new.comparisons } }
-        ensures comparisons { ComparesAtMost 1 self.old self.new }
+        ensures kept { Searches 1 self.old self.new }
     {
         id_in(self.first_of_timer(Timer::Lease))
     }
@@ -220,8 +210,7 @@ impl Jobs {
     pub fn first_held(&mut self, seat: Seat) -> Option<JobId>
         ensures id { result
             ≡ option_map (λ j. j.id) (first_of (is_held_by seat) is_lease_before self.old.jobs) }
-        ensures same { self.new ≡ record self.old { comparisons = self.new.comparisons } }
-        ensures comparisons { ComparesAtMost 1 self.old self.new }
+        ensures kept { Searches 1 self.old self.new }
     {
         id_in(self.first_of_group(NamedGroup::held(seat)))
     }
@@ -229,8 +218,7 @@ impl Jobs {
     // Returns the number and the id of the first job of a holder: by that number, then by id.
     fn first_of_group(&mut self, group: NamedGroup) -> Option<(u64, JobId)>
         ensures rank { result ≡ first_held group self.old.jobs }
-        ensures same { self.new ≡ record self.old { comparisons = self.new.comparisons } }
-        ensures comparisons { ComparesAtMost 1 self.old self.new }
+        ensures kept { Searches 1 self.old self.new }
     {
         places::first_rank(&mut self.groups, group)
     }
@@ -239,8 +227,7 @@ impl Jobs {
     // id.
     fn first_of_timer(&mut self, timer: Timer) -> Option<(Moment, JobId)>
         ensures rank { result ≡ first_timed timer self.old.jobs }
-        ensures same { self.new ≡ record self.old { comparisons = self.new.comparisons } }
-        ensures comparisons { ComparesAtMost 1 self.old self.new }
+        ensures kept { Searches 1 self.old self.new }
     {
         places::first_rank(&mut self.timers, timer)
     }

@@ -2,14 +2,16 @@
 //! records of all jobs.
 ghost use Rattle.std.specs.Option.{option_map};
 ghost use Rattle.std.specs.Prelude.{◌≡◌, ◌+◌, ◌-◌, ◌<◌, ◌^◌, ◌∷◌, if◌then◌else◌, []};
-ghost use Rattle.std.specs.Prelude.{nat_lt, length, max, is_some, IfOk, IfSome, None, OnOk, OnErr};
+ghost use Rattle.std.specs.Prelude.{nat_lt, length, IfOk, IfSome, None};
 ghost use Rattle.bq_job.specs.machine.Changes.{job_with};
 ghost use Rattle.bq_job.specs.beside.Lawful.{AreIdsWithin};
 ghost use Rattle.bq_index.specs.Shelf.{ComparesFew};
 ghost use Rattle.bq_jobs.specs.Changed.{IgnoresTube, KeepsId, entry_at, row_moved_by, row_removed, standing, with_changed, with_edited};
-ghost use Rattle.bq_jobs.specs.Kept.{ComparesAtMost, with_added, without};
+ghost use Rattle.bq_jobs.specs.Kept.{ComparesAtMost, with_added};
 ghost use Rattle.bq_jobs.specs.Names.{number_in};
 ghost use Rattle.bq_jobs.specs.Ranks.{first_held, first_timed};
+ghost use Rattle.bq_jobs.specs.Room.{MakesRoom, Removes};
+ghost use Rattle.bq_jobs.specs.Searching.{FindsById, Searches};
 ghost use Rattle.bq_jobs.specs.Seen.{IsBodyOf, IsNumberOf};
 ghost use Rattle.bq_jobs.specs.Stages.{state_of};
 
@@ -281,9 +283,7 @@ impl Rows {
     /// failure is kept for the next call. The boxes of the other orders are allocated first, so there
     /// is no room for a job until all of its boxes are there.
     pub(crate) fn reserve_one_from<S: BoxSource>(&mut self, source: &mut S) -> Result<(), NoMemory>
-        ensures ok { OnOk result (self.new ≡ record self.old { room = max self.old.room 1 }) }
-        ensures refused { OnErr result (self.old.room ≡ 0) }
-        ensures same { OnErr result (self.new ≡ self.old) }
+        ensures { MakesRoom result self.old self.new }
     {
         if self.by_id.spare() > 0 {
             return Ok(());
@@ -334,11 +334,8 @@ impl Rows {
     #[tactic(auto, using(crate::proofs::Shelved::removals))]
     pub(crate) fn remove(&mut self, id: JobId) -> Option<Row>
         ensures job { result ≡ job_with id self.old.jobs }
-        ensures jobs { self.new.jobs ≡ without id self.old.jobs }
-        ensures room { self.new.room ≡ self.old.room + (if is_some result then 1 else 0) }
         ensures id { IfSome result (λ job. job.id ≡ id) }
-        ensures gone { job_with id self.new.jobs ≡ None }
-        ensures comparisons { ComparesAtMost 4 self.old self.new }
+        ensures left { Removes id result self.old self.new }
     {
         let job = self.by_id.remove(&id)?;
         places::leave(&mut self.groups, places::group_place(id, &job));
@@ -350,10 +347,7 @@ impl Rows {
     /// its tube and its standing. Its room is free again.
     pub(crate) fn discard(&mut self, id: JobId) -> Option<(u64, Standing)>
         ensures removed { result ≡ option_map row_removed (job_with id self.old.jobs) }
-        ensures jobs { self.new.jobs ≡ without id self.old.jobs }
-        ensures room { self.new.room ≡ self.old.room + (if is_some result then 1 else 0) }
-        ensures gone { job_with id self.new.jobs ≡ None }
-        ensures comparisons { ComparesAtMost 4 self.old self.new }
+        ensures left { Removes id result self.old self.new }
     {
         let row = self.remove(id)?;
         Some((row.tube.get(), Standing::of_row(&row)))
@@ -396,8 +390,7 @@ impl Rows {
     /// Returns the number of the tube of the job with this id.
     pub(crate) fn number_of(&mut self, id: JobId) -> Option<u64>
         ensures number { result ≡ option_map (λ j. number_in j.tube) (job_with id self.old.jobs) }
-        ensures same { self.new ≡ record self.old { comparisons = self.new.comparisons } }
-        ensures comparisons { ComparesAtMost 1 self.old self.new }
+        ensures kept { Searches 1 self.old self.new }
     {
         match self.get(id) {
             None => None,
@@ -408,11 +401,9 @@ impl Rows {
     /// Returns the number of the tube of the job with this id, and another reference to its body,
     /// or `NoMemory` for that.
     pub(crate) fn share(&mut self, id: JobId) -> Option<(u64, Result<Body, NoMemory>)>
-        ensures none { is_some result ≡ is_some (job_with id self.old.jobs) }
         ensures number { IfSome result (λ s. IsNumberOf (job_with id self.old.jobs) s.0) }
         ensures body { IfSome result (λ s. IfOk s.1 (IsBodyOf (job_with id self.old.jobs))) }
-        ensures same { self.new ≡ record self.old { comparisons = self.new.comparisons } }
-        ensures comparisons { ComparesAtMost 1 self.old self.new }
+        ensures kept { FindsById id result self.old self.new }
     {
         match self.get(id) {
             None => None,
@@ -422,10 +413,8 @@ impl Rows {
 
     /// Returns another reference to the body of the job with this id, or `NoMemory`.
     pub(crate) fn share_body(&mut self, id: JobId) -> Option<Result<Body, NoMemory>>
-        ensures none { is_some result ≡ is_some (job_with id self.old.jobs) }
         ensures body { IfSome result (λ s. IfOk s (IsBodyOf (job_with id self.old.jobs))) }
-        ensures same { self.new ≡ record self.old { comparisons = self.new.comparisons } }
-        ensures comparisons { ComparesAtMost 1 self.old self.new }
+        ensures kept { FindsById id result self.old self.new }
     {
         match self.get(id) {
             None => None,
@@ -436,8 +425,7 @@ impl Rows {
     /// Returns the number and the id of the first job of a holder: by that number, then by id.
     pub(crate) fn first_of_group(&mut self, group: Group) -> Option<(u64, JobId)>
         ensures rank { result ≡ first_held group self.old.jobs }
-        ensures same { self.new ≡ record self.old { comparisons = self.new.comparisons } }
-        ensures comparisons { ComparesAtMost 1 self.old self.new }
+        ensures kept { Searches 1 self.old self.new }
     {
         places::first_rank(&mut self.groups, group)
     }
@@ -446,8 +434,7 @@ impl Rows {
     /// id.
     pub(crate) fn first_of_timer(&mut self, timer: Timer) -> Option<(Moment, JobId)>
         ensures rank { result ≡ first_timed timer self.old.jobs }
-        ensures same { self.new ≡ record self.old { comparisons = self.new.comparisons } }
-        ensures comparisons { ComparesAtMost 1 self.old self.new }
+        ensures kept { Searches 1 self.old self.new }
     {
         self.timers.first(timer)
     }

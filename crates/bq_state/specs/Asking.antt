@@ -1,20 +1,14 @@
 -- How many comparisons of keys calls make, stated as a number of searches among the jobs.
-use Rattle.std.specs.Prelude.{◌*◌, ◌+◌, ◌-◌, ◌≡◌, ◌≤◌, ℕ, length, max}
+use Rattle.std.specs.Prelude.{◌*◌, ◌+◌, ◌-◌, ◌≤◌, ℕ, length, max}
 use Rattle.bq_index.specs.Digits.{binary_digits}
 use Rattle.bq_jobs.specs.Kept.{Kept}
+use Rattle.bq_jobs.specs.Searching.{Asks}
 use Rattle.bq_core_api.specs.{Cost.changed_jobs, Outbox.Outbox}
 
 -- twice the number of binary digits of a little more than twice the jobs: the most comparisons that
 -- one search among them takes
 abbrev pub search_among : ℕ → ℕ
 search_among jobs = 2 * binary_digits (2 * jobs + 2)
-
--- The number of jobs is unchanged. The comparison count does not decrease, and grows by at most `n`
--- searches among them.
-pub record Asks (n : ℕ) (old new : Kept) : Type 0 where
-  pub many : length new.jobs ≡ length old.jobs
-  pub stays : old.comparisons ≤ new.comparisons
-  pub rise : new.comparisons ≤ old.comparisons + n * search_among (length old.jobs)
 
 -- The comparison count does not decrease, and grows by at most `n` searches among as many jobs as
 -- there are before or after.

@@ -1,6 +1,7 @@
 -- What calls leave unchanged.
 use Rattle.std.specs.Prelude.{ℕ}
-use Rattle.bq_state.specs.{Asking.Asks, CoreParts.OnlyCompares, declared.core_parts.CoreParts.CoreParts}
+use Rattle.bq_jobs.specs.Searching.{Asks}
+use Rattle.bq_state.specs.{CoreParts.OnlyCompares, declared.core_parts.CoreParts.CoreParts}
 
 -- Jobs were searched, with at most `n` searches, and nothing was changed.
 pub record Looks (n : ℕ) (old new : CoreParts) : Type 0 where

@@ -19,7 +19,6 @@ pub mod Offers
 pub mod PauseEnds
 pub mod Places
 pub mod Room
-pub mod Searching
 pub mod SeatChanges
 pub mod SeatStates
 pub mod SeatTurns

@@ -13,7 +13,7 @@ ghost use Rattle.bq_job.specs.machine.Tubes.{forgetting, watches, with_tube};
 ghost use Rattle.bq_job.specs.machine.JobCommands.{last_id, with_put};
 ghost use Rattle.bq_job.specs.machine.Limits.{grown, raised};
 ghost use Rattle.bq_jobs.specs.Kept.{ComparesAtMost, with_added};
-ghost use Rattle.bq_state.specs.Asking.{Asks};
+ghost use Rattle.bq_jobs.specs.Searching.{Asks};
 ghost use Rattle.bq_state.specs.Crowds.{may_wait};
 ghost use Rattle.bq_state.specs.declared.known.wanted.Wanted.TheVariants as wanted_jobs;
 ghost use Rattle.bq_state.specs.Dues.{is_end_over, with_warning_due};

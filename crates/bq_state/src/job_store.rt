@@ -10,7 +10,7 @@ ghost use Rattle.std.specs.List.{list_any};
 ghost use Rattle.bq_job.specs.machine.Timers.{job_after_timers};
 ghost use Rattle.bq_job.specs.machine.JobCommands.{buried, delayed_by as delayed_for, kicked, released};
 ghost use Rattle.bq_jobs.specs.Seen.{IsBodyOf};
-ghost use Rattle.bq_state.specs.Searching.{Searches};
+ghost use Rattle.bq_jobs.specs.Searching.{Searches};
 ghost use Rattle.bq_state.specs.JobChanges.{changed, is_passed_by, passes, ttr_held_by};
 ghost use Rattle.bq_state.specs.JobKinds.{first_of_kind};
 ghost use Rattle.bq_state.specs.Room.{room_left};

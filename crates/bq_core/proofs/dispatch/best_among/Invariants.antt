@@ -1,6 +1,7 @@
 -- the best of the names so far
 use Rattle.std.proofs.Common.{◌≡◌, fold, take}
-use Rattle.bq_state.specs.{Asking.Asks, Offers.with_offer}
+use Rattle.bq_jobs.specs.Searching.{Asks}
+use Rattle.bq_state.specs.Offers.{with_offer}
 use Rattle.bq_core.proofs.dispatch.best_among.Given as goal
 
 abbrev pub invariant-loop-i : goal.invariant-loop-i

@@ -9,7 +9,7 @@ use Rattle.bq_core.proofs.dispatch.pick.Goals as goal
 pub returns-in_err-shared-in-Client-clause-some : goal.returns-in_err-shared-in-Client-clause-some
 returns-in_err-shared-in-Client-clause-some c =
     let m = machine_of c.args.state.now in
-    let none = none_there (job_with c.args.id m.jobs) (sym (ap is_some c.in_err-shared-in-Client.was) ∙ c.share_body.ensures.none) in
+    let none = none_there (job_with c.args.id m.jobs) (sym (ap is_some c.in_err-shared-in-Client.was) ∙ c.share_body.ensures.kept.0) in
     absurd (next_there m c.args.id c.args.state.now.sound.ids c.requires.next (sym none))
 
 pub returns-in_ok-shared-in-Client-clause-picked : goal.returns-in_ok-shared-in-Client-clause-picked
@@ -23,7 +23,7 @@ returns-in_ok-shared-in-Client-clause-picked c j is =
 pub returns-in_ok-shared-in-Client-clause-share : goal.returns-in_ok-shared-in-Client-clause-share
 returns-in_ok-shared-in-Client-clause-share c =
     let m = machine_of c.args.state.now in
-    let there = some_there (job_with c.args.id m.jobs) (sym c.in_ok-shared-in-Client.ensures.none) in
+    let there = some_there (job_with c.args.id m.jobs) (sym c.in_ok-shared-in-Client.ensures.kept.0) in
     let x = there.0 in
     let next = next_is m c.args.id x c.args.state.now.sound.ids c.requires.next there.1 in
     IfOk-weaker c.in_ok-shared-in-Client.shared _ _

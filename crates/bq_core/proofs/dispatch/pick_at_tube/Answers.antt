@@ -9,13 +9,13 @@ use Rattle.bq_core.proofs.dispatch.pick_at_tube.Goals as goal
 pub returns-in_err-tube-clause-some : goal.returns-in_err-tube-clause-some
 returns-in_err-tube-clause-some c =
     let m = machine_of c.args.state.now in
-    let none = none_there (job_with c.args.id m.jobs) (sym (ap is_some c.in_err-tube.was) ∙ c.share.ensures.none) in
+    let none = none_there (job_with c.args.id m.jobs) (sym (ap is_some c.in_err-tube.was) ∙ c.share.ensures.kept.0) in
     absurd (next_there m c.args.id c.args.state.now.sound.ids c.requires.next (sym none))
 
 pub returns-in_err-seat-clause-some : goal.returns-in_err-seat-clause-some
 returns-in_err-seat-clause-some c =
     let m = machine_of c.args.state.now in
-    let there = some_there (job_with c.args.id m.jobs) (sym c.in_ok-tube.ensures.none) in
+    let there = some_there (job_with c.args.id m.jobs) (sym c.in_ok-tube.ensures.kept.0) in
     let x = there.0 in
     let next = next_is m c.args.id x c.args.state.now.sound.ids c.requires.next there.1 in
     let seat = next_has_seat m x next in
@@ -33,7 +33,7 @@ returns-in_err-seat-clause-some c =
 pub returns-clause-picked : goal.returns-clause-picked
 returns-clause-picked c j is =
     let m = machine_of c.args.state.now in
-    let there = some_there (job_with c.args.id m.jobs) (sym c.in_ok-tube.ensures.none) in
+    let there = some_there (job_with c.args.id m.jobs) (sym c.in_ok-tube.ensures.kept.0) in
     let x = there.0 in
     let next = next_is m c.args.id x c.args.state.now.sound.ids c.requires.next there.1 in
     let same : x ≡ j = (let two : Some x ≡ Some j = sym next ∙ is in cc) in
@@ -48,7 +48,7 @@ returns-clause-picked c j is =
 pub returns-clause-share : goal.returns-clause-share
 returns-clause-share c =
     let m = machine_of c.args.state.now in
-    let there = some_there (job_with c.args.id m.jobs) (sym c.in_ok-tube.ensures.none) in
+    let there = some_there (job_with c.args.id m.jobs) (sym c.in_ok-tube.ensures.kept.0) in
     let x = there.0 in
     let next = next_is m c.args.id x c.args.state.now.sound.ids c.requires.next there.1 in
     IfOk-weaker c.in_ok-tube.shared _ _ (λ body h j is. let two : Some x ≡ Some j = sym next ∙ is in let same : x ≡ j = (cc) in

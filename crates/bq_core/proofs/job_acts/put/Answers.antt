@@ -4,7 +4,8 @@ use Rattle.bq_job.specs.declared.answer.Answer.TheVariants as answers
 use Rattle.bq_job.specs.machine.{SeatRecord, job_with, new_job, seat_with, telling, with_put, with_tube, Machine.Machine}
 use Rattle.bq_job.proofs.ListLemmas.{all_at, found_passes}
 use Rattle.bq_jobs.specs.Kept.{Kept, with_added}
-use Rattle.bq_state.specs.{Asking.Asks, CoreParts.{Held, machine_held, machine_of}, TubeEntries.{HasTubes, has_entry}}
+use Rattle.bq_jobs.specs.Searching.{Asks}
+use Rattle.bq_state.specs.{CoreParts.{Held, machine_held, machine_of}, TubeEntries.{HasTubes, has_entry}}
 use Rattle.bq_core.proofs.{ActLemmas.{after_given, asker_connected, put_done}, AskLemmas.asked_before}
 use Rattle.bq_core.proofs.job_acts.put.Goals as goal
 use Rattle.bq_jobs.proofs.Changes.{low_below}

@@ -1,6 +1,7 @@
 use Rattle.std.proofs.{Common.{◌+◌, ◌-◌, ◌∙◌, ◌≡◌, if◌then◌else◌, ap, arith, length, subst, suc, sym, take}, lemmas.Grind.common_steps}
 use Rattle.bq_job.specs.machine.Machine.{Machine}
-use Rattle.bq_state.specs.{Asking.Asks, CoreParts.machine_of}
+use Rattle.bq_jobs.specs.Searching.{Asks}
+use Rattle.bq_state.specs.CoreParts.{machine_of}
 use Rattle.bq_core.specs.Kicking.{all_kicked, jobs_of}
 use Rattle.bq_core.proofs.{AskLemmas.{asks_more, asks_none, asks_then}, KickLemmas.{none_kicked, one_on, take_none, zero_more}}
 use Rattle.bq_core.proofs.kicks.kick_some.Goals as goal

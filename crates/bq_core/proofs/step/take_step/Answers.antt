@@ -2,7 +2,8 @@ use Rattle.std.proofs.Common.{◌*◌, ◌+◌, ◌<◌, ◌∙◌, ap, arith, c
 use Rattle.bq_job.specs.machine.{DispatchTurn, after_timers, has_refused_share, Machine.Machine}
 use Rattle.bq_job.proofs.{ClientStepLemmas.step_settings, LawfulLemmas.step_is_lawful}
 use Rattle.bq_jobs.specs.Kept.{Kept}
-use Rattle.bq_state.specs.{Asking.Asks, CoreParts.machine_of}
+use Rattle.bq_jobs.specs.Searching.{Asks}
+use Rattle.bq_state.specs.CoreParts.{machine_of}
 use Rattle.bq_core.specs.{AtOnce.kept_at, FiredTimers.is_ripe, Serving.NoneIsGone}
 use Rattle.bq_core.proofs.{AskLemmas.asks_more, StepCosts.{serving_after, step_within}, TurnLemmas.room_kept}
 use Rattle.bq_core.proofs.StepLemmas.{chain_alike, dispatch_turn_alike, first_room, forgotten_none, less_room}

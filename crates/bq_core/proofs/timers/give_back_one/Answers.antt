@@ -9,7 +9,7 @@ use Rattle.bq_core.proofs.timers.give_back_one.Goals as goal
 pub returns-in_default-clause-done : goal.returns-in_default-clause-done
 returns-in_default-clause-done c _ =
     let m = machine_of c.args.state.now in
-    ap (λ (k : Kept). record m { jobs = k.jobs }) c.in_default.ensures.same
+    ap (λ (k : Kept). record m { jobs = k.jobs }) c.in_default.ensures.kept.same
     ∙ given_none c.args.becomes c.args.seat m c.in_default.ensures.id
 
 pub returns-clause-given : goal.returns-clause-given
@@ -17,7 +17,7 @@ returns-clause-given c =
     let m = machine_of c.args.state.now in
     ap (after_giving_back c.args.becomes c.args.seat)
     (c.change_job.ensures.after ∙ ap (λ (k : Kept). with_job c.in-Some.id (in_state c.args.becomes) (record m { jobs = k.jobs }))
-    c.in-Some.ensures.same)
+    c.in-Some.ensures.kept.same)
     ∙ given_one c.args.becomes c.args.seat m c.in-Some.id c.requires.free c.args.state.now.sound.ids c.in-Some.ensures.id
 
 pub returns-clause-fewer : goal.returns-clause-fewer
@@ -25,5 +25,5 @@ returns-clause-fewer c _ =
     let m = machine_of c.args.state.now in
     subst (λ (x : Machine). count_by (is_held_by c.args.seat) x.jobs < count_by (is_held_by c.args.seat) m.jobs)
     (sym (c.change_job.ensures.after ∙ ap (λ (k : Kept). with_job c.in-Some.id (in_state c.args.becomes) (record m { jobs = k.jobs }))
-    c.in-Some.ensures.same))
+    c.in-Some.ensures.kept.same))
     (given_fewer c.args.becomes c.args.seat m c.in-Some.id c.requires.free c.args.state.now.sound.ids c.in-Some.ensures.id)

@@ -21,7 +21,7 @@ pub invariant_of-state : goal.invariant_of-state
 invariant_of-state c =
     let st = c.args.state.now in
     let none = nothing_told_of removed_from (job_with c.args.id st.jobs.jobs) (sym c.in_default.ensures.removed) in
-    let same = c.in_default.ensures.jobs ∙ without_none c.args.id st.jobs.jobs none in
+    let same = c.in_default.ensures.left.0 ∙ without_none c.args.id st.jobs.jobs none in
     record { sound = rw same st.sound; numbered = rw c.in_default.ensures.tubes st.numbered }
 
 pub returns-in_default-clause-deleted : goal.returns-in_default-clause-deleted
@@ -34,7 +34,7 @@ returns-in_default-clause-after c =
     let st = c.args.state.now in
     let m = machine_of st in
     let none = nothing_told_of removed_from (job_with c.args.id st.jobs.jobs) (sym c.in_default.ensures.removed) in
-    let same = c.in_default.ensures.jobs ∙ without_none c.args.id st.jobs.jobs none in
+    let same = c.in_default.ensures.left.0 ∙ without_none c.args.id st.jobs.jobs none in
     ap (λ jobs. record m { jobs = jobs }) same ∙ ap (λ o. once_deleted o m) (sym none)
 
 pub invariant_of-state-2 : goal.invariant_of-state-2
@@ -47,7 +47,7 @@ invariant_of-state-2 c =
     let mid = with_count st j.tube CountDelete (has_of_job st.jobs.jobs st.seats.items st.tubes.entries id j st.sound.entries of.there) in
     let was = mid.sound in
     let jobs : c.let_room_go.new.jobs.jobs ≡ without id st.jobs.jobs =
-    ap (λ (k : Kept). k.jobs) c.let_room_go.ensures.same ∙ c.in-Some.ensures.jobs in
+    ap (λ (k : Kept). k.jobs) c.let_room_go.ensures.same ∙ c.in-Some.ensures.left.0 in
     let names = ap (λ (k : Kept). k.tubes) c.let_room_go.ensures.same ∙ c.in-Some.ensures.tubes in
     let entries = entries_of_fewer (λ k. not (k.id == id)) st.jobs.jobs st.seats.items mid.tubes.entries was.entries in
     let ids = ids_of_filter (λ k. not (k.id == id)) 1 st.next_id st.jobs.jobs was.ids in
@@ -77,7 +77,7 @@ returns-clause-after c =
     let there = has_of_job st.jobs.jobs st.seats.items st.tubes.entries id j st.sound.entries found in
     let own : id ≡ j.id = sym (found_id id st.jobs.jobs j found) in
     let jobs : c.let_room_go.new.jobs.jobs ≡ without j.id st.jobs.jobs =
-    ap (λ (k : Kept). k.jobs) c.let_room_go.ensures.same ∙ c.in-Some.ensures.jobs
+    ap (λ (k : Kept). k.jobs) c.let_room_go.ensures.same ∙ c.in-Some.ensures.left.0
     ∙ ap (λ n. without n st.jobs.jobs) own in
     (λ i. record m { tubes = counted (c.count_removal-has_seats.ensures.after i).entries; jobs = jobs i })
     ∙ ap (λ (r : Removed). record m { tubes = counted (with_removal_counted r st.tubes).entries; jobs = without j.id m.jobs }) of.is

@@ -19,7 +19,7 @@ returns c =
           ap (map (named k)) left.0 ∙ ap (λ (m : Kept). m.jobs) c.self.view_is,
           left.1 ∙ ap (λ (m : Kept). m.room) c.self.view_is,
           ap (λ (m : Kept). m.tubes) c.self.view_is,
-          counted_as k rows c.args.self.now c.get.follows.lender-at-none c.self.view_is left.3,
+          counted_as 1 k rows c.args.self.now c.get.follows.lender-at-none c.self.view_is left.3,
         ),
       ),
       record {

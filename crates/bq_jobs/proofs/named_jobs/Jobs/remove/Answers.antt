@@ -1,14 +1,13 @@
-use Rattle.std.proofs.Common.{arith, ◌+◌, cond, refl, sym, ap, ◌∙◌}
+use Rattle.std.proofs.Common.{arith, Some, ◌+◌, cond, sym, ap, ◌∙◌}
 use Rattle.std.specs.Prelude.{is_some}
 use Rattle.bq_jobs.specs.contracts.places.GroupOrd.TheImpl.Laws as group_laws
 use Rattle.bq_jobs.specs.contracts.places.TimerOrd.TheImpl.Laws as timer_laws
-use Rattle.bq_jobs.specs.Inside.{jobs_of, kept_in}
+use Rattle.bq_jobs.specs.Inside.{jobs_of}
 use Rattle.bq_jobs.specs.PlaceOrder.{without_place}
 use Rattle.bq_jobs.specs.Places.{timer_place, group_place}
-use Rattle.bq_jobs.proofs.Counting.{few_more}
 use Rattle.bq_jobs.proofs.Firsts.{group_cmp, timer_cmp, timer_own, group_own}
 use Rattle.bq_jobs.proofs.Orders.{held_place}
-use Rattle.bq_jobs.proofs.Shelved.{found_in, id_search, shelved_removed, shelved_same, timer_search, group_search}
+use Rattle.bq_jobs.proofs.Shelved.{found_in, id_search, removes, shelved_removed, shelved_same, timer_search, group_search}
 use Rattle.bq_jobs.proofs.NamedParts.{found_own, parts}
 use Rattle.bq_jobs.proofs.named_jobs.Jobs.remove.Goals as goal
 
@@ -19,11 +18,14 @@ invariant_of-self c =
     shelved_same c.args.id (parts c.self.inside) c.remove.new.self c.self.invariant
     (sym c.remove.ensures.value ∙ was) c.remove.ensures.entries (omega (arith, c.remove.ensures.spare, spare))
 
-pub returns-in_err-job-clause-comparisons : goal.returns-in_err-job-clause-comparisons
-returns-in_err-job-clause-comparisons c =
+pub returns-in_err-job-clause-left : goal.returns-in_err-job-clause-left
+returns-in_err-job-clause-left c =
     let s = parts c.self.inside in
     let few = c.remove.ensures.comparisons in
-    few_more 4 (kept_in s.by_id s.groups s.timers) c.args.self.now _ _ c.self.view_is refl (omega (arith, few))
+    let none = c.in_err-job.was ∙ sym c.from_residual.ensures in
+    removes c.args.id s (record s { by_id = c.remove.new.self }) c.args.self.now _ c.self.invariant c.self.view_is
+    c.remove.ensures.entries
+    (c.remove.ensures.spare ∙ ap (λ o. s.by_id.spare + cond (is_some o) 1 0) none) (omega (arith, few))
     (omega (arith, few, id_search s.by_id))
 
 pub leave-requires : goal.leave-requires
@@ -63,11 +65,13 @@ invariant_of-self-2 c =
       timer_spare = c.leave-2.ensures.spare ∙ ap (λ p. s.timers.spare + cond (is_some p) 1 0) c.timer_place_of.ensures;
     })
 
-pub returns-clause-comparisons : goal.returns-clause-comparisons
-returns-clause-comparisons c =
+pub returns-clause-left : goal.returns-clause-left
+returns-clause-left c =
     let s = parts c.self.inside in
     let h = c.self.invariant in
-    few_more 4 (kept_in s.by_id s.groups s.timers) c.args.self.now _ _ c.self.view_is refl
+    removes c.args.id s (record { by_id = c.remove.new.self; groups = c.leave.new.order; timers = c.leave-2.new.order })
+    c.args.self.now (Some c.in_ok-job.job) h c.self.view_is c.remove.ensures.entries
+    (c.remove.ensures.spare ∙ ap (λ o. s.by_id.spare + cond (is_some o) 1 0) c.in_ok-job.was)
     (omega (arith, c.remove.ensures.comparisons, c.leave.ensures.comparisons, c.leave-2.ensures.comparisons))
     (omega (
       arith,

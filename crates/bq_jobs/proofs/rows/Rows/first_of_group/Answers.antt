@@ -2,7 +2,7 @@ use Rattle.std.proofs.Common.{arith, refl, ap, ◌∙◌}
 use Rattle.bq_jobs.specs.Inside.{kept_in}
 use Rattle.bq_jobs.specs.Kept.{Kept}
 use Rattle.bq_jobs.specs.Ranks.{first_held}
-use Rattle.bq_jobs.proofs.Counting.{few_more}
+use Rattle.bq_jobs.proofs.Counting.{searched}
 use Rattle.bq_jobs.proofs.FirstJobs.{group_first}
 use Rattle.bq_jobs.proofs.Shelved.{group_search}
 use Rattle.bq_jobs.proofs.rows.Rows.first_of_group.Goals as goal
@@ -12,9 +12,9 @@ returns-clause-rank c =
     c.first_rank.ensures.rank ∙ group_first c.self.inside c.self.invariant c.args.group
     ∙ ap (λ (m : Kept). first_held c.args.group m.jobs) c.self.view_is
 
-pub returns-clause-comparisons : goal.returns-clause-comparisons
-returns-clause-comparisons c =
+pub returns-clause-kept : goal.returns-clause-kept
+returns-clause-kept c =
     let s = c.self.inside in
     let few = c.first_rank.ensures.comparisons in
-    few_more 1 (kept_in s.by_id s.groups s.timers) c.args.self.now _ _ c.self.view_is refl (omega (arith, few))
+    searched 1 (kept_in s.by_id s.groups s.timers) c.args.self.now _ _ c.self.view_is refl (omega (arith, few))
     (omega (arith, few, group_search s c.self.invariant))
