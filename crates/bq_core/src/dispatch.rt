@@ -11,7 +11,7 @@ ghost use Rattle.bq_job.specs.machine.Dispatch.{DispatchTurn, is_wait_before, ne
 ghost use Rattle.bq_job.specs.machine.Limits.{raised};
 ghost use Rattle.bq_job.specs.machine.Steps.{has_refused_share};
 ghost use Rattle.bq_jobs.specs.Seen.{IsBodyOf};
-ghost use Rattle.bq_jobs.specs.Searching.{Asks};
+ghost use Rattle.bq_jobs.specs.Searching.{Asks, Searches};
 ghost use Rattle.bq_state.specs.Asking.{AsksByTurn};
 ghost use Rattle.bq_state.specs.Cost.{waited, waited_tubes};
 ghost use Rattle.bq_core.specs.AtOnce.{ActsOrGives, is_reserve};
@@ -65,8 +65,7 @@ fn better(best: Option<Offer>, other: Option<Offer>) -> Option<Offer>
 // Returns the most urgent ready job in the tube, unless the tube is paused.
 fn offer_of(jobs: &mut NumberedJobs, tubes: &Tubes, tube: &TubeName) -> Option<Offer>
     ensures offer { result ≡ offered jobs.old.jobs tubes.now.entries tube.now }
-    ensures same { jobs.new ≡ record jobs.old { comparisons = jobs.new.comparisons } }
-    ensures asks { Asks 1 jobs.old jobs.new }
+    ensures kept { Searches 1 jobs.old jobs.new }
 {
     if tubes.is_paused(tube) {
         None
@@ -83,8 +82,7 @@ pub(crate) fn best_among(
     first: Option<Offer>,
 ) -> Option<Offer>
     ensures best { result ≡ fold (with_offer jobs.old.jobs tubes.now.entries) first names.now }
-    ensures same { jobs.new ≡ record jobs.old { comparisons = jobs.new.comparisons } }
-    ensures asks { Asks (length names.now) jobs.old jobs.new }
+    ensures kept { Searches (length names.now) jobs.old jobs.new }
 {
     let mut best = first;
     for i in 0..names.len() {
@@ -101,8 +99,7 @@ fn best_for(
     first: Option<Offer>,
 ) -> Option<Offer>
     ensures best { result ≡ with_offers jobs.old.jobs tubes.now.entries first client.now }
-    ensures same { jobs.new ≡ record jobs.old { comparisons = jobs.new.comparisons } }
-    ensures asks { Asks (waited_tubes client.now) jobs.old jobs.new }
+    ensures kept { Searches (waited_tubes client.now) jobs.old jobs.new }
 {
     if client.is_waiting() {
         best_among(jobs, tubes, client.watched(), first)
@@ -117,8 +114,7 @@ fn offer_to(jobs: &mut NumberedJobs, tubes: &Tubes, tube: &TubeName) -> Option<O
     ensures offer { result
         ≡ (if is_waited_at tube.now tubes.now
         then offered jobs.old.jobs tubes.now.entries tube.now else None) }
-    ensures same { jobs.new ≡ record jobs.old { comparisons = jobs.new.comparisons } }
-    ensures asks { Asks (if is_waited_at tube.now tubes.now then 1 else 0) jobs.old jobs.new }
+    ensures kept { Searches (if is_waited_at tube.now tubes.now then 1 else 0) jobs.old jobs.new }
 {
     if tubes.crowd_of(tube).waiting > 0 {
         offer_of(jobs, tubes, tube)
@@ -141,8 +137,7 @@ fn best_of_client(
     ensures best { result
         ≡ fold (with_offers jobs.old.jobs tubes.now.entries) first
         (these (seat_with seat seats.now)) }
-    ensures same { jobs.new ≡ record jobs.old { comparisons = jobs.new.comparisons } }
-    ensures asks { Asks (sum_by waited_tubes (these (seat_with seat seats.now))) jobs.old jobs.new }
+    ensures kept { Searches (sum_by waited_tubes (these (seat_with seat seats.now))) jobs.old jobs.new }
 {
     match seats::find(seats, seat) {
         None => first,
@@ -161,8 +156,7 @@ fn best_of_turns(
     requires { AreNumbered seats.now }
     ensures best { result
         ≡ fold (by_seat (with_offers jobs.old.jobs tubes.now.entries) seats.now) None turns.now }
-    ensures same { jobs.new ≡ record jobs.old { comparisons = jobs.new.comparisons } }
-    ensures asks { Asks (sum_by (waited_at seats.now) turns.now) jobs.old jobs.new }
+    ensures kept { Searches (sum_by (waited_at seats.now) turns.now) jobs.old jobs.new }
 {
     let mut best = None;
     for i in 0..turns.len() {
@@ -182,8 +176,7 @@ fn best_offer(
     requires numbered { AreNumbered seats.now }
     requires turns { turns.now ≡ turns_of seats.now }
     ensures best { result ≡ fold (with_offers jobs.old.jobs tubes.now.entries) None seats.now }
-    ensures same { jobs.new ≡ record jobs.old { comparisons = jobs.new.comparisons } }
-    ensures asks { Asks (sum_by waited_tubes seats.now) jobs.old jobs.new }
+    ensures kept { Searches (sum_by waited_tubes seats.now) jobs.old jobs.new }
 {
     best_of_turns(jobs, tubes, seats, turns)
 }

@@ -3,7 +3,7 @@ ghost use Rattle.std.specs.Prelude.{◌≡◌, true, is_some, IfOk, IfSome};
 ghost use Rattle.bq_job.specs.machine.Changes.{job_with};
 ghost use Rattle.bq_job.specs.machine.StatisticsCommands.{list_tubes_effect, list_watched_effect};
 ghost use Rattle.bq_job.specs.machine.StatisticsCommands.{stats_effect, stats_job_effect, stats_tube_effect};
-ghost use Rattle.bq_jobs.specs.Kept.{ComparesAtMost};
+ghost use Rattle.bq_jobs.specs.Searching.{Searches};
 ghost use Rattle.bq_state.specs.Asking.{AsksAsChanged};
 ghost use Rattle.bq_core.specs.Numbers.{AreOfServer, AreOfTube};
 ghost use Rattle.bq_core.specs.Replying.{RepliesAt, RepliesBy};
@@ -30,8 +30,7 @@ fn text_of_job(
 ) -> Option<Result<Text, NoMemory>>
     ensures none { is_some result ≡ is_some (job_with id jobs.old.jobs) }
     ensures text { IfSome result (λ text. IfOk text (TellsJob moment (job_with id jobs.old.jobs))) }
-    ensures same { jobs.new ≡ record jobs.old { comparisons = jobs.new.comparisons } }
-    ensures comparisons { ComparesAtMost 2 jobs.old jobs.new }
+    ensures kept { Searches 2 jobs.old jobs.new }
 {
     let tube = jobs.tube_of(id)?;
     match jobs.get(id) {

@@ -6,8 +6,7 @@ ghost use Rattle.bq_job.specs.machine.Changes.{first_of};
 ghost use Rattle.bq_job.specs.machine.Dispatch.{is_wait_before};
 ghost use Rattle.bq_job.specs.machine.Machine.{SeatRecord};
 ghost use Rattle.bq_job.specs.machine.Waits.{WaitEndTurn, is_ending_lease, next_end};
-ghost use Rattle.bq_jobs.specs.Kept.{ComparesAtMost};
-ghost use Rattle.bq_jobs.specs.Searching.{Asks};
+ghost use Rattle.bq_jobs.specs.Searching.{Asks, Searches};
 ghost use Rattle.bq_state.specs.CoreParts.{held, machine_of};
 ghost use Rattle.bq_state.specs.EndingWaits.{AreLookedAt, has_waited, is_lease_short, is_soon, left_after, may_end};
 ghost use Rattle.bq_state.specs.EndingWaits.{told_at_end, waits_after};
@@ -38,8 +37,7 @@ fn is_soon(found: Option<(Moment, JobId)>, moment: Moment) -> bool
 // Returns true if the client at the seat holds a job whose time to run ends within a second.
 fn is_deadline_soon(jobs: &mut NumberedJobs, seat: Seat, moment: Moment) -> bool
     ensures soon { result ≡ list_any (λ j. is_ending_lease moment seat j.state) jobs.old.jobs }
-    ensures same { jobs.new ≡ record jobs.old { comparisons = jobs.new.comparisons } }
-    ensures comparisons { ComparesAtMost 1 jobs.old jobs.new }
+    ensures kept { Searches 1 jobs.old jobs.new }
 {
     is_soon(jobs.next_deadline_of(seat), moment)
 }
@@ -48,8 +46,7 @@ fn is_deadline_soon(jobs: &mut NumberedJobs, seat: Seat, moment: Moment) -> bool
 #[tactic(auto, using(crate::proofs::FiredTimerLemmas::some_warned))]
 fn is_some_deadline_soon(jobs: &mut NumberedJobs, moment: Moment) -> bool
     ensures soon { result ≡ list_any (is_lease_short moment) jobs.old.jobs }
-    ensures same { jobs.new ≡ record jobs.old { comparisons = jobs.new.comparisons } }
-    ensures comparisons { ComparesAtMost 1 jobs.old jobs.new }
+    ensures kept { Searches 1 jobs.old jobs.new }
 {
     is_soon(jobs.next_deadline(), moment)
 }

@@ -15,6 +15,6 @@ loop-i-preserved c =
           c.index-names-i.is was.best
           (c.better-best.ensures ∙ ap (better_rank c.loop-i.best)
           (c.offer_of.ensures.offer ∙ ap (λ (k : Kept). offered k.jobs tubes name) was.same));
-      same = c.offer_of.ensures.same ∙ ap (λ (k : Kept). record k { comparisons = c.offer_of.new.jobs.comparisons }) was.same;
-      asks = asks_then was.asks c.offer_of.ensures.asks;
+      same = c.offer_of.ensures.kept.same ∙ ap (λ (k : Kept). record k { comparisons = c.offer_of.new.jobs.comparisons }) was.same;
+      asks = asks_then was.asks c.offer_of.ensures.kept.asks;
     }

@@ -14,7 +14,7 @@ returns-in-Some-Ok-clause-reply c =
     let told = if_ok c.in-Some-Ok.field-0 c.in-Some-Ok.text _ c.in-Some-Ok.field-0-is c.in-Some-Ok.ensures.text in
     let text : c.in-Some-Ok.text ≡ job_statistics m j = told m j refl there.1 in
     let same : machine_held (record (held c.args.state.now) { jobs = c.text_of_job.new.jobs }) ≡ m =
-    ap (λ (k : Kept). record m { jobs = k.jobs }) c.in-Some-Ok.ensures.same in
+    ap (λ (k : Kept). record m { jobs = k.jobs }) c.in-Some-Ok.ensures.kept.same in
     ap (job_statistics_or_not m) there.1
     ∙ ap (λ t. telling (answers.Ok t) m) (sym text)
     ∙ ap (telling (answers.Ok c.in-Some-Ok.text)) (sym same)

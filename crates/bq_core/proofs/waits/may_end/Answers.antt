@@ -21,6 +21,6 @@ returns-clause-same c = grind (arith, common_steps)
 
 pub invariant_of-state : goal.invariant_of-state
 invariant_of-state c = record {
-  sound = compared_sound c.is_some_wait_over.new.state _ c.is_some_deadline_soon.ensures.same;
-  numbered = compared_numbered c.is_some_wait_over.new.state _ c.is_some_deadline_soon.ensures.same;
+  sound = compared_sound c.is_some_wait_over.new.state _ c.is_some_deadline_soon.ensures.kept.same;
+  numbered = compared_numbered c.is_some_wait_over.new.state _ c.is_some_deadline_soon.ensures.kept.same;
 }
