@@ -1,6 +1,6 @@
 // An ordered map that can be read through a shared reference and does not count comparisons.
 ghost use Rattle.std.specs.Prelude.{◌≡◌, ◌+◌, ◌<◌, ◌≤◌, ◌^◌, [], find, fold, length, map, is_some, if◌then◌else◌, None, IfOk, OnOk};
-ghost use Rattle.std.specs.Option.{option_map, option_copied_mut};
+ghost use Rattle.std.specs.Option.{option_map};
 ghost use Rattle.bq_index.specs.Order.{InOrder};
 ghost use Rattle.std.specs.Map.{lookup, remove_entry};
 ghost use Rattle.std.specs.BTreeMap.{is_at, insert_entry};
@@ -32,8 +32,6 @@ impl<K: Ord + Drop, V: Drop> Model for Catalog<K, V> {
 }
 
 impl<K: Ord + Drop, V: Drop> Catalog<K, V> {
-    ghost use Rattle.std.specs.Borrow.{sem};
-    ghost use Rattle.bq_index.specs.CatalogLent.{LendsEntry};
     ghost use Rattle.bq_index.specs.Walk.{entry_of, passes_by, passes_from, seen_by};
 
     /// Returns a catalog with no entries and no spare boxes. It allocates nothing.
@@ -102,16 +100,6 @@ impl<K: Ord + Drop, V: Drop> Catalog<K, V> {
         ensures ordered { InOrder K.cmp self.now.entries }
     {
         self.shelf.peek(key)
-    }
-
-    /// Returns a mutable reference to the value at a key.
-    pub fn get_mut(&mut self, key: &K) -> Option<&mut V>
-        ensures* writes_back { sem 𝓛
-            (LendsEntry K.row V.row K.Ord self.entry (K.cmp key.now) result) }
-        ensures value { option_copied_mut result ≡ lookup (is_at (K.cmp key.now)) self.old.entries }
-        ensures ordered { InOrder K.cmp self.old.entries }
-    {
-        self.shelf.get_mut(key)
     }
 
     /// Changes the value at a key in place. Returns what the change returns, or `None` if there is
