@@ -1,8 +1,8 @@
 //! Tubes that come and go by the thousand, each with a job in one of the states.
-use crate::bench::Bench;
+use crate::bench::{AnswerKind, Bench};
 use crate::crowds::long_name;
-use crate::texts::tube;
-use bq_job::{Answer, Body, JobId, Request, Seat};
+use crate::requests::{delete, put, use_tube};
+use bq_job::{JobId, Request};
 use std::alloc::Global;
 use std::test::Fail;
 
@@ -33,128 +33,87 @@ fn state_of(turn: u32) -> State {
     }
 }
 
-// Fails with the number of the turn if its step did not go well.
-fn ended(is_well: bool, turn: u32) -> Result<(), Fail> {
-    if is_well {
-        Ok(())
-    } else {
-        Err(Fail::from(turn))
-    }
-}
-
 // The client at seat 0 uses the tube of a turn. Its name is used again long after the tube is gone.
-fn use_tube(bench: &mut Bench, turn: u32) -> Result<(), Fail> {
-    bench.ask(
-        0,
-        Request::Use {
-            tube: tube(&long_name(turn % NAMES))?,
-        },
-    );
-    ended(matches!(bench.answer(), Some((0, Answer::Using(_)))), turn)
+fn use_tube_of(bench: &mut Bench, turn: u32) -> bool {
+    use_tube(bench, &long_name(turn % NAMES))
 }
 
-fn is_found(answer: &Option<(Seat, Answer)>, wanted: Option<JobId>) -> bool {
-    match answer {
-        Some((0, Answer::Found(id, _))) => wanted == Some(*id),
-        Some((0, Answer::NotFound)) => wanted.is_none(),
+// Returns true if a peek into the used tube finds this job, or none if its id is 0.
+fn peeks(bench: &mut Bench, request: Request, job: JobId) -> bool {
+    bench.ask(0, request);
+    match bench.answer_kind() {
+        Some((0, AnswerKind::Found(id))) => id == job,
+        Some((0, AnswerKind::NotFound)) => job == 0,
         _ => false,
     }
 }
 
-// Checks what one peek into the used tube finds.
-fn peek(bench: &mut Bench, turn: u32, request: Request, job: Option<JobId>) -> Result<(), Fail> {
-    bench.ask(0, request);
-    ended(is_found(&bench.answer(), job), turn)
-}
-
 // Checks what the three peeks find.
-fn see(
-    bench: &mut Bench,
-    turn: u32,
-    ready: Option<JobId>,
-    delayed: Option<JobId>,
-    buried: Option<JobId>,
-) -> Result<(), Fail> {
-    peek(bench, turn, Request::PeekReady, ready)?;
-    peek(bench, turn, Request::PeekDelayed, delayed)?;
-    peek(bench, turn, Request::PeekBuried, buried)
+fn see(bench: &mut Bench, ready: JobId, delayed: JobId, buried: JobId) -> bool {
+    peeks(bench, Request::PeekReady, ready)
+        && peeks(bench, Request::PeekDelayed, delayed)
+        && peeks(bench, Request::PeekBuried, buried)
 }
 
-fn see_job(bench: &mut Bench, turn: u32) -> Result<(), Fail> {
-    let job = Some(JobId::from(turn));
+fn see_job(bench: &mut Bench, turn: u32) -> bool {
+    let job = JobId::from(turn);
     match state_of(turn) {
-        State::Ready => see(bench, turn, job, None, None),
-        State::Delayed => see(bench, turn, None, job, None),
-        State::Buried => see(bench, turn, None, None, job),
-        State::Held => see(bench, turn, None, None, None),
+        State::Ready => see(bench, job, 0, 0),
+        State::Delayed => see(bench, 0, job, 0),
+        State::Buried => see(bench, 0, 0, job),
+        State::Held => see(bench, 0, 0, 0),
     }
 }
 
-fn put(alloc: Global, bench: &mut Bench, turn: u32) -> Result<(), Fail> {
+fn put_job(alloc: Global, bench: &mut Bench, turn: u32) -> bool {
     let delay = match state_of(turn) {
         State::Delayed => 9,
         _ => 0,
     };
-    bench.ask(
-        0,
-        Request::Put {
-            pri: turn,
-            delay,
-            ttr: 9,
-            body: Body::new(alloc, b"x")?,
-        },
-    );
-    let is_put =
-        matches!(bench.answer(), Some((0, Answer::Inserted(id))) if id == JobId::from(turn));
-    ended(is_put, turn)
+    put(alloc, bench, JobId::from(turn), turn, delay)
 }
 
-fn hold(bench: &mut Bench, turn: u32) -> Result<(), Fail> {
+fn hold(bench: &mut Bench, turn: u32) -> bool {
     let id = JobId::from(turn);
     bench.ask(0, Request::ReserveJob { id });
-    ended(
-        matches!(bench.answer(), Some((0, Answer::Reserved(_, _)))),
-        turn,
-    )
+    matches!(bench.answer_kind(), Some((0, AnswerKind::Reserved(_))))
 }
 
-fn bury(bench: &mut Bench, turn: u32) -> Result<(), Fail> {
+fn bury(bench: &mut Bench, turn: u32) -> bool {
     let id = JobId::from(turn);
     bench.ask(0, Request::Bury { id, pri: turn });
-    ended(matches!(bench.answer(), Some((0, Answer::Buried))), turn)
+    matches!(bench.answer_kind(), Some((0, AnswerKind::Buried)))
+}
+
+// Brings the job of a turn, which was put, into its state.
+fn change(bench: &mut Bench, turn: u32) -> bool {
+    match state_of(turn) {
+        State::Ready | State::Delayed => true,
+        State::Buried => hold(bench, turn) && bury(bench, turn),
+        State::Held => hold(bench, turn),
+    }
 }
 
 // A tube comes: it contains no job of another tube, and then its own, in the state of its turn.
-fn come(alloc: Global, bench: &mut Bench, turn: u32) -> Result<(), Fail> {
-    use_tube(bench, turn)?;
-    see(bench, turn, None, None, None)?;
-    put(alloc, bench, turn)?;
-    match state_of(turn) {
-        State::Ready | State::Delayed => {}
-        State::Buried => {
-            hold(bench, turn)?;
-            bury(bench, turn)?;
-        }
-        State::Held => hold(bench, turn)?,
-    }
-    see_job(bench, turn)
+fn come(alloc: Global, bench: &mut Bench, turn: u32) -> bool {
+    use_tube_of(bench, turn)
+        && see(bench, 0, 0, 0)
+        && put_job(alloc, bench, turn)
+        && change(bench, turn)
+        && see_job(bench, turn)
 }
 
 // A tube goes with its job, which is still in it.
-fn go(bench: &mut Bench, turn: u32) -> Result<(), Fail> {
-    use_tube(bench, turn)?;
-    see_job(bench, turn)?;
-    let id = JobId::from(turn);
-    bench.ask(0, Request::Delete { id });
-    ended(matches!(bench.answer(), Some((0, Answer::Deleted))), turn)
+fn go(bench: &mut Bench, turn: u32) -> bool {
+    use_tube_of(bench, turn) && see_job(bench, turn) && delete(bench, 0, JobId::from(turn))
 }
 
 /// Tubes come and go, and their names are used again. No job is ever seen in the tube of another.
+/// Fails with the number of the turn whose step did not go well.
 pub(crate) fn come_and_go(alloc: Global, bench: &mut Bench) -> Result<(), Fail> {
     for turn in 1..=TUBES {
-        come(alloc, bench, turn)?;
-        if turn > STAY {
-            go(bench, turn - STAY)?;
+        if !come(alloc, bench, turn) || (turn > STAY && !go(bench, turn - STAY)) {
+            return Err(Fail::from(turn));
         }
     }
     Ok(())

@@ -1,6 +1,6 @@
 //! How many comparisons a step makes.
 use crate::bench::config;
-use crate::play::{Script, play_one};
+use crate::play::{Script, Scripts, play_one};
 use std::alloc::Global;
 use std::test::Fail;
 
@@ -33,52 +33,49 @@ fn comparisons_of_a_step(rt: HostRuntime) -> Result<(), Fail> {
 
 /// A put next to 250 clients that watch another tube, and the same next to clients that wait for
 /// jobs of that tube.
-static PUT: &[Script] = &[
-    "0 0 crowd of 250 watchers
+static PUT: Scripts = "0 0 crowd of 250 watchers
     0 0 count
-    0 0 put 0 0 9 1~x | 0 INSERTED 1",
-    "0 0 crowd of 250 waiters
+    0 0 put 0 0 9 1~x | 0 INSERTED 1
+
+    0 0 crowd of 250 waiters
     0 0 count
-    0 0 put 0 0 9 1~x | 0 INSERTED 1",
-];
+    0 0 put 0 0 9 1~x | 0 INSERTED 1";
 
 /// Steps next to them that hand out no job.
-static CALM: &[Script] = &[
-    "0 0 crowd of 250 watchers
+static CALM: Scripts = "0 0 crowd of 250 watchers
     0 0 count
     0 0 put 0 5 9 1~x | 0 INSERTED 1
     0 0 release 1 0 0 | 0 NOT_FOUND
     0 0 bury 1 0 | 0 NOT_FOUND
     0 0 kick-job 7 | 0 NOT_FOUND
     0 0 pause-tube default 5 | 0 PAUSED
-    0 0 end",
-    "0 0 crowd of 250 waiters
+    0 0 end
+
+    0 0 crowd of 250 waiters
     0 0 count
     0 0 put 0 5 9 1~x | 0 INSERTED 1
     0 0 release 1 0 0 | 0 NOT_FOUND
     0 0 bury 1 0 | 0 NOT_FOUND
     0 0 kick-job 7 | 0 NOT_FOUND
     0 0 pause-tube default 5 | 0 PAUSED
-    0 0 end",
-];
+    0 0 end";
 
 /// A query of the next due moment, when none of them holds a job.
-static LOOK: &[Script] = &[
-    "0 0 crowd of 250 watchers
+static LOOK: Scripts = "0 0 crowd of 250 watchers
     0 0 put 0 0 99 1~x | 0 INSERTED 1
     0 0 reserve | 0 RESERVED 1 1~x
     0 0 count
-    0 0 due 99000",
-    "0 0 crowd of 250 waiters
+    0 0 due 99000
+
+    0 0 crowd of 250 waiters
     0 0 put 0 0 99 1~x | 0 INSERTED 1
     0 0 reserve | 0 RESERVED 1 1~x
     0 0 count
-    0 0 due 99000",
-];
+    0 0 due 99000";
 
 // The second of two scripts makes at most this many more comparisons than the first.
-fn expect_as_many(alloc: Global, scripts: &[Script], more: u64) -> Result<(), Fail> {
-    let [without, with] = scripts else {
+fn expect_as_many(alloc: Global, scripts: Scripts, more: u64) -> Result<(), Fail> {
+    let Some((without, with)) = scripts.split_once("\n\n") else {
         return Err(Fail::from("no two scripts"));
     };
     let without = play_one(alloc, config(256, 10), without)?;

@@ -2,64 +2,42 @@
 //! and listed.
 use crate::bench::Bench;
 use crate::come_and_go::come_and_go;
-use crate::play::{Script, play};
-use crate::texts::tube;
+use crate::play::{Scripts, play};
+use crate::requests::{put, use_tube, watch};
 use crate::tubes_in_use::{pass_through_tubes, pause_tubes};
-use bq_job::{Answer, Body, Request, Seat, Step};
+use bq_job::{Answer, Request, Seat, Step, TubeName};
 use std::alloc::Global;
 use std::test::Fail;
 
 /// How many tubes there are besides the default tube.
 const TUBES: u32 = 1200;
 
-static MANY_TUBES: &[Script] = &[
-    "0 0 crowd of 1200 tubes
+static MANY_TUBES: Scripts = "0 0 crowd of 1200 tubes
     0 1 stats | 1 ..current-jobs-ready: 1200/
     0 1 stats | 1 ..current-tubes: 1201/
-    0 1 reserve | 1 RESERVED 1 1~x",
-];
+    0 1 reserve | 1 RESERVED 1 1~x";
 
 // Five of the last tubes are left, besides the used one and the default tube.
-static TUBES_IN_TURN: &[Script] = &[
-    "0 0 crowd of 3000 tubes in turn
+static TUBES_IN_TURN: Scripts = "0 0 crowd of 3000 tubes in turn
     0 1 stats | 1 ..current-jobs-ready: 2/current-jobs-reserved: 1/current-jobs-delayed: 1/current-jobs-buried: 1/
-    0 1 stats | 1 ..current-tubes: 7/",
-];
+    0 1 stats | 1 ..current-tubes: 7/";
 
 // The last four are still watched, and the last one is used.
-static WATCHED_TUBES: &[Script] = &[
-    "0 0 crowd of 10000 watched tubes
+static WATCHED_TUBES: Scripts = "0 0 crowd of 10000 watched tubes
     0 2 stats | 2 ..current-jobs-ready: 0/current-jobs-reserved: 0/current-jobs-delayed: 0/current-jobs-buried: 0/
     0 2 stats | 2 ..total-jobs: 20000/
-    0 2 stats | 2 ..current-tubes: 5/",
-    "0 0 crowd of 2000 paused tubes
+    0 2 stats | 2 ..current-tubes: 5/
+
+    0 0 crowd of 2000 paused tubes
     0 2 stats | 2 ..current-tubes: 1/
-    0 2 due never",
-];
-
-fn is_inserted(answer: &Option<(Seat, Answer)>, number: u32) -> bool {
-    matches!(answer, Some((0, Answer::Inserted(id))) if *id == u64::from(number))
-}
-
-// The client at seat 0 puts a job, which gets this id.
-fn put(alloc: Global, bench: &mut Bench, number: u32) -> Result<(), Fail> {
-    let put = Request::Put {
-        pri: number,
-        delay: 0,
-        ttr: 9,
-        body: Body::new(alloc, b"x")?,
-    };
-    bench.ask(0, put);
-    if !is_inserted(&bench.answer(), number) {
-        return Err(Fail::from(number));
-    }
-    Ok(())
-}
+    0 2 due never";
 
 // Puts this many jobs, the first the most urgent, into a core that had none.
 fn put_jobs(alloc: Global, bench: &mut Bench, jobs: u32) -> Result<(), Fail> {
     for number in 1..=jobs {
-        put(alloc, bench, number)?;
+        if !put(alloc, bench, u64::from(number), number, 0) {
+            return Err(Fail::from(number));
+        }
     }
     Ok(())
 }
@@ -79,28 +57,15 @@ fn name_of(turn: u32) -> [u8; 200] {
     long_name(turn.saturating_mul(7) % TUBES)
 }
 
-// Returns true if puts of the client at seat 0 go into this tube.
-pub(crate) fn is_using(answer: &Option<(Seat, Answer)>, name: &[u8]) -> bool {
-    match answer {
-        Some((0, Answer::Using(used))) => used.as_slice() == name,
-        _ => false,
-    }
-}
-
-// Returns true if the client at seat 1 watches this many tubes.
-fn is_watching(answer: &Option<(Seat, Answer)>, tubes: u32) -> bool {
-    matches!(answer, Some((1, Answer::Watching(count))) if *count == u64::from(tubes))
-}
-
 // The client at seat 0 uses each tube in turn, and puts a job there.
 fn use_tubes(alloc: Global, bench: &mut Bench) -> Result<(), Fail> {
     for turn in 0..TUBES {
-        let name = name_of(turn);
-        bench.ask(0, Request::Use { tube: tube(&name)? });
-        if !is_using(&bench.answer(), &name) {
+        let number = turn + 1;
+        let is_put = use_tube(bench, &name_of(turn))
+            && put(alloc, bench, u64::from(number), number, 0);
+        if !is_put {
             return Err(Fail::from(("used", turn)));
         }
-        put(alloc, bench, turn + 1)?;
     }
     Ok(())
 }
@@ -108,9 +73,7 @@ fn use_tubes(alloc: Global, bench: &mut Bench) -> Result<(), Fail> {
 // The client at seat 1 watches each tube.
 fn watch_tubes(bench: &mut Bench) -> Result<(), Fail> {
     for turn in 0..TUBES {
-        let tube = tube(&name_of(turn))?;
-        bench.ask(1, Request::Watch { tube });
-        if !is_watching(&bench.answer(), turn + 2) {
+        if !watch(bench, &name_of(turn), turn + 2) {
             return Err(Fail::from(("watched", turn)));
         }
     }
@@ -157,12 +120,17 @@ fn see_tubes(alloc: Global, bench: &mut Bench) -> Result<(), Fail> {
 }
 
 // The client at this seat watches only an empty tube.
-fn watch_empty(bench: &mut Bench, seat: Seat) -> Result<(), Fail> {
-    let (empty, default) = (tube(b"empty")?, tube(b"default")?);
+fn watch_empty(bench: &mut Bench, seat: Seat) -> bool {
     bench.step(0, seat, Step::Connect);
-    bench.ask(seat, Request::Watch { tube: empty });
-    bench.ask(seat, Request::Ignore { tube: default });
-    Ok(())
+    let Some(tube) = TubeName::new(b"empty") else {
+        return false;
+    };
+    bench.ask(seat, Request::Watch { tube });
+    let Some(tube) = TubeName::new(b"default") else {
+        return false;
+    };
+    bench.ask(seat, Request::Ignore { tube });
+    true
 }
 
 // The clients at the seats from 1 on watch another tube than the client at seat 0, and wait or
@@ -170,7 +138,9 @@ fn watch_empty(bench: &mut Bench, seat: Seat) -> Result<(), Fail> {
 fn watch_all(bench: &mut Bench, clients: u16, do_wait: bool) -> Result<(), Fail> {
     for number in 0..clients {
         let seat = number.saturating_add(1);
-        watch_empty(bench, seat)?;
+        if !watch_empty(bench, seat) {
+            return Err(Fail::from("a tube's name"));
+        }
         if do_wait {
             bench.ask(seat, Request::Reserve);
         }

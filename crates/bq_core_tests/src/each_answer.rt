@@ -1,9 +1,8 @@
 //! Each command with each of its answers.
-use crate::play::{Script, play};
+use crate::play::{Scripts, play};
 use std::test::Fail;
 
-static EACH_ANSWER: &[Script] = &[
-    "# put
+static EACH_ANSWER: Scripts = "# put
     0 0 put 0 0 9 1~x | 0 INSERTED 1
     0 0 due never
     0 0 put 0 9 9 1~y | 0 INSERTED 2
@@ -11,14 +10,16 @@ static EACH_ANSWER: &[Script] = &[
     0 0 drain
     0 0 put 0 0 9 1~z | 0 DRAINING
     0 1 put 0 9 9 1~z | 1 DRAINING
-    0 0 peek 3 | 0 NOT_FOUND",
-    "# time to run of 0 counts as 1
+    0 0 peek 3 | 0 NOT_FOUND
+
+    # time to run of 0 counts as 1
     0 0 put 0 0 0 1~x | 0 INSERTED 1
     0 0 reserve | 0 RESERVED 1 1~x
     0 0 due 1000
     999 0 touch 1 | 0 TOUCHED
-    999 0 due 1999",
-    "# reserve
+    999 0 due 1999
+
+    # reserve
     0 0 put 0 0 2 1~x | 0 INSERTED 1
     0 0 reserve | 0 RESERVED 1 1~x
     999 0 reserve
@@ -27,8 +28,9 @@ static EACH_ANSWER: &[Script] = &[
     1000 1 reserve
     1000 1 end | 1 TIMED_OUT
     1000 1 reserve | 1 TIMED_OUT
-    2000 1 reserve | 1 RESERVED 1 1~x",
-    "# reserve with timeout
+    2000 1 reserve | 1 RESERVED 1 1~x
+
+    # reserve with timeout
     0 0 put 0 0 3 1~x | 0 INSERTED 1
     0 0 reserve-with-timeout 0 | 0 RESERVED 1 1~x
     0 0 reserve-with-timeout 0 | 0 TIMED_OUT
@@ -38,8 +40,9 @@ static EACH_ANSWER: &[Script] = &[
     2000 0 tick | 0 DEADLINE_SOON
     2000 1 reserve-with-timeout 1
     2000 0 due 3000
-    3000 0 tick | 1 RESERVED 1 1~x",
-    "# reserve job
+    3000 0 tick | 1 RESERVED 1 1~x
+
+    # reserve job
     0 0 put 0 0 9 1~x | 0 INSERTED 1
     0 0 use a | 0 USING a
     0 0 put 0 5 9 1~y | 0 INSERTED 2
@@ -52,8 +55,9 @@ static EACH_ANSWER: &[Script] = &[
     0 1 touch 2 | 1 NOT_FOUND
     0 0 reserve-job 1 | 0 RESERVED 1 1~x
     0 0 reserve-job 0 | 0 NOT_FOUND
-    0 0 reserve-job 3 | 0 NOT_FOUND",
-    "# delete
+    0 0 reserve-job 3 | 0 NOT_FOUND
+
+    # delete
     0 0 put 0 0 9 1~r | 0 INSERTED 1
     0 0 put 0 5 9 1~d | 0 INSERTED 2
     0 0 put 0 0 9 1~b | 0 INSERTED 3
@@ -69,8 +73,9 @@ static EACH_ANSWER: &[Script] = &[
     0 0 delete 3 | 0 DELETED
     0 1 delete 4 | 1 DELETED
     0 1 delete 4 | 1 NOT_FOUND
-    0 0 due never",
-    "# touch
+    0 0 due never
+
+    # touch
     0 0 put 0 0 3 1~x | 0 INSERTED 1
     0 0 touch 1 | 0 NOT_FOUND
     0 0 touch 2 | 0 NOT_FOUND
@@ -79,8 +84,9 @@ static EACH_ANSWER: &[Script] = &[
     2999 0 due 3000
     2999 0 touch 1 | 0 TOUCHED
     2999 0 due 5999
-    5999 0 touch 1 | 0 NOT_FOUND",
-    "# release
+    5999 0 touch 1 | 0 NOT_FOUND
+
+    # release
     0 0 put 4 0 9 1~x | 0 INSERTED 1
     0 0 put 5 0 9 1~y | 0 INSERTED 2
     0 0 release 1 0 0 | 0 NOT_FOUND
@@ -93,8 +99,9 @@ static EACH_ANSWER: &[Script] = &[
     0 0 due 2000
     0 0 peek-ready | 0 FOUND 1 1~x
     0 0 peek-delayed | 0 FOUND 2 1~y
-    2000 0 peek-ready | 0 FOUND 2 1~y",
-    "# bury
+    2000 0 peek-ready | 0 FOUND 2 1~y
+
+    # bury
     0 0 put 4 0 9 1~x | 0 INSERTED 1
     0 0 put 5 0 9 1~y | 0 INSERTED 2
     0 0 bury 1 0 | 0 NOT_FOUND
@@ -105,8 +112,9 @@ static EACH_ANSWER: &[Script] = &[
     0 0 bury 1 6 | 0 NOT_FOUND
     0 0 due never
     0 0 kick-job 1 | 0 KICKED
-    0 0 reserve | 0 RESERVED 2 1~y",
-    "# kick
+    0 0 reserve | 0 RESERVED 2 1~y
+
+    # kick
     0 0 kick 9 | 0 KICKED 0
     0 0 put 0 0 9 1~x | 0 INSERTED 1
     0 0 put 0 0 9 1~y | 0 INSERTED 2
@@ -128,8 +136,9 @@ static EACH_ANSWER: &[Script] = &[
     0 0 peek-delayed | 0 FOUND 4 1~u
     0 0 kick 2 | 0 KICKED 2
     0 0 peek-delayed | 0 FOUND 3 1~z
-    0 0 due 7000",
-    "# kick job
+    0 0 due 7000
+
+    # kick job
     0 0 put 0 0 9 1~x | 0 INSERTED 1
     0 0 use a | 0 USING a
     0 0 put 0 5 9 1~y | 0 INSERTED 2
@@ -142,8 +151,9 @@ static EACH_ANSWER: &[Script] = &[
     0 1 bury 1 0 | 1 BURIED
     0 0 kick-job 1 | 0 KICKED
     0 0 kick-job 3 | 0 NOT_FOUND
-    0 1 reserve | 1 RESERVED 1 1~x",
-    "# pause tube
+    0 1 reserve | 1 RESERVED 1 1~x
+
+    # pause tube
     0 0 pause-tube a 9 | 0 NOT_FOUND
     0 0 watch a | 0 WATCHING 2
     0 1 pause-tube a 9 | 1 PAUSED
@@ -156,8 +166,9 @@ static EACH_ANSWER: &[Script] = &[
     1000 0 due 9000
     1000 0 ignore a | 0 WATCHING 1
     1000 0 due never
-    1000 0 pause-tube a 0 | 0 NOT_FOUND",
-    "# tubes of a client
+    1000 0 pause-tube a 0 | 0 NOT_FOUND
+
+    # tubes of a client
     0 0 list-tube-used | 0 USING default
     0 0 use a | 0 USING a
     0 0 list-tube-used | 0 USING a
@@ -172,15 +183,17 @@ static EACH_ANSWER: &[Script] = &[
     0 0 ignore default | 0 WATCHING 1
     0 0 ignore default | 0 WATCHING 1
     0 0 ignore c | 0 NOT_IGNORED
-    0 1 ignore default | 1 NOT_IGNORED",
-    "# quit
+    0 1 ignore default | 1 NOT_IGNORED
+
+    # quit
     0 0 quit
     0 0 list-tube-used | 0 USING default
     0 0 close | 0 closed
     0 0 close
     0 0 list-tube-used
-    0 0 due never",
-    "# peek
+    0 0 due never
+
+    # peek
     0 0 peek 1 | 0 NOT_FOUND
     0 0 put 0 0 9 0~ | 0 INSERTED 1
     0 0 put 0 5 9 1~y | 0 INSERTED 2
@@ -192,14 +205,16 @@ static EACH_ANSWER: &[Script] = &[
     0 0 bury 1 0 | 0 BURIED
     0 1 peek 1 | 1 FOUND 1 0~
     0 1 peek 3 | 1 NOT_FOUND
-    0 1 peek 0 | 1 NOT_FOUND",
-    "# refusals
+    0 1 peek 0 | 1 NOT_FOUND
+
+    # refusals
     0 0 PUT | 0 UNKNOWN_COMMAND
     0 0 put | 0 BAD_FORMAT
     0 0 put 0 0 9 11~12345678901 | 0 JOB_TOO_BIG
     0 0 put 0 0 9 1~xyz | 0 EXPECTED_CRLF
-    0 0 no memory | 0 OUT_OF_MEMORY",
-    "# peeks of the used tube
+    0 0 no memory | 0 OUT_OF_MEMORY
+
+    # peeks of the used tube
     0 0 peek-ready | 0 NOT_FOUND
     0 0 peek-delayed | 0 NOT_FOUND
     0 0 peek-buried | 0 NOT_FOUND
@@ -219,8 +234,7 @@ static EACH_ANSWER: &[Script] = &[
     0 0 use a | 0 USING a
     0 0 peek-ready | 0 NOT_FOUND
     0 0 peek-delayed | 0 NOT_FOUND
-    0 0 peek-buried | 0 NOT_FOUND",
-];
+    0 0 peek-buried | 0 NOT_FOUND";
 
 #[test]
 fn each_answer(rt: HostRuntime) -> Result<(), Fail> {

@@ -27,6 +27,8 @@ mod one_tube;
 #[cfg(test)]
 mod play;
 #[cfg(test)]
+mod requests;
+#[cfg(test)]
 mod requeue;
 #[cfg(test)]
 mod statistics;

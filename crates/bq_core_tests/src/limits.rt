@@ -1,6 +1,6 @@
 //! Job limits.
 use crate::bench::config;
-use crate::play::{Script, play_with};
+use crate::play::{Scripts, play_with};
 use bq_core::Config;
 use std::test::Fail;
 
@@ -12,28 +12,27 @@ fn limited(most: u32) -> Config {
     }
 }
 
-static LIMIT_OF_ONE: &[Script] = &[
-    "# limit of one
+static LIMIT_OF_ONE: Scripts = "# limit of one
     0 0 put 0 0 9 1~x | 0 INSERTED 1
     0 0 put 0 0 9 1~y | 0 OUT_OF_MEMORY
     0 0 reserve | 0 RESERVED 1 1~x
     0 0 put 0 0 9 1~z | 0 OUT_OF_MEMORY
     0 0 delete 1 | 0 DELETED
-    0 0 put 0 0 9 1~w | 0 INSERTED 2",
-    "# draining before the limit
+    0 0 put 0 0 9 1~w | 0 INSERTED 2
+
+    # draining before the limit
     0 0 put 0 0 9 1~x | 0 INSERTED 1
     0 0 drain
-    0 0 put 0 0 9 1~y | 0 DRAINING",
-    "# another tube and another client
+    0 0 put 0 0 9 1~y | 0 DRAINING
+
+    # another tube and another client
     0 0 put 0 0 9 1~x | 0 INSERTED 1
     0 1 use t | 1 USING t
     0 1 put 0 0 9 1~y | 1 OUT_OF_MEMORY
     0 1 stats | 1 ..current-jobs-ready: 1/
-    0 1 stats | 1 ../total-jobs: 1/",
-];
+    0 1 stats | 1 ../total-jobs: 1/";
 
-static LIMIT_OF_THREE: &[Script] = &[
-    "# jobs of every state count
+static LIMIT_OF_THREE: Scripts = "# jobs of every state count
     0 0 put 0 9 9 1~x | 0 INSERTED 1
     0 0 put 0 0 9 1~y | 0 INSERTED 2
     0 1 reserve | 1 RESERVED 2 1~y
@@ -45,14 +44,11 @@ static LIMIT_OF_THREE: &[Script] = &[
     0 0 put 0 0 9 1~v | 0 OUT_OF_MEMORY
     0 2 delete 2 | 2 DELETED
     0 0 put 0 0 9 1~w | 0 INSERTED 4
-    0 0 put 0 0 9 1~q | 0 OUT_OF_MEMORY",
-];
+    0 0 put 0 0 9 1~q | 0 OUT_OF_MEMORY";
 
-static GREATEST_LIMIT: &[Script] = &[
-    "# greatest limit
+static GREATEST_LIMIT: Scripts = "# greatest limit
     0 0 put 0 0 9 1~x | 0 INSERTED 1
-    0 0 put 0 0 9 1~y | 0 INSERTED 2",
-];
+    0 0 put 0 0 9 1~y | 0 INSERTED 2";
 
 #[test]
 fn limits(rt: HostRuntime) -> Result<(), Fail> {

@@ -14,6 +14,10 @@ use std::test::Fail;
 /// and `crowd of` runs a crowd. A row that begins with `#` is a comment.
 pub(crate) type Script = &'static str;
 
+/// Scripts with an empty line between one and the next. One text is cheaper to prove than a slice
+/// of texts.
+pub(crate) type Scripts = &'static str;
+
 /// A row of a script.
 #[derive(Drop)]
 struct Row {
@@ -25,19 +29,30 @@ struct Row {
 
 // A number, and the text after it.
 fn numbered(text: &'static str) -> Option<(u64, &'static str)> {
-    let (number, rest) = text.split_once(' ')?;
-    Some((number.parse::<u64>().ok()?, rest))
+    let Some((number, rest)) = text.split_once(' ') else {
+        return None;
+    };
+    match number.parse::<u64>() {
+        Ok(number) => Some((number, rest)),
+        Err(_) => None,
+    }
 }
 
 fn seated(text: &'static str) -> Option<(Seat, &'static str)> {
-    let (number, rest) = text.split_once(' ')?;
-    Some((number.parse::<u16>().ok()?, rest))
+    match numbered(text) {
+        Some((number, rest)) if number <= u64::from(Seat::MAX) => Some((number as Seat, rest)),
+        _ => None,
+    }
 }
 
 fn row_of(text: &'static str) -> Option<Row> {
     let (step, answers) = text.split_once('|').unwrap_or((text, ""));
-    let (at, rest) = numbered(step)?;
-    let (seat, words) = seated(rest)?;
+    let Some((at, rest)) = numbered(step) else {
+        return None;
+    };
+    let Some((seat, words)) = seated(rest) else {
+        return None;
+    };
     Some(Row {
         at,
         seat,
@@ -47,31 +62,31 @@ fn row_of(text: &'static str) -> Option<Row> {
 }
 
 // The answer goes to the seat that a script names, and has the text that follows.
-fn is_told(alloc: Global, to: Seat, answer: &Answer, wanted: &'static str) -> Result<bool, Fail> {
+fn is_told(alloc: Global, to: Seat, answer: &Answer, wanted: &'static str) -> bool {
     match seated(wanted) {
-        Some((seat, text)) => Ok(to == seat && is_wanted(alloc, answer, text)?),
-        None => Ok(false),
+        Some((seat, text)) => to == seat && is_wanted(alloc, answer, text),
+        None => false,
     }
 }
 
 // The oldest remaining answer of the last step is this one.
-fn is_next(alloc: Global, bench: &mut Bench, wanted: &'static str) -> Result<bool, Fail> {
+fn is_next(alloc: Global, bench: &mut Bench, wanted: &'static str) -> bool {
     match bench.answer() {
         Some((to, answer)) => is_told(alloc, to, &answer, wanted),
-        None => Ok(false),
+        None => false,
     }
 }
 
 // The answers of the last step are exactly those wanted, in order, and nothing failed for lack of
 // memory.
-fn is_answered(alloc: Global, bench: &mut Bench, answers: &'static str) -> Result<bool, Fail> {
+fn is_answered(alloc: Global, bench: &mut Bench, answers: &'static str) -> bool {
     for wanted in answers.split('|') {
         let wanted = wanted.trim();
-        if !wanted.is_empty() && !is_next(alloc, bench, wanted)? {
-            return Ok(false);
+        if !wanted.is_empty() && !is_next(alloc, bench, wanted) {
+            return false;
         }
     }
-    Ok(bench.answer().is_none() && bench.was_ample())
+    bench.answer().is_none() && bench.was_ample()
 }
 
 // Takes the step of the row, and returns true if it is answered as the row says.
@@ -86,7 +101,7 @@ fn is_right(alloc: Global, bench: &mut Bench, row: &Row) -> Result<bool, Fail> {
     if let Some(crowd) = row.words.strip_prefix("crowd of ") {
         return has_come(alloc, bench, crowd);
     }
-    Ok(bench.take(row.at, row.seat, row.words)? && is_answered(alloc, bench, row.answers)?)
+    Ok(bench.take(row.at, row.seat, row.words) && is_answered(alloc, bench, row.answers))
 }
 
 // Does the same for the text of a row.
@@ -124,14 +139,14 @@ pub(crate) fn play_one(alloc: Global, config: Config, script: Script) -> Result<
 }
 
 /// Plays each script, at a core of its own.
-pub(crate) fn play_with(alloc: Global, config: Config, scripts: &[Script]) -> Result<(), Fail> {
-    for script in scripts {
+pub(crate) fn play_with(alloc: Global, config: Config, scripts: Scripts) -> Result<(), Fail> {
+    for script in scripts.split("\n\n") {
         play_one(alloc, config, script)?;
     }
     Ok(())
 }
 
 /// Does the same with four seats and bodies of 10 bytes.
-pub(crate) fn play(alloc: Global, scripts: &[Script]) -> Result<(), Fail> {
+pub(crate) fn play(alloc: Global, scripts: Scripts) -> Result<(), Fail> {
     play_with(alloc, config(4, 10), scripts)
 }

@@ -1,13 +1,7 @@
 //! Texts of steps and answers, as the scripts of the tests write them.
-use bq_job::{Answer, Refusal, Request, Step, TubeName};
+use bq_job::{Answer, Refusal, Request, Step};
 use bq_wire::{HeadBuf, answer_body, answer_head, answer_tail};
-use std::alloc::{AllocError, Global};
-use std::test::Fail;
-
-/// The tube of this name.
-pub(crate) fn tube(name: &[u8]) -> Result<TubeName, Fail> {
-    Ok(TubeName::new(name).ok_or("a tube's name")?)
-}
+use std::alloc::Global;
 
 /// Returns a step that isn't read from a client's line, if the words name one.
 pub(crate) fn plain_step(words: &str) -> Option<Step> {
@@ -23,47 +17,64 @@ pub(crate) fn plain_step(words: &str) -> Option<Step> {
     }
 }
 
-/// Appends the bytes of a script's text: `~` is CR LF, and `/` is LF.
-pub(crate) fn push_text(bytes: &mut Vec<u8>, text: &str) -> Result<(), AllocError> {
+/// Appends the bytes of a script's text: `~` is CR LF, and `/` is LF. Returns false if an
+/// allocation fails.
+pub(crate) fn push_text(bytes: &mut Vec<u8>, text: &str) -> bool {
     for byte in text.as_bytes() {
-        match *byte {
-            b'~' => bytes.extend_from_slice(b"\r\n")?,
-            b'/' => bytes.push(b'\n')?,
-            other => bytes.push(other)?,
+        let is_pushed = match *byte {
+            b'~' => bytes.extend_from_slice(b"\r\n").is_ok(),
+            b'/' => bytes.push(b'\n').is_ok(),
+            other => bytes.push(other).is_ok(),
+        };
+        if !is_pushed {
+            return false;
         }
     }
-    Ok(())
+    true
 }
 
-// Returns what a client receives for the answer. The answer to a close, for which that is nothing,
-// has a word.
-fn text_of(alloc: Global, answer: &Answer) -> Result<Vec<u8>, AllocError> {
+// Appends what a client receives for the answer. The answer to a close, for which that is nothing,
+// has a word. Returns false if an allocation fails.
+fn push_answer(text: &mut Vec<u8>, answer: &Answer) -> bool {
     if let Answer::Closed = answer {
-        return Vec::from_slice(alloc, b"closed\r\n");
+        return text.extend_from_slice(b"closed\r\n").is_ok();
     }
     let mut head = HeadBuf::new();
     answer_head(answer, &mut head);
-    let mut text = Vec::from_slice(alloc, head.as_slice())?;
-    text.extend_from_slice(answer_body(answer))?;
-    text.extend_from_slice(answer_tail(answer))?;
-    Ok(text)
+    text.extend_from_slice(head.as_slice()).is_ok()
+        && text.extend_from_slice(answer_body(answer)).is_ok()
+        && text.extend_from_slice(answer_tail(answer)).is_ok()
 }
 
 // Returns true if the text contains these lines, one after another.
 fn has_lines(text: &[u8], lines: &[u8]) -> bool {
-    !lines.is_empty() && text.windows(lines.len()).any(|piece| piece == lines)
+    if lines.is_empty() {
+        return false;
+    }
+    for piece in text.windows(lines.len()) {
+        if piece == lines {
+            return true;
+        }
+    }
+    false
+}
+
+// Returns true if this is the text of a script, or, after `..`, has these lines in it.
+fn is_text(alloc: Global, text: &[u8], wanted: &str) -> bool {
+    let mut bytes = Vec::new(alloc);
+    match wanted.strip_prefix("..") {
+        Some(lines) => push_text(&mut bytes, lines) && has_lines(text, bytes.as_slice()),
+        None => {
+            push_text(&mut bytes, wanted)
+                && bytes.extend_from_slice(b"\r\n").is_ok()
+                && text == bytes.as_slice()
+        }
+    }
 }
 
 /// Returns true if the answer is the one that a script wants: this text or, after `..`, a text with
 /// these lines in it.
-pub(crate) fn is_wanted(alloc: Global, answer: &Answer, wanted: &str) -> Result<bool, AllocError> {
-    let text = text_of(alloc, answer)?;
-    let mut bytes = Vec::new(alloc);
-    if let Some(lines) = wanted.strip_prefix("..") {
-        push_text(&mut bytes, lines)?;
-        return Ok(has_lines(text.as_slice(), bytes.as_slice()));
-    }
-    push_text(&mut bytes, wanted)?;
-    bytes.extend_from_slice(b"\r\n")?;
-    Ok(text.as_slice() == bytes.as_slice())
+pub(crate) fn is_wanted(alloc: Global, answer: &Answer, wanted: &str) -> bool {
+    let mut text = Vec::new(alloc);
+    push_answer(&mut text, answer) && is_text(alloc, text.as_slice(), wanted)
 }

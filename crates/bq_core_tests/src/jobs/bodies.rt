@@ -1,11 +1,10 @@
 //! Another reference to a job's body.
 
-use crate::jobs::putting::{put_new, tube};
+use crate::jobs::putting::{put_in_room, tube};
 use bq_job::{JobId, JobState};
 use bq_jobs::NumberedJobs;
 use std::alloc::Global;
 use std::process::Abort;
-use std::test::Fail;
 
 // Returns true if there is a job with this id, and another reference to its body reads these bytes.
 fn reads(jobs: &mut NumberedJobs, id: JobId, bytes: &[u8]) -> bool {
@@ -16,21 +15,19 @@ fn reads(jobs: &mut NumberedJobs, id: JobId, bytes: &[u8]) -> bool {
 }
 
 // Only a body that is kept can be shared.
-fn share_bodies(rt: &impl Abort, jobs: &mut NumberedJobs) {
-    assert!(rt; reads(jobs, 7, b"abc"));
-    assert!(rt; jobs.share_body(8).is_none());
-    assert!(rt; jobs.remove(7).is_some());
-    assert!(rt; jobs.share_body(7).is_none());
+fn shares_bodies(jobs: &mut NumberedJobs) -> bool {
+    reads(jobs, 7, b"abc")
+        && jobs.share_body(8).is_none()
+        && jobs.remove(7).is_some()
+        && jobs.share_body(7).is_none()
 }
 
-fn put_and_share(rt: &impl Abort, alloc: Global, jobs: &mut NumberedJobs) -> Result<(), Fail> {
-    jobs.reserve_one(alloc)?;
-    assert!(rt; put_new(alloc, jobs, 7, tube(rt, "default"), 3, JobState::Ready)?);
-    share_bodies(rt, jobs);
-    Ok(())
+fn put_and_share(rt: &impl Abort, alloc: Global, jobs: &mut NumberedJobs) {
+    assert!(rt; put_in_room(alloc, jobs, 7, tube(rt, "default"), 3, JobState::Ready));
+    assert!(rt; shares_bodies(jobs));
 }
 
 #[test]
-fn bodies_are_shared(rt: HostRuntime) -> Result<(), Fail> {
-    put_and_share(&rt, rt.alloc(), &mut NumberedJobs::new())
+fn bodies_are_shared(rt: HostRuntime) {
+    put_and_share(&rt, rt.alloc(), &mut NumberedJobs::new());
 }

@@ -1,14 +1,13 @@
 //! The three boxes of a job. The allocation of any of them may fail, and they return to the heap
 //! after a peak.
 
-use crate::jobs::putting::{put_new, tube};
+use crate::jobs::putting::{has, put_in_room, put_new, tube};
 use bq_index::{BoxSource, NoMemory as Refused};
-use bq_job::{JobId, JobState, NoMemory, TubeName};
+use bq_job::{JobId, JobState, TubeName};
 use bq_jobs::NumberedJobs;
 use std::alloc::Global;
 use std::mem::size_of_val;
 use std::process::Abort;
-use std::test::Fail;
 
 /// A heap in which one of the allocations fails.
 #[derive(Drop)]
@@ -29,18 +28,13 @@ impl BoxSource for Refusing {
 }
 
 // Adds the jobs below an id, each with room that is reserved for it.
-fn fill(
-    rt: &impl Abort,
-    alloc: Global,
-    jobs: &mut NumberedJobs,
-    name: TubeName,
-    end: JobId,
-) -> Result<(), Fail> {
+fn fill(alloc: Global, jobs: &mut NumberedJobs, name: TubeName, end: JobId) -> bool {
     for id in 0..end {
-        jobs.reserve_one(alloc)?;
-        assert!(rt; put_new(alloc, jobs, id, name, 0, JobState::Ready)?);
+        if !put_in_room(alloc, jobs, id, name, 0, JobState::Ready) {
+            return false;
+        }
     }
-    Ok(())
+    true
 }
 
 // Removes the jobs with these ids, and returns true if each existed.
@@ -60,52 +54,47 @@ fn fails_at(jobs: &mut NumberedJobs, heap: Global, refused: usize) -> bool {
         asked: 0,
         refused,
     };
-    jobs.reserve_one_from(&mut source) == Err(NoMemory) && source.asked == refused
+    jobs.reserve_one_from(&mut source).is_err() && source.asked == refused
 }
 
-// Does the same while all allocations succeed. Returns their number, or `None` if the call fails.
-fn asked_for(jobs: &mut NumberedJobs, heap: Global) -> Option<usize> {
+// Does the same while all allocations succeed. Returns true if they are this many.
+fn asks_for(jobs: &mut NumberedJobs, heap: Global, count: usize) -> bool {
     let mut source = Refusing {
         heap,
         asked: 0,
         refused: 4,
     };
-    match jobs.reserve_one_from(&mut source) {
-        Ok(()) => Some(source.asked),
-        Err(_) => None,
-    }
+    jobs.reserve_one_from(&mut source).is_ok() && source.asked == count
 }
 
 /// Whichever box fails, the others are kept for the next call, which allocates the missing ones.
-fn refuse_one(
-    rt: &impl Abort,
+fn refuses_one(
     alloc: Global,
     jobs: &mut NumberedJobs,
     name: TubeName,
     refused: usize,
     left: usize,
-) -> Result<(), Fail> {
-    fill(rt, alloc, jobs, name, 1)?;
-    assert!(rt; fails_at(jobs, alloc, refused));
-    assert!(rt; (jobs.len(), jobs.room()) == (1, 0));
-    assert!(rt; jobs.first_ready(&name) == Some(0));
-    assert!(rt; asked_for(jobs, alloc) == Some(left));
-    assert!(rt; jobs.room() == 1);
-    assert!(rt; put_new(alloc, jobs, 1, name, 0, JobState::Ready)?);
-    Ok(())
+) -> bool {
+    fill(alloc, jobs, name, 1)
+        && fails_at(jobs, alloc, refused)
+        && has(jobs, 1, 0)
+        && matches!(jobs.first_ready(&name), Some(0))
+        && asks_for(jobs, alloc, left)
+        && jobs.room() == 1
+        && put_new(alloc, jobs, 1, name, 0, JobState::Ready)
 }
 
 // The same in a queue of its own.
-fn refuse_anew(rt: &impl Abort, alloc: Global, refused: usize, left: usize) -> Result<(), Fail> {
+fn refuse_anew(rt: &impl Abort, alloc: Global, refused: usize, left: usize) {
     let name = tube(rt, "default");
-    refuse_one(rt, alloc, &mut NumberedJobs::new(), name, refused, left)
+    assert!(rt; refuses_one(alloc, &mut NumberedJobs::new(), name, refused, left));
 }
 
 #[test]
-fn each_box_refused_in_turn(rt: HostRuntime) -> Result<(), Fail> {
-    refuse_anew(&rt, rt.alloc(), 1, 3)?;
-    refuse_anew(&rt, rt.alloc(), 2, 2)?;
-    refuse_anew(&rt, rt.alloc(), 3, 1)
+fn each_box_refused_in_turn(rt: HostRuntime) {
+    refuse_anew(&rt, rt.alloc(), 1, 3);
+    refuse_anew(&rt, rt.alloc(), 2, 2);
+    refuse_anew(&rt, rt.alloc(), 3, 1);
 }
 
 /// Returns all spare room to the heap, and reports for how many jobs that was.
@@ -118,48 +107,39 @@ fn give_back_all(jobs: &mut NumberedJobs) -> usize {
 }
 
 // Three of 200 jobs are left.
-fn leave_three(rt: &impl Abort, jobs: &mut NumberedJobs) {
+fn leaves_three(jobs: &mut NumberedJobs) -> bool {
     jobs.give_back();
-    assert!(rt; (jobs.len(), jobs.room()) == (200, 0));
-    assert!(rt; remove_all(jobs, 3, 200));
-    assert!(rt; (jobs.len(), jobs.room()) == (3, 197));
-    assert!(rt; (give_back_all(jobs), jobs.room()) == (194, 3));
+    if !has(jobs, 200, 0) || !remove_all(jobs, 3, 200) || !has(jobs, 3, 197) {
+        return false;
+    }
+    let is_given_back = give_back_all(jobs) == 194 && jobs.room() == 3;
     jobs.give_back();
-    assert!(rt; (jobs.len(), jobs.room()) == (3, 3));
+    is_given_back && has(jobs, 3, 3)
 }
 
 // Then none is left.
-fn leave_none(rt: &impl Abort, jobs: &mut NumberedJobs) {
-    assert!(rt; remove_all(jobs, 0, 3));
-    assert!(rt; give_back_all(jobs) == 6);
-    assert!(rt; (jobs.len(), jobs.room()) == (0, 0));
+fn leaves_none(jobs: &mut NumberedJobs) -> bool {
+    remove_all(jobs, 0, 3) && give_back_all(jobs) == 6 && has(jobs, 0, 0)
 }
 
 // A peak of 200 jobs, after which 3 are left and then none.
-fn peak_passes(
-    rt: &impl Abort,
-    alloc: Global,
-    jobs: &mut NumberedJobs,
-    name: TubeName,
-) -> Result<(), Fail> {
-    fill(rt, alloc, jobs, name, 200)?;
-    leave_three(rt, jobs);
-    leave_none(rt, jobs);
-    assert!(rt; asked_for(jobs, alloc) == Some(3));
-    assert!(rt; jobs.room() == 1);
-    Ok(())
+fn peak_passes(rt: &impl Abort, alloc: Global, jobs: &mut NumberedJobs, name: TubeName) {
+    assert!(rt; fill(alloc, jobs, name, 200));
+    assert!(rt; leaves_three(jobs));
+    assert!(rt; leaves_none(jobs));
+    assert!(rt; asks_for(jobs, alloc, 3) && jobs.room() == 1);
 }
 
 /// After a peak the room returns to the heap, three boxes for each job, except that of the jobs
 /// that exist.
 #[test]
-fn room_of_a_peak_given_back(rt: HostRuntime) -> Result<(), Fail> {
+fn room_of_a_peak_given_back(rt: HostRuntime) {
     peak_passes(
         &rt,
         rt.alloc(),
         &mut NumberedJobs::new(),
         tube(&rt, "default"),
-    )
+    );
 }
 
 /// A heap that records the sizes of its last three boxes.
@@ -177,18 +157,19 @@ impl BoxSource for Weighing {
     }
 }
 
+fn is_size(size: usize, most: usize) -> bool {
+    0 < size && size <= most
+}
+
 /// No box is larger than the first page of `bq_jobs` says: the place in the tube or at the holder,
 /// the place among delays and leases, and the box by id.
 #[test]
-fn bytes_of_a_job(rt: HostRuntime) -> Result<(), Fail> {
+fn bytes_of_a_job(rt: HostRuntime) {
     let mut source = Weighing {
         heap: rt.alloc(),
         sizes: [0; 3],
     };
-    NumberedJobs::new().reserve_one_from(&mut source)?;
+    assert!(rt; NumberedJobs::new().reserve_one_from(&mut source).is_ok());
     let [place, timer, record] = source.sizes;
-    assert!(rt; 0 < place && place <= 48);
-    assert!(rt; 0 < timer && timer <= 40);
-    assert!(rt; 0 < record && record <= 120);
-    Ok(())
+    assert!(rt; is_size(place, 48) && is_size(timer, 40) && is_size(record, 120));
 }

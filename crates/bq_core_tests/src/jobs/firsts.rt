@@ -1,11 +1,10 @@
 //! The first job of each kind, by hand.
 
-use crate::jobs::putting::{put_new, tube};
+use crate::jobs::putting::{put_in_room, tube};
 use bq_job::{JobId, JobState, Pri, Seat};
 use bq_jobs::NumberedJobs;
 use std::alloc::Global;
 use std::process::Abort;
-use std::test::Fail;
 
 pub(crate) const JOBS: &[(JobId, &str, Pri, JobState)] = &[
     (1, "ab", 0, JobState::Ready),
@@ -64,13 +63,11 @@ fn first_of(rt: &impl Abort, jobs: &mut NumberedJobs, kind: Kind) -> Option<JobI
 }
 
 // Adds the jobs of all rows.
-fn add_all(rt: &impl Abort, alloc: Global, jobs: &mut NumberedJobs) -> Result<(), Fail> {
+fn add_all(rt: &impl Abort, alloc: Global, jobs: &mut NumberedJobs) {
     for (id, name, pri, state) in JOBS {
-        jobs.reserve_one(alloc)?;
-        assert!(rt; put_new(alloc, jobs, *id, tube(rt, name), *pri, *state)?);
+        assert!(rt; put_in_room(alloc, jobs, *id, tube(rt, name), *pri, *state));
     }
     assert!(rt; jobs.len() == 16);
-    Ok(())
 }
 
 // Queries the first job of each kind.
@@ -83,13 +80,12 @@ fn look(rt: &impl Abort, jobs: &mut NumberedJobs) {
     }
 }
 
-fn add_and_look(rt: &impl Abort, alloc: Global, jobs: &mut NumberedJobs) -> Result<(), Fail> {
-    add_all(rt, alloc, jobs)?;
+fn add_and_look(rt: &impl Abort, alloc: Global, jobs: &mut NumberedJobs) {
+    add_all(rt, alloc, jobs);
     look(rt, jobs);
-    Ok(())
 }
 
 #[test]
-fn first_of_each_kind(rt: HostRuntime) -> Result<(), Fail> {
-    add_and_look(&rt, rt.alloc(), &mut NumberedJobs::new())
+fn first_of_each_kind(rt: HostRuntime) {
+    add_and_look(&rt, rt.alloc(), &mut NumberedJobs::new());
 }

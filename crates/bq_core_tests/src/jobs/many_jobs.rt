@@ -1,24 +1,21 @@
 //! More jobs than in any other test.
 
-use crate::jobs::putting::{put_new, tube};
-use bq_job::{JobState, NoMemory, TubeName};
+use crate::jobs::putting::{has, put_in_room, tube};
+use bq_job::{JobState, TubeName};
 use bq_jobs::NumberedJobs;
 use std::alloc::Global;
-use std::process::Abort;
-use std::test::Fail;
 
 const JOBS: u64 = 3_000;
 
 /// Adds all jobs, each more urgent than the previous one.
-fn fill(alloc: Global, jobs: &mut NumberedJobs, name: TubeName) -> Result<bool, NoMemory> {
+fn fill(alloc: Global, jobs: &mut NumberedJobs, name: TubeName) -> bool {
     for id in 0..JOBS {
         let pri = (JOBS - id) as u32;
-        jobs.reserve_one(alloc)?;
-        if !put_new(alloc, jobs, id, name, pri, JobState::Ready)? {
-            return Ok(false);
+        if !put_in_room(alloc, jobs, id, name, pri, JobState::Ready) {
+            return false;
         }
     }
-    Ok(true)
+    true
 }
 
 /// Removes all jobs in the order in which they would be handed out: the last one first.
@@ -35,21 +32,12 @@ fn empty(jobs: &mut NumberedJobs, name: &TubeName) -> bool {
     true
 }
 
-fn fill_and_empty(
-    rt: &impl Abort,
-    alloc: Global,
-    jobs: &mut NumberedJobs,
-    name: TubeName,
-) -> Result<(), Fail> {
-    assert!(rt; fill(alloc, jobs, name)?);
-    assert!(rt; (jobs.len(), jobs.room()) == (3_000, 0));
-    assert!(rt; empty(jobs, &name));
-    assert!(rt; (jobs.len(), jobs.room()) == (0, 3_000));
-    Ok(())
+fn fills_and_empties(alloc: Global, jobs: &mut NumberedJobs, name: TubeName) -> bool {
+    fill(alloc, jobs, name) && has(jobs, 3_000, 0) && empty(jobs, &name) && has(jobs, 0, 3_000)
 }
 
 #[test]
-fn three_thousand_jobs(rt: HostRuntime) -> Result<(), Fail> {
+fn three_thousand_jobs(rt: HostRuntime) {
     let name = tube(&rt, "default");
-    fill_and_empty(&rt, rt.alloc(), &mut NumberedJobs::new(), name)
+    assert!(rt; fills_and_empties(rt.alloc(), &mut NumberedJobs::new(), name));
 }

@@ -4,11 +4,10 @@
 use crate::jobs::boxes::Refusing;
 use crate::jobs::firsts::{FIRSTS, JOBS, Kind};
 use crate::jobs::putting::{job, tube};
-use bq_job::{Job, JobId, JobState, NoMemory, Pri, TubeName};
+use bq_job::{Job, JobId, JobState, Pri, TubeName};
 use bq_jobs::Jobs;
 use std::alloc::Global;
 use std::process::Abort;
-use std::test::Fail;
 
 // Adds a job if there is room and no job with its id.
 fn put(jobs: &mut Jobs, job: Job) -> bool {
@@ -30,27 +29,36 @@ fn first_of(rt: &impl Abort, jobs: &mut Jobs, kind: Kind) -> Option<JobId> {
     }
 }
 
-// Makes a job and adds it, as `put` does.
-fn put_new(
+// Returns true if there are this many jobs, and room for this many more.
+fn has(jobs: &Jobs, len: usize, room: usize) -> bool {
+    jobs.len() == len && jobs.room() == room
+}
+
+// Makes a job and adds it, as `put` does, in room that is reserved for it. Returns false if an
+// allocation fails.
+fn put_in_room(
     alloc: Global,
     jobs: &mut Jobs,
     id: JobId,
     tube: TubeName,
     pri: Pri,
     state: JobState,
-) -> Result<bool, NoMemory> {
-    let job = job(alloc, id, tube, pri, state)?;
-    Ok(put(jobs, job))
+) -> bool {
+    if jobs.reserve_one(alloc).is_err() {
+        return false;
+    }
+    match job(alloc, id, tube, pri, state) {
+        Ok(job) => put(jobs, job),
+        Err(_) => false,
+    }
 }
 
 // Adds the jobs of all rows.
-fn add_all(rt: &impl Abort, alloc: Global, jobs: &mut Jobs) -> Result<(), Fail> {
+fn add_all(rt: &impl Abort, alloc: Global, jobs: &mut Jobs) {
     for (id, name, pri, state) in JOBS {
-        jobs.reserve_one(alloc)?;
-        assert!(rt; put_new(alloc, jobs, *id, tube(rt, name), *pri, *state)?);
+        assert!(rt; put_in_room(alloc, jobs, *id, tube(rt, name), *pri, *state));
     }
     assert!(rt; jobs.len() == 16);
-    Ok(())
 }
 
 // Queries the first job of each kind, and counts the comparisons of that.
@@ -78,16 +86,15 @@ fn look_by_id(rt: &impl Abort, jobs: &mut Jobs) {
     assert!(rt; jobs.get(17).is_none());
 }
 
-fn add_and_look(rt: &impl Abort, alloc: Global, jobs: &mut Jobs) -> Result<(), Fail> {
-    add_all(rt, alloc, jobs)?;
+fn add_and_look(rt: &impl Abort, alloc: Global, jobs: &mut Jobs) {
+    add_all(rt, alloc, jobs);
     look(rt, jobs);
     look_by_id(rt, jobs);
-    Ok(())
 }
 
 #[test]
-fn first_of_each_kind_by_names(rt: HostRuntime) -> Result<(), Fail> {
-    add_and_look(&rt, rt.alloc(), &mut Jobs::new())
+fn first_of_each_kind_by_names(rt: HostRuntime) {
+    add_and_look(&rt, rt.alloc(), &mut Jobs::new());
 }
 
 // Removes a job, changes it and adds it again in the same room.
@@ -102,64 +109,61 @@ fn change(jobs: &mut Jobs, id: JobId, state: JobState) -> bool {
 }
 
 // Adds the job with id 1 to no others.
-fn put_one(rt: &impl Abort, alloc: Global, jobs: &mut Jobs, name: TubeName) -> Result<(), Fail> {
-    assert!(rt; (jobs.len(), jobs.room(), jobs.comparisons()) == (0, 0, 0));
-    jobs.reserve_one(alloc)?;
-    assert!(rt; put_new(alloc, jobs, 1, name, 3, JobState::Ready)?);
-    Ok(())
+fn puts_one(alloc: Global, jobs: &mut Jobs, name: TubeName) -> bool {
+    has(jobs, 0, 0)
+        && jobs.comparisons() == 0
+        && put_in_room(alloc, jobs, 1, name, 3, JobState::Ready)
 }
 
-fn change_one(rt: &impl Abort, jobs: &mut Jobs, name: &TubeName) {
-    assert!(rt; jobs.first_ready(name) == Some(1));
-    assert!(rt; change(jobs, 1, JobState::Reserved(4, 9)));
-    assert!(rt; jobs.first_ready(name).is_none() && jobs.first_held(4) == Some(1));
-    assert!(rt; change(jobs, 1, JobState::Buried(1)));
-    assert!(rt; jobs.first_held(4).is_none() && jobs.first_buried(name) == Some(1));
+fn changes_one(jobs: &mut Jobs, name: &TubeName) -> bool {
+    matches!(jobs.first_ready(name), Some(1))
+        && change(jobs, 1, JobState::Reserved(4, 9))
+        && jobs.first_ready(name).is_none()
+        && matches!(jobs.first_held(4), Some(1))
+        && change(jobs, 1, JobState::Buried(1))
+        && jobs.first_held(4).is_none()
+        && matches!(jobs.first_buried(name), Some(1))
 }
 
-fn remove_one(rt: &impl Abort, jobs: &mut Jobs) {
-    assert!(rt; (jobs.len(), jobs.room()) == (1, 0));
-    assert!(rt; jobs.remove(1).is_some());
-    assert!(rt; jobs.remove(1).is_none());
-    assert!(rt; (jobs.len(), jobs.room()) == (0, 1));
+fn removes_one(jobs: &mut Jobs) -> bool {
+    has(jobs, 1, 0) && jobs.remove(1).is_some() && jobs.remove(1).is_none() && has(jobs, 0, 1)
 }
 
-fn put_and_change(
-    rt: &impl Abort,
-    alloc: Global,
-    jobs: &mut Jobs,
-    name: TubeName,
-) -> Result<(), Fail> {
-    put_one(rt, alloc, jobs, name)?;
-    change_one(rt, jobs, &name);
-    remove_one(rt, jobs);
-    Ok(())
+fn put_and_change(rt: &impl Abort, alloc: Global, jobs: &mut Jobs, name: TubeName) {
+    assert!(rt; puts_one(alloc, jobs, name));
+    assert!(rt; changes_one(jobs, &name));
+    assert!(rt; removes_one(jobs));
 }
 
 #[test]
-fn job_changed_in_its_room(rt: HostRuntime) -> Result<(), Fail> {
+fn job_changed_in_its_room(rt: HostRuntime) {
     let name = tube(&rt, "default");
-    put_and_change(&rt, rt.alloc(), &mut Jobs::new(), name)
+    put_and_change(&rt, rt.alloc(), &mut Jobs::new(), name);
 }
 
 // Whichever of the three boxes of a job fails, the next call allocates the missing ones.
-fn refuse_one(rt: &impl Abort, alloc: Global, jobs: &mut Jobs, refused: usize, left: usize) {
+fn refuses_one(alloc: Global, jobs: &mut Jobs, refused: usize, left: usize) -> bool {
     let mut source = Refusing {
         heap: alloc,
         asked: 0,
         refused,
     };
-    assert!(rt; jobs.reserve_one_from(&mut source) == Err(NoMemory));
-    assert!(rt; (source.asked, jobs.len(), jobs.room()) == (refused, 0, 0));
+    if jobs.reserve_one_from(&mut source).is_ok() || source.asked != refused || !has(jobs, 0, 0) {
+        return false;
+    }
     source.asked = 0;
     source.refused = 4;
-    assert!(rt; jobs.reserve_one_from(&mut source).is_ok());
-    assert!(rt; (source.asked, jobs.room()) == (left, 1));
+    jobs.reserve_one_from(&mut source).is_ok() && source.asked == left && jobs.room() == 1
+}
+
+// The same for jobs of their own.
+fn refuses_anew(alloc: Global, refused: usize, left: usize) -> bool {
+    refuses_one(alloc, &mut Jobs::new(), refused, left)
 }
 
 #[test]
 fn each_box_of_a_named_job_refused(rt: HostRuntime) {
-    refuse_one(&rt, rt.alloc(), &mut Jobs::new(), 1, 3);
-    refuse_one(&rt, rt.alloc(), &mut Jobs::new(), 2, 2);
-    refuse_one(&rt, rt.alloc(), &mut Jobs::new(), 3, 1);
+    assert!(rt; refuses_anew(rt.alloc(), 1, 3));
+    assert!(rt; refuses_anew(rt.alloc(), 2, 2));
+    assert!(rt; refuses_anew(rt.alloc(), 3, 1));
 }

@@ -31,6 +31,11 @@ pub fn job(
     })
 }
 
+/// Returns true if there are this many jobs, and room for this many more.
+pub fn has(jobs: &NumberedJobs, len: usize, room: usize) -> bool {
+    jobs.len() == len && jobs.room() == room
+}
+
 /// Adds a job if there is room and no job with its id.
 pub fn put(alloc: Global, jobs: &mut NumberedJobs, job: Job) -> bool {
     if jobs.room() == 0 || jobs.get(job.id).is_some() || jobs.know(alloc, &job.tube).is_err() {
@@ -40,7 +45,7 @@ pub fn put(alloc: Global, jobs: &mut NumberedJobs, job: Job) -> bool {
     true
 }
 
-/// Makes a job and adds it, as `put` does.
+/// Makes a job and adds it, as `put` does. Returns false if an allocation fails.
 pub fn put_new(
     alloc: Global,
     jobs: &mut NumberedJobs,
@@ -48,9 +53,23 @@ pub fn put_new(
     tube: TubeName,
     pri: Pri,
     state: JobState,
-) -> Result<bool, NoMemory> {
-    let job = job(alloc, id, tube, pri, state)?;
-    Ok(put(alloc, jobs, job))
+) -> bool {
+    match job(alloc, id, tube, pri, state) {
+        Ok(job) => put(alloc, jobs, job),
+        Err(_) => false,
+    }
+}
+
+/// Does the same in room that is reserved for it.
+pub fn put_in_room(
+    alloc: Global,
+    jobs: &mut NumberedJobs,
+    id: JobId,
+    tube: TubeName,
+    pri: Pri,
+    state: JobState,
+) -> bool {
+    jobs.reserve_one(alloc).is_ok() && put_new(alloc, jobs, id, tube, pri, state)
 }
 
 /// Changes the state of a job by removing it and adding it again.

@@ -1,11 +1,10 @@
 //! A job that goes from state to state in the room of one job.
 
-use crate::jobs::putting::{change, put_new, tube};
+use crate::jobs::putting::{change, has, put_in_room, put_new, tube};
 use bq_job::{JobState, TubeName};
 use bq_jobs::{NumberedJobs, Removed};
 use std::alloc::Global;
 use std::process::Abort;
-use std::test::Fail;
 
 /// States of a job, and the kinds that it then belongs to: ready, delayed, buried, due, a lease,
 /// held.
@@ -37,78 +36,67 @@ fn kinds_with_jobs(jobs: &mut NumberedJobs, name: &TubeName) -> [bool; 6] {
     ]
 }
 
-// Changes the job with id 1, and checks that only its new kinds have it.
-fn go_to(
-    rt: &impl Abort,
+// Returns true if the job with id 1 has this state, and is in this tube.
+fn is_so(jobs: &mut NumberedJobs, name: &TubeName, state: JobState) -> bool {
+    let has_state = match jobs.get(1) {
+        Some(job) => job.state() == state,
+        None => false,
+    };
+    let is_there = match jobs.tube_of(1) {
+        Some(tube) => tube == *name,
+        None => false,
+    };
+    has_state && is_there
+}
+
+// Changes the job with id 1, and returns true if only its new kinds have it.
+fn goes_to(
     alloc: Global,
     jobs: &mut NumberedJobs,
     name: &TubeName,
     state: JobState,
     kinds: &[bool; 6],
-) {
+) -> bool {
     let before = jobs.comparisons();
-    assert!(rt; change(alloc, jobs, 1, state));
-    assert!(rt; jobs.comparisons() > before);
-    assert!(rt; (jobs.len(), jobs.room()) == (1, 0));
-    assert!(rt; jobs.get(1).map(|job| job.state()) == Some(state));
-    assert!(rt; kinds_with_jobs(jobs, name) == *kinds);
-    assert!(rt; jobs.tube_of(1) == Some(*name));
+    change(alloc, jobs, 1, state)
+        && jobs.comparisons() > before
+        && has(jobs, 1, 0)
+        && is_so(jobs, name, state)
+        && kinds_with_jobs(jobs, name) == *kinds
 }
 
 // Adds the job with id 1 in the room of one job, which is reserved twice.
-fn put_one(
-    rt: &impl Abort,
-    alloc: Global,
-    jobs: &mut NumberedJobs,
-    name: TubeName,
-) -> Result<(), Fail> {
-    assert!(rt; (jobs.len(), jobs.room(), jobs.comparisons()) == (0, 0, 0));
-    jobs.reserve_one(alloc)?;
-    jobs.reserve_one(alloc)?;
-    assert!(rt; jobs.room() == 1);
-    assert!(rt; put_new(alloc, jobs, 1, name, 3, JobState::Ready)?);
-    Ok(())
+fn puts_one(alloc: Global, jobs: &mut NumberedJobs, name: TubeName) -> bool {
+    has(jobs, 0, 0)
+        && jobs.comparisons() == 0
+        && jobs.reserve_one(alloc).is_ok()
+        && jobs.reserve_one(alloc).is_ok()
+        && jobs.room() == 1
+        && put_new(alloc, jobs, 1, name, 3, JobState::Ready)
 }
 
-fn remove_one(rt: &impl Abort, jobs: &mut NumberedJobs) {
-    assert!(rt; jobs.remove(1).is_some());
-    assert!(rt; jobs.remove(1).is_none());
-    assert!(rt; (jobs.len(), jobs.room()) == (0, 1));
+fn removes_one(jobs: &mut NumberedJobs) -> bool {
+    jobs.remove(1).is_some() && jobs.remove(1).is_none() && has(jobs, 0, 1)
 }
 
-fn go_through_states(
-    rt: &impl Abort,
-    alloc: Global,
-    jobs: &mut NumberedJobs,
-    name: &TubeName,
-) -> Result<(), Fail> {
-    put_one(rt, alloc, jobs, *name)?;
+fn go_through_states(rt: &impl Abort, alloc: Global, jobs: &mut NumberedJobs, name: &TubeName) {
+    assert!(rt; puts_one(alloc, jobs, *name));
     for (state, kinds) in STATES {
-        go_to(rt, alloc, jobs, name, *state, kinds);
+        assert!(rt; goes_to(alloc, jobs, name, *state, kinds));
     }
-    remove_one(rt, jobs);
-    Ok(())
+    assert!(rt; removes_one(jobs));
 }
 
 #[test]
-fn all_states_in_one_room(rt: HostRuntime) -> Result<(), Fail> {
+fn all_states_in_one_room(rt: HostRuntime) {
     let name = tube(&rt, "default");
-    go_through_states(&rt, rt.alloc(), &mut NumberedJobs::new(), &name)
+    go_through_states(&rt, rt.alloc(), &mut NumberedJobs::new(), &name);
 }
 
 // Adds a ready job to the first tube and a delayed one to the second.
-fn put_two(
-    rt: &impl Abort,
-    alloc: Global,
-    jobs: &mut NumberedJobs,
-    first: TubeName,
-    second: TubeName,
-) -> Result<(), Fail> {
-    jobs.reserve_one(alloc)?;
-    assert!(rt; put_new(alloc, jobs, 1, first, 3, JobState::Ready)?);
-    jobs.reserve_one(alloc)?;
-    assert!(rt; put_new(alloc, jobs, 2, second, 7, JobState::Delayed(8))?);
-    Ok(())
+fn puts_two(alloc: Global, jobs: &mut NumberedJobs, first: TubeName, second: TubeName) -> bool {
+    put_in_room(alloc, jobs, 1, first, 3, JobState::Ready)
+        && put_in_room(alloc, jobs, 2, second, 7, JobState::Delayed(8))
 }
 
 // Returns true if that is the delayed job, of this tube.
@@ -119,23 +107,23 @@ fn is_delayed(removed: Option<Removed>, tube: TubeName) -> bool {
     }
 }
 
-fn discard_one(rt: &impl Abort, jobs: &mut NumberedJobs, first: &TubeName, second: &TubeName) {
-    assert!(rt; jobs.discard(3).is_none());
-    assert!(rt; is_delayed(jobs.discard(2), *second));
-    assert!(rt; jobs.discard(2).is_none());
-    assert!(rt; (jobs.len(), jobs.room()) == (1, 1));
-    assert!(rt; jobs.first_due().is_none() && jobs.first_delayed(second).is_none());
-    assert!(rt; jobs.first_ready(first) == Some(1));
+fn discards_one(jobs: &mut NumberedJobs, first: &TubeName, second: &TubeName) -> bool {
+    jobs.discard(3).is_none()
+        && is_delayed(jobs.discard(2), *second)
+        && jobs.discard(2).is_none()
+        && has(jobs, 1, 1)
+        && jobs.first_due().is_none()
+        && jobs.first_delayed(second).is_none()
+        && matches!(jobs.first_ready(first), Some(1))
 }
 
-fn put_and_discard(rt: &impl Abort, alloc: Global, jobs: &mut NumberedJobs) -> Result<(), Fail> {
+fn put_and_discard(rt: &impl Abort, alloc: Global, jobs: &mut NumberedJobs) {
     let (first, second) = (tube(rt, "first"), tube(rt, "second"));
-    put_two(rt, alloc, jobs, first, second)?;
-    discard_one(rt, jobs, &first, &second);
-    Ok(())
+    assert!(rt; puts_two(alloc, jobs, first, second));
+    assert!(rt; discards_one(jobs, &first, &second));
 }
 
 #[test]
-fn discarded_job_leaves_its_room(rt: HostRuntime) -> Result<(), Fail> {
-    put_and_discard(&rt, rt.alloc(), &mut NumberedJobs::new())
+fn discarded_job_leaves_its_room(rt: HostRuntime) {
+    put_and_discard(&rt, rt.alloc(), &mut NumberedJobs::new());
 }

@@ -1,10 +1,9 @@
 //! Complete texts, written by hand.
 use crate::bench::config;
-use crate::play::{Script, play, play_with};
+use crate::play::{Scripts, play, play_with};
 use std::test::Fail;
 
-static FIRST_TEXTS: &[Script] = &[
-    "# first texts
+static FIRST_TEXTS: Scripts = "# first texts
     0 0 list-tubes | 0 OK 14~---/- default/
     0 0 list-tubes-watched | 0 OK 14~---/- default/
     0 0 stats-tube default | 0 OK 265~---/name: default/current-jobs-urgent: 0/current-jobs-ready: 0/\
@@ -15,12 +14,14 @@ static FIRST_TEXTS: &[Script] = &[
     current-jobs-delayed: 0/current-jobs-buried: 0/job-timeouts: 0/total-jobs: 0/max-job-size: 65535/\
     current-tubes: 1/current-connections: 1/current-waiting: 0/total-connections: 1/draining: false/
     0 0 stats-job 1 | 0 NOT_FOUND
-    0 0 stats-tube t | 0 NOT_FOUND",
-    "# job statistics
+    0 0 stats-tube t | 0 NOT_FOUND
+
+    # job statistics
     0 0 put 0 0 1 1~a | 0 INSERTED 1
     0 0 stats-job 1 | 0 OK 135~---/id: 1/tube: default/state: ready/pri: 0/age: 0/delay: 0/ttr: 1/\
-    time-left: 0/reserves: 0/timeouts: 0/releases: 0/buries: 0/kicks: 0/",
-    "# tube statistics
+    time-left: 0/reserves: 0/timeouts: 0/releases: 0/buries: 0/kicks: 0/
+
+    # tube statistics
     0 0 put 1023 0 9 1~x | 0 INSERTED 1
     0 0 put 1024 0 9 1~y | 0 INSERTED 2
     0 0 reserve | 0 RESERVED 1 1~x
@@ -28,8 +29,9 @@ static FIRST_TEXTS: &[Script] = &[
     0 0 stats-tube default | 0 OK 265~---/name: default/current-jobs-urgent: 0/current-jobs-ready: 1/\
     current-jobs-reserved: 0/current-jobs-delayed: 0/current-jobs-buried: 0/total-jobs: 2/\
     current-using: 1/current-watching: 1/current-waiting: 0/cmd-delete: 1/cmd-pause-tube: 0/pause: 0/\
-    pause-time-left: 0/",
-    "# tube counts from zero
+    pause-time-left: 0/
+
+    # tube counts from zero
     0 0 use t | 0 USING t
     0 0 put 0 0 9 0~ | 0 INSERTED 1
     0 0 use default | 0 USING default
@@ -40,12 +42,10 @@ static FIRST_TEXTS: &[Script] = &[
     0 0 stats-tube t | 0 OK 259~---/name: t/current-jobs-urgent: 1/current-jobs-ready: 1/\
     current-jobs-reserved: 0/current-jobs-delayed: 0/current-jobs-buried: 0/total-jobs: 1/\
     current-using: 1/current-watching: 0/current-waiting: 0/cmd-delete: 0/cmd-pause-tube: 0/pause: 0/\
-    pause-time-left: 0/",
-];
+    pause-time-left: 0/";
 
-static EACH_NUMBER: &[Script] = &[
-    // No number is 0, and each differs from its neighbours.
-    "# each number
+// No number is 0, and each differs from its neighbours.
+static EACH_NUMBER: Scripts = "# each number
     0 0 use t | 0 USING t
     0 1 watch t | 1 WATCHING 2
     0 1 ignore default | 1 WATCHING 1
@@ -89,8 +89,9 @@ static EACH_NUMBER: &[Script] = &[
     pause-time-left: 59/
     1500 3 stats | 3 OK 264~---/current-jobs-urgent: 2/current-jobs-ready: 4/current-jobs-reserved: 2/\
     current-jobs-delayed: 4/current-jobs-buried: 1/job-timeouts: 2/total-jobs: 13/max-job-size: 10/\
-    current-tubes: 2/current-connections: 4/current-waiting: 1/total-connections: 5/draining: true/",
-    "# each count of a job
+    current-tubes: 2/current-connections: 4/current-waiting: 1/total-connections: 5/draining: true/
+
+    # each count of a job
     0 0 put 3 0 2 1~x | 0 INSERTED 1
     0 0 reserve | 0 RESERVED 1 1~x
     0 0 release 1 3 0 | 0 RELEASED
@@ -111,8 +112,7 @@ static EACH_NUMBER: &[Script] = &[
     2000 0 kick-job 1 | 0 KICKED
     2000 0 reserve | 0 RESERVED 1 1~x
     2999 1 stats-job 1 | 1 OK 138~---/id: 1/tube: default/state: reserved/pri: 6/age: 2/delay: 7/\
-    ttr: 2/time-left: 1/reserves: 7/timeouts: 1/releases: 2/buries: 3/kicks: 4/",
-];
+    ttr: 2/time-left: 1/reserves: 7/timeouts: 1/releases: 2/buries: 3/kicks: 4/";
 
 #[test]
 fn whole_texts(rt: HostRuntime) -> Result<(), Fail> {

@@ -4,8 +4,6 @@ use super::putting::put;
 use bq_index::{BoxSource, NoMemory, Shelf};
 use std::alloc::Global;
 use std::mem::size_of_val;
-use std::process::Abort;
-use std::test::Fail;
 
 /// A heap in which one of the allocations fails.
 #[derive(Drop)]
@@ -29,31 +27,31 @@ impl BoxSource for Refusing {
 /// are spare.
 const REFUSALS: &[(usize, usize, usize)] = &[(4, 3, 3), (1, 1, 0), (2, 2, 1), (3, 3, 2)];
 
-fn reserve_three(
-    rt: &impl Abort,
+fn reserves_three(
     heap: Global,
     shelf: &mut Shelf<u64, u64>,
     refused: usize,
     asked: usize,
     spare: usize,
-) {
+) -> bool {
     let mut source = Refusing {
         heap,
         asked: 0,
         refused,
     };
-    let made = shelf.reserve_from(&mut source, 3);
-    assert!(rt; made.is_ok() == (spare == 3));
-    assert!(rt; (source.asked, shelf.spare()) == (asked, spare));
+    let is_made = shelf.reserve_from(&mut source, 3).is_ok();
     // Spare boxes are not requested again.
-    assert!(rt; shelf.reserve_from(&mut source, spare).is_ok());
-    assert!(rt; source.asked == asked);
+    is_made == (spare == 3)
+        && source.asked == asked
+        && shelf.spare() == spare
+        && shelf.reserve_from(&mut source, spare).is_ok()
+        && source.asked == asked
 }
 
 #[test]
 fn boxes_one_by_one(rt: HostRuntime) {
     for (refused, asked, spare) in REFUSALS {
-        reserve_three(&rt, rt.alloc(), &mut Shelf::new(), *refused, *asked, *spare);
+        assert!(rt; reserves_three(rt.alloc(), &mut Shelf::new(), *refused, *asked, *spare));
     }
 }
 
@@ -61,9 +59,9 @@ fn boxes_one_by_one(rt: HostRuntime) {
 #[test]
 fn boxes_of_the_heap(rt: HostRuntime) {
     let mut shelf: Shelf<u64, u64> = Shelf::new();
-    let made = shelf.reserve(rt.alloc(), 3);
+    let is_made = shelf.reserve(rt.alloc(), 3).is_ok();
     let spare = shelf.spare();
-    assert!(rt; made == Ok(()) && spare == 3 || made == Err(NoMemory) && spare < 3);
+    assert!(rt; is_made && spare == 3 || !is_made && spare < 3);
 }
 
 /// A heap that records the size of its last box.
@@ -98,40 +96,41 @@ fn bytes_of_an_entry(heap: Global) -> Result<usize, NoMemory> {
 
 /// A box has 24 bytes besides its key and its value.
 #[test]
-fn bytes_of_a_box(rt: HostRuntime) -> Result<(), Fail> {
-    assert!(rt; bytes_of_a_key(rt.alloc())? == 32);
-    assert!(rt; bytes_of_an_entry(rt.alloc())? == 48);
-    Ok(())
+fn bytes_of_a_box(rt: HostRuntime) {
+    assert!(rt; matches!(bytes_of_a_key(rt.alloc()), Ok(32)));
+    assert!(rt; matches!(bytes_of_an_entry(rt.alloc()), Ok(48)));
 }
 
 // Two of three spare boxes are used, and one is returned.
-fn give_one_back(rt: &impl Abort, shelf: &mut Shelf<u64, u64>) {
-    assert!(rt; put(shelf, 7, 70));
+fn gives_one_back(shelf: &mut Shelf<u64, u64>) -> bool {
+    if !put(shelf, 7, 70) {
+        return false;
+    }
     shelf.give_back();
-    assert!(rt; (shelf.spare(), shelf.len()) == (1, 1) && shelf.get(&7) == Some(&70));
-    assert!(rt; put(shelf, 8, 80));
-    assert!(rt; !put(shelf, 9, 90));
+    let is_used = shelf.spare() == 1
+        && shelf.len() == 1
+        && matches!(shelf.get(&7), Some(70))
+        && put(shelf, 8, 80)
+        && !put(shelf, 9, 90);
     shelf.give_back();
-    assert!(rt; (shelf.spare(), shelf.len()) == (0, 2));
+    is_used && shelf.spare() == 0 && shelf.len() == 2
 }
 
 /// A box that is returned to the heap is no longer available for an insertion. If none is spare,
 /// none is returned.
 #[test]
-fn one_box_given_back(rt: HostRuntime) -> Result<(), Fail> {
+fn one_box_given_back(rt: HostRuntime) {
     let mut shelf = Shelf::new();
-    shelf.reserve(rt.alloc(), 3)?;
-    give_one_back(&rt, &mut shelf);
-    Ok(())
+    assert!(rt; shelf.reserve(rt.alloc(), 3).is_ok());
+    assert!(rt; gives_one_back(&mut shelf));
 }
 
 /// A chain of spare boxes that is far longer than the stack is deep is freed, one box after
 /// another.
 #[test]
-fn a_million_spare_boxes(rt: HostRuntime) -> Result<(), Fail> {
+fn a_million_spare_boxes(rt: HostRuntime) {
     let mut shelf: Shelf<u64, u64> = Shelf::new();
-    shelf.reserve(rt.alloc(), 1_000_000)?;
+    assert!(rt; shelf.reserve(rt.alloc(), 1_000_000).is_ok());
     assert!(rt; shelf.spare() == 1_000_000);
     drop(shelf);
-    Ok(())
 }

@@ -3,57 +3,48 @@
 use super::putting::put;
 use bq_index::{NoMemory, Shelf};
 use std::alloc::Global;
-use std::process::Abort;
-use std::test::Fail;
 
-fn room(shelf: &Shelf<u64, char>) -> (usize, usize) {
-    (shelf.len(), shelf.spare())
+fn has(shelf: &Shelf<u64, char>, len: usize, spare: usize) -> bool {
+    shelf.len() == len && shelf.spare() == spare
 }
 
-fn next(shelf: &mut Shelf<u64, char>, key: u64) -> Option<(u64, char)> {
-    shelf.next_from(&key).map(|(key, value)| (*key, *value))
+fn puts_two(shelf: &mut Shelf<u64, char>) -> bool {
+    has(shelf, 0, 2) && put(shelf, 5, 'a') && put(shelf, 3, 'b') && has(shelf, 2, 0)
 }
 
-fn put_two(rt: &impl Abort, shelf: &mut Shelf<u64, char>) {
-    assert!(rt; room(shelf) == (0, 2));
-    assert!(rt; put(shelf, 5, 'a'));
-    assert!(rt; put(shelf, 3, 'b'));
-    assert!(rt; room(shelf) == (2, 0));
+fn looks_on(shelf: &mut Shelf<u64, char>) -> bool {
+    matches!(shelf.next_from(&4), Some((5, 'a')))
+        && matches!(shelf.next_from(&3), Some((3, 'b')))
+        && shelf.next_from(&6).is_none()
 }
 
-fn look_on(rt: &impl Abort, shelf: &mut Shelf<u64, char>) {
-    assert!(rt; next(shelf, 4) == Some((5, 'a')));
-    assert!(rt; next(shelf, 3) == Some((3, 'b')));
-    assert!(rt; next(shelf, 6).is_none());
+fn takes_out(shelf: &mut Shelf<u64, char>) -> bool {
+    shelf.remove(&4).is_none()
+        && has(shelf, 2, 0)
+        && matches!(shelf.remove(&3), Some('b'))
+        && has(shelf, 1, 1)
 }
 
-fn take_out(rt: &impl Abort, shelf: &mut Shelf<u64, char>) {
-    assert!(rt; shelf.remove(&4).is_none() && room(shelf) == (2, 0));
-    assert!(rt; shelf.remove(&3) == Some('b'));
-    assert!(rt; room(shelf) == (1, 1));
-}
-
-fn write_over(rt: &impl Abort, shelf: &mut Shelf<u64, char>) {
+fn writes_over(shelf: &mut Shelf<u64, char>) -> bool {
     if let Some(value) = shelf.get_mut(&5) {
         *value = 'c';
     }
-    assert!(rt; shelf.get(&5) == Some(&'c'));
-    assert!(rt; shelf.get(&3).is_none());
+    matches!(shelf.get(&5), Some('c')) && shelf.get(&3).is_none()
 }
 
-fn use_shelf(rt: &impl Abort, alloc: Global, shelf: &mut Shelf<u64, char>) -> Result<(), Fail> {
-    assert!(rt; room(shelf) == (0, 0) && shelf.comparisons() == 0);
-    shelf.reserve(alloc, 2)?;
-    put_two(rt, shelf);
-    look_on(rt, shelf);
-    take_out(rt, shelf);
-    write_over(rt, shelf);
-    Ok(())
+fn works(alloc: Global, shelf: &mut Shelf<u64, char>) -> bool {
+    has(shelf, 0, 0)
+        && shelf.comparisons() == 0
+        && shelf.reserve(alloc, 2).is_ok()
+        && puts_two(shelf)
+        && looks_on(shelf)
+        && takes_out(shelf)
+        && writes_over(shelf)
 }
 
 #[test]
-fn shelf_by_hand(rt: HostRuntime) -> Result<(), Fail> {
-    use_shelf(&rt, rt.alloc(), &mut Shelf::new())
+fn shelf_by_hand(rt: HostRuntime) {
+    assert!(rt; works(rt.alloc(), &mut Shelf::new()));
 }
 
 #[test]

@@ -2,9 +2,8 @@
 
 use super::putting::put;
 use bq_index::{Catalog, Edit, Shelf};
+use std::alloc::Global;
 use std::mem;
-use std::process::Abort;
-use std::test::Fail;
 
 /// Puts a number in place of another one, and returns that one.
 #[derive(Drop)]
@@ -33,12 +32,27 @@ fn fill_catalog(catalog: &mut Catalog<u64, u64>) {
     }
 }
 
-fn values_of(shelf: &mut Shelf<u64, u64>) -> [u64; 3] {
-    [2, 4, 6].map(|key| shelf.get(&key).copied().unwrap_or(0))
+fn is_at(shelf: &mut Shelf<u64, u64>, key: u64, value: u64) -> bool {
+    match shelf.get(&key) {
+        Some(found) => *found == value,
+        None => false,
+    }
 }
 
-fn listed(catalog: &Catalog<u64, u64>) -> [u64; 3] {
-    [2, 4, 6].map(|key| catalog.peek(&key).copied().unwrap_or(0))
+/// Returns true if the values at the three keys are these.
+fn has(shelf: &mut Shelf<u64, u64>, two: u64, four: u64, six: u64) -> bool {
+    is_at(shelf, 2, two) && is_at(shelf, 4, four) && is_at(shelf, 6, six)
+}
+
+fn is_listed(catalog: &Catalog<u64, u64>, key: u64, value: u64) -> bool {
+    match catalog.peek(&key) {
+        Some(found) => *found == value,
+        None => false,
+    }
+}
+
+fn lists(catalog: &Catalog<u64, u64>, two: u64, four: u64, six: u64) -> bool {
+    is_listed(catalog, 2, two) && is_listed(catalog, 4, four) && is_listed(catalog, 6, six)
 }
 
 /// Returns what an edit told, and how many keys it compared.
@@ -48,51 +62,70 @@ fn edit_counted(shelf: &mut Shelf<u64, u64>, key: u64, value: u64) -> (Option<u6
     (told, shelf.comparisons().saturating_sub(before))
 }
 
-fn edit_each_key(rt: &impl Abort, shelf: &mut Shelf<u64, u64>) {
-    assert!(rt; edit_counted(shelf, 4, 41) == (Some(40), 1));
-    assert!(rt; values_of(shelf) == [20, 41, 60]);
-    assert!(rt; edit_counted(shelf, 2, 21) == (Some(20), 2));
-    assert!(rt; values_of(shelf) == [21, 41, 60]);
-    assert!(rt; edit_counted(shelf, 6, 61) == (Some(60), 2));
-    assert!(rt; values_of(shelf) == [21, 41, 61]);
+// Returns true if the edit at this key puts a number in place of another one, and compares this many
+// keys.
+fn replaces(shelf: &mut Shelf<u64, u64>, key: u64, new: u64, old: u64, compared: u64) -> bool {
+    matches!(edit_counted(shelf, key, new), (Some(told), made) if told == old && made == compared)
 }
 
-fn edit_other_keys(rt: &impl Abort, shelf: &mut Shelf<u64, u64>) {
-    for key in [1, 3, 5, 7] {
-        assert!(rt; edit_counted(shelf, key, 9) == (None, 2));
-        assert!(rt; shelf.get(&key).is_none());
+fn edits_each_key(shelf: &mut Shelf<u64, u64>) -> bool {
+    replaces(shelf, 4, 41, 40, 1)
+        && has(shelf, 20, 41, 60)
+        && replaces(shelf, 2, 21, 20, 2)
+        && has(shelf, 21, 41, 60)
+        && replaces(shelf, 6, 61, 60, 2)
+        && has(shelf, 21, 41, 61)
+}
+
+// Returns true if an edit at this key changes nothing, and compares this many keys.
+fn changes_none(shelf: &mut Shelf<u64, u64>, key: u64, compared: u64) -> bool {
+    matches!(edit_counted(shelf, key, 9), (None, made) if made == compared)
+        && shelf.get(&key).is_none()
+}
+
+fn edits_no_other_key(shelf: &mut Shelf<u64, u64>) -> bool {
+    changes_none(shelf, 1, 2)
+        && changes_none(shelf, 3, 2)
+        && changes_none(shelf, 5, 2)
+        && changes_none(shelf, 7, 2)
+        && has(shelf, 21, 41, 61)
+        && shelf.len() == 3
+        && shelf.spare() == 1
+}
+
+fn edits_shelf(alloc: Global, shelf: &mut Shelf<u64, u64>) -> bool {
+    shelf.reserve(alloc, 4).is_ok()
+        && changes_none(shelf, 4, 0)
+        && fill_shelf(shelf)
+        && edits_each_key(shelf)
+        && edits_no_other_key(shelf)
+}
+
+#[test]
+fn edits_of_a_shelf(rt: HostRuntime) {
+    assert!(rt; edits_shelf(rt.alloc(), &mut Shelf::new()));
+}
+
+fn edits_catalog(catalog: &mut Catalog<u64, u64>) -> bool {
+    matches!(catalog.edit(&4, &Replaced(41)), Some(40))
+        && lists(catalog, 20, 41, 60)
+        && matches!(catalog.edit(&6, &Replaced(61)), Some(60))
+        && catalog.edit(&5, &Replaced(9)).is_none()
+        && lists(catalog, 20, 41, 61)
+        && catalog.peek(&5).is_none()
+        && catalog.len() == 3
+        && catalog.spare() == 1
+}
+
+fn fills_and_edits(alloc: Global, catalog: &mut Catalog<u64, u64>) -> bool {
+    if catalog.reserve(alloc, 4).is_err() || catalog.edit(&4, &Replaced(9)).is_some() {
+        return false;
     }
-    assert!(rt; values_of(shelf) == [21, 41, 61]);
-    assert!(rt; (shelf.len(), shelf.spare()) == (3, 1));
+    fill_catalog(catalog);
+    edits_catalog(catalog)
 }
 
 #[test]
-fn edits_of_a_shelf(rt: HostRuntime) -> Result<(), Fail> {
-    let mut shelf = Shelf::new();
-    shelf.reserve(rt.alloc(), 4)?;
-    assert!(rt; edit_counted(&mut shelf, 4, 9) == (None, 0));
-    assert!(rt; fill_shelf(&mut shelf));
-    edit_each_key(&rt, &mut shelf);
-    edit_other_keys(&rt, &mut shelf);
-    Ok(())
-}
-
-fn edit_catalog(rt: &impl Abort, catalog: &mut Catalog<u64, u64>) {
-    assert!(rt; catalog.edit(&4, &Replaced(41)) == Some(40));
-    assert!(rt; listed(catalog) == [20, 41, 60]);
-    assert!(rt; catalog.edit(&6, &Replaced(61)) == Some(60));
-    assert!(rt; catalog.edit(&5, &Replaced(9)).is_none());
-    assert!(rt; listed(catalog) == [20, 41, 61]);
-    assert!(rt; catalog.peek(&5).is_none());
-    assert!(rt; (catalog.len(), catalog.spare()) == (3, 1));
-}
-
-#[test]
-fn edits_of_a_catalog(rt: HostRuntime) -> Result<(), Fail> {
-    let mut catalog = Catalog::new();
-    catalog.reserve(rt.alloc(), 4)?;
-    assert!(rt; catalog.edit(&4, &Replaced(9)).is_none());
-    fill_catalog(&mut catalog);
-    edit_catalog(&rt, &mut catalog);
-    Ok(())
+fn edits_of_a_catalog(rt: HostRuntime) {
+    assert!(rt; fills_and_edits(rt.alloc(), &mut Catalog::new()));
 }

@@ -3,8 +3,6 @@
 use super::putting::put;
 use bq_index::Shelf;
 use std::alloc::Global;
-use std::process::Abort;
-use std::test::Fail;
 
 const ENTRIES: u64 = 30_011;
 
@@ -42,18 +40,19 @@ fn empty(shelf: &mut Shelf<u64, u64>) -> bool {
     true
 }
 
-fn fill_and_empty(rt: &impl Abort, alloc: Global, shelf: &mut Shelf<u64, u64>) -> Result<(), Fail> {
-    shelf.reserve(alloc, 30_011)?;
-    assert!(rt; fill(shelf));
-    assert!(rt; (shelf.len(), shelf.spare()) == (30_011, 0));
-    shelf.reserve(alloc, 2)?;
-    assert!(rt; is_full(shelf));
-    assert!(rt; empty(shelf));
-    assert!(rt; (shelf.len(), shelf.spare()) == (0, 30_013));
-    Ok(())
+fn fills_and_empties(alloc: Global, shelf: &mut Shelf<u64, u64>) -> bool {
+    shelf.reserve(alloc, 30_011).is_ok()
+        && fill(shelf)
+        && shelf.len() == 30_011
+        && shelf.spare() == 0
+        && shelf.reserve(alloc, 2).is_ok()
+        && is_full(shelf)
+        && empty(shelf)
+        && shelf.len() == 0
+        && shelf.spare() == 30_013
 }
 
 #[test]
-fn thirty_thousand_entries(rt: HostRuntime) -> Result<(), Fail> {
-    fill_and_empty(&rt, rt.alloc(), &mut Shelf::new())
+fn thirty_thousand_entries(rt: HostRuntime) {
+    assert!(rt; fills_and_empties(rt.alloc(), &mut Shelf::new()));
 }
