@@ -16,47 +16,65 @@ fn text_of(alloc: Global, answer: &Answer) -> Result<Vec<u8>, AllocError> {
 }
 
 // Returns true if that is the text of the answer.
-fn is_text(alloc: Global, answer: Answer, want: &str) -> Result<bool, AllocError> {
-    Ok(text_of(alloc, &answer)?.as_slice() == want.as_bytes())
+fn is_text(alloc: Global, answer: &Answer, want: &str) -> bool {
+    match text_of(alloc, answer) {
+        Ok(text) => text.as_slice() == want.as_bytes(),
+        Err(_) => false,
+    }
+}
+
+fn are_numbers(alloc: Global) -> bool {
+    is_text(alloc, &Answer::Inserted(20), "INSERTED 20\r\n")
+        && is_text(alloc, &Answer::Watching(2), "WATCHING 2\r\n")
+        && is_text(alloc, &Answer::KickedCount(0), "KICKED 0\r\n")
 }
 
 #[test]
-fn answers_with_a_number(rt: HostRuntime) -> Result<(), Fail> {
-    let alloc = rt.alloc();
-    assert!(rt; is_text(alloc, Answer::Inserted(20), "INSERTED 20\r\n")?);
-    assert!(rt; is_text(alloc, Answer::Watching(2), "WATCHING 2\r\n")?);
-    assert!(rt; is_text(alloc, Answer::KickedCount(0), "KICKED 0\r\n")?);
-    Ok(())
+fn answers_with_a_number(rt: HostRuntime) {
+    assert!(rt; are_numbers(rt.alloc()));
 }
 
-fn is_reserved(alloc: Global, id: JobId, bytes: &[u8], want: &str) -> Result<bool, Fail> {
-    let body = Body::new(alloc, bytes)?;
-    Ok(is_text(alloc, Answer::Reserved(id, body), want)?)
+fn is_reserved(alloc: Global, id: JobId, bytes: &[u8], want: &str) -> bool {
+    match Body::new(alloc, bytes) {
+        Ok(body) => is_text(alloc, &Answer::Reserved(id, body), want),
+        Err(_) => false,
+    }
+}
+
+fn body_of(alloc: Global, bytes: &[u8]) -> Result<Body, Fail> {
+    Ok(Body::from_vec(alloc, Vec::from_slice(alloc, bytes)?)?)
 }
 
 fn is_found(alloc: Global, id: JobId, bytes: &[u8], want: &str) -> Result<bool, Fail> {
-    let body = Body::from_vec(alloc, Vec::from_slice(alloc, bytes)?)?;
-    Ok(is_text(alloc, Answer::Found(id, body), want)?)
+    let body = body_of(alloc, bytes)?;
+    Ok(is_text(alloc, &Answer::Found(id, body), want))
 }
 
-fn is_ok(alloc: Global, bytes: &[u8], want: &str) -> Result<bool, Fail> {
-    let text = Text::from_vec(Vec::from_slice(alloc, bytes)?);
-    Ok(is_text(alloc, Answer::Ok(text), want)?)
+fn is_ok(alloc: Global, bytes: &[u8], want: &str) -> bool {
+    match Vec::from_slice(alloc, bytes) {
+        Ok(bytes) => is_text(alloc, &Answer::Ok(Text::from_vec(bytes)), want),
+        Err(_) => false,
+    }
 }
 
-fn is_using(alloc: Global, name: &[u8], want: &str) -> Result<bool, Fail> {
-    let tube = TubeName::new(name).ok_or("a tube's name")?;
-    Ok(is_text(alloc, Answer::Using(tube), want)?)
+fn is_using(alloc: Global, name: &[u8], want: &str) -> bool {
+    match TubeName::new(name) {
+        Some(tube) => is_text(alloc, &Answer::Using(tube), want),
+        None => false,
+    }
+}
+
+fn are_bytes(alloc: Global) -> bool {
+    is_reserved(alloc, 1, b"abc", "RESERVED 1 3\r\nabc\r\n")
+        && is_reserved(alloc, 1, b"", "RESERVED 1 0\r\n\r\n")
+        && is_ok(alloc, b"---\n- b\n", "OK 8\r\n---\n- b\n\r\n")
+        && is_using(alloc, b"default", "USING default\r\n")
 }
 
 #[test]
 fn answers_with_bytes(rt: HostRuntime) -> Result<(), Fail> {
-    let alloc = rt.alloc();
-    assert!(rt; is_reserved(alloc, 1, b"abc", "RESERVED 1 3\r\nabc\r\n")?);
-    assert!(rt; is_reserved(alloc, 1, b"", "RESERVED 1 0\r\n\r\n")?);
-    assert!(rt; is_found(alloc, 7, b"abc", "FOUND 7 3\r\nabc\r\n")?);
-    assert!(rt; is_ok(alloc, b"---\n- b\n", "OK 8\r\n---\n- b\n\r\n")?);
-    assert!(rt; is_using(alloc, b"default", "USING default\r\n")?);
+    assert!(rt; are_bytes(rt.alloc()));
+    assert!(rt; is_found(rt.alloc(), 7, b"abc", "FOUND 7 3\r\nabc\r\n")?);
     Ok(())
 }
 
@@ -87,26 +105,34 @@ fn word_alone(place: u64) -> Answer {
 }
 
 // Returns true if the text of the answer is this word and CR LF.
-fn is_word(alloc: Global, answer: Answer, word: &str) -> Result<bool, AllocError> {
-    let text = text_of(alloc, &answer)?;
-    Ok(text.as_slice().strip_suffix(b"\r\n") == Some(word.as_bytes()))
+fn is_word(alloc: Global, answer: &Answer, word: &str) -> bool {
+    match text_of(alloc, answer) {
+        Ok(text) => is_line(text.as_slice(), word.as_bytes()),
+        Err(_) => false,
+    }
 }
 
-fn are_words(alloc: Global) -> Result<u64, AllocError> {
+fn is_line(text: &[u8], word: &[u8]) -> bool {
+    match text.strip_suffix(b"\r\n") {
+        Some(line) => line == word,
+        None => false,
+    }
+}
+
+fn are_words(alloc: Global) -> u64 {
     let mut place = 0_u64;
     for word in WORDS.split(' ') {
-        if !is_word(alloc, word_alone(place), word)? {
+        if !is_word(alloc, &word_alone(place), word) {
             break;
         }
         place = place.saturating_add(1);
     }
-    Ok(place)
+    place
 }
 
 // The answer after the last of these is the one to a close, which has no text.
 #[test]
-fn answers_of_words_alone(rt: HostRuntime) -> Result<(), Fail> {
-    assert!(rt; are_words(rt.alloc())? == 16);
-    assert!(rt; is_text(rt.alloc(), word_alone(16), "")?);
-    Ok(())
+fn answers_of_words_alone(rt: HostRuntime) {
+    assert!(rt; are_words(rt.alloc()) == 16);
+    assert!(rt; is_text(rt.alloc(), &word_alone(16), ""));
 }

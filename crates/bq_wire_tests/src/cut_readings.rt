@@ -1,53 +1,52 @@
 //! Worked readings, each cut at every byte, and cut in two at every place.
 
-use crate::pieces::{push_text, read, single_bytes, two_pieces};
-use std::alloc::{AllocError, Global};
-use std::process::Abort;
-use std::test::Fail;
+use crate::pieces::{has_requests, push_text, single_bytes, two_pieces};
+use std::alloc::Global;
 
-// Returns true if these are the requests of a text in pieces.
-fn has_requests(
-    alloc: Global,
-    limit: u32,
-    pieces: Vec<Vec<u8>>,
-    wanted: &str,
-) -> Result<bool, AllocError> {
-    Ok(read(alloc, limit, &pieces)?.as_str() == wanted)
+// Returns true if a text that is read byte by byte has these requests.
+fn is_read_in_bytes(alloc: Global, limit: u32, text: &[u8], wanted: &str) -> bool {
+    match single_bytes(alloc, text) {
+        Ok(pieces) => has_requests(alloc, limit, &pieces, wanted),
+        Err(_) => false,
+    }
 }
 
-fn expect_cut(
-    rt: &impl Abort,
-    alloc: Global,
-    limit: u32,
-    text: &[u8],
-    wanted: &str,
-) -> Result<(), AllocError> {
-    assert!(rt; has_requests(alloc, limit, single_bytes(alloc, text)?, wanted)?);
+// The same for a text that is cut in two.
+fn is_read_in_two(alloc: Global, limit: u32, text: &[u8], at: usize, wanted: &str) -> bool {
+    match two_pieces(alloc, text, at) {
+        Ok(pieces) => has_requests(alloc, limit, &pieces, wanted),
+        Err(_) => false,
+    }
+}
+
+fn is_read(alloc: Global, limit: u32, text: &[u8], wanted: &str) -> bool {
+    if !is_read_in_bytes(alloc, limit, text, wanted) {
+        return false;
+    }
     // The first of these is the text in one piece.
     for at in 0..=text.len() {
-        assert!(rt; has_requests(alloc, limit, two_pieces(alloc, text, at)?, wanted)?);
+        if !is_read_in_two(alloc, limit, text, at, wanted) {
+            return false;
+        }
     }
-    Ok(())
-}
-
-// Returns the first two columns of a row, and the rest of it.
-fn two_columns(row: &str) -> Option<(&str, &str, &str)> {
-    let (first, rest) = row.split_once('|')?;
-    let (second, rest) = rest.split_once('|')?;
-    Some((first, second, rest))
+    true
 }
 
 // A row of a table: the limit on bodies, a text, and its requests in short form.
-fn row_of(row: &str) -> Option<(u32, &str, &str)> {
-    let (limit, text, wanted) = two_columns(row)?;
-    Some((limit.parse::<u32>().ok()?, text, wanted))
-}
-
-fn expect_row(rt: &impl Abort, alloc: Global, row: &str) -> Result<(), Fail> {
-    let (limit, text, wanted) = row_of(row).ok_or("no row")?;
+fn is_row_right(alloc: Global, row: &str) -> bool {
+    let Some((limit, rest)) = row.split_once('|') else {
+        return false;
+    };
+    let Some((text, wanted)) = rest.split_once('|') else {
+        return false;
+    };
     let mut bytes = Vec::new(alloc);
-    push_text(&mut bytes, text)?;
-    Ok(expect_cut(rt, alloc, limit, bytes.as_slice(), wanted)?)
+    match limit.parse::<u32>() {
+        Ok(limit) if push_text(&mut bytes, text) => {
+            is_read(alloc, limit, bytes.as_slice(), wanted)
+        }
+        _ => false,
+    }
 }
 
 // A row of a table of long texts: a head, a filler and how often it is repeated, a tail, and the
@@ -62,38 +61,63 @@ struct LongRow<'r> {
 }
 
 fn long_row_of(row: &str) -> Option<LongRow<'_>> {
-    let (head, filler, rest) = two_columns(row)?;
-    let (count, tail, wanted) = two_columns(rest)?;
+    let Some((head, rest)) = row.split_once('|') else {
+        return None;
+    };
+    let Some((filler, rest)) = rest.split_once('|') else {
+        return None;
+    };
+    let Some((count, rest)) = rest.split_once('|') else {
+        return None;
+    };
+    let Some((tail, wanted)) = rest.split_once('|') else {
+        return None;
+    };
+    let Ok(count) = count.parse::<usize>() else {
+        return None;
+    };
     Some(LongRow {
         head,
         filler,
-        count: count.parse::<usize>().ok()?,
+        count,
         tail,
         wanted,
     })
 }
 
-fn expect_long_row(rt: &impl Abort, alloc: Global, row: &str) -> Result<(), Fail> {
-    let row = long_row_of(row).ok_or("no row")?;
-    let mut bytes = Vec::new(alloc);
-    push_text(&mut bytes, row.head)?;
-    for _ in 0..row.count {
-        push_text(&mut bytes, row.filler)?;
+fn push_times(bytes: &mut Vec<u8>, text: &str, count: usize) -> bool {
+    for _ in 0..count {
+        if !push_text(bytes, text) {
+            return false;
+        }
     }
-    push_text(&mut bytes, row.tail)?;
-    Ok(expect_cut(rt, alloc, 65535, bytes.as_slice(), row.wanted)?)
+    true
+}
+
+fn is_long_row_right(alloc: Global, row: &str) -> bool {
+    let Some(row) = long_row_of(row) else {
+        return false;
+    };
+    let mut bytes = Vec::new(alloc);
+    push_text(&mut bytes, row.head)
+        && push_times(&mut bytes, row.filler, row.count)
+        && push_text(&mut bytes, row.tail)
+        && is_read(alloc, 65535, bytes.as_slice(), row.wanted)
 }
 
 // A table has rows of one kind.
-fn expect_rows(rt: &impl Abort, alloc: Global, rows: &str, are_long: bool) -> Result<(), Fail> {
+fn are_right(alloc: Global, rows: &str, are_long: bool) -> bool {
     for row in rows.split('\n') {
-        if are_long {
-            expect_long_row(rt, alloc, row)?;
+        let is_right = if are_long {
+            is_long_row_right(alloc, row)
         } else {
-            expect_row(rt, alloc, row)?;
+            is_row_right(alloc, row)
+        };
+        if !is_right {
+            return false;
         }
     }
-    Ok(())
+    true
 }
 
 const WORKED: &str = "65535|put 0 0 1 2~abXYreserve~|104;reserve;\n\
@@ -155,22 +179,22 @@ const LONG_STATISTICS: &str = "stats-tube |a|201|~stats~|102;stats;\n\
     stats-job |0|212|7~|102;";
 
 #[test]
-fn worked_rows(rt: HostRuntime) -> Result<(), Fail> {
-    expect_rows(&rt, rt.alloc(), WORKED, false)
+fn worked_rows(rt: HostRuntime) {
+    assert!(rt; are_right(rt.alloc(), WORKED, false));
 }
 
 #[test]
-fn long_rows(rt: HostRuntime) -> Result<(), Fail> {
-    expect_rows(&rt, rt.alloc(), LONG, true)
+fn long_rows(rt: HostRuntime) {
+    assert!(rt; are_right(rt.alloc(), LONG, true));
 }
 
 #[test]
-fn hostile_rows(rt: HostRuntime) -> Result<(), Fail> {
-    expect_rows(&rt, rt.alloc(), HOSTILE, false)
+fn hostile_rows(rt: HostRuntime) {
+    assert!(rt; are_right(rt.alloc(), HOSTILE, false));
 }
 
 #[test]
-fn statistics_and_lists(rt: HostRuntime) -> Result<(), Fail> {
-    expect_rows(&rt, rt.alloc(), STATISTICS, false)?;
-    expect_rows(&rt, rt.alloc(), LONG_STATISTICS, true)
+fn statistics_and_lists(rt: HostRuntime) {
+    assert!(rt; are_right(rt.alloc(), STATISTICS, false));
+    assert!(rt; are_right(rt.alloc(), LONG_STATISTICS, true));
 }

@@ -1,24 +1,30 @@
 //! What the lines of all commands request.
 
-use crate::pieces::read;
-use std::alloc::{AllocError, Global};
-use std::process::Abort;
-use std::test::Fail;
+use crate::pieces::has_requests;
+use std::alloc::Global;
 
-// Returns what a line requests, in short form.
-fn asked(alloc: Global, line: &str) -> Result<String, AllocError> {
-    let mut bytes = Vec::from_slice(alloc, line.as_bytes())?;
-    bytes.extend_from_slice(b"\r\n")?;
-    let mut pieces = Vec::new(alloc);
-    pieces.push(bytes)?;
-    read(alloc, 65535, pieces.as_slice())
+// Appends the bytes of a line.
+fn push_line(bytes: &mut Vec<u8>, line: &str) -> bool {
+    bytes.extend_from_slice(line.as_bytes()).is_ok() && bytes.extend_from_slice(b"\r\n").is_ok()
 }
 
-fn expect_all(rt: &impl Abort, alloc: Global, lines: &str, wanted: &str) -> Result<(), AllocError> {
-    for line in lines.split('\n') {
-        assert!(rt; asked(alloc, line)?.as_str() == wanted);
+// Returns true if a line requests this, in short form.
+fn asks(alloc: Global, line: &str, wanted: &str) -> bool {
+    let mut bytes = Vec::new(alloc);
+    if !push_line(&mut bytes, line) {
+        return false;
     }
-    Ok(())
+    let mut pieces = Vec::new(alloc);
+    pieces.push(bytes).is_ok() && has_requests(alloc, 65535, &pieces, wanted)
+}
+
+fn all_ask(alloc: Global, lines: &str, wanted: &str) -> bool {
+    for line in lines.split('\n') {
+        if !asks(alloc, line, wanted) {
+            return false;
+        }
+    }
+    true
 }
 
 // Lines whose request in short form is the line itself.
@@ -99,25 +105,38 @@ const UNKNOWN: &str = "\n\
     \x20quit\n\
     stats-jobs 1";
 
-#[test]
-fn all_commands(rt: HostRuntime) -> Result<(), Fail> {
-    for line in COMMANDS.split('\n') {
-        let asked = asked(rt.alloc(), line)?;
-        assert!(rt; asked.as_str().strip_suffix(';') == Some(line));
+// Returns true if each line requests what it says.
+fn all_ask_the_same(alloc: Global, lines: &str) -> bool {
+    for line in lines.split('\n') {
+        let mut wanted = String::new(alloc);
+        if wanted.push_str(line).is_err() || wanted.push(';').is_err() {
+            return false;
+        }
+        if !asks(alloc, line, wanted.as_str()) {
+            return false;
+        }
     }
-    let put = asked(rt.alloc(), "put 1 2 3 4\r\nabcd")?;
-    assert!(rt; put.as_str() == "put 1 2 3 of 97 98 99 100;");
-    Ok(())
+    true
 }
 
 #[test]
-fn bad_words(rt: HostRuntime) -> Result<(), Fail> {
-    expect_all(&rt, rt.alloc(), BAD_WORDS, "102;")?;
-    Ok(())
+fn all_commands(rt: HostRuntime) {
+    assert!(rt; all_ask_the_same(rt.alloc(), COMMANDS));
+    assert!(rt;
+        asks(
+            rt.alloc(),
+            "put 1 2 3 4\r\nabcd",
+            "put 1 2 3 of 97 98 99 100;"
+        )
+    );
 }
 
 #[test]
-fn unknown_words(rt: HostRuntime) -> Result<(), Fail> {
-    expect_all(&rt, rt.alloc(), UNKNOWN, "101;")?;
-    Ok(())
+fn bad_words(rt: HostRuntime) {
+    assert!(rt; all_ask(rt.alloc(), BAD_WORDS, "102;"));
+}
+
+#[test]
+fn unknown_words(rt: HostRuntime) {
+    assert!(rt; all_ask(rt.alloc(), UNKNOWN, "101;"));
 }

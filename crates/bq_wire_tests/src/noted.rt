@@ -1,4 +1,4 @@
-//! Requests in short form.
+//! Requests in short form, appended to a text. Each function returns false if an allocation fails.
 
 use bq_job::{Request, TubeName};
 use std::alloc::{AllocError, Global};
@@ -7,82 +7,96 @@ fn digits(alloc: Global, number: u64) -> Result<String, AllocError> {
     format!(in alloc; "{number}")
 }
 
-fn push_number(alloc: Global, note: &mut String, number: u64) -> Result<(), AllocError> {
-    note.push(' ')?;
-    note.push_str(digits(alloc, number)?.as_str())
+fn push(notes: &mut String, text: &str) -> bool {
+    notes.push_str(text).is_ok()
 }
 
-fn with_numbers(alloc: Global, word: &str, numbers: &[u64]) -> Result<String, AllocError> {
-    let mut note = String::from_str(alloc, word)?;
-    for number in numbers {
-        push_number(alloc, &mut note, *number)?;
+fn push_digits(alloc: Global, notes: &mut String, number: u64) -> bool {
+    match digits(alloc, number) {
+        Ok(digits) => push(notes, digits.as_str()),
+        Err(_) => false,
     }
-    Ok(note)
 }
 
-fn with_tube(alloc: Global, word: &str, tube: &TubeName) -> Result<String, AllocError> {
-    let mut note = String::from_str(alloc, word)?;
-    note.push(' ')?;
+fn push_number(alloc: Global, notes: &mut String, number: u64) -> bool {
+    push(notes, " ") && push_digits(alloc, notes, number)
+}
+
+fn push_one(alloc: Global, notes: &mut String, word: &str, number: u64) -> bool {
+    push(notes, word) && push_number(alloc, notes, number)
+}
+
+fn push_tube(notes: &mut String, word: &str, tube: &TubeName) -> bool {
+    if !push(notes, word) || !push(notes, " ") {
+        return false;
+    }
     for byte in tube.as_slice() {
-        note.push(char::from(*byte))?;
+        if notes.push(char::from(*byte)).is_err() {
+            return false;
+        }
     }
-    Ok(note)
+    true
 }
 
-// A put, and the bytes of its body as numbers.
-fn with_body(alloc: Global, numbers: &[u64], body: &[u8]) -> Result<String, AllocError> {
-    let mut note = with_numbers(alloc, "put", numbers)?;
-    note.push_str(" of")?;
-    for byte in body {
-        push_number(alloc, &mut note, u64::from(*byte))?;
-    }
-    Ok(note)
-}
-
-fn noted_put(
+// A word and three numbers.
+fn push_three(
     alloc: Global,
-    pri: u32,
-    delay: u32,
-    ttr: u32,
-    body: &[u8],
-) -> Result<String, AllocError> {
-    let numbers = [u64::from(pri), u64::from(delay), u64::from(ttr)];
-    with_body(alloc, &numbers, body)
+    notes: &mut String,
+    word: &str,
+    first: u64,
+    second: u32,
+    third: u32,
+) -> bool {
+    push_one(alloc, notes, word, first)
+        && push_number(alloc, notes, u64::from(second))
+        && push_number(alloc, notes, u64::from(third))
 }
 
-fn noted_release(alloc: Global, id: u64, pri: u32, delay: u32) -> Result<String, AllocError> {
-    with_numbers(alloc, "release", &[id, u64::from(pri), u64::from(delay)])
+// The bytes of a put's body as numbers.
+fn push_body(alloc: Global, notes: &mut String, body: &[u8]) -> bool {
+    if !push(notes, " of") {
+        return false;
+    }
+    for byte in body {
+        if !push_number(alloc, notes, u64::from(*byte)) {
+            return false;
+        }
+    }
+    true
 }
 
-fn noted_pause(alloc: Global, tube: &TubeName, delay: u32) -> Result<String, AllocError> {
-    let mut note = with_tube(alloc, "pause-tube", tube)?;
-    push_number(alloc, &mut note, u64::from(delay))?;
-    Ok(note)
-}
-
-/// Returns a request in short form, in the words of the protocol; a rejected request is its number.
-pub fn noted(alloc: Global, request: &Request) -> Result<String, AllocError> {
+/// Appends a request in short form, in the words of the protocol; a rejected request is its number.
+pub fn note(alloc: Global, notes: &mut String, request: &Request) -> bool {
     match request {
         Request::Put {
             pri,
             delay,
             ttr,
             body,
-        } => noted_put(alloc, *pri, *delay, *ttr, body.as_slice()),
-        Request::Release { id, pri, delay } => noted_release(alloc, *id, *pri, *delay),
-        Request::Bury { id, pri } => with_numbers(alloc, "bury", &[*id, u64::from(*pri)]),
-        Request::PauseTube { tube, delay } => noted_pause(alloc, tube, *delay),
-        Request::Use { tube } => with_tube(alloc, "use", tube),
-        Request::Watch { tube } => with_tube(alloc, "watch", tube),
-        Request::Ignore { tube } => with_tube(alloc, "ignore", tube),
-        Request::StatsTube { tube } => with_tube(alloc, "stats-tube", tube),
-        Request::Refused(why) => digits(alloc, u64::from(why.code())),
-        other => noted_number(alloc, other),
+        } => {
+            push_three(alloc, notes, "put", u64::from(*pri), *delay, *ttr)
+                && push_body(alloc, notes, body.as_slice())
+        }
+        Request::Release { id, pri, delay } => {
+            push_three(alloc, notes, "release", *id, *pri, *delay)
+        }
+        Request::Bury { id, pri } => {
+            push_one(alloc, notes, "bury", *id) && push_number(alloc, notes, u64::from(*pri))
+        }
+        Request::PauseTube { tube, delay } => {
+            push_tube(notes, "pause-tube", tube) && push_number(alloc, notes, u64::from(*delay))
+        }
+        Request::Use { tube } => push_tube(notes, "use", tube),
+        Request::Watch { tube } => push_tube(notes, "watch", tube),
+        Request::Ignore { tube } => push_tube(notes, "ignore", tube),
+        Request::StatsTube { tube } => push_tube(notes, "stats-tube", tube),
+        Request::Refused(why) => push_digits(alloc, notes, u64::from(why.code())),
+        other => note_number(alloc, notes, other),
     }
 }
 
 // Requests with one number, or with none.
-fn noted_number(alloc: Global, request: &Request) -> Result<String, AllocError> {
+fn note_number(alloc: Global, notes: &mut String, request: &Request) -> bool {
     let (word, number) = match request {
         Request::ReserveWithTimeout { seconds } => ("reserve-with-timeout", u64::from(*seconds)),
         Request::ReserveJob { id } => ("reserve-job", *id),
@@ -92,9 +106,9 @@ fn noted_number(alloc: Global, request: &Request) -> Result<String, AllocError> 
         Request::KickJob { id } => ("kick-job", *id),
         Request::Peek { id } => ("peek", *id),
         Request::StatsJob { id } => ("stats-job", *id),
-        other => return String::from_str(alloc, word_of(other)),
+        other => return push(notes, word_of(other)),
     };
-    with_numbers(alloc, word, &[number])
+    push_one(alloc, notes, word, number)
 }
 
 fn word_of(request: &Request) -> &'static str {

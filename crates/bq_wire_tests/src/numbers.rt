@@ -23,14 +23,18 @@ fn number_of(answer: Answer) -> u16 {
     answer.code().unwrap_or(0)
 }
 
+fn are_numbers() -> bool {
+    number_of(Answer::BadFormat) == 102
+        && number_of(Answer::NotFound) == 201
+        && number_of(Answer::NotIgnored) == 202
+        && number_of(Answer::Draining) == 203
+        && number_of(Answer::OutOfMemory) == 204
+        && number_of(Answer::TimedOut) == 205
+        && number_of(Answer::DeadlineSoon) == 206
+        && number_of(Answer::Deleted) == 0
+}
+
 #[test]
 fn numbers_of_answers(rt: HostRuntime) {
-    assert!(rt; number_of(Answer::BadFormat) == 102);
-    assert!(rt; number_of(Answer::NotFound) == 201);
-    assert!(rt; number_of(Answer::NotIgnored) == 202);
-    assert!(rt; number_of(Answer::Draining) == 203);
-    assert!(rt; number_of(Answer::OutOfMemory) == 204);
-    assert!(rt; number_of(Answer::TimedOut) == 205);
-    assert!(rt; number_of(Answer::DeadlineSoon) == 206);
-    assert!(rt; number_of(Answer::Deleted) == 0);
+    assert!(rt; are_numbers());
 }

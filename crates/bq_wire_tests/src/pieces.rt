@@ -1,33 +1,44 @@
 //! How the tests cut texts into pieces and read them.
 
-use crate::noted::noted;
+use crate::noted::note;
+use bq_job::Request;
 use bq_wire::requests_of;
 use std::alloc::{AllocError, Global};
 
-/// Appends the bytes of a text: `~` is CR LF, `^` is CR, and `%` is LF.
-pub fn push_text(bytes: &mut Vec<u8>, text: &str) -> Result<(), AllocError> {
+/// Appends the bytes of a text: `~` is CR LF, `^` is CR, and `%` is LF. Returns false if an
+/// allocation fails.
+pub fn push_text(bytes: &mut Vec<u8>, text: &str) -> bool {
     for byte in text.as_bytes() {
-        match *byte {
-            b'~' => bytes.extend_from_slice(b"\r\n")?,
-            b'^' => bytes.push(b'\r')?,
-            b'%' => bytes.push(b'\n')?,
-            other => bytes.push(other)?,
+        let is_pushed = match *byte {
+            b'~' => bytes.extend_from_slice(b"\r\n").is_ok(),
+            b'^' => bytes.push(b'\r').is_ok(),
+            b'%' => bytes.push(b'\n').is_ok(),
+            other => bytes.push(other).is_ok(),
+        };
+        if !is_pushed {
+            return false;
         }
     }
-    Ok(())
+    true
 }
 
-/// Returns the requests of a text in pieces, in short form, each followed by `;`.
-pub fn read(alloc: Global, limit: u32, pieces: &[Vec<u8>]) -> Result<String, AllocError> {
+// Appends these requests in short form, each followed by `;`.
+fn note_all(alloc: Global, notes: &mut String, requests: &[Request]) -> bool {
+    for request in requests {
+        if !note(alloc, notes, request) || notes.push(';').is_err() {
+            return false;
+        }
+    }
+    true
+}
+
+/// Returns true if these are the requests of a text in pieces, in short form, each followed by `;`.
+pub fn has_requests(alloc: Global, limit: u32, pieces: &[Vec<u8>], wanted: &str) -> bool {
     let Ok(requests) = requests_of(alloc, limit.max(1).min(1_048_576), pieces) else {
-        return Err(AllocError);
+        return false;
     };
     let mut notes = String::new(alloc);
-    for request in &requests {
-        notes.push_str(noted(alloc, request)?.as_str())?;
-        notes.push(';')?;
-    }
-    Ok(notes)
+    note_all(alloc, &mut notes, &requests) && notes.as_str() == wanted
 }
 
 /// Returns a text cut in two.

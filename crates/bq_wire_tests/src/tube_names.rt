@@ -1,36 +1,44 @@
 //! Which bytes form the name of a tube, and how names are ordered.
 
 use bq_job::TubeName;
-use std::process::Abort;
-use std::test::Fail;
 
 const NAMES: &[&str] = &["default", "aZ09-+/;.$_()", "+"];
 
 const NO_NAMES: &[&str] = &["", "-a", "a b", "a\r", "\u{e9}"];
 
-fn named(bytes: &[u8]) -> Result<TubeName, Fail> {
-    Ok(TubeName::new(bytes).ok_or("no name")?)
+fn is_name(bytes: &[u8]) -> bool {
+    match TubeName::new(bytes) {
+        Some(name) => is_named(&name, bytes),
+        None => false,
+    }
 }
 
-fn expect_name(rt: &impl Abort, bytes: &[u8]) -> Result<(), Fail> {
-    let name = named(bytes)?;
-    assert!(rt; name.as_slice() == bytes);
-    assert!(rt; name.clone()? == name);
-    assert!(rt; TubeName::new(b"other") != Some(name));
-    Ok(())
+// Returns true if these are the bytes of a name, and it equals its copy and no other.
+fn is_named(name: &TubeName, bytes: &[u8]) -> bool {
+    let is_same = match name.clone() {
+        Ok(copy) => copy == *name,
+        Err(_) => false,
+    };
+    is_same && name.as_slice() == bytes && !is_other(name)
+}
+
+fn is_other(name: &TubeName) -> bool {
+    match TubeName::new(b"other") {
+        Some(other) => other == *name,
+        None => true,
+    }
 }
 
 #[test]
-fn tube_names(rt: HostRuntime) -> Result<(), Fail> {
+fn tube_names(rt: HostRuntime) {
     for name in NAMES {
-        expect_name(&rt, name.as_bytes())?;
+        assert!(rt; is_name(name.as_bytes()));
     }
     for text in NO_NAMES {
         assert!(rt; TubeName::new(text.as_bytes()).is_none());
     }
-    expect_name(&rt, &[b'a'; 200])?;
+    assert!(rt; is_name(&[b'a'; 200]));
     assert!(rt; TubeName::new(&[b'a'; 201]).is_none());
-    Ok(())
 }
 
 // Names that differ before, in and after their eighth byte, and names that differ in length only.
@@ -49,18 +57,19 @@ const IN_ORDER: &[(&str, &str)] = &[
     ("reports.daily.16", "reports.daily.16+"),
 ];
 
-fn expect_order(rt: &impl Abort, first: &str, second: &str) -> Result<(), Fail> {
-    let first = named(first.as_bytes())?;
-    let second = named(second.as_bytes())?;
-    assert!(rt; first < second);
-    assert!(rt; first.cmp(&first).is_eq());
-    Ok(())
+fn are_in_order(first: &str, second: &str) -> bool {
+    let Some(first) = TubeName::new(first.as_bytes()) else {
+        return false;
+    };
+    let Some(second) = TubeName::new(second.as_bytes()) else {
+        return false;
+    };
+    first < second && first.cmp(&first).is_eq()
 }
 
 #[test]
-fn order_of_tube_names(rt: HostRuntime) -> Result<(), Fail> {
+fn order_of_tube_names(rt: HostRuntime) {
     for (first, second) in IN_ORDER {
-        expect_order(&rt, first, second)?;
+        assert!(rt; are_in_order(first, second));
     }
-    Ok(())
 }

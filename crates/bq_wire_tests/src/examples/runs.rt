@@ -10,10 +10,11 @@ ghost use Rattle.bq_job.specs.laws.{Holds, IsHandedOutBefore, IsPutBefore, has_i
 ghost use Rattle.std.specs.Prelude.{List, [], ◌∷◌, ◌≡◌, codes, false, map, true};
 ghost use Rattle.std.specs.List.{list_any};
 
-/// Two undisturbed jobs are handed out in the order of their puts, whichever client has waited
-/// longer.
-fn two_jobs_in_order()
-    ensures { HandsOutUndisturbed (1 ∷ 2 ∷ [])
+/// Jobs that nothing disturbs.
+fn undisturbed_jobs()
+    // Two undisturbed jobs are handed out in the order of their puts, whichever client has waited
+    // longer.
+    ensures two_jobs_in_order { HandsOutUndisturbed (1 ∷ 2 ∷ [])
         (ask 0 (PauseTube (codes "default") 5)
         ∷ ask 0 (Put 7 0 9 (codes "x"))
         ∷ ask 0 (Put 7 0 9 (codes "y"))
@@ -21,103 +22,81 @@ fn two_jobs_in_order()
         ∷ ask 1 Reserve
         ∷ tick 5000
         ∷ []) }
-{}
-
-/// The job that was put first is put, and handed out, before the other one and not after it.
-fn order_of_two_jobs()
-    ensures put_first { let happened = happening_in
+    // The job that was put first is put, and handed out, before the other one and not after it.
+    ensures order_of_two_jobs_put_first { let happened = happening_in
         (ask 0 (Put 7 0 9 (codes "x")) ∷ ask 0 (Put 7 0 9 (codes "y")) ∷ ask 2 Reserve ∷ ask 1 Reserve ∷ [])
         in IsPutBefore 1 2 happened × IsHandedOutBefore 1 2 happened }
-    ensures not_behind { let happened = happening_in
+    ensures order_of_two_jobs_not_behind { let happened = happening_in
         (ask 0 (Put 7 0 9 (codes "x")) ∷ ask 0 (Put 7 0 9 (codes "y")) ∷ ask 2 Reserve ∷ ask 1 Reserve ∷ [])
         in (IsPutBefore 2 1 happened → ⊥) × (IsHandedOutBefore 2 1 happened → ⊥) }
 {}
 
-/// A job whose time to run has expired is handed out again, and so is not undisturbed.
-fn expired_job_goes_out_twice()
-    ensures { HandsOutDisturbed (1 ∷ 1 ∷ [])
+/// Jobs that are disturbed.
+fn disturbed_jobs()
+    // A job whose time to run has expired is handed out again, and so is not undisturbed.
+    ensures expired_job_goes_out_twice { HandsOutDisturbed (1 ∷ 1 ∷ [])
         (ask 0 (Put 0 0 1 (codes "x"))
         ∷ ask 1 Reserve
         ∷ tick 1000
         ∷ at 1000 (ask 2 Reserve)
         ∷ []) }
-{}
-
-/// A job that was released is handed out again, and so is not undisturbed.
-fn released_job_goes_out_twice()
-    ensures { HandsOutDisturbed (1 ∷ 1 ∷ [])
+    // A job that was released is handed out again, and so is not undisturbed.
+    ensures released_job_goes_out_twice { HandsOutDisturbed (1 ∷ 1 ∷ [])
         (ask 0 (Put 0 0 9 (codes "x"))
         ∷ ask 1 Reserve
         ∷ ask 1 (Release 1 0 0)
         ∷ ask 2 Reserve
         ∷ []) }
-{}
-
-/// A job that was buried and kicked is handed out again, and so is not undisturbed.
-fn buried_job_goes_out_twice()
-    ensures { HandsOutDisturbed (1 ∷ 1 ∷ [])
+    // A job that was buried and kicked is handed out again, and so is not undisturbed.
+    ensures buried_job_goes_out_twice { HandsOutDisturbed (1 ∷ 1 ∷ [])
         (ask 0 (Put 0 0 9 (codes "x"))
         ∷ ask 1 Reserve
         ∷ ask 1 (Bury 1 0)
         ∷ ask 0 (Kick 1)
         ∷ ask 2 Reserve
         ∷ []) }
-{}
-
-/// A job goes to a client in the very step that closes its connection, and in the same step to
-/// another client, so it is not undisturbed.
-fn job_goes_out_in_the_close_of_its_client()
-    ensures { HandsOutDisturbed (1 ∷ 1 ∷ [])
+    // A job goes to a client in the very step that closes its connection, and in the same step to
+    // another client, so it is not undisturbed.
+    ensures job_goes_out_in_the_close_of_its_client { HandsOutDisturbed (1 ∷ 1 ∷ [])
         (ask 0 (PauseTube (codes "default") 5)
         ∷ ask 0 (Put 0 0 9 (codes "x"))
         ∷ ask 1 Reserve
         ∷ ask 2 Reserve
         ∷ at 5000 (close 1)
         ∷ []) }
-{}
-
-/// A job that was reserved by reserve-job was not handed out, and is not undisturbed.
-fn job_reserved_by_id()
-    ensures { HandsOutDisturbed []
+    // A job that was reserved by reserve-job was not handed out, and is not undisturbed.
+    ensures job_reserved_by_id { HandsOutDisturbed []
         (ask 0 (Put 0 0 9 (codes "x"))
         ∷ ask 1 (ReserveJob 1)
         ∷ []) }
-{}
-
-/// A job that was put with a delay is not undisturbed.
-fn job_put_with_a_delay()
-    ensures { HandsOutDisturbed (1 ∷ [])
+    // A job that was put with a delay is not undisturbed.
+    ensures job_put_with_a_delay { HandsOutDisturbed (1 ∷ [])
         (ask 0 (Put 0 5 9 (codes "x"))
         ∷ ask 1 Reserve
         ∷ tick 5000
         ∷ []) }
 {}
 
-/// The most urgent job goes first, whichever of the watched tubes it is in; of two equally urgent
-/// jobs, the one with the lower id goes first.
-fn least_job_first()
-    ensures { Plays
+/// The most urgent job, and puts around a drain.
+fn jobs_and_the_drain()
+    // The most urgent job goes first, whichever of the watched tubes it is in; of two equally urgent
+    // jobs, the one with the lower id goes first.
+    ensures least_job_first { Plays
         (ask 0 (Put 7 0 9 (codes "x")) gives ((0, Inserted 1) ∷ [])
         ∷ ask 0 (Put 3 0 9 (codes "y")) gives ((0, Inserted 2) ∷ [])
         ∷ ask 0 (Put 3 0 9 (codes "z")) gives ((0, Inserted 3) ∷ [])
         ∷ ask 1 Reserve gives ((1, Reserved 2 (codes "y")) ∷ [])
         ∷ ask 2 Reserve gives ((2, Reserved 3 (codes "z")) ∷ [])
         ∷ []) }
-{}
-
-/// A put before draining begins is accepted; a put after it is not.
-fn put_before_and_after_the_drain()
-    ensures { Plays
+    // A put before draining begins is accepted; a put after it is not.
+    ensures put_before_and_after_the_drain { Plays
         (ask 0 (Put 0 0 9 (codes "x")) gives ((0, Inserted 1) ∷ [])
         ∷ drain gives []
         ∷ ask 0 (Put 0 0 9 (codes "y")) gives ((0, Draining) ∷ [])
         ∷ []) }
-{}
-
-/// In the steps of three connections, a put, the drain and another put, only the put before the
-/// drain is answered INSERTED.
-fn inserted_before_the_drain()
-    ensures { map (λ t. has_inserted t.given) (taken
+    // In the steps of three connections, a put, the drain and another put, only the put before the
+    // drain is answered INSERTED.
+    ensures inserted_before_the_drain { map (λ t. has_inserted t.given) (taken
         (ask 0 (Put 0 0 9 (codes "x")) ∷ drain ∷ ask 0 (Put 0 0 9 (codes "y")) ∷ []))
         ≡ false ∷ false ∷ false ∷ true ∷ false ∷ false ∷ [] }
 {}
@@ -129,24 +108,19 @@ fn holder_of_a_job()
         (connect 0 ∷ ask 0 (Put 0 0 9 (codes "x")) ∷ ask 0 Reserve ∷ [])) 0 1 }
 {}
 
-/// The put that gets the last id is accepted; no later put is.
-fn put_of_the_last_id()
-    ensures { map (λ t. t.given) (transitions (record (server 1 65535) { next_id = last_id })
+/// The last id, and deletes.
+fn last_id_and_deletes()
+    // The put that gets the last id is accepted; no later put is.
+    ensures put_of_the_last_id { map (λ t. t.given) (transitions (record (server 1 65535) { next_id = last_id })
         (connect 0 ∷ ask 0 (Put 0 0 9 (codes "x")) ∷ ask 0 (Put 0 0 9 (codes "y")) ∷ []))
         ≡ [] ∷ ((0, Inserted last_id) ∷ []) ∷ ((0, Draining) ∷ []) ∷ [] }
-{}
-
-/// A delete of a job that another client holds deletes nothing; a delete by its holder does.
-fn deletion_is_told()
-    ensures none { list_any (is_deletion 1) (happening_in
+    // A delete of a job that another client holds deletes nothing; a delete by its holder does.
+    ensures deletion_is_told_none { list_any (is_deletion 1) (happening_in
         (ask 0 (Put 0 0 9 (codes "x")) ∷ ask 1 Reserve ∷ ask 0 (Delete 1) ∷ [])) ≡ false }
-    ensures one { list_any (is_deletion 1) (happening_in
+    ensures deletion_is_told_one { list_any (is_deletion 1) (happening_in
         (ask 0 (Put 0 0 9 (codes "x")) ∷ ask 1 Reserve ∷ ask 1 (Delete 1) ∷ [])) ≡ true }
-{}
-
-/// Only its holder can delete a held job.
-fn delete_of_a_held_job()
-    ensures { Plays
+    // Only its holder can delete a held job.
+    ensures delete_of_a_held_job { Plays
         (ask 0 (Put 0 0 9 (codes "x")) gives ((0, Inserted 1) ∷ [])
         ∷ ask 1 Reserve gives ((1, Reserved 1 (codes "x")) ∷ [])
         ∷ ask 0 (Delete 1) gives ((0, NotFound) ∷ [])
@@ -156,19 +130,9 @@ fn delete_of_a_held_job()
 
 #[test]
 fn examples_of_runs() {
-    two_jobs_in_order();
-    order_of_two_jobs();
-    expired_job_goes_out_twice();
-    released_job_goes_out_twice();
-    buried_job_goes_out_twice();
-    job_goes_out_in_the_close_of_its_client();
-    job_reserved_by_id();
-    job_put_with_a_delay();
-    least_job_first();
-    put_before_and_after_the_drain();
-    inserted_before_the_drain();
+    undisturbed_jobs();
+    disturbed_jobs();
+    jobs_and_the_drain();
     holder_of_a_job();
-    put_of_the_last_id();
-    deletion_is_told();
-    delete_of_a_held_job();
+    last_id_and_deletes();
 }

@@ -9,9 +9,10 @@ ghost use Rattle.bq_wire_tests.specs.examples.Examples.{Plays, PlaysWith, ask, a
 ghost use Rattle.bq_wire_tests.specs.examples.Examples.{due_after, due_with, end, plain, requeued_after, tick, ◌gives◌};
 ghost use Rattle.std.specs.Prelude.{List, [], ◌∷◌, ◌++◌, ◌≡◌, None, Some, codes};
 
-/// Each of two waiting clients gets a job of a tube that it watches, whichever has waited longer.
-fn waiters_of_two_tubes()
-    ensures { Plays
+/// Waiting clients.
+fn waits()
+    // Each of two waiting clients gets a job of a tube that it watches, whichever has waited longer.
+    ensures waiters_of_two_tubes { Plays
         (ask 1 (Watch (codes "a")) gives ((1, Watching 2) ∷ [])
         ∷ ask 1 (Ignore (codes "default")) gives ((1, Watching 1) ∷ [])
         ∷ ask 1 Reserve gives []
@@ -24,16 +25,31 @@ fn waiters_of_two_tubes()
         ∷ ask 0 (Use (codes "a")) gives ((0, Using (codes "a")) ∷ [])
         ∷ ask 0 (Put 0 0 9 (codes "q")) gives ((0, Inserted 2) ∷ (1, Reserved 2 (codes "q")) ∷ [])
         ∷ []) }
-{}
-
-/// A waiting client gets DEADLINE_SOON one second before its own lease ends, and not earlier.
-fn deadline_soon_at_one_second()
-    ensures { Plays
+    // A waiting client gets DEADLINE_SOON one second before its own lease ends, and not earlier.
+    ensures deadline_soon_at_one_second { Plays
         (ask 0 (Put 0 0 2 (codes "x")) gives ((0, Inserted 1) ∷ [])
         ∷ ask 0 Reserve gives ((0, Reserved 1 (codes "x")) ∷ [])
         ∷ at 500 (ask 0 Reserve) gives []
         ∷ tick 999 gives []
         ∷ tick 1000 gives ((0, DeadlineSoon) ∷ [])
+        ∷ []) }
+    // If a pause, a delay and a wait end at the same moment, the waiting client gets the job.
+    ensures pause_and_delay_end_together { Plays
+        (ask 0 (Put 0 5 9 (codes "x")) gives ((0, Inserted 1) ∷ [])
+        ∷ ask 0 (PauseTube (codes "default") 5) gives ((0, Paused) ∷ [])
+        ∷ ask 1 (ReserveWithTimeout 5) gives []
+        ∷ tick 4999 gives []
+        ∷ tick 5000 gives ((1, Reserved 1 (codes "x")) ∷ [])
+        ∷ []) }
+    // Another client's job can be seen but not deleted. When its holder disconnects, the waiting
+    // client gets it.
+    ensures close_hands_on { Plays
+        (ask 0 (Put 0 0 9 (codes "x")) gives ((0, Inserted 1) ∷ [])
+        ∷ ask 1 Reserve gives ((1, Reserved 1 (codes "x")) ∷ [])
+        ∷ ask 2 Reserve gives []
+        ∷ ask 0 (Delete 1) gives ((0, NotFound) ∷ [])
+        ∷ ask 0 (Peek 1) gives ((0, Found 1 (codes "x")) ∷ [])
+        ∷ close 1 gives ((1, Closed) ∷ (2, Reserved 1 (codes "x")) ∷ [])
         ∷ []) }
 {}
 
@@ -51,30 +67,6 @@ fn lease_expires_to_its_waiter()
               (codes "---\nid: 1\ntube: default\nstate: reserved\npri: 0\nage: 2\ndelay: 0\nttr: 2\n"
               ++ codes "time-left: 1\nreserves: 2\ntimeouts: 1\nreleases: 0\nburies: 0\nkicks: 0\n"),
         ) ∷ [])
-        ∷ []) }
-{}
-
-/// If a pause, a delay and a wait end at the same moment, the waiting client gets the job.
-fn pause_and_delay_end_together()
-    ensures { Plays
-        (ask 0 (Put 0 5 9 (codes "x")) gives ((0, Inserted 1) ∷ [])
-        ∷ ask 0 (PauseTube (codes "default") 5) gives ((0, Paused) ∷ [])
-        ∷ ask 1 (ReserveWithTimeout 5) gives []
-        ∷ tick 4999 gives []
-        ∷ tick 5000 gives ((1, Reserved 1 (codes "x")) ∷ [])
-        ∷ []) }
-{}
-
-/// Another client's job can be seen but not deleted. When its holder disconnects, the waiting
-/// client gets it.
-fn close_hands_on()
-    ensures { Plays
-        (ask 0 (Put 0 0 9 (codes "x")) gives ((0, Inserted 1) ∷ [])
-        ∷ ask 1 Reserve gives ((1, Reserved 1 (codes "x")) ∷ [])
-        ∷ ask 2 Reserve gives []
-        ∷ ask 0 (Delete 1) gives ((0, NotFound) ∷ [])
-        ∷ ask 0 (Peek 1) gives ((0, Found 1 (codes "x")) ∷ [])
-        ∷ close 1 gives ((1, Closed) ∷ (2, Reserved 1 (codes "x")) ∷ [])
         ∷ []) }
 {}
 
@@ -109,30 +101,25 @@ fn requeue_after_close()
         ∷ []) }
 {}
 
-/// A kick makes such a job ready before its requeue delay ends.
-fn kick_before_requeue()
-    ensures { PlaysWith (requeued_after 5 (plain 3 65535))
+/// Requeue delays.
+fn requeue_delays()
+    // A kick makes such a job ready before its requeue delay ends.
+    ensures kick_before_requeue { PlaysWith (requeued_after 5 (plain 3 65535))
         (ask 0 (Put 0 0 9 (codes "x")) gives ((0, Inserted 1) ∷ [])
         ∷ ask 1 Reserve gives ((1, Reserved 1 (codes "x")) ∷ [])
         ∷ ask 2 Reserve gives []
         ∷ at 1000 (close 1) gives ((1, Closed) ∷ [])
         ∷ at 1500 (ask 0 (Kick 1)) gives ((0, KickedCount 1) ∷ (2, Reserved 1 (codes "x")) ∷ [])
         ∷ []) }
-{}
-
-/// A requeue delay ends at the largest moment at the latest.
-fn requeue_at_the_end_of_moments()
-    ensures { due_with (requeued_after 4294967295 (plain 3 65535))
+    // A requeue delay ends at the largest moment at the latest.
+    ensures requeue_at_the_end_of_moments { due_with (requeued_after 4294967295 (plain 3 65535))
         (ask 0 (Put 0 0 9 (codes "x"))
         ∷ at 18446744073709551000 (ask 1 Reserve)
         ∷ at 18446744073709551000 (close 1)
         ∷ []) ≡ Some 18446744073709551615 }
-{}
-
-/// A job that becomes ready again in a paused tube is handed out when the pause ends, even while
-/// draining.
-fn requeue_while_paused_and_draining()
-    ensures { PlaysWith (requeued_after 5 (plain 3 65535))
+    // A job that becomes ready again in a paused tube is handed out when the pause ends, even while
+    // draining.
+    ensures requeue_while_paused_and_draining { PlaysWith (requeued_after 5 (plain 3 65535))
         (ask 0 (Put 0 0 9 (codes "x")) gives ((0, Inserted 1) ∷ [])
         ∷ ask 1 Reserve gives ((1, Reserved 1 (codes "x")) ∷ [])
         ∷ drain gives []
@@ -145,29 +132,24 @@ fn requeue_while_paused_and_draining()
         ∷ []) }
 {}
 
-/// While draining, no put is accepted, and jobs are handed out as before.
-fn draining()
-    ensures { Plays
+/// Drains, and limits on jobs.
+fn drains_and_limits()
+    // While draining, no put is accepted, and jobs are handed out as before.
+    ensures draining { Plays
         (ask 0 (Put 0 0 9 (codes "x")) gives ((0, Inserted 1) ∷ [])
         ∷ drain gives []
         ∷ ask 0 (Put 0 0 9 (codes "y")) gives ((0, Draining) ∷ [])
         ∷ ask 0 Reserve gives ((0, Reserved 1 (codes "x")) ∷ [])
         ∷ []) }
-{}
-
-/// A put is answered DRAINING by a draining machine even if the job limit is reached.
-fn draining_before_the_limit()
-    ensures { PlaysWith (at_most 1 (plain 3 65535))
+    // A put is answered DRAINING by a draining machine even if the job limit is reached.
+    ensures draining_before_the_limit { PlaysWith (at_most 1 (plain 3 65535))
         (ask 0 (Put 0 0 9 (codes "x")) gives ((0, Inserted 1) ∷ [])
         ∷ drain gives []
         ∷ ask 0 (Put 0 0 9 (codes "y")) gives ((0, Draining) ∷ [])
         ∷ []) }
-{}
-
-/// Jobs in every state count: with a limit of three, a delayed, a buried and a reserved job leave
-/// no room for a fourth. A delete makes room for one, and rejected puts consume no ids.
-fn jobs_of_every_state_count()
-    ensures { PlaysWith (at_most 3 (plain 3 65535))
+    // Jobs in every state count: with a limit of three, a delayed, a buried and a reserved job leave
+    // no room for a fourth. A delete makes room for one, and rejected puts consume no ids.
+    ensures jobs_of_every_state_count { PlaysWith (at_most 3 (plain 3 65535))
         (ask 0 (Put 0 9 9 (codes "x")) gives ((0, Inserted 1) ∷ [])
         ∷ ask 0 (Put 0 0 9 (codes "y")) gives ((0, Inserted 2) ∷ [])
         ∷ ask 1 Reserve gives ((1, Reserved 2 (codes "y")) ∷ [])
@@ -181,55 +163,41 @@ fn jobs_of_every_state_count()
         ∷ ask 0 (Put 0 0 9 (codes "w")) gives ((0, Inserted 4) ∷ [])
         ∷ ask 0 (Put 0 0 9 (codes "q")) gives ((0, OutOfMemory) ∷ [])
         ∷ []) }
-{}
-
-/// The largest limit rejects no put while there are fewer jobs.
-fn greatest_limit()
-    ensures { PlaysWith (at_most 4294967295 (plain 3 65535))
+    // The largest limit rejects no put while there are fewer jobs.
+    ensures greatest_limit { PlaysWith (at_most 4294967295 (plain 3 65535))
         (ask 0 (Put 0 0 9 (codes "x")) gives ((0, Inserted 1) ∷ [])
         ∷ ask 0 (Put 0 0 9 (codes "y")) gives ((0, Inserted 2) ∷ [])
         ∷ []) }
 {}
 
-/// A touch restarts the time to run. Once that time is over, the client no longer holds the job.
-fn touch_moves_the_lease()
-    ensures { Plays
+/// Ends of leases, delays, waits and pauses.
+fn ends_of_waits()
+    // A touch restarts the time to run. Once that time is over, the client no longer holds the job.
+    ensures touch_moves_the_lease { Plays
         (ask 0 (Put 0 0 2 (codes "x")) gives ((0, Inserted 1) ∷ [])
         ∷ ask 0 Reserve gives ((0, Reserved 1 (codes "x")) ∷ [])
         ∷ at 1500 (ask 0 (Touch 1)) gives ((0, Touched) ∷ [])
         ∷ tick 2000 gives []
         ∷ at 3500 (ask 0 (Touch 1)) gives ((0, NotFound) ∷ [])
         ∷ []) }
-{}
-
-/// A job that was released with a delay is handed out when the delay ends.
-fn release_with_delay()
-    ensures { Plays
+    // A job that was released with a delay is handed out when the delay ends.
+    ensures release_with_delay { Plays
         (ask 0 (Put 0 0 9 (codes "x")) gives ((0, Inserted 1) ∷ [])
         ∷ ask 0 Reserve gives ((0, Reserved 1 (codes "x")) ∷ [])
         ∷ ask 0 (Release 1 7 3) gives ((0, Released) ∷ [])
         ∷ at 2999 (ask 0 Reserve) gives []
         ∷ tick 3000 gives ((0, Reserved 1 (codes "x")) ∷ [])
         ∷ []) }
-{}
-
-/// Waits that end at one moment end in the order in which they began.
-fn timed_waits_by_ticket()
-    ensures { Plays
+    // Waits that end at one moment end in the order in which they began.
+    ensures timed_waits_by_ticket { Plays
         (ask 2 (ReserveWithTimeout 1) gives []
         ∷ ask 1 (ReserveWithTimeout 1) gives []
         ∷ tick 1000 gives ((2, TimedOut) ∷ (1, TimedOut) ∷ [])
         ∷ []) }
-{}
-
-/// If a client sends no more, its wait ends.
-fn end_of_a_waiter()
-    ensures { Plays (ask 0 Reserve gives [] ∷ end 0 gives ((0, TimedOut) ∷ []) ∷ []) }
-{}
-
-/// A pause of 0 seconds ends a pause, and the waiting client gets the job.
-fn pause_lifted()
-    ensures { Plays
+    // If a client sends no more, its wait ends.
+    ensures end_of_a_waiter { Plays (ask 0 Reserve gives [] ∷ end 0 gives ((0, TimedOut) ∷ []) ∷ []) }
+    // A pause of 0 seconds ends a pause, and the waiting client gets the job.
+    ensures pause_lifted { Plays
         (ask 0 (Put 0 0 9 (codes "x")) gives ((0, Inserted 1) ∷ [])
         ∷ ask 0 (PauseTube (codes "default") 5) gives ((0, Paused) ∷ [])
         ∷ ask 1 Reserve gives []
@@ -263,23 +231,11 @@ fn due_moments()
 
 #[test]
 fn examples_of_steps() {
-    waiters_of_two_tubes();
-    deadline_soon_at_one_second();
+    waits();
     lease_expires_to_its_waiter();
-    pause_and_delay_end_together();
-    close_hands_on();
     requeue_after_close();
-    kick_before_requeue();
-    requeue_at_the_end_of_moments();
-    requeue_while_paused_and_draining();
-    draining();
-    draining_before_the_limit();
-    jobs_of_every_state_count();
-    greatest_limit();
-    touch_moves_the_lease();
-    release_with_delay();
-    timed_waits_by_ticket();
-    end_of_a_waiter();
-    pause_lifted();
+    requeue_delays();
+    drains_and_limits();
+    ends_of_waits();
     due_moments();
 }

@@ -13,69 +13,53 @@ fn every_answer()
     ensures { map answer_text sample_answers ≡ sample_texts }
 {}
 
-// `list-tubes` as the first client sees it.
-fn list_of_tubes_at_first()
-    ensures text { name_list (tubes first_client) ≡ codes "---\n- default\n" }
-    ensures len { length (name_list (tubes first_client)) ≡ 14 }
-{}
-
-// `stats-tube default` as the first client sees it.
-fn tube_statistics_at_first()
-    ensures text { tube_statistics default_tube first_client ≡
+// Texts that the first client sees.
+fn texts_at_first()
+    // `list-tubes` as the first client sees it.
+    ensures list_of_tubes_at_first_text { name_list (tubes first_client) ≡ codes "---\n- default\n" }
+    ensures list_of_tubes_at_first_len { length (name_list (tubes first_client)) ≡ 14 }
+    // `stats-tube default` as the first client sees it.
+    ensures tube_statistics_at_first_text { tube_statistics default_tube first_client ≡
         codes "---\nname: default\ncurrent-jobs-urgent: 0\ncurrent-jobs-ready: 0\ncurrent-jobs-reserved: 0\n"
         ++ codes "current-jobs-delayed: 0\ncurrent-jobs-buried: 0\ntotal-jobs: 0\ncurrent-using: 1\n"
         ++ codes "current-watching: 1\ncurrent-waiting: 0\ncmd-delete: 0\ncmd-pause-tube: 0\npause: 0\n"
         ++ codes "pause-time-left: 0\n" }
-    ensures len { length (tube_statistics default_tube first_client) ≡ 265 }
-{}
-
-// `stats` as the first client sees it.
-fn server_statistics_at_first()
-    ensures text { server_statistics first_client ≡
+    ensures tube_statistics_at_first_len { length (tube_statistics default_tube first_client) ≡ 265 }
+    // `stats` as the first client sees it.
+    ensures server_statistics_at_first_text { server_statistics first_client ≡
         codes "---\ncurrent-jobs-urgent: 0\ncurrent-jobs-ready: 0\ncurrent-jobs-reserved: 0\n"
         ++ codes "current-jobs-delayed: 0\ncurrent-jobs-buried: 0\njob-timeouts: 0\ntotal-jobs: 0\n"
         ++ codes "max-job-size: 65535\ncurrent-tubes: 1\ncurrent-connections: 1\ncurrent-waiting: 0\n"
         ++ codes "total-connections: 1\ndraining: false\n" }
-    ensures len { length (server_statistics first_client) ≡ 267 }
-{}
-
-// `stats-job` of a job that has only been put.
-fn job_statistics_example()
-    ensures text { job_statistics first_client plain_job ≡
+    ensures server_statistics_at_first_len { length (server_statistics first_client) ≡ 267 }
+    // `stats-job` of a job that has only been put.
+    ensures job_statistics_example_text { job_statistics first_client plain_job ≡
         codes "---\nid: 1\ntube: default\nstate: ready\npri: 0\nage: 0\ndelay: 0\nttr: 1\ntime-left: 0\n"
         ++ codes "reserves: 0\ntimeouts: 0\nreleases: 0\nburies: 0\nkicks: 0\n" }
-    ensures len { length (job_statistics first_client plain_job) ≡ 135 }
+    ensures job_statistics_example_len { length (job_statistics first_client plain_job) ≡ 135 }
 {}
 
-// `stats-job` 500 milliseconds after the second reserve of a job: seconds are rounded down.
-fn job_statistics_of_a_reserved_job()
-    ensures { job_statistics (record first_client { moment = 2500 }) job_reserved_again ≡
+// Texts that show what happened.
+fn texts_later()
+    // `stats-job` 500 milliseconds after the second reserve of a job: seconds are rounded down.
+    ensures job_statistics_of_a_reserved_job { job_statistics (record first_client { moment = 2500 }) job_reserved_again ≡
         codes "---\nid: 1\ntube: default\nstate: reserved\npri: 0\nage: 2\ndelay: 0\nttr: 2\ntime-left: 1\n"
         ++ codes "reserves: 2\ntimeouts: 1\nreleases: 0\nburies: 0\nkicks: 0\n" }
-{}
-
-// A priority of 1024 isn't urgent, and a deleted job still counts among the puts.
-fn tube_statistics_example()
-    ensures text { tube_statistics default_tube after_one_deletion ≡
+    // A priority of 1024 isn't urgent, and a deleted job still counts among the puts.
+    ensures tube_statistics_example_text { tube_statistics default_tube after_one_deletion ≡
         codes "---\nname: default\ncurrent-jobs-urgent: 0\ncurrent-jobs-ready: 1\ncurrent-jobs-reserved: 0\n"
         ++ codes "current-jobs-delayed: 0\ncurrent-jobs-buried: 0\ntotal-jobs: 2\ncurrent-using: 1\n"
         ++ codes "current-watching: 1\ncurrent-waiting: 0\ncmd-delete: 1\ncmd-pause-tube: 0\npause: 0\n"
         ++ codes "pause-time-left: 0\n" }
-    ensures len { length (tube_statistics default_tube after_one_deletion) ≡ 265 }
-{}
-
-// A tube that disappeared and was made again counts from 0.
-fn tube_counts_from_zero()
-    ensures text { tube_statistics (codes "t") after_coming_back ≡
+    ensures tube_statistics_example_len { length (tube_statistics default_tube after_one_deletion) ≡ 265 }
+    // A tube that disappeared and was made again counts from 0.
+    ensures tube_counts_from_zero_text { tube_statistics (codes "t") after_coming_back ≡
         codes "---\nname: t\ncurrent-jobs-urgent: 1\ncurrent-jobs-ready: 1\ncurrent-jobs-reserved: 0\n"
         ++ codes "current-jobs-delayed: 0\ncurrent-jobs-buried: 0\ntotal-jobs: 1\ncurrent-using: 1\n"
         ++ codes "current-watching: 0\ncurrent-waiting: 0\ncmd-delete: 0\ncmd-pause-tube: 0\npause: 0\n"
         ++ codes "pause-time-left: 0\n" }
-    ensures len { length (tube_statistics (codes "t") after_coming_back) ≡ 259 }
-{}
-
-// Names are in byte order, whatever the order in which they were watched, and each appears once.
-fn list_in_byte_order()
-    ensures { name_list (codes "default" ∷ codes "b" ∷ codes "B2" ∷ codes "b" ∷ codes "bb" ∷ []) ≡
+    ensures tube_counts_from_zero_len { length (tube_statistics (codes "t") after_coming_back) ≡ 259 }
+    // Names are in byte order, whatever the order in which they were watched, and each appears once.
+    ensures list_in_byte_order { name_list (codes "default" ∷ codes "b" ∷ codes "B2" ∷ codes "b" ∷ codes "bb" ∷ []) ≡
         codes "---\n- B2\n- b\n- bb\n- default\n" }
 {}

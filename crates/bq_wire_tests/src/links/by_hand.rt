@@ -42,7 +42,7 @@ fn empties<R: Wait>(rt: &R, intake: &Shared, core: &mut CoreEnd) -> bool
 #[test]
 fn intake_by_hand(rt: HostRuntime) -> Result<(), Fail> {
     let (intake, mut core, mut first, mut second) = last_ends(rt.alloc(), 1)?;
-    assert!(rt; (first.number(), second.number()) == (0, 1));
+    assert!(rt; first.number() == 0 && second.number() == 1);
     assert!(rt; fills(&rt, &intake, &mut first, &mut second));
     core.compare(&intake, &mut first);
     assert!(rt; empties(&rt, &intake, &mut core));

@@ -39,7 +39,7 @@ fn sends_to_last(core: &mut CoreEnd, last: &mut SeatEnd, control: &mut SeatEnd) 
 #[test]
 fn two_hundred_and_fifty_six_seats(rt: HostRuntime) -> Result<(), Fail> {
     let (intake, mut core, mut last, mut control) = last_ends(rt.alloc(), 256)?;
-    assert!(rt; (last.number(), control.number()) == (255, 256));
+    assert!(rt; last.number() == 255 && control.number() == 256);
     assert!(rt; takes_both(&rt, &intake, &mut core, &mut last, &mut control));
     assert!(rt; sends_to_last(&mut core, &mut last, &mut control));
     Ok(())
