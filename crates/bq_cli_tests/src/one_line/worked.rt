@@ -70,7 +70,8 @@ pub const WORKED: &[Worked] = &[
     // job_statistics: the statistics of a job, with input that arrives byte by byte.
     (
         "byte by byte put 0 0 1 1~a~stats-job 1~",
-        "INSERTED 1~OK 135~---^id: 1^tube: default^state: ready^pri: 0^age: 0^delay: 0^ttr: 1^time-left: 0^reserves: 0^timeouts: 0^releases: 0^buries: 0^kicks: 0^~",
+        "INSERTED 1~OK 135~---^id: 1^tube: default^state: ready^pri: 0^age: 0^delay: 0^ttr: 1^\
+         time-left: 0^reserves: 0^timeouts: 0^releases: 0^buries: 0^kicks: 0^~",
         LineEnd::EndOfInput,
     ),
     // paused_tube: a paused tube hands out no job to a reserve, but reserve-job still works.
