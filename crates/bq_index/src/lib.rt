@@ -13,6 +13,7 @@ pub use catalog::Catalog;
 pub use edit::Edit;
 pub use fault::NoMemory;
 pub use shelf::Shelf;
+pub use shelves::{Parted, Shelves};
 pub use tree::BoxSource;
 pub use walk::{Test, Visitor};
 
@@ -23,5 +24,6 @@ mod fault;
 mod find;
 mod rotation;
 mod shelf;
+mod shelves;
 mod tree;
 mod walk;

@@ -6,6 +6,8 @@ ghost use Rattle.bq_index.specs.Order.{InOrder, entry_from};
 ghost use Rattle.std.specs.Map.{lookup, remove_entry};
 ghost use Rattle.std.specs.BTreeMap.{is_at, insert_entry};
 ghost use Rattle.bq_index.specs.Edited.{edited_at};
+ghost use Rattle.bq_index.specs.Shelves.{key_from};
+ghost use Rattle.bq_index.specs.Tree.{entries, IsBalanced};
 
 use super::edit::{self, Edit};
 use super::tree::{self, BoxSource, Node, Tree};
@@ -57,7 +59,7 @@ impl<K: Ord + Drop, V: Drop> Drop for Shelf<K, V> {
 
 impl<K: Ord + Drop, V: Drop> Shelf<K, V> {
     ghost use Rattle.std.specs.Borrow.{sem};
-    ghost use Rattle.bq_index.specs.Shelf.{ComparesFew};
+    ghost use Rattle.bq_index.specs.Shelf.{ComparesFew, ComparesFewIn};
     ghost use Rattle.bq_index.specs.ShelfLent.{LeavesEntries, LendsValue};
     ghost use Rattle.bq_index.specs.Walk.{entry_of, passes_by, passes_from, seen_by};
 
@@ -280,6 +282,79 @@ impl<K: Ord + Drop, V: Drop> Shelf<K, V> {
         };
         walk::list(self.tree.top(), &mut listed);
         Ok(listed)
+    }
+
+    // From here to `lowest_from`: what the trees of `Shelves` need, which have the boxes and the count
+    // of comparisons of a shelf in common. Adds an entry to a tree; it takes a spare box.
+    pub(crate) fn insert_into(&mut self, tree: Tree<K, V>, key: K, value: V) -> Tree<K, V>
+        requires spare { 0 < self.old.spare }
+        requires balanced { IsBalanced tree }
+        requires in_order { InOrder K.cmp (entries tree) }
+        requires fits { length (entries tree) < 2 ^ 64 }
+        requires absent { lookup (is_at (K.cmp key)) (entries tree) ≡ None }
+        ensures is { entries result ≡ insert_entry K.cmp (entries tree) key value }
+        ensures balanced { IsBalanced result }
+        ensures entries { self.new.entries ≡ self.old.entries }
+        ensures spare { self.new.spare + 1 ≡ self.old.spare }
+        ensures comparisons { ComparesFewIn (entries tree) self.old self.new }
+    {
+        let (mut node, spares) = tree::unlink(mem::replace(&mut self.spares, Tree::Leaf));
+        self.spares = spares;
+        self.spare -= 1; // the box for the tree
+        tree::fill(&mut *node, Node::Alone { key, value });
+        change::insert(tree, node, &mut self.comparisons)
+    }
+
+    // Removes the entry of a key from a tree and returns its value, if there is one. Its box becomes
+    // spare.
+    pub(crate) fn remove_from(&mut self, tree: Tree<K, V>, key: &K) -> (Tree<K, V>, Option<V>)
+        requires balanced { IsBalanced tree }
+        requires in_order { InOrder K.cmp (entries tree) }
+        requires fits { length (entries tree) + length self.old.entries + self.old.spare < 2 ^ 64 }
+        ensures value { result.1 ≡ lookup (is_at (K.cmp key.now)) (entries tree) }
+        ensures is { entries result.0 ≡ remove_entry (is_at (K.cmp key.now)) (entries tree) }
+        ensures balanced { IsBalanced result.0 }
+        ensures entries { self.new.entries ≡ self.old.entries }
+        ensures spare { self.new.spare ≡ self.old.spare + (if is_some result.1 then 1 else 0) }
+        ensures comparisons { ComparesFewIn (entries tree) self.old self.new }
+    {
+        let (tree, found) = change::remove(tree, key, &mut self.comparisons);
+        let Some((node, value)) = found else {
+            return (tree, None);
+        };
+        let spares = mem::replace(&mut self.spares, Tree::Leaf);
+        self.spares = tree::link(node, spares);
+        self.spare += 1; // the box from the tree
+        (tree, Some(value))
+    }
+
+    // Returns the lowest key in a tree that is `key` or above.
+    pub(crate) fn lowest_in(&mut self, tree: &Tree<K, V>, key: &K) -> Option<K>
+    where
+        K: Copy,
+        requires balanced { IsBalanced tree.now }
+        requires in_order { InOrder K.cmp (entries tree.now) }
+        ensures key { result ≡ key_from (K.cmp key.now) (entries tree.now) }
+        ensures entries { self.new.entries ≡ self.old.entries }
+        ensures spare { self.new.spare ≡ self.old.spare }
+        ensures comparisons { ComparesFewIn (entries tree.now) self.old self.new }
+    {
+        let (key, _) = find::next_from(tree.top(), key, &mut self.comparisons)?;
+        Some(*key)
+    }
+
+    // Returns the lowest key that is `key` or above.
+    #[tactic(auto, using(crate::proofs::Bound::height_bound))]
+    pub(crate) fn lowest_from(&mut self, key: &K) -> Option<K>
+    where
+        K: Copy,
+        ensures key { result ≡ key_from (K.cmp key.now) self.old.entries }
+        ensures entries { self.new.entries ≡ self.old.entries }
+        ensures spare { self.new.spare ≡ self.old.spare }
+        ensures comparisons { ComparesFew self.old self.new }
+    {
+        let (key, _) = find::next_from(self.tree.top(), key, &mut self.comparisons)?;
+        Some(*key)
     }
 
     /// Returns a mutable reference to the value at a key.
