@@ -5,7 +5,7 @@ use Rattle.std.specs.List.{sum_by}
 use Rattle.bq_index.specs.Digits.{binary_digits}
 use Rattle.bq_core_api.specs.Cost.{changed_jobs}
 use Rattle.bq_jobs.specs.Kept.{ComparesAtMost, Kept}
-use Rattle.bq_jobs.proofs.Counting.{digits_rise}
+use Rattle.bq_index.proofs.Bound.{digits_rise}
 use Rattle.bq_jobs.specs.Searching.{Asks}
 use Rattle.bq_state.specs.Asking.{AsksAsChanged, AsksWithin, search_among}
 use Rattle.bq_state.proofs.{DueLemmas.warnings_walked, WaitingLemmas.turns_counted, WarningLemmas.{none_due, one_due, one_waits}}

@@ -3,28 +3,12 @@ use Rattle.std.proofs.Common.{◌≡◌, ℕ, zero, suc, ◌+◌, ◌*◌, ◌/�
 use Rattle.std.specs.Prelude.{◌==◌}
 use Rattle.std.proofs.lemmas.Bool.{cases_Bool}
 use Rattle.std.proofs.lemmas.Bool.Decides.{nat_tests}
-use Rattle.bq_index.specs.Digits.{binary_digits, digits_up_to}
+use Rattle.bq_index.specs.Digits.{binary_digits}
+use Rattle.bq_index.proofs.Bound.{digits_rise}
 use Rattle.bq_job.specs.declared.job.Job.{Job}
 use Rattle.bq_job.specs.machine.Limits.{greatest}
 use Rattle.bq_jobs.specs.Kept.{Kept, search_bound}
 use Rattle.bq_jobs.specs.Searching.{Searches}
-
--- a lower number does not have more digits
-pub digits_rise : (most more n m : ℕ) → n ≤ m → m ≤ more → digits_up_to most n ≤ digits_up_to more m
-digits_rise zero more n m l u = omega arith
-digits_rise (suc most) zero n m l u = let e : (n == 0) ≡ true = grind (arith, nat_tests) in rw e (omega arith)
-digits_rise (suc most) (suc more) n m l u =
-    elim (cases_Bool (n == 0)) [
-      | inl e ↦ rw e (omega arith)
-      | inr e ↦
-          let f : (m == 0) ≡ false = grind (arith, nat_tests) in
-          let i = digits_rise most more (n / 2) (m / 2) (omega arith) (omega arith) in
-          rw (e, f) (omega (arith, i))
-    ]
-
-pub digits_grow : (n m : ℕ) → n ≤ m → binary_digits n ≤ binary_digits m
-unfolding binary_digits
-digits_grow n m l = digits_rise n m n m l (omega arith)
 
 -- the comparisons of a search among at most as many entries as there are jobs
 pub search_is_bounded : (jobs : List Job) (n : ℕ) → n ≤ length jobs → 2 * binary_digits (n + 1) ≤ search_bound jobs

@@ -6,6 +6,7 @@ use Rattle.std.specs.Ordering.{nat_cmp}
 use Rattle.std.specs.Map.{lookup, remove_entry, set_value}
 use Rattle.std.specs.BTreeMap.{is_at, insert_entry}
 use Rattle.std.proofs.lemmas.Bool.{cases_Bool}
+use Rattle.bq_index.proofs.Order.{order_none}
 use Rattle.bq_index.specs.Digits.{binary_digits}
 use Rattle.bq_job.specs.declared.job.Job.{Job}
 use Rattle.bq_job.specs.machine.Changes.{job_with}
@@ -203,3 +204,14 @@ module _ (id : ℕ) (f : Job → Job) (keeps : KeepsId f) (s : Parts) (h : AreSh
             (order_moved timer_laws.total-law timer_place timer_own 0 (2 ^ 64) id j
             (f j) jobs room s.timers h.in_timers h.ids found id_then n.timers a.timers a.timer_spare));
       })
+
+-- without jobs, no order has a place
+pub shelved_none : IsShelved group_cmp timer_cmp (record { entries = []; spare = 0; comparisons = 0 })
+    (record { entries = []; spare = 0; comparisons = 0 })
+    (record { entries = []; spare = 0; comparisons = 0 })
+shelved_none = record {
+  by_own_id = refl;
+  ids = omega arith;
+  in_groups = record { places = λ p. refl; counted = refl; roomy = omega arith; sorted = order_none (Unit {0}) _ };
+  in_timers = record { places = λ p. refl; counted = refl; roomy = omega arith; sorted = order_none (Unit {0}) _ };
+}

@@ -11,6 +11,7 @@ pub mod NamedGroups
 pub mod Names
 pub mod Numbering
 pub mod PlaceOrder
+pub mod PlaceParts
 pub mod Places
 pub mod Ranks
 pub mod Room

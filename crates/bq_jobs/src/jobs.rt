@@ -57,13 +57,19 @@ impl NumberedJobs {
     ghost use Rattle.bq_jobs.specs.Lent.{LeavesNumbered};
 
     /// Returns a value with no jobs, and no room for one.
-    pub fn new() -> NumberedJobs
-        ensures { result ≡ record { jobs = []; room = 0; comparisons = 0; tubes = [] } }
+    ///
+    /// # Errors
+    ///
+    /// `NoMemory` if an allocation fails.
+    pub fn new(alloc: Global) -> Result<NumberedJobs, NoMemory>
+        ensures { IfOk result
+            (λ jobs. jobs ≡ record { jobs = []; room = 0; comparisons = 0; tubes = [] }) }
     {
-        NumberedJobs {
-            rows: Rows::new(),
+        let rows = Rows::new(alloc)?;
+        Ok(NumberedJobs {
+            rows,
             tubes: NumberedTubes::new(),
-        }
+        })
     }
 
     /// Returns the number of jobs.

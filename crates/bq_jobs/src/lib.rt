@@ -21,6 +21,7 @@ pub use named_jobs::Jobs;
 pub use rows::{JobEdit, Moved, Removed, Row, Standing};
 pub use tubes::TubeNumber;
 
+mod groups;
 mod jobs;
 mod named_group;
 mod named_jobs;

@@ -12,7 +12,7 @@ ghost use Rattle.std.specs.Option.{ForSome};
 
 use super::rows::{Row, Standing};
 use super::tubes::TubeNumber;
-use bq_index::{BoxSource, Shelf};
+use bq_index::{BoxSource, Parted, Shelf};
 use bq_job::{JobId, JobState, NoMemory, Seat};
 use std::cmp::Ordering;
 use std::marker::Model;
@@ -69,6 +69,13 @@ impl Group {
         ensures { result ≡ list_of tube list }
     {
         Group(tube.get() * 4 + number_of(list))
+    }
+
+    /// Returns the number that stands for it.
+    pub(crate) fn number(self) -> u64
+        ensures { result ≡ group_number self }
+    {
+        self.0
     }
 
     /// Returns the holder of the jobs of the client at a seat.
@@ -267,6 +274,18 @@ pub enum Timer {
     Lease,
 }
 
+impl Parted for ShelfPlace<Group> {
+    ghost use Rattle.bq_jobs.specs.PlaceParts.{part_of, parts_ascend};
+
+    ghost part = { part_of };
+
+    ghost apart = { parts_ascend };
+
+    fn part(&self) -> u64 {
+        self.group.number()
+    }
+}
+
 impl<G> ShelfPlace<G> {
     ghost use Rattle.bq_jobs.specs.PlaceOrder.{numbers_cmp, rank_of};
 
@@ -399,7 +418,7 @@ pub(crate) fn leave<G: Ord + Drop>(
 }
 
 /// Removes one place, if there is one, and adds another, if there is one.
-#[tactic(auto, using(crate::proofs::Counting::digits_grow, crate::proofs::Orders::fewer_places))]
+#[tactic(auto, using(bq_index::proofs::Bound::digits_grow, crate::proofs::Orders::fewer_places))]
 pub(crate) fn shift<G: Ord + Drop>(
     order: &mut Shelf<ShelfPlace<G>, ()>,
     from: Option<ShelfPlace<G>>,

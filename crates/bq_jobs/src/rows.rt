@@ -15,11 +15,13 @@ ghost use Rattle.bq_jobs.specs.Searching.{FindsById, Searches};
 ghost use Rattle.bq_jobs.specs.Seen.{IsBodyOf, IsNumberOf};
 ghost use Rattle.bq_jobs.specs.Stages.{state_of};
 
-use super::places::{self, Group, ShelfPlace, Timer};
+use super::groups::Groups;
+use super::places::{self, Group, Timer};
 use super::timers::Timers;
 use super::tubes::TubeNumber;
 use bq_index::{BoxSource, Edit, Shelf};
 use bq_job::{Body, Counts, Job, JobId, JobState, Moment, NoMemory, Pri, Seat, TubeName};
+use std::alloc::Global;
 use std::marker::Model;
 use std::snapshot::Snapshot;
 
@@ -224,7 +226,7 @@ pub trait JobEdit {
 #[derive(Drop)]
 pub(crate) struct Rows {
     by_id: Shelf<JobId, Row>,
-    groups: Shelf<ShelfPlace<Group>, ()>,
+    groups: Groups,
     timers: Timers,
 }
 
@@ -243,15 +245,18 @@ impl Rows {
     ghost use Rattle.std.specs.Borrow.{sem};
     ghost use Rattle.bq_jobs.specs.Lent.{LeavesRows};
 
-    /// Returns a value with no jobs, and no room for one.
-    pub(crate) fn new() -> Rows
-        ensures { result ≡ record { jobs = []; room = 0; comparisons = 0; tubes = [] } }
+    /// Returns a value with no jobs, and no room for one, or `NoMemory` if the allocation of the
+    /// table of groups fails.
+    pub(crate) fn new(alloc: Global) -> Result<Rows, NoMemory>
+        ensures { IfOk result
+            (λ rows. rows ≡ record { jobs = []; room = 0; comparisons = 0; tubes = [] }) }
     {
-        Rows {
+        let groups = Groups::new(alloc)?;
+        Ok(Rows {
             by_id: Shelf::new(),
-            groups: Shelf::new(),
+            groups,
             timers: Timers::new(),
-        }
+        })
     }
 
     /// Returns the number of jobs.
@@ -291,7 +296,7 @@ impl Rows {
         let Some(places) = self.by_id.len().checked_add(1) else {
             return Err(NoMemory);
         };
-        places::make_room(&mut self.groups, source, places)?;
+        self.groups.make_room(source, places)?;
         self.timers.make_room(source, places)?;
         match self.by_id.reserve_from(source, 1) {
             Ok(()) => Ok(()),
@@ -324,7 +329,7 @@ impl Rows {
         ensures room { self.new.room + 1 ≡ self.old.room }
         ensures comparisons { ComparesAtMost 4 self.old self.new }
     {
-        places::enter(&mut self.groups, places::group_place(id, &job));
+        self.groups.enter(places::group_place(id, &job));
         self.timers.enter(places::timer_place(id, &job));
         self.by_id.insert(id, job);
     }
@@ -338,7 +343,7 @@ impl Rows {
         ensures left { Removes id result self.old self.new }
     {
         let job = self.by_id.remove(&id)?;
-        places::leave(&mut self.groups, places::group_place(id, &job));
+        self.groups.leave(places::group_place(id, &job));
         self.timers.leave(places::timer_place(id, &job));
         Some(job)
     }
@@ -371,7 +376,7 @@ impl Rows {
             places::place_in_groups(id, moved.tube, from),
             places::place_in_groups(id, moved.tube, to),
         );
-        places::shift(&mut self.groups, left, entered);
+        self.groups.shift(left, entered);
         self.timers.shift(
             places::place_in_timers(id, from),
             places::place_in_timers(id, to),
@@ -427,7 +432,7 @@ impl Rows {
         ensures rank { result ≡ first_held group self.old.jobs }
         ensures kept { Searches 1 self.old self.new }
     {
-        places::first_rank(&mut self.groups, group)
+        self.groups.first_rank(group)
     }
 
     /// Returns the moment and the id of the first delay or of the first lease: by moment, then by

@@ -113,7 +113,7 @@ impl Timers {
     }
 
     /// Removes one place, if there is one, and adds another, if there is one.
-    #[tactic(auto, using(crate::proofs::Counting::digits_grow, crate::proofs::Orders::fewer_places))]
+    #[tactic(auto, using(bq_index::proofs::Bound::digits_grow, crate::proofs::Orders::fewer_places))]
     pub(crate) fn shift(&mut self, from: Option<ShelfPlace<Timer>>, to: Option<ShelfPlace<Timer>>)
         requires held { ForSome from
             (λ p. IsSome (holds_place ⟦<Timer as Ord>⟧.cmp p self.old.entries)) }

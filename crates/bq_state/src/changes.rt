@@ -400,7 +400,7 @@ pub fn no_jobs(alloc: Global) -> Result<NumberedJobs, NoMemory>
     ensures comparisons { IfOk result (λ jobs. jobs.comparisons ≡ 0) }
     ensures numbered { IfOk result (λ jobs. HaveNumbers jobs.tubes first_tubes.entries) }
 {
-    let mut jobs = NumberedJobs::new();
+    let mut jobs = NumberedJobs::new(alloc)?;
     jobs.know(alloc, &default_tube())?;
     Ok(jobs)
 }

@@ -1,6 +1,6 @@
 //! Another reference to a job's body.
 
-use crate::jobs::putting::{put_in_room, tube};
+use crate::jobs::putting::{no_jobs, put_in_room, tube};
 use bq_job::{JobId, JobState};
 use bq_jobs::NumberedJobs;
 use std::alloc::Global;
@@ -29,5 +29,5 @@ fn put_and_share(rt: &impl Abort, alloc: Global, jobs: &mut NumberedJobs) {
 
 #[test]
 fn bodies_are_shared(rt: HostRuntime) {
-    put_and_share(&rt, rt.alloc(), &mut NumberedJobs::new());
+    put_and_share(&rt, rt.alloc(), &mut no_jobs(&rt, rt.alloc()));
 }

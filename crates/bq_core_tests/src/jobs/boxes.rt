@@ -1,7 +1,7 @@
 //! The three boxes of a job. The allocation of any of them may fail, and they return to the heap
 //! after a peak.
 
-use crate::jobs::putting::{has, put_in_room, put_new, tube};
+use crate::jobs::putting::{has, no_jobs, put_in_room, put_new, tube};
 use bq_index::{BoxSource, NoMemory as Refused};
 use bq_job::{JobId, JobState, TubeName};
 use bq_jobs::NumberedJobs;
@@ -87,7 +87,7 @@ fn refuses_one(
 // The same in a queue of its own.
 fn refuse_anew(rt: &impl Abort, alloc: Global, refused: usize, left: usize) {
     let name = tube(rt, "default");
-    assert!(rt; refuses_one(alloc, &mut NumberedJobs::new(), name, refused, left));
+    assert!(rt; refuses_one(alloc, &mut no_jobs(rt, alloc), name, refused, left));
 }
 
 #[test]
@@ -137,7 +137,7 @@ fn room_of_a_peak_given_back(rt: HostRuntime) {
     peak_passes(
         &rt,
         rt.alloc(),
-        &mut NumberedJobs::new(),
+        &mut no_jobs(&rt, rt.alloc()),
         tube(&rt, "default"),
     );
 }
@@ -169,7 +169,11 @@ fn bytes_of_a_job(rt: HostRuntime) {
         heap: rt.alloc(),
         sizes: [0; 3],
     };
-    assert!(rt; NumberedJobs::new().reserve_one_from(&mut source).is_ok());
+    assert!(rt;
+        no_jobs(&rt, rt.alloc())
+            .reserve_one_from(&mut source)
+            .is_ok()
+    );
     let [place, timer, record] = source.sizes;
     assert!(rt; is_size(place, 48) && is_size(timer, 40) && is_size(record, 120));
 }

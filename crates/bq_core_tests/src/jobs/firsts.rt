@@ -1,6 +1,6 @@
 //! The first job of each kind, by hand.
 
-use crate::jobs::putting::{put_in_room, tube};
+use crate::jobs::putting::{no_jobs, put_in_room, tube};
 use bq_job::{JobId, JobState, Pri, Seat};
 use bq_jobs::NumberedJobs;
 use std::alloc::Global;
@@ -87,5 +87,5 @@ fn add_and_look(rt: &impl Abort, alloc: Global, jobs: &mut NumberedJobs) {
 
 #[test]
 fn first_of_each_kind(rt: HostRuntime) {
-    add_and_look(&rt, rt.alloc(), &mut NumberedJobs::new());
+    add_and_look(&rt, rt.alloc(), &mut no_jobs(&rt, rt.alloc()));
 }

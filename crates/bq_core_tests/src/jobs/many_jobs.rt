@@ -1,6 +1,6 @@
 //! More jobs than in any other test.
 
-use crate::jobs::putting::{has, put_in_room, tube};
+use crate::jobs::putting::{has, no_jobs, put_in_room, tube};
 use bq_job::{JobState, TubeName};
 use bq_jobs::NumberedJobs;
 use std::alloc::Global;
@@ -39,5 +39,5 @@ fn fills_and_empties(alloc: Global, jobs: &mut NumberedJobs, name: TubeName) -> 
 #[test]
 fn three_thousand_jobs(rt: HostRuntime) {
     let name = tube(&rt, "default");
-    assert!(rt; fills_and_empties(rt.alloc(), &mut NumberedJobs::new(), name));
+    assert!(rt; fills_and_empties(rt.alloc(), &mut no_jobs(&rt, rt.alloc()), name));
 }

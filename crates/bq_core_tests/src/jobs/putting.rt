@@ -10,6 +10,11 @@ pub fn tube(rt: &impl Abort, name: &str) -> TubeName {
     TubeName::new(name.as_bytes()).expect(rt, "the name of a tube")
 }
 
+/// Returns no jobs, and no room for one.
+pub fn no_jobs(rt: &impl Abort, alloc: Global) -> NumberedJobs {
+    NumberedJobs::new(alloc).expect(rt, "the memory for no jobs")
+}
+
 /// Returns a job with a body of three bytes.
 pub fn job(
     alloc: Global,

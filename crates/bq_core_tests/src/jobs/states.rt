@@ -1,6 +1,6 @@
 //! A job that goes from state to state in the room of one job.
 
-use crate::jobs::putting::{change, has, put_in_room, put_new, tube};
+use crate::jobs::putting::{change, has, no_jobs, put_in_room, put_new, tube};
 use bq_job::{JobState, TubeName};
 use bq_jobs::{NumberedJobs, Removed};
 use std::alloc::Global;
@@ -90,7 +90,7 @@ fn go_through_states(rt: &impl Abort, alloc: Global, jobs: &mut NumberedJobs, na
 #[test]
 fn all_states_in_one_room(rt: HostRuntime) {
     let name = tube(&rt, "default");
-    go_through_states(&rt, rt.alloc(), &mut NumberedJobs::new(), &name);
+    go_through_states(&rt, rt.alloc(), &mut no_jobs(&rt, rt.alloc()), &name);
 }
 
 // Adds a ready job to the first tube and a delayed one to the second.
@@ -125,5 +125,5 @@ fn put_and_discard(rt: &impl Abort, alloc: Global, jobs: &mut NumberedJobs) {
 
 #[test]
 fn discarded_job_leaves_its_room(rt: HostRuntime) {
-    put_and_discard(&rt, rt.alloc(), &mut NumberedJobs::new());
+    put_and_discard(&rt, rt.alloc(), &mut no_jobs(&rt, rt.alloc()));
 }

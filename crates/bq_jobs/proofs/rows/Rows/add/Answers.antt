@@ -15,13 +15,13 @@ pub invariant_of-self : goal.invariant_of-self
 invariant_of-self c =
     let s = c.self.inside in
     let j = c.args.job in
-    shelved_added j s (record { by_id = c.insert.new.self; groups = c.enter.new.order; timers = c.enter-2.new.self })
+    shelved_added j s (record { by_id = c.insert.new.self; groups = c.enter.new.self; timers = c.enter-2.new.self })
     c.self.invariant (omega (arith, c.requires.id, c.ranges.id))
     (ap (λ (m : Kept). job_with j.id m.jobs) c.self.view_is ∙ c.requires.absent) (record {
       by_id = c.insert.ensures.entries ∙ ap (λ id. insert_entry nat_cmp s.by_id.entries id j) (sym c.requires.id);
       room = c.insert.ensures.spare;
       groups = c.enter.ensures.entries ∙ ap (λ p. with_place group_cmp p s.groups.entries) c.group_place.ensures;
-      group_spare = ap (λ p. c.enter.new.order.spare + cond (is_some p) 1 0) (sym c.group_place.ensures) ∙ c.enter.ensures.spare;
+      group_spare = ap (λ p. c.enter.new.self.spare + cond (is_some p) 1 0) (sym c.group_place.ensures) ∙ c.enter.ensures.spare;
       timers = c.enter-2.ensures.entries ∙ ap (λ p. with_place timer_cmp p s.timers.entries) c.timer_place.ensures;
       timer_spare = ap (λ p. c.enter-2.new.self.spare + cond (is_some p) 1 0) (sym c.timer_place.ensures) ∙ c.enter-2.ensures.spare;
     })

@@ -67,12 +67,12 @@ invariant_of-self-2 g c =
     let entries = c.edit_at.ensures.entries ∙ ap (λ o. with_edited c.args.id f o s.by_id.entries)
     (entry_then c.args.id f c.requires.id c.requires.tube s h m told) in
     shelved_changed c.args.id f c.requires.id s h j found
-    (record { by_id = c.edit_at.new.by_id; groups = c.shift.new.order; timers = c.shift-2.new.self }) entries (record {
+    (record { by_id = c.edit_at.new.by_id; groups = c.shift.new.self; timers = c.shift-2.new.self }) entries (record {
       room = c.edit_at.ensures.spare;
       groups = c.shift.ensures.entries ∙ ap (λ p.
           with_place group_cmp p (without_place group_cmp c.place_in_groups-left.result s.groups.entries)) to_group
           ∙ ap (λ p. with_place group_cmp (group_place (f j)) (without_place group_cmp p s.groups.entries)) from_group;
-      group_spare = sym (ap (λ p. c.shift.new.order.spare + cond (is_some p) 1 0) to_group) ∙ c.shift.ensures.spare
+      group_spare = sym (ap (λ p. c.shift.new.self.spare + cond (is_some p) 1 0) to_group) ∙ c.shift.ensures.spare
           ∙ ap (λ p. s.groups.spare + cond (is_some p) 1 0) from_group;
       timers = c.shift-2.ensures.entries ∙ ap (λ p.
           with_place timer_cmp p (without_place timer_cmp c.place_in_timers.result s.timers.entries)) to_timer

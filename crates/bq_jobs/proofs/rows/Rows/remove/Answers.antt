@@ -54,7 +54,7 @@ invariant_of-self-2 c =
     let was = c.in_ok-job.was in
     let spare = ap (λ o. s.by_id.spare + cond (is_some o) 1 0) was in
     shelved_removed c.args.id c.in_ok-job.job s
-    (record { by_id = c.remove.new.self; groups = c.leave.new.order; timers = c.leave-2.new.self })
+    (record { by_id = c.remove.new.self; groups = c.leave.new.self; timers = c.leave-2.new.self })
     h (sym (found_in c.args.id s h) ∙ sym c.remove.ensures.value ∙ was) (record {
       by_id = c.remove.ensures.entries;
       room = omega (arith, c.remove.ensures.spare, spare);
@@ -68,7 +68,7 @@ pub returns-clause-left : goal.returns-clause-left
 returns-clause-left c =
     let s = c.self.inside in
     let h = c.self.invariant in
-    removes c.args.id s (record { by_id = c.remove.new.self; groups = c.leave.new.order; timers = c.leave-2.new.self })
+    removes c.args.id s (record { by_id = c.remove.new.self; groups = c.leave.new.self; timers = c.leave-2.new.self })
     c.args.self.now (Some c.in_ok-job.job) h c.self.view_is c.remove.ensures.entries
     (c.remove.ensures.spare ∙ ap (λ o. s.by_id.spare + cond (is_some o) 1 0) c.in_ok-job.was)
     (omega (arith, c.remove.ensures.comparisons, c.leave.ensures.comparisons, c.leave-2.ensures.comparisons))
