@@ -5,6 +5,7 @@ mod boxes;
 mod firsts;
 mod many_jobs;
 mod named;
+mod numbers;
 mod putting;
 mod shelves;
 mod states;

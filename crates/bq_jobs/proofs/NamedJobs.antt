@@ -1,7 +1,7 @@
 -- Operations on jobs by the names of their tubes agree with those on records by numbers.
 use Rattle.std.proofs.Common.{◌≡◌, ◌+◌, ◌*◌, ◌≤◌, ℕ, suc, length, Bor, Bool, true, false, ◌&&◌, ◌||◌, List}
 use Rattle.std.proofs.Common.{[], ◌∷◌, Option, Some, None, is_some, map, refl, sym, ap, ◌∙◌, subst, inl, inr}
-use Rattle.std.specs.Prelude.{◌==◌, nat_lt, unwrap_or, if◌then◌else◌, is_ok, Result, Ok, Err, IfOk}
+use Rattle.std.specs.Prelude.{◌==◌, nat_lt, unwrap_or, if◌then◌else◌, Result, Ok, Err, IfOk, OnErr, OnOk}
 use Rattle.std.specs.Cmp.Lexicographic.{bytes_decides}
 use Rattle.std.specs.List.{AllByRecursion as All, list_any}
 use Rattle.std.specs.Option.{option_and_then, option_map}
@@ -17,15 +17,15 @@ use Rattle.bq_job.proofs.LookupLemmas.{job_in_map}
 use Rattle.bq_index.specs.Digits.{binary_digits}
 use Rattle.bq_jobs.specs.Kept.{ComparesAtMost, Kept, with_added, without}
 use Rattle.bq_jobs.specs.Changed.{IgnoresTube, moved_by, moved_in, removed_from, row_moved_by, row_removed, standing, with_changed}
-use Rattle.bq_jobs.specs.Numbering.{AreNumbered, IsNumbered, IsPaired, Numbering, kept_named}
-use Rattle.bq_jobs.specs.Numbering.{name_of, named, number_of, with_known, without_known}
+use Rattle.bq_jobs.specs.Numbering.{AreNumbered, IsNumbered, IsPaired, Numbering, Registers, kept_named}
+use Rattle.bq_jobs.specs.Numbering.{name_of, named, number_of, without_known}
 use Rattle.bq_jobs.specs.Names.{number_in}
 use Rattle.bq_jobs.specs.Room.{Removes}
 use Rattle.bq_jobs.specs.Searching.{FindsById}
 use Rattle.bq_jobs.specs.Told.{job_told, moved_told, removed_told}
 use Rattle.bq_jobs.specs.Seen.{IsBodyOf, IsNumberOf, IsTubeOf, but_for_tube, in_tube}
 use Rattle.bq_jobs.proofs.Changes.{stays_in}
-use Rattle.bq_jobs.proofs.NumberingLemmas.{is_known_then, name_kept, name_left, number_kept, other_numbers}
+use Rattle.bq_jobs.proofs.NumberingLemmas.{name_left}
 
 or_parts : (a b : Bool) → (a || b) ≡ false → (a ≡ false) × (b ≡ false)
 or_parts true b e = absurd cc
@@ -238,20 +238,19 @@ module _ (k : Numbering) (id : ℕ) (f : Job → Job) (ignores : IgnoresTube f) 
           ∙ ap (λ i. Some (record { tube = (named k j).tube; from = standing j; to = standing i })) (sym (edited_named k id f ignores j))
 
 -- Registering a tube does not change the tubes of the jobs.
-pub numbered_known : (k : Numbering) (h : IsPaired k) (name : List ℕ) (rows : List Job) → AreNumbered k rows
-    → AreNumbered (with_known name k) rows
-numbered_known k h name [] all = tt
-numbered_known k h name (j ∷ rows) all = (
-  (all.0.0, ap is_some (name_kept k h name (number_in j.tube) all.0.1) ∙ all.0.1),
-  numbered_known k h name rows all.1,
-)
+module _ (k new : Numbering) (name : List ℕ) (registers : Registers name k new) where
+  pub numbered_known : (rows : List Job) → AreNumbered k rows → AreNumbered new rows
+  numbered_known [] all = tt
+  numbered_known (j ∷ rows) all = (
+    (all.0.0, ap is_some (registers.names (number_in j.tube) all.0.1) ∙ all.0.1),
+    numbered_known rows all.1,
+  )
 
-pub named_known : (k : Numbering) (h : IsPaired k) (name : List ℕ) (rows : List Job) → AreNumbered k rows
-    → map (named (with_known name k)) rows ≡ map (named k) rows
-named_known k h name [] all = refl
-named_known k h name (j ∷ rows) all =
-    ap (λ o. record j { tube = unwrap_or o [] } ∷ map (named (with_known name k)) rows) (name_kept k h name (number_in j.tube) all.0.1)
-    ∙ ap (λ js. named k j ∷ js) (named_known k h name rows all.1)
+  pub named_known : (rows : List Job) → AreNumbered k rows → map (named new) rows ≡ map (named k) rows
+  named_known [] all = refl
+  named_known (j ∷ rows) all =
+      ap (λ o. record j { tube = unwrap_or o [] } ∷ map (named new) rows) (registers.names (number_in j.tube) all.0.1)
+      ∙ ap (λ js. named k j ∷ js) (named_known rows all.1)
 
 -- Neither does removing a tube that has no jobs.
 module _ (k : Numbering) (h : IsPaired k) (name : List ℕ) where
@@ -280,33 +279,30 @@ module _ (k : Numbering) (h : IsPaired k) (name : List ℕ) where
       ∙ ap (λ js. named k j ∷ js) (named_left rows all.1 both.1)
 
 -- The same for a registration that may fail for lack of memory.
-abbrev pub known_if : Bool → List ℕ → Numbering → Numbering
-known_if b name k = if b then with_known name k else k
+module _ {E : Type 0} (k new : Numbering) (name : List ℕ) where
+  pub numbered_after : (r : Result (Unit {0}) E) → OnOk r (Registers name k new) → OnErr r (new ≡ k) → (rows : List Job)
+      → AreNumbered k rows → AreNumbered new rows
+  numbered_after (Ok x) registers same rows all = numbered_known k new name registers rows all
+  numbered_after (Err e) registers same rows all = subst (λ n. AreNumbered n rows) (sym same) all
 
-pub numbered_if : (b : Bool) (k : Numbering) (h : IsPaired k) (name : List ℕ) (rows : List Job) → AreNumbered k rows
-    → AreNumbered (known_if b name k) rows
-numbered_if true k h name rows all = numbered_known k h name rows all
-numbered_if false k h name rows all = all
+  pub named_after : (r : Result (Unit {0}) E) → OnOk r (Registers name k new) → OnErr r (new ≡ k) → (rows : List Job)
+      → AreNumbered k rows → map (named new) rows ≡ map (named k) rows
+  named_after (Ok x) registers same rows all = named_known k new name registers rows all
+  named_after (Err e) registers same rows all = ap (λ n. map (named n) rows) same
 
-pub named_if : (b : Bool) (k : Numbering) (h : IsPaired k) (name : List ℕ) (rows : List Job) → AreNumbered k rows
-    → map (named (known_if b name k)) rows ≡ map (named k) rows
-named_if true k h name rows all = named_known k h name rows all
-named_if false k h name rows all = refl
+  pub known_after : (r : Result (Unit {0}) E) → OnOk r (Registers name k new) → IfOk r (λ _. is_some (number_of name new) ≡ true)
+  known_after (Ok x) registers = registers.known
+  known_after (Err e) registers = tt
 
-pub kept_if : (b : Bool) (k : Numbering) (h : IsPaired k) (name other : List ℕ) → is_some (number_of other k) ≡ true
-    → is_some (number_of other (known_if b name k)) ≡ true
-kept_if true k h name other some = number_kept k h name other some
-kept_if false k h name other some = some
+  pub kept_after : (r : Result (Unit {0}) E) → OnOk r (Registers name k new) → OnErr r (new ≡ k) → (other : List ℕ)
+      → is_some (number_of other k) ≡ true → is_some (number_of other new) ≡ true
+  kept_after (Ok x) registers same other some = registers.kept other some
+  kept_after (Err e) registers same other some = ap (λ n. is_some (number_of other n)) same ∙ some
 
-pub others_if : (b : Bool) (k : Numbering) (h : IsPaired k) (name other : List ℕ) → is_same_name name other ≡ false
-    → number_of other (known_if b name k) ≡ number_of other k
-others_if true k h name other apart = other_numbers k h name other apart
-others_if false k h name other apart = refl
-
-pub known_of : {E : Type 0} (r : Result (Unit {0}) E) (k : Numbering) (h : IsPaired k) (name : List ℕ)
-    → IfOk r (λ _. is_some (number_of name (known_if (is_ok r) name k)) ≡ true)
-known_of (Ok x) k h name = is_known_then k h name
-known_of (Err e) k h name = tt
+  pub others_after : (r : Result (Unit {0}) E) → OnOk r (Registers name k new) → OnErr r (new ≡ k) → (other : List ℕ)
+      → is_same_name name other ≡ false → number_of other new ≡ number_of other k
+  others_after (Ok x) registers same other apart = registers.others other apart
+  others_after (Err e) registers same other apart = ap (number_of other) same
 
 -- the tube of a job is the name of its number
 pub tube_named : (k : Numbering) (id : ℕ) (rows : List Job) → AreNumbered k rows → (n : ℕ)

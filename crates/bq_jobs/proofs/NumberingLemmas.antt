@@ -1,9 +1,9 @@
 -- Consequences of the numbering of tubes.
-use Rattle.std.proofs.Common.{◌≡◌, ◌≤◌, ◌<◌, ◌+◌, ◌^◌, ℕ, Bool, true, false, cond, if◌then◌else◌, List}
-use Rattle.std.proofs.Common.{Option, Some, None, is_some, arith, refl, sym, ap, ◌∙◌, subst, inl, inr}
-use Rattle.std.specs.Prelude.{nat_lt, IfSome}
+use Rattle.std.proofs.Common.{◌≡◌, ◌≤◌, ◌<◌, ◌+◌, ◌^◌, ℕ, zero, suc, Bool, true, false, cond, List, [], ◌∷◌, length, get_or, set}
+use Rattle.std.proofs.Common.{Option, Some, None, is_some, arith, refl, sym, ap, ◌∙◌, subst, inl, inr, ◌++◌}
+use Rattle.std.specs.Prelude.{nat_lt, IfSome, ◌==◌}
+use Rattle.std.proofs.lemmas.List.{get_or_past}
 use Rattle.std.specs.BTreeMap.{is_at, insert_entry}
-use Rattle.std.specs.Cmp.{nat_cmp_total}
 use Rattle.std.specs.Cmp.Lexicographic.{bytes_decides, nat_list_cmp_total, slice_cmp, texts_ties}
 use Rattle.std.specs.Map.{lookup, remove_entry}
 use Rattle.std.specs.Ordering.{is_eq, nat_cmp}
@@ -11,7 +11,8 @@ use Rattle.std.proofs.lemmas.Bool.{cases_Bool, eqb-true}
 use Rattle.std.proofs.lemmas.Bool.Decides.{nat_tests}
 use Rattle.bq_index.proofs.Order.{order_insert, order_remove}
 use Rattle.bq_job.specs.reading.TubeName.{is_same_name}
-use Rattle.bq_jobs.specs.Numbering.{IsPaired, Numbering, name_of, names_without, number_of, paired_with, with_known, without_known}
+use Rattle.bq_jobs.specs.Numbering.{IsGiven, IsPaired, Numbering, Registers}
+use Rattle.bq_jobs.specs.Numbering.{name_of, names_without, number_of, paired_with, put_at, without_known}
 use Rattle.bq_jobs.proofs.ById.{is_eq_nat}
 use Rattle.bq_jobs.proofs.Choice.{lookup_inserted, lookup_removed}
 
@@ -35,45 +36,100 @@ none_by (Some a) e = absurd cc
 some_is : {A : Type 0} (a b : A) → Some a ≡ Some b → a ≡ b
 some_is a b e = cc
 
+module _ (x : Option (List ℕ)) where
+  put_same : (names : List (Option (List ℕ))) (m : ℕ) → get_or (put_at names m x) m None ≡ x
+  put_same [] zero = refl
+  put_same [] (suc m) = put_same [] m
+  put_same (y ∷ names) zero = refl
+  put_same (y ∷ names) (suc m) = put_same names m
+
+  before : (m n : ℕ) → (suc m == suc n) ≡ false → (m == n) ≡ false
+  before m n e = grind (arith, nat_tests)
+
+  put_other : (names : List (Option (List ℕ))) (m n : ℕ) → (m == n) ≡ false → get_or (put_at names m x) n None ≡ get_or names n None
+  put_other [] zero zero e = absurd (let t : (0 == 0) ≡ true = grind (arith, nat_tests) in cc)
+  put_other [] zero (suc n) e = refl
+  put_other [] (suc m) zero e = refl
+  put_other [] (suc m) (suc n) e = put_other [] m n (before m n e)
+  put_other (y ∷ names) zero zero e = absurd (let t : (0 == 0) ≡ true = grind (arith, nat_tests) in cc)
+  put_other (y ∷ names) zero (suc n) e = refl
+  put_other (y ∷ names) (suc m) zero e = refl
+  put_other (y ∷ names) (suc m) (suc n) e = put_other names m n (before m n e)
+
+  -- what a number has after another one was changed
+  put_then : (names : List (Option (List ℕ))) (m n : ℕ)
+      → get_or (put_at names m x) n None ≡ cond (is_eq (nat_cmp n m)) x (get_or names n None)
+  put_then names m n = elim (cases_Bool (is_eq (nat_cmp n m))) [
+    | inl e ↦ rw e (ap (λ i. get_or (put_at names m x) i None) (tied_numbers n m e) ∙ put_same names m)
+    | inr e ↦ rw e (put_other names m n (sym (is_eq_nat n m) ∙ e))
+  ]
+
+  -- a slot that is there is set,
+  pub put_is_set : (names : List (Option (List ℕ))) (m : ℕ) → m < length names → set names m x ≡ put_at names m x
+  put_is_set [] m l = absurd (omega (arith, l))
+  put_is_set (y ∷ names) zero l = refl
+  put_is_set (y ∷ names) (suc m) l = ap (λ ns. y ∷ ns) (put_is_set names m (omega (arith, l)))
+
+  -- and the next one is added.
+  pub put_at_end : (names : List (Option (List ℕ))) → names ++ x ∷ [] ≡ put_at names (length names) x
+  put_at_end [] = refl
+  put_at_end (y ∷ names) = ap (λ ns. y ∷ ns) (put_at_end names)
+
+  pub length_put : (names : List (Option (List ℕ))) (m : ℕ) → m < length names → length (put_at names m x) ≡ length names
+  length_put [] m l = absurd (omega (arith, l))
+  length_put (y ∷ names) zero l = refl
+  length_put (y ∷ names) (suc m) l = ap suc (length_put names m (omega (arith, l)))
+
+flipped : (m n : ℕ) → is_eq (nat_cmp n m) ≡ is_eq (nat_cmp m n)
+flipped m n = elim (cases_Bool (is_eq (nat_cmp n m))) [
+  | inl e ↦ e ∙ sym (tie_numbers m n (sym (tied_numbers n m e)))
+  | inr e ↦ e ∙ sym (elim (cases_Bool (is_eq (nat_cmp m n))) [
+    | inl t ↦ absurd (let u = tie_numbers n m (sym (tied_numbers m n t)) in cc)
+    | inr t ↦ t
+  ])
+]
+
+-- a number that has a name has a slot
+pub has_slot : (k : Numbering) (n : ℕ) (name : List ℕ) → name_of n k ≡ Some name → n < length k.names
+has_slot k n name its = elim (cases_Bool (nat_lt n (length k.names))) [
+  | inl less ↦ grind (arith, nat_tests)
+  | inr e ↦ absurd (let above : length k.names ≤ n = grind (arith, nat_tests) in let none = get_or_past k.names n None above in cc)
+]
+
 module _ (k : Numbering) (h : IsPaired k) (name : List ℕ) where
-  module _ (absent : number_of name k ≡ None) where
-    free : name_of k.next k ≡ None
-    free = h.fresh k.next (omega arith)
+  module _ (at : ℕ) (absent : number_of name k ≡ None) (free : name_of at k ≡ None) where
+    number_then : (q : List ℕ) → number_of q (paired_with at name k) ≡ cond (is_eq (slice_cmp nat_cmp q name)) (Some at) (number_of q k)
+    number_then q = lookup_inserted nat_list_cmp_total q name at k.numbers absent
 
-    number_then : (q : List ℕ) → number_of q (paired_with name k) ≡ cond (is_eq (slice_cmp nat_cmp q name)) (Some k.next) (number_of q k)
-    number_then q = lookup_inserted nat_list_cmp_total q name k.next k.numbers absent
-
-    name_then : (n : ℕ) → name_of n (paired_with name k) ≡ cond (is_eq (nat_cmp n k.next)) (Some name) (name_of n k)
-    name_then n = lookup_inserted nat_cmp_total n k.next name k.names free
+    name_then : (n : ℕ) → name_of n (paired_with at name k) ≡ cond (is_eq (nat_cmp n at)) (Some name) (name_of n k)
+    name_then n = put_then (Some name) k.names at n
 
     -- a number that has a name keeps it
-    pub names_stay : (n : ℕ) → is_some (name_of n k) ≡ true → name_of n (paired_with name k) ≡ name_of n k
-    names_stay n some = elim (cases_Bool (is_eq (nat_cmp n k.next))) [
-      | inl e ↦ absurd (let is = tied_numbers n k.next e in let none : name_of n k ≡ None = ap (λ i. name_of i k) is ∙ free in
+    names_stay : (n : ℕ) → is_some (name_of n k) ≡ true → name_of n (paired_with at name k) ≡ name_of n k
+    names_stay n some = elim (cases_Bool (is_eq (nat_cmp n at))) [
+      | inl e ↦ absurd (let is = tied_numbers n at e in let none : name_of n k ≡ None = ap (λ i. name_of i k) is ∙ free in
           let g = rw none at some in cc)
       | inr e ↦ name_then n ∙ rw e refl
     ]
 
-    pub added_is_paired : k.next < 2 ^ 62 → IsPaired (paired_with name k)
+    added_is_paired : length (put_at k.names at (Some name)) ≤ 2 ^ 30 → IsPaired (paired_with at name k)
     added_is_paired few = record {
-      few = omega arith;
-      by_name = order_insert nat_list_cmp_total name k.next k.numbers h.by_name;
-      by_number = order_insert nat_cmp_total k.next name k.names h.by_number;
+      few = few;
+      by_name = order_insert nat_list_cmp_total name at k.numbers h.by_name;
       there = λ q n own. elim (cases_Bool (is_eq (slice_cmp nat_cmp q name))) [
         | inl e ↦
             let is : q ≡ name = tied_names q name e in
-            let next : Some k.next ≡ Some n = rw e at (sym (number_then q) ∙ own) in
-            let tie : is_eq (nat_cmp n k.next) ≡ true =
-            is_eq_nat n k.next ∙ (let same : n ≡ k.next = sym (some_is k.next n next) in grind (arith, nat_tests)) in
+            let next : Some at ≡ Some n = rw e at (sym (number_then q) ∙ own) in
+            let tie : is_eq (nat_cmp n at) ≡ true = tie_numbers n at (sym (some_is at n next)) in
             name_then n ∙ rw tie (ap (λ (s : List ℕ). Some s) (sym is))
         | inr e ↦
             let was : number_of q k ≡ Some n = rw e at (sym (number_then q) ∙ own) in
             let there = h.there q n was in
             names_stay n (ap is_some there) ∙ there
       ];
-      back = λ n q its. elim (cases_Bool (is_eq (nat_cmp n k.next))) [
+      back = λ n q its. elim (cases_Bool (is_eq (nat_cmp n at))) [
         | inl e ↦
-            let is : n ≡ k.next = tied_numbers n k.next e in
+            let is : n ≡ at = tied_numbers n at e in
             let own : Some name ≡ Some q = rw e at (sym (name_then n) ∙ its) in
             let same : name ≡ q = some_is name q own in
             let tie : is_eq (slice_cmp nat_cmp q name) ≡ true = sym (texts_ties q name) ∙ (bytes_decides q name).1 (sym same) in
@@ -87,25 +143,33 @@ module _ (k : Numbering) (h : IsPaired k) (name : List ℕ) where
               | inr t ↦ number_then q ∙ rw t own
             ]
       ];
-      fresh = λ n above. elim (cases_Bool (is_eq (nat_cmp n k.next))) [
-        | inl e ↦ absurd (let is = tied_numbers n k.next e in omega arith)
-        | inr e ↦ name_then n ∙ rw e (h.fresh n (omega arith))
+    }
+
+    added_registers : Registers name k (paired_with at name k)
+    added_registers = record {
+      known = ap is_some (number_then name) ∙ rw (tie_names name name refl) refl;
+      kept = λ other some. elim (cases_Bool (is_eq (slice_cmp nat_cmp other name))) [
+        | inl t ↦ ap is_some (number_then other) ∙ rw t refl
+        | inr t ↦ ap is_some (number_then other) ∙ rw t some
       ];
+      others = λ other apart. elim (cases_Bool (is_eq (slice_cmp nat_cmp other name))) [
+        | inl t ↦ absurd (let same : is_same_name name other ≡ true = (bytes_decides name other).1 (sym (tied_names other name t)) in cc)
+        | inr t ↦ number_then other ∙ rw t refl
+      ];
+      names = names_stay;
     }
 
   removed_then : (q : List ℕ) → lookup (is_at (slice_cmp nat_cmp q)) (remove_entry (is_at (slice_cmp nat_cmp name)) k.numbers) ≡ cond
       (is_eq (slice_cmp nat_cmp name q)) None (number_of q k)
   removed_then q = lookup_removed nat_list_cmp_total q name k.numbers h.by_name
 
-  taken_then : (m n : ℕ) → lookup (is_at (nat_cmp n)) (remove_entry (is_at (nat_cmp m)) k.names) ≡ cond
-      (is_eq (nat_cmp m n)) None (name_of n k)
-  taken_then m n = lookup_removed nat_cmp_total n m k.names h.by_number
+  taken_then : (m n : ℕ) → get_or (put_at k.names m None) n None ≡ cond (is_eq (nat_cmp m n)) None (name_of n k)
+  taken_then m n = put_then None k.names m n ∙ ap (λ b. cond b None (name_of n k)) (flipped m n)
 
   removed_by : (o : Option ℕ) → number_of name k ≡ o
       → IsPaired (record k { numbers = remove_entry (is_at (slice_cmp nat_cmp name)) k.numbers; names = names_without o k.names })
   removed_by None none = record {
     by_name = order_remove (slice_cmp nat_cmp) (is_at (slice_cmp nat_cmp name)) k.numbers h.by_name;
-    by_number = h.by_number;
     there = λ q n own. elim (cases_Bool (is_eq (slice_cmp nat_cmp name q))) [
       | inl e ↦ absurd (let gone : None ≡ Some n = rw e at (sym (removed_then q) ∙ own) in cc)
       | inr e ↦ h.there q n (rw e at (sym (removed_then q) ∙ own))
@@ -116,12 +180,10 @@ module _ (k : Numbering) (h : IsPaired k) (name : List ℕ) where
           let two : None ≡ Some n = sym none ∙ some in cc)
       | inr e ↦ removed_then q ∙ rw e (h.back n q its)
     ];
-    fresh = h.fresh;
     few = h.few;
   }
   removed_by (Some m) its_own = record {
     by_name = order_remove (slice_cmp nat_cmp) (is_at (slice_cmp nat_cmp name)) k.numbers h.by_name;
-    by_number = order_remove nat_cmp (is_at (nat_cmp m)) k.names h.by_number;
     there = λ q n own. elim (cases_Bool (is_eq (slice_cmp nat_cmp name q))) [
       | inl e ↦ absurd (let gone : None ≡ Some n = rw e at (sym (removed_then q) ∙ own) in cc)
       | inr e ↦
@@ -148,78 +210,42 @@ module _ (k : Numbering) (h : IsPaired k) (name : List ℕ) where
             | inr e ↦ removed_then q ∙ rw e own
           ]
     ];
-    fresh = λ n above. elim (cases_Bool (is_eq (nat_cmp m n))) [
-      | inl t ↦ taken_then m n ∙ rw t refl
-      | inr t ↦ taken_then m n ∙ rw t (h.fresh n above)
-    ];
-    few = h.few;
+    few = let l = length_put None k.names m (has_slot k m name (h.there name m its_own)) in omega (arith, l, h.few);
   }
 
   pub removed_is_paired : IsPaired (without_known name k)
   removed_is_paired = removed_by (number_of name k) refl
 
 -- the same for any value with these lists
-pub paired_to : (k new : Numbering) (name : List ℕ) → IsPaired k → number_of name k ≡ None → k.next < 2 ^ 62
-    → new.numbers ≡ insert_entry (slice_cmp nat_cmp) k.numbers name k.next → new.names ≡ insert_entry nat_cmp k.names k.next name
-    → new.next ≡ k.next + 1 → IsPaired new
-paired_to k new name h absent few numbers names next =
-    subst IsPaired (λ i. record { numbers = sym numbers i; names = sym names i; next = sym next i }) (added_is_paired k h name absent few)
+pub paired_to : (k new : Numbering) (name : List ℕ) (n : ℕ) → IsPaired k → number_of name k ≡ None → IsGiven n name k.names new.names
+    → new.numbers ≡ insert_entry (slice_cmp nat_cmp) k.numbers name n → IsPaired new
+paired_to k new name n h absent given numbers =
+    subst IsPaired (λ i. record { numbers = sym numbers i; names = sym given.2 i })
+    (added_is_paired k h name n absent given.1 (let same = ap length given.2 in omega (arith, same, given.3)))
+
+pub registered_to : (k new : Numbering) (name : List ℕ) (n : ℕ) → IsPaired k → number_of name k ≡ None → IsGiven n name k.names new.names
+    → new.numbers ≡ insert_entry (slice_cmp nat_cmp) k.numbers name n → Registers name k new
+registered_to k new name n h absent given numbers =
+    subst (Registers name k) (λ i. record { numbers = sym numbers i; names = sym given.2 i }) (added_registers k h name n absent given.1)
+
+-- a tube that is registered already
+pub registered_before : (k : Numbering) (name : List ℕ) → is_some (number_of name k) ≡ true → Registers name k k
+registered_before k name some = record { known = some; kept = λ other there. there; others = λ other apart. refl; names = λ n there. refl }
 
 pub removed_to : (k new : Numbering) (name : List ℕ) (o : Option ℕ) → IsPaired k → number_of name k ≡ o
-    → new.numbers ≡ remove_entry (is_at (slice_cmp nat_cmp name)) k.numbers → new.names ≡ names_without o k.names
-    → new.next ≡ k.next → IsPaired new
-removed_to k new name o h own numbers names next =
-    subst IsPaired (λ i. record { numbers = sym numbers i; names = sym names i; next = sym next i }) (removed_by k h name o own)
+    → new.numbers ≡ remove_entry (is_at (slice_cmp nat_cmp name)) k.numbers → new.names ≡ names_without o k.names → IsPaired new
+removed_to k new name o h own numbers names =
+    subst IsPaired (λ i. record { numbers = sym numbers i; names = sym names i }) (removed_by k h name o own)
 
 -- The number of a tube is small.
-pub number_few : (k : Numbering) (name : List ℕ) (o : Option ℕ) → IsPaired k → number_of name k ≡ o → IfSome o (λ n. n < 2 ^ 62)
+pub number_few : (k : Numbering) (name : List ℕ) (o : Option ℕ) → IsPaired k → number_of name k ≡ o → IfSome o (λ n. n < 2 ^ 30)
 number_few k name None h own = tt
-number_few k name (Some n) h own = elim (cases_Bool (nat_lt n k.next)) [
-  | inl less ↦ let below : n < k.next = grind (arith, nat_tests) in omega (arith, h.few)
-  | inr e ↦ absurd (let above : k.next ≤ n = grind (arith, nat_tests) in let none = h.fresh n above in let there = h.there name n own in cc)
-]
+number_few k name (Some n) h own = let less = has_slot k n name (h.there name n own) in omega (arith, less, h.few)
 
 -- The other tubes keep their names and numbers.
 module _ (k : Numbering) (h : IsPaired k) (name : List ℕ) where
-  kept_by : (b : Bool) → is_some (number_of name k) ≡ b → (n : ℕ) → is_some (name_of n k) ≡ true
-      → name_of n (if b then k else paired_with name k) ≡ name_of n k
-  kept_by true e n some = refl
-  kept_by false e n some = names_stay k h name (none_by (number_of name k) e) n some
-
-  pub name_kept : (n : ℕ) → is_some (name_of n k) ≡ true → name_of n (with_known name k) ≡ name_of n k
-  name_kept n some = kept_by (is_some (number_of name k)) refl n some
-
-  known_by : (b : Bool) → is_some (number_of name k) ≡ b → (other : List ℕ) → is_some (number_of other k) ≡ true
-      → is_some (number_of other (if b then k else paired_with name k)) ≡ true
-  known_by true e other some = some
-  known_by false e other some = elim (cases_Bool (is_eq (slice_cmp nat_cmp other name))) [
-    | inl t ↦ ap is_some (number_then k h name (none_by (number_of name k) e) other) ∙ rw t refl
-    | inr t ↦ ap is_some (number_then k h name (none_by (number_of name k) e) other) ∙ rw t some
-  ]
-
-  pub number_kept : (other : List ℕ) → is_some (number_of other k) ≡ true → is_some (number_of other (with_known name k)) ≡ true
-  number_kept other some = known_by (is_some (number_of name k)) refl other some
-
-  others_by : (b : Bool) → is_some (number_of name k) ≡ b → (other : List ℕ) → is_same_name name other ≡ false
-      → number_of other (if b then k else paired_with name k) ≡ number_of other k
-  others_by true e other apart = refl
-  others_by false e other apart = elim (cases_Bool (is_eq (slice_cmp nat_cmp other name))) [
-    | inl t ↦ absurd (let same : is_same_name name other ≡ true = (bytes_decides name other).1 (sym (tied_names other name t)) in cc)
-    | inr t ↦ number_then k h name (none_by (number_of name k) e) other ∙ rw t refl
-  ]
-
-  pub other_numbers : (other : List ℕ) → is_same_name name other ≡ false → number_of other (with_known name k) ≡ number_of other k
-  other_numbers other apart = others_by (is_some (number_of name k)) refl other apart
-
-  own_by : (b : Bool) → is_some (number_of name k) ≡ b → is_some (number_of name (if b then k else paired_with name k)) ≡ true
-  own_by true e = e
-  own_by false e = ap is_some (number_then k h name (none_by (number_of name k) e) name) ∙ rw (tie_names name name refl) refl
-
-  pub is_known_then : is_some (number_of name (with_known name k)) ≡ true
-  is_known_then = own_by (is_some (number_of name k)) refl
-
   left_by : (o : Option ℕ) → number_of name k ≡ o → (m : ℕ) (other : List ℕ) → name_of m k ≡ Some other → is_same_name name other ≡ false
-      → lookup (is_at (nat_cmp m)) (names_without o k.names) ≡ name_of m k
+      → get_or (names_without o k.names) m None ≡ name_of m k
   left_by None own m other its apart = refl
   left_by (Some n) own m other its apart = elim (cases_Bool (is_eq (nat_cmp n m))) [
     | inl t ↦ absurd (

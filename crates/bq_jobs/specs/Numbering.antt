@@ -1,5 +1,5 @@
 -- The registered tubes and their numbers.
-use Rattle.std.specs.Prelude.{◌≡◌, ◌≤◌, ◌+◌, ◌^◌, ◌∷◌, [], ℕ, Bool, true, List, Option, Some, None, is_some, if◌then◌else◌, unwrap_or, map}
+use Rattle.std.specs.Prelude.{◌≡◌, ◌<◌, ◌≤◌, ◌^◌, ◌∷◌, [], ℕ, zero, suc, Bool, true, false, List, Option, Some, None, get_or, is_some, length, unwrap_or, map}
 use Rattle.std.specs.BTreeMap.{is_at, insert_entry}
 use Rattle.std.specs.Cmp.Lexicographic.{slice_cmp}
 use Rattle.std.specs.List.{AllByRecursion}
@@ -7,45 +7,58 @@ use Rattle.std.specs.Map.{lookup, remove_entry}
 use Rattle.std.specs.Ordering.{nat_cmp}
 use Rattle.bq_index.specs.Order.{InOrder}
 use Rattle.bq_job.specs.declared.job.Job.{Job}
+use Rattle.bq_job.specs.reading.TubeName.{is_same_name}
 use Rattle.bq_jobs.specs.Kept.{Kept}
 use Rattle.bq_jobs.specs.Names.{number_in}
 
--- the number of each tube by its name, the name of each number, and the number that the next tube gets
+-- the number of each tube by its name, and the name of each number, if it has one
 pub record Numbering : Type 0 where
   pub numbers : List (List ℕ × ℕ)
-  pub names : List (ℕ × List ℕ)
-  pub next : ℕ
+  pub names : List (Option (List ℕ))
 
 abbrev pub number_of : List ℕ → Numbering → Option ℕ
 number_of name k = lookup (is_at (slice_cmp nat_cmp name)) k.numbers
 
 abbrev pub name_of : ℕ → Numbering → Option (List ℕ)
-name_of n k = lookup (is_at (nat_cmp n)) k.names
+name_of n k = get_or k.names n None
 
--- Names and numbers correspond one to one, no number that is still to come has a name, and numbers
--- stay small.
+-- Names and numbers correspond one to one, and numbers stay small.
 pub record IsPaired (k : Numbering) : Type 0 where
   pub by_name : InOrder (slice_cmp nat_cmp) k.numbers
-  pub by_number : InOrder nat_cmp k.names
   pub there : (name : List ℕ) (n : ℕ) → number_of name k ≡ Some n → name_of n k ≡ Some name
   pub back : (n : ℕ) (name : List ℕ) → name_of n k ≡ Some name → number_of name k ≡ Some n
-  pub fresh : (n : ℕ) → k.next ≤ n → name_of n k ≡ None
-  pub few : k.next ≤ 2 ^ 62
+  pub few : length k.names ≤ 2 ^ 30
 
--- the numbering with one more tube, which gets the next number
-abbrev pub paired_with : List ℕ → Numbering → Numbering
-paired_with name k = record {
-  numbers = insert_entry (slice_cmp nat_cmp) k.numbers name k.next;
-  names = insert_entry nat_cmp k.names k.next name;
-  next = k.next + 1;
+-- the names with x at number n, and with none at the numbers up to there that were not used yet
+abbrev pub put_at : List (Option (List ℕ)) → ℕ → Option (List ℕ) → List (Option (List ℕ))
+put_at [] zero x = x ∷ []
+put_at [] (suc n) x = None ∷ put_at [] n x
+put_at (y ∷ names) zero x = x ∷ names
+put_at (y ∷ names) (suc n) x = y ∷ put_at names n x
+
+-- the numbering with one more tube, which gets the number n
+abbrev pub paired_with : ℕ → List ℕ → Numbering → Numbering
+paired_with n name k = record {
+  numbers = insert_entry (slice_cmp nat_cmp) k.numbers name n;
+  names = put_at k.names n (Some name);
 }
 
-abbrev pub with_known : List ℕ → Numbering → Numbering
-with_known name k = if is_some (number_of name k) then k else paired_with name k
+-- the number n was free and has this name now
+abbrev pub IsGiven : ℕ → List ℕ → List (Option (List ℕ)) → List (Option (List ℕ)) → Type 0
+IsGiven n name old new =
+    (n < 2 ^ 30) × (get_or old n None ≡ None) × (new ≡ put_at old n (Some name)) × (length new ≤ 2 ^ 30)
 
-abbrev pub names_without : Option ℕ → List (ℕ × List ℕ) → List (ℕ × List ℕ)
+-- `new` is `old` with the tube of this name registered: it has a number now, and each other tube has
+-- what it had
+pub record Registers (name : List ℕ) (old new : Numbering) : Type 0 where
+  pub known : is_some (number_of name new) ≡ true
+  pub kept : (other : List ℕ) → is_some (number_of other old) ≡ true → is_some (number_of other new) ≡ true
+  pub others : (other : List ℕ) → is_same_name name other ≡ false → number_of other new ≡ number_of other old
+  pub names : (n : ℕ) → is_some (name_of n old) ≡ true → name_of n new ≡ name_of n old
+
+abbrev pub names_without : Option ℕ → List (Option (List ℕ)) → List (Option (List ℕ))
 names_without None names = names
-names_without (Some n) names = remove_entry (is_at (nat_cmp n)) names
+names_without (Some n) names = put_at names n None
 
 -- the numbering without the tube of this name, if it is registered
 abbrev pub without_known : List ℕ → Numbering → Numbering

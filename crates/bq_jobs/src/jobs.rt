@@ -68,7 +68,7 @@ impl NumberedJobs {
         let rows = Rows::new(alloc)?;
         Ok(NumberedJobs {
             rows,
-            tubes: NumberedTubes::new(),
+            tubes: NumberedTubes::new(alloc),
         })
     }
 
@@ -373,7 +373,7 @@ impl NumberedJobs {
     /// # Errors
     ///
     /// `NoMemory` if that allocation fails.
-    #[tactic(auto, using(crate::proofs::NamedJobs::kept_if, crate::proofs::NamedJobs::others_if, crate::proofs::NamedJobs::known_of))]
+    #[tactic(auto, using(crate::proofs::NamedJobs::kept_after, crate::proofs::NamedJobs::others_after, crate::proofs::NamedJobs::known_after))]
     pub fn know(&mut self, alloc: Global, tube: &TubeName) -> Result<(), NoMemory>
         ensures known { IfOk result (λ _. is_known tube.now self.new ≡ true) }
         ensures others { (other : List ℕ) → is_known other self.old ≡ true
@@ -421,7 +421,7 @@ fn job_of(tubes: &NumberedTubes, id: JobId, row: Option<Row>) -> Option<Job>
 }
 
 // Returns the report about a removed record, with the name of its tube.
-fn removed_of(tubes: &NumberedTubes, removed: Option<(u64, Standing)>) -> Option<Removed>
+fn removed_of(tubes: &NumberedTubes, removed: Option<(u32, Standing)>) -> Option<Removed>
     ensures { result ≡ option_and_then (removed_told tubes.now) removed }
 {
     let (number, at) = removed?;

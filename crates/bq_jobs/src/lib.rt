@@ -7,13 +7,13 @@
 //!
 //! [`NumberedJobs`] is the same with a number in place of a tube's name, and takes less memory. A
 //! tube gets its number before a job is added to it ([`NumberedJobs::know`]), and it can be removed
-//! when it has no jobs. A number is never used for another tube. A job with a body of 64 bytes
+//! when it has no jobs. Then its number is free for another tube. A job with a body of 64 bytes
 //! takes this much of the heap:
 //!
 //! | piece | bytes | |---|---| | its box by id | 120 | | its place in its tube or at its holder |
-//! 48 | | its place among delays and leases | 40 | | the vector of its body and the count of its
+//! 40 | | its place among delays and leases | 40 | | the vector of its body and the count of its
 //! owners | 48 at most | | the bytes of its body | 64 | | what a heap keeps beside each of these
-//! five pieces | 80 at most | | together | 400 at most |
+//! five pieces | 80 at most | | together | 392 at most |
 #![tactic(auto)]
 
 pub use jobs::{NumberedJobs, adds_at_the_end, chosen_has_its_id, next_is_free};

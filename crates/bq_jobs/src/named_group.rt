@@ -57,7 +57,7 @@ impl NamedGroup {
     {
         match &self.0 {
             Named::Held(seat) => u64::from(*seat) * 4 + 3,
-            Named::Listed(list, tube) => first_byte(tube) * 4 + places::number_of(*list),
+            Named::Listed(list, tube) => first_byte(tube) * 4 + u64::from(places::number_of(*list)),
         }
     }
 

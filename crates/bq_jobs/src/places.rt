@@ -43,7 +43,7 @@ pub enum Holder {
 /// A holder as one number, so that a place is small. A list of a tube has four times the number of
 /// the tube plus 0, 1 or 2, and a client four times its seat plus 3.
 #[derive(Clone, Copy)]
-pub struct Group(u64);
+pub struct Group(u32);
 
 impl Model for Group {
     ghost use Rattle.bq_jobs.specs.declared.places.Holder.{Holder};
@@ -72,7 +72,7 @@ impl Group {
     }
 
     /// Returns the number that stands for it.
-    pub(crate) fn number(self) -> u64
+    pub(crate) fn number(self) -> u32
         ensures { result ≡ group_number self }
     {
         self.0
@@ -82,12 +82,12 @@ impl Group {
     pub fn held(seat: Seat) -> Group
         ensures { result ≡ held_by seat }
     {
-        Group(u64::from(seat) * 4 + 3)
+        Group(u32::from(seat) * 4 + 3)
     }
 }
 
 // Returns the number of a list among the three of a tube.
-pub(crate) fn number_of(list: JobList) -> u64
+pub(crate) fn number_of(list: JobList) -> u32
     ensures { result ≡ list_number list }
 {
     match list {
@@ -282,7 +282,7 @@ impl Parted for ShelfPlace<Group> {
     ghost apart = { parts_ascend };
 
     fn part(&self) -> u64 {
-        self.group.number()
+        u64::from(self.group.number())
     }
 }
 

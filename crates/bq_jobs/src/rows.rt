@@ -118,8 +118,8 @@ fn parts_of(state: JobState) -> (Stage, Seat, u64)
 }
 
 /// Returns the record of a job whose tube has this number.
-pub(crate) fn row_of(job: Job, number: u64) -> Row
-    requires { number < 2 ^ 62 }
+pub(crate) fn row_of(job: Job, number: u32) -> Row
+    requires { number < 2 ^ 30 }
     ensures { result ≡ record job { tube = number ∷ [] } }
 {
     let (stage, seat, at) = parts_of(job.state);
@@ -350,7 +350,7 @@ impl Rows {
 
     /// Removes the job with this id, if there is one, and drops its record. Returns the number of
     /// its tube and its standing. Its room is free again.
-    pub(crate) fn discard(&mut self, id: JobId) -> Option<(u64, Standing)>
+    pub(crate) fn discard(&mut self, id: JobId) -> Option<(u32, Standing)>
         ensures removed { result ≡ option_map row_removed (job_with id self.old.jobs) }
         ensures left { Removes id result self.old self.new }
     {
@@ -393,7 +393,7 @@ impl Rows {
     }
 
     /// Returns the number of the tube of the job with this id.
-    pub(crate) fn number_of(&mut self, id: JobId) -> Option<u64>
+    pub(crate) fn number_of(&mut self, id: JobId) -> Option<u32>
         ensures number { result ≡ option_map (λ j. number_in j.tube) (job_with id self.old.jobs) }
         ensures kept { Searches 1 self.old self.new }
     {
@@ -405,7 +405,7 @@ impl Rows {
 
     /// Returns the number of the tube of the job with this id, and another reference to its body,
     /// or `NoMemory` for that.
-    pub(crate) fn share(&mut self, id: JobId) -> Option<(u64, Result<Body, NoMemory>)>
+    pub(crate) fn share(&mut self, id: JobId) -> Option<(u32, Result<Body, NoMemory>)>
         ensures number { IfSome result (λ s. IsNumberOf (job_with id self.old.jobs) s.0) }
         ensures body { IfSome result (λ s. IfOk s.1 (IsBodyOf (job_with id self.old.jobs))) }
         ensures kept { FindsById id result self.old self.new }

@@ -3,21 +3,22 @@ ghost use Rattle.std.specs.Cmp as Cmp;
 ghost use Rattle.bq_jobs.specs.Names.{name_cmp, name_total};
 ghost use Rattle.std.proofs.Common.{refl};
 ghost use Rattle.std.specs.Ordering.{as_partial_cmp, eq_by_cmp};
-ghost use Rattle.std.specs.Prelude.{◌≡◌, ◌<◌, ◌^◌, [], is_ok, if◌then◌else◌, IfSome};
+ghost use Rattle.std.specs.Prelude.{◌≡◌, ◌<◌, ◌≤◌, ◌^◌, [], None, true, get_or, length, IfOk, IfSome, OnErr, OnOk};
 ghost use Rattle.std.specs.Option.{option_map};
-ghost use Rattle.bq_jobs.specs.Numbering.{IsPaired, name_of, number_of, with_known, without_known};
+ghost use Rattle.bq_jobs.specs.Numbering.{IsGiven, IsPaired, Registers, name_of, number_of, put_at, without_known};
 
 use bq_index::Catalog;
 use bq_job::{NoMemory, TubeName};
 use std::alloc::Global;
 use std::cmp::Ordering;
 use std::marker::Model;
+use std::mem;
 
 /// The number of a tube, which records and keys use in place of its name. A contract sees it as a
-/// name of one element that may be any number below 2^62. So a statement about jobs with names also
+/// name of one element that may be any number below 2^30. So a statement about jobs with names also
 /// holds for records with numbers.
 #[derive(Clone, Copy)]
-pub struct TubeNumber(u64);
+pub struct TubeNumber(u32);
 
 impl Model for TubeNumber {
     ghost use Rattle.std.specs.Prelude.{List, ℕ, [], ◌∷◌, ◌<◌, ◌^◌};
@@ -28,7 +29,7 @@ impl Model for TubeNumber {
     ghost view = { λ n. n.0 ∷ [] };
 
     // Two bits are left for what is stored about a tube beside its number.
-    ghost invariant = { λ n. n.0 < 2 ^ 62 };
+    ghost invariant = { λ n. n.0 < 2 ^ 30 };
 
     ghost inverse = { λ name. record { 0 = number_in name } };
 }
@@ -38,18 +39,18 @@ impl TubeNumber {
     ghost use Rattle.bq_jobs.specs.Names.{number_in};
 
     /// Returns the number of a tube.
-    pub(crate) fn of(number: u64) -> TubeNumber
-        requires { number < 2 ^ 62 }
+    pub(crate) fn of(number: u32) -> TubeNumber
+        requires { number < 2 ^ 30 }
         ensures { result ≡ number ∷ [] }
     {
         TubeNumber(number)
     }
 
     /// Returns the number as an integer.
-    pub(crate) fn get(self) -> u64
+    pub(crate) fn get(self) -> u32
         ensures number { result ≡ number_in self }
         ensures alone { self ≡ result ∷ [] }
-        ensures few { result < 2 ^ 62 }
+        ensures few { result < 2 ^ 30 }
     {
         self.0
     }
@@ -93,19 +94,38 @@ impl Ord for TubeNumber {
     }
 }
 
-// One more than the greatest number. It leaves two bits for what is stored about a tube beside its
-// number.
-const TUBES: u64 = 1 << 62;
+// How many tubes can be registered at the same time. Two bits of a number's 32 are left for what is
+// stored about a tube beside it.
+const TUBES: usize = 1 << 30;
 
-/// The registered tubes, each found by its name and by its number. A number is never used again, so
-/// the jobs that have it always belong to the tube that they were added to.
+// The place of a number: the name of its tube, if the number is in use.
+#[derive(Drop)]
+struct Slot {
+    name: Option<TubeName>,
+    // Of a free number: another number that is free, or one that has no slot yet. Of a number in
+    // use, it means nothing.
+    next_free: u32,
+}
+
+impl Model for Slot {
+    ghost use Rattle.std.specs.Prelude.{List, ℕ, Option};
+
+    ghost Value = { Option (List ℕ) };
+
+    ghost view = { λ s. s.name };
+}
+
+/// The registered tubes, each found by its name and by its number. The numbers are dense: one that
+/// was used before is used again before a new one. A tube keeps its number as long as it is
+/// registered, and it has to stay registered as long as it has jobs. So the jobs that have a number
+/// belong to the tube that they were added to.
 #[derive(Drop)]
 pub(crate) struct NumberedTubes {
-    numbers: Catalog<TubeName, u64>,
-    names: Catalog<u64, TubeName>,
-    // The number of the next tube. When 2^62 tubes have been registered, one after another, no more
-    // can be.
-    next: u64,
+    numbers: Catalog<TubeName, u32>,
+    slots: Vec<Slot, Global>,
+    // The number that was freed last and is still free, or one without a slot. The slots of free
+    // numbers form a chain. No contract relies on it: a number is used only if its slot is free.
+    free: u32,
 }
 
 impl Model for NumberedTubes {
@@ -113,27 +133,85 @@ impl Model for NumberedTubes {
 
     ghost Value = { Numbering };
 
-    ghost view = { λ k. record { numbers = k.numbers.entries; names = k.names.entries; next = k.next } };
+    ghost view = { λ k. record { numbers = k.numbers.entries; names = k.slots.items } };
 
-    ghost invariant = { λ k. IsPaired (record { numbers = k.numbers.entries; names = k.names.entries; next = k.next }) };
+    ghost invariant = { λ k. IsPaired (record { numbers = k.numbers.entries; names = k.slots.items }) };
+}
+
+// Returns true if a number has a slot and is free.
+fn is_free(slots: &[Slot], number: u32) -> bool
+    ensures slot { result ≡ true → number < length slots.now }
+    ensures free { result ≡ true → get_or slots.now number None ≡ None }
+{
+    match slots.get(number as usize) {
+        None => false,
+        Some(slot) => slot.name.is_none(),
+    }
+}
+
+// Changes the slot of a number. Returns what the slot had as the next free number.
+fn change(slots: &mut Vec<Slot, Global>, number: u32, slot: Slot) -> u32
+    requires { number < length slots.old.items }
+    ensures items { slots.new.items ≡ put_at slots.old.items number slot }
+    ensures as_many { length slots.new.items ≡ length slots.old.items }
+{
+    mem::replace(&mut slots[number as usize], slot).next_free
+}
+
+// Adds a slot for the next number that has none, which the tube gets.
+fn append(slots: &mut Vec<Slot, Global>, name: &TubeName) -> Result<u32, NoMemory>
+    requires { length slots.old.items ≤ 2 ^ 30 }
+    ensures given { IfOk result (λ n. IsGiven n name.now slots.old.items slots.new.items) }
+    ensures same { OnErr result (slots.new.items ≡ slots.old.items) }
+{
+    let number = slots.len();
+    if number >= TUBES {
+        return Err(NoMemory);
+    }
+    let slot = Slot {
+        name: Some(*name),
+        next_free: u32::MAX,
+    };
+    match slots.push(slot) {
+        Ok(()) => Ok(number as u32),
+        Err(_) => Err(NoMemory),
+    }
+}
+
+// Gives a free number to a tube: the one that was freed last, or the next one that has no slot.
+fn give(slots: &mut Vec<Slot, Global>, free: &mut u32, name: &TubeName) -> Result<u32, NoMemory>
+    requires { length slots.old.items ≤ 2 ^ 30 }
+    ensures given { IfOk result (λ n. IsGiven n name.now slots.old.items slots.new.items) }
+    ensures same { OnErr result (slots.new.items ≡ slots.old.items) }
+{
+    let number = *free;
+    if !is_free(slots.as_slice(), number) {
+        return append(slots, name);
+    }
+    let slot = Slot {
+        name: Some(*name),
+        next_free: u32::MAX,
+    };
+    *free = change(slots, number, slot);
+    Ok(number)
 }
 
 impl NumberedTubes {
-    /// Returns a value with no tubes.
-    pub(crate) fn new() -> NumberedTubes
-        ensures { result ≡ record { numbers = []; names = []; next = 0 } }
+    /// Returns a value with no tubes. It allocates nothing.
+    pub(crate) fn new(alloc: Global) -> NumberedTubes
+        ensures { result ≡ record { numbers = []; names = [] } }
     {
         NumberedTubes {
             numbers: Catalog::new(),
-            names: Catalog::new(),
-            next: 0,
+            slots: Vec::new(alloc),
+            free: u32::MAX,
         }
     }
 
     /// Returns the number of a tube, if it is registered.
-    pub(crate) fn number_of(&self, name: &TubeName) -> Option<u64>
+    pub(crate) fn number_of(&self, name: &TubeName) -> Option<u32>
         ensures number { result ≡ number_of name.now self.now }
-        ensures few { IfSome result (λ n. n < 2 ^ 62) }
+        ensures few { IfSome result (λ n. n < 2 ^ 30) }
         ensures paired { IsPaired self.now }
     {
         match self.numbers.peek(name) {
@@ -143,46 +221,45 @@ impl NumberedTubes {
     }
 
     /// Returns the name of the tube with this number.
-    pub(crate) fn name_of(&self, number: u64) -> Option<&TubeName>
+    pub(crate) fn name_of(&self, number: u32) -> Option<&TubeName>
         ensures name { option_map (λ name. name.now) result ≡ name_of number self.now }
         ensures paired { IsPaired self.now }
     {
-        self.names.peek(&number)
+        match self.slots.get(number as usize) {
+            None => None,
+            Some(slot) => slot.name.as_ref(),
+        }
     }
 
     /// Registers a tube, unless it is registered already. The memory that this needs is allocated
     /// before any change.
     pub(crate) fn add(&mut self, alloc: Global, name: &TubeName) -> Result<(), NoMemory>
-        ensures after { self.new
-            ≡ (if is_ok result then with_known name.now self.old else self.old) }
-        ensures paired { IsPaired self.old }
+        ensures registered { OnOk result (Registers name.now self.old self.new) }
+        ensures same { OnErr result (self.new ≡ self.old) }
     {
         if self.numbers.peek(name).is_some() {
             return Ok(());
         }
-        if self.next >= TUBES {
-            return Err(NoMemory);
-        }
-        let next = self.next + 1;
         let Ok(()) = self.numbers.reserve(alloc, 1) else {
             return Err(NoMemory);
         };
-        let Ok(()) = self.names.reserve(alloc, 1) else {
-            return Err(NoMemory);
-        };
-        self.numbers.insert(*name, self.next);
-        self.names.insert(self.next, *name);
-        self.next = next;
+        let number = give(&mut self.slots, &mut self.free, name)?;
+        self.numbers.insert(*name, number);
         Ok(())
     }
 
-    /// Removes a tube, if it is registered.
+    /// Removes a tube, if it is registered. Its number is free again.
     pub(crate) fn remove(&mut self, name: &TubeName)
         ensures after { self.new ≡ without_known name.now self.old }
         ensures paired { IsPaired self.old }
     {
         if let Some(number) = self.numbers.remove(name) {
-            let _name = self.names.remove(&number);
+            let slot = Slot {
+                name: None,
+                next_free: self.free,
+            };
+            let _next = change(&mut self.slots, number, slot);
+            self.free = number;
         }
     }
 }

@@ -175,5 +175,5 @@ fn bytes_of_a_job(rt: HostRuntime) {
             .is_ok()
     );
     let [place, timer, record] = source.sizes;
-    assert!(rt; is_size(place, 48) && is_size(timer, 40) && is_size(record, 120));
+    assert!(rt; is_size(place, 40) && is_size(timer, 40) && is_size(record, 120));
 }

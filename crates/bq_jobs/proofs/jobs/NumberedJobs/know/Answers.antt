@@ -1,23 +1,18 @@
-use Rattle.std.proofs.Common.{map, sym, ap, ◌∙◌, subst}
-use Rattle.std.specs.Prelude.{is_ok}
+use Rattle.std.proofs.Common.{map, ap, ◌∙◌}
 use Rattle.bq_jobs.specs.Kept.{Kept}
-use Rattle.bq_jobs.specs.Numbering.{AreNumbered, named}
-use Rattle.bq_jobs.proofs.NamedJobs.{named_if, numbered_if}
+use Rattle.bq_jobs.specs.Numbering.{named}
+use Rattle.bq_jobs.proofs.NamedJobs.{named_after, numbered_after}
 use Rattle.bq_jobs.proofs.jobs.NumberedJobs.know.Goals as goal
 
 pub invariant_of-self : goal.invariant_of-self
 invariant_of-self c =
-    let k = c.self.inside.tubes in
-    let rows = c.self.inside.rows.jobs in
-    subst (λ n. AreNumbered n rows) (sym c.add.ensures.after)
-    (numbered_if (is_ok c.add.result) k c.add.ensures.paired c.args.tube.now rows c.self.invariant)
+    numbered_after c.self.inside.tubes c.add.new.self c.args.tube.now c.add.result c.add.ensures.registered c.add.ensures.same
+    c.self.inside.rows.jobs c.self.invariant
 
 pub returns-clause-same : goal.returns-clause-same
 returns-clause-same c =
-    let k = c.self.inside.tubes in
-    let rows = c.self.inside.rows.jobs in
-    let jobs = ap (λ n. map (named n) rows) c.add.ensures.after
-    ∙ named_if (is_ok c.add.result) k c.add.ensures.paired c.args.tube.now rows c.self.invariant in
+    let jobs = named_after c.self.inside.tubes c.add.new.self c.args.tube.now c.add.result c.add.ensures.registered c.add.ensures.same
+    c.self.inside.rows.jobs c.self.invariant in
     ap (λ js. record {
       jobs = js;
       room = c.self.inside.rows.room;

@@ -6,10 +6,6 @@ use Rattle.bq_jobs.proofs.tubes.NumberedTubes.number_of.Goals as goal
 
 pub returns-in-Some-clause-few : goal.returns-in-Some-clause-few
 returns-in-Some-clause-few c =
-    let k : Numbering = record {
-      numbers = c.self.inside.numbers.entries;
-      names = c.self.inside.names.entries;
-      next = c.self.inside.next;
-    } in
+    let k : Numbering = record { numbers = c.self.inside.numbers.entries; names = c.self.inside.slots.items } in
     number_few k c.args.name.now (Some c.in-Some.number.now) c.self.invariant
     (sym c.peek.ensures.value ∙ ap (option_map (λ (n : Bor ℕ). n.now)) c.in-Some.is)
