@@ -5,6 +5,8 @@
 //! that has reserved first can insert, remove and move entries, and none of these calls can fail.
 //! Each call compares few keys: its contract states a bound for the count [`Shelf::comparisons`].
 //!
+//! [`Shelves`] are the same map with a tree for each part of the keys, for keys that have parts.
+//!
 //! A [`Catalog`] is the same map without the count. A shared reference is enough to search it and
 //! to visit its entries.
 #![tactic(auto)]
