@@ -4,7 +4,7 @@ use crate::notation::bytes_of;
 use bq_job::{LineEnd, Moment, NoMemory};
 use bq_line::clock::ScriptClock;
 use bq_line::line::Part;
-use std::alloc::{AllocError, Global};
+use std::alloc::Global;
 
 /// Ample room for what a client receives.
 pub const ROOM: usize = 1000;
@@ -32,31 +32,28 @@ pub const WAITS: &str = "reserve~ + after 19";
 /// It puts one job and disconnects.
 pub const PUTS: &str = "put 5 0 10 3~abc~";
 
-fn push(parts: &mut Vec<Part, Global>, part: Part) -> Result<(), NoMemory> {
-    match parts.push(part) {
-        Ok(()) => Ok(()),
-        Err(_) => Err(NoMemory),
-    }
-}
-
-fn part_of(alloc: Global, text: &str) -> Result<Part, AllocError> {
-    if text == "fails" {
-        return Ok(Part::Fault);
-    }
-    if let Some(count) = text.strip_prefix("after ") {
-        return Ok(Part::AfterWritten(count.parse::<usize>().unwrap_or(0)));
-    }
-    Ok(Part::Bytes(bytes_of(alloc, text)?))
+// Appends the part of this text. Returns false if an allocation fails.
+fn adds_part(alloc: Global, parts: &mut Vec<Part, Global>, text: &str) -> bool {
+    let part = if text == "fails" {
+        Part::Fault
+    } else if let Some(count) = text.strip_prefix("after ") {
+        Part::AfterWritten(count.parse::<usize>().unwrap_or(0))
+    } else {
+        match bytes_of(alloc, text) {
+            Ok(bytes) => Part::Bytes(bytes),
+            Err(_) => return false,
+        }
+    };
+    parts.push(part).is_ok()
 }
 
 /// Returns the parts of a line to a client that does this.
 pub fn parts_of(alloc: Global, does: &str) -> Result<Vec<Part, Global>, NoMemory> {
     let mut parts: Vec<Part> = Vec::new(alloc);
     for text in does.split(" + ") {
-        let Ok(part) = part_of(alloc, text) else {
+        if !adds_part(alloc, &mut parts, text) {
             return Err(NoMemory);
-        };
-        push(&mut parts, part)?;
+        }
     }
     Ok(parts)
 }

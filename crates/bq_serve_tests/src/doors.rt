@@ -4,6 +4,7 @@ ghost use Rattle.std.specs.List.{All};
 ghost use Rattle.bq_line.specs.MemDoors.{IsFresh};
 ghost use Rattle.bq_line.specs.Tending.{IsNewDoor};
 
+use crate::cases::Case;
 use crate::clients::{Client, Outcome, parts_of};
 use bq_job::{LineEnd, NoMemory};
 use bq_line::line::MemLine;
@@ -74,15 +75,18 @@ impl<'c> NewDoors<'c> {
     }
 }
 
-fn line(alloc: Global, client: &Client) -> Result<MemLine, NoMemory>
+fn line(alloc: Global, client: &Client, room: usize) -> Result<MemLine, NoMemory>
     ensures { IfOk result IsFresh }
 {
-    let parts = parts_of(alloc, client.0)?;
-    MemLine::new(alloc, parts, client.1)
+    match parts_of(alloc, client.0) {
+        Ok(parts) => MemLine::new(alloc, parts, client.1.min(room)),
+        Err(_) => Err(NoMemory),
+    }
 }
 
-/// Returns a door where these clients connect, one after another.
-pub fn door(alloc: Global, clients: &[Client]) -> Result<MemDoor, NoMemory>
+// Returns a door where these clients connect, one after another. None receives more than `room`
+// bytes.
+fn door(alloc: Global, clients: &[Client], room: usize) -> Result<MemDoor, NoMemory>
     ensures inside { IfOk result (λ door. ⟦<MemDoor as Door>⟧.is_out door ≡ false) }
     ensures more { IfOk result (λ door. ⟦<MemDoor as Door>⟧.is_at_end door ≡ false) }
     ensures none_over { IfOk result (λ door. ⟦<MemDoor as Door>⟧.lines_over door ≡ []) }
@@ -91,7 +95,7 @@ pub fn door(alloc: Global, clients: &[Client]) -> Result<MemDoor, NoMemory>
         return Err(NoMemory);
     };
     for client in clients {
-        let line = line(alloc, client)?;
+        let line = line(alloc, client, room)?;
         let Ok(()) = lines.push_back(line) else {
             return Err(NoMemory);
         };
@@ -99,18 +103,20 @@ pub fn door(alloc: Global, clients: &[Client]) -> Result<MemDoor, NoMemory>
     MemDoor::new(alloc, lines)
 }
 
-/// Returns a door for each of these groups of clients. They share a count of how often they are
+/// Returns a door for each of a run's groups of clients. They share a count of how often they are
 /// opened.
 pub fn doors<'c>(
     alloc: Global,
-    clients: &[&[Client]],
+    case: &Case,
     opened: &'c AtomicU64,
 ) -> Result<NewDoors<'c>, NoMemory> {
     let mut doors = NewDoors {
         all: Vec::new(alloc),
     };
-    for clients in clients {
-        doors.push(door(alloc, clients)?, opened)?;
+    let mut room = case.rooms.0;
+    for clients in case.clients {
+        doors.push(door(alloc, clients, room)?, opened)?;
+        room = case.rooms.1;
     }
     Ok(doors)
 }

@@ -6,6 +6,8 @@
 
 #[cfg(test)]
 mod broken;
+#[cfg(test)]
+mod cases;
 pub mod clients;
 pub mod control;
 #[cfg(test)]
@@ -23,5 +25,5 @@ mod scene;
 mod sessions;
 pub mod settings;
 #[cfg(test)]
-mod wanted;
+mod stepping;
 pub mod worked;

@@ -5,40 +5,54 @@ use std::alloc::{AllocError, Global};
 
 // Returns the count and the letter if the piece is a repeated letter.
 fn times_of(piece: &str) -> Option<(u32, u8)> {
-    let (count, letter) = piece.strip_prefix("times ")?.split_once(" ")?;
-    Some((count.parse::<u32>().ok()?, *letter.as_bytes().first()?))
-}
-
-fn add_times(bytes: &mut Vec<u8>, count: u32, letter: u8) -> Result<(), AllocError> {
-    for _ in 0..count {
-        bytes.push(letter)?;
+    let Some(times) = piece.strip_prefix("times ") else {
+        return None;
+    };
+    let Some((count, letter)) = times.split_once(' ') else {
+        return None;
+    };
+    match (count.parse::<u32>(), letter.as_bytes()) {
+        (Ok(count), [letter, ..]) => Some((count, *letter)),
+        _ => None,
     }
-    Ok(())
 }
 
-fn add_plain(bytes: &mut Vec<u8>, text: &str) -> Result<(), AllocError> {
-    for byte in text.as_bytes() {
-        match *byte {
-            b'~' => bytes.extend_from_slice(b"\r\n")?,
-            b'^' => bytes.push(b'\n')?,
-            other => bytes.push(other)?,
+// Appends a letter this many times. Returns false if an allocation fails.
+fn adds_times(bytes: &mut Vec<u8>, count: u32, letter: u8) -> bool {
+    for _ in 0..count {
+        if bytes.push(letter).is_err() {
+            return false;
         }
     }
-    Ok(())
+    true
 }
 
-fn add_piece(bytes: &mut Vec<u8>, piece: &str) -> Result<(), AllocError> {
-    match times_of(piece) {
-        Some((count, letter)) => add_times(bytes, count, letter),
-        None => add_plain(bytes, piece),
+// Appends the bytes of a text without pieces. Returns false if an allocation fails.
+fn adds_plain(bytes: &mut Vec<u8>, text: &str) -> bool {
+    for byte in text.as_bytes() {
+        let is_added = match *byte {
+            b'~' => bytes.extend_from_slice(b"\r\n").is_ok(),
+            b'^' => bytes.push(b'\n').is_ok(),
+            other => bytes.push(other).is_ok(),
+        };
+        if !is_added {
+            return false;
+        }
     }
+    true
 }
 
 /// Returns the bytes of a text.
 pub fn bytes_of(alloc: Global, text: &str) -> Result<Vec<u8>, AllocError> {
     let mut bytes = Vec::new(alloc);
     for piece in text.split(" + ") {
-        add_piece(&mut bytes, piece)?;
+        let is_added = match times_of(piece) {
+            Some((count, letter)) => adds_times(&mut bytes, count, letter),
+            None => adds_plain(&mut bytes, piece),
+        };
+        if !is_added {
+            return Err(AllocError);
+        }
     }
     Ok(bytes)
 }

@@ -16,6 +16,11 @@ pub const REFUSED: &[Refused] = &[
     (1, 1_048_577, Some(RunFault::BadConfiguration)),
 ];
 
+/// Returns these configurations. Each function that names the table takes seconds to prove.
+pub fn rows() -> &'static [Refused] {
+    REFUSED
+}
+
 /// The one client, at the one door.
 pub const ONE: &[&[Client]] = &[&[(PUTS, ROOM)]];
 

@@ -1,7 +1,8 @@
 //! What a run over doors in memory works on, besides its settings.
 
-use crate::clients::{Client, STILL, clock};
-use crate::control::{Control, Gives, control};
+use crate::cases::Case;
+use crate::clients::{STILL, clock};
+use crate::control::{Control, control};
 use crate::doors::{NewDoors, doors};
 use bq_job::NoMemory;
 use bq_line::clock::ScriptClock;
@@ -17,21 +18,22 @@ pub struct Scene<'c> {
 }
 
 impl<'c> Scene<'c> {
-    /// Returns doors where these clients connect, a clock that always reads the same, and a control
-    /// line whose reads give these results.
-    pub fn new(
-        alloc: Global,
-        clients: &[&[Client]],
-        gives: &'static [Gives],
-        opened: &'c AtomicU64,
-    ) -> Result<Scene<'c>, NoMemory> {
-        let control = control(alloc, gives)?;
-        let clock = clock(alloc, STILL)?;
-        let doors = doors(alloc, clients, opened)?;
-        Ok(Scene {
-            doors,
-            clock,
-            control,
-        })
+    /// Returns the doors of a run, which count there how often they are opened, a clock that always
+    /// reads the same, and the run's control line.
+    pub fn new(alloc: Global, case: &Case, opened: &'c AtomicU64) -> Result<Scene<'c>, NoMemory> {
+        let Ok(control) = control(alloc, case.gives) else {
+            return Err(NoMemory);
+        };
+        let Ok(clock) = clock(alloc, STILL) else {
+            return Err(NoMemory);
+        };
+        match doors(alloc, case, opened) {
+            Ok(doors) => Ok(Scene {
+                doors,
+                clock,
+                control,
+            }),
+            Err(_) => Err(NoMemory),
+        }
     }
 }

@@ -2,102 +2,92 @@
 //! has to have received what that core answers.
 ghost use Rattle.std.specs.Prelude.{◌≡◌, ◌<◌};
 
+use crate::cases::Case;
 use crate::doors::CountedDoor;
+use crate::stepping::take;
 use bq_core::{Config, Core, Outs};
-use bq_job::{Answer, Entry, LineEnd, Moment, Seat, Step};
+use bq_job::{Answer, Entry, LineEnd, Seat, Step};
 use bq_lock::Locked;
 use bq_wire::{HeadBuf, answer_body, answer_head, answer_tail};
 use std::alloc::Global;
-use std::test::Fail;
 
 /// The byte that follows each line in the joined text of a seat. No answer contains it.
 const LINE_OVER: u8 = 0;
 
-// A separate core.
+// A separate core, and the text of its answers to one seat.
 #[derive(Drop)]
 struct Alone {
     alloc: Global,
     core: Core,
     outs: Outs,
+    seat: Seat,
+    text: Vec<u8, Global>,
     ghost room: { core.machine.settings.seats < outs.most },
 }
 
 impl Alone {
-    fn new(alloc: Global, config: Config) -> Result<Alone, Fail> {
-        let outs = Outs::new(alloc, config.seats)?;
-        let core = Core::new(alloc, config)?;
-        Ok(Alone { alloc, core, outs })
+    // Takes the step of an entry. Returns true if its command was left out exactly if the entry
+    // says so.
+    fn takes(&mut self, entry: &Entry) -> bool {
+        match entry.step.share() {
+            Ok(step) => {
+                take(
+                    self.alloc,
+                    &mut self.core,
+                    &mut self.outs,
+                    entry.moment,
+                    entry.seat,
+                    step,
+                );
+                self.outs.left_out() == entry.left_out
+            }
+            Err(_) => false,
+        }
     }
 
-    // Takes a step, and returns whether its command was left out for lack of memory.
-    fn step(&mut self, at: Moment, seat: Seat, what: Step) -> bool {
-        self.core.step(self.alloc, at, seat, what, &mut self.outs);
-        self.outs.left_out()
-    }
-
-    // Appends the answers of the last step to one seat.
-    fn add_answers(&mut self, text: &mut Vec<u8, Global>, seat: Seat) -> Result<(), Fail> {
+    // Appends the answers of the last step to the seat. Returns false if an allocation fails.
+    fn adds_answers(&mut self) -> bool {
         while let Some((to, answer)) = self.outs.take_first() {
-            if to == seat {
-                add_answer(text, &answer)?;
+            if to == self.seat && !adds_answer(&mut self.text, &answer) {
+                return false;
             }
         }
-        Ok(())
+        true
+    }
+
+    // Takes these entries and appends the answers to the seat.
+    fn replays(&mut self, entries: &[Entry]) -> bool {
+        for entry in entries {
+            if !self.takes(entry) || !self.adds_answers() {
+                return false;
+            }
+        }
+        true
     }
 }
 
-// Appends the text of an answer. A line that is closed is followed by its mark.
-fn add_answer(text: &mut Vec<u8, Global>, answer: &Answer) -> Result<(), Fail> {
+// Appends the text of an answer. A line that is closed is followed by its mark. Returns false if an
+// allocation fails.
+fn adds_answer(text: &mut Vec<u8, Global>, answer: &Answer) -> bool {
     if let Answer::Closed = answer {
-        text.push(LINE_OVER)?;
-        return Ok(());
+        return text.push(LINE_OVER).is_ok();
     }
     let mut head = HeadBuf::new();
     answer_head(answer, &mut head);
-    text.extend_from_slice(head.as_slice())?;
-    text.extend_from_slice(answer_body(answer))?;
-    text.extend_from_slice(answer_tail(answer))?;
-    Ok(())
+    text.extend_from_slice(head.as_slice()).is_ok()
+        && text.extend_from_slice(answer_body(answer)).is_ok()
+        && text.extend_from_slice(answer_tail(answer)).is_ok()
 }
 
-// Takes these entries and appends the answers to a seat. Returns true if the core left out the same
-// commands as the entries say.
-fn replay(
-    alone: &mut Alone,
-    text: &mut Vec<u8, Global>,
-    entries: &[Entry],
-    seat: Seat,
-) -> Result<bool, Fail> {
-    for entry in entries {
-        let step = entry.step.share()?;
-        if alone.step(entry.moment, entry.seat, step) != entry.left_out {
-            return Ok(false);
-        }
-        alone.add_answers(text, seat)?;
-    }
-    Ok(true)
-}
-
-// The same with a new core.
-fn replay_anew(
-    alloc: Global,
-    config: Config,
-    text: &mut Vec<u8, Global>,
-    entries: &[Entry],
-    seat: Seat,
-) -> Result<bool, Fail> {
-    let mut alone = Alone::new(alloc, config)?;
-    replay(&mut alone, text, entries, seat)
-}
-
-// Returns what the lines of a door received, each followed by the mark of its end.
-fn written(alloc: Global, door: &CountedDoor) -> Result<Vec<u8, Global>, Fail> {
-    let mut text: Vec<u8> = Vec::new(alloc);
+// Appends what the lines of a door received, each followed by the mark of its end. Returns false if
+// an allocation fails.
+fn adds_written(text: &mut Vec<u8, Global>, door: &CountedDoor) -> bool {
     for over in door.door.over() {
-        text.extend_from_slice(over.0.written())?;
-        text.push(LINE_OVER)?;
+        if text.extend_from_slice(over.0.written()).is_err() || text.push(LINE_OVER).is_err() {
+            return false;
+        }
     }
-    Ok(text)
+    true
 }
 
 // Returns true if one of the door's lines ended in this way.
@@ -116,10 +106,10 @@ fn lacks_last_job(text: &[u8], wanted: &[u8]) -> bool {
     let Some((_, before)) = text.split_last() else {
         return false;
     };
-    let Some(missing) = wanted.strip_prefix(before) else {
-        return false;
-    };
-    missing.starts_with(b"RESERVED ")
+    match wanted.strip_prefix(before) {
+        Some(missing) => missing.starts_with(b"RESERVED "),
+        None => false,
+    }
 }
 
 // Returns true if the text is what the door should have received. A line that had no room for all
@@ -143,34 +133,58 @@ fn times_gone(entries: &[Entry], seat: Seat) -> u64 {
 }
 
 // Returns true if a door received what a separate core answers its seat.
+fn has_received(alone: &mut Alone, entries: &[Entry], door: &CountedDoor) -> bool {
+    let mut text: Vec<u8> = Vec::new(alone.alloc);
+    alone.replays(entries)
+        && adds_written(&mut text, door)
+        && is_due(door, text.as_slice(), alone.text.as_slice())
+}
+
+// Returns true if a seat disconnected once, and its door received what a new core answers.
 fn is_replayed(
     alloc: Global,
     config: Config,
     entries: &[Entry],
     seat: Seat,
     door: &CountedDoor,
-) -> Result<bool, Fail> {
-    let text = written(alloc, door)?;
-    let mut wanted: Vec<u8> = Vec::new(alloc);
-    let is_same = replay_anew(alloc, config, &mut wanted, entries, seat)?;
-    Ok(is_same && is_due(door, text.as_slice(), wanted.as_slice()))
+) -> bool {
+    let Ok(outs) = Outs::new(alloc, config.seats) else {
+        return false;
+    };
+    match Core::new(alloc, config) {
+        Ok(core) => {
+            let mut alone = Alone {
+                alloc,
+                core,
+                outs,
+                seat,
+                text: Vec::new(alloc),
+            };
+            times_gone(entries, seat) == 1 && has_received(&mut alone, entries, door)
+        }
+        Err(_) => false,
+    }
 }
 
 /// Returns true if the journal is complete, each seat and the control line disconnected once, and
-/// each door received what a separate core answers, as far as there was room.
+/// each door received what a separate core answers, as far as there was room; or if the journal is
+/// not replayed.
 pub fn is_whole(
     alloc: Global,
+    case: &Case,
     config: Config,
     locked: &Locked,
     doors: &[CountedDoor],
-) -> Result<bool, Fail> {
+) -> bool {
+    if !case.is_replayed {
+        return true;
+    }
     let entries = locked.journal();
-    let mut right = locked.whole() && times_gone(entries, config.seats) == 1;
+    let mut is_right = locked.whole() && times_gone(entries, config.seats) == 1;
     let mut seat: Seat = 0;
     for door in doors {
-        right = is_replayed(alloc, config, entries, seat, door)? && right;
-        right = times_gone(entries, seat) == 1 && right;
+        is_right = is_replayed(alloc, config, entries, seat, door) && is_right;
         seat = seat.saturating_add(1);
     }
-    Ok(right)
+    is_right
 }

@@ -1,80 +1,73 @@
-//! Runs around a lock with a clock that always reads the same.
+//! The run around a lock.
 
-use crate::clients::Client;
-use crate::control::Gives;
-use crate::doors::CountedDoor;
-use crate::lock::journal::is_whole;
+use super::journal::is_whole;
+use crate::cases::{Came, Case, Group, MOST, Wanted, run_of};
+use crate::drains::put;
 use crate::scene::Scene;
 use crate::settings::config;
-use crate::wanted;
-use crate::wanted::Wanted;
-use bq_core_api::Config;
 use bq_host::RunFault;
-use bq_job::USUAL_BODY;
-use bq_line::clock::ScriptClock;
-use bq_lock::{LockedRun, run_locked};
+use bq_job::{Answer, Step};
+use bq_lock::{Locked, run_locked};
 use std::alloc::Global;
 use std::sync::Wait;
 use std::sync::atomic::{AtomicU64, Ordering};
-use std::test::Fail;
 use std::thread::Threads;
 
-/// Room in a journal for all steps of a run, including ticks.
-const JOURNAL_ROOM: usize = 2000;
+// Returns true if the core under the lock, to which no client is connected, answers a put as
+// wanted.
+fn answers_so(locked: &mut Locked, put: Step, drains: bool) -> bool {
+    locked.step(0, 0, Step::Connect);
+    let is_silent = locked.answered().is_empty();
+    locked.step(0, 0, put);
+    match locked.fetch(0) {
+        Some(Answer::Draining) => is_silent && drains,
+        Some(Answer::Inserted(_)) => is_silent && !drains,
+        _ => false,
+    }
+}
 
-/// A control line without text.
-pub const SILENT: &[Gives] = &[];
+// Returns true if the core under the lock rejects or accepts a put as wanted.
+fn is_left_so(alloc: Global, locked: &mut Locked, wanted: &Wanted) -> bool {
+    let Wanted::Drains(drains) = wanted else {
+        return true;
+    };
+    match put(alloc) {
+        Ok(put) => answers_so(locked, put, *drains),
+        Err(_) => false,
+    }
+}
 
-/// Runs the doors where these clients connect. All tests use this one call.
-pub fn around_a_lock<'c, R: Threads + Wait + Sync>(
-    rt: &R,
-    alloc: Global,
-    config: Config,
-    clients: &[&[Client]],
-    gives: &'static [Gives],
-    room: usize,
-    opened: &'c AtomicU64,
-) -> Result<LockedRun<CountedDoor<'c>, ScriptClock>, RunFault> {
-    let Ok(scene) = Scene::new(alloc, clients, gives, opened) else {
-        return Err(RunFault::NoMemory);
+/// Makes a run, and returns how it came out.
+pub fn around_a_lock<R: Threads + Wait + Sync>(rt: &R, alloc: Global, case: &Case) -> Came {
+    let opened = AtomicU64::new(0);
+    let Ok(scene) = Scene::new(alloc, case, &opened) else {
+        return Came::Failed(RunFault::NoMemory);
     };
     let Scene {
         doors,
         clock,
         control,
     } = scene;
-    run_locked(rt, alloc, config, doors.all, clock, control, room)
-}
-
-// Returns true if the run left the wanted result, and its journal is complete and gives the
-// received bytes.
-fn is_right(
-    alloc: Global,
-    config: Config,
-    run: &LockedRun<CountedDoor<'_>, ScriptClock>,
-    wanted: Wanted,
-    clients: &[&[Client]],
-    opened: u64,
-) -> Result<bool, Fail> {
-    let doors = run.doors.as_slice();
-    let is_whole = is_whole(alloc, config, &run.locked, doors)?;
-    Ok(is_whole && wanted::is_right(wanted, clients, doors, opened))
-}
-
-/// Returns true if the run of the doors where these clients connect leaves the wanted result.
-pub fn comes_out<R: Threads + Wait + Sync>(
-    rt: &R,
-    alloc: Global,
-    clients: &[&[Client]],
-    wanted: Wanted,
-) -> Result<bool, Fail> {
-    let opened = AtomicU64::new(0);
-    let config = config(clients.len().min(256) as u16, USUAL_BODY);
-    match around_a_lock(rt, alloc, config, clients, SILENT, JOURNAL_ROOM, &opened) {
-        Ok(run) => {
-            let opened = opened.load(Ordering::SeqCst);
-            is_right(alloc, config, &run, wanted, clients, opened)
+    let config = config(case.seats, case.max_job_size);
+    match run_locked(rt, alloc, config, doors.all, clock, control, case.journal) {
+        Ok(mut run) => {
+            let is_whole = is_whole(alloc, case, config, &run.locked, run.doors.as_slice());
+            let is_kept = is_left_so(alloc, &mut run.locked, &case.wanted) && is_whole;
+            case.came(run.doors.as_slice(), opened.load(Ordering::SeqCst), is_kept)
         }
-        Err(_) => Ok(false),
+        Err(fault) => case.failed(fault, opened.load(Ordering::SeqCst)),
     }
+}
+
+/// Makes each run of a group, and returns true if all come out as wanted.
+pub fn all_come_out<R: Threads + Wait + Sync>(rt: &R, alloc: Global, group: Group) -> bool {
+    for number in 0..MOST {
+        let Some(case) = run_of(group, number) else {
+            return true;
+        };
+        if !matches!(around_a_lock(rt, alloc, &case), Came::AsWanted) {
+            return false;
+        }
+    }
+    false
 }

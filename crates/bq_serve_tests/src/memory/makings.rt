@@ -1,7 +1,7 @@
 //! Calls that allocate: each succeeds, or fails and changes nothing.
 ghost use Rattle.std.specs.Prelude.{◌<◌};
 
-use super::outcome::{Outcome, tell};
+use super::outcome::{Outcome, tells};
 use crate::settings::config;
 use bq_core::{Core, CoreFault, Outs};
 use bq_host::RunFault;
@@ -13,8 +13,6 @@ use bq_lock::Locked;
 use bq_seat::SeatMachine;
 use bq_wire::RequestReader;
 use std::alloc::Global;
-use std::io;
-use std::io::Print;
 
 fn made_or_refused(is_made: bool) -> Outcome {
     if is_made {
@@ -49,21 +47,7 @@ fn grown_shelf(alloc: Global, shelf: &mut Shelf<u64, u64>) -> Outcome {
 }
 
 fn has_one(shelf: &mut Shelf<u64, u64>) -> bool {
-    shelf.len() == 1 && shelf.get(&7) == Some(&70)
-}
-
-fn job(alloc: Global) -> Option<Job> {
-    Some(Job {
-        id: 1,
-        tube: TubeName::new(b"default")?,
-        pri: 0,
-        delay: 0,
-        ttr: 1,
-        body: Body::new(alloc, b"abc").ok()?,
-        put_at: 0,
-        counts: Counts::default(),
-        state: JobState::Ready,
-    })
+    shelf.len() == 1 && matches!(shelf.get(&7), Some(70))
 }
 
 // A collection with one job gets room for one more.
@@ -86,20 +70,33 @@ fn has_added(alloc: Global, jobs: &mut Jobs) -> bool {
     if jobs.reserve_one(alloc).is_err() || jobs.room() == 0 {
         return false;
     }
-    match job(alloc) {
-        Some(job) => add(jobs, job),
-        None => false,
+    match Body::new(alloc, b"abc") {
+        Ok(body) => add(jobs, body),
+        Err(_) => false,
     }
 }
 
 // Adds a job to a collection with room for it. Returns false if there is one with its id.
-fn add(jobs: &mut Jobs, job: Job) -> bool
+fn add(jobs: &mut Jobs, body: Body) -> bool
     requires { 0 < jobs.old.room }
 {
-    if jobs.get(job.id).is_some() {
+    let Some(tube) = TubeName::new(b"default") else {
+        return false;
+    };
+    if jobs.get(1).is_some() {
         return false;
     }
-    jobs.add(job);
+    jobs.add(Job {
+        id: 1,
+        tube,
+        pri: 0,
+        delay: 0,
+        ttr: 1,
+        body,
+        put_at: 0,
+        counts: Counts::default(),
+        state: JobState::Ready,
+    });
     true
 }
 
@@ -120,28 +117,30 @@ fn lock(alloc: Global) -> Outcome {
     }
 }
 
+fn outs(alloc: Global) -> Outcome {
+    made_or_refused(Outs::new(alloc, 2).is_ok())
+}
+
 fn links_of_two(alloc: Global) -> Outcome {
     made_or_refused(links::<Anything>(alloc, 2).is_ok())
 }
 
-fn tell_of_core<R: Print>(rt: &R, alloc: Global) -> io::Result<()> {
-    tell(rt, "shelf", shelf(alloc))?;
-    tell(rt, "jobs", jobs(alloc))?;
-    tell(rt, "core", core(alloc))?;
-    tell(rt, "outs", made_or_refused(Outs::new(alloc, 2).is_ok()))
+fn reader(alloc: Global) -> Outcome {
+    made_or_refused(RequestReader::new(alloc, USUAL_BODY).is_ok())
 }
 
-fn tell_of_lines<R: Print>(rt: &R, alloc: Global) -> io::Result<()> {
-    let reader = RequestReader::new(alloc, USUAL_BODY).is_ok();
-    tell(rt, "reader", made_or_refused(reader))?;
-    let machine = SeatMachine::new(alloc, USUAL_BODY).is_ok();
-    tell(rt, "seat", made_or_refused(machine))
+fn seat(alloc: Global) -> Outcome {
+    made_or_refused(SeatMachine::new(alloc, USUAL_BODY).is_ok())
 }
 
-/// Runs each of them in turn.
-pub fn tell_all<R: Print>(rt: &R, alloc: Global) -> io::Result<()> {
-    tell_of_core(rt, alloc)?;
-    tell(rt, "links", links_of_two(alloc))?;
-    tell_of_lines(rt, alloc)?;
-    tell(rt, "lock", lock(alloc))
+/// Makes each of them in turn. Returns false if an outcome could not be printed.
+pub fn tells_all(rt: &HostRuntime, alloc: Global) -> bool {
+    tells(rt, "shelf", shelf(alloc))
+        && tells(rt, "jobs", jobs(alloc))
+        && tells(rt, "core", core(alloc))
+        && tells(rt, "outs", outs(alloc))
+        && tells(rt, "links", links_of_two(alloc))
+        && tells(rt, "reader", reader(alloc))
+        && tells(rt, "seat", seat(alloc))
+        && tells(rt, "lock", lock(alloc))
 }

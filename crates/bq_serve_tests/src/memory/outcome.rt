@@ -1,9 +1,8 @@
 //! The outcome of a call, and how it is printed.
 
-use std::io;
 use std::io::Print;
 
-/// The outcome of a call or of a step.
+/// The outcome of a call or of a run.
 #[derive(Clone, Copy)]
 pub enum Outcome {
     /// It succeeded.
@@ -21,20 +20,19 @@ pub enum Outcome {
 }
 
 impl Outcome {
-    fn text(self) -> &'static str {
+    fn line(self) -> &'static str {
         match self {
-            Outcome::Made => "made",
-            Outcome::Refused => "refused",
-            Outcome::ThreadRefused => "a thread was refused",
-            Outcome::LeftOut => "a command was left out",
-            Outcome::NotBegun => "not begun",
-            Outcome::Wrong => "wrong",
+            Outcome::Made => ": made\n",
+            Outcome::Refused => ": refused\n",
+            Outcome::ThreadRefused => ": a thread was refused\n",
+            Outcome::LeftOut => ": a command was left out\n",
+            Outcome::NotBegun => ": not begun\n",
+            Outcome::Wrong => ": wrong\n",
         }
     }
 }
 
-/// Prints the outcome on one line.
-pub fn tell<R: Print>(rt: &R, name: &str, outcome: Outcome) -> io::Result<()> {
-    let text = outcome.text();
-    println!(rt; "{name}: {text}")
+/// Prints the outcome on one line. Returns false if it could not be printed.
+pub fn tells(rt: &HostRuntime, name: &str, outcome: Outcome) -> bool {
+    rt.write_all(name.as_bytes()).is_ok() && rt.write_all(outcome.line().as_bytes()).is_ok()
 }

@@ -2,287 +2,227 @@
 //! `taken` after it; then come its answers. From the first bury on, no step may allocate.
 ghost use Rattle.std.specs.Prelude.{◌≡◌, ◌<◌};
 
-use bq_core::{Config, Core, Outs};
-use bq_job::{Answer, Body, Moment, Request, Seat, Step, USUAL_BODY};
+use crate::settings::config;
+use crate::stepping::take;
+use bq_core::{Core, Outs};
+use bq_job::{Answer, Moment, Seat, Step, USUAL_BODY};
 use bq_wire::{HeadBuf, RequestReader, answer_body, answer_head, answer_tail};
 use std::alloc::Global;
-use std::io;
-use std::io::Print;
 
-/// What happens at a seat.
+/// Rows with `|` between one and the next: the moment, the seat, and what happens there. That is a
+/// request, or `connect`, `end` (the client sends no more), `close`, or `tick` (time passes). One
+/// text is cheaper to prove than a slice of rows.
+type Rows = &'static str;
+
+// Steps with ample memory, then buries and peeks, then waits and leases.
+static ALL: Rows = "0 0 connect|0 1 connect|0 2 connect|\
+    0 0 put 0 0 9 1\r\nx|0 0 put 0 0 9 1\r\nx|0 0 put 0 100 9 1\r\nx|\
+    0 0 use a|0 0 watch a|0 0 list-tubes|0 0 list-tubes-watched|\
+    0 0 stats-job 1|0 0 stats-tube a|0 0 stats|\
+    0 0 use default|0 0 reserve|0 0 reserve|\
+    0 0 bury 2 0|0 0 bury 1 0|0 0 peek-buried|0 0 kick 5|\
+    0 0 reserve|0 0 touch 1|0 0 release 1 0 0|\
+    0 0 list-tube-used|0 0 peek 1|0 0 peek-ready|0 0 peek-delayed|\
+    0 0 reserve-job 2|0 0 bury 2 7|0 0 kick-job 2|\
+    0 0 ignore a|0 0 ignore default|0 0 delete 4|0 0 bad words|\
+    0 0 reserve|0 0 reserve|0 1 reserve|0 0 release 1 0 0|\
+    0 2 reserve-with-timeout 1|1000 0 tick|\
+    1000 0 delete 2|1000 1 release 1 0 1|1000 2 reserve|2000 0 tick|\
+    2000 1 reserve|11000 0 tick|11000 2 reserve|11000 1 close|\
+    11000 2 pause-tube default 5|11000 2 release 1 0 0|11000 0 reserve|\
+    11000 0 end|11000 2 delete 1|11000 0 close";
+
+// A client that holds one job and has buried another. A third job is delayed. After the first bury,
+// a tick follows each step.
+static HELD_JOB: Rows = "0 0 connect|\
+    0 0 put 0 0 9 1\r\nx|0 0 put 0 0 9 1\r\ny|0 0 put 0 100 9 1\r\nz|\
+    0 0 reserve|0 0 reserve|0 0 bury 2 0|\
+    0 0 bury 1 0|0 0 tick|0 0 kick 5|0 0 tick|0 0 kick 5|0 0 tick|\
+    0 0 kick 5|0 0 tick|0 0 reserve|0 0 tick|0 0 touch 1|0 0 tick|\
+    0 0 release 1 0 0|0 0 tick|0 0 close|0 0 tick";
+
+/// A row in its parts.
 #[derive(Clone, Copy)]
-enum Does {
-    Connects,
-    /// A put with a delay in seconds, and a body. The priority is 0, and the time to run nine
-    /// seconds.
-    Puts(u32, &'static str),
-    Asks(&'static str),
-    SendsNoMore,
-    Closes,
-    /// Nothing happens: time passes.
-    Rests,
+struct Row {
+    at: Moment,
+    seat: Seat,
+    words: &'static str,
 }
 
-impl Does {
-    fn words(self) -> &'static str {
-        match self {
-            Does::Connects => "connect",
-            Does::Puts(_, _) => "put",
-            Does::Asks(words) => words,
-            Does::SendsNoMore => "end",
-            Does::Closes => "close",
-            Does::Rests => "tick",
-        }
+// A number, and the text after it.
+fn numbered(text: &'static str) -> Option<(u64, &'static str)> {
+    let Some((number, rest)) = text.split_once(' ') else {
+        return None;
+    };
+    match number.parse::<u64>() {
+        Ok(number) => Some((number, rest)),
+        Err(_) => None,
     }
 }
 
-/// A moment, a seat, and what happens there.
-type Row = (Moment, Seat, Does);
+fn row_of(text: &'static str) -> Option<Row> {
+    let Some((at, rest)) = numbered(text) else {
+        return None;
+    };
+    match numbered(rest) {
+        Some((seat, words)) if seat < u64::from(SEATS) => Some(Row {
+            at,
+            seat: seat as Seat,
+            words,
+        }),
+        _ => None,
+    }
+}
 
-static WITH_MEMORY: &[Row] = &[
-    (0, 0, Does::Connects),
-    (0, 1, Does::Connects),
-    (0, 2, Does::Connects),
-    (0, 0, Does::Puts(0, "x")),
-    (0, 0, Does::Puts(0, "x")),
-    (0, 0, Does::Puts(100, "x")),
-    (0, 0, Does::Asks("use a")),
-    (0, 0, Does::Asks("watch a")),
-    (0, 0, Does::Asks("list-tubes")),
-    (0, 0, Does::Asks("list-tubes-watched")),
-    (0, 0, Does::Asks("stats-job 1")),
-    (0, 0, Does::Asks("stats-tube a")),
-    (0, 0, Does::Asks("stats")),
-    (0, 0, Does::Asks("use default")),
-    (0, 0, Does::Asks("reserve")),
-    (0, 0, Does::Asks("reserve")),
-];
+/// The number of seats.
+const SEATS: u16 = 3;
 
-static BURIES_AND_PEEKS: &[Row] = &[
-    (0, 0, Does::Asks("bury 2 0")),
-    (0, 0, Does::Asks("bury 1 0")),
-    (0, 0, Does::Asks("peek-buried")),
-    (0, 0, Does::Asks("kick 5")),
-    (0, 0, Does::Asks("reserve")),
-    (0, 0, Does::Asks("touch 1")),
-    (0, 0, Does::Asks("release 1 0 0")),
-    (0, 0, Does::Asks("list-tube-used")),
-    (0, 0, Does::Asks("peek 1")),
-    (0, 0, Does::Asks("peek-ready")),
-    (0, 0, Does::Asks("peek-delayed")),
-    (0, 0, Does::Asks("reserve-job 2")),
-    (0, 0, Does::Asks("bury 2 7")),
-    (0, 0, Does::Asks("kick-job 2")),
-    (0, 0, Does::Asks("ignore a")),
-    (0, 0, Does::Asks("ignore default")),
-    (0, 0, Does::Asks("delete 4")),
-    (0, 0, Does::Asks("bad words")),
-];
-
-static WAITS_AND_LEASES: &[Row] = &[
-    (0, 0, Does::Asks("reserve")),
-    (0, 0, Does::Asks("reserve")),
-    (0, 1, Does::Asks("reserve")),
-    (0, 0, Does::Asks("release 1 0 0")),
-    (0, 2, Does::Asks("reserve-with-timeout 1")),
-    (1000, 0, Does::Rests),
-    (1000, 0, Does::Asks("delete 2")),
-    (1000, 1, Does::Asks("release 1 0 1")),
-    (1000, 2, Does::Asks("reserve")),
-    (2000, 0, Does::Rests),
-    (2000, 1, Does::Asks("reserve")),
-    (11_000, 0, Does::Rests),
-    (11_000, 2, Does::Asks("reserve")),
-    (11_000, 1, Does::Closes),
-    (11_000, 2, Does::Asks("pause-tube default 5")),
-    (11_000, 2, Does::Asks("release 1 0 0")),
-    (11_000, 0, Does::Asks("reserve")),
-    (11_000, 0, Does::SendsNoMore),
-    (11_000, 2, Does::Asks("delete 1")),
-    (11_000, 0, Does::Closes),
-];
-
-// A client that holds one job and has buried another. A third job is delayed.
-static HOLDS_A_JOB: &[Row] = &[
-    (0, 0, Does::Connects),
-    (0, 0, Does::Puts(0, "x")),
-    (0, 0, Does::Puts(0, "y")),
-    (0, 0, Does::Puts(100, "z")),
-    (0, 0, Does::Asks("reserve")),
-    (0, 0, Does::Asks("reserve")),
-    (0, 0, Does::Asks("bury 2 0")),
-];
-
-static WITHOUT_MEMORY: &[Row] = &[
-    (0, 0, Does::Asks("bury 1 0")),
-    (0, 0, Does::Rests),
-    (0, 0, Does::Asks("kick 5")),
-    (0, 0, Does::Rests),
-    (0, 0, Does::Asks("kick 5")),
-    (0, 0, Does::Rests),
-    (0, 0, Does::Asks("kick 5")),
-    (0, 0, Does::Rests),
-    (0, 0, Does::Asks("reserve")),
-    (0, 0, Does::Rests),
-    (0, 0, Does::Asks("touch 1")),
-    (0, 0, Does::Rests),
-    (0, 0, Does::Asks("release 1 0 0")),
-    (0, 0, Does::Rests),
-    (0, 0, Does::Closes),
-    (0, 0, Does::Rests),
-];
-
-/// A core of three seats, the room for its answers, a reader of the clients' requests, and the
-/// next step.
+/// A core, the room for its answers, and a reader of the clients' requests.
 #[derive(Drop)]
 struct Bench {
+    alloc: Global,
     core: Core,
     outs: Outs,
     reader: RequestReader,
-    next: Option<Step>,
     ghost room: { core.machine.settings.seats < outs.most },
 }
 
 impl Bench {
-    fn new(alloc: Global) -> Option<Bench> {
-        let config = Config {
-            seats: 3,
-            max_job_size: USUAL_BODY,
-            max_jobs: None,
-            requeue_delay: 0,
-        };
-        let reader = RequestReader::new(alloc, USUAL_BODY).ok()?;
-        let outs = Outs::new(alloc, config.seats).ok()?;
-        let core = Core::new(alloc, config).ok()?;
-        Some(Bench {
-            core,
-            outs,
-            reader,
-            next: None,
-        })
-    }
-
-    // Returns the request that the client makes with a line of these words.
-    fn asked(&mut self, alloc: Global, words: &str) -> Option<Step> {
-        let _ = self.reader.feed(alloc, words.as_bytes());
-        let (_, request) = self.reader.feed(alloc, b"\r\n");
-        Some(Step::Ask(request?))
-    }
-
-    fn step_of(&mut self, alloc: Global, does: Does) -> Option<Step> {
-        match does {
-            Does::Connects => Some(Step::Connect),
-            Does::Puts(delay, body) => put(alloc, delay, body),
-            Does::Asks(words) => self.asked(alloc, words),
-            Does::SendsNoMore => Some(Step::End),
-            Does::Closes => Some(Step::Close),
-            Does::Rests => Some(Step::Tick),
+    // Hands bytes to the reader. Returns the request that they complete.
+    fn feed(&mut self, bytes: &[u8]) -> Option<Step> {
+        match self.reader.feed(self.alloc, bytes) {
+            (_, Some(request)) => Some(Step::Ask(request)),
+            (_, None) => None,
         }
     }
 
-    // Makes the next step, and returns true if there was memory for it.
-    fn prepare(&mut self, alloc: Global, does: Does) -> bool {
-        self.next = self.step_of(alloc, does);
-        self.next.is_some()
+    // Returns the request that a client makes with these words and the end of a line.
+    fn asked(&mut self, words: &str) -> Option<Step> {
+        let _ = self.feed(words.as_bytes());
+        self.feed(b"\r\n")
     }
 
-    // Takes the next step.
-    fn step(&mut self, alloc: Global, at: Moment, seat: Seat) {
-        if let Some(step) = self.next.take() {
-            self.core.step(alloc, at, seat, step, &mut self.outs);
+    fn step_of(&mut self, words: &str) -> Option<Step> {
+        match words {
+            "connect" => Some(Step::Connect),
+            "end" => Some(Step::End),
+            "close" => Some(Step::Close),
+            "tick" => Some(Step::Tick),
+            _ => self.asked(words),
         }
+    }
+
+    fn take(&mut self, row: &Row, step: Step) {
+        take(
+            self.alloc,
+            &mut self.core,
+            &mut self.outs,
+            row.at,
+            row.seat,
+            step,
+        );
     }
 
     // Prints the answers of the last step. There are at most two.
-    fn tell_answers<R: Print>(&mut self, rt: &R) -> io::Result<()> {
+    fn tells_answers(&mut self, rt: &HostRuntime) -> bool {
         for _ in 0..3 {
             if let Some((seat, answer)) = self.outs.take_first() {
-                tell_answer(rt, seat, &answer)?;
+                if !tells_answer(rt, seat, &answer) {
+                    return false;
+                }
             }
         }
-        Ok(())
+        true
+    }
+
+    // Takes the step of a row between its two lines, and prints its answers. Returns false if an
+    // allocation fails for a request itself.
+    fn tells(&mut self, rt: &HostRuntime, row: &Row) -> bool {
+        match self.step_of(row.words) {
+            Some(step) => {
+                let is_begun = tells_words(rt, row.words);
+                self.take(row, step);
+                is_begun && rt.write_all(b"taken\n").is_ok() && self.tells_answers(rt)
+            }
+            None => false,
+        }
     }
 }
 
-fn put(alloc: Global, delay: u32, body: &str) -> Option<Step> {
-    Some(Step::Ask(Request::Put {
-        pri: 0,
-        delay,
-        ttr: 9,
-        body: Body::new(alloc, body.as_bytes()).ok()?,
-    }))
-}
-
-fn tell_answer<R: Print>(rt: &R, seat: Seat, answer: &Answer) -> io::Result<()> {
+fn tells_answer(rt: &HostRuntime, seat: Seat, answer: &Answer) -> bool {
+    let to: &[u8] = match seat {
+        0 => b"to 0:",
+        1 => b"to 1:",
+        _ => b"to 2:",
+    };
     if let Answer::Closed = answer {
-        return println!(rt; "to {seat}: closed");
+        return rt.write_all(to).is_ok() && rt.write_all(b" closed\n").is_ok();
     }
     let mut head = HeadBuf::new();
     answer_head(answer, &mut head);
-    println!(rt; "to {seat}:")?;
-    rt.write_all(head.as_slice())?;
-    rt.write_all(answer_body(answer))?;
-    rt.write_all(answer_tail(answer))
+    rt.write_all(to).is_ok()
+        && rt.write_all(b"\n").is_ok()
+        && rt.write_all(head.as_slice()).is_ok()
+        && rt.write_all(answer_body(answer)).is_ok()
+        && rt.write_all(answer_tail(answer)).is_ok()
 }
 
-fn tell_step<R: Print>(rt: &R, does: Does) -> io::Result<()> {
-    let words = does.words();
-    println!(rt; "step {words}")
+// Prints the words of a step. Of a put that is one word.
+fn tells_words(rt: &HostRuntime, words: &str) -> bool {
+    let words = if words.starts_with("put ") {
+        "put"
+    } else {
+        words
+    };
+    println!(rt; "step {words}").is_ok()
 }
 
-// Takes the steps of the rows. If an allocation fails for a request itself, it stops there.
-fn tell_rows<R: Print>(rt: &R, alloc: Global, bench: &mut Bench, rows: &[Row]) -> io::Result<()> {
-    for (at, seat, does) in rows {
-        if !bench.prepare(alloc, *does) {
-            return rt.write_all(b"not begun\n");
+// Takes the steps of the rows, up to the first that fails.
+fn tells_rows(rt: &HostRuntime, bench: &mut Bench, rows: Rows) -> bool {
+    for text in rows.split('|') {
+        let is_told = match row_of(text) {
+            Some(row) => bench.tells(rt, &row),
+            None => false,
+        };
+        if !is_told {
+            return rt.write_all(b"not begun\n").is_ok();
         }
-        tell_step(rt, *does)?;
-        bench.step(alloc, *at, *seat);
-        rt.write_all(b"taken\n")?;
-        bench.tell_answers(rt)?;
     }
-    Ok(())
+    true
 }
 
-// Each table has a function of its own, because that is cheapest to prove.
-fn tell_first<R: Print>(rt: &R, alloc: Global, bench: &mut Bench) -> io::Result<()> {
-    tell_rows(rt, alloc, bench, WITH_MEMORY)
-}
-
-fn tell_buries<R: Print>(rt: &R, alloc: Global, bench: &mut Bench) -> io::Result<()> {
-    tell_rows(rt, alloc, bench, BURIES_AND_PEEKS)
-}
-
-fn tell_waits<R: Print>(rt: &R, alloc: Global, bench: &mut Bench) -> io::Result<()> {
-    tell_rows(rt, alloc, bench, WAITS_AND_LEASES)
-}
-
-fn tell_with<R: Print>(rt: &R, alloc: Global, bench: &mut Bench) -> io::Result<()> {
-    rt.write_all(b"steps: begun\n")?;
-    tell_first(rt, alloc, bench)?;
-    tell_buries(rt, alloc, bench)?;
-    tell_waits(rt, alloc, bench)
-}
-
-/// Runs all rows at one core.
-pub fn tell_all<R: Print>(rt: &R, alloc: Global) -> io::Result<()> {
-    match Bench::new(alloc) {
-        Some(mut bench) => tell_with(rt, alloc, &mut bench),
-        None => rt.write_all(b"steps: not begun\n"),
+// Takes the steps of the rows at a core of their own.
+fn tells_steps(rt: &HostRuntime, alloc: Global, rows: Rows) -> bool {
+    let Ok(reader) = RequestReader::new(alloc, USUAL_BODY) else {
+        return tells_none(rt);
+    };
+    let Ok(outs) = Outs::new(alloc, SEATS) else {
+        return tells_none(rt);
+    };
+    match Core::new(alloc, config(SEATS, USUAL_BODY)) {
+        Ok(core) => {
+            let mut bench = Bench {
+                alloc,
+                core,
+                outs,
+                reader,
+            };
+            rt.write_all(b"steps: begun\n").is_ok() && tells_rows(rt, &mut bench, rows)
+        }
+        Err(_) => tells_none(rt),
     }
 }
 
-fn tell_held<R: Print>(rt: &R, alloc: Global, bench: &mut Bench) -> io::Result<()> {
-    rt.write_all(b"steps: begun\n")?;
-    tell_rows(rt, alloc, bench, HOLDS_A_JOB)?;
-    tell_rows(rt, alloc, bench, WITHOUT_MEMORY)
+fn tells_none(rt: &HostRuntime) -> bool {
+    rt.write_all(b"steps: not begun\n").is_ok()
 }
 
-/// Runs the steps of a client that holds a job, at a core of their own. After the first bury, a
-/// tick follows each step.
-pub fn tell_held_job<R: Print>(rt: &R, alloc: Global) -> io::Result<()> {
-    match Bench::new(alloc) {
-        Some(mut bench) => tell_held(rt, alloc, &mut bench),
-        None => rt.write_all(b"steps: not begun\n"),
-    }
+/// Takes the steps of several clients. Returns false if they could not be printed.
+pub fn tells_all(rt: &HostRuntime, alloc: Global) -> bool {
+    tells_steps(rt, alloc, ALL)
+}
+
+/// Takes the steps of a client that holds a job. Returns false if they could not be printed.
+pub fn tells_held_job(rt: &HostRuntime, alloc: Global) -> bool {
+    tells_steps(rt, alloc, HELD_JOB)
 }

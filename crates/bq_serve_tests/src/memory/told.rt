@@ -1,20 +1,24 @@
 //! All calls and steps, one after another. A second test runs the steps of a client that holds a
 //! job.
 
-use super::{makings, runs, steps};
-use std::test::Fail;
+use super::outcome::tells;
+use super::runs::{case, outcome};
+use super::{makings, steps};
+use crate::lock::runs::around_a_lock;
+use crate::sessions::runs::by_threads;
 
 #[test]
-fn all_calls(rt: HostRuntime) -> Result<(), Fail> {
+fn all_calls(rt: HostRuntime) {
     let alloc = rt.alloc();
-    makings::tell_all(&rt, alloc)?;
-    runs::tell_all(&rt, alloc)?;
-    steps::tell_all(&rt, alloc)?;
-    Ok(())
+    assert!(rt; makings::tells_all(&rt, alloc));
+    let came = by_threads(&rt, alloc, &case());
+    assert!(rt; tells(&rt, "run_sessions", outcome(came)));
+    let came = around_a_lock(&rt, alloc, &case());
+    assert!(rt; tells(&rt, "run_locked", outcome(came)));
+    assert!(rt; steps::tells_all(&rt, alloc));
 }
 
 #[test]
-fn held_job_without_memory(rt: HostRuntime) -> Result<(), Fail> {
-    steps::tell_held_job(&rt, rt.alloc())?;
-    Ok(())
+fn held_job_without_memory(rt: HostRuntime) {
+    assert!(rt; steps::tells_held_job(&rt, rt.alloc()));
 }

@@ -11,20 +11,10 @@ use bq_job::{Answer, NoMemory, Request, Step, USUAL_BODY};
 use bq_line::clock::ScriptClock;
 use bq_link::{CoreEnd, Intake, NoTicks, SeatEnd, links};
 use bq_thread_work::core_work::{CoreRoom, core_work};
-use std::alloc::{AllocError, Global};
+use std::alloc::Global;
 use std::sync::Wait;
-use std::test::Fail;
 use std::thread;
 use std::thread::Threads;
-
-/// An intake for three seats, the core's end, the ends of two seats, and those of the third seat
-/// and the control line.
-type Four = (
-    Intake<NoTicks>,
-    CoreEnd,
-    (SeatEnd, SeatEnd),
-    (SeatEnd, SeatEnd),
-);
 
 // Takes out the last end.
 fn last_end(intake: &Intake<NoTicks>, ends: &mut Vec<SeatEnd>) -> SeatEnd
@@ -35,29 +25,6 @@ fn last_end(intake: &Intake<NoTicks>, ends: &mut Vec<SeatEnd>) -> SeatEnd
     ensures count { length ends.old.items ≡ length ends.new.items + 1 }
 {
     ends.pop().unwrap()
-}
-
-fn four_ends(alloc: Global) -> Result<Four, NoMemory>
-    ensures intake { IfOk result (λ r. r.1.intake ≡ r.0.id) }
-    ensures core { IfOk result (λ r. IsNewCore 4 r.1) }
-    ensures seats { IfOk result (λ r. (r.2.0.intake ≡ r.0.id) × (r.2.1.intake ≡ r.0.id)) }
-    ensures others { IfOk result (λ r. (r.3.0.intake ≡ r.0.id) × (r.3.1.intake ≡ r.0.id)) }
-{
-    let (intake, core, mut ends) = links(alloc, 3)?;
-    let control = last_end(&intake, &mut ends);
-    let third = last_end(&intake, &mut ends);
-    let second = last_end(&intake, &mut ends);
-    let first = last_end(&intake, &mut ends);
-    Ok((intake, core, (first, second), (third, control)))
-}
-
-// Submits a step, and returns true if the intake had room.
-fn submits<R: Wait>(rt: &R, intake: &Intake<NoTicks>, end: &mut SeatEnd, step: Step) -> bool
-    requires intake { end.old.intake ≡ intake.now.id }
-    requires no_tick { is_tick step ≡ false }
-    ensures { end.new.intake ≡ end.old.intake }
-{
-    end.submit(rt, intake, step).is_ok()
 }
 
 // A core for three seats, and its end.
@@ -80,15 +47,17 @@ fn beside(alloc: Global) -> Result<(Outs, CoreRoom, ScriptClock), NoMemory>
 }
 
 impl<'a> CoreSide<'a> {
-    // Works until all ends have gone.
-    fn work<R: Wait>(self, rt: &R, alloc: Global) -> Result<(), NoMemory> {
-        let (outs, room, clock) = beside(alloc)?;
+    // Works until all ends have gone. Returns false if an allocation fails.
+    fn works<R: Wait>(self, rt: &R, alloc: Global) -> bool {
+        let Ok((outs, room, clock)) = beside(alloc) else {
+            return false;
+        };
         let CoreSide { intake, end } = self;
         let Ok(core) = Core::new(alloc, config(3, USUAL_BODY)) else {
-            return Err(NoMemory);
+            return false;
         };
         drop(core_work(rt, alloc, intake, end, core, outs, room, clock));
-        Ok(())
+        true
     }
 }
 
@@ -106,84 +75,51 @@ struct Ends<'a> {
     ghost control_is: { control.intake ≡ intake.now.id },
 }
 
-// Waits for the oldest answer to an end, and returns true if it says that no job was found.
-fn is_not_found<R: Wait>(rt: &R, end: &mut SeatEnd) -> bool
+// Submits a step, and returns true if the intake had room.
+fn submits<R: Wait>(rt: &R, intake: &Intake<NoTicks>, end: &mut SeatEnd, step: Step) -> bool
+    requires intake { end.old.intake ≡ intake.now.id }
+    requires no_tick { is_tick step ≡ false }
     ensures { end.new.intake ≡ end.old.intake }
 {
+    end.submit(rt, intake, step).is_ok()
+}
+
+// Connects a client, which submits this many requests. A core without jobs answers to each that no
+// job was found.
+fn asks<R: Wait>(rt: &R, intake: &Intake<NoTicks>, end: &mut SeatEnd, times: u8) -> bool
+    requires { end.old.intake ≡ intake.now.id }
+    ensures { end.new.intake ≡ end.old.intake }
+{
+    let mut is_submitted = submits(rt, intake, end, Step::Connect);
+    for _ in 0..times {
+        is_submitted = submits(rt, intake, end, Step::Ask(Request::PeekReady)) && is_submitted;
+    }
+    is_submitted
+}
+
+// Waits for this many answers, and returns true if each says that no job was found.
+fn are_not_found<R: Wait>(rt: &R, end: &mut SeatEnd, times: u8) -> bool
+    ensures { end.new.intake ≡ end.old.intake }
+{
+    let mut left = times;
     for _ in rt.forever() {
-        if let Some(answer) = end.mail() {
-            return matches!(answer, Answer::NotFound);
+        if left == 0 {
+            return true;
         }
-        thread::yield_now();
+        match end.mail() {
+            Some(Answer::NotFound) => left -= 1,
+            Some(_) => return false,
+            None => thread::yield_now(),
+        }
     }
     unreachable!()
 }
 
-// Submits a request to which a core without jobs answers that no job was found.
-fn asks<R: Wait>(rt: &R, intake: &Intake<NoTicks>, end: &mut SeatEnd) -> bool
-    requires { end.old.intake ≡ intake.now.id }
-    ensures { end.new.intake ≡ end.old.intake }
-{
-    submits(rt, intake, end, Step::Ask(Request::PeekReady))
-}
-
-// Submits one request more than a ring has room for answers.
-fn asks_five<R: Wait>(rt: &R, intake: &Intake<NoTicks>, end: &mut SeatEnd) -> bool
-    requires { end.old.intake ≡ intake.now.id }
-    ensures { end.new.intake ≡ end.old.intake }
-{
-    asks(rt, intake, end)
-        && asks(rt, intake, end)
-        && asks(rt, intake, end)
-        && asks(rt, intake, end)
-        && asks(rt, intake, end)
-}
-
-// The first seat submits one request more than its ring has room for answers, and then the second
-// seat submits one.
-fn ask<R: Wait>(rt: &R, intake: &Intake<NoTicks>, first: &mut SeatEnd, second: &mut SeatEnd) -> bool
-    requires first { first.old.intake ≡ intake.now.id }
-    requires second { second.old.intake ≡ intake.now.id }
-    ensures first { first.new.intake ≡ first.old.intake }
-    ensures second { second.new.intake ≡ second.old.intake }
-{
-    submits(rt, intake, first, Step::Connect)
-        && submits(rt, intake, second, Step::Connect)
-        && asks_five(rt, intake, first)
-        && asks(rt, intake, second)
-}
-
-// Waits for five answers, and returns true if each says that no job was found.
-fn are_five_not_found<R: Wait>(rt: &R, end: &mut SeatEnd) -> bool
-    ensures { end.new.intake ≡ end.old.intake }
-{
-    is_not_found(rt, end)
-        && is_not_found(rt, end)
-        && is_not_found(rt, end)
-        && is_not_found(rt, end)
-        && is_not_found(rt, end)
-}
-
-// Returns true if the second seat receives its answer while the ring of the first is full, and the
-// first then receives its five answers.
-fn take_late<R: Wait>(rt: &R, first: &mut SeatEnd, second: &mut SeatEnd) -> bool
-    ensures first { first.new.intake ≡ first.old.intake }
-    ensures second { second.new.intake ≡ second.old.intake }
-{
-    is_not_found(rt, second) && are_five_not_found(rt, first)
-}
-
-// Submits that a client is gone, or that the control line has ended.
-fn goes<R: Wait>(rt: &R, intake: &Intake<NoTicks>, end: &mut SeatEnd) -> bool
-    requires { end.old.intake ≡ intake.now.id }
-    ensures { end.new.intake ≡ end.old.intake }
-{
-    submits(rt, intake, end, Step::Gone)
-}
-
 impl<'a> Ends<'a> {
-    // Returns true if everything arrives as it should. The core's work ends after all ends have
-    // gone.
+    // The first seat submits one request more than its ring has room for answers, and then the
+    // second seat submits one. Returns true if the second seat receives its answer while the ring
+    // of the first is full, and the first then receives its five answers. The core's work ends
+    // after all ends have gone.
     fn work<R: Wait>(self, rt: &R) -> bool {
         let Ends {
             intake,
@@ -192,10 +128,16 @@ impl<'a> Ends<'a> {
             mut third,
             mut control,
         } = self;
-        let is_asked = ask(rt, intake, &mut first, &mut second);
-        let is_right = is_asked && take_late(rt, &mut first, &mut second);
-        let have_both_gone = goes(rt, intake, &mut first) && goes(rt, intake, &mut second);
-        have_both_gone && goes(rt, intake, &mut third) && goes(rt, intake, &mut control) && is_right
+        let is_right = asks(rt, intake, &mut first, 5)
+            && asks(rt, intake, &mut second, 1)
+            && are_not_found(rt, &mut second, 1)
+            && are_not_found(rt, &mut first, 5);
+        let have_both_gone = submits(rt, intake, &mut first, Step::Gone)
+            && submits(rt, intake, &mut second, Step::Gone);
+        have_both_gone
+            && submits(rt, intake, &mut third, Step::Gone)
+            && submits(rt, intake, &mut control, Step::Gone)
+            && is_right
     }
 }
 
@@ -205,23 +147,24 @@ fn work_beside<R: Threads + Wait + Sync>(
     alloc: Global,
     core: CoreSide<'_>,
     ends: Ends<'_>,
-) -> Result<bool, AllocError> {
-    thread::scope(
-        thread::scope_env(),
-        rt,
-        |scope| -> Result<bool, AllocError> {
-            let child = scope.spawn(move || ends.work(rt))?;
-            let Ok(()) = core.work(rt, alloc) else {
-                return Err(AllocError);
-            };
-            Ok(child.join(rt))
-        },
-    )
+) -> bool {
+    thread::scope(thread::scope_env(), rt, |scope| -> bool {
+        match scope.spawn(move || ends.work(rt)) {
+            Ok(child) => core.works(rt, alloc) && child.join(rt),
+            Err(_) => false,
+        }
+    })
 }
 
-#[test]
-fn core_serves_others_while_a_ring_is_full(rt: HostRuntime) -> Result<(), Fail> {
-    let (intake, end, (first, second), (third, control)) = four_ends(rt.alloc())?;
+// Returns true if both sides of new links work as they should.
+fn both_work<R: Threads + Wait + Sync>(rt: &R, alloc: Global) -> bool {
+    let Ok((intake, end, mut ends)) = links(alloc, 3) else {
+        return false;
+    };
+    let control = last_end(&intake, &mut ends);
+    let third = last_end(&intake, &mut ends);
+    let second = last_end(&intake, &mut ends);
+    let first = last_end(&intake, &mut ends);
     let core = CoreSide {
         intake: &intake,
         end,
@@ -233,6 +176,10 @@ fn core_serves_others_while_a_ring_is_full(rt: HostRuntime) -> Result<(), Fail> 
         third,
         control,
     };
-    assert!(rt; work_beside(&rt, rt.alloc(), core, ends)?);
-    Ok(())
+    work_beside(rt, alloc, core, ends)
+}
+
+#[test]
+fn core_serves_others_while_a_ring_is_full(rt: HostRuntime) {
+    assert!(rt; both_work(&rt, rt.alloc()));
 }

@@ -1,87 +1,80 @@
-//! Runs by threads over links, with a clock that always reads the same.
-ghost use Rattle.std.specs.Prelude.{◌≡◌, IfOk};
-ghost use Rattle.std.specs.List.{All};
-ghost use Rattle.bq_line.specs.Tending.{IsNewDoor, door_seen};
+//! The run by threads over links.
+ghost use Rattle.std.specs.Prelude.{◌≡◌, ◌<◌};
 
-use crate::clients::Client;
-use crate::control::{Control, Gives};
-use crate::doors::CountedDoor;
+use crate::cases::{Came, Case, Group, MOST, Wanted, run_of};
+use crate::drains::put;
 use crate::scene::Scene;
 use crate::settings::config;
-use crate::wanted::{Wanted, is_right};
-use bq_core_api::Config;
+use crate::stepping::take;
+use bq_core::{Core, Outs};
 use bq_host::RunFault;
-use bq_job::USUAL_BODY;
-use bq_line::Door;
-use bq_line::clock::ScriptClock;
-use bq_line::control_line::ControlReader;
-use bq_line::line::Line;
-use bq_serve::{Run, run_sessions};
+use bq_job::{Answer, Step};
+use bq_serve::run_sessions;
 use std::alloc::Global;
 use std::sync::Wait;
 use std::sync::atomic::{AtomicU64, Ordering};
 use std::thread::Threads;
 
-/// A control line without text.
-pub const SILENT: &[Gives] = &[];
-
-/// Runs these doors. All tests use this one call.
-pub fn ran<
-    R: Threads + Wait + Sync,
-    L: Line + Drop + Send,
-    D: Door<Line = L> + Drop + Send,
-    I: ControlReader + Drop,
->(
-    rt: &R,
-    alloc: Global,
-    config: Config,
-    doors: Vec<D, Global>,
-    clock: ScriptClock,
-    control: I,
-) -> Result<Run<D, ScriptClock, I>, RunFault>
-    requires new { All
-        (λ door. IsNewDoor (door_seen D.is_out D.is_at_end D.lines_over door)) doors.items }
-    ensures { IfOk result (λ run. run.core.machine.settings.seats ≡ config.seats) }
+// Returns true if a core to which no client is connected answers a put as wanted.
+fn answers_so(alloc: Global, core: &mut Core, outs: &mut Outs, put: Step, drains: bool) -> bool
+    requires { core.old.machine.settings.seats < outs.old.most }
 {
-    run_sessions(rt, alloc, config, doors, clock, control)
+    take(alloc, core, outs, 0, 0, Step::Connect);
+    let is_silent = outs.is_empty();
+    take(alloc, core, outs, 0, 0, put);
+    match outs.take_first() {
+        Some((0, Answer::Draining)) => is_silent && drains,
+        Some((0, Answer::Inserted(_))) => is_silent && !drains,
+        _ => false,
+    }
 }
 
-/// Runs the doors where these clients connect.
-pub fn by_threads<'c, R: Threads + Wait + Sync>(
-    rt: &R,
-    alloc: Global,
-    config: Config,
-    clients: &[&[Client]],
-    gives: &'static [Gives],
-    opened: &'c AtomicU64,
-) -> Result<Run<CountedDoor<'c>, ScriptClock, Control>, RunFault>
-    ensures { IfOk result (λ run. run.core.machine.settings.seats ≡ config.seats) }
+// Returns true if a core with this many seats rejects or accepts a put as wanted.
+fn is_left_so(alloc: Global, core: &mut Core, seats: u16, wanted: &Wanted) -> bool
+    requires { core.old.machine.settings.seats ≡ seats }
 {
-    let Ok(scene) = Scene::new(alloc, clients, gives, opened) else {
-        return Err(RunFault::NoMemory);
+    let Wanted::Drains(drains) = wanted else {
+        return true;
+    };
+    let Ok(mut outs) = Outs::new(alloc, seats) else {
+        return false;
+    };
+    match put(alloc) {
+        Ok(put) => answers_so(alloc, core, &mut outs, put, *drains),
+        Err(_) => false,
+    }
+}
+
+/// Makes a run, and returns how it came out.
+pub fn by_threads<R: Threads + Wait + Sync>(rt: &R, alloc: Global, case: &Case) -> Came {
+    let opened = AtomicU64::new(0);
+    let Ok(scene) = Scene::new(alloc, case, &opened) else {
+        return Came::Failed(RunFault::NoMemory);
     };
     let Scene {
         doors,
         clock,
         control,
     } = scene;
-    ran(rt, alloc, config, doors.all, clock, control)
+    let config = config(case.seats, case.max_job_size);
+    match run_sessions(rt, alloc, config, doors.all, clock, control) {
+        Ok(mut run) => {
+            let is_kept = is_left_so(alloc, &mut run.core, config.seats, &case.wanted);
+            case.came(run.doors.as_slice(), opened.load(Ordering::SeqCst), is_kept)
+        }
+        Err(fault) => case.failed(fault, opened.load(Ordering::SeqCst)),
+    }
 }
 
-/// Returns true if the run of the doors where these clients connect leaves the wanted result.
-pub fn comes_out<R: Threads + Wait + Sync>(
-    rt: &R,
-    alloc: Global,
-    clients: &[&[Client]],
-    wanted: Wanted,
-) -> bool {
-    let opened = AtomicU64::new(0);
-    let config = config(clients.len().min(256) as u16, USUAL_BODY);
-    match by_threads(rt, alloc, config, clients, SILENT, &opened) {
-        Ok(run) => {
-            let opened = opened.load(Ordering::SeqCst);
-            is_right(wanted, clients, run.doors.as_slice(), opened)
+/// Makes each run of a group, and returns true if all come out as wanted.
+pub fn all_come_out<R: Threads + Wait + Sync>(rt: &R, alloc: Global, group: Group) -> bool {
+    for number in 0..MOST {
+        let Some(case) = run_of(group, number) else {
+            return true;
+        };
+        if !matches!(by_threads(rt, alloc, &case), Came::AsWanted) {
+            return false;
         }
-        Err(_) => false,
     }
+    false
 }

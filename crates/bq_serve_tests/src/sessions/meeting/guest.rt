@@ -1,13 +1,17 @@
 //! A client that waits for others.
 
-use super::awaited::Meeting;
+use super::awaited::{Meeting, is_reached};
 use bq_line::line::Duplex;
 use std::alloc::Global;
 use std::io;
 use std::io::ErrorKind;
+use std::sync::atomic::Ordering;
 
 /// The number of clients.
 pub const GUESTS: u16 = 4;
+
+/// What the client whose job is the last one receives.
+const LAST: &[u8] = b"INSERTED 4\r\n";
 
 /// A client that puts a job. Its first read waits until those of all clients have begun, and until
 /// a given number of others have their answers. If that does not happen, the read fails.
@@ -32,9 +36,10 @@ impl<'m> Guest<'m> {
         }
     }
 
-    /// Returns what the client received.
-    pub fn written(&self) -> &[u8] {
-        self.written.as_slice()
+    /// Returns true if the client received an answer, the last one or another.
+    pub fn is_answered(&self, is_last: bool) -> bool {
+        let written = self.written.as_slice();
+        written.starts_with(b"INSERTED ") && (written == LAST) == is_last
     }
 
     // Returns true if everything that it waits for happened.
@@ -43,8 +48,9 @@ impl<'m> Guest<'m> {
             return true;
         }
         self.has_begun = true;
-        self.meeting.begin();
-        self.meeting.await_begun(u64::from(GUESTS)) && self.meeting.await_answered(self.others)
+        self.meeting.begun.fetch_add(1, Ordering::SeqCst);
+        is_reached(&self.meeting.begun, u64::from(GUESTS))
+            && is_reached(&self.meeting.answered, self.others)
     }
 }
 
@@ -64,7 +70,7 @@ impl<'m> Duplex for Guest<'m> {
             return Err(io::Error::from(ErrorKind::OutOfMemory));
         }
         if self.written.as_slice().ends_with(b"\r\n") {
-            self.meeting.answer();
+            self.meeting.answered.fetch_add(1, Ordering::SeqCst);
         }
         Ok(buf.len())
     }

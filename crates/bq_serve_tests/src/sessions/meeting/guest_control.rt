@@ -1,9 +1,10 @@
 //! A control line that waits for all clients.
 
-use super::awaited::Meeting;
+use super::awaited::{Meeting, is_reached};
 use super::guest::GUESTS;
 use std::io;
 use std::io::{ErrorKind, Read};
+use std::sync::atomic::Ordering;
 
 /// A control line without bytes. Its read waits until all clients have their answers, and fails
 /// otherwise.
@@ -21,10 +22,10 @@ impl<'m> GuestControl<'m> {
 
 impl<'m> Read for GuestControl<'m> {
     fn read(&mut self, _buf: &mut [u8]) -> io::Result<usize> {
-        if self.meeting.await_answered(u64::from(GUESTS)) {
+        if is_reached(&self.meeting.answered, u64::from(GUESTS)) {
             return Ok(0);
         }
-        self.meeting.fail();
+        self.meeting.has_failed.store(true, Ordering::SeqCst);
         Err(io::Error::from(ErrorKind::BrokenPipe))
     }
 }

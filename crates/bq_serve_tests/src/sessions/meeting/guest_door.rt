@@ -38,8 +38,9 @@ impl<'m> GuestDoor<'m> {
         }
     }
 
-    /// Returns the client and how its line ended, if it has ended.
-    pub fn into_guest(self) -> Option<(Guest<'m>, LineEnd)> {
+    /// Returns true if the client has received an answer, the last one or another, and its line has
+    /// ended.
+    pub fn is_served(self, is_last: bool) -> bool {
         let GuestDoor {
             seat: _,
             coming: _,
@@ -47,8 +48,10 @@ impl<'m> GuestDoor<'m> {
             is_out: _,
             is_at_end: _,
         } = self;
-        let (line, end) = over?;
-        Some((line.into_stream(), end))
+        match over {
+            Some((line, LineEnd::EndOfInput)) => line.into_stream().is_answered(is_last),
+            _ => false,
+        }
     }
 }
 
