@@ -15,7 +15,7 @@ const MOST: usize = 8;
 const TURNS: u64 = 400_000;
 
 /// A rule that chooses the next seat among those that can act.
-#[derive(Clone, Copy, PartialEq, Eq)]
+#[derive(Clone, Copy)]
 pub enum Rule {
     /// The seat with the lowest number.
     First,
@@ -33,20 +33,8 @@ pub enum Rule {
     Commands,
 }
 
-/// All rules. Two of the seats are starved, one after the other.
-pub const RULES: &[Rule] = &[
-    Rule::First,
-    Rule::Last,
-    Rule::Next,
-    Rule::Starved(0),
-    Rule::Starved(1),
-    Rule::Any,
-    Rule::Woken,
-    Rule::Commands,
-];
-
 /// The next part of a round.
-#[derive(Clone, Copy, PartialEq, Eq)]
+#[derive(Clone, Copy)]
 enum Stage {
     Seats,
     Time,
@@ -79,10 +67,9 @@ impl<'t> Order<'t> {
             rule,
             reads,
             all,
-            stage: if reads == ControlReads::ToEnd {
-                Stage::Control
-            } else {
-                Stage::Seats
+            stage: match reads {
+                ControlReads::ToEnd => Stage::Control,
+                _ => Stage::Seats,
             },
             unmoved: [0; MOST],
             last: None,
@@ -98,7 +85,7 @@ impl<'t> Order<'t> {
         let Some(seat) = self.last else {
             return;
         };
-        if moved && self.rule != Rule::Woken {
+        if moved && !matches!(self.rule, Rule::Woken) {
             self.unmoved = [0; MOST];
         } else if let Some(unmoved) = self.unmoved.get_mut(seat) {
             *unmoved = if moved { 0 } else { unmoved.saturating_add(1) };
@@ -133,7 +120,7 @@ impl<'t> Order<'t> {
     // Returns the seat at this place of the search.
     fn seat_at(&self, begin: usize, place: usize, seats: usize) -> usize {
         let at = begin.saturating_add(place) % seats.max(1);
-        if self.rule == Rule::Last {
+        if matches!(self.rule, Rule::Last) {
             seats.saturating_sub(1).saturating_sub(at)
         } else {
             at
@@ -146,7 +133,11 @@ impl<'t> Order<'t> {
         let begin = self.begin(seats);
         for place in 0..seats {
             let seat = self.seat_at(begin, place, seats);
-            if self.may_go_on(row, seat) {
+            let tries_again = match row.seat(seat) {
+                Some(attendant) => attendant.tries_again(),
+                None => false,
+            };
+            if self.may_go_on(seat, tries_again) {
                 self.after = seat;
                 return Some(seat);
             }
@@ -154,12 +145,9 @@ impl<'t> Order<'t> {
         None
     }
 
-    fn may_go_on<L: Line + Drop, D: Door<Line = L>>(&self, row: &Row<L, D>, seat: usize) -> bool {
-        let Some(attendant) = row.seat(seat) else {
-            return false;
-        };
+    fn may_go_on(&self, seat: usize, tries_again: bool) -> bool {
         match self.unmoved.get(seat) {
-            Some(unmoved) => *unmoved < 2 || attendant.tries_again(),
+            Some(unmoved) => *unmoved < 2 || tries_again,
             None => false,
         }
     }
@@ -169,7 +157,10 @@ impl<'t> Order<'t> {
         match (self.stage, seat) {
             (Stage::Seats, Some(seat)) => {
                 self.last = Some(seat);
-                self.turn_of(seat)
+                match self.rule {
+                    Rule::Commands => Turn::Command(seat),
+                    _ => Turn::Seat(seat),
+                }
             }
             (Stage::Seats, None) => {
                 self.stage = Stage::Time;
@@ -187,19 +178,11 @@ impl<'t> Order<'t> {
         }
     }
 
-    fn turn_of(&self, seat: usize) -> Turn {
-        if self.rule == Rule::Commands {
-            Turn::Command(seat)
-        } else {
-            Turn::Seat(seat)
-        }
-    }
-
     // Begins a round. With most rules it tries each seat again, since the seat's line may be ready
     // by now. In a run that was given up each line fails.
     fn begin_round(&mut self) {
         self.stage = Stage::Seats;
-        if self.rule != Rule::Woken || self.all.has_given_up() {
+        if !matches!(self.rule, Rule::Woken) || self.all.has_given_up() {
             self.unmoved = [0; MOST];
         }
     }
@@ -214,7 +197,7 @@ impl<'t> Turns for Order<'t> {
     ) -> Turn {
         self.note(news.progress.has_moved());
         self.count();
-        if self.stage != Stage::Seats {
+        if !matches!(self.stage, Stage::Seats) {
             return self.turn(None);
         }
         let seat = self.choose(row);
@@ -242,17 +225,7 @@ fn look_if_free<L: Line + Drop, D: Door<Line = L>>(
     requires tended { AreTended L.seen (door_seen D.is_out D.is_at_end D.lines_over) row.old }
     ensures keeps { KeepsRow L.seen (door_seen D.is_out D.is_at_end D.lines_over) D.same row.old row.new }
 {
-    if looks(row, seat, rule) {
+    if matches!(rule, Rule::Next | Rule::Woken) {
         let _looked = row.look(alloc, seat, true);
-    }
-}
-
-fn looks<L: Line + Drop, D: Door<Line = L>>(row: &Row<L, D>, seat: usize, rule: Rule) -> bool {
-    if rule != Rule::Next && rule != Rule::Woken {
-        return false;
-    }
-    match row.seat(seat) {
-        Some(attendant) => attendant.is_between(),
-        None => false,
     }
 }

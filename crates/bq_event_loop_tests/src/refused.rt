@@ -1,23 +1,35 @@
 //! Runs that are rejected: they open no door.
 
-use crate::order::{Order, Rule};
-use crate::runs::{PLAIN, ran};
+use crate::order::Rule;
+use crate::runs::ran_so;
+use crate::setting::by_rule;
 use crate::together::Together;
-use bq_event_loop::{ControlReads, TurnsFault};
+use crate::visits::{Run, Table};
+use bq_event_loop::TurnsFault;
 use bq_host::RunFault;
-use bq_serve_tests::refused::{ONE, REFUSED, Refused, opens_of};
+use bq_serve_tests::refused::{REFUSED, Refused, opens_of};
 use bq_serve_tests::settings::config;
 use std::alloc::Global;
 use std::sync::Wait;
 
-fn is_refused<R: Wait>(rt: &R, alloc: Global, row: &Refused, turns: Option<TurnsFault>) -> bool {
+// The one client, at the one door. The limit of body sizes is 1.
+static ONE: &str = "put 5 0 10 3~abc~ > JOB_TOO_BIG~";
+
+const ONE_RUN: Run = Run {
+    number: 0,
+    doors: 1,
+    clients: 1,
+};
+
+fn is_refused<R: Wait>(rt: &R, alloc: Global, row: &Refused, fault: Option<TurnsFault>) -> bool {
     let all = Together::new();
-    let turns = match turns {
-        None => Ok(Order::new(Rule::Next, ControlReads::Once, &all)),
-        Some(fault) => Err(fault),
+    let table = Table::of_text(alloc, ONE);
+    let (config, setting) = (config(row.0, row.1), by_rule(Rule::Next));
+    let is_so = match ran_so(rt, alloc, config, &table, ONE_RUN, &setting, fault, &all) {
+        Ok(is_so) => is_so && row.2.is_none(),
+        Err(fault) => row.2 == Some(fault),
     };
-    let found = ran(rt, alloc, config(row.0, row.1), ONE, &PLAIN, turns, &all).err();
-    found == row.2 && all.opened() == opens_of(row.2)
+    is_so && all.opened() == opens_of(row.2)
 }
 
 #[test]
@@ -27,20 +39,21 @@ fn refused_runs(rt: HostRuntime) {
     }
 }
 
-#[test]
-fn refused_turns(rt: HostRuntime) {
-    let alloc = rt.alloc();
+// Turns that could not be prepared. The configuration is checked first.
+fn are_refused<R: Wait>(rt: &R, alloc: Global) -> bool {
     let no_memory = Some(TurnsFault::NoMemory);
     let refused = Some(TurnsFault::Refused);
-    assert!(rt; is_refused(&rt, alloc, &(1, 1, Some(RunFault::NoMemory)), no_memory));
-    assert!(rt; is_refused(&rt, alloc, &(1, 1, Some(RunFault::ThreadRefused)), refused));
-    // The configuration is checked first.
-    assert!(rt;
-        is_refused(
-            &rt,
+    is_refused(rt, alloc, &(1, 1, Some(RunFault::NoMemory)), no_memory)
+        && is_refused(rt, alloc, &(1, 1, Some(RunFault::ThreadRefused)), refused)
+        && is_refused(
+            rt,
             alloc,
             &(2, 1, Some(RunFault::BadConfiguration)),
-            refused
+            refused,
         )
-    );
+}
+
+#[test]
+fn refused_turns(rt: HostRuntime) {
+    assert!(rt; are_refused(&rt, rt.alloc()));
 }

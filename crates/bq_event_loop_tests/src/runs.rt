@@ -1,117 +1,110 @@
 //! Runs of doors in memory.
 
-use crate::flow::FREE;
-use crate::order::{Order, Rule};
-use crate::script::Limits;
-use crate::script_door::{Cut, ScriptDoor, doors};
+use crate::order::Order;
+use crate::script_door::{ScriptDoor, doors_of};
+use crate::series::Series;
+use crate::setting::{Setting, at_first};
 use crate::together::Together;
+use crate::visits::{Run, Table};
 use bq_core::Core;
 use bq_core_api::Config;
-use bq_event_loop::{ControlReads, EventLoopRun, TurnsFault, run_turns};
+use bq_event_loop::{EventLoopRun, TurnsFault, run_turns};
 use bq_host::RunFault;
 use bq_job::{Moment, USUAL_BODY};
 use bq_line::clock::ScriptClock;
-use bq_serve_tests::clients::{Client, Outcome, STILL, clock};
-use bq_serve_tests::control::{Control, Gives, control};
+use bq_serve_tests::control::{Control, control};
 use bq_serve_tests::settings::config;
-use bq_serve_tests::worked::opens_of;
 use std::alloc::Global;
 use std::sync::Wait;
 
-/// No pauses and no faults.
-pub const UNLIMITED: Limits = Limits {
-    gives: FREE,
-    takes: FREE,
-    sends: usize::MAX,
-};
+type Ran<'t> = EventLoopRun<ScriptDoor<'t>, ScriptClock, Control, Core>;
 
-/// The settings of a run besides its clients.
-#[derive(Clone, Copy)]
-pub struct Setting {
-    pub rule: Rule,
-    pub limits: Limits,
-    pub readings: &'static [Option<Moment>],
-    pub gives: &'static [Gives],
-    pub reads: ControlReads,
-    /// How the first client is cut off.
-    pub cut: Cut,
+// Returns a clock that gives these readings. If an allocation fails, it lacks some of them.
+fn clock_of(alloc: Global, readings: &'static str) -> ScriptClock {
+    let mut script: Vec<Option<Moment>> = Vec::new(alloc);
+    for word in readings.split(' ') {
+        let _pushed = script.push(word.parse::<u64>().ok());
+    }
+    ScriptClock::new(script)
 }
 
-/// A run without pauses and faults, whose clock always reads the same and whose control line has no
-/// text.
-pub const PLAIN: Setting = Setting {
-    rule: Rule::Next,
-    limits: UNLIMITED,
-    readings: STILL,
-    gives: &[],
-    reads: ControlReads::Once,
-    cut: None,
-};
+// Returns true if the lines of all doors are left as they have to be.
+fn are_left_so(doors: Vec<ScriptDoor<'_>, Global>, setting: &Setting) -> bool {
+    let mut are_right = true;
+    let mut at: usize = 0;
+    for door in doors {
+        if !door.is_left_so(at_first(at, setting.cut)) {
+            are_right = false;
+        }
+        at = at.saturating_add(1);
+    }
+    are_right
+}
 
-/// A run that has ended.
-pub type Ran<'t> = EventLoopRun<ScriptDoor<'t>, ScriptClock, Control, Core>;
+// Returns the turns of a run, or this fault.
+fn turns_of<'t>(
+    setting: &Setting,
+    fault: Option<TurnsFault>,
+    all: &'t Together,
+) -> Result<Order<'t>, TurnsFault> {
+    match fault {
+        None => Ok(Order::new(setting.rule, setting.reads, all)),
+        Some(fault) => Err(fault),
+    }
+}
 
-/// Runs doors where these clients connect. All tests use this one call.
-pub fn ran<'t, R: Wait>(
+/// Runs the doors of a run in a table, unless the turns have this fault. Returns true if this
+/// leaves the results at their lines that the table says. All tests use this one call.
+pub fn ran_so<R: Wait>(
     rt: &R,
     alloc: Global,
     config: Config,
-    clients: &[&[Client]],
+    table: &Table,
+    run: Run,
     setting: &Setting,
-    turns: Result<Order<'t>, TurnsFault>,
-    all: &'t Together,
-) -> Result<Ran<'t>, RunFault> {
-    let Ok(clock) = clock(alloc, setting.readings) else {
+    fault: Option<TurnsFault>,
+    all: &Together,
+) -> Result<bool, RunFault> {
+    let Ok(control) = control(alloc, setting.control) else {
         return Err(RunFault::NoMemory);
     };
-    let Ok(control) = control(alloc, setting.gives) else {
-        return Err(RunFault::NoMemory);
-    };
-    let Ok(doors) = doors(alloc, clients, &setting.limits, all) else {
-        return Err(RunFault::NoMemory);
-    };
-    run_turns(rt, alloc, config, doors.all, clock, control, turns)
-}
-
-fn are_left_so(
-    alloc: Global,
-    doors: Vec<ScriptDoor<'_>, Global>,
-    outcomes: &[&[Outcome]],
-    cut: Cut,
-) -> bool {
-    let mut at: usize = 0;
-    let mut cut = cut;
-    for door in doors {
-        let Some(outcome) = outcomes.get(at) else {
-            return false;
-        };
-        if !door.is_left_so(alloc, outcome, cut) {
-            return false;
-        }
-        cut = None;
-        at = at.saturating_add(1);
+    let doors = doors_of(alloc, table, run, setting, all);
+    let clock = clock_of(alloc, setting.readings);
+    let turns = turns_of(setting, fault, all);
+    let ran: Result<Ran<'_>, RunFault> = run_turns(
+        rt, alloc, config, doors.all, clock, control, turns,
+    );
+    match ran {
+        Ok(ran) => Ok(are_left_so(ran.doors, setting)),
+        Err(fault) => Err(fault),
     }
-    at == outcomes.len()
 }
 
-/// Returns true if the run of the doors where these clients connect leaves these results at their
-/// lines, and opens each door once for each line and once more.
-pub fn comes_out<R: Wait>(
-    rt: &R,
-    alloc: Global,
-    clients: &[&[Client]],
-    outcomes: &[&[Outcome]],
-    setting: &Setting,
-) -> bool {
+// Returns true if a run has the results of the table, and opens each door once for each line and
+// once more.
+fn comes_out<R: Wait>(rt: &R, alloc: Global, table: &Table, run: Run, setting: &Setting) -> bool {
     let all = Together::new();
-    let turns = Order::new(setting.rule, setting.reads, &all);
-    let config = config(clients.len().min(256) as u16, USUAL_BODY);
-    match ran(rt, alloc, config, clients, setting, Ok(turns), &all) {
-        Ok(run) => {
-            !all.has_given_up()
-                && all.opened() == opens_of(clients)
-                && are_left_so(alloc, run.doors, outcomes, setting.cut)
+    let config = config(run.doors.min(256) as u16, USUAL_BODY);
+    match ran_so(rt, alloc, config, table, run, setting, None, &all) {
+        Ok(is_so) => {
+            let opens = run.clients.saturating_add(run.doors) as u64;
+            is_so && !all.has_given_up() && all.opened() == opens
         }
         Err(_) => false,
     }
+}
+
+/// Returns true if each run that the text describes has the results that it says, with each setting
+/// of the series.
+pub fn come_out<R: Wait>(rt: &R, alloc: Global, text: &'static str, series: Series) -> bool {
+    let table = Table::of_text(alloc, text);
+    for number in 0..series.len() {
+        let setting = series.setting(number);
+        for run in &table.runs {
+            if !comes_out(rt, alloc, &table, *run, &setting) {
+                return false;
+            }
+        }
+    }
+    table.is_whole
 }

@@ -2,44 +2,36 @@
 ghost use Rattle.std.specs.Prelude.{◌≤◌, IfOk, IsErr};
 ghost use Rattle.std.specs.Io.{ReadsAtMost};
 
-use crate::flow::{Flow, Pace};
-use crate::parts::Part;
+use crate::flow::Flow;
+use crate::parts::{Part, part_of};
+use crate::setting::{Setting, at_first};
 use crate::together::Together;
+use crate::visits::Visit;
+use bq_job::LineEnd;
 use bq_line::line::Duplex;
+use bq_serve_tests::notation::bytes_of;
 use std::alloc::Global;
 use std::io;
 use std::io::ErrorKind;
 
-/// How many bytes calls read and write, and after how many bytes they fail.
-#[derive(Clone, Copy)]
-pub struct Limits {
-    pub gives: Pace,
-    pub takes: Pace,
-    /// At the first seat: after the client has sent this many bytes, each read of it fails.
-    pub sends: usize,
-}
+/// No client does more parts than this.
+const PARTS: u32 = 100;
 
-impl Limits {
-    /// Returns the limits of the clients at this seat.
-    pub fn at(&self, seat: usize) -> Limits {
-        Limits {
-            gives: self.gives,
-            takes: self.takes,
-            sends: if seat == 0 { self.sends } else { usize::MAX },
-        }
-    }
-}
-
-/// A stream to a client that does these parts, one after another. Its input ends after them.
+/// A stream to a client, which does its parts one after another. Its input ends after them.
 #[derive(Drop)]
 pub struct Script<'t> {
-    parts: Vec<Part, Global>,
-    // How many parts are done, and how many bytes of the next one were read.
-    place: usize,
+    alloc: Global,
+    visit: Visit,
+    part: Part,
+    // The text of the parts after it.
+    later: Option<&'static str>,
+    // The bytes of the last part that has bytes, and how many of them were read.
+    bytes: Vec<u8, Global>,
     offset: usize,
     written: Vec<u8, Global>,
     gives: Flow,
     takes: Flow,
+    // How many bytes it still sends and receives.
     sends: usize,
     room: usize,
     // It receives no bytes until all clients together have received this many.
@@ -60,80 +52,118 @@ fn is_broken() -> io::Result<usize>
 }
 
 impl<'t> Script<'t> {
-    /// Returns a client of which nothing was read. After it has received `room` bytes, each write
-    /// to it fails.
-    pub fn new(
-        alloc: Global,
-        parts: Vec<Part, Global>,
-        room: usize,
-        limits: &Limits,
-        all: &'t Together,
-    ) -> Script<'t> {
-        Script {
-            parts,
-            place: 0,
+    /// Returns a client of which nothing was read.
+    pub fn new(alloc: Global, visit: &Visit, setting: &Setting, all: &'t Together) -> Script<'t> {
+        let mut client = Script {
+            alloc,
+            visit: *visit,
+            part: Part::End,
+            later: Some(visit.does),
+            bytes: Vec::new(alloc),
             offset: 0,
             written: Vec::new(alloc),
-            gives: Flow::new(limits.gives),
-            takes: Flow::new(limits.takes),
-            sends: limits.sends,
-            room,
+            gives: Flow::new(setting.gives),
+            takes: Flow::new(setting.takes),
+            sends: at_first(visit.door, setting.sends),
+            room: visit.room.min(at_first(visit.door, setting.room)),
             stops: 0,
             all,
+        };
+        client.begin_next();
+        client
+    }
+
+    /// Returns true if it has received what it has to, but at most this many bytes, and its line
+    /// has ended as it has to.
+    pub fn is_left_so(&self, most: usize, end: LineEnd) -> bool {
+        match bytes_of(self.alloc, self.visit.receives) {
+            Ok(bytes) => {
+                end == self.visit.end && self.written.as_slice() == &bytes[..most.min(bytes.len())]
+            }
+            Err(_) => false,
         }
     }
 
-    /// Returns the bytes that it received.
-    pub fn written(&self) -> &[u8] {
-        self.written.as_slice()
+    // Begins the part with this text.
+    fn begin(&mut self, text: &'static str) {
+        self.part = part_of(text);
+        self.offset = 0;
+        if let Part::Bytes = self.part {
+            match bytes_of(self.alloc, text) {
+                Ok(bytes) => self.bytes = bytes,
+                Err(_) => self.all.give_up(),
+            }
+        }
     }
 
-    // Returns true if the next part is done.
+    // Begins the next part.
+    fn begin_next(&mut self) {
+        let Some(later) = self.later else {
+            self.part = Part::End;
+            return;
+        };
+        match later.split_once(" + ") {
+            Some((text, later)) => {
+                self.later = Some(later);
+                self.begin(text);
+            }
+            None => {
+                self.later = None;
+                self.begin(later);
+            }
+        }
+    }
+
+    // Returns true if its part is done.
     fn is_over(&self) -> bool {
-        match self.parts.get(self.place) {
-            Some(Part::Bytes(bytes)) => bytes.len() <= self.offset,
-            Some(Part::After(count)) => *count <= self.written.len(),
-            Some(Part::All(count)) => *count <= self.all.written(),
-            Some(Part::Stops(_)) => true,
-            Some(Part::Fails) | None => false,
+        match self.part {
+            Part::Bytes => self.bytes.len() <= self.offset,
+            Part::After(count) => count <= self.written.len() as u64,
+            Part::All(count) => count <= self.all.written(),
+            Part::Stops(_) => true,
+            Part::Fails | Part::End => false,
         }
     }
 
     // Skips the parts that are done.
     fn pass_parts(&mut self) {
-        for _ in 0..self.parts.len() {
+        for _ in 0..PARTS {
             if !self.is_over() {
                 return;
             }
-            if let Some(Part::Stops(count)) = self.parts.get(self.place) {
-                self.stops = *count;
+            if let Part::Stops(count) = self.part {
+                self.stops = count;
             }
-            self.place = self.place.saturating_add(1);
-            self.offset = 0;
+            self.begin_next();
         }
     }
 
     // Returns true if it gives neither bytes nor the end of its input before something is written.
     fn awaits(&self) -> bool {
-        match self.parts.get(self.place) {
-            Some(Part::After(_) | Part::All(_)) => !self.is_over(),
+        match self.part {
+            Part::After(_) | Part::All(_) => !self.is_over(),
             _ => false,
         }
     }
 
-    // Reads from the next part, which is not done.
+    // Reads from its part, which is not done.
     fn read_part(&mut self, buf: &mut [u8]) -> io::Result<usize>
         ensures { ReadsAtMost result buf.new }
     {
         if self.sends == 0 {
             return is_broken();
         }
-        let bytes = match self.parts.get(self.place) {
-            Some(Part::Bytes(bytes)) => bytes,
-            Some(Part::Fails) => return is_broken(),
-            _ => return Ok(0),
-        };
-        let rest = &bytes[self.offset.min(bytes.len())..];
+        match self.part {
+            Part::Bytes => self.read_bytes(buf),
+            Part::Fails => is_broken(),
+            _ => Ok(0),
+        }
+    }
+
+    fn read_bytes(&mut self, buf: &mut [u8]) -> io::Result<usize>
+        ensures { ReadsAtMost result buf.new }
+    {
+        let rest = &self.bytes[self.offset.min(self.bytes.len())..];
         let Some(count) = self.gives.take(rest.len().min(buf.len()).min(self.sends)) else {
             return would_block();
         };
@@ -159,13 +189,15 @@ impl<'t> Script<'t> {
         }
     }
 
-    // Records bytes as received.
-    fn accept(&mut self, bytes: &[u8]) {
-        if self.written.extend_from_slice(bytes).is_err() {
+    // Records these bytes as received, but at most this many. Returns how many it may still record.
+    fn accept(&mut self, bytes: &[u8], most: usize) -> usize {
+        let count = most.min(bytes.len());
+        if self.written.extend_from_slice(&bytes[..count]).is_err() {
             self.all.give_up();
         }
-        self.room = self.room.saturating_sub(bytes.len());
-        self.all.note_written(bytes.len());
+        self.room = self.room.saturating_sub(count);
+        self.all.note_written(count);
+        most - count
     }
 }
 
@@ -183,7 +215,7 @@ impl<'t> Duplex for Script<'t> {
 
     fn write(&mut self, buf: &[u8]) -> io::Result<usize> {
         let count = self.takes_now(buf.len())?;
-        self.accept(&buf[..count]);
+        self.accept(buf, count);
         Ok(count)
     }
 
@@ -193,12 +225,9 @@ impl<'t> Duplex for Script<'t> {
             .saturating_add(second.len())
             .saturating_add(third.len());
         let count = self.takes_now(most)?;
-        let of_first = count.min(first.len());
-        let of_second = (count - of_first).min(second.len());
-        let of_third = (count - of_first - of_second).min(third.len());
-        self.accept(&first[..of_first]);
-        self.accept(&second[..of_second]);
-        self.accept(&third[..of_third]);
+        let after_first = self.accept(first, count);
+        let after_second = self.accept(second, after_first);
+        self.accept(third, after_second);
         Ok(count)
     }
 

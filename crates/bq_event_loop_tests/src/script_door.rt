@@ -1,22 +1,18 @@
 //! Doors in memory where clients connect whose bytes are read and written in pieces.
-ghost use Rattle.std.specs.Prelude.{◌≡◌, ◌≤◌, ◌+◌, [], false, length, map, vec_len, if◌then◌else◌, IfOk};
+ghost use Rattle.std.specs.Prelude.{◌≡◌, ◌≤◌, ◌+◌, length, map, vec_len, if◌then◌else◌};
 ghost use Rattle.std.specs.Vec.{vec_capacity};
 ghost use Rattle.std.specs.List.{All};
 ghost use Rattle.bq_line.specs.Tending.{IsNewDoor};
 
-use crate::parts::parts_of;
-use crate::script::{Limits, Script};
+use crate::script::Script;
+use crate::setting::Setting;
 use crate::together::Together;
-use bq_job::{LineEnd, NoMemory};
+use crate::visits::{Run, Table};
+use bq_job::LineEnd;
 use bq_line::line::{IoLine, Line};
 use bq_line::{Door, DoorFault, Opening};
-use bq_serve_tests::clients::{Client, Outcome};
-use bq_serve_tests::notation::bytes_of;
 use std::alloc::Global;
 use std::collections::VecDeque;
-
-/// How many bytes the line received and how it ended, if it is cut off.
-pub type Cut = Option<(usize, LineEnd)>;
 
 /// A door where clients connect, one after another.
 #[derive(Drop)]
@@ -32,70 +28,24 @@ pub struct ScriptDoor<'t> {
 }
 
 impl<'t> ScriptDoor<'t> {
-    /// Returns the door of this seat, where these clients connect.
-    pub fn new(
-        alloc: Global,
-        seat: usize,
-        coming: VecDeque<Script<'t>, Global>,
-        all: &'t Together,
-    ) -> Result<ScriptDoor<'t>, NoMemory>
-        ensures inside { IfOk result (λ door. door.is_out ≡ false) }
-        ensures more { IfOk result (λ door. door.is_at_end ≡ false) }
-        ensures none_over { IfOk result (λ door. ⟦<ScriptDoor<'t> as Door>⟧.lines_over door ≡ []) }
-    {
-        match Vec::with_capacity(alloc, coming.len()) {
-            Ok(over) => Ok(ScriptDoor {
-                seat,
-                all,
-                coming,
-                over,
-                is_out: false,
-                is_at_end: false,
-            }),
-            Err(_) => Err(NoMemory),
-        }
-    }
-
-    /// Returns true if no line is left to come, and these lines have ended, in this order. With a
-    /// cut, the line received a first part of its answers of at most this many bytes, and ended in
-    /// this way.
-    pub fn is_left_so(self, alloc: Global, outcomes: &[Outcome], cut: Cut) -> bool {
+    /// Returns true if no line is left to come, and each client was left as it has to be, but with
+    /// at most this many bytes.
+    pub fn is_left_so(self, most: usize) -> bool {
         let ScriptDoor {
             seat: _,
             all: _,
             coming,
             over,
-            is_out: _,
+            is_out,
             is_at_end: _,
         } = self;
-        let mut at: usize = 0;
+        let mut is_right = coming.is_empty() && !is_out;
         for (line, end) in over {
-            let Some(outcome) = outcomes.get(at) else {
-                return false;
-            };
-            if !is_outcome(alloc, &line.into_stream(), end, outcome, cut) {
-                return false;
+            if !line.into_stream().is_left_so(most, end) {
+                is_right = false;
             }
-            at = at.saturating_add(1);
         }
-        at == outcomes.len() && coming.is_empty()
-    }
-}
-
-// Returns true if this is what a client received, and how its line ended.
-fn is_outcome(
-    alloc: Global,
-    client: &Script<'_>,
-    end: LineEnd,
-    outcome: &Outcome,
-    cut: Cut,
-) -> bool {
-    let Ok(bytes) = bytes_of(alloc, outcome.0) else {
-        return false;
-    };
-    match cut {
-        None => client.written() == bytes.as_slice() && end == outcome.1,
-        Some((most, so)) => client.written() == &bytes[..most.min(bytes.len())] && end == so,
+        is_right
     }
 }
 
@@ -154,65 +104,57 @@ pub struct NewDoors<'t> {
 }
 
 impl<'t> NewDoors<'t> {
-    // Adds a door.
-    fn push(&mut self, door: ScriptDoor<'t>) -> Result<(), NoMemory>
-        requires inside { door.is_out ≡ false }
-        requires more { door.is_at_end ≡ false }
-        requires none_over { ⟦<ScriptDoor<'t> as Door>⟧.lines_over door ≡ [] }
-    {
-        match self.all.push(door) {
-            Ok(()) => Ok(()),
-            Err(_) => Err(NoMemory),
+    // Adds a door where these clients connect, unless an allocation fails.
+    fn add(&mut self, alloc: Global, coming: VecDeque<Script<'t>, Global>, all: &'t Together) {
+        let Ok(over) = Vec::with_capacity(alloc, coming.len()) else {
+            return;
+        };
+        let _pushed = self.all.push(ScriptDoor {
+            seat: self.all.len(),
+            all,
+            coming,
+            over,
+            is_out: false,
+            is_at_end: false,
+        });
+    }
+}
+
+// Returns the clients of a run that connect at this door. If an allocation fails, some are missing.
+fn coming_at<'t>(
+    alloc: Global,
+    table: &Table,
+    run: usize,
+    door: usize,
+    setting: &Setting,
+    all: &'t Together,
+) -> VecDeque<Script<'t>, Global> {
+    let mut coming: VecDeque<Script<'t>> = VecDeque::new(alloc);
+    for visit in &table.visits {
+        if visit.run == run && visit.door == door {
+            let _pushed = coming.push_back(Script::new(alloc, visit, setting, all));
         }
     }
+    coming
 }
 
-fn client<'t>(
+/// Returns the doors of a run, where its clients connect. If an allocation fails, some are missing.
+pub fn doors_of<'t>(
     alloc: Global,
-    client: &Client,
-    limits: &Limits,
+    table: &Table,
+    run: Run,
+    setting: &Setting,
     all: &'t Together,
-) -> Result<Script<'t>, NoMemory> {
-    let Ok(parts) = parts_of(alloc, client.0) else {
-        return Err(NoMemory);
-    };
-    Ok(Script::new(alloc, parts, client.1, limits, all))
-}
-
-fn door<'t>(
-    alloc: Global,
-    seat: usize,
-    clients: &[Client],
-    limits: &Limits,
-    all: &'t Together,
-) -> Result<ScriptDoor<'t>, NoMemory>
-    ensures inside { IfOk result (λ door. door.is_out ≡ false) }
-    ensures more { IfOk result (λ door. door.is_at_end ≡ false) }
-    ensures none_over { IfOk result (λ door. ⟦<ScriptDoor<'t> as Door>⟧.lines_over door ≡ []) }
-{
-    let mut coming: VecDeque<Script<'t>> = VecDeque::new(alloc);
-    for each in clients {
-        let client = client(alloc, each, limits, all)?;
-        let Ok(()) = coming.push_back(client) else {
-            return Err(NoMemory);
-        };
-    }
-    ScriptDoor::new(alloc, seat, coming, all)
-}
-
-/// Returns a door for each of these groups of clients.
-pub fn doors<'t>(
-    alloc: Global,
-    clients: &[&[Client]],
-    limits: &Limits,
-    all: &'t Together,
-) -> Result<NewDoors<'t>, NoMemory> {
+) -> NewDoors<'t> {
     let mut doors = NewDoors {
         all: Vec::new(alloc),
     };
-    for seat in 0..clients.len() {
-        let limits = limits.at(seat);
-        doors.push(door(alloc, seat, clients[seat], &limits, all)?)?;
+    for door in 0..run.doors {
+        doors.add(
+            alloc,
+            coming_at(alloc, table, run.number, door, setting, all),
+            all,
+        );
     }
-    Ok(doors)
+    doors
 }
