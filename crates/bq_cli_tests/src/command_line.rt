@@ -2,14 +2,9 @@
 
 use bq_program::{OptionFault, Options, Program, options};
 use std::alloc::{AllocError, Global};
-use std::test::Fail;
 
-// A row of a table has the words and, after a bar, what comes of them.
-fn row_of(row: &str) -> Result<(&str, &str), Fail> {
-    Ok(row.split_once('|').ok_or("no row")?)
-}
-
-fn words_of(alloc: Global, line: &str) -> Result<Vec<&str>, AllocError> {
+/// Returns the words of a line.
+pub fn words_of(alloc: Global, line: &str) -> Result<Vec<&str>, AllocError> {
     let mut words: Vec<&str> = Vec::new(alloc);
     for word in line.split(' ') {
         words.push(word)?;
@@ -18,20 +13,22 @@ fn words_of(alloc: Global, line: &str) -> Result<Vec<&str>, AllocError> {
 }
 
 // Returns the options in these words, of which the first names the program.
-fn chosen(alloc: Global, line: &str) -> Result<Result<Options, OptionFault>, AllocError> {
-    let words = words_of(alloc, line)?;
+fn chosen(alloc: Global, line: &str) -> Result<Options, OptionFault> {
+    let Ok(words) = words_of(alloc, line) else {
+        return Err(OptionFault::NoMemory);
+    };
     let program = if line.starts_with("bqd") {
         Program::Bqd
     } else {
         Program::Bq
     };
-    Ok(options(alloc, program, words.as_slice()))
+    options(alloc, program, words.as_slice())
 }
 
-// Words with options: the address, the seats, the size of bodies, the limit on jobs, the delay of jobs whose connection
-// is lost, the connections of each seat, and whether the clock stands still or one thread serves all seats. `-V` is
-// there for users of beanstalkd, and changes nothing.
-const CHOSEN: &str = "bq|- 1 65535 - 0 - -\n\
+// Words with options: the address, the seats, the size of bodies, the limit on jobs, the delay of
+// jobs whose connection is lost, the connections of each seat, and whether the clock stands still
+// or one thread serves all seats. `-V` is there for users of beanstalkd, and changes nothing.
+static CHOSEN: &str = "bq|- 1 65535 - 0 - -\n\
     bq --still|- 1 65535 - 0 - still\n\
     bq --max-job-size 1|- 1 1 - 0 - -\n\
     bq --max-job-size 65536|- 1 65536 - 0 - -\n\
@@ -56,101 +53,125 @@ const CHOSEN: &str = "bq|- 1 65535 - 0 - -\n\
     bqd --event-loop --listen a|a 16 65535 - 0 - loop\n\
     bqd --listen a --seats 9 --event-loop|a 9 65535 - 0 - loop";
 
-fn number(word: Option<&str>) -> Option<u32> {
-    word?.parse::<u32>().ok()
-}
-
-fn address(word: Option<&str>) -> Option<&str> {
-    match word {
-        Some("-") => None,
-        other => other,
+fn is_number(number: u32, column: &str) -> bool {
+    match column.parse::<u32>() {
+        Ok(wanted) => number == wanted,
+        Err(_) => false,
     }
 }
 
-// Returns true if both have the same text, or neither has one.
-fn are_same<'a, 'b>(one: Option<&'a str>, other: Option<&'b str>) -> bool {
-    match (one, other) {
-        (Some(one), Some(other)) => one.as_bytes() == other.as_bytes(),
-        (None, None) => true,
+fn is_limit(limit: Option<u32>, column: &str) -> bool {
+    match limit {
+        Some(number) => is_number(number, column),
+        None => column == "-",
+    }
+}
+
+fn is_address(address: Option<&str>, column: &str) -> bool {
+    match address {
+        Some(address) => address == column,
+        None => column == "-",
+    }
+}
+
+fn mark_of(options: &Options) -> &'static str {
+    if options.still && options.event_loop {
+        "both"
+    } else if options.still {
+        "still"
+    } else if options.event_loop {
+        "loop"
+    } else {
+        "-"
+    }
+}
+
+fn is_column(options: &Options, at: usize, column: &str) -> bool {
+    match at {
+        0 => is_address(options.listen.as_deref(), column),
+        1 => is_number(u32::from(options.seats), column),
+        2 => is_number(options.max_job_size, column),
+        3 => is_limit(options.max_jobs, column),
+        4 => is_number(options.requeue_delay, column),
+        5 => is_limit(options.sessions, column),
+        6 => mark_of(options) == column,
         _ => false,
     }
 }
 
-fn is_chosen(options: &Options, wanted: &str) -> bool {
-    let mut columns = wanted.split(' ');
-    let is_listen = are_same(options.listen.as_deref(), address(columns.next()));
-    let is_seats = Some(u32::from(options.seats)) == number(columns.next());
-    let is_size = Some(options.max_job_size) == number(columns.next());
-    let is_jobs = options.max_jobs == number(columns.next());
-    let is_delay = Some(options.requeue_delay) == number(columns.next());
-    let is_sessions = options.sessions == number(columns.next());
-    let mark = columns.next();
-    let is_still = options.still == are_same(mark, Some("still"));
-    let is_engine = options.event_loop == are_same(mark, Some("loop"));
-    let are_marked = is_still && is_engine;
-    is_listen && is_seats && is_size && is_jobs && is_delay && is_sessions && are_marked
+/// Returns true if these are the options of a row.
+pub fn are_so(options: &Options, wanted: &str) -> bool {
+    let mut at: usize = 0;
+    for column in wanted.split(' ') {
+        if !is_column(options, at, column) {
+            return false;
+        }
+        at = at.saturating_add(1);
+    }
+    at == 7
 }
 
-/// The words of each row give the options after the bar.
-pub fn are_chosen(alloc: Global, rows: &str) -> Result<bool, Fail> {
+// Returns true if the row rejects the words, and this text has the part that it names.
+fn is_reason(text: &str, wanted: &str) -> bool {
+    match wanted.strip_prefix("bad") {
+        Some(part) => !text.is_empty() && text.contains(part.trim()),
+        None => false,
+    }
+}
+
+// A row has the words and, after a bar, their result.
+fn is_met(alloc: Global, row: &str) -> bool {
+    let Some((line, wanted)) = row.split_once('|') else {
+        return false;
+    };
+    let result_of_words = chosen(alloc, line);
+    match &result_of_words {
+        Ok(options) => are_so(options, wanted),
+        Err(OptionFault::BadOptions(text)) => is_reason(text.as_str(), wanted),
+        Err(_) => false,
+    }
+}
+
+/// Returns true if the words of each row have the result after the bar.
+pub fn are_met(alloc: Global, rows: &str) -> bool {
     for row in rows.split('\n') {
-        let (line, wanted) = row_of(row)?;
-        let Ok(options) = chosen(alloc, line)? else {
-            return Ok(false);
-        };
-        if !is_chosen(&options, wanted) {
-            return Ok(false);
+        if !is_met(alloc, row) {
+            return false;
         }
     }
-    Ok(true)
+    true
 }
 
 #[test]
-fn what_words_choose(rt: HostRuntime) -> Result<(), Fail> {
-    assert!(rt; are_chosen(rt.alloc(), CHOSEN)?);
-    Ok(())
+fn what_words_choose(rt: HostRuntime) {
+    assert!(rt; are_met(rt.alloc(), CHOSEN));
 }
 
-// Words that are rejected, each with a word of the text that says why.
-const BAD: &str = "bq --max-job-size 0|\n\
-    bq --max-job-size 1048577|\n\
-    bq --max-job-size x|\n\
-    bq --still more|\n\
-    bq --listen a|\n\
-    bq -z 1|\n\
-    bq --max-jobs 0|\n\
-    bq --requeue-delay 1|\n\
-    bq --event-loop|\n\
-    bqd|\n\
-    bqd -p 11300|\n\
-    bqd --listen a --still|\n\
-    bqd --listen a --event-loop 1|\n\
-    bqd --listen a --seats 0|\n\
-    bqd --listen a --seats 257|\n\
-    bqd --listen a --sessions 0|\n\
-    bqd --listen a -p 65536|\n\
-    bqd --listen a --sessions 4294967296|\n\
-    bqd --listen a --max-jobs 4294967296|\n\
-    bqd --listen a --requeue-delay 4294967296|\n\
-    bqd --listen|\n\
-    bq -V|'-V'";
-
-// The words of each row are rejected, with a text that has the word after the bar.
-fn are_refused(alloc: Global, rows: &str) -> Result<bool, Fail> {
-    for row in rows.split('\n') {
-        let (line, part) = row_of(row)?;
-        let Err(OptionFault::BadOptions(text)) = chosen(alloc, line)? else {
-            return Ok(false);
-        };
-        if text.is_empty() || !text.as_str().contains(part) {
-            return Ok(false);
-        }
-    }
-    Ok(true)
-}
+// Words that are rejected, some with a word of the text that says why.
+static BAD: &str = "bq --max-job-size 0|bad\n\
+    bq --max-job-size 1048577|bad\n\
+    bq --max-job-size x|bad\n\
+    bq --still more|bad\n\
+    bq --listen a|bad\n\
+    bq -z 1|bad\n\
+    bq --max-jobs 0|bad\n\
+    bq --requeue-delay 1|bad\n\
+    bq --event-loop|bad\n\
+    bqd|bad\n\
+    bqd -p 11300|bad\n\
+    bqd --listen a --still|bad\n\
+    bqd --listen a --event-loop 1|bad\n\
+    bqd --listen a --seats 0|bad\n\
+    bqd --listen a --seats 257|bad\n\
+    bqd --listen a --sessions 0|bad\n\
+    bqd --listen a -p 65536|bad\n\
+    bqd --listen a --sessions 4294967296|bad\n\
+    bqd --listen a --max-jobs 4294967296|bad\n\
+    bqd --listen a --requeue-delay 4294967296|bad\n\
+    bqd --listen|bad\n\
+    bq -V|bad '-V'";
 
 #[test]
-fn bad_options(rt: HostRuntime) -> Result<(), Fail> {
-    assert!(rt; are_refused(rt.alloc(), BAD)?);
-    Ok(())
+fn bad_options(rt: HostRuntime) {
+    assert!(rt; are_met(rt.alloc(), BAD));
 }

@@ -1,13 +1,17 @@
-//! Tests of the options, of the run of one line, of a lone client's session and of the server. They are in a crate of
-//! their own, so that the tested crates are not proved again for them.
+//! Tests of the options, of the run of one line, of a lone client's session and of the server. They
+//! are in a crate of their own, so that the tested crates are not proved again for them.
 #![tactic(auto)]
 
 #[cfg(test)]
 mod command_line;
 #[cfg(test)]
+mod heard;
+#[cfg(test)]
 mod one_line;
 #[cfg(test)]
 mod ranges;
+#[cfg(test)]
+mod rows;
 #[cfg(test)]
 mod session;
 #[cfg(test)]

@@ -1,33 +1,29 @@
 //! The session of `bq` over a console in memory: from its words to the end of the client's line.
+ghost use Rattle.std.specs.Prelude.{IfSome};
+ghost use Rattle.bq_program.specs.Ranges.{IsForBq};
 
+use crate::command_line::{are_so, words_of};
+use crate::rows::{column, is_end};
 use bq_job::LineEnd;
 use bq_line::clock::MachineClock;
-use bq_program::{Stop, bq_options};
-use bq_session::{Console, Served, serve_client};
+use bq_program::{BqOptions, Options, bq_options};
+use bq_session::{Console, serve_client};
 use std::alloc::Global;
 use std::io;
 use std::io::{ErrorKind, Read, Write};
 use std::rt::Clock;
 use std::sync::Wait;
-use std::test::Fail;
 
-/// What comes after the client's bytes.
-#[derive(Clone, Copy, PartialEq, Eq)]
-enum Behind {
-    SendsNoMore,
-    Fails,
-}
-
-/// The client's bytes.
+/// The client's bytes, and whether a read after them fails.
 #[derive(Drop)]
 struct Sends {
     bytes: &'static [u8],
-    behind: Behind,
+    fails: bool,
 }
 
 impl Read for Sends {
     fn read(&mut self, buf: &mut [u8]) -> io::Result<usize> {
-        if self.bytes.is_empty() && self.behind == Behind::Fails {
+        if self.bytes.is_empty() && self.fails {
             return Err(io::Error::from(ErrorKind::BrokenPipe));
         }
         let count = self.bytes.len().min(buf.len());
@@ -37,8 +33,8 @@ impl Read for Sends {
     }
 }
 
-/// The client's end, with room for a number of bytes. What is written arrives only by a flush. A flush fails if the room
-/// is full.
+/// The client's end, with room for a number of bytes. What is written arrives only by a flush. A
+/// flush fails if the room is full.
 #[derive(Drop)]
 struct Reads {
     held: Vec<u8>,
@@ -65,130 +61,83 @@ impl Write for Reads {
     }
 }
 
-/// The words after the program's name and their options, what the client sends, its room, how its line ends, and what it
-/// receives.
-struct Example {
-    words: &'static [&'static str],
-    chosen: (bool, u32, Option<u32>),
-    sends: &'static str,
-    behind: Behind,
-    room: usize,
-    end: LineEnd,
-    arrives: &'static str,
-}
+// What each row shows; the words and their options, as in module `command_line`; what the client
+// sends, and whether a read after that `fails`; what it receives, its room, and how its line ends.
+static EXAMPLES: &str = "a quit, after which nothing is read\
+    |bq|- 1 65535 - 0 - -|put 5 0 10 3\r\nabc\r\nquit\r\n|fails|INSERTED 1\r\n|100|quit
 
-static EXAMPLES: &[Example] = &[
-    Example {
-        words: &[],
-        chosen: (false, 65535, None),
-        sends: "put 5 0 10 3\r\nabc\r\nquit\r\n",
-        behind: Behind::Fails,
-        room: 100,
-        end: LineEnd::Quit,
-        arrives: "INSERTED 1\r\n",
-    },
-    Example {
-        words: &["--still"],
-        chosen: (true, 65535, None),
-        sends: "reserve\r\n",
-        behind: Behind::SendsNoMore,
-        room: 100,
-        end: LineEnd::EndOfInput,
-        arrives: "TIMED_OUT\r\n",
-    },
-    Example {
-        words: &["--still", "--max-job-size", "2"],
-        chosen: (true, 2, None),
-        sends: "put 0 0 1 3\r\nabc\r\nput 0 0 1 2\r\nab\r\n",
-        behind: Behind::SendsNoMore,
-        room: 100,
-        end: LineEnd::EndOfInput,
-        arrives: "JOB_TOO_BIG\r\nINSERTED 1\r\n",
-    },
-    Example {
-        words: &["--still", "--max-jobs", "1"],
-        chosen: (true, 65535, Some(1)),
-        sends: "put 0 0 9 1\r\nx\r\nput 0 0 9 1\r\ny\r\nreserve\r\nput 0 0 9 1\r\nz\r\n\
-            delete 1\r\nput 0 0 9 1\r\nw\r\n",
-        behind: Behind::SendsNoMore,
-        room: 100,
-        end: LineEnd::EndOfInput,
-        arrives: "INSERTED 1\r\nOUT_OF_MEMORY\r\nRESERVED 1 1\r\nx\r\nOUT_OF_MEMORY\r\nDELETED\r\n\
-            INSERTED 2\r\n",
-    },
-    Example {
-        words: &[],
-        chosen: (false, 65535, None),
-        sends: "put 0 0 9 1\r\nx\r\nput",
-        behind: Behind::Fails,
-        room: 100,
-        end: LineEnd::ReadFault,
-        arrives: "INSERTED 1\r\n",
-    },
-    Example {
-        words: &[],
-        chosen: (false, 65535, None),
-        sends: "put 0 0 9 1\r\nx\r\n",
-        behind: Behind::SendsNoMore,
-        room: 5,
-        end: LineEnd::WriteFault,
-        arrives: "",
-    },
-    // The whole answer is written, and the flush fails.
-    Example {
-        words: &[],
-        chosen: (false, 65535, None),
-        sends: "put 0 0 9 1\r\nx\r\n",
-        behind: Behind::SendsNoMore,
-        room: 12,
-        end: LineEnd::WriteFault,
-        arrives: "",
-    },
-];
+    a clock that stands still\
+    |bq --still|- 1 65535 - 0 - still|reserve\r\n||TIMED_OUT\r\n|100|end
 
-fn words_of(alloc: Global, words: &[&str]) -> Result<Vec<String>, Fail> {
-    let mut all: Vec<String> = Vec::new(alloc);
-    all.push(String::from_str(alloc, "bq")?)?;
-    for word in words {
-        all.push(String::from_str(alloc, word)?)?;
-    }
-    Ok(all)
-}
+    a limit of body sizes\
+    |bq --still --max-job-size 2|- 1 2 - 0 - still\
+    |put 0 0 1 3\r\nabc\r\nput 0 0 1 2\r\nab\r\n||JOB_TOO_BIG\r\nINSERTED 1\r\n|100|end
 
-// Serves a client that sends this, by these words.
-fn came<'r, R: Wait + Clock>(
-    rt: &'r R,
-    alloc: Global,
-    words: &[String],
-    sends: Sends,
-    room: usize,
-) -> Result<Served<Console<Sends, Reads>, &'r R>, Stop> {
+    a limit on jobs\
+    |bq --still --max-jobs 1|- 1 65535 1 0 - still\
+    |put 0 0 9 1\r\nx\r\nput 0 0 9 1\r\ny\r\nreserve\r\nput 0 0 9 1\r\nz\r\n\
+    delete 1\r\nput 0 0 9 1\r\nw\r\n|\
+    |INSERTED 1\r\nOUT_OF_MEMORY\r\nRESERVED 1 1\r\nx\r\nOUT_OF_MEMORY\r\nDELETED\r\n\
+    INSERTED 2\r\n|100|end
+
+    a read that fails\
+    |bq|- 1 65535 - 0 - -|put 0 0 9 1\r\nx\r\nput|fails|INSERTED 1\r\n|100|read fault
+
+    a write that fails\
+    |bq|- 1 65535 - 0 - -|put 0 0 9 1\r\nx\r\n|||5|write fault
+
+    the whole answer is written, and the flush fails\
+    |bq|- 1 65535 - 0 - -|put 0 0 9 1\r\nx\r\n|||12|write fault";
+
+// The console of a row's client.
+fn console(alloc: Global, row: &'static str) -> Console<Sends, Reads> {
+    let sends = Sends {
+        bytes: column(row, 3).as_bytes(),
+        fails: column(row, 4) == "fails",
+    };
     let reads = Reads {
         held: Vec::new(alloc),
         arrived: Vec::new(alloc),
-        room,
+        room: column(row, 6).parse::<usize>().unwrap_or(0),
     };
-    let console = Console::new(sends, reads);
-    let options = bq_options(alloc, words)?;
-    let clock = MachineClock::new(rt);
-    let served = serve_client(rt, alloc, &options, console, clock)?;
-    Ok(served)
+    Console::new(sends, reads)
 }
 
-// Returns true if an example ends as it has to.
-fn is_met<R: Wait + Clock>(rt: &R, alloc: Global, words: &[String], example: &Example) -> bool {
-    let sends = Sends {
-        bytes: example.sends.as_bytes(),
-        behind: example.behind,
+fn are_chosen(options: BqOptions, row: &'static str) -> bool {
+    are_so(&Options::from(options), column(row, 2))
+}
+
+// Returns the options in the words of a row.
+fn options_of(alloc: Global, row: &'static str) -> Option<BqOptions>
+    ensures { IfSome result (λ options. IsForBq options) }
+{
+    let Ok(words) = words_of(alloc, column(row, 1)) else {
+        return None;
     };
-    match came(rt, alloc, words, sends, example.room) {
+    bq_options(alloc, words.as_slice()).ok()
+}
+
+// Returns true if the client of a row has received what it has to, and its line has ended as it
+// has to.
+fn is_left_so(reads: &Reads, end: LineEnd, row: &'static str) -> bool {
+    reads.arrived.as_slice() == column(row, 5).as_bytes() && is_end(end, column(row, 7))
+}
+
+// Returns true if the client of a row is served as it says.
+fn is_met<R: Wait + Clock>(rt: &R, alloc: Global, row: &'static str) -> bool {
+    let Some(options) = options_of(alloc, row) else {
+        return false;
+    };
+    match serve_client(
+        rt,
+        alloc,
+        &options,
+        console(alloc, row),
+        MachineClock::new(rt),
+    ) {
         Ok(served) => {
-            let options = served.options;
-            let chosen = (options.still, options.max_job_size, options.max_jobs);
-            let reads = served.line.into_stream().into_output();
-            chosen == example.chosen
-                && served.end == example.end
-                && reads.arrived.as_slice() == example.arrives.as_bytes()
+            are_chosen(served.options, row)
+                && is_left_so(&served.line.into_stream().into_output(), served.end, row)
         }
         Err(_) => false,
     }
@@ -196,11 +145,8 @@ fn is_met<R: Wait + Clock>(rt: &R, alloc: Global, words: &[String], example: &Ex
 
 // From the words to the end of the line and the bytes that the client receives.
 #[test]
-fn sessions_of_words(rt: HostRuntime) -> Result<(), Fail> {
-    let alloc = rt.alloc();
-    for example in EXAMPLES {
-        let words = words_of(alloc, example.words)?;
-        assert!(rt; is_met(&rt, alloc, words.as_slice(), example));
+fn sessions_of_words(rt: HostRuntime) {
+    for row in EXAMPLES.split("\n\n") {
+        assert!(rt; is_met(&rt, rt.alloc(), row));
     }
-    Ok(())
 }

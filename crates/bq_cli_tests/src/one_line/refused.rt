@@ -1,15 +1,25 @@
 //! Runs of one line that are rejected.
 
-use super::runs::on_one_line;
-use bq_serve_tests::clients::{PUTS, ROOM, STILL};
+use super::runs::{Client, ran_so};
+use bq_serve_tests::clients::{PUTS, ROOM};
 use bq_serve_tests::refused::{REFUSED, Refused};
 use bq_serve_tests::settings::config;
 use std::alloc::Global;
 use std::sync::Wait;
 
-// A configuration for one line has one seat.
+// A configuration for one line has one seat. If the run is not rejected, the limit of body sizes
+// is 1.
 fn is_refused<R: Wait>(rt: &R, alloc: Global, row: &Refused) -> bool {
-    on_one_line(rt, alloc, config(row.0, row.1), PUTS, ROOM, STILL).err() == row.2
+    let client = Client {
+        does: PUTS,
+        receives: "JOB_TOO_BIG~",
+        end: "end",
+        room: ROOM,
+    };
+    match ran_so(rt, alloc, config(row.0, row.1), &client, "0") {
+        Ok(is_so) => is_so && row.2.is_none(),
+        Err(fault) => row.2 == Some(fault),
+    }
 }
 
 #[test]

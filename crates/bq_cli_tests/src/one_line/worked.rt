@@ -1,120 +1,88 @@
-//! Worked sessions of one client. The expected bytes follow from docs/PROTOCOL.md, not from a run. No time passes in a
-//! session: a clock that fails or goes backwards counts as one that stands still.
+//! Worked sessions of one client. The expected bytes follow from docs/PROTOCOL.md, not from a run.
+//! No time passes in a session: a clock that fails or goes backwards counts as one that stands
+//! still.
 
-use bq_job::{LineEnd, Moment};
+/// The worked sessions: what each shows, what the client sends, what it receives, and how its line
+/// ends.
+pub static WORKED: &str = "first_cycle: a job from its put to its delete\
+    |put 5 0 10 3~abc~reserve~delete 1~quit~\
+    |INSERTED 1~RESERVED 1 3~abc~DELETED~|quit
 
-/// Each session runs with each of these clocks: one that stands at 0, one that always fails, and one that goes backwards.
-pub const CLOCKS: &[&[Option<Moment>]] = &[&[Some(0)], &[None], &[Some(9000), Some(4000)]];
+    empty_input: nothing is sent\
+    |||end
 
-/// What the client sends, what it receives, and how its line ends. Modules `texts` and `notation` (of `bq_serve_tests`) say
-/// how the two texts are read.
-pub type Worked = (&'static str, &'static str, LineEnd);
+    deadline_soon_behind_two_leases: two leases of one second each, and a third reserve\
+    |put 0 0 1 0~~put 0 0 1 1~a~reserve~reserve~reserve~\
+    |INSERTED 1~INSERTED 2~RESERVED 1 0~~RESERVED 2 1~a~DEADLINE_SOON~|end
 
-/// The worked sessions.
-pub const WORKED: &[Worked] = &[
-    // first_cycle: a job from its put to its delete.
-    (
-        "put 5 0 10 3~abc~reserve~delete 1~quit~",
-        "INSERTED 1~RESERVED 1 3~abc~DELETED~",
-        LineEnd::Quit,
-    ),
-    // empty_input: nothing is sent.
-    ("", "", LineEnd::EndOfInput),
-    // deadline_soon_behind_two_leases: two leases of one second each, and a third reserve.
-    (
-        "put 0 0 1 0~~put 0 0 1 1~a~reserve~reserve~reserve~",
-        "INSERTED 1~INSERTED 2~RESERVED 1 0~~RESERVED 2 1~a~DEADLINE_SOON~",
-        LineEnd::EndOfInput,
-    ),
-    // bad_body_end_then_wait: a body without CR LF after it is consumed whole, and a timeout of 0 seconds ends at once.
-    (
-        "put 0 0 1 2~abXYreserve-with-timeout 0~",
-        "EXPECTED_CRLF~TIMED_OUT~",
-        LineEnd::EndOfInput,
-    ),
-    // body_too_big: a body that is one byte too big, and the largest one.
-    (
-        "put 0 0 1 65536~ + times 65536 x + ~list-tube-used~",
-        "JOB_TOO_BIG~USING default~",
-        LineEnd::EndOfInput,
-    ),
-    (
-        "put 0 0 1 65535~ + times 65535 x + ~list-tube-used~",
-        "INSERTED 1~USING default~",
-        LineEnd::EndOfInput,
-    ),
-    // bad_lines: lines that are not commands.
-    (
-        "PUT~put 1~use -a~peek 4294967296~",
-        "UNKNOWN_COMMAND~BAD_FORMAT~BAD_FORMAT~NOT_FOUND~",
-        LineEnd::EndOfInput,
-    ),
-    // least_across_tubes: the least job of all watched tubes, by priority and then by id.
-    (
-        "watch a~put 7 0 9 1~x~use a~put 3 0 9 1~y~use default~put 3 0 9 1~z~reserve~reserve~reserve~",
-        "WATCHING 2~INSERTED 1~USING a~INSERTED 2~USING default~INSERTED 3~RESERVED 2 1~y~RESERVED 3 1~z~RESERVED 1 1~x~",
-        LineEnd::EndOfInput,
-    ),
-    // bury_and_kick_order: buried jobs are kicked before delayed ones.
-    (
-        "put 0 0 9 1~x~put 0 0 9 1~y~put 0 100 9 1~z~reserve~reserve~bury 2 0~bury 1 0~peek-buried~kick 5~kick 5~",
-        "INSERTED 1~INSERTED 2~INSERTED 3~RESERVED 1 1~x~RESERVED 2 1~y~BURIED~BURIED~FOUND 2 1~y~KICKED 2~KICKED 1~",
-        LineEnd::EndOfInput,
-    ),
-    // watch_lists: the list of watched tubes.
-    (
-        "ignore default~ignore b~watch b~watch b~ignore default~list-tubes-watched~list-tubes~",
-        "NOT_IGNORED~WATCHING 1~WATCHING 2~WATCHING 2~WATCHING 1~OK 8~---^- b^~OK 18~---^- b^- default^~",
-        LineEnd::EndOfInput,
-    ),
-    // job_statistics: the statistics of a job, with input that arrives byte by byte.
-    (
-        "byte by byte put 0 0 1 1~a~stats-job 1~",
-        "INSERTED 1~OK 135~---^id: 1^tube: default^state: ready^pri: 0^age: 0^delay: 0^ttr: 1^\
-         time-left: 0^reserves: 0^timeouts: 0^releases: 0^buries: 0^kicks: 0^~",
-        LineEnd::EndOfInput,
-    ),
-    // paused_tube: a paused tube hands out no job to a reserve, but reserve-job still works.
-    (
-        "put 2 0 9 1~x~pause-tube default 60~reserve-with-timeout 0~peek-ready~reserve-job 1~reserve-job 1~pause-tube b 1~",
-        "INSERTED 1~PAUSED~TIMED_OUT~FOUND 1 1~x~RESERVED 1 1~x~NOT_FOUND~NOT_FOUND~",
-        LineEnd::EndOfInput,
-    ),
-    // release_keeps_the_id: a released job keeps its id.
-    (
-        "put 4 0 9 1~x~put 4 0 9 1~y~reserve~release 1 5 0~reserve~release 1 0 0~delete 1~",
-        "INSERTED 1~INSERTED 2~RESERVED 1 1~x~RELEASED~RESERVED 2 1~y~NOT_FOUND~DELETED~",
-        LineEnd::EndOfInput,
-    ),
-    // longest_line: the longest line, and one that is one byte longer.
-    (
-        "peek  + times 216 0 + 1~",
-        "NOT_FOUND~",
-        LineEnd::EndOfInput,
-    ),
-    (
-        "peek  + times 217 0 + 1~",
-        "BAD_FORMAT~",
-        LineEnd::EndOfInput,
-    ),
-    // longest_tube_name: the longest tube name, and one that is one byte longer.
-    (
-        "use  + times 200 a + ~",
-        "USING  + times 200 a + ~",
-        LineEnd::EndOfInput,
-    ),
-    ("use  + times 201 a + ~", "BAD_FORMAT~", LineEnd::EndOfInput),
-    // truncated_and_after_quit: an incomplete command at the end of the input gets no answer.
-    ("put 0 0 1 5~ab", "", LineEnd::EndOfInput),
-    ("list-tube-used", "", LineEnd::EndOfInput),
-    // Commands after a quit are ignored.
-    ("quit~stats~", "", LineEnd::Quit),
-    // end_behind_a_wait: the input ends while a reserve waits.
-    ("reserve~", "TIMED_OUT~", LineEnd::EndOfInput),
-    // odd_spaces_and_numbers: extra spaces, and a number that is too large.
-    (
-        "~reserve ~ reserve~put 0 0 4294967296 1~",
-        "UNKNOWN_COMMAND~BAD_FORMAT~UNKNOWN_COMMAND~BAD_FORMAT~",
-        LineEnd::EndOfInput,
-    ),
-];
+    bad_body_end_then_wait: a body without CR LF after it is consumed whole, and a timeout of 0 \
+    seconds ends at once\
+    |put 0 0 1 2~abXYreserve-with-timeout 0~|EXPECTED_CRLF~TIMED_OUT~|end
+
+    body_too_big: a body that is one byte too big\
+    |put 0 0 1 65536~ + times 65536 x + ~list-tube-used~|JOB_TOO_BIG~USING default~|end
+
+    body_too_big: the largest body\
+    |put 0 0 1 65535~ + times 65535 x + ~list-tube-used~|INSERTED 1~USING default~|end
+
+    bad_lines: lines that are not commands\
+    |PUT~put 1~use -a~peek 4294967296~|UNKNOWN_COMMAND~BAD_FORMAT~BAD_FORMAT~NOT_FOUND~|end
+
+    least_across_tubes: the least job of all watched tubes, by priority and then by id\
+    |watch a~put 7 0 9 1~x~use a~put 3 0 9 1~y~use default~put 3 0 9 1~z~reserve~reserve~reserve~\
+    |WATCHING 2~INSERTED 1~USING a~INSERTED 2~USING default~INSERTED 3~RESERVED 2 1~y~\
+    RESERVED 3 1~z~RESERVED 1 1~x~|end
+
+    bury_and_kick_order: buried jobs are kicked before delayed ones\
+    |put 0 0 9 1~x~put 0 0 9 1~y~put 0 100 9 1~z~reserve~reserve~bury 2 0~bury 1 0~peek-buried~\
+    kick 5~kick 5~\
+    |INSERTED 1~INSERTED 2~INSERTED 3~RESERVED 1 1~x~RESERVED 2 1~y~BURIED~BURIED~FOUND 2 1~y~\
+    KICKED 2~KICKED 1~|end
+
+    watch_lists: the list of watched tubes\
+    |ignore default~ignore b~watch b~watch b~ignore default~list-tubes-watched~list-tubes~\
+    |NOT_IGNORED~WATCHING 1~WATCHING 2~WATCHING 2~WATCHING 1~OK 8~---^- b^~\
+    OK 18~---^- b^- default^~|end
+
+    job_statistics: the statistics of a job, with input that arrives byte by byte\
+    |p + u + t +   + 0 +   + 0 +   + 1 +   + 1 + \r + ^ + a + \r + ^ \
+    + s + t + a + t + s + - + j + o + b +   + 1 + \r + ^\
+    |INSERTED 1~OK 135~---^id: 1^tube: default^state: ready^pri: 0^age: 0^delay: 0^ttr: 1^\
+    time-left: 0^reserves: 0^timeouts: 0^releases: 0^buries: 0^kicks: 0^~|end
+
+    paused_tube: a paused tube hands out no job to a reserve, but reserve-job still works\
+    |put 2 0 9 1~x~pause-tube default 60~reserve-with-timeout 0~peek-ready~reserve-job 1~\
+    reserve-job 1~pause-tube b 1~\
+    |INSERTED 1~PAUSED~TIMED_OUT~FOUND 1 1~x~RESERVED 1 1~x~NOT_FOUND~NOT_FOUND~|end
+
+    release_keeps_the_id: a released job keeps its id\
+    |put 4 0 9 1~x~put 4 0 9 1~y~reserve~release 1 5 0~reserve~release 1 0 0~delete 1~\
+    |INSERTED 1~INSERTED 2~RESERVED 1 1~x~RELEASED~RESERVED 2 1~y~NOT_FOUND~DELETED~|end
+
+    longest_line: the longest line\
+    |peek  + times 216 0 + 1~|NOT_FOUND~|end
+
+    longest_line: a line that is one byte longer\
+    |peek  + times 217 0 + 1~|BAD_FORMAT~|end
+
+    longest_tube_name: the longest tube name\
+    |use  + times 200 a + ~|USING  + times 200 a + ~|end
+
+    longest_tube_name: a name that is one byte longer\
+    |use  + times 201 a + ~|BAD_FORMAT~|end
+
+    truncated_and_after_quit: an incomplete body at the end of the input gets no answer\
+    |put 0 0 1 5~ab||end
+
+    truncated_and_after_quit: nor does an incomplete line\
+    |list-tube-used||end
+
+    truncated_and_after_quit: commands after a quit are ignored\
+    |quit~stats~||quit
+
+    end_behind_a_wait: the input ends while a reserve waits\
+    |reserve~|TIMED_OUT~|end
+
+    odd_spaces_and_numbers: extra spaces, and a number that is too large\
+    |~reserve ~ reserve~put 0 0 4294967296 1~\
+    |UNKNOWN_COMMAND~BAD_FORMAT~UNKNOWN_COMMAND~BAD_FORMAT~|end";
