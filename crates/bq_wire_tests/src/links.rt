@@ -5,3 +5,4 @@ mod by_hand;
 mod ends;
 mod in_order;
 mod many_ends;
+mod parts;

@@ -4,9 +4,8 @@ ghost use Rattle.std.specs.Prelude.{◌≡◌, ◌+◌, All, length};
 use crate::links::ends::{Shared, last_end, links_of_four, submit_one};
 use bq_job::Step;
 use bq_link::{CoreEnd, SeatEnd};
-use std::process::Abort;
+use std::alloc::Global;
 use std::sync::Wait;
-use std::test::Fail;
 use std::time::{Clock, Duration, Instant};
 
 // Far longer than any wait of these tests that is woken up.
@@ -47,42 +46,59 @@ fn wakes_in_place<R: Wait>(rt: &R, intake: &Shared, core: &mut CoreEnd, end: Sea
 }
 
 // Each of four ends wakes the core once, two of them by a step that is submitted in place.
-fn all_wake<R: Abort + Wait>(rt: &R, intake: &Shared, core: &mut CoreEnd, seats: &mut Vec<SeatEnd>)
+fn all_wake<R: Wait>(rt: &R, intake: &Shared, core: &mut CoreEnd, seats: &mut Vec<SeatEnd>) -> bool
     requires core { core.old.intake ≡ intake.now.id }
     requires here { All (λ s. s.intake ≡ intake.now.id) seats.old.items }
     requires count { length seats.old.items ≡ 4 }
 {
-    assert!(rt; wakes_the_core(rt, intake, core, last_end(intake, seats)));
-    assert!(rt; wakes_the_core(rt, intake, core, last_end(intake, seats)));
-    assert!(rt; wakes_in_place(rt, intake, core, last_end(intake, seats)));
-    assert!(rt; wakes_in_place(rt, intake, core, last_end(intake, seats)));
+    wakes_the_core(rt, intake, core, last_end(intake, seats))
+        && wakes_the_core(rt, intake, core, last_end(intake, seats))
+        && wakes_in_place(rt, intake, core, last_end(intake, seats))
+        && wakes_in_place(rt, intake, core, last_end(intake, seats))
 }
 
-#[test]
-fn each_end_wakes_the_core(rt: HostRuntime) -> Result<(), Fail> {
-    let start = Instant::now(&rt)?;
-    let (intake, mut core, mut seats) = links_of_four(rt.alloc())?;
-    all_wake(&rt, &intake, &mut core, &mut seats);
-    assert!(rt; was_woken(&rt, start));
-    Ok(())
-}
-
-// Each end waits after it was woken up.
-fn all_hear<R: Wait>(rt: &R, intake: &Shared, seats: &mut Vec<SeatEnd>) {
+// Each of four ends waits after it was woken up.
+fn all_hear<R: Wait>(rt: &R, intake: &Shared, seats: &mut Vec<SeatEnd>) -> bool {
+    if seats.len() != 4 {
+        return false;
+    }
     for end in seats {
         intake.wake(end.number());
         end.wait(rt, intake, long());
     }
     // There is no such seat.
     intake.wake(7);
+    true
+}
+
+// Whose bells are rung.
+#[derive(Clone, Copy)]
+enum Bells {
+    OfCore,
+    OfSeats,
+}
+
+// Returns true if these bells of new links end every wait long before its time.
+fn end_waits<R: Clock + Wait>(rt: &R, alloc: Global, bells: Bells) -> bool {
+    let Ok(start) = Instant::now(rt) else {
+        return false;
+    };
+    let Ok((intake, mut core, mut seats)) = links_of_four(alloc) else {
+        return false;
+    };
+    let are_heard = match bells {
+        Bells::OfCore => all_wake(rt, &intake, &mut core, &mut seats),
+        Bells::OfSeats => all_hear(rt, &intake, &mut seats),
+    };
+    are_heard && was_woken(rt, start)
 }
 
 #[test]
-fn each_end_hears_its_bell(rt: HostRuntime) -> Result<(), Fail> {
-    let start = Instant::now(&rt)?;
-    let (intake, _core, mut seats) = links_of_four(rt.alloc())?;
-    assert!(rt; seats.len() == 4);
-    all_hear(&rt, &intake, &mut seats);
-    assert!(rt; was_woken(&rt, start));
-    Ok(())
+fn each_end_wakes_the_core(rt: HostRuntime) {
+    assert!(rt; end_waits(&rt, rt.alloc(), Bells::OfCore));
+}
+
+#[test]
+fn each_end_hears_its_bell(rt: HostRuntime) {
+    assert!(rt; end_waits(&rt, rt.alloc(), Bells::OfSeats));
 }

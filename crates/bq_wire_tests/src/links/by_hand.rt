@@ -1,13 +1,13 @@
 //! Steps and answers through the links of one seat, by hand.
 ghost use Rattle.std.specs.Prelude.{◌≡◌, ◌<◌, length};
-ghost use Rattle.bq_link.specs.EndStates.{IsSameCore, IsSameSeat};
+ghost use Rattle.bq_link.specs.EndStates.{IsPair, IsSameCore, IsSameSeat};
 
-use crate::links::ends::{Did, Shared, last_ends, submits, takes};
+use crate::links::ends::{Did, Shared, submits, takes};
+use crate::links::parts::{Part, works};
 use bq_job::{Answer, Step};
 use bq_link::{CoreEnd, SeatEnd};
 use std::ops::Range;
 use std::sync::Wait;
-use std::test::Fail;
 
 fn is_inserted(got: Option<Answer>, id: u64) -> bool {
     matches!(got, Some(Answer::Inserted(given)) if given == id)
@@ -32,22 +32,30 @@ fn empties<R: Wait>(rt: &R, intake: &Shared, core: &mut CoreEnd) -> bool
     requires { core.old.intake ≡ intake.now.id }
     ensures { IsSameCore core.old core.new }
 {
-    takes(rt, intake, core, 0) == Some(Did::Connect)
-        && takes(rt, intake, core, 0) == Some(Did::Tick)
-        && takes(rt, intake, core, 0) == Some(Did::Tick)
-        && takes(rt, intake, core, 1) == Some(Did::Drain)
+    takes(rt, intake, core, 0, Did::Connect)
+        && takes(rt, intake, core, 0, Did::Tick)
+        && takes(rt, intake, core, 0, Did::Tick)
+        && takes(rt, intake, core, 1, Did::Drain)
         && core.take(rt, intake).is_none()
 }
 
-#[test]
-fn intake_by_hand(rt: HostRuntime) -> Result<(), Fail> {
-    let (intake, mut core, mut first, mut second) = last_ends(rt.alloc(), 1)?;
-    assert!(rt; first.number() == 0 && second.number() == 1);
-    assert!(rt; fills(&rt, &intake, &mut first, &mut second));
-    core.compare(&intake, &mut first);
-    assert!(rt; empties(&rt, &intake, &mut core));
-    assert!(rt; submits(&rt, &intake, &mut second, Step::Gone));
-    Ok(())
+/// Returns true if the intake is filled and emptied, and then has room for one more step.
+pub fn fills_and_empties<R: Wait>(
+    rt: &R,
+    intake: &Shared,
+    core: &mut CoreEnd,
+    first: &mut SeatEnd,
+    second: &mut SeatEnd,
+) -> bool
+    requires core { core.old.intake ≡ intake.now.id }
+    requires first { first.old.intake ≡ intake.now.id }
+    requires second { second.old.intake ≡ intake.now.id }
+{
+    if first.number() != 0 || second.number() != 1 || !fills(rt, intake, first, second) {
+        return false;
+    }
+    core.compare(intake, first);
+    empties(rt, intake, core) && submits(rt, intake, second, Step::Gone)
 }
 
 // Sends the first end the answers with these numbers, and returns true if each of them found room.
@@ -95,14 +103,29 @@ fn fills_ring(core: &mut CoreEnd) -> bool
     send_all(core, 1..5) && matches!(core.send(0, Answer::Inserted(5)), Err(Answer::Inserted(5)))
 }
 
+/// Returns true if the ring of the first end is filled and emptied twice, and the second end has no
+/// mail.
+pub fn fills_and_empties_ring(core: &mut CoreEnd, first: &mut SeatEnd, second: &mut SeatEnd) -> bool
+    requires pair { IsPair core.old first.old }
+    requires some { 0 < length core.old.rings }
+{
+    if !fills_ring(core) || second.mail().is_some() || !has_mail(first, 1..2) {
+        return false;
+    }
+    core.left(first) == 3
+        && has_mail(first, 2..5)
+        && first.mail().is_none()
+        && core.left(first) == 0
+        && send_all(core, 5..9)
+        && has_known_mail(first, 5..9)
+}
+
 #[test]
-fn ring_by_hand(rt: HostRuntime) -> Result<(), Fail> {
-    let (_intake, mut core, mut first, mut second) = last_ends(rt.alloc(), 1)?;
-    assert!(rt; fills_ring(&mut core) && second.mail().is_none());
-    assert!(rt; has_mail(&mut first, 1..2));
-    assert!(rt; core.left(&mut first) == 3);
-    assert!(rt; has_mail(&mut first, 2..5) && first.mail().is_none());
-    assert!(rt; core.left(&mut first) == 0);
-    assert!(rt; send_all(&mut core, 5..9) && has_known_mail(&mut first, 5..9));
-    Ok(())
+fn intake_by_hand(rt: HostRuntime) {
+    assert!(rt; works(&rt, rt.alloc(), Part::Intake));
+}
+
+#[test]
+fn ring_by_hand(rt: HostRuntime) {
+    assert!(rt; works(&rt, rt.alloc(), Part::Ring));
 }

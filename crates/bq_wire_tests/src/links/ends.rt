@@ -73,31 +73,29 @@ pub fn submits<R: Wait>(rt: &R, intake: &Shared, end: &mut SeatEnd, step: Step) 
     end.submit(rt, intake, step).is_ok()
 }
 
-/// Returns the step that the core takes, if it comes from the end with this number.
-pub fn takes<R: Wait>(rt: &R, intake: &Shared, core: &mut CoreEnd, seat: Seat) -> Option<Did>
+/// Returns true if the core takes a step of this kind from the end with this number.
+pub fn takes<R: Wait>(rt: &R, intake: &Shared, core: &mut CoreEnd, seat: Seat, kind: Did) -> bool
     requires { core.old.intake ≡ intake.now.id }
     ensures { IsSameCore core.old core.new }
 {
     match core.take(rt, intake) {
-        Some((from, step)) if from == seat => Some(kind_of(&step)),
-        _ => None,
+        Some((from, step)) => from == seat && is_of(&step, kind),
+        None => false,
     }
 }
 
 /// The steps of these tests.
-#[derive(Clone, Copy, PartialEq, Eq)]
+#[derive(Clone, Copy)]
 pub enum Did {
     Connect,
     Tick,
     Drain,
-    Other,
 }
 
-fn kind_of(step: &Step) -> Did {
-    match step {
-        Step::Connect => Did::Connect,
-        Step::Tick => Did::Tick,
-        Step::Drain => Did::Drain,
-        _ => Did::Other,
+fn is_of(step: &Step, kind: Did) -> bool {
+    match kind {
+        Did::Connect => matches!(step, Step::Connect),
+        Did::Tick => matches!(step, Step::Tick),
+        Did::Drain => matches!(step, Step::Drain),
     }
 }

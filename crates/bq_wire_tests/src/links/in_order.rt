@@ -25,41 +25,51 @@ fn submit_all<R: Wait>(rt: &R, intake: &Shared, end: SeatEnd, count: u64)
     }
 }
 
-fn take_one<R: Wait>(rt: &R, intake: &Shared, core: &mut CoreEnd) -> (Seat, Step)
-    requires { core.old.intake ≡ intake.now.id }
-    ensures { core.new.intake ≡ core.old.intake }
-{
-    for _ in rt.forever() {
-        if let Some(taken) = core.take(rt, intake) {
-            return taken;
-        }
-        thread::yield_now();
-    }
-    unreachable!()
-}
-
 // The number of steps that each seat submits.
 const STEPS: u64 = 1000;
 
+// Returns true if the touch is of the next job, which then is the one after it.
+fn is_next(next: &mut u64, id: u64) -> bool {
+    let is_right = id == *next;
+    *next = id.wrapping_add(1);
+    is_right
+}
+
+// Returns true if the step is the next touch of its seat.
+fn is_in_order(seat: Seat, step: &Step, first: &mut u64, second: &mut u64) -> bool {
+    match step {
+        Step::Ask(Request::Touch { id }) => match seat {
+            0 => is_next(first, *id),
+            1 => is_next(second, *id),
+            _ => false,
+        },
+        _ => false,
+    }
+}
+
 // Takes all steps of two seats, and returns true if each seat's were its touches, once and in
 // order.
-fn take_all<R: Wait>(rt: &R, intake: &Shared, core: CoreEnd) -> bool
-    requires { core.intake ≡ intake.now.id }
+fn take_all<R: Wait>(rt: &R, intake: &Shared, core: &mut CoreEnd) -> bool
+    requires { core.old.intake ≡ intake.now.id }
 {
-    let mut core = core;
-    let mut next = [1; 2];
-    for _taken in 0..2 * STEPS {
-        let (seat, step) = take_one(rt, intake, &mut core);
-        let (Some(want), Step::Ask(Request::Touch { id })) = (next.get_mut(usize::from(seat)), step)
-        else {
-            return false;
-        };
-        if *want != id {
-            return false;
+    let mut first = 1;
+    let mut second = 1;
+    let mut taken = 0u64;
+    for _ in rt.forever() {
+        if taken == 2 * STEPS {
+            break;
         }
-        *want = id.wrapping_add(1);
+        match core.take(rt, intake) {
+            Some((seat, step)) => {
+                if !is_in_order(seat, &step, &mut first, &mut second) {
+                    return false;
+                }
+                taken = taken.wrapping_add(1);
+            }
+            None => thread::yield_now(),
+        }
     }
-    next == [STEPS + 1; 2] && core.take(rt, intake).is_none()
+    first == STEPS + 1 && second == STEPS + 1 && core.take(rt, intake).is_none()
 }
 
 fn submit_two<R: Threads + Wait + Sync>(rt: &R, intake: &Shared, a: SeatEnd, b: SeatEnd)
@@ -89,7 +99,10 @@ fn two_seats_in_order(rt: HostRuntime) -> Result<(), Fail> {
         { submit_two(&rt, shared, a, b) },
         move ||
             requires { core.intake ≡ shared.now.id }
-        { take_all(&rt, shared, core) },
+        {
+            let mut core = core;
+            take_all(&rt, shared, &mut core)
+        },
     );
     assert!(rt; are_in_order);
     Ok(())

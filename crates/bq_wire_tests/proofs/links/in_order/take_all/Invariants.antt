@@ -2,5 +2,5 @@
 use Rattle.std.proofs.Common.{◌≡◌}
 use Rattle.bq_wire_tests.proofs.links.in_order.take_all.Given as goal
 
-abbrev pub invariant-loop-taken : goal.invariant-loop-taken
-invariant-loop-taken g l = l.core.intake ≡ l.fn.core.intake
+abbrev pub invariant-loop : goal.invariant-loop
+invariant-loop g l = l.core.intake ≡ l.fn.core.intake
