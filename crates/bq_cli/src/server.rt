@@ -389,9 +389,7 @@ fn new_doors<'l, R: Wait + Clock + Eprint>(
             return Err(NoMemory);
         };
         let door = new_door(rt, listener, options.sessions, buffer, tell);
-        let Ok(()) = doors.push(door) else {
-            return Err(NoMemory);
-        };
+        doors.push_reserved(door);
     }
     Ok(doors)
 }

@@ -131,10 +131,10 @@ pub fn new_seats<L: Line + Drop>(
         return Err(NoMemory);
     };
     for _ in 0..seats {
-        let seat = new_seat(alloc, max_job_size)?;
-        let Ok(()) = all.push(seat) else {
+        let Ok(seat) = new_seat(alloc, max_job_size) else {
             return Err(NoMemory);
         };
+        all.push_reserved(seat);
     }
     Ok(all)
 }

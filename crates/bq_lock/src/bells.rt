@@ -62,9 +62,7 @@ impl Bells {
             return Err(NoMemory);
         };
         for _ in 0..seats {
-            if bells.push(Bell::new()).is_err() {
-                return Err(NoMemory);
-            }
+            bells.push_reserved(Bell::new());
         }
         Ok(Bells { bells })
     }

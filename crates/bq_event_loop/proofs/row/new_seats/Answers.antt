@@ -9,8 +9,9 @@ pub loop-preserved : goal.loop-preserved
 loop-preserved g c =
     let size = c.args.max_job_size in
     record {
-      many = let e = c.in-Ok-push.ensures.len in let h = c.loop.invariant.many in omega arith;
-      new = subst (λ (xs : List (Attendant g.row.L.Denot)). All (IsNewSeat size) xs) (sym c.in-Ok-push.ensures.items)
-          (all_more (IsNewSeat size) c.loop.all.items c.in_ok-seat.seat c.loop.invariant.new c.in_ok-seat.ensures);
+      many = let e = c.push_reserved.ensures.len in let h = c.loop.invariant.many in omega arith;
+      new = subst (λ (xs : List (Attendant g.row.L.Denot)). All (IsNewSeat size) xs) (sym c.push_reserved.ensures.items)
+          (all_more (IsNewSeat size) c.loop.all.items c.in-Ok-new_seat.seat c.loop.invariant.new c.in-Ok-new_seat.ensures);
+      room = let h = c.loop.invariant.room in let a = c.push_reserved.ensures.capacity in omega arith;
       within = let h = c.loop-test.true in omega arith;
     }

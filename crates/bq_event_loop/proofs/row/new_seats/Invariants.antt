@@ -1,4 +1,4 @@
-use Rattle.std.proofs.Common.{◌≡◌, ◌≤◌, vec_len}
+use Rattle.std.proofs.Common.{◌≡◌, ◌≤◌, vec_capacity, vec_len}
 use Rattle.std.specs.List.{All}
 use Rattle.bq_line.specs.Tending.{IsNewSeat}
 use Rattle.bq_event_loop.proofs.row.new_seats.Given as goal
@@ -8,4 +8,5 @@ invariant-loop g l = record {
   many : vec_len l.all ≡ l.counter;
   new : All (IsNewSeat l.fn.max_job_size) l.all.items;
   within : l.counter ≤ l.fn.seats;
+  room : l.fn.seats ≤ vec_capacity l.all;
 }
