@@ -11,7 +11,7 @@ use bq_line::control::LineSoFar;
 use bq_line::control_line::{ControlInput, Heard};
 
 /// How far a control line has been read.
-#[derive(Clone, Copy, Debug, PartialEq, Eq)]
+#[derive(Clone, Copy)]
 pub enum Stage {
     /// There may be more to read.
     Reads,

@@ -43,7 +43,7 @@ const EVENTS: usize = 256;
 const NOTHING: Turn = Turn::Seat(usize::MAX);
 
 /// The next part of a round.
-#[derive(Clone, Copy, Debug, PartialEq, Eq)]
+#[derive(Clone, Copy)]
 enum Stage {
     /// The doors and the control line are not registered yet.
     Start,

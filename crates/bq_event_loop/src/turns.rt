@@ -11,7 +11,7 @@ use bq_line::line::Line;
 use std::alloc::Global;
 
 /// What the loop does next.
-#[derive(Clone, Copy, Debug, PartialEq, Eq)]
+#[derive(Clone, Copy)]
 pub enum Turn {
     /// One action of this seat. If it submits a step, the seat then checks for the answer too. If
     /// the seat does not exist, nothing is done.
@@ -28,7 +28,7 @@ pub enum Turn {
 }
 
 /// How far the control line is read. Steps that it owes are submitted first.
-#[derive(Clone, Copy, Debug, PartialEq, Eq)]
+#[derive(Clone, Copy, PartialEq, Eq)]
 pub enum ControlReads {
     /// Up to the end of the buffered bytes. No read blocks.
     Buffered,
@@ -39,7 +39,7 @@ pub enum ControlReads {
 }
 
 /// The state of the control line.
-#[derive(Clone, Copy, Debug, PartialEq, Eq)]
+#[derive(Clone, Copy, PartialEq, Eq)]
 pub enum ControlStands {
     /// There may be more to read.
     Reads,
@@ -50,7 +50,7 @@ pub enum ControlStands {
 }
 
 /// What has happened since the last turn.
-#[derive(Clone, Copy, Debug, PartialEq, Eq)]
+#[derive(Clone, Copy)]
 pub struct News {
     /// What the last action of a seat moved, or what was missing.
     pub progress: Progress,
@@ -61,7 +61,7 @@ pub struct News {
 }
 
 /// The reason why turns could not be prepared.
-#[derive(Clone, Copy, Debug, PartialEq, Eq)]
+#[derive(Clone, Copy)]
 pub enum TurnsFault {
     /// Out of memory.
     NoMemory,

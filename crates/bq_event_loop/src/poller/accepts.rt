@@ -7,7 +7,7 @@ use std::time::{Duration, Instant};
 const REST: u64 = 100;
 
 /// A pause after a lack of resources.
-#[derive(Clone, Copy, Debug, PartialEq, Eq)]
+#[derive(Clone, Copy)]
 enum Rest {
     None,
     /// Until this moment, whatever happens meanwhile.
@@ -17,7 +17,7 @@ enum Rest {
 }
 
 /// What is known about connections that were not accepted yet. All doors share it.
-#[derive(Debug, Drop)]
+#[derive(Drop)]
 pub struct Accepts {
     // True if a connection may have come since the last check that found none.
     may_have_come: bool,
@@ -35,7 +35,7 @@ impl Accepts {
 
     /// Returns true if a door should be checked.
     pub fn may_come(&self) -> bool {
-        self.may_have_come && self.rest == Rest::None
+        self.may_have_come && matches!(self.rest, Rest::None)
     }
 
     /// Notes that the system reported a connection.

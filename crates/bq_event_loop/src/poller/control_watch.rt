@@ -9,7 +9,7 @@ use std::os::fd::RawFd;
 /// What is known about the control line. Its descriptor is never switched to non-blocking mode,
 /// since other processes may share it. So a read that may block is made only after the system
 /// reported that it would not.
-#[derive(Clone, Copy, Debug, PartialEq, Eq)]
+#[derive(Clone, Copy)]
 pub enum ControlWatch {
     /// The descriptor is not registered yet.
     Unwatched(RawFd),

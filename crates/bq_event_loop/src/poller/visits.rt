@@ -8,7 +8,7 @@ use std::alloc::{AllocError, Global};
 use std::collections::VecDeque;
 
 /// The list that a seat is in.
-#[derive(Clone, Copy, Debug, PartialEq, Eq)]
+#[derive(Clone, Copy)]
 enum Listed {
     Nowhere,
     /// In the queue of seats that can act.
@@ -51,7 +51,7 @@ impl SeatQueue {
     fn lists(&mut self, seat: usize, place: Listed) -> bool {
         match self.listed.get_mut(seat) {
             Some(listed) => {
-                let was_nowhere = *listed == Listed::Nowhere;
+                let was_nowhere = matches!(*listed, Listed::Nowhere);
                 if was_nowhere {
                     *listed = place;
                 }
@@ -135,7 +135,7 @@ const MOST: u32 = 64;
 const COMMAND: u32 = 2;
 
 /// A part of the visits of a round.
-#[derive(Clone, Copy, Debug, PartialEq, Eq)]
+#[derive(Clone, Copy)]
 pub enum Part {
     /// Lines are read, each up to a step.
     Reads,
@@ -166,7 +166,7 @@ impl Part {
 }
 
 /// The reason why a visit pauses.
-#[derive(Clone, Copy, Debug, PartialEq, Eq)]
+#[derive(Clone, Copy)]
 pub enum Pause {
     /// This part of the visit is done.
     PartDone,
@@ -181,7 +181,7 @@ pub enum Pause {
 }
 
 /// A visit that is under way.
-#[derive(Clone, Copy, Debug)]
+#[derive(Clone, Copy)]
 pub struct Visit {
     seat: usize,
     part: Part,
