@@ -3,7 +3,7 @@ ghost use Rattle.std.specs.Prelude.{◌≡◌};
 ghost use Rattle.bq_program.specs.Chosen.{of_bq, of_bqd};
 
 /// The options of `bq`.
-#[derive(Clone, Copy, Debug)]
+#[derive(Clone, Copy)]
 pub struct BqOptions {
     /// True if the clock always reads 0.
     pub still: bool,
@@ -15,7 +15,7 @@ pub struct BqOptions {
 }
 
 /// The options of `bqd`.
-#[derive(Debug, Drop)]
+#[derive(Drop)]
 pub struct BqdOptions {
     /// The address to listen at, as it was written.
     pub listen: String,
@@ -34,7 +34,7 @@ pub struct BqdOptions {
 }
 
 /// The options of either program. An option that the program does not take has its default, and `bq` has one seat.
-#[derive(Debug, Drop)]
+#[derive(Drop)]
 pub struct Options {
     /// The address to listen at, as it was written.
     pub listen: Option<String>,
@@ -90,7 +90,7 @@ impl From<BqdOptions> for Options {
 }
 
 /// Why there are no options.
-#[derive(Debug, Drop)]
+#[derive(Drop)]
 pub enum OptionFault {
     /// The words are not options of the program. The text says why.
     BadOptions(String),

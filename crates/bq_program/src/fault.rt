@@ -7,7 +7,7 @@ use bq_host::RunFault;
 use bq_job::LineEnd;
 
 /// What a program needs memory for.
-#[derive(Clone, Copy, Debug, PartialEq, Eq)]
+#[derive(Clone, Copy, PartialEq, Eq)]
 pub enum Need {
     /// The words of its command line and the options.
     Options,
@@ -20,7 +20,7 @@ pub enum Need {
 }
 
 /// Why a program ends with status 1.
-#[derive(Clone, Copy, Debug, PartialEq, Eq)]
+#[derive(Clone, Copy, PartialEq, Eq)]
 pub enum Fault {
     /// Reading from the client failed.
     ReadFailed,
@@ -101,7 +101,7 @@ pub fn fault_of_end(end: LineEnd) -> Option<Fault>
 }
 
 /// Why a program did not do all of its work.
-#[derive(Debug, Drop)]
+#[derive(Drop)]
 pub enum Stop {
     /// Its command line has no options: they are wrong, or help was asked for.
     Options(OptionFault),
