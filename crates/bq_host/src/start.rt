@@ -3,7 +3,7 @@
 use std::sync::{Condvar, Mutex, Wait};
 
 /// The signal that the started threads wait for.
-#[derive(Clone, Copy, Debug, PartialEq, Eq)]
+#[derive(Clone, Copy)]
 enum Signal {
     /// It is not known yet whether all threads could be started.
     Pending,
@@ -42,8 +42,8 @@ impl Start {
     /// Waits for the signal, and returns true if all were started.
     pub fn wait<R: Wait>(&self, rt: &R) -> bool {
         let signal = self.changed.wait_while(rt, self.signal.lock(rt), |signal| {
-            *signal == Signal::Pending
+            matches!(*signal, Signal::Pending)
         });
-        *signal == Signal::Begin
+        matches!(*signal, Signal::Begin)
     }
 }
