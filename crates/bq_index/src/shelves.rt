@@ -212,6 +212,7 @@ impl<K: Parted + Drop + Copy, V: Drop> Shelves<K, V> {
     /// `NoMemory` if a box can't be allocated. The ones before the failure are kept.
     pub fn reserve_from<S: BoxSource>(&mut self, source: &mut S, n: usize) -> Result<(), NoMemory>
         ensures ok { OnOk result (n ≤ self.new.spare) }
+        ensures refused { OnErr result (self.new.spare < n) }
         ensures entries { self.new.entries ≡ self.old.entries }
         ensures not_fewer { self.old.spare ≤ self.new.spare }
         ensures no_more { self.new.spare ≤ max n self.old.spare }
