@@ -372,7 +372,7 @@ impl NumberedJobs {
     ///
     /// # Errors
     ///
-    /// `NoMemory` if that allocation fails.
+    /// `NoMemory` if that allocation fails, or if 2^30 tubes are registered.
     #[tactic(auto, using(crate::proofs::NamedJobs::kept_after, crate::proofs::NamedJobs::others_after, crate::proofs::NamedJobs::known_after))]
     pub fn know(&mut self, alloc: Global, tube: &TubeName) -> Result<(), NoMemory>
         ensures known { IfOk result (λ _. is_known tube.now self.new ≡ true) }
