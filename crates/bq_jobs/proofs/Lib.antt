@@ -13,4 +13,7 @@ pub mod NamedParts
 pub mod NumberingLemmas
 pub mod Orders
 pub mod Shelved
+pub mod TableLemmas
+pub mod TableViews
+pub mod TableWalks
 pub mod Told

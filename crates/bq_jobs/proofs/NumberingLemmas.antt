@@ -268,3 +268,18 @@ module _ (k : Numbering) (h : IsPaired k) (name : List ℕ) where
   -- and the removed one has no number.
   pub number_gone : number_of name (without_known name k) ≡ None
   number_gone = removed_then k h name name ∙ rw (tie_names name name refl) refl
+
+-- What an addition does to the look-ups, from what it does to the two lists.
+pub registers_by : (k new : Numbering) (name : List ℕ) (n : ℕ) → IsPaired k → number_of name k ≡ None → name_of n k ≡ None
+    → new.numbers ≡ insert_entry (slice_cmp nat_cmp) k.numbers name n → new.names ≡ put_at k.names n (Some name) → Registers name k new
+registers_by k new name n h absent free numbers names =
+    subst (Registers name k) (λ i. record { numbers = sym numbers i; names = sym names i }) (added_registers k h name n absent free)
+
+-- A removal keeps the number of slots.
+module _ (k : Numbering) (h : IsPaired k) (name : List ℕ) where
+  many_by : (o : Option ℕ) → number_of name k ≡ o → length (names_without o k.names) ≡ length k.names
+  many_by None own = refl
+  many_by (Some n) own = length_put None k.names n (has_slot k n name (h.there name n own))
+
+  pub names_many : length (without_known name k).names ≡ length k.names
+  names_many = many_by (number_of name k) refl

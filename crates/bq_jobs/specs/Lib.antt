@@ -18,4 +18,5 @@ pub mod Room
 pub mod Searching
 pub mod Seen
 pub mod Stages
+pub mod Table
 pub mod Told

@@ -85,3 +85,8 @@ kept_named rows k = record { jobs = map (named k) rows.jobs; room = rows.room; c
 -- whether the tube of this name is registered
 abbrev pub is_known : List ℕ → Kept → Bool
 is_known name m = is_some (lookup (is_at (slice_cmp nat_cmp name)) m.tubes)
+
+-- each tube keeps the number that it had
+abbrev pub Extends : List (List ℕ × ℕ) → List (List ℕ × ℕ) → Type 0
+Extends old new =
+    (name : List ℕ) (n : ℕ) → lookup (is_at (slice_cmp nat_cmp name)) old ≡ Some n → lookup (is_at (slice_cmp nat_cmp name)) new ≡ Some n

@@ -136,8 +136,8 @@ impl NumberedJobs {
         ensures room { self.new.room + 1 ≡ self.old.room }
         ensures comparisons { ComparesAtMost 4 self.old self.new }
     {
-        if let Some(number) = self.tubes.number_of(&job.tube) {
-            self.rows.add(job.id, rows::row_of(job, number));
+        if let Some(number) = self.tubes.number_of(&job.tube, TubeNumber::unknown()) {
+            self.rows.add(job.id, rows::row_of(job, number.get()));
         }
     }
 
@@ -199,7 +199,7 @@ impl NumberedJobs {
         ensures kept { Searches 1 self.old self.new }
     {
         let number = self.rows.number_of(id)?;
-        self.tubes.name_of(number).copied()
+        self.tubes.name_at(number).copied()
     }
 
     /// Returns the tube of the job with this id, and another reference to its body, or `NoMemory`
@@ -211,7 +211,7 @@ impl NumberedJobs {
         ensures kept { FindsById id result self.old self.new }
     {
         let (number, body) = self.rows.share(id)?;
-        let tube = self.tubes.name_of(number)?;
+        let tube = self.tubes.name_at(number)?;
         Some((*tube, body))
     }
 
@@ -344,9 +344,8 @@ impl NumberedJobs {
         ensures rank { result ≡ first_held (list_of tube.now list) self.old.jobs }
         ensures kept { Searches 1 self.old self.new }
     {
-        let number = self.tubes.number_of(tube)?;
-        self.rows
-            .first_of_group(Group::list(list, TubeNumber::of(number)))
+        let number = self.tubes.number_of(tube, TubeNumber::unknown())?;
+        self.rows.first_of_group(Group::list(list, number))
     }
 
     // Returns the deadline and the id of the first job of the client at a seat.
@@ -383,7 +382,7 @@ impl NumberedJobs {
         ensures refused { OnErr result (self.new ≡ self.old) }
         ensures same { self.new ≡ record self.old { tubes = self.new.tubes } }
     {
-        self.tubes.add(alloc, tube)
+        self.tubes.register(alloc, tube)
     }
 
     /// Removes a tube that has no jobs. No job can be added to it until it is registered again.
@@ -395,7 +394,7 @@ impl NumberedJobs {
             → is_known other self.new ≡ is_known other self.old }
         ensures same { self.new ≡ record self.old { tubes = self.new.tubes } }
     {
-        self.tubes.remove(tube);
+        let _number = self.tubes.remove(tube);
     }
 }
 
@@ -414,7 +413,7 @@ fn job_of(tubes: &NumberedTubes, id: JobId, row: Option<Row>) -> Option<Job>
     ensures { result ≡ option_and_then (job_told tubes.now) row }
 {
     let row = row?;
-    match tubes.name_of(row.tube.get()) {
+    match tubes.name_at(row.tube.get()) {
         None => None,
         Some(tube) => Some(rows::job_of(id, row, *tube)),
     }
@@ -425,7 +424,7 @@ fn removed_of(tubes: &NumberedTubes, removed: Option<(u32, Standing)>) -> Option
     ensures { result ≡ option_and_then (removed_told tubes.now) removed }
 {
     let (number, at) = removed?;
-    match tubes.name_of(number) {
+    match tubes.name_at(number) {
         None => None,
         Some(tube) => Some(Removed { tube: *tube, at }),
     }
@@ -436,7 +435,7 @@ fn told_of(tubes: &NumberedTubes, moved: Option<MovedRow>) -> Option<Moved>
     ensures { result ≡ option_and_then (moved_told tubes.now) moved }
 {
     let moved = moved?;
-    match tubes.name_of(moved.tube.get()) {
+    match tubes.name_at(moved.tube.get()) {
         None => None,
         Some(tube) => Some(Moved {
             tube: *tube,

@@ -19,7 +19,9 @@
 pub use jobs::{NumberedJobs, adds_at_the_end, chosen_has_its_id, next_is_free};
 pub use named_jobs::Jobs;
 pub use rows::{JobEdit, Moved, Removed, Row, Standing};
-pub use tubes::TubeNumber;
+pub use table::TubeTable;
+pub use tube::Tube;
+pub use tubes::{NumberedTubes, TubeNumber};
 
 mod groups;
 mod jobs;
@@ -27,5 +29,7 @@ mod named_group;
 mod named_jobs;
 mod places;
 mod rows;
+mod table;
 mod timers;
+mod tube;
 mod tubes;

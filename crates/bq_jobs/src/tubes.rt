@@ -1,9 +1,12 @@
 //! The registered tubes and their numbers.
 ghost use Rattle.std.specs.Cmp as Cmp;
-ghost use Rattle.bq_jobs.specs.Names.{name_cmp, name_total};
+ghost use Rattle.bq_jobs.specs.Names.{name_cmp, name_total, number_in};
 ghost use Rattle.std.proofs.Common.{refl};
 ghost use Rattle.std.specs.Ordering.{as_partial_cmp, eq_by_cmp};
-ghost use Rattle.std.specs.Prelude.{◌≡◌, ◌<◌, ◌≤◌, ◌^◌, [], None, true, get_or, length, IfOk, IfSome, OnErr, OnOk};
+ghost use Rattle.std.specs.Prelude.{◌≡◌, ◌<◌, ◌≤◌, ◌^◌, [], None, true, get_or, length, IfOk, OnErr, OnOk, Some};
+ghost use Rattle.std.specs.BTreeMap.{insert_entry};
+ghost use Rattle.std.specs.Cmp.Lexicographic.{slice_cmp};
+ghost use Rattle.std.specs.Ordering.{nat_cmp};
 ghost use Rattle.std.specs.Option.{option_map};
 ghost use Rattle.bq_jobs.specs.Numbering.{IsGiven, IsPaired, Registers, name_of, number_of, put_at, without_known};
 
@@ -37,6 +40,12 @@ impl Model for TubeNumber {
 impl TubeNumber {
     ghost use Rattle.std.specs.Prelude.{◌≡◌, [], ◌∷◌, ◌<◌, ◌^◌};
     ghost use Rattle.bq_jobs.specs.Names.{number_in};
+
+    /// Returns a number at which to look if no number is known. No tube has it unless there are
+    /// 2^30 tubes.
+    pub fn unknown() -> TubeNumber {
+        TubeNumber((1 << 30) - 1)
+    }
 
     /// Returns the number of a tube.
     pub(crate) fn of(number: u32) -> TubeNumber
@@ -120,7 +129,7 @@ impl Model for Slot {
 /// registered, and it has to stay registered as long as it has jobs. So the jobs that have a number
 /// belong to the tube that they were added to.
 #[derive(Drop)]
-pub(crate) struct NumberedTubes {
+pub struct NumberedTubes {
     numbers: Catalog<TubeName, u32>,
     slots: Vec<Slot, Global>,
     // The number that was freed last and is still free, or one without a slot. The slots of free
@@ -149,6 +158,19 @@ fn is_free(slots: &[Slot], number: u32) -> bool
     }
 }
 
+// Returns true if a number has a slot with this name.
+fn is_named(slots: &[Slot], number: u32, name: &TubeName) -> bool
+    ensures { result ≡ true → get_or slots.now number None ≡ Some name.now }
+{
+    match slots.get(number as usize) {
+        None => false,
+        Some(slot) => match &slot.name {
+            None => false,
+            Some(own) => own == name,
+        },
+    }
+}
+
 // Changes the slot of a number. Returns what the slot had as the next free number.
 fn change(slots: &mut Vec<Slot, Global>, number: u32, slot: Slot) -> u32
     requires { number < length slots.old.items }
@@ -162,6 +184,7 @@ fn change(slots: &mut Vec<Slot, Global>, number: u32, slot: Slot) -> u32
 fn append(slots: &mut Vec<Slot, Global>, name: &TubeName) -> Result<u32, NoMemory>
     requires { length slots.old.items ≤ 2 ^ 30 }
     ensures given { IfOk result (λ n. IsGiven n name.now slots.old.items slots.new.items) }
+    ensures near { IfOk result (λ n. n ≤ length slots.old.items) }
     ensures same { OnErr result (slots.new.items ≡ slots.old.items) }
 {
     let number = slots.len();
@@ -182,6 +205,7 @@ fn append(slots: &mut Vec<Slot, Global>, name: &TubeName) -> Result<u32, NoMemor
 fn give(slots: &mut Vec<Slot, Global>, free: &mut u32, name: &TubeName) -> Result<u32, NoMemory>
     requires { length slots.old.items ≤ 2 ^ 30 }
     ensures given { IfOk result (λ n. IsGiven n name.now slots.old.items slots.new.items) }
+    ensures near { IfOk result (λ n. n ≤ length slots.old.items) }
     ensures same { OnErr result (slots.new.items ≡ slots.old.items) }
 {
     let number = *free;
@@ -198,7 +222,7 @@ fn give(slots: &mut Vec<Slot, Global>, free: &mut u32, name: &TubeName) -> Resul
 
 impl NumberedTubes {
     /// Returns a value with no tubes. It allocates nothing.
-    pub(crate) fn new(alloc: Global) -> NumberedTubes
+    pub fn new(alloc: Global) -> NumberedTubes
         ensures { result ≡ record { numbers = []; names = [] } }
     {
         NumberedTubes {
@@ -208,20 +232,41 @@ impl NumberedTubes {
         }
     }
 
-    /// Returns the number of a tube, if it is registered.
-    pub(crate) fn number_of(&self, name: &TubeName) -> Option<u32>
-        ensures number { result ≡ number_of name.now self.now }
-        ensures few { IfSome result (λ n. n < 2 ^ 30) }
+    /// Returns the number of a tube, if it is registered. If the tube has the number `hint`, one
+    /// comparison finds that out, and no search is needed.
+    pub fn number_of(&self, name: &TubeName, hint: TubeNumber) -> Option<TubeNumber>
+        ensures number { option_map number_in result ≡ number_of name.now self.now }
+        ensures paired { IsPaired self.now }
+    {
+        if is_named(self.slots.as_slice(), hint.get(), name) {
+            return Some(hint);
+        }
+        self.search(name)
+    }
+
+    // Returns the number of a tube, if it is registered. It is not inlined, so that a hint that is
+    // right needs no code of a search.
+    #[inline(never)]
+    pub(crate) fn search(&self, name: &TubeName) -> Option<TubeNumber>
+        ensures number { option_map number_in result ≡ number_of name.now self.now }
         ensures paired { IsPaired self.now }
     {
         match self.numbers.peek(name) {
             None => None,
-            Some(number) => Some(*number),
+            Some(number) => Some(TubeNumber::of(*number)),
         }
     }
 
     /// Returns the name of the tube with this number.
-    pub(crate) fn name_of(&self, number: u32) -> Option<&TubeName>
+    pub fn name_of(&self, number: TubeNumber) -> Option<&TubeName>
+        ensures name { option_map (λ name. name.now) result ≡ name_of (number_in number) self.now }
+        ensures paired { IsPaired self.now }
+    {
+        self.name_at(number.get())
+    }
+
+    // Returns the name of the tube with this number.
+    pub(crate) fn name_at(&self, number: u32) -> Option<&TubeName>
         ensures name { option_map (λ name. name.now) result ≡ name_of number self.now }
         ensures paired { IsPaired self.now }
     {
@@ -231,35 +276,65 @@ impl NumberedTubes {
         }
     }
 
-    /// Registers a tube, unless it is registered already. The memory that this needs is allocated
-    /// before any change.
-    pub(crate) fn add(&mut self, alloc: Global, name: &TubeName) -> Result<(), NoMemory>
-        ensures registered { OnOk result (Registers name.now self.old self.new) }
-        ensures same { OnErr result (self.new ≡ self.old) }
+    /// Returns the tubes by their names, each with its number.
+    pub(crate) fn by_name(&self) -> &Catalog<TubeName, u32>
+        ensures { result.now.entries ≡ self.now.numbers }
     {
-        if self.numbers.peek(name).is_some() {
-            return Ok(());
-        }
+        &self.numbers
+    }
+
+    /// Registers a tube that is not registered, and returns its number. The memory that this needs
+    /// is allocated before any change.
+    ///
+    /// # Errors
+    ///
+    /// `NoMemory` if that allocation fails, or if 2^30 tubes are registered.
+    pub fn add(&mut self, alloc: Global, name: &TubeName) -> Result<TubeNumber, NoMemory>
+        requires absent { number_of name.now self.old ≡ None }
+        ensures number { IfOk result (λ n. self.new.numbers
+            ≡ insert_entry (slice_cmp nat_cmp) self.old.numbers name.now (number_in n)) }
+        ensures fresh { IfOk result (λ n. name_of (number_in n) self.old ≡ None) }
+        ensures names { IfOk result (λ n. self.new.names
+            ≡ put_at self.old.names (number_in n) (Some name.now)) }
+        ensures same { OnErr result (self.new ≡ self.old) }
+        ensures near { IfOk result (λ n. number_in n ≤ length self.old.names) }
+        ensures paired { IsPaired self.new }
+    {
         let Ok(()) = self.numbers.reserve(alloc, 1) else {
             return Err(NoMemory);
         };
         let number = give(&mut self.slots, &mut self.free, name)?;
         self.numbers.insert(*name, number);
+        Ok(TubeNumber::of(number))
+    }
+
+    // Registers a tube, unless it is registered already.
+    pub(crate) fn register(&mut self, alloc: Global, name: &TubeName) -> Result<(), NoMemory>
+        ensures registered { OnOk result (Registers name.now self.old self.new) }
+        ensures same { OnErr result (self.new ≡ self.old) }
+    {
+        if self.search(name).is_some() {
+            return Ok(());
+        }
+        let _number = self.add(alloc, name)?;
         Ok(())
     }
 
-    /// Removes a tube, if it is registered. Its number is free again.
-    pub(crate) fn remove(&mut self, name: &TubeName)
+    /// Removes a tube, if it is registered, and returns the number that it had. The number is free
+    /// again.
+    pub fn remove(&mut self, name: &TubeName) -> Option<TubeNumber>
+        ensures number { option_map number_in result ≡ number_of name.now self.old }
         ensures after { self.new ≡ without_known name.now self.old }
         ensures paired { IsPaired self.old }
+        ensures paired_after { IsPaired self.new }
     {
-        if let Some(number) = self.numbers.remove(name) {
-            let slot = Slot {
-                name: None,
-                next_free: self.free,
-            };
-            let _next = change(&mut self.slots, number, slot);
-            self.free = number;
-        }
+        let number = self.numbers.remove(name)?;
+        let slot = Slot {
+            name: None,
+            next_free: self.free,
+        };
+        let _next = change(&mut self.slots, number, slot);
+        self.free = number;
+        Some(TubeNumber::of(number))
     }
 }

@@ -6,17 +6,17 @@ use Rattle.bq_jobs.proofs.jobs.NumberedJobs.know.Goals as goal
 
 pub invariant_of-self : goal.invariant_of-self
 invariant_of-self c =
-    numbered_after c.self.inside.tubes c.add.new.self c.args.tube.now c.add.result c.add.ensures.registered c.add.ensures.same
+    numbered_after c.self.inside.tubes c.register.new.self c.args.tube.now c.register.result c.register.ensures.registered c.register.ensures.same
     c.self.inside.rows.jobs c.self.invariant
 
 pub returns-clause-same : goal.returns-clause-same
 returns-clause-same c =
-    let jobs = named_after c.self.inside.tubes c.add.new.self c.args.tube.now c.add.result c.add.ensures.registered c.add.ensures.same
+    let jobs = named_after c.self.inside.tubes c.register.new.self c.args.tube.now c.register.result c.register.ensures.registered c.register.ensures.same
     c.self.inside.rows.jobs c.self.invariant in
     ap (λ js. record {
       jobs = js;
       room = c.self.inside.rows.room;
       comparisons = c.self.inside.rows.comparisons;
-      tubes = c.add.new.self.numbers;
+      tubes = c.register.new.self.numbers;
     }) jobs
-    ∙ ap (λ (m : Kept). record m { tubes = c.add.new.self.numbers }) c.self.view_is
+    ∙ ap (λ (m : Kept). record m { tubes = c.register.new.self.numbers }) c.self.view_is

@@ -1,25 +1,24 @@
-use Rattle.std.proofs.Common.{rules, ◌≡◌, ◌∙◌, None, ap, nat_cmp, subst}
+use Rattle.std.proofs.Common.{◌≡◌, ◌∙◌, None, ap, nat_cmp}
 use Rattle.std.specs.BTreeMap.{insert_entry}
 use Rattle.std.specs.Cmp.Lexicographic.{slice_cmp}
-use Rattle.bq_jobs.specs.Numbering.{Numbering, Registers, number_of}
-use Rattle.bq_jobs.proofs.NumberingLemmas.{paired_to, registered_to}
+use Rattle.bq_jobs.specs.Numbering.{Numbering, number_of}
+use Rattle.bq_jobs.proofs.NumberingLemmas.{paired_to}
 use Rattle.bq_jobs.proofs.tubes.NumberedTubes.add.Goals as goal
 
 pub invariant_of-self-2 : goal.invariant_of-self-2
 invariant_of-self-2 c =
     let name = c.args.name.now in
     let k : Numbering = record { numbers = c.self.inside.numbers.entries; names = c.self.inside.slots.items } in
-    let absent : number_of name k ≡ None = search rules in
+    let absent : number_of name k ≡ None = ap (number_of name) c.self.view_is ∙ c.requires.absent in
     paired_to k (record { numbers = c.insert.new.self.entries; names = c.give.new.slots.items }) name c.in_ok-number.number
     c.self.invariant absent c.in_ok-number.ensures.given
     (c.insert.ensures.entries ∙ ap (λ es. insert_entry (slice_cmp nat_cmp) es name c.in_ok-number.number) c.reserve.ensures.entries)
 
-pub returns-clause-registered : goal.returns-clause-registered
-returns-clause-registered c =
+pub returns-clause-paired : goal.returns-clause-paired
+returns-clause-paired c =
     let name = c.args.name.now in
     let k : Numbering = record { numbers = c.self.inside.numbers.entries; names = c.self.inside.slots.items } in
-    let absent : number_of name k ≡ None = search rules in
-    subst (λ m. Registers name m (record { numbers = c.insert.new.self.entries; names = c.give.new.slots.items })) c.self.view_is
-    (registered_to k (record { numbers = c.insert.new.self.entries; names = c.give.new.slots.items }) name c.in_ok-number.number
+    let absent : number_of name k ≡ None = ap (number_of name) c.self.view_is ∙ c.requires.absent in
+    paired_to k (record { numbers = c.insert.new.self.entries; names = c.give.new.slots.items }) name c.in_ok-number.number
     c.self.invariant absent c.in_ok-number.ensures.given
-    (c.insert.ensures.entries ∙ ap (λ es. insert_entry (slice_cmp nat_cmp) es name c.in_ok-number.number) c.reserve.ensures.entries))
+    (c.insert.ensures.entries ∙ ap (λ es. insert_entry (slice_cmp nat_cmp) es name c.in_ok-number.number) c.reserve.ensures.entries)

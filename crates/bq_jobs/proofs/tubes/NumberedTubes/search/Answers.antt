@@ -2,10 +2,10 @@ use Rattle.std.proofs.Common.{◌∙◌, Some, Bor, ℕ, ap, sym}
 use Rattle.std.specs.Prelude.{option_map}
 use Rattle.bq_jobs.specs.Numbering.{Numbering}
 use Rattle.bq_jobs.proofs.NumberingLemmas.{number_few}
-use Rattle.bq_jobs.proofs.tubes.NumberedTubes.number_of.Goals as goal
+use Rattle.bq_jobs.proofs.tubes.NumberedTubes.search.Goals as goal
 
-pub returns-in-Some-clause-few : goal.returns-in-Some-clause-few
-returns-in-Some-clause-few c =
+pub of-requires : goal.of-requires
+of-requires c =
     let k : Numbering = record { numbers = c.self.inside.numbers.entries; names = c.self.inside.slots.items } in
     number_few k c.args.name.now (Some c.in-Some.number.now) c.self.invariant
     (sym c.peek.ensures.value ∙ ap (option_map (λ (n : Bor ℕ). n.now)) c.in-Some.is)

@@ -1,0 +1,332 @@
+-- A value for each registered tube: what a look-up and a change of it are.
+use Rattle.std.proofs.Common.{◌≡◌, ◌≤◌, ◌<◌, ℕ, zero, suc, Bool, true, false, cond, List, [], ◌∷◌, ◌++◌, length, get_or, set}
+use Rattle.std.proofs.Common.{Option, Some, None, arith, refl, sym, ap, ◌∙◌, subst, inl, inr}
+use Rattle.std.specs.Prelude.{◌==◌, slice_get, option_and_then}
+use Rattle.std.specs.Borrow.{Bor}
+use Rattle.std.specs.BTreeMap.{is_at, insert_entry}
+use Rattle.std.specs.Cmp.Lexicographic.{bytes_decides, slice_cmp, texts_ties}
+use Rattle.std.specs.List.{AllByRecursion}
+use Rattle.std.specs.List.Sorted.{IsStrictlySortedBy}
+use Rattle.std.specs.Map.{keys_of, lookup, remove_entry, set_value}
+use Rattle.std.specs.Option.{option_map}
+use Rattle.std.specs.Ordering.{is_eq, match_ordering, nat_cmp}
+use Rattle.std.specs.Slice.{IsItemAt}
+use Rattle.std.specs.declared.cmp.Ordering.{Ordering}
+use Rattle.std.specs.declared.cmp.Ordering.TheVariants.{Less, Equal, Greater}
+use Rattle.std.proofs.lemmas.Bool.{cases_Bool, eqb-true}
+use Rattle.std.proofs.lemmas.Option.{slice_get_past, slice_get_read}
+use Rattle.std.proofs.lemmas.Bool.Decides.{nat_tests}
+use Rattle.bq_index.specs.Edited.{edited_at, edited_if}
+use Rattle.bq_index.specs.Order.{InOrder}
+use Rattle.bq_jobs.specs.Numbering.{IsPaired, Numbering}
+use Rattle.bq_jobs.specs.Numbering.{name_of, put_at}
+use Rattle.bq_jobs.specs.Table.{changed_at, entries_at, put_value, with_value}
+use Rattle.bq_jobs.proofs.NumberingLemmas.{has_slot, tied_names}
+
+-- each number has a value
+abbrev pub AreValued : ℕ → List (List ℕ × ℕ) → Type 0
+AreValued many ps = AllByRecursion (λ (p : List ℕ × ℕ). p.1 < many) ps
+
+-- no tube has the number n
+abbrev pub Lack : ℕ → List (List ℕ × ℕ) → Type 0
+Lack n ps = AllByRecursion (λ (p : List ℕ × ℕ). (n == p.1) ≡ false) ps
+
+-- no two tubes have the same number
+abbrev pub AreApart : List (List ℕ × ℕ) → Type 0
+AreApart [] = Unit {0}
+AreApart (p ∷ ps) = Lack p.1 ps × AreApart ps
+
+-- each tube is the one that its number names
+abbrev pub AreThere : List (Option (List ℕ)) → List (List ℕ × ℕ) → Type 0
+AreThere names ps = AllByRecursion (λ (p : List ℕ × ℕ). get_or names p.1 None ≡ Some p.0) ps
+
+some_same : {A : Type 0} (a b : A) → Some a ≡ Some b → a ≡ b
+some_same a b e = cc
+
+tie : (q : List ℕ) → is_eq (slice_cmp nat_cmp q q) ≡ true
+tie q = sym (texts_ties q q) ∙ (bytes_decides q q).1 refl
+
+lower : (m n : ℕ) → (suc m == suc n) ≡ false → (m == n) ≡ false
+lower m n e = grind (arith, nat_tests)
+
+flip : (m n : ℕ) → (m == n) ≡ false → (n == m) ≡ false
+flip m n e = grind (arith, nat_tests)
+
+differs : (m n : ℕ) → (m ≡ n → ⊥) → (m == n) ≡ false
+differs m n d = elim (cases_Bool (m == n)) [
+  | inl e ↦ absurd (d (eqb-true m n e))
+  | inr e ↦ e
+]
+
+-- a key of which all of ps are above is none of theirs
+above_none : (x q : List ℕ) (ps : List (List ℕ × ℕ)) → AllByRecursion (λ y. slice_cmp nat_cmp x y ≡ Less) (keys_of ps)
+    → is_eq (slice_cmp nat_cmp q x) ≡ true → lookup (is_at (slice_cmp nat_cmp q)) ps ≡ None
+above_none x q [] a t = refl
+above_none x q (p ∷ ps) a t =
+    let is : q ≡ x = tied_names q x t in
+    let less : slice_cmp nat_cmp q p.0 ≡ Less = ap (λ y. slice_cmp nat_cmp y p.0) is ∙ a.0 in
+    ap (λ o. cond (is_eq o) (Some p.1) (lookup (is_at (slice_cmp nat_cmp q)) ps)) less ∙ above_none x q ps a.1 t
+
+module _ (names : List (Option (List ℕ))) where
+  there_by : (ps : List (List ℕ × ℕ)) → InOrder (slice_cmp nat_cmp) ps
+      → ((q : List ℕ) (n : ℕ) → lookup (is_at (slice_cmp nat_cmp q)) ps ≡ Some n → get_or names n None ≡ Some q) → AreThere names ps
+  unfolding IsStrictlySortedBy
+  there_by [] order there = tt
+  there_by (p ∷ ps) order there = (
+    there p.0 p.1 (ap (λ b. cond b (Some p.1) (lookup (is_at (slice_cmp nat_cmp p.0)) ps)) (tie p.0)),
+    there_by ps order.1 (λ q n own. elim (cases_Bool (is_eq (slice_cmp nat_cmp q p.0))) [
+      | inl t ↦ absurd (let none = above_none p.0 q ps order.0 t in cc)
+      | inr t ↦ there q n (ap (λ b. cond b (Some p.1) (lookup (is_at (slice_cmp nat_cmp q)) ps)) t ∙ own)
+    ]),
+  )
+
+  valued_by : (ps : List (List ℕ × ℕ)) → AreThere names ps → AreValued (length names) ps
+  valued_by [] there = tt
+  valued_by (p ∷ ps) there =
+      (has_slot (record { numbers = []; names = names }) p.1 p.0 there.0, valued_by ps there.1)
+
+  -- a number that has no name belongs to no tube
+  lacks_by : (n : ℕ) → get_or names n None ≡ None → (ps : List (List ℕ × ℕ)) → AreThere names ps → Lack n ps
+  lacks_by n free [] there = tt
+  lacks_by n free (p ∷ ps) there = (
+    differs n p.1 (λ e. let same : Some p.0 ≡ None = sym there.0 ∙ ap (λ i. get_or names i None) (sym e) ∙ free in absurd cc),
+    lacks_by n free ps there.1,
+  )
+
+  apart_from : (q : List ℕ) (n : ℕ) → get_or names n None ≡ Some q → (ps : List (List ℕ × ℕ)) → AreThere names ps
+      → AllByRecursion (λ y. slice_cmp nat_cmp q y ≡ Less) (keys_of ps) → Lack n ps
+  apart_from q n its [] there above = tt
+  apart_from q n its (p ∷ ps) there above = (
+    differs n p.1 (λ e.
+        let same : q ≡ p.0 = some_same q p.0 (sym its ∙ ap (λ i. get_or names i None) e ∙ there.0) in
+        let equal : is_eq (slice_cmp nat_cmp q p.0) ≡ true = ap (λ y. is_eq (slice_cmp nat_cmp q y)) (sym same) ∙ tie q in
+        let less = ap is_eq above.0 in
+        absurd cc),
+    apart_from q n its ps there.1 above.1,
+  )
+
+  apart_by : (ps : List (List ℕ × ℕ)) → InOrder (slice_cmp nat_cmp) ps → AreThere names ps → AreApart ps
+  unfolding IsStrictlySortedBy
+  apart_by [] order there = tt
+  apart_by (p ∷ ps) order there = (apart_from p.0 p.1 there.0 ps there.1 order.0, apart_by ps order.1 there.1)
+
+module _ (k : Numbering) (h : IsPaired k) where
+  are_there : AreThere k.names k.numbers
+  are_there = there_by k.names k.numbers h.by_name h.there
+
+  pub are_valued : AreValued (length k.names) k.numbers
+  are_valued = valued_by k.names k.numbers are_there
+
+  pub are_apart : AreApart k.numbers
+  are_apart = apart_by k.names k.numbers h.by_name are_there
+
+  pub are_lacking : (n : ℕ) → name_of n k ≡ None → Lack n k.numbers
+  are_lacking n free = lacks_by k.names n free k.numbers are_there
+
+-- what a test finds is none that all lack
+found_lacks : (test : List ℕ → Bool) (m n : ℕ) (ps : List (List ℕ × ℕ)) → Lack m ps → lookup test ps ≡ Some n → (m == n) ≡ false
+found_lacks test m n [] lack own = absurd cc
+found_lacks test m n (p ∷ ps) lack own = elim (cases_Bool (test p.0)) [
+  | inl t ↦ let same : p.1 ≡ n = some_same p.1 n (rw t at own) in ap (λ i. m == i) (sym same) ∙ lack.0
+  | inr t ↦ found_lacks test m n ps lack.1 (rw t at own)
+]
+
+module _ {V : Type 0} where
+  -- a number below the length has a value
+  pub has_value : (vs : List V) (n : ℕ) → n < length vs → (v : V) × (slice_get vs n ≡ Some v)
+  has_value [] n less = absurd (omega (arith, less))
+  has_value (v ∷ vs) zero less = (v, refl)
+  has_value (v ∷ vs) (suc n) less = has_value vs n (omega (arith, less))
+
+  -- a test finds the value at the number that it finds
+  pub looked_up : (test : List ℕ → Bool) (vs : List V) (ps : List (List ℕ × ℕ)) → AreValued (length vs) ps
+      → lookup test (entries_at ps vs) ≡ option_and_then (slice_get vs) (lookup test ps)
+  looked_up test vs [] all = refl
+  looked_up test vs (p ∷ ps) all =
+      let own = has_value vs p.1 all.0 in
+      ap (λ o. lookup test (with_value p.0 o (entries_at ps vs))) own.1
+      ∙ ap (λ z. cond (test p.0) (Some own.0) z) (looked_up test vs ps all.1)
+      ∙ by_test own.0 own.1 (test p.0)
+    where
+      by_test : (v : V) → slice_get vs p.1 ≡ Some v → (b : Bool)
+          → cond b (Some v) (option_and_then (slice_get vs) (lookup test ps))
+          ≡ option_and_then (slice_get vs) (cond b (Some p.1) (lookup test ps))
+      by_test v e true = sym e
+      by_test v e false = refl
+
+  pub same_keys : (vs : List V) (ps : List (List ℕ × ℕ)) → AreValued (length vs) ps → keys_of (entries_at ps vs) ≡ keys_of ps
+  same_keys vs [] all = refl
+  same_keys vs (p ∷ ps) all =
+      let own = has_value vs p.1 all.0 in
+      ap (λ o. keys_of (with_value p.0 o (entries_at ps vs))) own.1 ∙ ap (λ ks. p.0 ∷ ks) (same_keys vs ps all.1)
+
+  -- the entries are the same by two lists of values that have the same at the numbers of the tubes
+  pub agreeing : (vs ws : List V) (ps : List (List ℕ × ℕ))
+      → AllByRecursion (λ (p : List ℕ × ℕ). slice_get ws p.1 ≡ slice_get vs p.1) ps → entries_at ps ws ≡ entries_at ps vs
+  agreeing vs ws [] all = refl
+  agreeing vs ws (p ∷ ps) all =
+      ap (λ o. with_value p.0 o (entries_at ps ws)) all.0 ∙ ap (λ es. with_value p.0 (slice_get vs p.1) es) (agreeing vs ws ps all.1)
+
+  agree_by : (vs ws : List V) (n : ℕ) → ((m : ℕ) → (n == m) ≡ false → slice_get ws m ≡ slice_get vs m) → (ps : List (List ℕ × ℕ))
+      → Lack n ps → AllByRecursion (λ (p : List ℕ × ℕ). slice_get ws p.1 ≡ slice_get vs p.1) ps
+  agree_by vs ws n same [] lack = tt
+  agree_by vs ws n same (p ∷ ps) lack = (same p.1 lack.0, agree_by vs ws n same ps lack.1)
+
+  -- a value that is changed, and the others
+  changed_here : (f : V → V) (vs : List V) (n : ℕ) → slice_get (changed_at f n vs) n ≡ option_map f (slice_get vs n)
+  changed_here f [] n = refl
+  changed_here f (v ∷ vs) zero = refl
+  changed_here f (v ∷ vs) (suc n) = changed_here f vs n
+
+  changed_other : (f : V → V) (vs : List V) (n m : ℕ) → (n == m) ≡ false → slice_get (changed_at f n vs) m ≡ slice_get vs m
+  changed_other f [] n m e = refl
+  changed_other f (v ∷ vs) zero zero e = absurd (let t : (0 == 0) ≡ true = grind (arith, nat_tests) in cc)
+  changed_other f (v ∷ vs) zero (suc m) e = refl
+  changed_other f (v ∷ vs) (suc n) zero e = refl
+  changed_other f (v ∷ vs) (suc n) (suc m) e = changed_other f vs n m (lower n m e)
+
+  pub changed_length : (f : V → V) (vs : List V) (n : ℕ) → length (changed_at f n vs) ≡ length vs
+  changed_length f [] n = refl
+  changed_length f (v ∷ vs) zero = refl
+  changed_length f (v ∷ vs) (suc n) = ap suc (changed_length f vs n)
+
+  -- a value that is read and written back is changed
+  pub changed_by : (f : V → V) (vs : List V) (n : ℕ) (v : V) → n < length vs → v ≡ get_or vs n v → set vs n (f v) ≡ changed_at f n vs
+  changed_by f [] n v less its = absurd (omega (arith, less))
+  changed_by f (w ∷ vs) zero v less its = ap (λ u. f u ∷ vs) its
+  changed_by f (w ∷ vs) (suc n) v less its = ap (λ us. w ∷ us) (changed_by f vs n v (omega (arith, less)) its)
+
+  -- a value that is put, and the others
+  put_here : (vs : List V) (n : ℕ) (w : V) → n ≤ length vs → slice_get (put_value vs n w) n ≡ Some w
+  put_here [] zero w near = refl
+  put_here [] (suc n) w near = absurd (omega (arith, near))
+  put_here (v ∷ vs) zero w near = refl
+  put_here (v ∷ vs) (suc n) w near = put_here vs n w (omega (arith, near))
+
+  put_others : (vs : List V) (n : ℕ) (w : V) → n ≤ length vs → (m : ℕ) → (n == m) ≡ false → slice_get (put_value vs n w) m ≡ slice_get vs m
+  put_others [] zero w near zero e = absurd (let t : (0 == 0) ≡ true = grind (arith, nat_tests) in cc)
+  put_others [] zero w near (suc m) e = refl
+  put_others [] (suc n) w near m e = absurd (omega (arith, near))
+  put_others (v ∷ vs) zero w near zero e = absurd (let t : (0 == 0) ≡ true = grind (arith, nat_tests) in cc)
+  put_others (v ∷ vs) zero w near (suc m) e = refl
+  put_others (v ∷ vs) (suc n) w near zero e = refl
+  put_others (v ∷ vs) (suc n) w near (suc m) e = put_others vs n w (omega (arith, near)) m (lower n m e)
+
+  pub put_is_set_value : (vs : List V) (n : ℕ) (w : V) → n < length vs → set vs n w ≡ put_value vs n w
+  put_is_set_value [] n w less = absurd (omega (arith, less))
+  put_is_set_value (v ∷ vs) zero w less = refl
+  put_is_set_value (v ∷ vs) (suc n) w less = ap (λ us. v ∷ us) (put_is_set_value vs n w (omega (arith, less)))
+
+  pub put_is_push : (vs : List V) (w : V) → vs ++ w ∷ [] ≡ put_value vs (length vs) w
+  put_is_push [] w = refl
+  put_is_push (v ∷ vs) w = ap (λ us. v ∷ us) (put_is_push vs w)
+
+  -- as many values as slots
+  pub put_as_many : (vs : List V) (w : V) (names : List (Option (List ℕ))) (x : Option (List ℕ)) (n : ℕ) → length vs ≡ length names
+      → n ≤ length names → length (put_value vs n w) ≡ length (put_at names n x)
+  put_as_many [] w [] x zero many near = refl
+  put_as_many [] w [] x (suc n) many near = absurd (omega (arith, near))
+  put_as_many [] w (y ∷ names) x n many near = absurd (omega (arith, many))
+  put_as_many (v ∷ vs) w [] x n many near = absurd (omega (arith, many))
+  put_as_many (v ∷ vs) w (y ∷ names) x zero many near = many
+  put_as_many (v ∷ vs) w (y ∷ names) x (suc n) many near = ap suc (put_as_many vs w names x n (omega (arith, many)) (omega (arith, near)))
+
+  module _ (test : List ℕ → Bool) (f : V → V) (vs : List V) where
+    pub edit_none : (ps : List (List ℕ × ℕ)) → AreValued (length vs) ps → lookup test ps ≡ None
+        → edited_at test f (entries_at ps vs) ≡ entries_at ps vs
+    edit_none ps all none = ap (edited_if f (set_value test (entries_at ps vs)) (entries_at ps vs))
+        (looked_up test vs ps all ∙ ap (option_and_then (slice_get vs)) none)
+
+    edit_set : (ps : List (List ℕ × ℕ)) (n : ℕ) (v : V) → AreValued (length vs) ps → AreApart ps → lookup test ps ≡ Some n
+        → slice_get vs n ≡ Some v → entries_at ps (changed_at f n vs) ≡ set_value test (entries_at ps vs) (f v)
+    edit_set [] n v all apart own its = absurd cc
+    edit_set (p ∷ ps) n v all apart own its = elim (cases_Bool (test p.0)) [
+      | inl t ↦
+          let same : p.1 ≡ n = some_same p.1 n (rw t at own) in
+          let here : slice_get vs p.1 ≡ Some v = ap (slice_get vs) same ∙ its in
+          let new : slice_get (changed_at f n vs) p.1 ≡ Some (f v) =
+          ap (slice_get (changed_at f n vs)) same ∙ changed_here f vs n ∙ ap (option_map f) its in
+          let rest : entries_at ps (changed_at f n vs) ≡ entries_at ps vs =
+          agreeing vs (changed_at f n vs) ps (agree_by vs (changed_at f n vs) n (changed_other f vs n) ps (subst (λ i. Lack i ps) same apart.0)) in
+          ap (λ o. with_value p.0 o (entries_at ps (changed_at f n vs))) new
+          ∙ ap (λ es. (p.0, f v) ∷ es) rest
+          ∙ sym (ap (λ o. set_value test (with_value p.0 o (entries_at ps vs)) (f v)) here
+          ∙ ap (λ b. cond b ((p.0, f v) ∷ entries_at ps vs) ((p.0, v) ∷ set_value test (entries_at ps vs) (f v))) t)
+      | inr t ↦
+          let tail : lookup test ps ≡ Some n = rw t at own in
+          let other : (n == p.1) ≡ false = flip p.1 n (found_lacks test p.1 n ps apart.0 tail) in
+          let own_value = has_value vs p.1 all.0 in
+          ap (λ o. with_value p.0 o (entries_at ps (changed_at f n vs))) (changed_other f vs n p.1 other ∙ own_value.1)
+          ∙ ap (λ es. (p.0, own_value.0) ∷ es) (edit_set ps n v all.1 apart.1 tail its)
+          ∙ sym (ap (λ o. set_value test (with_value p.0 o (entries_at ps vs)) (f v)) own_value.1
+          ∙ ap (λ b. cond b ((p.0, f v) ∷ entries_at ps vs) ((p.0, own_value.0) ∷ set_value test (entries_at ps vs) (f v))) t)
+    ]
+
+    pub edit_some : (ps : List (List ℕ × ℕ)) (n : ℕ) → AreValued (length vs) ps → AreApart ps → lookup test ps ≡ Some n
+        → n < length vs → entries_at ps (changed_at f n vs) ≡ edited_at test f (entries_at ps vs)
+    edit_some ps n all apart own less =
+        let its = has_value vs n less in
+        edit_set ps n its.0 all apart own its.1
+        ∙ sym (ap (edited_if f (set_value test (entries_at ps vs)) (entries_at ps vs))
+        (looked_up test vs ps all ∙ ap (option_and_then (slice_get vs)) own ∙ its.1))
+
+  -- a tube that is added with its value
+  module _ (name : List ℕ) (n : ℕ) (w : V) (vs : List V) (its : slice_get vs n ≡ Some w) where
+    insert_cases : (p : List ℕ × ℕ) (v : V) (ps : List (List ℕ × ℕ)) → slice_get vs p.1 ≡ Some v → (o : Ordering)
+        → entries_at (insert_entry (slice_cmp nat_cmp) ps name n) vs ≡ insert_entry (slice_cmp nat_cmp) (entries_at ps vs) name w
+        → entries_at (match_ordering o ((name, n) ∷ p ∷ ps) ((p.0, n) ∷ ps) (p ∷ insert_entry (slice_cmp nat_cmp) ps name n)) vs
+        ≡ match_ordering o ((name, w) ∷ (p.0, v) ∷ entries_at ps vs) ((p.0, w) ∷ entries_at ps vs)
+        ((p.0, v) ∷ insert_entry (slice_cmp nat_cmp) (entries_at ps vs) name w)
+    insert_cases p v ps own Less i =
+        ap (λ o. with_value name o (with_value p.0 (slice_get vs p.1) (entries_at ps vs))) its
+        ∙ ap (λ o. (name, w) ∷ with_value p.0 o (entries_at ps vs)) own
+    insert_cases p v ps own Equal i = ap (λ o. with_value p.0 o (entries_at ps vs)) its
+    insert_cases p v ps own Greater i =
+        ap (λ o. with_value p.0 o (entries_at (insert_entry (slice_cmp nat_cmp) ps name n) vs)) own ∙ ap (λ es. (p.0, v) ∷ es) i
+
+    inserted_entries : (ps : List (List ℕ × ℕ)) → AreValued (length vs) ps
+        → entries_at (insert_entry (slice_cmp nat_cmp) ps name n) vs ≡ insert_entry (slice_cmp nat_cmp) (entries_at ps vs) name w
+    inserted_entries [] all = ap (λ o. with_value name o []) its
+    inserted_entries (p ∷ ps) all =
+        let own = has_value vs p.1 all.0 in
+        insert_cases p own.0 ps own.1 (slice_cmp nat_cmp name p.0) (inserted_entries ps all.1)
+        ∙ sym (ap (λ o. insert_entry (slice_cmp nat_cmp) (with_value p.0 o (entries_at ps vs)) name w) own.1)
+
+  pub inserted_at : (name : List ℕ) (n : ℕ) (w : V) (vs : List V) (ps : List (List ℕ × ℕ)) → n ≤ length vs → AreValued (length vs) ps
+      → Lack n ps → entries_at (insert_entry (slice_cmp nat_cmp) ps name n) (put_value vs n w)
+      ≡ insert_entry (slice_cmp nat_cmp) (entries_at ps vs) name w
+  inserted_at name n w vs ps near all lack =
+      inserted_entries name n w (put_value vs n w) (put_here vs n w near) ps (more_valued ps all)
+      ∙ ap (λ es. insert_entry (slice_cmp nat_cmp) es name w)
+      (agreeing vs (put_value vs n w) ps (agree_by vs (put_value vs n w) n (put_others vs n w near) ps lack))
+    where
+      longer : (us : List V) (m : ℕ) → length us ≤ length (put_value us m w)
+      longer [] m = omega arith
+      longer (u ∷ us) zero = omega arith
+      longer (u ∷ us) (suc m) = let l = longer us m in omega (arith, l)
+
+      more_valued : (qs : List (List ℕ × ℕ)) → AreValued (length vs) qs → AreValued (length (put_value vs n w)) qs
+      more_valued [] a = tt
+      more_valued (q ∷ qs) a = (let l = longer vs n in omega (arith, l, a.0), more_valued qs a.1)
+
+  -- a tube that is removed
+  pub removed_entries : (test : List ℕ → Bool) (vs : List V) (ps : List (List ℕ × ℕ)) → AreValued (length vs) ps
+      → entries_at (remove_entry test ps) vs ≡ remove_entry test (entries_at ps vs)
+  removed_entries test vs [] all = refl
+  removed_entries test vs (p ∷ ps) all =
+      let own = has_value vs p.1 all.0 in
+      elim (cases_Bool (test p.0)) [
+        | inl t ↦ ap (λ b. entries_at (cond b ps (p ∷ remove_entry test ps)) vs) t
+            ∙ sym (ap (λ o. remove_entry test (with_value p.0 o (entries_at ps vs))) own.1
+            ∙ ap (λ b. cond b (entries_at ps vs) ((p.0, own.0) ∷ remove_entry test (entries_at ps vs))) t)
+        | inr t ↦ ap (λ b. entries_at (cond b ps (p ∷ remove_entry test ps)) vs) t
+            ∙ ap (λ o. with_value p.0 o (entries_at (remove_entry test ps) vs)) own.1
+            ∙ ap (λ es. (p.0, own.0) ∷ es) (removed_entries test vs ps all.1)
+            ∙ sym (ap (λ o. remove_entry test (with_value p.0 o (entries_at ps vs))) own.1
+            ∙ ap (λ b. cond b (entries_at ps vs) ((p.0, own.0) ∷ remove_entry test (entries_at ps vs))) t)
+      ]
+
+  -- an element that a slice lends
+  pub item_is : (xs : List V) (i : ℕ) (r : Option (Bor V)) → IsItemAt xs i r → option_map (λ (b : Bor V). b.now) r ≡ slice_get xs i
+  item_is xs i None h = sym (slice_get_past xs i h.3)
+  item_is xs i (Some x) h = sym (slice_get_read xs (length xs) i x.now refl h.3.0 h.1)

@@ -1,0 +1,50 @@
+-- A value for each registered tube.
+use Rattle.std.specs.Borrow.{Bor}
+use Rattle.std.specs.Option.{option_map}
+use Rattle.std.specs.Prelude.{ℕ, zero, suc, Bool, false, List, [], ◌∷◌, ◌++◌, Option, None, Some, slice_get}
+
+-- the values in the order of the names of their tubes, and the number of each tube by its name
+pub record Tabled (V : Type 0) : Type 0 where
+  pub entries : List (List ℕ × V)
+  pub numbers : List (List ℕ × ℕ)
+
+module _ {V : Type 0} where
+  -- the entries with one before them, if there is a value for it
+  abbrev pub with_value : List ℕ → Option V → List (List ℕ × V) → List (List ℕ × V)
+  with_value name None es = es
+  with_value name (Some v) es = (name, v) ∷ es
+
+  -- the tubes with the values at their numbers
+  abbrev pub entries_at : List (List ℕ × ℕ) → List V → List (List ℕ × V)
+  entries_at [] vs = []
+  entries_at (p ∷ ps) vs = with_value p.0 (slice_get vs p.1) (entries_at ps vs)
+
+  -- the values with the one at number n changed by f
+  abbrev pub changed_at : (V → V) → ℕ → List V → List V
+  changed_at f n [] = []
+  changed_at f zero (v ∷ vs) = f v ∷ vs
+  changed_at f (suc n) (v ∷ vs) = v ∷ changed_at f n vs
+
+  -- the values with w at number n, which is one of theirs or the next one
+  abbrev pub put_value : List V → ℕ → V → List V
+  put_value [] n w = w ∷ []
+  put_value (v ∷ vs) zero w = w ∷ vs
+  put_value (v ∷ vs) (suc n) w = v ∷ put_value vs n w
+
+  -- a visitor's state after it saw a tube with this value, if there is one
+  abbrev pub visited : {T : Type 0} → (T → List ℕ → V → T) → T → List ℕ → Option V → T
+  visited after t name None = t
+  visited after t name (Some v) = after t name v
+
+  -- whether there is a value and it passes the test
+  abbrev pub passes_if : (V → Bool) → Option V → Bool
+  passes_if p None = false
+  passes_if p (Some v) = p v
+
+  -- a tube with the value at its number
+  abbrev pub valued_in : List V → List ℕ × ℕ → Option (List ℕ × V)
+  valued_in vs p = option_map (λ v. (p.0, v)) (slice_get vs p.1)
+
+  -- a list of entries with one more tube, if it has a value
+  abbrev pub listed_after : List V → List (List ℕ × V) → Bor (List ℕ) × Bor ℕ → List (List ℕ × V)
+  listed_after vs es p = es ++ with_value p.0.now (slice_get vs p.1.now) []

@@ -1,0 +1,328 @@
+//! A value for each registered tube.
+ghost use Rattle.std.specs.Prelude.{◌≡◌, ◌+◌, ◌≤◌, ◌<◌, ◌^◌, [], None, Some, find, fold, length, map, option_and_then, slice_get};
+ghost use Rattle.std.specs.Prelude.{IfOk, OnErr, OnOk, vec_len};
+ghost use Rattle.std.specs.BTreeMap.{is_at, insert_entry};
+ghost use Rattle.std.specs.Cmp.Lexicographic.{slice_cmp};
+ghost use Rattle.std.specs.Map.{keys_of, lookup, remove_entry};
+ghost use Rattle.std.specs.Option.{option_map};
+ghost use Rattle.std.specs.Ordering.{nat_cmp};
+ghost use Rattle.std.specs.Vec.{vec_capacity};
+ghost use Rattle.bq_index.specs.Edited.{edited_at};
+ghost use Rattle.bq_index.specs.Order.{InOrder};
+ghost use Rattle.bq_index.specs.Walk.{entry_of, passes_by, passes_from, seen_by};
+ghost use Rattle.bq_jobs.specs.Names.{number_in};
+ghost use Rattle.bq_jobs.specs.Numbering.{Extends};
+ghost use Rattle.bq_jobs.specs.Table.{changed_at, listed_after, passes_if, put_value, valued_in, visited};
+
+use crate::tube::Tube;
+use crate::tubes::{NumberedTubes, TubeNumber};
+use bq_index::{Edit, Test, Visitor};
+use bq_job::{NoMemory, TubeName};
+use std::alloc::Global;
+use std::marker::Model;
+
+/// A value for each registered tube, found by the name of the tube or by its number. Code that
+/// knows the number of a tube reads and changes its value without a search.
+#[derive(Drop)]
+pub struct TubeTable<V: Drop> {
+    tubes: NumberedTubes,
+    // The value of the tube with each number. At a free number it is what the last tube left, and
+    // means nothing.
+    values: Vec<V, Global>,
+}
+
+impl<V: Drop> Model for TubeTable<V> {
+    ghost use Rattle.std.specs.Prelude.{◌≡◌, length};
+    ghost use Rattle.bq_jobs.specs.Numbering.{IsPaired};
+    ghost use Rattle.bq_jobs.specs.Table.{Tabled, entries_at};
+
+    ghost Value = { Tabled V };
+
+    ghost view = { λ t. record { entries = entries_at t.tubes.numbers t.values.items; numbers = t.tubes.numbers } };
+
+    ghost invariant = { λ t. IsPaired t.tubes × (length t.values.items ≡ length t.tubes.names) };
+}
+
+// Returns the value at a number, if there is one.
+fn value_at<V: Drop>(values: &[V], number: u32) -> Option<&V>
+    ensures { option_map (λ v. v.now) result ≡ slice_get values.now number }
+{
+    values.get(number as usize)
+}
+
+// Changes the value at a number in place. Returns what the change returns.
+fn edit_at<V: Drop, T: Drop, E: Edit<V, T>>(values: &mut Vec<V, Global>, number: u32, edit: &E) -> T
+    requires { number < length values.old.items }
+    ensures told { Some result ≡ option_map (E.told edit.now) (slice_get values.old.items number) }
+    ensures items { values.new.items ≡ changed_at (E.edited edit.now) number values.old.items }
+{
+    edit.edit(&mut values[number as usize])
+}
+
+// Replaces the value at a number, or appends it if the number is the next one.
+fn put<V: Drop>(values: &mut Vec<V, Global>, number: u32, value: V)
+    requires room { vec_len values.old < vec_capacity values.old }
+    requires near { number ≤ length values.old.items }
+    ensures { values.new.items ≡ put_value values.old.items number value }
+{
+    let place = number as usize;
+    if place < values.len() {
+        values[place] = value;
+    } else {
+        values.push_reserved(value);
+    }
+}
+
+// A visitor of tubes and their numbers. It shows each tube and its value to another visitor.
+struct Shown<'v, V, T> {
+    values: &'v [V],
+    visitor: T,
+}
+
+impl<'v, V: Drop, T: Visitor<TubeName, V>> Visitor<TubeName, u32> for Shown<'v, V, T> {
+    ghost after = { λ s name n. record s { visitor = visited T.after s.visitor name (slice_get s.values.now n) } };
+
+    fn visit(&mut self, name: &TubeName, number: &u32) {
+        match value_at(self.values, *number) {
+            None => {}
+            Some(value) => self.visitor.visit(name, value),
+        }
+    }
+}
+
+// A test of tubes and their numbers: a tube passes if its value passes another test.
+#[derive(Drop)]
+struct Passing<'v, 't, V, T> {
+    values: &'v [V],
+    test: &'t T,
+}
+
+impl<'v, 't, V: Drop, T: Test<TubeName, V>> Test<TubeName, u32> for Passing<'v, 't, V, T> {
+    ghost passed = { λ p name n. passes_if (T.passed p.test.now name) (slice_get p.values.now n) };
+
+    fn passes(&self, name: &TubeName, number: &u32) -> bool {
+        match value_at(self.values, *number) {
+            None => false,
+            Some(value) => self.test.passes(name, value),
+        }
+    }
+}
+
+// Returns a tube with the value at its number.
+fn valued<'a, V: Drop>(
+    values: &'a [V],
+    found: Option<(&'a TubeName, &'a u32)>,
+) -> Option<(&'a TubeName, &'a V)>
+    ensures { option_map entry_of result
+        ≡ option_and_then (valued_in values.now) (option_map entry_of found.entry) }
+{
+    let (name, number) = found?;
+    match value_at(values, *number) {
+        None => None,
+        Some(value) => Some((name, value)),
+    }
+}
+
+// Appends a tube with the value at its number to a list that has room for it.
+fn list_one<'a, V: Drop>(
+    all: &mut Vec<(&'a TubeName, &'a V), Global>,
+    entry: (&'a TubeName, &'a u32),
+    values: &'a [V],
+)
+    requires { vec_len all.old < vec_capacity all.old }
+    ensures items { map entry_of all.new.items ≡ listed_after values.now (map entry_of all.old.items) entry.entry }
+    ensures len { vec_len all.new ≤ vec_len all.old + 1 }
+    ensures capacity { vec_capacity all.new ≡ vec_capacity all.old }
+{
+    let (name, number) = entry;
+    if let Some(value) = value_at(values, *number) {
+        all.push_reserved((name, value));
+    }
+}
+
+// Returns tubes with the values at their numbers. The memory of the list is allocated before it is
+// filled.
+fn list_values<'a, V: Drop>(
+    alloc: Global,
+    listed: &[(&'a TubeName, &'a u32)],
+    values: &'a [V],
+) -> Result<Vec<(&'a TubeName, &'a V), Global>, NoMemory>
+    ensures { IfOk result (λ all. map entry_of all.items ≡ fold (listed_after values.now) [] listed.now) }
+{
+    let Ok(mut all) = Vec::with_capacity(alloc, listed.len()) else {
+        return Err(NoMemory);
+    };
+    for i in 0..listed.len() {
+        list_one(&mut all, listed[i], values);
+    }
+    Ok(all)
+}
+
+impl<V: Drop> TubeTable<V> {
+    /// Returns a table with no tubes. It allocates nothing.
+    pub fn new(alloc: Global) -> Self
+        ensures { result ≡ record { entries = []; numbers = [] } }
+    {
+        TubeTable {
+            tubes: NumberedTubes::new(alloc),
+            values: Vec::new(alloc),
+        }
+    }
+
+    /// Returns the number of tubes. The contract also states that their names ascend.
+    pub fn len(&self) -> usize
+        ensures len { result ≡ length self.now.entries }
+        ensures ordered { InOrder (slice_cmp nat_cmp) self.now.entries }
+    {
+        self.tubes.by_name().len()
+    }
+
+    /// Returns the tubes and their numbers.
+    pub fn tubes(&self) -> &NumberedTubes
+        ensures numbers { result.now.numbers ≡ self.now.numbers }
+        ensures keys { keys_of self.now.entries ≡ keys_of self.now.numbers }
+    {
+        &self.tubes
+    }
+
+    /// Returns the number of a tube, if it is registered. If the tube has the number `hint`, no
+    /// search is needed.
+    pub fn number_of(&self, name: &TubeName, hint: TubeNumber) -> Option<TubeNumber>
+        ensures number { option_map number_in result
+            ≡ lookup (is_at (slice_cmp nat_cmp name.now)) self.now.numbers }
+    {
+        self.tubes.number_of(name, hint)
+    }
+
+    /// Returns the value of a tube, if it is registered. If the tube still has its number, no
+    /// search is needed.
+    pub fn get(&self, tube: &Tube) -> Option<&V>
+        ensures value { option_map (λ v. v.now) result
+            ≡ lookup (is_at (slice_cmp nat_cmp tube.now)) self.now.entries }
+        ensures ordered { InOrder (slice_cmp nat_cmp) self.now.entries }
+    {
+        let number = self.tubes.number_of(tube.name(), tube.number())?;
+        value_at(self.values.as_slice(), number.get())
+    }
+
+    /// Returns the value of the tube with this name, if it is registered.
+    pub fn find(&self, name: &TubeName) -> Option<&V>
+        ensures value { option_map (λ v. v.now) result
+            ≡ lookup (is_at (slice_cmp nat_cmp name.now)) self.now.entries }
+        ensures ordered { InOrder (slice_cmp nat_cmp) self.now.entries }
+    {
+        let number = self.tubes.search(name)?;
+        value_at(self.values.as_slice(), number.get())
+    }
+
+    /// Changes the value of a tube in place. Returns what the change returns, or `None` if the tube
+    /// is not registered. If the tube still has its number, no search is needed.
+    pub fn edit<T: Drop, E: Edit<V, T>>(&mut self, tube: &Tube, edit: &E) -> Option<T>
+        ensures told { result ≡ option_map (E.told edit.now)
+            (lookup (is_at (slice_cmp nat_cmp tube.now)) self.old.entries) }
+        ensures entries { self.new.entries
+            ≡ edited_at (is_at (slice_cmp nat_cmp tube.now)) (E.edited edit.now) self.old.entries }
+        ensures ordered { InOrder (slice_cmp nat_cmp) self.old.entries }
+        ensures numbers { self.new.numbers ≡ self.old.numbers }
+    {
+        let number = self.tubes.number_of(tube.name(), tube.number())?;
+        Some(edit_at(&mut self.values, number.get(), edit))
+    }
+
+    /// Registers a tube that is not registered, with its value. Returns the number that the tube
+    /// gets. The memory that this needs is allocated before any change.
+    ///
+    /// # Errors
+    ///
+    /// `NoMemory` if that allocation fails, or if 2^30 tubes are registered.
+    pub fn insert(
+        &mut self,
+        alloc: Global,
+        name: &TubeName,
+        value: V,
+    ) -> Result<TubeNumber, NoMemory>
+        requires absent { lookup (is_at (slice_cmp nat_cmp name.now)) self.old.entries ≡ None }
+        ensures entries { OnOk result (self.new.entries
+            ≡ insert_entry (slice_cmp nat_cmp) self.old.entries name.now value) }
+        ensures numbers { IfOk result (λ n. self.new.numbers
+            ≡ insert_entry (slice_cmp nat_cmp) self.old.numbers name.now (number_in n)) }
+        ensures extends { OnOk result (Extends self.old.numbers self.new.numbers) }
+        ensures same { OnErr result (self.new ≡ self.old) }
+    {
+        let Ok(()) = self.values.reserve(1) else {
+            return Err(NoMemory);
+        };
+        let number = self.tubes.add(alloc, name)?;
+        put(&mut self.values, number.get(), value);
+        Ok(number)
+    }
+
+    /// Removes a tube, if it is registered. Its value stays where it is, until another tube gets
+    /// the number.
+    pub fn remove(&mut self, name: &TubeName)
+        ensures entries { self.new.entries
+            ≡ remove_entry (is_at (slice_cmp nat_cmp name.now)) self.old.entries }
+        ensures numbers { self.new.numbers
+            ≡ remove_entry (is_at (slice_cmp nat_cmp name.now)) self.old.numbers }
+        ensures ordered { InOrder (slice_cmp nat_cmp) self.old.entries }
+    {
+        let _number = self.tubes.remove(name);
+    }
+
+    /// Shows each tube and its value to a visitor, in the order of the names, and returns the
+    /// visitor. The contract also states that there are fewer than 2^64 tubes, so a visitor can
+    /// count them in 64 bits.
+    pub fn walk<T: Visitor<TubeName, V>>(&self, visitor: T) -> T
+        ensures visitor { result ≡ fold (seen_by T.after) visitor self.now.entries }
+        ensures few { length self.now.entries < 2 ^ 64 }
+    {
+        let mut shown = Shown {
+            values: self.values.as_slice(),
+            visitor,
+        };
+        self.tubes.by_name().walk(&mut shown);
+        let Shown { values: _, visitor } = shown;
+        visitor
+    }
+
+    /// Returns the first tube that passes a test, with its value.
+    pub fn first<T: Test<TubeName, V>>(&self, test: &T) -> Option<(&TubeName, &V)>
+        ensures entry { option_map entry_of result
+            ≡ find (passes_by (T.passed test.now)) self.now.entries }
+        ensures ordered { InOrder (slice_cmp nat_cmp) self.now.entries }
+    {
+        let values = self.values.as_slice();
+        let passing = Passing { values, test };
+        valued(values, self.tubes.by_name().first(&passing))
+    }
+
+    /// Returns the first tube that passes a test, with its value, among those whose name is `from`
+    /// or above.
+    pub fn first_from<T: Test<TubeName, V>>(
+        &self,
+        from: &TubeName,
+        test: &T,
+    ) -> Option<(&TubeName, &V)>
+        ensures { option_map entry_of result
+            ≡ find (passes_from (slice_cmp nat_cmp from.now) (T.passed test.now)) self.now.entries }
+    {
+        let values = self.values.as_slice();
+        let passing = Passing { values, test };
+        valued(values, self.tubes.by_name().first_from(from, &passing))
+    }
+
+    /// Returns the tubes and their values in the order of the names. The memory of the list is
+    /// allocated before it is filled.
+    ///
+    /// # Errors
+    ///
+    /// `NoMemory` if that allocation fails.
+    pub fn list(&self, alloc: Global) -> Result<Vec<(&TubeName, &V), Global>, NoMemory>
+        ensures { IfOk result (λ listed. map entry_of listed.items ≡ self.now.entries) }
+    {
+        let Ok(numbered) = self.tubes.by_name().list(alloc) else {
+            return Err(NoMemory);
+        };
+        list_values(alloc, numbered.as_slice(), self.values.as_slice())
+    }
+}
