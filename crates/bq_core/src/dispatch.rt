@@ -29,7 +29,7 @@ ghost use Rattle.bq_core.specs.Serving.{IsLastTurn, NoneIsGone};
 use crate::acts;
 use bq_core_api::Outs;
 use bq_job::{Answer, Body, JobId, NoMemory, Request, Seat, Step, TubeName};
-use bq_jobs::NumberedJobs;
+use bq_jobs::{NumberedJobs, Tube, TubeNumber};
 use bq_state::core_parts::CoreParts;
 use bq_state::job_store::JobChange;
 use bq_state::known::Wanted;
@@ -63,30 +63,30 @@ fn better(best: Option<Offer>, other: Option<Offer>) -> Option<Offer>
 }
 
 // Returns the most urgent ready job in the tube, unless the tube is paused.
-fn offer_of(jobs: &mut NumberedJobs, tubes: &Tubes, tube: &TubeName) -> Option<Offer>
+fn offer_of(jobs: &mut NumberedJobs, tubes: &Tubes, tube: &Tube) -> Option<Offer>
     ensures offer { result ≡ offered jobs.old.jobs tubes.now.entries tube.now }
     ensures kept { Searches 1 jobs.old jobs.new }
 {
-    if tubes.is_paused(tube) {
+    if tubes.is_paused(tube.name()) {
         None
     } else {
-        jobs.most_urgent(tube)
+        jobs.most_urgent(tube.name())
     }
 }
 
-/// Returns the best of this job and those that the tubes with these names offer.
+/// Returns the best of this job and those that these tubes offer.
 pub(crate) fn best_among(
     jobs: &mut NumberedJobs,
     tubes: &Tubes,
-    names: &[TubeName],
+    watched: &[Tube],
     first: Option<Offer>,
 ) -> Option<Offer>
-    ensures best { result ≡ fold (with_offer jobs.old.jobs tubes.now.entries) first names.now }
-    ensures kept { Searches (length names.now) jobs.old jobs.new }
+    ensures best { result ≡ fold (with_offer jobs.old.jobs tubes.now.entries) first watched.now }
+    ensures kept { Searches (length watched.now) jobs.old jobs.new }
 {
     let mut best = first;
-    for i in 0..names.len() {
-        best = better(best, offer_of(jobs, tubes, &names[i]));
+    for i in 0..watched.len() {
+        best = better(best, offer_of(jobs, tubes, &watched[i]));
     }
     best
 }
@@ -110,14 +110,15 @@ fn best_for(
 
 // Returns the most urgent ready job in the tube, unless the tube is paused or no client waits for
 // its jobs.
-fn offer_to(jobs: &mut NumberedJobs, tubes: &Tubes, tube: &TubeName) -> Option<Offer>
+fn offer_to(jobs: &mut NumberedJobs, tubes: &Tubes, name: &TubeName) -> Option<Offer>
     ensures offer { result
-        ≡ (if is_waited_at tube.now tubes.now
-        then offered jobs.old.jobs tubes.now.entries tube.now else None) }
-    ensures kept { Searches (if is_waited_at tube.now tubes.now then 1 else 0) jobs.old jobs.new }
+        ≡ (if is_waited_at name.now tubes.now
+        then offered jobs.old.jobs tubes.now.entries name.now else None) }
+    ensures kept { Searches (if is_waited_at name.now tubes.now then 1 else 0) jobs.old jobs.new }
 {
-    if tubes.crowd_of(tube).waiting > 0 {
-        offer_of(jobs, tubes, tube)
+    if tubes.crowd_of(name).waiting > 0 {
+        // What is wanted is known by name alone.
+        offer_of(jobs, tubes, &Tube::new(*name, TubeNumber::unknown()))
     } else {
         None
     }

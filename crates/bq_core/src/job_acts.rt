@@ -14,8 +14,8 @@ ghost use Rattle.bq_core.specs.Replying.{AnswersTo, RepliesAt, RepliesTo, Waits}
 ghost use Rattle.bq_state.specs.CoreParts.{machine_of};
 
 use crate::acts::Reply;
-use bq_job::{Answer, Body, Counts, Job, JobId, Moment, Pri, Seat, TubeName};
-use bq_jobs::{adds_at_the_end, next_is_free};
+use bq_job::{Answer, Body, Counts, Job, JobId, Moment, Pri, Seat};
+use bq_jobs::{Tube, adds_at_the_end, next_is_free};
 use bq_state::core_parts::CoreParts;
 use bq_state::job_store::{JobChange, JobTest};
 use bq_state::seats::SeatChange;
@@ -38,13 +38,13 @@ pub(crate) struct NewTurn {
 }
 
 // Returns the job that a put makes; its time to run is at least one second.
-fn new_job(state: &CoreParts, tube: &TubeName, new: NewJob, body: Body) -> Job
+fn new_job(state: &CoreParts, tube: &Tube, new: NewJob, body: Body) -> Job
     ensures { (s : SeatRecord) → s.used ≡ tube.now
         → result ≡ job_of_put (machine_of state.now) s new.pri new.delay new.ttr body }
 {
     Job {
         id: state.next_id,
-        tube: *tube,
+        tube: *tube.name(),
         pri: new.pri,
         delay: new.delay,
         ttr: new.ttr.max(1),

@@ -93,7 +93,7 @@ pub(crate) fn kick(state: &mut CoreParts, seat: Seat, bound: u32, answer: &mut A
     let Some(client) = seats::find(state.seats.as_slice(), seat) else {
         return Reply::Silent;
     };
-    let tube = *client.used();
+    let tube = *client.used().name();
     let count = kick_in(state, &tube, bound);
     *answer = Answer::KickedCount(count);
     Reply::Told

@@ -13,6 +13,7 @@ ghost use Rattle.bq_state.specs.CoreParts.{machine_of};
 
 use crate::acts::Reply;
 use bq_job::{Answer, JobId, Seat, TubeName};
+use bq_jobs::{Tube, TubeNumber};
 use bq_state::core_parts::CoreParts;
 use bq_state::job_store::JobKind;
 use bq_state::seats::SeatChange;
@@ -36,7 +37,9 @@ pub(crate) fn use_tube(
     if changes::provide_tube(state, alloc, tube).is_err() {
         return Reply::LeftOut;
     }
-    changes::change_seat(state, seat, &SeatChange::Use(*tube));
+    // `provide_tube` doesn't return the number yet.
+    let change = SeatChange::Use(Tube::new(*tube, TubeNumber::unknown()));
+    changes::change_seat(state, seat, &change);
     *answer = Answer::Using(*tube);
     Reply::Told
 }
@@ -50,7 +53,7 @@ pub(crate) fn list_tube_used(state: &CoreParts, seat: Seat, answer: &mut Answer)
     match seats::find(state.seats.as_slice(), seat) {
         None => Reply::Silent,
         Some(client) => {
-            *answer = Answer::Using(*client.used());
+            *answer = Answer::Using(*client.used().name());
             Reply::Told
         }
     }
@@ -159,7 +162,7 @@ fn first_used(state: &mut CoreParts, seat: Seat, kind: JobKind) -> Option<JobId>
     ensures kept { Looks 1 state.old state.new }
 {
     let client = seats::find(state.seats.as_slice(), seat)?;
-    job_store::first(&mut state.jobs, kind, client.used())
+    job_store::first(&mut state.jobs, kind, client.used().name())
 }
 
 /// Shows the first job of this kind in the tube that the client uses.

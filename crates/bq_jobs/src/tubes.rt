@@ -47,6 +47,11 @@ impl TubeNumber {
         TubeNumber((1 << 30) - 1)
     }
 
+    /// Returns the number that a table of tubes gives to its first tube.
+    pub fn first() -> TubeNumber {
+        TubeNumber(0)
+    }
+
     /// Returns the number of a tube.
     pub(crate) fn of(number: u32) -> TubeNumber
         requires { number < 2 ^ 30 }

@@ -40,7 +40,7 @@ use crate::watch_list::default_tube;
 use crate::{job_store, seats, shares};
 use bq_core_api::Config;
 use bq_job::{Job, JobId, JobState, Moment, NoMemory, Seat, TubeName};
-use bq_jobs::{Moved, NumberedJobs};
+use bq_jobs::{Moved, NumberedJobs, Tube, TubeNumber};
 use std::alloc::Global;
 
 // The last id that is given out. Its put makes the core drain, so the next id always fits.
@@ -258,7 +258,9 @@ pub fn watch_tube(
         return Ok(0);
     }
     let share = shares::of_watcher(&state.seats[usize::from(seat)]);
-    match seats::watch(&mut state.seats, alloc, seat, tube) {
+    // `provide_tube` doesn't return the number yet.
+    let watched = Tube::new(*tube, TubeNumber::unknown());
+    match seats::watch(&mut state.seats, alloc, seat, &watched) {
         Ok(count) => {
             state.tubes.recount(tube, Moving::Comes, share);
             state.known.wanted.add_all_if(share.waiting);

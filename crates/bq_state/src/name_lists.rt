@@ -6,7 +6,8 @@ ghost use Rattle.bq_job.specs.machine.TubeOrder.{in_name_order, with_name};
 ghost use Rattle.bq_job.specs.machine.Tubes.{is_name_before};
 ghost use Rattle.bq_state.specs.Names.{is_named, names_of};
 
-use bq_job::{NoMemory, TubeName};
+use bq_job::NoMemory;
+use bq_jobs::Tube;
 use std::alloc::Global;
 
 /// References to names.
@@ -56,16 +57,16 @@ fn add<'a>(names: &mut Names<'a>, name: &'a [u8])
     }
 }
 
-/// Returns these names in byte order without duplicates, or `NoMemory` if the allocation for them
-/// fails.
-pub fn in_order<'a>(alloc: Global, tubes: &'a [TubeName]) -> Result<Names<'a>, NoMemory>
+/// Returns the names of these tubes in byte order without duplicates, or `NoMemory` if the
+/// allocation for them fails.
+pub fn in_order<'a>(alloc: Global, tubes: &'a [Tube]) -> Result<Names<'a>, NoMemory>
     ensures { IfOk result (λ names. names_of names.items ≡ in_name_order tubes.now) }
 {
     let Ok(mut names) = Vec::with_capacity(alloc, tubes.len()) else {
         return Err(NoMemory);
     };
     for tube in tubes {
-        add(&mut names, tube.as_slice());
+        add(&mut names, tube.name().as_slice());
     }
     Ok(names)
 }

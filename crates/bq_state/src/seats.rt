@@ -22,13 +22,14 @@ ghost use Rattle.bq_job.specs.machine.Tubes.{watches};
 ghost use Rattle.bq_job.specs.machine.Waits.{is_timed_out_at};
 
 use crate::waiting;
-use crate::watch_list::{WatchList, default_tube};
+use crate::watch_list::{WatchList, numbered_default};
 use bq_job::{JobState, Moment, NoMemory, Seat, TubeName};
+use bq_jobs::Tube;
 use std::alloc::Global;
 use std::marker::Model;
 
 /// A change of a seat.
-#[derive(Clone, Copy)]
+#[derive(Drop)]
 pub enum SeatChange {
     /// The client no longer waits.
     StopWaiting,
@@ -41,19 +42,19 @@ pub enum SeatChange {
     /// The client sends no more.
     End,
     /// Its jobs go into this tube.
-    Use(TubeName),
+    Use(Tube),
 }
 
 fn change(client: &mut SeatRecord, what: &SeatChange)
     ensures { client.new ≡ seat_changed what.now client.old }
 {
-    match *what {
+    match what {
         SeatChange::StopWaiting => client.stop_waiting(),
-        SeatChange::Wait(ticket, until) => client.wait_from(ticket, until),
+        SeatChange::Wait(ticket, until) => client.wait_from(*ticket, *until),
         SeatChange::Connect => client.connect(),
         SeatChange::Clear => client.clear(),
         SeatChange::End => client.end(),
-        SeatChange::Use(tube) => client.use_tube(&tube),
+        SeatChange::Use(tube) => client.use_tube(tube),
     }
 }
 
@@ -72,18 +73,18 @@ pub(crate) fn watch(
     seats: &mut Vec<SeatRecord, Global>,
     alloc: Global,
     number: Seat,
-    name: &TubeName,
+    tube: &Tube,
 ) -> Result<u64, NoMemory>
     requires { number < length seats.old.items }
     ensures count { IfOk result
-        (λ n. AtPlace seats.old.items number (λ s. n ≡ length (more_watched name.now s))) }
+        (λ n. AtPlace seats.old.items number (λ s. n ≡ length (more_watched tube.now s))) }
     ensures watched { IfOk result
         (λ _. IsSetAt seats.old.items number
-        (λ s. watching (more_watched name.now s) s) seats.new.items) }
+        (λ s. watching (more_watched tube.now s) s) seats.new.items) }
     ensures same { OnErr result (seats.new.items ≡ seats.old.items) }
 {
     let client = &mut seats[usize::from(number)];
-    client.watch(alloc, name)?;
+    client.watch(alloc, tube)?;
     Ok(client.watch_count() as u64)
 }
 
@@ -281,7 +282,7 @@ impl Model for Waiting {
 pub struct SeatRecord {
     number: Seat,
     connected: bool,
-    used: TubeName,
+    used: Tube,
     watched: WatchList,
     wait: Option<Waiting>,
     ended: bool,
@@ -305,7 +306,7 @@ impl SeatRecord {
         Ok(SeatRecord {
             number,
             connected: false,
-            used: default_tube(),
+            used: numbered_default(),
             watched,
             wait: None,
             ended: false,
@@ -326,7 +327,7 @@ impl SeatRecord {
     }
 
     /// Returns the tube that the client's jobs go into.
-    pub fn used(&self) -> &TubeName
+    pub fn used(&self) -> &Tube
         ensures { result.now ≡ self.now.used }
     {
         &self.used
@@ -340,7 +341,7 @@ impl SeatRecord {
     }
 
     /// Returns the tubes that the client watches, in the order in which it watched them.
-    pub fn watched(&self) -> &[TubeName]
+    pub fn watched(&self) -> &[Tube]
         ensures { result.now ≡ self.now.watched }
     {
         self.watched.as_slice()
@@ -434,19 +435,19 @@ impl SeatRecord {
         self.connected = true;
     }
 
-    pub(crate) fn use_tube(&mut self, name: &TubeName)
-        ensures { self.new ≡ using name.now self.old }
+    pub(crate) fn use_tube(&mut self, tube: &Tube)
+        ensures { self.new ≡ using tube.now self.old }
     {
-        self.used = *name;
+        self.used = tube.copy();
     }
 
     /// The client watches one more tube.
-    pub(crate) fn watch(&mut self, alloc: Global, name: &TubeName) -> Result<(), NoMemory>
+    pub(crate) fn watch(&mut self, alloc: Global, tube: &Tube) -> Result<(), NoMemory>
         ensures watched { IfOk result
-            (λ _. self.new ≡ watching (more_watched name.now self.old) self.old) }
+            (λ _. self.new ≡ watching (more_watched tube.now self.old) self.old) }
         ensures same { OnErr result (self.new ≡ self.old) }
     {
-        self.watched.add(alloc, *name)
+        self.watched.add(alloc, tube.copy())
     }
 
     /// The client no longer watches a tube; it still watches another one.
@@ -460,7 +461,7 @@ impl SeatRecord {
     pub(crate) fn clear(&mut self)
         ensures { self.new ≡ empty_seat self.old.number }
     {
-        self.used = default_tube();
+        self.used = numbered_default();
         self.watched.reset();
         self.wait = None;
         self.ended = false;

@@ -8,6 +8,7 @@ ghost use Rattle.bq_state.specs.Crowds.{share_as_user, share_as_watcher, share_o
 use crate::seats::{SeatChange, SeatRecord};
 use crate::tubes::{Moving, Share, Tubes};
 use bq_job::TubeName;
+use bq_jobs::Tube;
 
 /// Returns which counts a change of a seat can affect.
 pub(crate) fn touched(what: &SeatChange) -> Share
@@ -71,21 +72,21 @@ fn recount_at(tubes: &mut Tubes, name: &TubeName, moving: Moving, share: Share)
 
 // Adds a share to the counts of each of these tubes, or removes it.
 #[tactic(auto, using(crate::proofs::LoopLemmas::folded_more))]
-fn recount_all(tubes: &mut Tubes, names: &[TubeName], moving: Moving, share: Share)
-    ensures { tubes.new ≡ with_crowds_at_all names.now (recounted moving share) tubes.old }
+fn recount_all(tubes: &mut Tubes, watched: &[Tube], moving: Moving, share: Share)
+    ensures { tubes.new ≡ with_crowds_at_all watched.now (recounted moving share) tubes.old }
 {
-    for i in 0..names.len() {
-        tubes.recount(&names[i], moving, share);
+    for i in 0..watched.len() {
+        tubes.recount(watched[i].name(), moving, share);
     }
 }
 
 // Does the same; an empty share needs no search.
 #[tactic(auto, using(crate::proofs::CrowdLemmas::all_same, crate::proofs::CrowdLemmas::none_recounted))]
-fn recount_watched(tubes: &mut Tubes, names: &[TubeName], moving: Moving, share: Share)
-    ensures { tubes.new ≡ with_crowds_at_all names.now (recounted moving share) tubes.old }
+fn recount_watched(tubes: &mut Tubes, watched: &[Tube], moving: Moving, share: Share)
+    ensures { tubes.new ≡ with_crowds_at_all watched.now (recounted moving share) tubes.old }
 {
     if !share.is_none() {
-        recount_all(tubes, names, moving, share);
+        recount_all(tubes, watched, moving, share);
     }
 }
 
@@ -119,6 +120,6 @@ pub(crate) fn recount(tubes: &mut Tubes, client: Option<&SeatRecord>, moving: Mo
     let Some(client) = client else {
         return;
     };
-    recount_at(tubes, client.used(), moving, as_user(client, what));
+    recount_at(tubes, client.used().name(), moving, as_user(client, what));
     recount_watched(tubes, client.watched(), moving, as_watcher(client, what));
 }

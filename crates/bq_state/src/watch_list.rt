@@ -5,13 +5,14 @@ ghost use Rattle.bq_job.specs.machine.Machine.{default_tube};
 ghost use Rattle.bq_job.specs.reading.TubeName.{is_same_name};
 
 use bq_job::{NoMemory, TubeName};
+use bq_jobs::{Tube, TubeNumber};
 use std::alloc::Global;
 use std::marker::Model;
 
 /// The tubes that a client watches, in the order in which it watched them. There is at least one.
 #[derive(Drop)]
 pub(crate) struct WatchList {
-    names: Vec<TubeName, Global>,
+    tubes: Vec<Tube, Global>,
 }
 
 impl Model for WatchList {
@@ -19,9 +20,9 @@ impl Model for WatchList {
 
     ghost Value = { List (List ℕ) };
 
-    ghost view = { λ w. w.names.items };
+    ghost view = { λ w. w.tubes.items };
 
-    ghost invariant = { λ w. 0 < length w.names.items };
+    ghost invariant = { λ w. 0 < length w.tubes.items };
 }
 
 /// Returns the tube that a new client uses and watches.
@@ -32,6 +33,14 @@ pub(crate) fn default_tube() -> TubeName
         unreachable!();
     };
     name
+}
+
+/// Returns the default tube with its number. It is registered before any other tube, and never
+/// removed, so it keeps the first number.
+pub(crate) fn numbered_default() -> Tube
+    ensures { result ≡ default_tube }
+{
+    Tube::new(default_tube(), TubeNumber::first())
 }
 
 // Makes room for one more element, if there is none.
@@ -57,14 +66,14 @@ fn reserve_one<T: Drop>(list: &mut Vec<T, Global>, alloc: Global) -> Result<(), 
     Ok(())
 }
 
-// There is another name, so some are left.
-fn keep_others(names: &mut Vec<TubeName, Global>, name: &TubeName)
-    requires other { list_any (λ other. not (is_same_name name.now other)) names.old.items ≡ true }
-    ensures kept { names.new.items
-        ≡ filter (λ other. not (is_same_name name.now other)) names.old.items }
-    ensures some { 0 < length names.new.items }
+// There is another tube, so some are left.
+fn keep_others(tubes: &mut Vec<Tube, Global>, name: &TubeName)
+    requires other { list_any (λ other. not (is_same_name name.now other)) tubes.old.items ≡ true }
+    ensures kept { tubes.new.items
+        ≡ filter (λ other. not (is_same_name name.now other)) tubes.old.items }
+    ensures some { 0 < length tubes.new.items }
 {
-    names.retain(|other| name != other);
+    tubes.retain(|other| name != other.name());
 }
 
 impl WatchList {
@@ -72,9 +81,9 @@ impl WatchList {
     pub(crate) fn new(alloc: Global) -> Result<WatchList, NoMemory>
         ensures { IfOk result (λ list. list ≡ default_tube ∷ []) }
     {
-        let mut names = Vec::new(alloc);
-        match names.push(default_tube()) {
-            Ok(()) => Ok(WatchList { names }),
+        let mut tubes = Vec::new(alloc);
+        match tubes.push(numbered_default()) {
+            Ok(()) => Ok(WatchList { tubes }),
             Err(_) => Err(NoMemory),
         }
     }
@@ -82,35 +91,35 @@ impl WatchList {
     pub(crate) fn len(&self) -> usize
         ensures { result ≡ length self.now }
     {
-        self.names.len()
+        self.tubes.len()
     }
 
-    pub(crate) fn as_slice(&self) -> &[TubeName]
+    pub(crate) fn as_slice(&self) -> &[Tube]
         ensures { result.now ≡ self.now }
     {
-        self.names.as_slice()
+        self.tubes.as_slice()
     }
 
     pub(crate) fn has(&self, name: &TubeName) -> bool
         ensures { result ≡ list_any (is_same_name name.now) self.now }
     {
-        self.names.iter().any(|other| name == other)
+        self.tubes.iter().any(|other| name == other.name())
     }
 
     /// Returns true if it contains another tube than this one.
     pub(crate) fn has_other(&self, name: &TubeName) -> bool
         ensures { result ≡ list_any (λ other. not (is_same_name name.now other)) self.now }
     {
-        self.names.iter().any(|other| name != other)
+        self.tubes.iter().any(|other| name != other.name())
     }
 
     /// Appends a tube. No other change of a list allocates.
-    pub(crate) fn add(&mut self, alloc: Global, name: TubeName) -> Result<(), NoMemory>
-        ensures pushed { IfOk result (λ _. self.new ≡ self.old ++ name ∷ []) }
+    pub(crate) fn add(&mut self, alloc: Global, tube: Tube) -> Result<(), NoMemory>
+        ensures pushed { IfOk result (λ _. self.new ≡ self.old ++ tube ∷ []) }
         ensures same { OnErr result (self.new ≡ self.old) }
     {
-        reserve_one(&mut self.names, alloc)?;
-        self.names.push_reserved(name);
+        reserve_one(&mut self.tubes, alloc)?;
+        self.tubes.push_reserved(tube);
         Ok(())
     }
 
@@ -119,14 +128,14 @@ impl WatchList {
         requires { list_any (λ other. not (is_same_name name.now other)) self.old ≡ true }
         ensures { self.new ≡ filter (λ other. not (is_same_name name.now other)) self.old }
     {
-        keep_others(&mut self.names, name);
+        keep_others(&mut self.tubes, name);
     }
 
     /// Resets the list to only the default tube. It allocates nothing.
     pub(crate) fn reset(&mut self)
         ensures { self.new ≡ default_tube ∷ [] }
     {
-        self.names.truncate(1);
-        self.names[0] = default_tube();
+        self.tubes.truncate(1);
+        self.tubes[0] = numbered_default();
     }
 }

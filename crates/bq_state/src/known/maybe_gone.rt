@@ -7,6 +7,7 @@ ghost use Rattle.bq_state.specs.MaybeGoneTubes.{with_gone, with_existing};
 use crate::seats::SeatRecord;
 use crate::tubes::{Share, Tubes};
 use bq_job::TubeName;
+use bq_jobs::Tube;
 
 /// Which tubes may have gone while their entries are still kept. Only these are checked when
 /// entries are dropped.
@@ -69,28 +70,28 @@ impl MaybeGone {
     }
 
     // Does the same for each of these tubes.
-    fn add_all(&mut self, tubes: &Tubes, names: &[TubeName])
-        ensures { self.new ≡ gone_all tubes.now names.now self.old }
+    fn add_all(&mut self, tubes: &Tubes, watched: &[Tube])
+        ensures { self.new ≡ gone_all tubes.now watched.now self.old }
     {
-        *self = names.iter().fold(*self, |mut gone, name| {
-            gone.add_unless_there(tubes, name);
+        *self = watched.iter().fold(*self, |mut gone, tube| {
+            gone.add_unless_there(tubes, tube.name());
             gone
         });
     }
 
-    fn add_used(&mut self, tubes: &Tubes, name: &TubeName, is_left: bool)
-        ensures { self.new ≡ gone_if is_left tubes.now (name.now ∷ []) self.old }
+    fn add_used(&mut self, tubes: &Tubes, used: &Tube, is_left: bool)
+        ensures { self.new ≡ gone_if is_left tubes.now (used.now ∷ []) self.old }
     {
         if is_left {
-            self.add_unless_there(tubes, name);
+            self.add_unless_there(tubes, used.name());
         }
     }
 
-    fn add_watched(&mut self, tubes: &Tubes, names: &[TubeName], is_left: bool)
-        ensures { self.new ≡ gone_if is_left tubes.now names.now self.old }
+    fn add_watched(&mut self, tubes: &Tubes, watched: &[Tube], is_left: bool)
+        ensures { self.new ≡ gone_if is_left tubes.now watched.now self.old }
     {
         if is_left {
-            self.add_all(tubes, names);
+            self.add_all(tubes, watched);
         }
     }
 

@@ -9,10 +9,10 @@ pub loop-i-preserved : goal.loop-i-preserved
 loop-i-preserved c =
     let was = c.loop-i.invariant in
     let tubes = c.args.tubes.now.entries in
-    let name = c.index-names-i.result in
+    let name = c.index-watched-i.result in
     record {
       best = folded_more (with_offer c.args.jobs.now.jobs tubes) c.args.first _ _ name c.loop-i.best _ c.loop-i-test.true
-          c.index-names-i.is was.best
+          c.index-watched-i.is was.best
           (c.better-best.ensures ∙ ap (better_rank c.loop-i.best)
           (c.offer_of.ensures.offer ∙ ap (λ (k : Kept). offered k.jobs tubes name) was.same));
       same = c.offer_of.ensures.kept.same ∙ ap (λ (k : Kept). record k { comparisons = c.offer_of.new.jobs.comparisons }) was.same;

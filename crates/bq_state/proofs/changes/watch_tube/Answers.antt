@@ -18,6 +18,7 @@ pub returns-in-Ok-clause-count : goal.returns-in-Ok-clause-count
 returns-in-Ok-clause-count c s found =
     let here = seat_there c.args.state.now.seats.items c.args.seat s c.args.state.now.sound.numbered found in
     c.in-Ok.ensures.count s (ap (λ v. slice_get v.items c.args.seat) c.in_ok-provide_tube.ensures.seats ∙ here)
+    ∙ ap (λ name. length (s.watched ++ name ∷ [])) c.new-watched.ensures
 
 pub returns-in-Ok-clause-watched : goal.returns-in-Ok-clause-watched
 returns-in-Ok-clause-watched c s found =
@@ -31,6 +32,7 @@ returns-in-Ok-clause-watched c s found =
     ∙ ap (λ (m : Machine). record m { seats = c.watch.new.seats.items }) p.after
     ∙ ap (λ seats. record (machine_of old) { seats = seats })
     (c.in-Ok.ensures.watched s there
+    ∙ ap (λ name. set c.provide_tube.new.state.seats.items c.args.seat (watching (s.watched ++ name ∷ []) s)) c.new-watched.ensures
     ∙ ap (λ v. set v.items c.args.seat (watching (s.watched ++ c.args.tube.now ∷ []) s)) p.seats
     ∙ sym (changed_there old.seats.items c.args.seat s (watching (s.watched ++ c.args.tube.now ∷ [])) c.args.state.now.sound.numbered here))
 
@@ -73,4 +75,6 @@ invariant_of-state c =
     let numbered = watching_numbered (t.watched ++ name ∷ []) n t mid.seats.items here was.numbered in
     let waiting = in_turn_watching (t.watched ++ name ∷ []) n t mid.waiting mid.seats.items here was.numbered was.waiting in
     let known = so_watching mid name n t here few fresh in
-    record { sound = rw (wanted, tubes, c.in-Ok.ensures.watched t here) assumption; numbered = rw tubes mid.numbered }
+    let seats = c.in-Ok.ensures.watched t here
+    ∙ ap (λ name. set mid.seats.items n (watching (t.watched ++ name ∷ []) t)) c.new-watched.ensures in
+    record { sound = rw (wanted, tubes, seats) assumption; numbered = rw tubes mid.numbered }
