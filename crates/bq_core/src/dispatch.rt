@@ -28,8 +28,8 @@ ghost use Rattle.bq_core.specs.Serving.{IsLastTurn, NoneIsGone};
 
 use crate::acts;
 use bq_core_api::Outs;
-use bq_job::{Answer, Body, JobId, NoMemory, Request, Seat, Step, TubeName};
-use bq_jobs::{NumberedJobs, Tube, TubeNumber};
+use bq_job::{Answer, Body, JobId, NoMemory, Request, Seat, Step};
+use bq_jobs::{NumberedJobs, Tube};
 use bq_state::core_parts::CoreParts;
 use bq_state::job_store::JobChange;
 use bq_state::known::Wanted;
@@ -64,13 +64,14 @@ fn better(best: Option<Offer>, other: Option<Offer>) -> Option<Offer>
 
 // Returns the most urgent ready job in the tube, unless the tube is paused.
 fn offer_of(jobs: &mut NumberedJobs, tubes: &Tubes, tube: &Tube) -> Option<Offer>
+    requires same { tubes.now.numbers ≡ jobs.old.tubes }
     ensures offer { result ≡ offered jobs.old.jobs tubes.now.entries tube.now }
     ensures kept { Searches 1 jobs.old jobs.new }
 {
-    if tubes.is_paused(tube.name()) {
+    if tubes.is_paused(tube.name(), tube.number()) {
         None
     } else {
-        jobs.most_urgent(tube.name())
+        jobs.most_urgent(tubes.names(), tube)
     }
 }
 
@@ -81,6 +82,7 @@ pub(crate) fn best_among(
     watched: &[Tube],
     first: Option<Offer>,
 ) -> Option<Offer>
+    requires same { tubes.now.numbers ≡ jobs.old.tubes }
     ensures best { result ≡ fold (with_offer jobs.old.jobs tubes.now.entries) first watched.now }
     ensures kept { Searches (length watched.now) jobs.old jobs.new }
 {
@@ -98,6 +100,7 @@ fn best_for(
     client: &SeatRecord,
     first: Option<Offer>,
 ) -> Option<Offer>
+    requires same { tubes.now.numbers ≡ jobs.old.tubes }
     ensures best { result ≡ with_offers jobs.old.jobs tubes.now.entries first client.now }
     ensures kept { Searches (waited_tubes client.now) jobs.old jobs.new }
 {
@@ -110,15 +113,15 @@ fn best_for(
 
 // Returns the most urgent ready job in the tube, unless the tube is paused or no client waits for
 // its jobs.
-fn offer_to(jobs: &mut NumberedJobs, tubes: &Tubes, name: &TubeName) -> Option<Offer>
+fn offer_to(jobs: &mut NumberedJobs, tubes: &Tubes, tube: &Tube) -> Option<Offer>
+    requires same { tubes.now.numbers ≡ jobs.old.tubes }
     ensures offer { result
-        ≡ (if is_waited_at name.now tubes.now
-        then offered jobs.old.jobs tubes.now.entries name.now else None) }
-    ensures kept { Searches (if is_waited_at name.now tubes.now then 1 else 0) jobs.old jobs.new }
+        ≡ (if is_waited_at tube.now tubes.now
+        then offered jobs.old.jobs tubes.now.entries tube.now else None) }
+    ensures kept { Searches (if is_waited_at tube.now tubes.now then 1 else 0) jobs.old jobs.new }
 {
-    if tubes.crowd_of(name).waiting > 0 {
-        // What is wanted is known by name alone.
-        offer_of(jobs, tubes, &Tube::new(*name, TubeNumber::unknown()))
+    if tubes.crowd_of(tube.name(), tube.number()).waiting > 0 {
+        offer_of(jobs, tubes, tube)
     } else {
         None
     }
@@ -134,7 +137,8 @@ fn best_of_client(
     seat: Seat,
     first: Option<Offer>,
 ) -> Option<Offer>
-    requires { AreNumbered seats.now }
+    requires numbered { AreNumbered seats.now }
+    requires same { tubes.now.numbers ≡ jobs.old.tubes }
     ensures best { result
         ≡ fold (with_offers jobs.old.jobs tubes.now.entries) first
         (these (seat_with seat seats.now)) }
@@ -154,7 +158,8 @@ fn best_of_turns(
     seats: &[SeatRecord],
     turns: &[Turn],
 ) -> Option<Offer>
-    requires { AreNumbered seats.now }
+    requires numbered { AreNumbered seats.now }
+    requires same { tubes.now.numbers ≡ jobs.old.tubes }
     ensures best { result
         ≡ fold (by_seat (with_offers jobs.old.jobs tubes.now.entries) seats.now) None turns.now }
     ensures kept { Searches (sum_by (waited_at seats.now) turns.now) jobs.old jobs.new }
@@ -175,6 +180,7 @@ fn best_offer(
     turns: &[Turn],
 ) -> Option<Offer>
     requires numbered { AreNumbered seats.now }
+    requires same { tubes.now.numbers ≡ jobs.old.tubes }
     requires turns { turns.now ≡ turns_of seats.now }
     ensures best { result ≡ fold (with_offers jobs.old.jobs tubes.now.entries) None seats.now }
     ensures kept { Searches (sum_by waited_tubes seats.now) jobs.old jobs.new }
@@ -189,7 +195,7 @@ fn next_offer(state: &mut CoreParts) -> Option<Offer>
 {
     match &state.known.wanted {
         Wanted::Nothing => None,
-        Wanted::Tube(name) => offer_to(&mut state.jobs, &state.tubes, name),
+        Wanted::Tube(tube) => offer_to(&mut state.jobs, &state.tubes, tube),
         Wanted::Client(seat) => best_of_client(
             &mut state.jobs,
             &state.tubes,
@@ -229,8 +235,12 @@ fn pick_at_tube(state: &mut CoreParts, id: JobId) -> Option<(Seat, Result<Body, 
     ensures share { IfSome result (λ p. IfOk p.1 (IsBodyOf (next_job (machine_of state.old)))) }
     ensures kept { Looks 1 state.old state.new }
 {
-    let (tube, shared) = state.jobs.share(id)?;
-    let seat = seats::first_waiting(state.seats.as_slice(), state.waiting.as_slice(), &tube)?;
+    let (tube, shared) = state.jobs.share(state.tubes.names(), id)?;
+    let seat = seats::first_waiting(
+        state.seats.as_slice(),
+        state.waiting.as_slice(),
+        tube.name(),
+    )?;
     Some((seat, shared))
 }
 

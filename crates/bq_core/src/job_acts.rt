@@ -95,7 +95,9 @@ pub(crate) fn put(
     let Ok(shared) = body.share() else {
         return Reply::LeftOut;
     };
-    let job = new_job(state, client.used(), new, shared);
+    let tube = client.used();
+    let hint = tube.number();
+    let job = new_job(state, tube, new, shared);
     let Ok(()) = changes::make_room(state, alloc) else {
         return Reply::LeftOut;
     };
@@ -103,7 +105,7 @@ pub(crate) fn put(
     next_is_free();
     adds_at_the_end();
     changes::count_put(state);
-    changes::add(state, job);
+    changes::add(state, job, hint);
     Reply::Inserted(id)
 }
 

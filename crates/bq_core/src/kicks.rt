@@ -10,8 +10,8 @@ ghost use Rattle.bq_core.specs.Replying.{RepliesAt};
 ghost use Rattle.bq_state.specs.CoreParts.{machine_of, count_jobs};
 
 use crate::acts::Reply;
-use bq_job::{Answer, Seat, TubeName};
-use bq_jobs::NumberedJobs;
+use bq_job::{Answer, Seat};
+use bq_jobs::{NumberedJobs, NumberedTubes, Tube};
 use bq_state::core_parts::CoreParts;
 use bq_state::job_store::{JobChange, JobKind};
 use bq_state::{changes, seats};
@@ -19,19 +19,20 @@ use bq_state::{changes, seats};
 // Returns which jobs of a tube a kick makes ready: the buried ones or, if there are none, the
 // delayed ones.
 #[tactic(auto, using(crate::proofs::KickLemmas::kickable_buried, crate::proofs::KickLemmas::kickable_delayed))]
-fn kind_to_kick(jobs: &mut NumberedJobs, tube: &TubeName) -> JobKind
+fn kind_to_kick(jobs: &mut NumberedJobs, tubes: &NumberedTubes, tube: &Tube) -> JobKind
+    requires same { tubes.now.numbers ≡ jobs.old.tubes }
     ensures order { jobs_of result tube.now jobs.old.jobs ≡ kickable tube.now jobs.old.jobs }
     ensures out { (k : Job) → is_of result tube.now (kicked k) ≡ false }
     ensures kept { Searches 1 jobs.old jobs.new }
 {
-    match jobs.first_buried(tube) {
+    match jobs.first_buried(tubes, tube) {
         Some(_) => JobKind::Buried,
         None => JobKind::Delayed,
     }
 }
 
 // Kicks the first job of this kind. Returns false if there is none.
-fn kick_first(state: &mut CoreParts, kind: JobKind, tube: &TubeName) -> bool
+fn kick_first(state: &mut CoreParts, kind: JobKind, tube: &Tube) -> bool
     requires out { (k : Job) → is_of kind tube.now (kicked k) ≡ false }
     ensures none { result ≡ false → (jobs_of kind tube.now state.old.jobs.jobs ≡ [])
         × (machine_of state.new ≡ machine_of state.old) }
@@ -51,7 +52,7 @@ fn kick_first(state: &mut CoreParts, kind: JobKind, tube: &TubeName) -> bool
 }
 
 // Kicks at most `bound` jobs of this kind, in order, and returns how many.
-fn kick_some(state: &mut CoreParts, kind: JobKind, tube: &TubeName, bound: u32) -> u64
+fn kick_some(state: &mut CoreParts, kind: JobKind, tube: &Tube, bound: u32) -> u64
     requires out { (k : Job) → is_of kind tube.now (kicked k) ≡ false }
     ensures kicked { machine_of state.new
         ≡ after_kick (take bound (jobs_of kind tube.now state.old.jobs.jobs))
@@ -71,7 +72,7 @@ fn kick_some(state: &mut CoreParts, kind: JobKind, tube: &TubeName, bound: u32) 
 }
 
 // Kicks at most `bound` jobs of the tube, and returns how many.
-fn kick_in(state: &mut CoreParts, tube: &TubeName, bound: u32) -> u64
+fn kick_in(state: &mut CoreParts, tube: &Tube, bound: u32) -> u64
     ensures kicked { machine_of state.new
         ≡ after_kick (take bound (kickable tube.now (machine_of state.old).jobs))
         (machine_of state.old) }
@@ -80,7 +81,7 @@ fn kick_in(state: &mut CoreParts, tube: &TubeName, bound: u32) -> u64
         ≤ changed_jobs (machine_of state.old).jobs (machine_of state.new).jobs }
     ensures asks { Asks (9 * result + 2) state.old.jobs state.new.jobs }
 {
-    let kind = kind_to_kick(&mut state.jobs, tube);
+    let kind = kind_to_kick(&mut state.jobs, state.tubes.names(), tube);
     kick_some(state, kind, tube, bound)
 }
 
@@ -93,7 +94,7 @@ pub(crate) fn kick(state: &mut CoreParts, seat: Seat, bound: u32, answer: &mut A
     let Some(client) = seats::find(state.seats.as_slice(), seat) else {
         return Reply::Silent;
     };
-    let tube = *client.used().name();
+    let tube = client.used().copy();
     let count = kick_in(state, &tube, bound);
     *answer = Answer::KickedCount(count);
     Reply::Told

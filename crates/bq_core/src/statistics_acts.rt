@@ -13,7 +13,7 @@ ghost use Rattle.bq_core.specs.Texts.{TellsJob};
 use crate::acts::Reply;
 use crate::texts::{ServerNumbers, TubeNumbers, job_text, names_text, server_text, tube_text};
 use bq_job::{Answer, JobId, Moment, NoMemory, Seat, Text, TubeName};
-use bq_jobs::NumberedJobs;
+use bq_jobs::{NumberedJobs, NumberedTubes, TubeNumber};
 use bq_state::core_parts::CoreParts;
 use bq_state::tubes::TubeEntry;
 use bq_state::{changes, name_lists, seats};
@@ -24,18 +24,20 @@ use std::alloc::Global;
 #[tactic(auto, using(crate::proofs::TextLemmas::id_of_row))]
 fn text_of_job(
     jobs: &mut NumberedJobs,
+    tubes: &NumberedTubes,
     alloc: Global,
     id: JobId,
     moment: Moment,
 ) -> Option<Result<Text, NoMemory>>
+    requires same { tubes.now.numbers ≡ jobs.old.tubes }
     ensures none { is_some result ≡ is_some (job_with id jobs.old.jobs) }
     ensures text { IfSome result (λ text. IfOk text (TellsJob moment (job_with id jobs.old.jobs))) }
     ensures kept { Searches 2 jobs.old jobs.new }
 {
-    let tube = jobs.tube_of(id)?;
+    let tube = jobs.tube_of(tubes, id)?;
     match jobs.get(id) {
         None => None,
-        Some(job) => Some(job_text(alloc, id, job, &tube, moment)),
+        Some(job) => Some(job_text(alloc, id, job, tube.name(), moment)),
     }
 }
 
@@ -49,7 +51,13 @@ pub(crate) fn stats_job(
     ensures reply { RepliesBy true (stats_job_effect id) state.old result answer.new state.new }
     ensures asks { AsksAsChanged state.old.jobs state.new.jobs }
 {
-    match text_of_job(&mut state.jobs, alloc, id, state.moment) {
+    match text_of_job(
+        &mut state.jobs,
+        state.tubes.names(),
+        alloc,
+        id,
+        state.moment,
+    ) {
         None => {
             *answer = Answer::NotFound;
             Reply::Told
@@ -64,14 +72,14 @@ pub(crate) fn stats_job(
 
 // Returns the statistics of the tube with this name.
 #[tactic(auto, using(bq_state::proofs::NameLemmas::lent_or, bq_state::proofs::NameLemmas::record_of_entry))]
-fn tube_numbers(state: &CoreParts, tube: &TubeName) -> TubeNumbers
+fn tube_numbers(state: &CoreParts, tube: &TubeName, hint: TubeNumber) -> TubeNumbers
     ensures { AreOfTube result tube.now (machine_of state.now) }
 {
     let fresh = TubeEntry::new();
-    let entry = state.tubes.entry_of(tube).unwrap_or(&fresh);
-    let crowd = state.crowd_at(tube);
+    let entry = state.tubes.entry_of(tube, hint).unwrap_or(&fresh);
+    let crowd = state.crowd_at(tube, hint);
     TubeNumbers {
-        jobs: state.tally_in(tube),
+        jobs: state.tally_in(tube, hint),
         puts: entry.puts(),
         using: crowd.using,
         watching: crowd.watching,
@@ -92,11 +100,12 @@ pub(crate) fn stats_tube(
 ) -> Reply
     ensures { RepliesBy true (stats_tube_effect tube.now) state.now result answer.new state.now }
 {
-    if !changes::is_tube(state, tube) {
+    let hint = changes::number_of(state, tube);
+    if !changes::is_tube(state, tube, hint) {
         *answer = Answer::NotFound;
         return Reply::Told;
     }
-    match tube_text(alloc, tube, &tube_numbers(state, tube)) {
+    match tube_text(alloc, tube, &tube_numbers(state, tube, hint)) {
         Ok(text) => {
             *answer = Answer::Ok(text);
             Reply::Told

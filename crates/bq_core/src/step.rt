@@ -129,7 +129,7 @@ impl Core {
         let Ok(tubes) = Tubes::new(alloc) else {
             return Err(CoreFault::NoMemory);
         };
-        let Ok(jobs) = changes::no_jobs(alloc) else {
+        let Ok(jobs) = changes::no_jobs(alloc, &tubes) else {
             return Err(CoreFault::NoMemory);
         };
         Ok(Core {

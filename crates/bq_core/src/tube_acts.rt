@@ -13,7 +13,7 @@ ghost use Rattle.bq_state.specs.CoreParts.{machine_of};
 
 use crate::acts::Reply;
 use bq_job::{Answer, JobId, Seat, TubeName};
-use bq_jobs::{Tube, TubeNumber};
+use bq_jobs::Tube;
 use bq_state::core_parts::CoreParts;
 use bq_state::job_store::JobKind;
 use bq_state::seats::SeatChange;
@@ -34,11 +34,10 @@ pub(crate) fn use_tube(
     ensures reply { RepliesTo seat true (use_effect tube.now) state.old result answer.new state.new }
     ensures asks { AsksAsChanged state.old.jobs state.new.jobs }
 {
-    if changes::provide_tube(state, alloc, tube).is_err() {
+    let Ok(number) = changes::provide_tube(state, alloc, tube) else {
         return Reply::LeftOut;
-    }
-    // `provide_tube` doesn't return the number yet.
-    let change = SeatChange::Use(Tube::new(*tube, TubeNumber::unknown()));
+    };
+    let change = SeatChange::Use(Tube::new(tube, number));
     changes::change_seat(state, seat, &change);
     *answer = Answer::Using(*tube);
     Reply::Told
@@ -119,12 +118,13 @@ pub(crate) fn pause(state: &mut CoreParts, tube: &TubeName, seconds: u32, answer
         ≡ telling answer.new (machine_of state.new) }
     ensures asks { AsksAsChanged state.old.jobs state.new.jobs }
 {
-    if !changes::is_tube(state, tube) {
+    let hint = changes::number_of(state, tube);
+    if !changes::is_tube(state, tube, hint) {
         *answer = Answer::NotFound;
         return;
     }
     let change = TubeChange::Pause(seconds, state.moment);
-    changes::change_tube(state, tube, change);
+    changes::change_tube(state, tube, hint, change);
     *answer = Answer::Paused;
 }
 
@@ -162,7 +162,7 @@ fn first_used(state: &mut CoreParts, seat: Seat, kind: JobKind) -> Option<JobId>
     ensures kept { Looks 1 state.old state.new }
 {
     let client = seats::find(state.seats.as_slice(), seat)?;
-    job_store::first(&mut state.jobs, kind, client.used().name())
+    job_store::first(&mut state.jobs, state.tubes.names(), kind, client.used())
 }
 
 /// Shows the first job of this kind in the tube that the client uses.

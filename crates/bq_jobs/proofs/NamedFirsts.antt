@@ -1,5 +1,5 @@
 -- The first job by names of tubes is the first record by numbers.
-use Rattle.std.proofs.Common.{◌≡◌, ℕ, Bool, false, ◌&&◌, List, [], ◌∷◌, Option, Some, None, map, refl, ap, ◌∙◌, inl, inr}
+use Rattle.std.proofs.Common.{◌≡◌, ℕ, Bool, false, ◌&&◌, List, [], ◌∷◌, Option, Some, None, map, refl, sym, ap, ◌∙◌, inl, inr}
 use Rattle.std.specs.Prelude.{fold}
 use Rattle.std.specs.List.{AllByRecursion as All}
 use Rattle.std.specs.Option.{option_map}
@@ -11,7 +11,8 @@ use Rattle.bq_jobs.specs.declared.places.Timer.{Timer}
 use Rattle.bq_jobs.specs.declared.places.Timer.TheVariants as timers
 use Rattle.bq_jobs.specs.Kept.{ranked}
 use Rattle.bq_jobs.specs.Leases.{deadline_of}
-use Rattle.bq_jobs.specs.Numbering.{AreNumbered, IsPaired, Numbering, named, number_of}
+use Rattle.bq_jobs.specs.Names.{number_in}
+use Rattle.bq_jobs.specs.Numbering.{AreNumbered, AreRegistered, IsPaired, Numbering, named, number_of}
 use Rattle.bq_jobs.specs.Places.{held_by, list_of}
 use Rattle.bq_jobs.specs.Ranks.{first_by, first_held, first_timed, is_in_list, is_listed, is_timed, list_rank, moment_of}
 use Rattle.bq_jobs.proofs.NamedJobs.{all_told, none_told}
@@ -55,13 +56,19 @@ module _ (k : Numbering) (passes test : Job → Bool) (number : Job → ℕ) (sa
       of (Some j) = ap (λ n. Some (n, j.id)) (same j)
 
 -- as in a list of a registered tube,
-pub listed_told : (k : Numbering) (h : IsPaired k) (name : List ℕ) (n : ℕ) → number_of name k ≡ Some n → (list : JobList) (rows : List Job)
+listed_by : (k : Numbering) (h : IsPaired k) (name : List ℕ) (n : ℕ) → number_of name k ≡ Some n → (list : JobList) (rows : List Job)
     → AreNumbered k rows
     → first_held (list_of name list) (map (named k) rows) ≡ first_held (list_of (n ∷ []) list) rows
 unfolding first_held
-listed_told k h name n own list rows all =
+listed_by k h name n own list rows all =
     first_told k (is_listed list name) (is_listed list (n ∷ [])) (list_rank list) (λ j. refl) rows
     (all_told k h name n own (λ j. is_in_list list j.state) rows all)
+
+pub listed_told : (k : Numbering) (rows : List Job) → AreRegistered k rows → (name n : List ℕ) → number_of name k ≡ Some (number_in n)
+    → n ≡ number_in n ∷ [] → (list : JobList)
+    → first_held (list_of name list) (map (named k) rows) ≡ first_held (list_of n list) rows
+listed_told k rows h name n own alone list =
+    listed_by k h.paired name (number_in n) own list rows h.numbered ∙ ap (λ i. first_held (list_of i list) rows) (sym alone)
 
 -- among those of a client, and among delays and leases.
 all_alike : (test : Job → Bool) (rows : List Job) → All (λ j. test j ≡ test j) rows
@@ -88,11 +95,10 @@ none_first f passes before [] all = refl
 none_first f passes before (j ∷ rows) all =
     ap (λ b. fold (better_of passes before) b (map f rows)) (rw all.0 refl) ∙ none_first f passes before rows all.1
 
-pub none_listed : (k : Numbering) (h : IsPaired k) (name : List ℕ) → number_of name k ≡ None → (list : JobList) (rows : List Job)
-    → AreNumbered k rows
+pub none_listed : (k : Numbering) (rows : List Job) → AreRegistered k rows → (name : List ℕ) → number_of name k ≡ None → (list : JobList)
     → first_held (list_of name list) (map (named k) rows) ≡ None
 unfolding first_held
-none_listed k h name none list rows all =
+none_listed k rows h name none list =
     ap (option_map (ranked (list_rank list)))
     (none_first (named k) (is_listed list name) (λ a b. is_pair_before (list_rank list a) a.id (list_rank list b) b.id) rows
-    (none_told k h name none (λ j. is_in_list list j.state) rows all))
+    (none_told k h.paired name none (λ j. is_in_list list j.state) rows h.numbered))

@@ -1,10 +1,13 @@
 -- Operations on jobs by the names of their tubes agree with those on records by numbers.
 use Rattle.std.proofs.Common.{◌≡◌, ◌+◌, ◌*◌, ◌≤◌, ℕ, suc, length, Bor, Bool, true, false, ◌&&◌, ◌||◌, List}
 use Rattle.std.proofs.Common.{[], ◌∷◌, Option, Some, None, is_some, map, refl, sym, ap, ◌∙◌, subst, inl, inr}
-use Rattle.std.specs.Prelude.{◌==◌, nat_lt, unwrap_or, if◌then◌else◌, Result, Ok, Err, IfOk, OnErr, OnOk}
-use Rattle.std.specs.Cmp.Lexicographic.{bytes_decides}
+use Rattle.std.specs.Prelude.{◌==◌, nat_lt, unwrap_or, if◌then◌else◌, Result, Ok, Err, IfOk}
+use Rattle.std.specs.BTreeMap.{is_at}
+use Rattle.std.specs.Cmp.Lexicographic.{bytes_decides, slice_cmp}
 use Rattle.std.specs.List.{AllByRecursion as All, list_any}
+use Rattle.std.specs.Map.{remove_entry}
 use Rattle.std.specs.Option.{option_and_then, option_map}
+use Rattle.std.specs.Ordering.{nat_cmp}
 use Rattle.std.proofs.Common.{arith}
 use Rattle.std.proofs.lemmas.Bool.{cases_Bool, eqb-true}
 use Rattle.std.proofs.lemmas.Bool.Decides.{nat_tests}
@@ -17,15 +20,15 @@ use Rattle.bq_job.proofs.LookupLemmas.{job_in_map}
 use Rattle.bq_index.specs.Digits.{binary_digits}
 use Rattle.bq_jobs.specs.Kept.{ComparesAtMost, Kept, with_added, without}
 use Rattle.bq_jobs.specs.Changed.{IgnoresTube, moved_by, moved_in, removed_from, row_moved_by, row_removed, standing, with_changed}
-use Rattle.bq_jobs.specs.Numbering.{AreNumbered, IsNumbered, IsPaired, Numbering, Registers, kept_named}
-use Rattle.bq_jobs.specs.Numbering.{name_of, named, number_of, without_known}
+use Rattle.bq_jobs.specs.Numbering.{AreNumbered, AreRegistered, Extends, IsNumbered, IsPaired, Numbering, kept_named}
+use Rattle.bq_jobs.specs.Numbering.{name_of, named, number_of}
 use Rattle.bq_jobs.specs.Names.{number_in}
 use Rattle.bq_jobs.specs.Room.{Removes}
 use Rattle.bq_jobs.specs.Searching.{FindsById}
 use Rattle.bq_jobs.specs.Told.{job_told, moved_told, removed_told}
-use Rattle.bq_jobs.specs.Seen.{IsBodyOf, IsNumberOf, IsTubeOf, but_for_tube, in_tube}
+use Rattle.bq_jobs.specs.Seen.{IsBodyOf, IsTubeOf, but_for_tube, in_tube}
 use Rattle.bq_jobs.proofs.Changes.{stays_in}
-use Rattle.bq_jobs.proofs.NumberingLemmas.{name_left}
+use Rattle.bq_jobs.proofs.NumberingLemmas.{name_kept, number_other, same_names}
 
 or_parts : (a b : Bool) → (a || b) ≡ false → (a ≡ false) × (b ≡ false)
 or_parts true b e = absurd cc
@@ -131,21 +134,21 @@ pub job_named : (k : Numbering) (id : ℕ) (rows : List Job) → job_with id (ma
 job_named k id rows = job_in_map (named k) id rows (λ j. refl)
 
 -- All records stay numbered.
-pub numbered_added : (k : Numbering) (j : Job) (rows : List Job) → IsNumbered k j → AreNumbered k rows → AreNumbered k (with_added j rows)
+numbered_added : (k : Numbering) (j : Job) (rows : List Job) → IsNumbered k j → AreNumbered k rows → AreNumbered k (with_added j rows)
 numbered_added k j [] is all = (is, tt)
 numbered_added k j (r ∷ rows) is all = elim (cases_Bool (nat_lt r.id j.id)) [
   | inl e ↦ rw e (all.0, numbered_added k j rows is all.1)
   | inr e ↦ rw e (is, all)
 ]
 
-pub numbered_without : (k : Numbering) (id : ℕ) (rows : List Job) → AreNumbered k rows → AreNumbered k (without id rows)
+numbered_without : (k : Numbering) (id : ℕ) (rows : List Job) → AreNumbered k rows → AreNumbered k (without id rows)
 numbered_without k id [] all = tt
 numbered_without k id (r ∷ rows) all = elim (cases_Bool (r.id == id)) [
   | inl e ↦ rw e (numbered_without k id rows all.1)
   | inr e ↦ rw e (all.0, numbered_without k id rows all.1)
 ]
 
-pub numbered_changed : (k : Numbering) (id : ℕ) (f : Job → Job) → IgnoresTube f → (rows : List Job) → AreNumbered k rows
+numbered_changed : (k : Numbering) (id : ℕ) (f : Job → Job) → IgnoresTube f → (rows : List Job) → AreNumbered k rows
     → AreNumbered k (with_changed id f rows)
 numbered_changed k id f ignores [] all = tt
 numbered_changed k id f ignores (r ∷ rows) all = elim (cases_Bool (r.id == id)) [
@@ -156,8 +159,15 @@ numbered_changed k id f ignores (r ∷ rows) all = elim (cases_Bool (r.id == id)
   | inr e ↦ rw e (all.0, numbered_changed k id f ignores rows all.1)
 ]
 
+pub registered_without : (k : Numbering) (id : ℕ) (rows : List Job) → AreRegistered k rows → AreRegistered k (without id rows)
+registered_without k id rows h = record { paired = h.paired; numbered = numbered_without k id rows h.numbered }
+
+pub registered_changed : (k : Numbering) (id : ℕ) (f : Job → Job) → IgnoresTube f → (rows : List Job) → AreRegistered k rows
+    → AreRegistered k (with_changed id f rows)
+registered_changed k id f ignores rows h = record { paired = h.paired; numbered = numbered_changed k id f ignores rows h.numbered }
+
 -- the record that an id finds is numbered
-pub numbered_there : (k : Numbering) (id : ℕ) (rows : List Job) (j : Job) → AreNumbered k rows → job_with id rows ≡ Some j → IsNumbered k j
+numbered_there : (k : Numbering) (id : ℕ) (rows : List Job) (j : Job) → AreNumbered k rows → job_with id rows ≡ Some j → IsNumbered k j
 numbered_there k id [] j all e = absurd cc
 numbered_there k id (r ∷ rows) j all e = elim (cases_Bool (r.id == id)) [
   | inl t ↦ let two : Some r ≡ Some j = rw t at e in let is : r ≡ j = (cc) in subst (IsNumbered k) is all.0
@@ -169,9 +179,9 @@ named_by : (j : Job) (o : Option (List ℕ)) → is_some o ≡ true → option_m
 named_by j None some = absurd cc
 named_by j (Some name) some = refl
 
-pub told_rows : (k : Numbering) (id : ℕ) (rows : List Job) → AreNumbered k rows
+rows_by : (k : Numbering) (id : ℕ) (rows : List Job) → AreNumbered k rows
     → option_and_then (job_told k) (job_with id rows) ≡ job_with id (map (named k) rows)
-told_rows k id rows all = of (job_with id rows) refl ∙ sym (job_named k id rows)
+rows_by k id rows all = of (job_with id rows) refl ∙ sym (job_named k id rows)
   where
     of : (o : Option Job) → job_with id rows ≡ o → option_and_then (job_told k) o ≡ option_map (named k) o
     of None there = refl
@@ -182,15 +192,30 @@ removed_by_name : (j : Job) (o : Option (List ℕ)) → is_some o ≡ true
 removed_by_name j None some = absurd cc
 removed_by_name j (Some name) some = refl
 
-pub told_removed : (k : Numbering) (id : ℕ) (rows : List Job) → AreNumbered k rows
+removals_by : (k : Numbering) (id : ℕ) (rows : List Job) → AreNumbered k rows
     → option_and_then (removed_told k) (option_map row_removed (job_with id rows))
     ≡ option_map removed_from (job_with id (map (named k) rows))
-told_removed k id rows all = of (job_with id rows) refl ∙ ap (option_map removed_from) (sym (job_named k id rows))
+removals_by k id rows all = of (job_with id rows) refl ∙ ap (option_map removed_from) (sym (job_named k id rows))
   where
     of : (o : Option Job) → job_with id rows ≡ o
         → option_and_then (removed_told k) (option_map row_removed o) ≡ option_map removed_from (option_map (named k) o)
     of None there = refl
     of (Some j) there = removed_by_name j (name_of (number_in j.tube) k) ((numbered_there k id rows j all there).1)
+
+-- The same with the names of a table whose tubes have the same numbers.
+module _ (k l : Numbering) (id : ℕ) (rows : List Job) (h : AreRegistered k rows) (g : IsPaired l) (same : l.numbers ≡ k.numbers) where
+  pub told_rows : option_and_then (job_told l) (job_with id rows) ≡ job_with id (map (named k) rows)
+  told_rows =
+      ap (λ told. option_and_then told (job_with id rows))
+      (λ i row. option_map (in_tube row) (same_names k l h.paired g (number_in row.tube) same i))
+      ∙ rows_by k id rows h.numbered
+
+  pub told_removed : option_and_then (removed_told l) (option_map row_removed (job_with id rows))
+      ≡ option_map removed_from (job_with id (map (named k) rows))
+  told_removed =
+      ap (λ told. option_and_then told (option_map row_removed (job_with id rows)))
+      (λ i r. option_map (λ tube. record { tube = tube; at = r.1 }) (same_names k l h.paired g (number_in r.0) same i))
+      ∙ removals_by k id rows h.numbered
 
 -- their ids are the same
 pub ids_named : (k : Numbering) (low next : ℕ) (rows : List Job) → AreIdsWithin low rows next → AreIdsWithin low (map (named k) rows) next
@@ -205,17 +230,22 @@ none_named k id rows e = of (job_with id rows) (sym (job_named k id rows) ∙ e)
     of (Some j) e = absurd cc
 
 -- the record of a job, with the number of its tube
-pub numbered_row : (k : Numbering) (h : IsPaired k) (j : Job) (n : ℕ) → number_of j.tube k ≡ Some n
-    → IsNumbered k (record j { tube = n ∷ [] })
-numbered_row k h j n own = (refl, ap is_some (h.there j.tube n own))
+pub row_registered : (k : Numbering) (rows : List Job) → AreRegistered k rows → (j : Job) (n : List ℕ)
+    → number_of j.tube k ≡ Some (number_in n) → n ≡ number_in n ∷ [] → AreRegistered k (with_added (record j { tube = n }) rows)
+row_registered k rows h j n own alone = record {
+  paired = h.paired;
+  numbered = numbered_added k (record j { tube = n }) rows (alone, ap is_some (h.paired.there j.tube (number_in n) own)) h.numbered;
+}
 
-row_named : (k : Numbering) (h : IsPaired k) (j : Job) (n : ℕ) → number_of j.tube k ≡ Some n → named k (record j { tube = n ∷ [] }) ≡ j
-row_named k h j n own = ap (λ o. record j { tube = unwrap_or o [] }) (h.there j.tube n own)
+row_named : (k : Numbering) (h : IsPaired k) (j : Job) (n : List ℕ) → number_of j.tube k ≡ Some (number_in n)
+    → named k (record j { tube = n }) ≡ j
+row_named k h j n own = ap (λ o. record j { tube = unwrap_or o [] }) (h.there j.tube (number_in n) own)
 
-pub row_added : (k : Numbering) (h : IsPaired k) (j : Job) (n : ℕ) → number_of j.tube k ≡ Some n → (rows : List Job)
-    → with_added j (map (named k) rows) ≡ map (named k) (with_added (record j { tube = n ∷ [] }) rows)
-row_added k h j n own rows = ap (λ i. with_added i (map (named k) rows)) (sym (row_named k h j n own))
-    ∙ added_named k (record j { tube = n ∷ [] }) rows
+pub row_added : (k : Numbering) (rows : List Job) → AreRegistered k rows → (j : Job) (n : List ℕ)
+    → number_of j.tube k ≡ Some (number_in n)
+    → with_added j (map (named k) rows) ≡ map (named k) (with_added (record j { tube = n }) rows)
+row_added k rows h j n own = ap (λ i. with_added i (map (named k) rows)) (sym (row_named k h.paired j n own))
+    ∙ added_named k (record j { tube = n }) rows
 
 -- the report about a changed record is the report about its job
 module _ (k : Numbering) (id : ℕ) (f : Job → Job) (ignores : IgnoresTube f) where
@@ -225,10 +255,10 @@ module _ (k : Numbering) (id : ℕ) (f : Job → Job) (ignores : IgnoresTube f) 
   moved_by_name j None some = absurd cc
   moved_by_name j (Some name) some = refl
 
-  pub told_moved : (rows : List Job) → AreNumbered k rows
+  moves_by : (rows : List Job) → AreNumbered k rows
       → option_and_then (moved_told k) (option_map (row_moved_by f) (job_with id rows)) ≡ option_map (moved_by f)
       (job_with id (map (named k) rows))
-  told_moved rows all = of (job_with id rows) refl ∙ ap (option_map (moved_by f)) (sym (job_named k id rows))
+  moves_by rows all = of (job_with id rows) refl ∙ ap (option_map (moved_by f)) (sym (job_named k id rows))
     where
       of : (o : Option Job) → job_with id rows ≡ o
           → option_and_then (moved_told k) (option_map (row_moved_by f) o) ≡ option_map (moved_by f) (option_map (named k) o)
@@ -237,96 +267,91 @@ module _ (k : Numbering) (id : ℕ) (f : Job → Job) (ignores : IgnoresTube f) 
           moved_by_name j (name_of (number_in j.tube) k) ((numbered_there k id rows j all there).1)
           ∙ ap (λ i. Some (record { tube = (named k j).tube; from = standing j; to = standing i })) (sym (edited_named k id f ignores j))
 
--- Registering a tube does not change the tubes of the jobs.
-module _ (k new : Numbering) (name : List ℕ) (registers : Registers name k new) where
-  pub numbered_known : (rows : List Job) → AreNumbered k rows → AreNumbered new rows
-  numbered_known [] all = tt
-  numbered_known (j ∷ rows) all = (
-    (all.0.0, ap is_some (registers.names (number_in j.tube) all.0.1) ∙ all.0.1),
-    numbered_known rows all.1,
-  )
+  pub told_moved : (l : Numbering) (rows : List Job) → AreRegistered k rows → IsPaired l → l.numbers ≡ k.numbers
+      → option_and_then (moved_told l) (option_map (row_moved_by f) (job_with id rows)) ≡ option_map (moved_by f)
+      (job_with id (map (named k) rows))
+  told_moved l rows h g same =
+      ap (λ told. option_and_then told (option_map (row_moved_by f) (job_with id rows)))
+      (λ i m. option_map (moved_in m) (same_names k l h.paired g (number_in m.tube) same i))
+      ∙ moves_by rows h.numbered
 
-  pub named_known : (rows : List Job) → AreNumbered k rows → map (named new) rows ≡ map (named k) rows
-  named_known [] all = refl
-  named_known (j ∷ rows) all =
-      ap (λ o. record j { tube = unwrap_or o [] } ∷ map (named new) rows) (registers.names (number_in j.tube) all.0.1)
-      ∙ ap (λ js. named k j ∷ js) (named_known rows all.1)
+-- Jobs keep their tubes if the names of these tubes stay.
+module _ (k l : Numbering) where
+  abbrev HasName : Job → Type 0
+  HasName j = name_of (number_in j.tube) l ≡ name_of (number_in j.tube) k
 
--- Neither does removing a tube that has no jobs.
-module _ (k : Numbering) (h : IsPaired k) (name : List ℕ) where
-  stays_by : (m : ℕ) (o : Option (List ℕ)) → name_of m k ≡ o → is_some o ≡ true → is_same_name name (unwrap_or o []) ≡ false
-      → name_of m (without_known name k) ≡ name_of m k
-  stays_by m None its some apart = absurd cc
-  stays_by m (Some other) its some apart = name_left k h name m other its apart
+  numbered_stay : (rows : List Job) → All HasName rows → AreNumbered k rows → AreNumbered l rows
+  numbered_stay [] names all = tt
+  numbered_stay (j ∷ rows) names all = ((all.0.0, ap is_some names.0 ∙ all.0.1), numbered_stay rows names.1 all.1)
 
-  stays_named : (j : Job) → IsNumbered k j → is_same_name name (named k j).tube ≡ false
-      → name_of (number_in j.tube) (without_known name k) ≡ name_of (number_in j.tube) k
-  stays_named j is apart = stays_by (number_in j.tube) (name_of (number_in j.tube) k) refl is.1 apart
+  named_stay : (rows : List Job) → All HasName rows → map (named l) rows ≡ map (named k) rows
+  named_stay [] names = refl
+  named_stay (j ∷ rows) names =
+      ap (λ o. record j { tube = unwrap_or o [] } ∷ map (named l) rows) names.0 ∙ ap (λ js. named k j ∷ js) (named_stay rows names.1)
 
-  pub numbered_left : (rows : List Job) → AreNumbered k rows → list_any (λ j. is_same_name name j.tube) (map (named k) rows) ≡ false
-      → AreNumbered (without_known name k) rows
-  numbered_left [] all none = tt
-  numbered_left (j ∷ rows) all none =
-      let both = or_parts (is_same_name name (named k j).tube) (list_any (λ i. is_same_name name i.tube) (map (named k) rows)) none in
-      ((all.0.0, ap is_some (stays_named j all.0 both.0) ∙ all.0.1), numbered_left rows all.1 both.1)
+  module _ (g : IsPaired l) where
+    -- Registering a tube does not change the tubes of the jobs.
+    names_extend : (h : IsPaired k) → Extends k.numbers l.numbers → (rows : List Job) → AreNumbered k rows → All HasName rows
+    names_extend h extends [] all = tt
+    names_extend h extends (j ∷ rows) all = (
+      name_kept k l h g (number_in j.tube) all.0.1 (λ name its own. extends name (number_in j.tube) own),
+      names_extend h extends rows all.1,
+    )
 
-  pub named_left : (rows : List Job) → AreNumbered k rows → list_any (λ j. is_same_name name j.tube) (map (named k) rows) ≡ false
-      → map (named (without_known name k)) rows ≡ map (named k) rows
-  named_left [] all none = refl
-  named_left (j ∷ rows) all none =
-      let both = or_parts (is_same_name name (named k j).tube) (list_any (λ i. is_same_name name i.tube) (map (named k) rows)) none in
-      ap (λ o. record j { tube = unwrap_or o [] } ∷ map (named (without_known name k)) rows) (stays_named j all.0 both.0)
-      ∙ ap (λ js. named k j ∷ js) (named_left rows all.1 both.1)
+    pub registered_more : (rows : List Job) → AreRegistered k rows → Extends k.numbers l.numbers → AreRegistered l rows
+    registered_more rows h extends =
+        record { paired = g; numbered = numbered_stay rows (names_extend h.paired extends rows h.numbered) h.numbered }
 
--- The same for a registration that may fail for lack of memory.
-module _ {E : Type 0} (k new : Numbering) (name : List ℕ) where
-  pub numbered_after : (r : Result (Unit {0}) E) → OnOk r (Registers name k new) → OnErr r (new ≡ k) → (rows : List Job)
-      → AreNumbered k rows → AreNumbered new rows
-  numbered_after (Ok x) registers same rows all = numbered_known k new name registers rows all
-  numbered_after (Err e) registers same rows all = subst (λ n. AreNumbered n rows) (sym same) all
+    pub named_more : (rows : List Job) → AreRegistered k rows → Extends k.numbers l.numbers → map (named l) rows ≡ map (named k) rows
+    named_more rows h extends = named_stay rows (names_extend h.paired extends rows h.numbered)
 
-  pub named_after : (r : Result (Unit {0}) E) → OnOk r (Registers name k new) → OnErr r (new ≡ k) → (rows : List Job)
-      → AreNumbered k rows → map (named new) rows ≡ map (named k) rows
-  named_after (Ok x) registers same rows all = named_known k new name registers rows all
-  named_after (Err e) registers same rows all = ap (λ n. map (named n) rows) same
+    -- Neither does removing a tube that has no jobs.
+    module _ (gone : List ℕ) (left : l.numbers ≡ remove_entry (is_at (slice_cmp nat_cmp gone)) k.numbers) where
+      name_left : (h : IsPaired k) (j : Job) → IsNumbered k j → is_same_name gone (named k j).tube ≡ false → HasName j
+      name_left h j is apart = name_kept k l h g (number_in j.tube) is.1 (λ name its own.
+          number_other k h gone l left name (ap (λ o. is_same_name gone (unwrap_or o [])) (sym its) ∙ apart) ∙ own)
 
-  pub known_after : (r : Result (Unit {0}) E) → OnOk r (Registers name k new) → IfOk r (λ _. is_some (number_of name new) ≡ true)
-  known_after (Ok x) registers = registers.known
-  known_after (Err e) registers = tt
+      names_left : (h : IsPaired k) (rows : List Job) → AreNumbered k rows
+          → list_any (λ j. is_same_name gone j.tube) (map (named k) rows) ≡ false → All HasName rows
+      names_left h [] all none = tt
+      names_left h (j ∷ rows) all none =
+          let both = or_parts (is_same_name gone (named k j).tube) (list_any (λ i. is_same_name gone i.tube) (map (named k) rows)) none in
+          (name_left h j all.0 both.0, names_left h rows all.1 both.1)
 
-  pub kept_after : (r : Result (Unit {0}) E) → OnOk r (Registers name k new) → OnErr r (new ≡ k) → (other : List ℕ)
-      → is_some (number_of other k) ≡ true → is_some (number_of other new) ≡ true
-  kept_after (Ok x) registers same other some = registers.kept other some
-  kept_after (Err e) registers same other some = ap (λ n. is_some (number_of other n)) same ∙ some
+      pub registered_left : (rows : List Job) → AreRegistered k rows
+          → list_any (λ j. is_same_name gone j.tube) (map (named k) rows) ≡ false → AreRegistered l rows
+      registered_left rows h none =
+          record { paired = g; numbered = numbered_stay rows (names_left h.paired rows h.numbered none) h.numbered }
 
-  pub others_after : (r : Result (Unit {0}) E) → OnOk r (Registers name k new) → OnErr r (new ≡ k) → (other : List ℕ)
-      → is_same_name name other ≡ false → number_of other new ≡ number_of other k
-  others_after (Ok x) registers same other apart = registers.others other apart
-  others_after (Err e) registers same other apart = ap (number_of other) same
+      pub named_left : (rows : List Job) → AreRegistered k rows
+          → list_any (λ j. is_same_name gone j.tube) (map (named k) rows) ≡ false → map (named l) rows ≡ map (named k) rows
+      named_left rows h none = named_stay rows (names_left h.paired rows h.numbered none)
 
 -- the tube of a job is the name of its number
-pub tube_named : (k : Numbering) (id : ℕ) (rows : List Job) → AreNumbered k rows → (n : ℕ)
-    → option_map (λ j. number_in j.tube) (job_with id rows) ≡ Some n
-    → name_of n k ≡ option_map (λ j. j.tube) (job_with id (map (named k) rows))
-tube_named k id rows all n e = of (job_with id rows) refl e ∙ ap (option_map (λ j. j.tube)) (sym (job_named k id rows))
+pub tube_named : (k l : Numbering) (id : ℕ) (rows : List Job) → AreRegistered k rows → IsPaired l → l.numbers ≡ k.numbers → (n : List ℕ)
+    → option_map (λ j. j.tube) (job_with id rows) ≡ Some n
+    → name_of (number_in n) l ≡ option_map (λ j. j.tube) (job_with id (map (named k) rows))
+tube_named k l id rows h g same n e = same_names k l h.paired g (number_in n) same ∙ of (job_with id rows) refl e
+    ∙ ap (option_map (λ j. j.tube)) (sym (job_named k id rows))
   where
-    of : (o : Option Job) → job_with id rows ≡ o → option_map (λ j. number_in j.tube) o ≡ Some n
-        → name_of n k ≡ option_map (λ j. j.tube) (option_map (named k) o)
+    of : (o : Option Job) → job_with id rows ≡ o → option_map (λ j. j.tube) o ≡ Some n
+        → name_of (number_in n) k ≡ option_map (λ j. j.tube) (option_map (named k) o)
     of None there e = absurd cc
     of (Some j) there e =
-        let two : Some (number_in j.tube) ≡ Some n = e in
-        let is : number_in j.tube ≡ n = (cc) in
-        ap (λ i. name_of i k) (sym is) ∙ named_is (name_of (number_in j.tube) k) ((numbered_there k id rows j all there).1)
+        let two : Some j.tube ≡ Some n = e in
+        let is : j.tube ≡ n = (cc) in
+        ap (λ i. name_of (number_in i) k) (sym is)
+        ∙ named_is (name_of (number_in j.tube) k) ((numbered_there k id rows j h.numbered there).1)
       where
         named_is : (o : Option (List ℕ)) → is_some o ≡ true → o ≡ Some (unwrap_or o [])
         named_is None some = absurd cc
         named_is (Some name) some = refl
 
-pub no_tube_named : (k : Numbering) (id : ℕ) (rows : List Job) → option_map (λ j. number_in j.tube) (job_with id rows) ≡ None
+pub no_tube_named : (k : Numbering) (id : ℕ) (rows : List Job) → option_map (λ j. j.tube) (job_with id rows) ≡ None
     → None ≡ option_map (λ j. j.tube) (job_with id (map (named k) rows))
 no_tube_named k id rows e = of (job_with id rows) e ∙ ap (option_map (λ j. j.tube)) (sym (job_named k id rows))
   where
-    of : (o : Option Job) → option_map (λ j. number_in j.tube) o ≡ None → None ≡ option_map (λ j. j.tube) (option_map (named k) o)
+    of : (o : Option Job) → option_map (λ j. j.tube) o ≡ None → None ≡ option_map (λ j. j.tube) (option_map (named k) o)
     of None e = refl
     of (Some j) e = absurd cc
 
@@ -399,23 +424,26 @@ module _ {A B : Type 0} (k : Numbering) (id : ℕ) (rows new old : Kept) (row : 
         counted_as 4 k rows (kept_named rows k) new refl r.3,
       )
 
-pub no_name : (k : Numbering) (id : ℕ) (rows : List Job) → AreNumbered k rows → (n : ℕ) → true ≡ is_some (job_with id rows)
-    → IsNumberOf (job_with id rows) n → name_of n k ≡ None → ⊥
-no_name k id rows all n some is none = of (job_with id rows) refl some is
+pub no_name : (k l : Numbering) (id : ℕ) (rows : List Job) → AreRegistered k rows → IsPaired l → l.numbers ≡ k.numbers → (n : List ℕ)
+    → true ≡ is_some (job_with id rows) → IsTubeOf (job_with id rows) n → name_of (number_in n) l ≡ None → ⊥
+no_name k l id rows h g same n some is none = of (job_with id rows) refl some is
   where
-    of : (o : Option Job) → job_with id rows ≡ o → true ≡ is_some o → IsNumberOf o n → ⊥
+    of : (o : Option Job) → job_with id rows ≡ o → true ≡ is_some o → IsTubeOf o n → ⊥
     of None there e is = absurd cc
     of (Some j) there e is =
-        let has : is_some (name_of (number_in j.tube) k) ≡ true = (numbered_there k id rows j all there).1 in
-        let gone : name_of (number_in j.tube) k ≡ None = ap (λ i. name_of i k) (sym (is j refl)) ∙ none in
+        let has : is_some (name_of (number_in j.tube) k) ≡ true = (numbered_there k id rows j h.numbered there).1 in
+        let gone : name_of (number_in j.tube) k ≡ None = ap (λ i. name_of (number_in i) k) (sym (is j refl))
+        ∙ sym (same_names k l h.paired g (number_in n) same) ∙ none in
         let two : is_some (name_of (number_in j.tube) k) ≡ false = ap is_some gone in
         absurd cc
 
-pub tube_is : (k : Numbering) (id : ℕ) (rows : List Job) (n : ℕ) (tube : List ℕ) → IsNumberOf (job_with id rows) n → name_of n k ≡ Some tube
+pub tube_is : (k l : Numbering) (id : ℕ) (rows : List Job) → AreRegistered k rows → IsPaired l → l.numbers ≡ k.numbers
+    → (n tube : List ℕ) → IsTubeOf (job_with id rows) n → name_of (number_in n) l ≡ Some tube
     → IsTubeOf (job_with id (map (named k) rows)) tube
-tube_is k id rows n tube is its j e =
+tube_is k l id rows h g same n tube is its j e =
     let from = named_from k id rows j e in
-    let has : name_of (number_in from.row.tube) k ≡ Some tube = ap (λ i. name_of i k) (sym (is from.row from.there)) ∙ its in
+    let has : name_of (number_in from.row.tube) k ≡ Some tube = ap (λ i. name_of (number_in i) k) (sym (is from.row from.there))
+    ∙ sym (same_names k l h.paired g (number_in n) same) ∙ its in
     ap (λ o. unwrap_or o []) (sym has) ∙ ap (λ (i : Job). i.tube) (sym from.is)
 
 body_is : (k : Numbering) (id : ℕ) (rows : List Job) (body : List ℕ) → IsBodyOf (job_with id rows) body
@@ -430,12 +458,12 @@ body_told k id rows (Ok body) is = body_is k id rows body is
 body_told k id rows (Err e) is = tt
 
 -- what the search takes for an addition, a removal, a change and another reference to a body
-pub ruleset additions = (ids_named, none_named, numbered_added, numbered_row, row_added)
+pub ruleset additions = (ids_named, none_named, row_registered, row_added)
 
-pub ruleset removals = (job_named, numbered_without, told_rows)
+pub ruleset removals = (job_named, registered_without, told_rows)
 
-pub ruleset discards = (job_named, numbered_without, told_removed)
+pub ruleset discards = (job_named, registered_without, told_removed)
 
-pub ruleset changes = (changed_named, ids_named, numbered_changed, told_moved)
+pub ruleset changes = (changed_named, ids_named, registered_changed, told_moved)
 
 pub ruleset shares = (no_name, tube_is, body_told)

@@ -242,28 +242,40 @@ pub number_few : (k : Numbering) (name : List ℕ) (o : Option ℕ) → IsPaired
 number_few k name None h own = tt
 number_few k name (Some n) h own = let less = has_slot k n name (h.there name n own) in omega (arith, less, h.few)
 
--- The other tubes keep their names and numbers.
+-- A tube that keeps its number in another numbering keeps its name there.
+module _ (k l : Numbering) (h : IsPaired k) (g : IsPaired l) (n : ℕ) where
+  kept_by : (o : Option (List ℕ)) → name_of n k ≡ o → is_some o ≡ true
+      → ((name : List ℕ) → name_of n k ≡ Some name → number_of name k ≡ Some n → number_of name l ≡ Some n) → name_of n l ≡ o
+  kept_by None its some keeps = absurd cc
+  kept_by (Some name) its some keeps = g.there name n (keeps name its (h.back n name its))
+
+  pub name_kept : is_some (name_of n k) ≡ true
+      → ((name : List ℕ) → name_of n k ≡ Some name → number_of name k ≡ Some n → number_of name l ≡ Some n) → name_of n l ≡ name_of n k
+  name_kept some keeps = kept_by (name_of n k) refl some keeps
+
+  -- So numberings with the same numbers have the same names.
+  pub same_names : l.numbers ≡ k.numbers → name_of n l ≡ name_of n k
+  same_names same = of (name_of n k) refl (name_of n l) refl
+    where
+      of : (o : Option (List ℕ)) → name_of n k ≡ o → (p : Option (List ℕ)) → name_of n l ≡ p → p ≡ o
+      of None its None there = refl
+      of None its (Some name) there = absurd (
+          let own : number_of name k ≡ Some n = ap (λ es. lookup (is_at (slice_cmp nat_cmp name)) es) (sym same) ∙ g.back n name there in
+          let two : None ≡ Some name = sym its ∙ h.there name n own in
+          cc)
+      of (Some name) its p there =
+          let own : number_of name l ≡ Some n = ap (λ es. lookup (is_at (slice_cmp nat_cmp name)) es) same ∙ h.back n name its in
+          sym there ∙ g.there name n own
+
+-- When a tube is removed, the others keep their numbers,
 module _ (k : Numbering) (h : IsPaired k) (name : List ℕ) where
-  left_by : (o : Option ℕ) → number_of name k ≡ o → (m : ℕ) (other : List ℕ) → name_of m k ≡ Some other → is_same_name name other ≡ false
-      → get_or (names_without o k.names) m None ≡ name_of m k
-  left_by None own m other its apart = refl
-  left_by (Some n) own m other its apart = elim (cases_Bool (is_eq (nat_cmp n m))) [
-    | inl t ↦ absurd (
-        let two : Some name ≡ Some other = sym (h.there name n own) ∙ ap (λ i. name_of i k) (tied_numbers n m t) ∙ its in
-        let same : is_same_name name other ≡ true = (bytes_decides name other).1 (some_is name other two) in
-        cc)
-    | inr t ↦ taken_then k h name n m ∙ rw t refl
-  ]
-
-  -- when a tube is removed, the others keep their names
-  pub name_left : (m : ℕ) (other : List ℕ) → name_of m k ≡ Some other → is_same_name name other ≡ false
-      → name_of m (without_known name k) ≡ name_of m k
-  name_left = left_by (number_of name k) refl
-
-  -- and their numbers,
   pub number_left : (other : List ℕ) → is_same_name name other ≡ false → number_of other (without_known name k) ≡ number_of other k
   number_left other apart = removed_then k h name other
       ∙ (let t : is_eq (slice_cmp nat_cmp name other) ≡ false = sym (texts_ties name other) ∙ apart in rw t refl)
+
+  pub number_other : (l : Numbering) → l.numbers ≡ remove_entry (is_at (slice_cmp nat_cmp name)) k.numbers → (other : List ℕ)
+      → is_same_name name other ≡ false → number_of other l ≡ number_of other k
+  number_other l left other apart = ap (λ es. lookup (is_at (slice_cmp nat_cmp other)) es) left ∙ number_left other apart
 
   -- and the removed one has no number.
   pub number_gone : number_of name (without_known name k) ≡ None

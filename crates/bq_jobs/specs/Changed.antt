@@ -9,7 +9,6 @@ use Rattle.bq_jobs.specs.declared.rows.Moved.{Moved}
 use Rattle.bq_jobs.specs.declared.rows.MovedRow.{MovedRow}
 use Rattle.bq_jobs.specs.declared.rows.Removed.{Removed}
 use Rattle.bq_jobs.specs.declared.rows.Standing.{Standing}
-use Rattle.bq_jobs.specs.Names.{number_in}
 
 abbrev pub standing : Job → Standing
 standing j = record { pri = j.pri; state = j.state }
@@ -26,9 +25,9 @@ moved_by f j = record { tube = j.tube; from = standing j; to = standing (f j) }
 abbrev pub row_moved_by : (Job → Job) → Job → MovedRow
 row_moved_by f j = record { tube = j.tube; from = standing j; to = standing (f j) }
 
--- the tube's number and the standing of a record that was removed
-abbrev pub row_removed : Job → ℕ × Standing
-row_removed j = (number_in j.tube, standing j)
+-- the tube and the standing of a record that was removed
+abbrev pub row_removed : Job → List ℕ × Standing
+row_removed j = (j.tube, standing j)
 
 -- the report about a job that was removed
 abbrev pub removed_from : Job → Removed

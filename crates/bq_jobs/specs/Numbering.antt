@@ -78,6 +78,11 @@ IsNumbered k j = (j.tube ≡ number_in j.tube ∷ []) × (is_some (name_of (numb
 abbrev pub AreNumbered : Numbering → List Job → Type 0
 AreNumbered k rows = AllByRecursion (IsNumbered k) rows
 
+-- the same in a numbering that is one to one
+pub record AreRegistered (k : Numbering) (rows : List Job) : Type 0 where
+  pub paired : IsPaired k
+  pub numbered : AreNumbered k rows
+
 -- what is kept, as a contract sees it with the names of the tubes
 abbrev pub kept_named : Kept → Numbering → Kept
 kept_named rows k = record { jobs = map (named k) rows.jobs; room = rows.room; comparisons = rows.comparisons; tubes = k.numbers }

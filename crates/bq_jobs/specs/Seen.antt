@@ -1,7 +1,6 @@
 -- A job and its tube.
 use Rattle.std.specs.Prelude.{◌≡◌, ℕ, List, [], Option, Some}
 use Rattle.bq_job.specs.declared.job.Job.{Job}
-use Rattle.bq_jobs.specs.Names.{number_in}
 
 -- a job without its tube
 abbrev pub but_for_tube : Job → Job
@@ -15,10 +14,6 @@ in_tube j tube = record j { tube = tube }
 abbrev pub IsBodyOf : Option Job → List ℕ → Type 0
 IsBodyOf o body = (j : Job) → o ≡ Some j → body ≡ j.body
 
--- or its tube,
+-- or its tube.
 abbrev pub IsTubeOf : Option Job → List ℕ → Type 0
 IsTubeOf o tube = (j : Job) → o ≡ Some j → tube ≡ j.tube
-
--- or the number of the tube of its record.
-abbrev pub IsNumberOf : Option Job → ℕ → Type 0
-IsNumberOf o number = (j : Job) → o ≡ Some j → number ≡ number_in j.tube

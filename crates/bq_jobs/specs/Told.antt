@@ -1,5 +1,5 @@
 -- A record with the name of its tube.
-use Rattle.std.specs.Prelude.{Option, ℕ}
+use Rattle.std.specs.Prelude.{List, Option, ℕ}
 use Rattle.std.specs.Option.{option_map}
 use Rattle.bq_job.specs.declared.job.Job.{Job}
 use Rattle.bq_jobs.specs.declared.rows.Moved.{Moved}
@@ -16,8 +16,8 @@ abbrev pub job_told : Numbering → Job → Option Job
 job_told k row = option_map (in_tube row) (name_of (number_in row.tube) k)
 
 -- the report about its removal
-abbrev pub removed_told : Numbering → ℕ × Standing → Option Removed
-removed_told k r = option_map (λ tube. record { tube = tube; at = r.1 }) (name_of r.0 k)
+abbrev pub removed_told : Numbering → List ℕ × Standing → Option Removed
+removed_told k r = option_map (λ tube. record { tube = tube; at = r.1 }) (name_of (number_in r.0) k)
 
 -- the report about its change
 abbrev pub moved_told : Numbering → MovedRow → Option Moved

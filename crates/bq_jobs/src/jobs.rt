@@ -1,7 +1,12 @@
-//! The jobs of a work queue, kept with the numbers of their tubes.
+//! The jobs of a work queue, kept with the numbers of their tubes. The names of the tubes are in a
+//! table outside.
 ghost use Rattle.std.specs.Option.{option_and_then, option_map};
-ghost use Rattle.std.specs.Prelude.{◌≡◌, ◌+◌, ◌-◌, ◌<◌, ◌^◌, if◌then◌else◌, [], ℕ, List};
-ghost use Rattle.std.specs.Prelude.{nat_lt, true, false, length, IfOk, IfSome, None, OnErr};
+ghost use Rattle.std.specs.Prelude.{◌≡◌, ◌+◌, ◌-◌, ◌<◌, ◌^◌, ◌∷◌, if◌then◌else◌, []};
+ghost use Rattle.std.specs.Prelude.{nat_lt, true, false, length, IfOk, IfSome, None};
+ghost use Rattle.std.specs.BTreeMap.{is_at};
+ghost use Rattle.std.specs.Cmp.Lexicographic.{slice_cmp};
+ghost use Rattle.std.specs.Map.{remove_entry};
+ghost use Rattle.std.specs.Ordering.{nat_cmp};
 ghost use Rattle.bq_job.specs.machine.Changes.{first_of, is_held_by, job_with};
 ghost use Rattle.bq_job.specs.machine.Dispatch.{is_job_before};
 ghost use Rattle.bq_job.specs.machine.JobCommands.{is_buried_in, is_delayed_in};
@@ -11,7 +16,8 @@ ghost use Rattle.bq_job.specs.machine.TubeCommands.{is_ready_in};
 ghost use Rattle.bq_job.specs.reading.TubeName.{is_same_name};
 ghost use Rattle.std.specs.List.{list_any};
 ghost use Rattle.bq_jobs.specs.Changed.{IgnoresTube, KeepsId, moved_by, removed_from, with_changed};
-ghost use Rattle.bq_jobs.specs.Numbering.{is_known};
+ghost use Rattle.bq_jobs.specs.Names.{number_in};
+ghost use Rattle.bq_jobs.specs.Numbering.{Extends, IsPaired, is_known, name_of, number_of};
 ghost use Rattle.bq_jobs.specs.Seen.{IsBodyOf, IsTubeOf, but_for_tube};
 ghost use Rattle.bq_jobs.specs.Told.{job_told, moved_told, removed_told};
 ghost use Rattle.bq_jobs.specs.Kept.{ComparesAtMost, ranked, with_added};
@@ -24,51 +30,61 @@ ghost use Rattle.bq_jobs.specs.Searching.{FindsById, Searches};
 
 use super::places::{Group, JobList, Timer};
 use super::rows::{self, JobEdit, Moved, MovedRow, Removed, Row, Rows, Standing};
+use super::tube::Tube;
 use super::tubes::{NumberedTubes, TubeNumber};
 use bq_index::BoxSource;
 use bq_job::{Body, Job, JobId, Moment, NoMemory, Seat, TubeName};
 use std::alloc::Global;
 use std::marker::Model;
+use std::snapshot::Snapshot;
 
 /// The jobs. A job is found by its id, and the first job of each kind without a search.
 ///
-/// [`NumberedJobs::add`] adds a job, to a tube that [`NumberedJobs::know`] registered and with the
-/// room that [`NumberedJobs::reserve_one`] made. [`NumberedJobs::remove`] removes a job and leaves
-/// its room for the next one, so to remove a job, change it and add it again allocates nothing.
+/// The names of the tubes are in a [`NumberedTubes`] outside: one table for the whole core. A call
+/// that needs a name takes that table by reference. The jobs have to know the table as it is then:
+/// [`NumberedJobs::learn`] takes note of tubes that were registered in it, and
+/// [`NumberedJobs::forget`] of a tube that was removed.
+///
+/// [`NumberedJobs::add`] adds a job to a registered tube, with the room that
+/// [`NumberedJobs::reserve_one`] made. [`NumberedJobs::remove`] removes a job and leaves its room
+/// for the next one, so to remove a job, change it and add it again allocates nothing.
 #[derive(Drop)]
 pub struct NumberedJobs {
     rows: Rows,
-    tubes: NumberedTubes,
+    // The table of names as the jobs know it, for contracts only: it takes no memory.
+    tubes: Snapshot<NumberedTubes>,
 }
 
 impl Model for NumberedJobs {
     ghost use Rattle.bq_jobs.specs.Kept.{Kept};
-    ghost use Rattle.bq_jobs.specs.Numbering.{AreNumbered, kept_named};
+    ghost use Rattle.bq_jobs.specs.Numbering.{AreRegistered, kept_named};
 
     ghost Value = { Kept };
 
-    ghost view = { λ s. kept_named s.rows s.tubes };
+    ghost view = { λ s. kept_named s.rows s.tubes.value };
 
-    ghost invariant = { λ s. AreNumbered s.tubes s.rows.jobs };
+    ghost invariant = { λ s. AreRegistered s.tubes.value s.rows.jobs };
 }
 
 impl NumberedJobs {
     ghost use Rattle.std.specs.Borrow.{sem};
     ghost use Rattle.bq_jobs.specs.Lent.{LeavesNumbered};
 
-    /// Returns a value with no jobs, and no room for one.
+    /// Returns a value with no jobs, and no room for one, which knows this table of tubes.
     ///
     /// # Errors
     ///
     /// `NoMemory` if an allocation fails.
-    pub fn new(alloc: Global) -> Result<NumberedJobs, NoMemory>
+    pub fn new(alloc: Global, tubes: &NumberedTubes) -> Result<NumberedJobs, NoMemory>
         ensures { IfOk result
-            (λ jobs. jobs ≡ record { jobs = []; room = 0; comparisons = 0; tubes = [] }) }
+            (λ jobs. jobs
+            ≡ record { jobs = []; room = 0; comparisons = 0; tubes = tubes.now.numbers }) }
     {
+        tubes.paired();
         let rows = Rows::new(alloc)?;
         Ok(NumberedJobs {
             rows,
-            tubes: NumberedTubes::new(alloc),
+            tubes: Snapshot::of(tubes),
         })
     }
 
@@ -123,54 +139,63 @@ impl NumberedJobs {
         self.rows.give_back();
     }
 
-    /// Adds a job, which uses the room of one. Its tube has to be registered, see
-    /// [`NumberedJobs::know`].
+    /// Adds a job, which uses the room of one. Its tube has to be registered, and is looked for at
+    /// the number `hint` first.
     #[tactic(auto, using(crate::proofs::NamedJobs::additions))]
-    pub fn add(&mut self, job: Job)
+    pub fn add(&mut self, tubes: &NumberedTubes, job: Job, hint: TubeNumber)
         requires room { 0 < self.old.room }
         requires absent { job_with job.id self.old.jobs ≡ None }
         requires known { is_known job.tube self.old ≡ true }
+        requires same { tubes.now.numbers ≡ self.old.tubes }
         ensures jobs { self.new.jobs ≡ with_added job self.old.jobs }
         ensures ordered { AreIdsWithin 0 self.new.jobs (2 ^ 64) }
         ensures tubes { self.new.tubes ≡ self.old.tubes }
         ensures room { self.new.room + 1 ≡ self.old.room }
         ensures comparisons { ComparesAtMost 4 self.old self.new }
     {
-        if let Some(number) = self.tubes.number_of(&job.tube, TubeNumber::unknown()) {
-            self.rows.add(job.id, rows::row_of(job, number.get()));
+        if let Some(number) = number_at(tubes, &job.tube, hint) {
+            self.rows.add(job.id, rows::row_of(job, number));
         }
     }
 
     /// Removes the job with this id and returns it, if there is one. Its room is free again.
     #[tactic(auto, using(crate::proofs::NamedJobs::removals))]
-    pub fn remove(&mut self, id: JobId) -> Option<Job>
+    pub fn remove(&mut self, tubes: &NumberedTubes, id: JobId) -> Option<Job>
+        requires same { tubes.now.numbers ≡ self.old.tubes }
         ensures job { result ≡ job_with id self.old.jobs }
         ensures tubes { self.new.tubes ≡ self.old.tubes }
         ensures id { IfSome result (λ job. job.id ≡ id) }
         ensures left { Removes id result self.old self.new }
     {
         let row = self.rows.remove(id);
-        job_of(&self.tubes, id, row)
+        job_of(tubes, id, row)
     }
 
     /// Removes the job with this id, if there is one, and drops it. Its room is free again. Returns
     /// the tube and the standing that the job had, which are less to copy than the job.
     #[tactic(auto, using(crate::proofs::NamedJobs::discards))]
-    pub fn discard(&mut self, id: JobId) -> Option<Removed>
+    pub fn discard(&mut self, tubes: &NumberedTubes, id: JobId) -> Option<Removed>
+        requires same { tubes.now.numbers ≡ self.old.tubes }
         ensures removed { result ≡ option_map removed_from (job_with id self.old.jobs) }
         ensures tubes { self.new.tubes ≡ self.old.tubes }
         ensures left { Removes id result self.old self.new }
     {
         let removed = self.rows.discard(id);
-        removed_of(&self.tubes, removed)
+        removed_of(tubes, removed)
     }
 
     /// Changes the job with this id, if there is one, and moves it to its new place in each order.
     /// The record itself does not move, and nothing is allocated.
     #[tactic(auto, using(crate::proofs::NamedJobs::changes))]
-    pub fn change<E: JobEdit>(&mut self, id: JobId, edit: &E) -> Option<Moved>
+    pub fn change<E: JobEdit>(
+        &mut self,
+        tubes: &NumberedTubes,
+        id: JobId,
+        edit: &E,
+    ) -> Option<Moved>
         requires id { KeepsId (E.edited edit.now) }
         requires tube { IgnoresTube (E.edited edit.now) }
+        requires same { tubes.now.numbers ≡ self.old.tubes }
         ensures moved { result
             ≡ option_map (moved_by (E.edited edit.now)) (job_with id self.old.jobs) }
         ensures jobs { self.new.jobs ≡ with_changed id (E.edited edit.now) self.old.jobs }
@@ -180,7 +205,7 @@ impl NumberedJobs {
         ensures comparisons { ComparesAtMost 7 self.old self.new }
     {
         let moved = self.rows.change(id, edit);
-        told_of(&self.tubes, moved)
+        told_of(tubes, moved)
     }
 
     /// Returns the record of the job with this id. It has all of the job but the name of its tube.
@@ -194,25 +219,31 @@ impl NumberedJobs {
 
     /// Returns the tube of the job with this id.
     #[tactic(auto, using(crate::proofs::NamedJobs::tube_named, crate::proofs::NamedJobs::no_tube_named))]
-    pub fn tube_of(&mut self, id: JobId) -> Option<TubeName>
+    pub fn tube_of(&mut self, tubes: &NumberedTubes, id: JobId) -> Option<Tube>
+        requires same { tubes.now.numbers ≡ self.old.tubes }
         ensures tube { result ≡ option_map (λ j. j.tube) (job_with id self.old.jobs) }
         ensures kept { Searches 1 self.old self.new }
     {
         let number = self.rows.number_of(id)?;
-        self.tubes.name_at(number).copied()
+        tube_at(tubes, number)
     }
 
     /// Returns the tube of the job with this id, and another reference to its body, or `NoMemory`
     /// for that.
     #[tactic(auto, using(crate::proofs::NamedJobs::shares))]
-    pub fn share(&mut self, id: JobId) -> Option<(TubeName, Result<Body, NoMemory>)>
+    pub fn share(
+        &mut self,
+        tubes: &NumberedTubes,
+        id: JobId,
+    ) -> Option<(Tube, Result<Body, NoMemory>)>
+        requires same { tubes.now.numbers ≡ self.old.tubes }
         ensures tube { IfSome result (λ s. IsTubeOf (job_with id self.old.jobs) s.0) }
         ensures body { IfSome result (λ s. IfOk s.1 (IsBodyOf (job_with id self.old.jobs))) }
         ensures kept { FindsById id result self.old self.new }
     {
         let (number, body) = self.rows.share(id)?;
-        let tube = self.tubes.name_at(number)?;
-        Some((*tube, body))
+        let tube = tube_at(tubes, number)?;
+        Some((tube, body))
     }
 
     /// Returns another reference to the body of the job with this id, or `NoMemory`. It does not
@@ -227,34 +258,37 @@ impl NumberedJobs {
 
     /// Returns the id of the most urgent ready job of a tube: by priority, then by id.
     #[tactic(auto, using(crate::proofs::FirstJobs::held_id))]
-    pub fn first_ready(&mut self, tube: &TubeName) -> Option<JobId>
+    pub fn first_ready(&mut self, tubes: &NumberedTubes, tube: &Tube) -> Option<JobId>
+        requires same { tubes.now.numbers ≡ self.old.tubes }
         ensures id { result
             ≡ option_map (λ j. j.id) (first_of (is_ready_in tube.now) is_job_before self.old.jobs) }
         ensures kept { Searches 1 self.old self.new }
     {
-        id_in(self.first_listed(JobList::Ready, tube))
+        id_in(self.first_listed(tubes, JobList::Ready, tube))
     }
 
     /// Returns the id of the delayed job of a tube that is due first: by due moment, then by id.
     #[tactic(auto, using(crate::proofs::FirstJobs::held_id))]
-    pub fn first_delayed(&mut self, tube: &TubeName) -> Option<JobId>
+    pub fn first_delayed(&mut self, tubes: &NumberedTubes, tube: &Tube) -> Option<JobId>
+        requires same { tubes.now.numbers ≡ self.old.tubes }
         ensures id { result
             ≡ option_map (λ j. j.id)
             (first_of (is_delayed_in tube.now) is_due_before self.old.jobs) }
         ensures kept { Searches 1 self.old self.new }
     {
-        id_in(self.first_listed(JobList::Delayed, tube))
+        id_in(self.first_listed(tubes, JobList::Delayed, tube))
     }
 
     /// Returns the id of the job of a tube that was buried first: by burial number, then by id.
     #[tactic(auto, using(crate::proofs::FirstJobs::held_id))]
-    pub fn first_buried(&mut self, tube: &TubeName) -> Option<JobId>
+    pub fn first_buried(&mut self, tubes: &NumberedTubes, tube: &Tube) -> Option<JobId>
+        requires same { tubes.now.numbers ≡ self.old.tubes }
         ensures id { result
             ≡ option_map (λ j. j.id)
             (first_of (is_buried_in tube.now) is_buried_before self.old.jobs) }
         ensures kept { Searches 1 self.old self.new }
     {
-        id_in(self.first_listed(JobList::Buried, tube))
+        id_in(self.first_listed(tubes, JobList::Buried, tube))
     }
 
     /// Returns the id of the delayed job that is due first, in any tube: by due moment, then by id.
@@ -294,13 +328,14 @@ impl NumberedJobs {
     /// Returns the priority and the id of the most urgent ready job of a tube: by priority, then by
     /// id.
     #[tactic(auto, unfolding(crate::specs::Ranks::first_held))]
-    pub fn most_urgent(&mut self, tube: &TubeName) -> Option<(u64, JobId)>
+    pub fn most_urgent(&mut self, tubes: &NumberedTubes, tube: &Tube) -> Option<(u64, JobId)>
+        requires same { tubes.now.numbers ≡ self.old.tubes }
         ensures rank { result
             ≡ option_map (ranked (λ j. j.pri))
             (first_of (is_ready_in tube.now) is_job_before self.old.jobs) }
         ensures kept { Searches 1 self.old self.new }
     {
-        self.first_listed(JobList::Ready, tube)
+        self.first_listed(tubes, JobList::Ready, tube)
     }
 
     /// Returns the due moment and the id of the delayed job that is due first, in any tube.
@@ -340,12 +375,19 @@ impl NumberedJobs {
     // Returns the number and the id of the first job of a tube in one state: by that number, then
     // by id.
     #[tactic(auto, using(crate::proofs::NamedFirsts::listed_told, crate::proofs::NamedFirsts::none_listed))]
-    fn first_listed(&mut self, list: JobList, tube: &TubeName) -> Option<(u64, JobId)>
+    fn first_listed(
+        &mut self,
+        tubes: &NumberedTubes,
+        list: JobList,
+        tube: &Tube,
+    ) -> Option<(u64, JobId)>
+        requires same { tubes.now.numbers ≡ self.old.tubes }
         ensures rank { result ≡ first_held (list_of tube.now list) self.old.jobs }
         ensures kept { Searches 1 self.old self.new }
     {
-        let number = self.tubes.number_of(tube, TubeNumber::unknown())?;
-        self.rows.first_of_group(Group::list(list, number))
+        let rows = &mut self.rows;
+        let number = number_at(tubes, tube.name(), tube.number())?;
+        rows.first_of_group(Group::list(list, number))
     }
 
     // Returns the deadline and the id of the first job of the client at a seat.
@@ -366,35 +408,27 @@ impl NumberedJobs {
         self.rows.first_of_timer(timer)
     }
 
-    /// Registers a tube, so that jobs can be added to it. The memory that this needs is allocated
-    /// before any change.
-    ///
-    /// # Errors
-    ///
-    /// `NoMemory` if that allocation fails, or if 2^30 tubes are registered.
-    #[tactic(auto, using(crate::proofs::NamedJobs::kept_after, crate::proofs::NamedJobs::others_after, crate::proofs::NamedJobs::known_after))]
-    pub fn know(&mut self, alloc: Global, tube: &TubeName) -> Result<(), NoMemory>
-        ensures known { IfOk result (λ _. is_known tube.now self.new ≡ true) }
-        ensures others { (other : List ℕ) → is_known other self.old ≡ true
-            → is_known other self.new ≡ true }
-        ensures only { (other : List ℕ) → is_same_name tube.now other ≡ false
-            → is_known other self.new ≡ is_known other self.old }
-        ensures refused { OnErr result (self.new ≡ self.old) }
-        ensures same { self.new ≡ record self.old { tubes = self.new.tubes } }
+    /// Takes note of a table in which tubes were registered. It does nothing when the program runs:
+    /// it is for contracts only.
+    pub fn learn(&mut self, tubes: &NumberedTubes)
+        requires extends { Extends self.old.tubes tubes.now.numbers }
+        ensures { self.new ≡ record self.old { tubes = tubes.now.numbers } }
     {
-        self.tubes.register(alloc, tube)
+        tubes.paired();
+        self.tubes = Snapshot::of(tubes);
     }
 
-    /// Removes a tube that has no jobs. No job can be added to it until it is registered again.
-    #[tactic(auto, using(crate::proofs::NumberingLemmas::number_left, crate::proofs::NumberingLemmas::number_gone))]
-    pub fn forget(&mut self, tube: &TubeName)
-        requires none { list_any (λ j. is_same_name tube.now j.tube) self.old.jobs ≡ false }
-        ensures gone { is_known tube.now self.new ≡ false }
-        ensures others { (other : List ℕ) → is_same_name tube.now other ≡ false
-            → is_known other self.new ≡ is_known other self.old }
-        ensures same { self.new ≡ record self.old { tubes = self.new.tubes } }
+    /// Takes note of a table from which a tube without jobs was removed. It too is for contracts
+    /// only.
+    pub fn forget(&mut self, tubes: &NumberedTubes, gone: &TubeName)
+        requires none { list_any (λ j. is_same_name gone.now j.tube) self.old.jobs ≡ false }
+        requires left { tubes.now.numbers
+            ≡ remove_entry (is_at (slice_cmp nat_cmp gone.now)) self.old.tubes }
+        ensures { self.new ≡ record self.old { tubes = tubes.now.numbers } }
     {
-        let _number = self.tubes.remove(tube);
+        let _ = gone;
+        tubes.paired();
+        self.tubes = Snapshot::of(tubes);
     }
 }
 
@@ -407,38 +441,69 @@ pub(crate) fn id_in(rank: Option<(u64, JobId)>) -> Option<JobId>
     Some(id)
 }
 
+// Returns the number of a tube, if it is registered.
+fn number_at(tubes: &NumberedTubes, name: &TubeName, hint: TubeNumber) -> Option<TubeNumber>
+    ensures number { option_map number_in result ≡ number_of name.now tubes.now }
+    ensures alone { IfSome result (λ number. number ≡ number_in number ∷ []) }
+{
+    match tubes.number_of(name, hint) {
+        None => None,
+        Some(number) => Some(TubeNumber::of(number.get())),
+    }
+}
+
+// Returns the tube with this number, with its name.
+fn tube_at(tubes: &NumberedTubes, number: TubeNumber) -> Option<Tube>
+    ensures tube { result ≡ name_of (number_in number) tubes.now }
+    ensures paired { IsPaired tubes.now }
+{
+    match tubes.name_of(number) {
+        None => None,
+        Some(name) => Some(Tube::new(name, number)),
+    }
+}
+
 // Returns the job of the record with this id, with the name of its tube, if there is a record.
 fn job_of(tubes: &NumberedTubes, id: JobId, row: Option<Row>) -> Option<Job>
     requires id { IfSome row (λ r. r.id ≡ id) }
-    ensures { result ≡ option_and_then (job_told tubes.now) row }
+    ensures job { result ≡ option_and_then (job_told tubes.now) row }
+    ensures paired { IsPaired tubes.now }
 {
+    tubes.paired();
     let row = row?;
-    match tubes.name_at(row.tube.get()) {
+    match tubes.name_of(row.tube) {
         None => None,
-        Some(tube) => Some(rows::job_of(id, row, *tube)),
+        Some(name) => Some(rows::job_of(id, row, *name)),
     }
 }
 
 // Returns the report about a removed record, with the name of its tube.
-fn removed_of(tubes: &NumberedTubes, removed: Option<(u32, Standing)>) -> Option<Removed>
-    ensures { result ≡ option_and_then (removed_told tubes.now) removed }
+fn removed_of(tubes: &NumberedTubes, removed: Option<(TubeNumber, Standing)>) -> Option<Removed>
+    ensures removed { result ≡ option_and_then (removed_told tubes.now) removed }
+    ensures paired { IsPaired tubes.now }
 {
+    tubes.paired();
     let (number, at) = removed?;
-    match tubes.name_at(number) {
+    match tubes.name_of(number) {
         None => None,
-        Some(tube) => Some(Removed { tube: *tube, at }),
+        Some(name) => Some(Removed {
+            tube: Tube::new(name, number),
+            at,
+        }),
     }
 }
 
 // Returns the report about a changed record, with the name of its tube.
 fn told_of(tubes: &NumberedTubes, moved: Option<MovedRow>) -> Option<Moved>
-    ensures { result ≡ option_and_then (moved_told tubes.now) moved }
+    ensures moved { result ≡ option_and_then (moved_told tubes.now) moved }
+    ensures paired { IsPaired tubes.now }
 {
+    tubes.paired();
     let moved = moved?;
-    match tubes.name_at(moved.tube.get()) {
+    match tubes.name_of(moved.tube) {
         None => None,
-        Some(tube) => Some(Moved {
-            tube: *tube,
+        Some(name) => Some(Moved {
+            tube: Tube::new(name, moved.tube),
             from: moved.from,
             to: moved.to,
         }),

@@ -5,9 +5,11 @@
 //! holder, and their places by moment. A job has a box on each shelf, used or spare, so it can
 //! change from any state to any other.
 //!
-//! [`NumberedJobs`] is the same with a number in place of a tube's name, and takes less memory. A
-//! tube gets its number before a job is added to it ([`NumberedJobs::know`]), and it can be removed
-//! when it has no jobs. Then its number is free for another tube. A job with a body of 64 bytes
+//! [`NumberedJobs`] is the same with a number in place of a tube's name, and takes less memory. The
+//! names are outside, in a [`NumberedTubes`]: one table for the whole core, which is passed to the
+//! calls that need a name. A tube gets its number there before a job is added to it, and it can be
+//! removed when it has no jobs. Then its number is free for another tube. The jobs take note of
+//! both changes ([`NumberedJobs::learn`], [`NumberedJobs::forget`]). A job with a body of 64 bytes
 //! takes this much of the heap:
 //!
 //! | piece | bytes | |---|---| | its box by id | 120 | | its place in its tube or at its holder |

@@ -1,5 +1,5 @@
-//! The record of a job inside this crate, in which the tube is a number; its changes; and the
-//! records of all jobs.
+//! The record of a job, in which the tube is a number; its changes; and the records of all jobs.
+//! The names of the tubes are in a table outside, one for the whole core.
 ghost use Rattle.std.specs.Option.{option_map};
 ghost use Rattle.std.specs.Prelude.{◌≡◌, ◌+◌, ◌-◌, ◌<◌, ◌^◌, ◌∷◌, if◌then◌else◌, []};
 ghost use Rattle.std.specs.Prelude.{nat_lt, length, IfOk, IfSome, None};
@@ -8,16 +8,16 @@ ghost use Rattle.bq_job.specs.beside.Lawful.{AreIdsWithin};
 ghost use Rattle.bq_index.specs.Shelf.{ComparesFew};
 ghost use Rattle.bq_jobs.specs.Changed.{IgnoresTube, KeepsId, entry_at, row_moved_by, row_removed, standing, with_changed, with_edited};
 ghost use Rattle.bq_jobs.specs.Kept.{ComparesAtMost, with_added};
-ghost use Rattle.bq_jobs.specs.Names.{number_in};
 ghost use Rattle.bq_jobs.specs.Ranks.{first_held, first_timed};
 ghost use Rattle.bq_jobs.specs.Room.{MakesRoom, Removes};
 ghost use Rattle.bq_jobs.specs.Searching.{FindsById, Searches};
-ghost use Rattle.bq_jobs.specs.Seen.{IsBodyOf, IsNumberOf};
+ghost use Rattle.bq_jobs.specs.Seen.{IsBodyOf, IsTubeOf};
 ghost use Rattle.bq_jobs.specs.Stages.{state_of};
 
 use super::groups::Groups;
 use super::places::{self, Group, Timer};
 use super::timers::Timers;
+use super::tube::Tube;
 use super::tubes::TubeNumber;
 use bq_index::{BoxSource, Edit, Shelf};
 use bq_job::{Body, Counts, Job, JobId, JobState, Moment, NoMemory, Pri, Seat, TubeName};
@@ -118,13 +118,12 @@ fn parts_of(state: JobState) -> (Stage, Seat, u64)
 }
 
 /// Returns the record of a job whose tube has this number.
-pub(crate) fn row_of(job: Job, number: u32) -> Row
-    requires { number < 2 ^ 30 }
-    ensures { result ≡ record job { tube = number ∷ [] } }
+pub(crate) fn row_of(job: Job, number: TubeNumber) -> Row
+    ensures { result ≡ record job { tube = number } }
 {
     let (stage, seat, at) = parts_of(job.state);
     Row {
-        tube: TubeNumber::of(number),
+        tube: number,
         at,
         pri: job.pri,
         delay: job.delay,
@@ -187,21 +186,21 @@ impl Standing {
 }
 
 /// The report about a changed job: its tube, and its standing before and after the change.
-#[derive(Clone, Copy)]
+#[derive(Drop)]
 pub struct Moved {
-    pub tube: TubeName,
+    pub tube: Tube,
     pub from: Standing,
     pub to: Standing,
 }
 
 /// The report about a removed job: its tube, and its standing when it was removed.
-#[derive(Clone, Copy)]
+#[derive(Drop)]
 pub struct Removed {
-    pub tube: TubeName,
+    pub tube: Tube,
     pub at: Standing,
 }
 
-/// The report about a changed job, with the number of its tube.
+/// The report about a changed record, in which the tube is a number.
 #[derive(Clone, Copy)]
 pub(crate) struct MovedRow {
     pub(crate) tube: TubeNumber,
@@ -222,7 +221,7 @@ pub trait JobEdit {
 }
 
 /// The records of the jobs. A record is found by its id, and the first one of each kind without a
-/// search. It is [`super::Jobs`] with numbers in place of names.
+/// search. It is [`super::Jobs`] with numbers in place of names, and knows no names.
 #[derive(Drop)]
 pub(crate) struct Rows {
     by_id: Shelf<JobId, Row>,
@@ -350,12 +349,12 @@ impl Rows {
 
     /// Removes the job with this id, if there is one, and drops its record. Returns the number of
     /// its tube and its standing. Its room is free again.
-    pub(crate) fn discard(&mut self, id: JobId) -> Option<(u32, Standing)>
+    pub(crate) fn discard(&mut self, id: JobId) -> Option<(TubeNumber, Standing)>
         ensures removed { result ≡ option_map row_removed (job_with id self.old.jobs) }
         ensures left { Removes id result self.old self.new }
     {
         let row = self.remove(id)?;
-        Some((row.tube.get(), Standing::of_row(&row)))
+        Some((row.tube, Standing::of_row(&row)))
     }
 
     /// Changes the job with this id, if there is one, and moves it to its new place in each order.
@@ -393,26 +392,26 @@ impl Rows {
     }
 
     /// Returns the number of the tube of the job with this id.
-    pub(crate) fn number_of(&mut self, id: JobId) -> Option<u32>
-        ensures number { result ≡ option_map (λ j. number_in j.tube) (job_with id self.old.jobs) }
+    pub(crate) fn number_of(&mut self, id: JobId) -> Option<TubeNumber>
+        ensures number { result ≡ option_map (λ j. j.tube) (job_with id self.old.jobs) }
         ensures kept { Searches 1 self.old self.new }
     {
         match self.get(id) {
             None => None,
-            Some(row) => Some(row.tube.get()),
+            Some(row) => Some(row.tube),
         }
     }
 
     /// Returns the number of the tube of the job with this id, and another reference to its body,
     /// or `NoMemory` for that.
-    pub(crate) fn share(&mut self, id: JobId) -> Option<(u32, Result<Body, NoMemory>)>
-        ensures number { IfSome result (λ s. IsNumberOf (job_with id self.old.jobs) s.0) }
+    pub(crate) fn share(&mut self, id: JobId) -> Option<(TubeNumber, Result<Body, NoMemory>)>
+        ensures number { IfSome result (λ s. IsTubeOf (job_with id self.old.jobs) s.0) }
         ensures body { IfSome result (λ s. IfOk s.1 (IsBodyOf (job_with id self.old.jobs))) }
         ensures kept { FindsById id result self.old self.new }
     {
         match self.get(id) {
             None => None,
-            Some(row) => Some((row.tube.get(), row.body.share())),
+            Some(row) => Some((row.tube, row.body.share())),
         }
     }
 

@@ -14,7 +14,6 @@ ghost use Rattle.bq_jobs.specs.Names.{number_in};
 ghost use Rattle.bq_jobs.specs.Numbering.{Extends};
 ghost use Rattle.bq_jobs.specs.Table.{changed_at, listed_after, passes_if, put_value, valued_in, visited};
 
-use crate::tube::Tube;
 use crate::tubes::{NumberedTubes, TubeNumber};
 use bq_index::{Edit, Test, Visitor};
 use bq_job::{NoMemory, TubeName};
@@ -190,18 +189,19 @@ impl<V: Drop> TubeTable<V> {
     pub fn number_of(&self, name: &TubeName, hint: TubeNumber) -> Option<TubeNumber>
         ensures number { option_map number_in result
             ≡ lookup (is_at (slice_cmp nat_cmp name.now)) self.now.numbers }
+        ensures keys { keys_of self.now.entries ≡ keys_of self.now.numbers }
     {
         self.tubes.number_of(name, hint)
     }
 
-    /// Returns the value of a tube, if it is registered. If the tube still has its number, no
+    /// Returns the value of a tube, if it is registered. If the tube has the number `hint`, no
     /// search is needed.
-    pub fn get(&self, tube: &Tube) -> Option<&V>
+    pub fn get(&self, name: &TubeName, hint: TubeNumber) -> Option<&V>
         ensures value { option_map (λ v. v.now) result
-            ≡ lookup (is_at (slice_cmp nat_cmp tube.now)) self.now.entries }
+            ≡ lookup (is_at (slice_cmp nat_cmp name.now)) self.now.entries }
         ensures ordered { InOrder (slice_cmp nat_cmp) self.now.entries }
     {
-        let number = self.tubes.number_of(tube.name(), tube.number())?;
+        let number = self.tubes.number_of(name, hint)?;
         value_at(self.values.as_slice(), number.get())
     }
 
@@ -216,16 +216,21 @@ impl<V: Drop> TubeTable<V> {
     }
 
     /// Changes the value of a tube in place. Returns what the change returns, or `None` if the tube
-    /// is not registered. If the tube still has its number, no search is needed.
-    pub fn edit<T: Drop, E: Edit<V, T>>(&mut self, tube: &Tube, edit: &E) -> Option<T>
+    /// is not registered. If the tube has the number `hint`, no search is needed.
+    pub fn edit<T: Drop, E: Edit<V, T>>(
+        &mut self,
+        name: &TubeName,
+        hint: TubeNumber,
+        edit: &E,
+    ) -> Option<T>
         ensures told { result ≡ option_map (E.told edit.now)
-            (lookup (is_at (slice_cmp nat_cmp tube.now)) self.old.entries) }
+            (lookup (is_at (slice_cmp nat_cmp name.now)) self.old.entries) }
         ensures entries { self.new.entries
-            ≡ edited_at (is_at (slice_cmp nat_cmp tube.now)) (E.edited edit.now) self.old.entries }
+            ≡ edited_at (is_at (slice_cmp nat_cmp name.now)) (E.edited edit.now) self.old.entries }
         ensures ordered { InOrder (slice_cmp nat_cmp) self.old.entries }
         ensures numbers { self.new.numbers ≡ self.old.numbers }
     {
-        let number = self.tubes.number_of(tube.name(), tube.number())?;
+        let number = self.tubes.number_of(name, hint)?;
         Some(edit_at(&mut self.values, number.get(), edit))
     }
 

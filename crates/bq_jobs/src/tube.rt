@@ -24,10 +24,13 @@ impl Model for Tube {
 
 impl Tube {
     /// Returns a tube with this name, to be looked for at this number first.
-    pub fn new(name: TubeName, number: TubeNumber) -> Tube
-        ensures { result ≡ name }
+    pub fn new(name: &TubeName, number: TubeNumber) -> Tube
+        ensures { result ≡ name.now }
     {
-        Tube { name, number }
+        Tube {
+            name: *name,
+            number,
+        }
     }
 
     /// Returns its name.
@@ -46,6 +49,6 @@ impl Tube {
     pub fn copy(&self) -> Tube
         ensures { result ≡ self.now }
     {
-        Tube::new(self.name, self.number)
+        Tube::new(&self.name, self.number)
     }
 }

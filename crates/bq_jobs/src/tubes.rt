@@ -8,7 +8,7 @@ ghost use Rattle.std.specs.BTreeMap.{insert_entry};
 ghost use Rattle.std.specs.Cmp.Lexicographic.{slice_cmp};
 ghost use Rattle.std.specs.Ordering.{nat_cmp};
 ghost use Rattle.std.specs.Option.{option_map};
-ghost use Rattle.bq_jobs.specs.Numbering.{IsGiven, IsPaired, Registers, name_of, number_of, put_at, without_known};
+ghost use Rattle.bq_jobs.specs.Numbering.{IsGiven, IsPaired, name_of, number_of, put_at, without_known};
 
 use bq_index::Catalog;
 use bq_job::{NoMemory, TubeName};
@@ -43,12 +43,16 @@ impl TubeNumber {
 
     /// Returns a number at which to look if no number is known. No tube has it unless there are
     /// 2^30 tubes.
-    pub fn unknown() -> TubeNumber {
+    pub fn unknown() -> TubeNumber
+        ensures { result ≡ 1073741823 ∷ [] }
+    {
         TubeNumber((1 << 30) - 1)
     }
 
     /// Returns the number that a table of tubes gives to its first tube.
-    pub fn first() -> TubeNumber {
+    pub fn first() -> TubeNumber
+        ensures { result ≡ 0 ∷ [] }
+    {
         TubeNumber(0)
     }
 
@@ -267,21 +271,20 @@ impl NumberedTubes {
         ensures name { option_map (λ name. name.now) result ≡ name_of (number_in number) self.now }
         ensures paired { IsPaired self.now }
     {
-        self.name_at(number.get())
-    }
-
-    // Returns the name of the tube with this number.
-    pub(crate) fn name_at(&self, number: u32) -> Option<&TubeName>
-        ensures name { option_map (λ name. name.now) result ≡ name_of number self.now }
-        ensures paired { IsPaired self.now }
-    {
-        match self.slots.get(number as usize) {
+        match self.slots.get(number.get() as usize) {
             None => None,
             Some(slot) => slot.name.as_ref(),
         }
     }
 
-    /// Returns the tubes by their names, each with its number.
+    // States that names and numbers correspond one to one. It does nothing.
+    pub(crate) fn paired(&self)
+        ensures { IsPaired self.now }
+    {
+        let _ = &self.free;
+    }
+
+    // Returns the tubes by their names, each with its number.
     pub(crate) fn by_name(&self) -> &Catalog<TubeName, u32>
         ensures { result.now.entries ≡ self.now.numbers }
     {
@@ -311,18 +314,6 @@ impl NumberedTubes {
         let number = give(&mut self.slots, &mut self.free, name)?;
         self.numbers.insert(*name, number);
         Ok(TubeNumber::of(number))
-    }
-
-    // Registers a tube, unless it is registered already.
-    pub(crate) fn register(&mut self, alloc: Global, name: &TubeName) -> Result<(), NoMemory>
-        ensures registered { OnOk result (Registers name.now self.old self.new) }
-        ensures same { OnErr result (self.new ≡ self.old) }
-    {
-        if self.search(name).is_some() {
-            return Ok(());
-        }
-        let _number = self.add(alloc, name)?;
-        Ok(())
     }
 
     /// Removes a tube, if it is registered, and returns the number that it had. The number is free

@@ -19,38 +19,41 @@ ends_stay name f es last ends is same h = subst (λ ts. AreEnds ts ends) (sym (a
 
 -- Only the counts of jobs change,
 pub tallies_change : (name : List ℕ) (f : KeptTube → KeptTube) (g : Tally → Tally) (es last : List Named) (k : KeptTubes)
-    → last ≡ edited_at name f es → tubes_kept es ≡ k
+    → (ns ms : List (List ℕ × ℕ)) → last ≡ edited_at name f es → ms ≡ ns → tubes_kept ns es ≡ k
     → ((n : List ℕ) (t : KeptTube) → record_of n (f t) ≡ record_of n t) → ((t : KeptTube) → (f t).tally ≡ g t.tally)
     → ((t : KeptTube) → (f t).crowd ≡ t.crowd)
-    → tubes_kept last ≡ record k { tallies = tallies_at name g k.entries k.tallies }
-tallies_change name f g es last k is seen same made crowds =
+    → tubes_kept ms last ≡ record k { tallies = tallies_at name g k.entries k.tallies }
+tallies_change name f g es last k ns ms is also seen same made crowds =
     kept_alike
     (ap (map record_at) is ∙ edit_same_records name f same es ∙ ap (λ (k : KeptTubes). k.entries) seen)
     (ap (map tally_kept) is ∙ edit_tally name f g made es ∙ ap (λ (k : KeptTubes). tallies_at name g k.entries k.tallies) seen)
     (ap (map crowd_kept) is ∙ edit_same_crowds name f crowds es ∙ ap (λ (k : KeptTubes). k.crowds) seen)
+    (also ∙ ap (λ (k : KeptTubes). k.numbers) seen)
 
 -- or those of clients,
 pub crowds_change : (name : List ℕ) (f : KeptTube → KeptTube) (g : Crowd → Crowd) (es last : List Named) (k : KeptTubes)
-    → last ≡ edited_at name f es → tubes_kept es ≡ k
+    → (ns ms : List (List ℕ × ℕ)) → last ≡ edited_at name f es → ms ≡ ns → tubes_kept ns es ≡ k
     → ((n : List ℕ) (t : KeptTube) → record_of n (f t) ≡ record_of n t) → ((t : KeptTube) → (f t).tally ≡ t.tally)
     → ((t : KeptTube) → (f t).crowd ≡ g t.crowd)
-    → tubes_kept last ≡ record k { crowds = crowds_at name g k.entries k.crowds }
-crowds_change name f g es last k is seen same tallies made =
+    → tubes_kept ms last ≡ record k { crowds = crowds_at name g k.entries k.crowds }
+crowds_change name f g es last k ns ms is also seen same tallies made =
     kept_alike
     (ap (map record_at) is ∙ edit_same_records name f same es ∙ ap (λ (k : KeptTubes). k.entries) seen)
     (ap (map tally_kept) is ∙ edit_same_tallies name f tallies es ∙ ap (λ (k : KeptTubes). k.tallies) seen)
     (ap (map crowd_kept) is ∙ edit_crowd name f g made es ∙ ap (λ (k : KeptTubes). crowds_at name g k.entries k.crowds) seen)
+    (also ∙ ap (λ (k : KeptTubes). k.numbers) seen)
 
 -- or the record.
 pub records_change : (name : List ℕ) (what : TubeChange) (es last : List Named) (k : KeptTubes)
-    → last ≡ edited_at name (kept_changed what) es → tubes_kept es ≡ k → InOrder (slice_cmp nat_cmp) es
-    → tubes_kept last ≡ record k { entries = map (tube_changed_at name what) k.entries }
-records_change name what es last k is seen order =
+    → (ns ms : List (List ℕ × ℕ)) → last ≡ edited_at name (kept_changed what) es → ms ≡ ns → tubes_kept ns es ≡ k → InOrder (slice_cmp nat_cmp) es
+    → tubes_kept ms last ≡ record k { entries = map (tube_changed_at name what) k.entries }
+records_change name what es last k ns ms is also seen order =
     kept_alike
     (ap (map record_at) is ∙ edit_change name (kept_changed what) (tube_changed what) (change_kept what) es (in_order es order)
     ∙ ap (λ (k : KeptTubes). map (tube_changed_at name what) k.entries) seen)
     (ap (map tally_kept) is ∙ edit_same_tallies name (kept_changed what) (λ t. refl) es ∙ ap (λ (k : KeptTubes). k.tallies) seen)
     (ap (map crowd_kept) is ∙ edit_same_crowds name (kept_changed what) (λ t. refl) es ∙ ap (λ (k : KeptTubes). k.crowds) seen)
+    (also ∙ ap (λ (k : KeptTubes). k.numbers) seen)
 
 -- The counts of a tube are found under its name.
 same_tallies_at : (f : TubeRecord → TubeRecord) → ((t : TubeRecord) → (f t).name ≡ t.name)
@@ -62,17 +65,18 @@ same_tallies_at f keeps name g (t ∷ ts) (x ∷ tallies) = rw (keeps t, same_ta
 
 -- A job is counted, and its tube's record changes.
 pub job_counted : (what : TubeChange) (name : List ℕ) (f : KeptTube → KeptTube) (g : Tally → Tally) (es last : List Named) (k : KeptTubes)
-    → last ≡ edited_at name f es → tubes_kept es ≡ k → InOrder (slice_cmp nat_cmp) es
+    → (ns ms : List (List ℕ × ℕ)) → last ≡ edited_at name f es → ms ≡ ns → tubes_kept ns es ≡ k → InOrder (slice_cmp nat_cmp) es
     → ((n : List ℕ) (t : KeptTube) → record_of n (f t) ≡ tube_changed what (record_of n t)) → ((t : KeptTube) → (f t).tally ≡ g t.tally)
     → ((t : KeptTube) → (f t).crowd ≡ t.crowd)
-    → tubes_kept last ≡ record k {
+    → tubes_kept ms last ≡ record k {
       entries = map (tube_changed_at name what) k.entries;
       tallies = tallies_at name g (map (tube_changed_at name what) k.entries) k.tallies;
     }
-job_counted what name f g es last k is seen order made counts crowds =
+job_counted what name f g es last k ns ms is also seen order made counts crowds =
     kept_alike
     (ap (map record_at) is ∙ edit_change name f (tube_changed what) made es (in_order es order)
     ∙ ap (λ (k : KeptTubes). map (tube_changed_at name what) k.entries) seen)
     (ap (map tally_kept) is ∙ edit_tally name f g counts es ∙ ap (λ (k : KeptTubes). tallies_at name g k.entries k.tallies) seen
     ∙ sym (same_tallies_at (tube_changed_at name what) (name_kept_at name what) name g k.entries k.tallies))
     (ap (map crowd_kept) is ∙ edit_same_crowds name f crowds es ∙ ap (λ (k : KeptTubes). k.crowds) seen)
+    (also ∙ ap (λ (k : KeptTubes). k.numbers) seen)

@@ -152,7 +152,7 @@ first_is entries ends h s = go ends.entries h.known s
         (hit_of x.0 entries (sym (known x.0) ∙ first_there x es)))
 
 -- The first of the ends is the first end of a pause, as contracts see the tubes.
-pub first_seen : (es : List Named) (ends : CatalogSeen PauseEnd (Unit {0})) (k : KeptTubes) (r : Option ℕ)
+pub first_seen : (es : List Named) (ends : CatalogSeen PauseEnd (Unit {0})) (ns : List (List ℕ × ℕ)) (k : KeptTubes) (r : Option ℕ)
     → r ≡ option_map (λ e. e.until) (first_end ends.entries)
-    → AreEnds (map record_at es) ends → InOrder end_cmp ends.entries → tubes_kept es ≡ k → r ≡ first_pause_end k.entries
-first_seen es ends k r is h s seen = is ∙ first_is (map record_at es) ends h s ∙ ap (λ (k : KeptTubes). first_pause_end k.entries) seen
+    → AreEnds (map record_at es) ends → InOrder end_cmp ends.entries → tubes_kept ns es ≡ k → r ≡ first_pause_end k.entries
+first_seen es ends ns k r is h s seen = is ∙ first_is (map record_at es) ends h s ∙ ap (λ (k : KeptTubes). first_pause_end k.entries) seen

@@ -15,12 +15,13 @@ use Rattle.bq_state.specs.Crowds.{crowds_recounted_for, is_waiter, may_wait, rec
 use Rattle.bq_state.specs.{Dues.{first_pause_end, with_warning_due}, JobChanges.changed, KeptTubes.{KeptTubes, first_tubes}}
 use Rattle.bq_state.specs.Knowledge.{IsSo, nothing_known, with_forgotten, with_job, with_joined}
 use Rattle.bq_state.specs.Knowledge.{with_left, with_moved, with_tube_changed, without_job}
-use Rattle.bq_state.specs.{MaybeGoneTubes.with_gone, SeatChanges.seat_changed_at, Tallies.{tallies_with, tallies_without, tally_moved}}
+use Rattle.bq_state.specs.{MaybeGoneTubes.{AreAlive, with_gone}, SeatChanges.seat_changed_at, Tallies.{tallies_with, tallies_without, tally_moved}}
+use Rattle.bq_state.specs.{Soundness.Soundness, WaitingTurns.WaitingTurns}
 use Rattle.bq_state.specs.WantedJobs.{AreKnown, IsKnown, wanted_after_tube, with_all_wanted}
-use Rattle.bq_state.specs.TubeEntries.{counted, has_entry, is_counted, is_tube_of, tube_changed, tube_changed_at}
+use Rattle.bq_state.specs.TubeEntries.{counted, has_entry, is_counted, is_tube_of, provided, tube_changed, tube_changed_at}
 use Rattle.bq_state.specs.Warnings.{IsWarned, has_waiting_holder, may_hold, warned_if_due}
 use Rattle.bq_state.specs.declared.known.wanted.Wanted.TheVariants as wanted_jobs
-use Rattle.bq_state.proofs.{ClientLemmas.{clients_moved, clients_watching}, CrowdLemmas.crowds_moved, TubeNumberLemmas.numbers_kept}
+use Rattle.bq_state.proofs.{ClientLemmas.{clients_moved, clients_watching}, CrowdLemmas.crowds_moved}
 use Rattle.bq_state.proofs.{CrowdPlaces.{crowds_kept, crowds_of_provided, first_crowds}, CrowdWatching.{crowds_ignoring, crowds_watching}}
 use Rattle.bq_state.proofs.{FirstTimeoutLemmas.{first_timeouts, timeouts_of_seat, timeouts_watching}, LeavingLemmas.alive_left}
 use Rattle.bq_state.proofs.MaybeGoneLemmas.{alive_added, alive_forgotten, alive_ignoring, alive_provided}
@@ -176,19 +177,18 @@ module _ (st : CoreParts) where
       }
 
   -- A tube gets an entry,
-  pub so_provided : (name : List ℕ)
-      → IsSo (record st.known {
-        maybe_gone = if not (has_entry name st.tubes.entries) then with_gone name st.known.maybe_gone
-            else st.known.maybe_gone;
-      })
-      st.jobs.jobs st.seats.items (tubes_with name st.tubes)
-  so_provided name =
+  pub so_provided : (name : List ℕ) (ns : List (List ℕ × ℕ)) → has_entry name st.tubes.entries ≡ false
+      → IsSo (record st.known { maybe_gone = with_gone name st.known.maybe_gone })
+      st.jobs.jobs st.seats.items (tubes_with name ns st.tubes)
+  so_provided name ns none =
       let so = st.sound.known in
       record {
         counts = tallies_of_provided name st.known.tally st.tubes.tallies st.jobs.jobs st.tubes.entries st.sound.entries.of_jobs so.counts;
         clients = so.clients;
         crowds = crowds_of_provided name st.tubes.crowds st.seats.items st.tubes.entries st.sound.entries.of_seats so.crowds;
-        alive = alive_provided name st.known.maybe_gone st.jobs.jobs st.seats.items st.tubes.entries so.alive;
+        alive = subst (λ b. AreAlive (if not b then with_gone name st.known.maybe_gone else st.known.maybe_gone) st.jobs.jobs
+            st.seats.items (provided name st.tubes.entries)) none
+            (alive_provided name st.known.maybe_gone st.jobs.jobs st.seats.items st.tubes.entries so.alive);
         wanted_jobs = subst (AreKnown st.known.wanted st.jobs.jobs st.seats.items)
             (sym (counted_provided name st.tubes.entries)) so.wanted_jobs;
         warnings = so.warnings;
@@ -306,14 +306,23 @@ with_count st name what there =
             waiting = was.waiting;
             known = so_with_tube st name what there;
           };
-      numbered = numbers_kept (tube_changed_at name what) (name_kept_at name what) st.jobs.tubes st.tubes.entries st.numbered;
+      numbered = st.numbered;
     }
 
 -- At the start there is nothing to know.
-pub so_at_first : (n : ℕ) → IsSo nothing_known [] (map empty_seat (numbers 0 n)) first_tubes
-so_at_first n = grind (arith, common_steps, first_crowds (numbers 0 n), first_timeouts (numbers 0 n))
+pub so_at_first : (n : ℕ) (ns : List (List ℕ × ℕ)) → IsSo nothing_known [] (map empty_seat (numbers 0 n)) (first_tubes ns)
+so_at_first n ns = grind (arith, common_steps, first_crowds (numbers 0 n), first_timeouts (numbers 0 n))
 
--- facts about new parts, and after a change of a seat, under names that an attribute can cite
-pub ruleset known_at_first = (common_steps, so_at_first, first_entries, first_numbered, none_in_turn, many_seats)
+pub sound_at_first : (n : ℕ) (ns : List (List ℕ × ℕ)) (turns : WaitingTurns) → turns.turns ≡ [] → n ≤ turns.room
+    → Soundness [] (map empty_seat (numbers 0 n)) (first_tubes ns) turns nothing_known 1 false
+sound_at_first n ns turns nobody room = record {
+  entries = first_entries n;
+  numbered = first_numbered n;
+  next = λ _. omega arith;
+  ids = omega arith;
+  waiting = grind (arith, common_steps, none_in_turn, many_seats);
+  known = so_at_first n ns;
+}
 
+-- facts after a change of a seat, under a name that an attribute can cite
 pub ruleset kept_by_seat = (common_steps, so_with_seat, entries_of_seat, numbered_after, rising_left, turns_moved, turns_within, length-map)

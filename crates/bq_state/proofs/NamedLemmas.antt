@@ -227,23 +227,6 @@ pub change_kept : (what : TubeChange) (name : List ℕ) (t : KeptTube)
     → record_of name (kept_changed what t) ≡ tube_changed what (record_of name t)
 change_kept what name t = grind (arith, common_steps)
 
--- The lent value is the value that was found.
-pub lent_any : (o : Option (Bor KeptTube)) {found : Option KeptTube} → option_map (λ (t : Bor KeptTube). t.now) o ≡ found
-    → is_some o ≡ is_some found
-lent_any o e = grind (arith, common_steps)
-
-pub provided_there : (name : List ℕ) (ts : List TubeRecord) → has_entry name ts ≡ true → provided name ts ≡ ts
-provided_there name ts h = ap (λ b. if b then ts else with_record (fresh_tube name) ts) h
-
-pub tallies_provided_there : (name : List ℕ) (ts : List TubeRecord) (us : List Tally) → has_entry name ts ≡ true
-    → tallies_provided name ts us ≡ us
-tallies_provided_there name ts us h = ap (λ b.
-    if b then us else insert us (prefix_len (λ t. is_name_before t.name name) ts) (tally_of [])) h
-
-pub crowds_provided_there : (name : List ℕ) (ts : List TubeRecord) (us : List Crowd) → has_entry name ts ≡ true
-    → crowds_provided name ts us ≡ us
-crowds_provided_there name ts us h = ap (λ b. if b then us else insert us (prefix_len (λ t. is_name_before t.name name) ts) no_crowd) h
-
--- what is kept is equal if its three lists are
-pub kept_alike : {k l : KeptTubes} → k.entries ≡ l.entries → k.tallies ≡ l.tallies → k.crowds ≡ l.crowds → k ≡ l
-kept_alike e t w = λ i. record { entries = e i; tallies = t i; crowds = w i }
+-- what is kept is equal if its four lists are
+pub kept_alike : {k l : KeptTubes} → k.entries ≡ l.entries → k.tallies ≡ l.tallies → k.crowds ≡ l.crowds → k.numbers ≡ l.numbers → k ≡ l
+kept_alike e t w n = λ i. record { entries = e i; tallies = t i; crowds = w i; numbers = n i }

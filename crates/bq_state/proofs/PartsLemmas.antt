@@ -9,7 +9,7 @@ use Rattle.bq_job.specs.machine.{job_with, numbers, seat_with, tube_after_timers
 use Rattle.bq_job.specs.{beside.AreIdsWithin, declared.job.Job.Job, reading.TubeName.is_same_name}
 use Rattle.bq_job.proofs.{LawfulLemmas.length_numbers, ListLemmas.{all_at, all_from_members, all_weaker, found_passes}}
 use Rattle.bq_jobs.specs.Kept.{Kept, with_added}
-use Rattle.bq_state.specs.{declared.{core_parts.CoreParts.CoreParts, job_store.JobChange.JobChange}, TubeNumbers.HaveNumbers}
+use Rattle.bq_state.specs.{declared.{core_parts.CoreParts.CoreParts, job_store.JobChange.JobChange}}
 use Rattle.bq_state.specs.declared.{seats.SeatChange.SeatChange, tubes.entry.TubeChange.TubeChange}
 use Rattle.bq_state.specs.{JobChanges.changed, SeatChanges.{AreNumbered, has_tube_of, seat_changed, seat_changed_at}, Soundness.Soundness}
 use Rattle.bq_state.specs.TubeEntries.{AreEntries, HasTubes, IsFreshUnlessCounted, counted, has_entry}
@@ -77,8 +77,8 @@ pub compared_sound : (st : CoreParts) (jobs : Kept) → jobs ≡ record st.jobs 
 compared_sound st jobs same = grind (arith, common_steps)
 
 pub compared_numbered : (st : CoreParts) (jobs : Kept) → jobs ≡ record st.jobs { comparisons = jobs.comparisons }
-    → HaveNumbers jobs.tubes st.tubes.entries
-compared_numbered st jobs same = subst (λ (k : Kept). HaveNumbers k.tubes st.tubes.entries) (sym same) st.numbered
+    → jobs.tubes ≡ st.tubes.numbers
+compared_numbered st jobs same = ap (λ (k : Kept). k.tubes) same ∙ st.numbered
 
 -- It also does if an id was given out.
 pub sound_given : (st : CoreParts) → Soundness st.jobs.jobs st.seats.items st.tubes st.waiting st.known (st.next_id + 1)

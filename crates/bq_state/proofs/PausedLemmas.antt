@@ -14,10 +14,10 @@ none_counted name (t ∷ ts) e =
     let rest = none_counted name ts in
     grind (arith, common_steps)
 
-pub none_paused : (name : List ℕ) (es : List Named) (ends : CatalogSeen PauseEnd (Unit {0})) (k : KeptTubes) (n : ℕ)
+pub none_paused : (name : List ℕ) (es : List Named) (ends : CatalogSeen PauseEnd (Unit {0})) (ns : List (List ℕ × ℕ)) (k : KeptTubes) (n : ℕ)
     → n ≡ length ends.entries
-    → AreEnds (map record_at es) ends → tubes_kept es ≡ k → n ≡ 0
+    → AreEnds (map record_at es) ends → tubes_kept ns es ≡ k → n ≡ 0
     → false ≡ list_any (λ (t : TubeRecord). is_same_name name t.name && is_some t.pause) k.entries
-none_paused name es ends k n len are seen none =
+none_paused name es ends ns k n len are seen none =
     sym (none_counted name (map record_at es) (sym are.counted ∙ sym len ∙ none))
     ∙ ap (λ (k : KeptTubes). list_any (λ (t : TubeRecord). is_same_name name t.name && is_some t.pause) k.entries) seen

@@ -25,12 +25,13 @@ DropsGone maybe old new =
     → old.tallies ≡ tallies_of jobs old.entries → old.crowds ≡ crowds_of seats old.entries
     → new.entries ≡ filter (λ t. is_tube_of jobs seats t.name) old.entries
 
--- the records after a tube got an entry
-abbrev pub tubes_with : List ℕ → KeptTubes → KeptTubes
-tubes_with name k = record {
+-- the records after a tube got an entry and a number
+abbrev pub tubes_with : List ℕ → List (List ℕ × ℕ) → KeptTubes → KeptTubes
+tubes_with name numbers k = record {
   entries = provided name k.entries;
   tallies = tallies_provided name k.entries k.tallies;
   crowds = crowds_provided name k.entries k.crowds;
+  numbers = numbers;
 }
 
 -- with f applied to the job counts of the tube with this name, or to its client counts

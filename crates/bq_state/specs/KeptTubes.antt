@@ -13,15 +13,22 @@ use Rattle.bq_state.specs.{Crowds.{has_seats, no_crowd, recounted}}
 use Rattle.bq_state.specs.Tallies.{has_jobs, tally_left, tally_moved, tally_of, tally_with}
 use Rattle.bq_state.specs.TubeEntries.{is_tube_by, tube_changed}
 
--- the entries and, parallel to them, the counts of the tubes' jobs and of their clients
+-- the entries and, parallel to them, the counts of the tubes' jobs and of their clients; and the
+-- number of each tube by its name
 pub record KeptTubes : Type 0 where
   pub entries : List TubeRecord
   pub tallies : List Tally
   pub crowds : List Crowd
+  pub numbers : List (List ℕ × ℕ)
 
 -- only the default tube, without jobs and clients
-abbrev pub first_tubes : KeptTubes
-first_tubes = record { entries = fresh_tube default_tube ∷ []; tallies = tally_of [] ∷ []; crowds = no_crowd ∷ [] }
+abbrev pub first_tubes : List (List ℕ × ℕ) → KeptTubes
+first_tubes numbers = record {
+  entries = fresh_tube default_tube ∷ [];
+  tallies = tally_of [] ∷ [];
+  crowds = no_crowd ∷ [];
+  numbers = numbers;
+}
 
 -- what is kept of a tube besides its name
 pub record KeptTube : Type 0 where
@@ -49,8 +56,13 @@ tally_kept e = e.1.tally
 abbrev pub crowd_kept : Named → Crowd
 crowd_kept e = e.1.crowd
 
-abbrev pub tubes_kept : List Named → KeptTubes
-tubes_kept es = record { entries = map record_at es; tallies = map tally_kept es; crowds = map crowd_kept es }
+abbrev pub tubes_kept : List (List ℕ × ℕ) → List Named → KeptTubes
+tubes_kept numbers es = record {
+  entries = map record_at es;
+  tallies = map tally_kept es;
+  crowds = map crowd_kept es;
+  numbers = numbers;
+}
 
 -- the entry of a tube to which nothing has happened
 abbrev pub fresh_entry : KeptTube

@@ -1,5 +1,4 @@
--- Which tubes the jobs know by number: exactly those that have an entry.
-use Rattle.std.proofs.Props.{props}
+-- Which tubes have a number: exactly those that have an entry.
 use Rattle.std.specs.{BTreeMap.is_at, Cmp.Lexicographic.slice_cmp, Map.lookup, Ordering.nat_cmp, Prelude.{◌≡◌, List, ℕ, is_some}}
 use Rattle.bq_job.specs.machine.{TubeRecord}
 use Rattle.bq_state.specs.TubeEntries.{has_entry}
@@ -7,7 +6,3 @@ use Rattle.bq_state.specs.TubeEntries.{has_entry}
 abbrev pub HaveNumbers : List (List ℕ × ℕ) → List TubeRecord → Type 0
 HaveNumbers numbers entries =
     (name : List ℕ) → is_some (lookup (is_at (slice_cmp nat_cmp name)) numbers) ≡ has_entry name entries
-
--- It has at most one proof, so a field can hold it.
-pub HaveNumbers-prop : (numbers : List (List ℕ × ℕ)) (entries : List TubeRecord) → IsProp (HaveNumbers numbers entries)
-HaveNumbers-prop numbers entries = Prim.hlevel props

@@ -1,6 +1,7 @@
 //! Operations that change the state of a core: its jobs, seats and tubes, the counts of what happened,
 //! and the numbers that are given out in order.
-ghost use Rattle.std.specs.Prelude.{◌≡◌, ◌+◌, ◌&&◌, ◌<◌, ◌≤◌, OnErr, [], None, true, false, fold, is_some, length, map, nat_le, nat_lt, if◌then◌else◌, IfOk};
+ghost use Rattle.std.specs.Prelude.{◌≡◌, ◌+◌, ◌&&◌, ◌<◌, ◌≤◌, OnErr, [], None, true};
+ghost use Rattle.std.specs.Prelude.{false, fold, is_some, length, map, nat_le, nat_lt, unwrap_or, if◌then◌else◌, IfOk};
 ghost use Rattle.std.specs.List.{list_any};
 ghost use Rattle.bq_job.specs.beside.NameOrder.{is_in_order};
 ghost use Rattle.bq_job.specs.machine.Changes.{is_held_by, is_ready_state, is_waiting, job_with, seat_with, with_job, with_seat};
@@ -18,7 +19,9 @@ ghost use Rattle.bq_state.specs.Crowds.{may_wait};
 ghost use Rattle.bq_state.specs.declared.known.wanted.Wanted.TheVariants as wanted_jobs;
 ghost use Rattle.bq_state.specs.Dues.{is_end_over, with_warning_due};
 ghost use Rattle.bq_state.specs.JobChanges.{changed, once_deleted};
-ghost use Rattle.bq_state.specs.KeptTubes.{first_tubes};
+ghost use Rattle.bq_jobs.specs.Names.{number_in};
+ghost use Rattle.std.specs.Map.{lookup};
+ghost use Rattle.bq_state.specs.KeptTubes.{first_tubes, is_named_at};
 ghost use Rattle.bq_state.specs.Offers.{is_waited_at};
 ghost use Rattle.bq_state.specs.CoreParts.{AtSeat, Watches};
 ghost use Rattle.bq_state.specs.SeatChanges.{seat_changed, has_tube_of, more_watched, fewer_watched, watches_other};
@@ -26,7 +29,6 @@ ghost use Rattle.bq_state.specs.Keeping.{Looks};
 ghost use Rattle.bq_state.specs.CoreParts.{held, machine_of, with_pauses_ended};
 ghost use Rattle.bq_state.specs.Names.{names_of};
 ghost use Rattle.bq_state.specs.TubeEntries.{has_entry, is_tube_of, tube_changed};
-ghost use Rattle.bq_state.specs.TubeNumbers.{HaveNumbers};
 ghost use Rattle.bq_state.specs.Warnings.{has_waiting_holder, may_hold, warned_if_due, with_holder};
 
 use crate::core_parts::CoreParts;
@@ -36,7 +38,6 @@ use crate::name_lists::Names;
 use crate::seats::{SeatChange, SeatRecord};
 use crate::tubes::{Moving, TubeChange, Tubes};
 use crate::waiting::Waiting;
-use crate::watch_list::default_tube;
 use crate::{job_store, seats, shares};
 use bq_core_api::Config;
 use bq_job::{Job, JobId, JobState, Moment, NoMemory, Seat, TubeName};
@@ -58,9 +59,9 @@ pub fn make_room(state: &mut CoreParts, alloc: Global) -> Result<(), NoMemory>
     state.jobs.reserve_one(alloc)
 }
 
-/// Adds a job, for which there is room, and counts it in its tube. Its id was given out, and its
-/// tube has an entry.
-pub fn add(state: &mut CoreParts, job: Job)
+/// Adds a job, for which there is room, and counts it in its tube, which is looked for at the
+/// number `hint` first. Its id was given out, and its tube has an entry.
+pub fn add(state: &mut CoreParts, job: Job, hint: TubeNumber)
     requires room { 0 < state.old.jobs.room }
     requires given { (1 ≤ job.id) × (job.id < state.old.next_id) }
     requires free { job_with job.id (machine_of state.old).jobs ≡ None }
@@ -69,11 +70,11 @@ pub fn add(state: &mut CoreParts, job: Job)
         ≡ record (with_tube job.tube with_put (machine_of state.old)) { jobs = with_added job (machine_of state.old).jobs } }
     ensures asks { ComparesAtMost 4 state.old.jobs state.new.jobs }
 {
-    let is_wanted = state.is_wanted(&job);
+    let is_wanted = state.is_wanted(&job, hint);
     let waits = state.has_waiting_holder(&job);
-    state.known.add_job(&job, is_wanted, waits);
-    state.tubes.add_job(&job);
-    state.jobs.add(job);
+    state.known.add_job(&job, hint, is_wanted, waits);
+    state.tubes.add_job(&job, hint);
+    state.jobs.add(state.tubes.names(), job, hint);
 }
 
 /// Removes the job with this id and drops it, and counts the deletion in its tube. Returns false if
@@ -84,7 +85,7 @@ pub fn delete(state: &mut CoreParts, id: JobId) -> bool
         ≡ once_deleted (job_with id (machine_of state.old).jobs) (machine_of state.old) }
     ensures asks { ComparesAtMost 4 state.old.jobs state.new.jobs }
 {
-    let Some(removed) = state.jobs.discard(id) else {
+    let Some(removed) = state.jobs.discard(state.tubes.names(), id) else {
         return false;
     };
     job_store::let_room_go(&mut state.jobs); // Of a peak in the past.
@@ -100,7 +101,8 @@ fn counts_waiter_of(clients: &Clients, tubes: &Tubes, moved: &Moved) -> bool
         ≡ (is_ready_state moved.now.to.state
         && (nat_lt 0 clients.now.waiting && is_waited_at moved.now.tube tubes.now)) }
 {
-    matches!(moved.to.state, JobState::Ready) && tubes.has_waiter_at(clients, &moved.tube)
+    matches!(moved.to.state, JobState::Ready)
+        && tubes.has_waiter_at(clients, moved.tube.name(), moved.tube.number())
 }
 
 /// Changes the job with this id, if there is one.
@@ -108,7 +110,7 @@ pub fn change_job(state: &mut CoreParts, id: JobId, what: &JobChange)
     ensures after { machine_of state.new ≡ with_job id (changed what.now) (machine_of state.old) }
     ensures asks { Asks 8 state.old.jobs state.new.jobs }
 {
-    let Some(moved) = state.jobs.change(id, what) else {
+    let Some(moved) = state.jobs.change(state.tubes.names(), id, what) else {
         return;
     };
     let is_wanted = counts_waiter_of(&state.known.clients, &state.tubes, &moved);
@@ -200,40 +202,37 @@ pub fn end_pauses(state: &mut CoreParts)
     state.known.wanted = Wanted::Any;
 }
 
-/// Changes the record of a tube that has an entry.
-pub fn change_tube(state: &mut CoreParts, tube: &TubeName, what: TubeChange)
+/// Changes the record of a tube that has an entry. It is looked for at the number `hint` first.
+pub fn change_tube(state: &mut CoreParts, tube: &TubeName, hint: TubeNumber, what: TubeChange)
     requires entry { has_entry tube.now state.old.tubes.entries ≡ true }
     ensures after { machine_of state.new
         ≡ with_tube tube.now (tube_changed what) (machine_of state.old) }
     ensures jobs { state.new.jobs ≡ state.old.jobs }
 {
-    state.tubes.change(tube, what);
-    state.known.change_tube(tube, what, &state.tubes);
+    state.tubes.change(tube, hint, what);
+    state.known.change_tube(tube, hint, what, &state.tubes);
 }
 
-/// Ensures that a tube has an entry and a number. The allocations for that come before any change.
-/// Returns `NoMemory` if one fails.
-pub fn provide_tube(state: &mut CoreParts, alloc: Global, tube: &TubeName) -> Result<(), NoMemory>
+/// Ensures that a tube has an entry and a number, and returns the number. The allocations for that
+/// come before any change. Returns `NoMemory` if one fails.
+pub fn provide_tube(
+    state: &mut CoreParts,
+    alloc: Global,
+    tube: &TubeName,
+) -> Result<TubeNumber, NoMemory>
     ensures after { machine_of state.new ≡ machine_of state.old }
     ensures entry { IfOk result (λ _. has_entry tube.now state.new.tubes.entries ≡ true) }
     ensures seats { state.new.seats ≡ state.old.seats }
     ensures wanted { state.new.known.wanted ≡ state.old.known.wanted }
     ensures asks { Asks 0 state.old.jobs state.new.jobs }
 {
-    if state.tubes.has(tube) {
-        return Ok(());
+    if let Some(number) = state.tubes.number_of(tube) {
+        return Ok(number);
     }
-    state.jobs.know(alloc, tube)?;
-    match state.tubes.provide(alloc, tube) {
-        Ok(is_new) => {
-            state.known.maybe_gone.add_if(tube, is_new);
-            Ok(())
-        }
-        Err(fault) => {
-            state.jobs.forget(tube);
-            Err(fault)
-        }
-    }
+    let number = state.tubes.provide(alloc, tube)?;
+    state.jobs.learn(state.tubes.names());
+    state.known.maybe_gone.add(tube, number);
+    Ok(number)
 }
 
 /// The client at the seat watches one more tube. The allocations for that come before any change.
@@ -253,16 +252,15 @@ pub fn watch_tube(
         (λ s. is_waiting s ≡ false → state.new.known.wanted ≡ state.old.known.wanted)) }
     ensures asks { Asks 0 state.old.jobs state.new.jobs }
 {
-    provide_tube(state, alloc, tube)?;
+    let number = provide_tube(state, alloc, tube)?;
     if usize::from(seat) >= state.seats.len() {
         return Ok(0);
     }
     let share = shares::of_watcher(&state.seats[usize::from(seat)]);
-    // `provide_tube` doesn't return the number yet.
-    let watched = Tube::new(*tube, TubeNumber::unknown());
+    let watched = Tube::new(tube, number);
     match seats::watch(&mut state.seats, alloc, seat, &watched) {
         Ok(count) => {
-            state.tubes.recount(tube, Moving::Comes, share);
+            state.tubes.recount(tube, number, Moving::Comes, share);
             state.known.wanted.add_all_if(share.waiting);
             Ok(count)
         }
@@ -280,21 +278,31 @@ pub fn ignore_tube(state: &mut CoreParts, seat: Seat, tube: &TubeName) -> u64
 {
     if usize::from(seat) < state.seats.len() {
         let share = shares::at(&state.seats[usize::from(seat)], tube);
-        state.tubes.recount(tube, Moving::Goes, share);
-        state.known.maybe_gone.add(tube);
+        state
+            .tubes
+            .recount(tube, TubeNumber::unknown(), Moving::Goes, share);
+        state.known.maybe_gone.add(tube, TubeNumber::unknown());
         seats::ignore(&mut state.seats, seat, tube)
     } else {
         0
     }
 }
 
-/// Returns true if the tube exists.
+/// Returns the number of a tube, or one that no tube has if it has no entry.
+pub fn number_of(state: &CoreParts, tube: &TubeName) -> TubeNumber
+    ensures { number_in result
+        ≡ unwrap_or (lookup (is_named_at tube.now) state.now.tubes.numbers) 1073741823 }
+{
+    state.tubes.number_of(tube).unwrap_or(TubeNumber::unknown())
+}
+
+/// Returns true if the tube exists. It is looked for at the number `hint` first.
 #[tactic(auto, using(crate::proofs::CrowdPlaces::tube_there))]
-pub fn is_tube(state: &CoreParts, tube: &TubeName) -> bool
+pub fn is_tube(state: &CoreParts, tube: &TubeName, hint: TubeNumber) -> bool
     ensures { result
         ≡ is_tube_of (machine_of state.now).jobs (machine_of state.now).seats tube.now }
 {
-    state.tubes.is_tube(tube)
+    state.tubes.is_tube(tube, hint)
 }
 
 /// Returns how many tubes exist. If no entry is of a tube that may have gone, that is the number of
@@ -396,19 +404,16 @@ pub fn raise_moment(state: &mut CoreParts, at: Moment)
     state.moment = state.moment.max(at);
 }
 
-/// Returns an empty collection of jobs, in which the default tube has a number.
-pub fn no_jobs(alloc: Global) -> Result<NumberedJobs, NoMemory>
+/// Returns an empty collection of jobs, which has the numbers of these tubes.
+pub fn no_jobs(alloc: Global, tubes: &Tubes) -> Result<NumberedJobs, NoMemory>
     ensures none { IfOk result (λ jobs. jobs.jobs ≡ []) }
     ensures comparisons { IfOk result (λ jobs. jobs.comparisons ≡ 0) }
-    ensures numbered { IfOk result (λ jobs. HaveNumbers jobs.tubes first_tubes.entries) }
+    ensures numbered { IfOk result (λ jobs. jobs.tubes ≡ tubes.now.numbers) }
 {
-    let mut jobs = NumberedJobs::new(alloc)?;
-    jobs.know(alloc, &default_tube())?;
-    Ok(jobs)
+    NumberedJobs::new(alloc, tubes.names())
 }
 
 /// Returns a state without jobs and without clients.
-#[tactic(auto, using(crate::proofs::KnowledgeLemmas::known_at_first))]
 pub fn new_parts(
     config: Config,
     jobs: NumberedJobs,
@@ -418,11 +423,11 @@ pub fn new_parts(
 ) -> CoreParts
     requires none { jobs.jobs ≡ [] }
     requires uncounted { jobs.comparisons ≡ 0 }
-    requires numbered { HaveNumbers jobs.tubes first_tubes.entries }
+    requires numbered { jobs.tubes ≡ tubes.numbers }
     requires free { seats.items ≡ map empty_seat (numbers 0 config.seats) }
     requires nobody { waiting.turns ≡ [] }
     requires room { config.seats ≤ waiting.room }
-    requires first { tubes ≡ first_tubes }
+    requires first { tubes ≡ first_tubes jobs.tubes }
     ensures empty { machine_of result ≡ new_machine config }
     ensures comparisons { result.jobs.comparisons ≡ 0 }
 {

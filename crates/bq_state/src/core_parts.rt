@@ -1,6 +1,6 @@
 //! The state of a core.
+ghost use Rattle.std.specs.Prelude.{◌≡◌};
 ghost use Rattle.bq_state.specs.Soundness.{Soundness, Soundness-prop};
-ghost use Rattle.bq_state.specs.TubeNumbers.{HaveNumbers, HaveNumbers-prop};
 
 use crate::job_store::{JobKind, JobTest};
 use crate::known::{Known, Tally};
@@ -10,7 +10,7 @@ use crate::waiting::Waiting;
 use crate::{job_store, seats};
 use bq_core_api::Config;
 use bq_job::{Body, Job, JobId, Moment, NoMemory, Seat, TubeName};
-use bq_jobs::NumberedJobs;
+use bq_jobs::{NumberedJobs, Tube, TubeNumber};
 use std::alloc::Global;
 
 /// The state of a core. Its invariants are stated here, once: code that builds or changes a state
@@ -44,12 +44,12 @@ pub struct CoreParts {
     pub connections: u64,
     pub ghost sound: { Soundness jobs.jobs seats.items tubes waiting known
         next_id draining } by { Soundness-prop jobs.jobs seats.items tubes waiting known next_id draining },
-    // A tube has a number as long as it has an entry.
-    pub ghost numbered: { HaveNumbers jobs.tubes tubes.entries } by { HaveNumbers-prop jobs.tubes tubes.entries },
+    // The jobs have the tubes' numbers.
+    pub ghost numbered: { jobs.tubes ≡ tubes.numbers },
 }
 
 impl CoreParts {
-    ghost use Rattle.std.specs.Prelude.{◌≡◌, ◌&&◌, filter, is_some, IfSome, IfOk};
+    ghost use Rattle.std.specs.Prelude.{◌&&◌, filter, is_some, IfSome, IfOk};
     ghost use Rattle.std.specs.List.{list_any};
     ghost use Rattle.std.specs.Option.{option_map};
     ghost use Rattle.bq_job.specs.machine.Changes.{is_held_by, is_ready, is_waiting, job_with, seat_with};
@@ -128,12 +128,12 @@ impl CoreParts {
 
     /// Returns the id of the first job of this kind in this tube.
     #[tactic(auto, using(crate::proofs::PartsLemmas::compared_sound))]
-    pub fn first(&mut self, kind: JobKind, tube: &TubeName) -> Option<JobId>
+    pub fn first(&mut self, kind: JobKind, tube: &Tube) -> Option<JobId>
         ensures id { result
             ≡ option_map (λ j. j.id) (first_of_kind kind tube.now self.old.jobs.jobs) }
         ensures kept { Looks 1 self.old self.new }
     {
-        job_store::first(&mut self.jobs, kind, tube)
+        job_store::first(&mut self.jobs, self.tubes.names(), kind, tube)
     }
 
     /// Returns true if some client holds a job.
@@ -175,42 +175,42 @@ impl CoreParts {
 
     /// Returns true if some client waits for jobs of the tube.
     #[tactic(auto, using(crate::proofs::CrowdPlaces::waiters_counted))]
-    pub(crate) fn has_waiter_at(&self, tube: &TubeName) -> bool
+    pub(crate) fn has_waiter_at(&self, tube: &TubeName, hint: TubeNumber) -> bool
         ensures { result ≡ list_any (is_waiter tube.now) self.now.seats.items }
     {
-        self.tubes.has_waiter_at(&self.known.clients, tube)
+        self.tubes.has_waiter_at(&self.known.clients, tube, hint)
     }
 
     /// Returns the counts of the jobs in the tube.
     #[tactic(auto, using(crate::proofs::TallyPlaces::tally_there))]
-    pub fn tally_in(&self, tube: &TubeName) -> Tally
+    pub fn tally_in(&self, tube: &TubeName, hint: TubeNumber) -> Tally
         ensures { result
             ≡ tally_of (filter (λ j. is_same_name tube.now j.tube) self.now.jobs.jobs) }
     {
-        self.tubes.tally_of(tube)
+        self.tubes.tally_of(tube, hint)
     }
 
     /// Returns the counts of the clients that use or watch the tube, or wait for its jobs.
     #[tactic(auto, using(crate::proofs::CrowdPlaces::crowd_there))]
-    pub fn crowd_at(&self, tube: &TubeName) -> Crowd
+    pub fn crowd_at(&self, tube: &TubeName, hint: TubeNumber) -> Crowd
         ensures { result ≡ crowd_of self.now.seats.items tube.now }
     {
-        self.tubes.crowd_of(tube)
+        self.tubes.crowd_of(tube, hint)
     }
 
     /// Returns true if there is a job in the tube.
-    pub(crate) fn has_job_in(&self, tube: &TubeName) -> bool
+    pub(crate) fn has_job_in(&self, tube: &TubeName, hint: TubeNumber) -> bool
         ensures { result ≡ list_any (λ j. is_same_name tube.now j.tube) self.now.jobs.jobs }
     {
-        self.tubes.has_jobs_in(tube)
+        self.tubes.has_jobs_in(tube, hint)
     }
 
     /// Returns true if the job is ready and a client waits for jobs of its tube.
-    pub(crate) fn is_wanted(&self, job: &Job) -> bool
+    pub(crate) fn is_wanted(&self, job: &Job, hint: TubeNumber) -> bool
         ensures { result
             ≡ (is_ready job.now && list_any (is_waiter job.now.tube) self.now.seats.items) }
     {
-        job_store::is_ready(job) && self.has_waiter_at(&job.tube)
+        job_store::is_ready(job) && self.has_waiter_at(&job.tube, hint)
     }
 
     /// Returns true if a client holds the job and waits.

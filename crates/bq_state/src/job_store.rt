@@ -15,8 +15,8 @@ ghost use Rattle.bq_state.specs.JobChanges.{changed, is_passed_by, passes, ttr_h
 ghost use Rattle.bq_state.specs.JobKinds.{first_of_kind};
 ghost use Rattle.bq_state.specs.Room.{room_left};
 
-use bq_job::{Body, Job, JobId, JobState, Moment, NoMemory, Pri, Seat, TubeName};
-use bq_jobs::{JobEdit, NumberedJobs, Row};
+use bq_job::{Body, Job, JobId, JobState, Moment, NoMemory, Pri, Seat};
+use bq_jobs::{JobEdit, NumberedJobs, NumberedTubes, Row, Tube};
 
 // How much more room than there are jobs is kept.
 const ROOM_TO_SPARE: usize = 1000;
@@ -187,14 +187,20 @@ impl JobEdit for JobChange {
 }
 
 /// Returns the id of the first job of this kind in this tube.
-pub fn first(jobs: &mut NumberedJobs, kind: JobKind, tube: &TubeName) -> Option<JobId>
+pub fn first(
+    jobs: &mut NumberedJobs,
+    tubes: &NumberedTubes,
+    kind: JobKind,
+    tube: &Tube,
+) -> Option<JobId>
+    requires same { tubes.now.numbers ≡ jobs.old.tubes }
     ensures id { result ≡ option_map (λ j. j.id) (first_of_kind kind tube.now jobs.old.jobs) }
     ensures kept { Searches 1 jobs.old jobs.new }
 {
     match kind {
-        JobKind::Ready => jobs.first_ready(tube),
-        JobKind::Delayed => jobs.first_delayed(tube),
-        JobKind::Buried => jobs.first_buried(tube),
+        JobKind::Ready => jobs.first_ready(tubes, tube),
+        JobKind::Delayed => jobs.first_delayed(tubes, tube),
+        JobKind::Buried => jobs.first_buried(tubes, tube),
     }
 }
 

@@ -10,7 +10,7 @@ ghost use Rattle.bq_state.specs.Knowledge.{with_tube_changed};
 use crate::seats::{SeatChange, SeatRecord};
 use crate::tubes::{Share, TubeChange, Tubes};
 use bq_job::{Job, Moment, Seat, TubeName};
-use bq_jobs::{Moved, Removed};
+use bq_jobs::{Moved, Removed, TubeNumber};
 pub use clients::Clients;
 pub use first_timeout::{FirstTimeout, first_to_give_up};
 pub use maybe_gone::MaybeGone;
@@ -27,7 +27,7 @@ mod warns;
 
 /// What is known without a search. Each field is determined by the jobs, the seats and the tubes,
 /// and is updated when these change; `specs/Knowledge.antt` states its meaning.
-#[derive(Clone, Copy)]
+#[derive(Drop)]
 pub struct Known {
     /// How many jobs are in each state.
     pub tally: Tally,
@@ -64,12 +64,12 @@ impl Known {
 
     /// A job is added. `is_wanted` says whether it is ready and a client waits for jobs of its
     /// tube; `waits` says whether its holder waits.
-    pub(crate) fn add_job(&mut self, job: &Job, is_wanted: bool, waits: bool)
+    pub(crate) fn add_job(&mut self, job: &Job, hint: TubeNumber, is_wanted: bool, waits: bool)
         ensures { self.new ≡ with_job job.now is_wanted waits self.old }
     {
         self.tally.add(job);
         self.maybe_gone.remove(&job.tube);
-        self.wanted.add_tube_if(&job.tube, is_wanted);
+        self.wanted.add_tube_if(&job.tube, hint, is_wanted);
         self.warns.warn_holder_if(job.state, waits);
     }
 
@@ -79,7 +79,8 @@ impl Known {
         ensures { self.new ≡ with_removal removed.now has_seats self.old }
     {
         self.tally.leave(removed.at);
-        self.maybe_gone.add_if(&removed.tube, !has_seats);
+        self.maybe_gone
+            .add_if(removed.tube.name(), removed.tube.number(), !has_seats);
     }
 
     /// A job is changed; the arguments describe it after the change.
@@ -88,7 +89,8 @@ impl Known {
     {
         self.tally.leave(moved.from);
         self.tally.enter(moved.to);
-        self.wanted.add_tube_if(&moved.tube, is_wanted);
+        self.wanted
+            .add_tube_if(moved.tube.name(), moved.tube.number(), is_wanted);
         self.warns.warn_holder_if(moved.to.state, waits);
     }
 
@@ -119,10 +121,16 @@ impl Known {
     }
 
     /// The entry of a tube was changed.
-    pub(crate) fn change_tube(&mut self, name: &TubeName, what: TubeChange, tubes: &Tubes)
+    pub(crate) fn change_tube(
+        &mut self,
+        name: &TubeName,
+        hint: TubeNumber,
+        what: TubeChange,
+        tubes: &Tubes,
+    )
         ensures { self.new ≡ with_tube_changed name.now what tubes.now.entries self.old }
     {
-        self.wanted.change_tube(name, what);
+        self.wanted.change_tube(name, hint, what);
         self.pause_end = tubes.pause_end_after(what, self.pause_end);
     }
 

@@ -62,11 +62,11 @@ pub(crate) fn at(client: &SeatRecord, name: &TubeName) -> Share
 
 // Adds a share to a tube's counts, or removes it. An empty share needs no search for the tube.
 #[tactic(auto, using(crate::proofs::CrowdLemmas::beside_same, crate::proofs::CrowdLemmas::none_recounted))]
-fn recount_at(tubes: &mut Tubes, name: &TubeName, moving: Moving, share: Share)
-    ensures { tubes.new ≡ with_crowds_at name.now (recounted moving share) tubes.old }
+fn recount_at(tubes: &mut Tubes, tube: &Tube, moving: Moving, share: Share)
+    ensures { tubes.new ≡ with_crowds_at tube.now (recounted moving share) tubes.old }
 {
     if !share.is_none() {
-        tubes.recount(name, moving, share);
+        tubes.recount(tube.name(), tube.number(), moving, share);
     }
 }
 
@@ -76,7 +76,8 @@ fn recount_all(tubes: &mut Tubes, watched: &[Tube], moving: Moving, share: Share
     ensures { tubes.new ≡ with_crowds_at_all watched.now (recounted moving share) tubes.old }
 {
     for i in 0..watched.len() {
-        tubes.recount(watched[i].name(), moving, share);
+        let tube = &watched[i];
+        tubes.recount(tube.name(), tube.number(), moving, share);
     }
 }
 
@@ -120,6 +121,6 @@ pub(crate) fn recount(tubes: &mut Tubes, client: Option<&SeatRecord>, moving: Mo
     let Some(client) = client else {
         return;
     };
-    recount_at(tubes, client.used().name(), moving, as_user(client, what));
+    recount_at(tubes, client.used(), moving, as_user(client, what));
     recount_watched(tubes, client.watched(), moving, as_watcher(client, what));
 }

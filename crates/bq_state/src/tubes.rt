@@ -1,17 +1,20 @@
 //! The tubes: what is kept of each that exists.
-ghost use Rattle.std.specs.Prelude.{◌≡◌, ◌&&◌, ◌<◌, [], IfOk, find, length, map, not, nat_lt, is_some, is_ok, if◌then◌else◌};
+ghost use Rattle.std.specs.Prelude.{◌≡◌, ◌&&◌, ◌<◌, [], false, IfOk, find, length, map, not, nat_lt, is_some, is_ok, if◌then◌else◌};
 ghost use Rattle.std.specs.List.{list_any};
 ghost use Rattle.std.specs.Option.{option_map};
 ghost use Rattle.std.specs.Cmp.Lexicographic.{slice_cmp};
 ghost use Rattle.std.specs.Ordering.{nat_cmp};
 ghost use Rattle.bq_index.specs.Order.{InOrder};
+ghost use Rattle.bq_jobs.specs.Names.{number_in};
+ghost use Rattle.bq_jobs.specs.Numbering.{Extends};
+ghost use Rattle.std.specs.Map.{lookup};
 ghost use Rattle.bq_job.specs.reading.TubeName.{is_same_name};
 ghost use Rattle.bq_job.specs.machine.Timers.{tube_after_timers};
 ghost use Rattle.bq_state.specs.Counting.{AreCounts, DropsGone, IfCounted, tubes_with, with_crowds_at};
 ghost use Rattle.bq_state.specs.Counting.{with_job_put, with_removal_counted, with_tallies_at};
 ghost use Rattle.bq_state.specs.Crowds.{crowd_at, has_seats, recounted};
 ghost use Rattle.bq_state.specs.Dues.{first_pause_end, pause_end_after, pause_end_left};
-ghost use Rattle.bq_state.specs.KeptTubes.{edited_at, kept_changed, record_at};
+ghost use Rattle.bq_state.specs.KeptTubes.{edited_at, is_named_at, kept_changed, record_at};
 ghost use Rattle.bq_state.specs.Leaving.{exists_in};
 ghost use Rattle.bq_state.specs.Offers.{is_waited_at};
 ghost use Rattle.bq_state.specs.PauseEnds.{AreEnds};
@@ -25,7 +28,7 @@ use crate::name_lists::Names;
 use crate::watch_list::default_tube;
 use bq_index::Catalog;
 use bq_job::{Job, Moment, NoMemory, TubeName};
-use bq_jobs::{Moved, NumberedJobs, Removed};
+use bq_jobs::{Moved, NumberedJobs, NumberedTubes, Removed, TubeNumber, TubeTable};
 pub use entry::{Crowd, Pausing, TubeChange, TubeEntry};
 pub(crate) use entry::{Moving, Share};
 use pauses::PauseEnds;
@@ -37,11 +40,12 @@ mod entry;
 mod pauses;
 mod walks;
 
-/// An entry for each tube that exists, found by name. The entries are in the byte order of the
-/// names.
+/// An entry for each tube that exists, found by number or by name. The entries are in the byte
+/// order of the names. A call that takes a number beside a name looks there first. It searches for
+/// the name only if another tube, or none, has that number.
 #[derive(Drop)]
 pub struct Tubes {
-    kept: Catalog<TubeName, TubeEntry>,
+    kept: TubeTable<TubeEntry>,
     // The ends of the tubes' pauses.
     ends: PauseEnds,
 }
@@ -53,41 +57,29 @@ impl Model for Tubes {
 
     ghost Value = { KeptTubes };
 
-    ghost view = { λ t. tubes_kept t.kept.entries };
+    ghost view = { λ t. tubes_kept t.kept.numbers t.kept.entries };
 
     ghost invariant = { λ t. AreEnds (map record_at t.kept.entries) t.ends };
 }
 
 // Changes the tube with this name. The ends of pauses are accessed only if it is paused.
 fn change(
-    kept: &mut Catalog<TubeName, TubeEntry>,
+    kept: &mut TubeTable<TubeEntry>,
     ends: &mut PauseEnds,
     name: &TubeName,
+    hint: TubeNumber,
     what: TubeChange,
 )
     requires { AreEnds (map record_at kept.old.entries) ends.old }
+    ensures numbers { kept.new.numbers ≡ kept.old.numbers }
     ensures kept { kept.new.entries ≡ edited_at name.now (kept_changed what) kept.old.entries }
     ensures ends { AreEnds (map record_at kept.new.entries) ends.new }
     ensures ordered { InOrder (slice_cmp nat_cmp) kept.old.entries }
 {
     match what {
-        TubeChange::Pause(_, _) => pauses::pause(kept, ends, name, what),
-        TubeChange::CountPut => entry::change(kept, name, what),
-        TubeChange::CountDelete => entry::change(kept, name, what),
-    }
-}
-
-// Makes room for one more entry, if there is none.
-fn reserve_box<K: Ord + Drop, V: Drop>(
-    catalog: &mut Catalog<K, V>,
-    alloc: Global,
-) -> Result<(), NoMemory>
-    ensures entries { catalog.new.entries ≡ catalog.old.entries }
-    ensures room { IfOk result (λ _. 0 < catalog.new.spare) }
-{
-    match catalog.reserve(alloc, 1) {
-        Ok(()) => Ok(()),
-        Err(_) => Err(NoMemory),
+        TubeChange::Pause(_, _) => pauses::pause(kept, ends, name, hint, what),
+        TubeChange::CountPut => entry::change(kept, name, hint, what),
+        TubeChange::CountDelete => entry::change(kept, name, hint, what),
     }
 }
 
@@ -97,19 +89,19 @@ impl Tubes {
     /// Returns the default tube, without jobs and clients. Returns `NoMemory` if an allocation
     /// fails.
     pub fn new(alloc: Global) -> Result<Tubes, NoMemory>
-        ensures { IfOk result (λ tubes. tubes ≡ first_tubes) }
+        ensures { IfOk result (λ tubes. tubes ≡ first_tubes tubes.numbers) }
     {
-        let mut tubes = Tubes::none();
-        let _is_new = tubes.provide(alloc, &default_tube())?;
+        let mut tubes = Tubes::none(alloc);
+        let _number = tubes.provide(alloc, &default_tube())?;
         Ok(tubes)
     }
 
     // Returns no tubes at all.
-    fn none() -> Tubes
-        ensures { result ≡ tubes_kept [] }
+    fn none(alloc: Global) -> Tubes
+        ensures { result ≡ tubes_kept [] [] }
     {
         Tubes {
-            kept: Catalog::new(),
+            kept: TubeTable::new(alloc),
             ends: Catalog::new(),
         }
     }
@@ -121,36 +113,41 @@ impl Tubes {
         self.kept.len()
     }
 
-    /// Returns true if a tube has an entry.
-    pub(crate) fn has(&self, name: &TubeName) -> bool
-        ensures { result ≡ has_entry name.now self.now.entries }
+    /// Returns the names of the tubes with their numbers.
+    pub fn names(&self) -> &NumberedTubes
+        ensures numbers { result.now.numbers ≡ self.now.numbers }
+        ensures known { HaveNumbers self.now.numbers self.now.entries }
     {
-        self.kept.peek(name).is_some()
+        self.kept.tubes()
     }
 
-    /// Ensures that a tube has an entry, and returns true if it is new. The allocations for that
-    /// come before any change.
-    pub(crate) fn provide(&mut self, alloc: Global, name: &TubeName) -> Result<bool, NoMemory>
-        ensures told { IfOk result (λ is_new. is_new ≡ not (has_entry name.now self.old.entries)) }
-        ensures after { self.new
-            ≡ (if is_ok result then tubes_with name.now self.old else self.old) }
+    /// Returns the number of a tube, if it has an entry.
+    pub fn number_of(&self, name: &TubeName) -> Option<TubeNumber>
+        ensures number { option_map number_in result ≡ lookup (is_named_at name.now) self.now.numbers }
+        ensures there { is_some result ≡ has_entry name.now self.now.entries }
     {
-        if self.kept.peek(name).is_some() {
-            return Ok(false);
-        }
+        self.kept.number_of(name, TubeNumber::unknown())
+    }
+
+    /// Gives an entry and a number to a tube that has none, and returns the number. The allocations
+    /// for that come before any change.
+    pub(crate) fn provide(&mut self, alloc: Global, name: &TubeName) -> Result<TubeNumber, NoMemory>
+        requires { has_entry name.now self.old.entries ≡ false }
+        ensures after { self.new
+            ≡ (if is_ok result then tubes_with name.now self.new.numbers self.old else self.old) }
+        ensures extends { Extends self.old.numbers self.new.numbers }
+    {
         pauses::make_room(&mut self.ends, alloc, self.kept.len())?;
-        reserve_box(&mut self.kept, alloc)?;
-        self.kept.insert(*name, TubeEntry::new());
-        Ok(true)
+        let number = self.kept.insert(alloc, name, TubeEntry::new())?;
+        Ok(number)
     }
 
     /// Changes the tube with this name.
-    #[tactic(auto, using(crate::proofs::EditLemmas::records_change))]
-    pub(crate) fn change(&mut self, name: &TubeName, what: TubeChange)
+    pub(crate) fn change(&mut self, name: &TubeName, hint: TubeNumber, what: TubeChange)
         ensures { self.new
             ≡ record self.old { entries = map (tube_changed_at name.now what) self.old.entries } }
     {
-        change(&mut self.kept, &mut self.ends, name, what);
+        change(&mut self.kept, &mut self.ends, name, hint, what);
     }
 
     /// Ends pauses that are due.
@@ -164,7 +161,7 @@ impl Tubes {
 
     /// Returns the entry with this name, which contains how many jobs and clients the tube has, and
     /// whether it is paused.
-    pub fn entry_of(&self, name: &TubeName) -> Option<&TubeEntry>
+    pub fn entry_of(&self, name: &TubeName, hint: TubeNumber) -> Option<&TubeEntry>
         ensures entry { option_map (λ t. record_of name.now t.now) result
             ≡ find (λ t. is_same_name name.now t.name) self.now.entries }
         ensures tally { tally_by (option_map (λ t. t.now) result)
@@ -174,28 +171,28 @@ impl Tubes {
         ensures pause { is_paused_by (option_map (λ t. t.now) result)
             ≡ list_any (λ t. is_same_name name.now t.name && is_some t.pause) self.now.entries }
     {
-        self.kept.peek(name)
+        self.kept.get(name, hint)
     }
 
     /// Returns true if the tube with this name is paused. If no tube is, nothing is searched.
-    pub fn is_paused(&self, name: &TubeName) -> bool
+    pub fn is_paused(&self, name: &TubeName, hint: TubeNumber) -> bool
         ensures { result
             ≡ list_any (λ t. is_same_name name.now t.name && is_some t.pause) self.now.entries }
     {
         if self.ends.len() == 0 {
             return false;
         }
-        match self.entry_of(name) {
+        match self.entry_of(name, hint) {
             None => false,
             Some(entry) => entry.is_paused(),
         }
     }
 
     /// Counts a new job in its tube.
-    pub(crate) fn add_job(&mut self, job: &Job)
+    pub(crate) fn add_job(&mut self, job: &Job, hint: TubeNumber)
         ensures { self.new ≡ with_job_put job.now self.old }
     {
-        entry::add_job(&mut self.kept, job);
+        entry::add_job(&mut self.kept, job, hint);
     }
 
     /// Stops counting the job of this report in its tube, and counts its deletion. Returns whether
@@ -216,35 +213,41 @@ impl Tubes {
     }
 
     /// Returns the job counts of the tube with this name; none if it has no entry.
-    pub(crate) fn tally_of(&self, name: &TubeName) -> Tally
+    pub(crate) fn tally_of(&self, name: &TubeName, hint: TubeNumber) -> Tally
         ensures { result ≡ tally_at name.now self.now.entries self.now.tallies }
     {
-        match self.entry_of(name) {
+        match self.entry_of(name, hint) {
             None => Tally::none(),
             Some(entry) => entry.tally(),
         }
     }
 
     /// Returns true if a job is counted in the tube with this name.
-    pub(crate) fn has_jobs_in(&self, name: &TubeName) -> bool
+    pub(crate) fn has_jobs_in(&self, name: &TubeName, hint: TubeNumber) -> bool
         ensures { result ≡ has_jobs (tally_at name.now self.now.entries self.now.tallies) }
     {
-        self.tally_of(name).has_jobs()
+        self.tally_of(name, hint).has_jobs()
     }
 
     /// Adds the share of a seat to the counts of the tube with this name, or removes it.
-    pub(crate) fn recount(&mut self, name: &TubeName, moving: Moving, share: Share)
+    pub(crate) fn recount(
+        &mut self,
+        name: &TubeName,
+        hint: TubeNumber,
+        moving: Moving,
+        share: Share,
+    )
         ensures { self.new ≡ with_crowds_at name.now (recounted moving share) self.old }
     {
-        entry::recount(&mut self.kept, name, moving, share);
+        entry::recount(&mut self.kept, name, hint, moving, share);
     }
 
     /// Returns how many clients use or watch the tube with this name or wait for its jobs; none if
     /// it has no entry.
-    pub fn crowd_of(&self, name: &TubeName) -> Crowd
+    pub fn crowd_of(&self, name: &TubeName, hint: TubeNumber) -> Crowd
         ensures { result ≡ crowd_at name.now self.now.entries self.now.crowds }
     {
-        match self.entry_of(name) {
+        match self.entry_of(name, hint) {
             None => Crowd::none(),
             Some(entry) => entry.crowd(),
         }
@@ -252,17 +255,19 @@ impl Tubes {
 
     /// Returns true if a client waits for jobs of the tube with this name; `clients` are the counts
     /// of clients. If no client waits, nothing is searched.
-    pub(crate) fn has_waiter_at(&self, clients: &Clients, name: &TubeName) -> bool
+    pub(crate) fn has_waiter_at(&self, clients: &Clients, name: &TubeName, hint: TubeNumber) -> bool
         ensures { result ≡ (nat_lt 0 clients.now.waiting && is_waited_at name.now self.now) }
     {
-        clients.waiting > 0 && self.crowd_of(name).waiting > 0
+        clients.waiting > 0 && self.crowd_of(name, hint).waiting > 0
     }
 
     /// Returns true if the tube exists.
-    pub(crate) fn is_tube(&self, name: &TubeName) -> bool
+    pub(crate) fn is_tube(&self, name: &TubeName, hint: TubeNumber) -> bool
         ensures { result ≡ exists_in self.now name.now }
     {
-        *name == default_tube() || self.has_jobs_in(name) || self.crowd_of(name).has_seats()
+        *name == default_tube()
+            || self.has_jobs_in(name, hint)
+            || self.crowd_of(name, hint).has_seats()
     }
 
     /// Returns how many tubes exist.
@@ -271,8 +276,7 @@ impl Tubes {
         ensures { IfCounted self.now
             (λ jobs seats. result ≡ length (names_alive jobs seats self.now.entries)) }
     {
-        let mut alive = HowMany::none();
-        self.kept.walk(&mut alive);
+        let alive = self.kept.walk(HowMany::none());
         alive.count()
     }
 
@@ -291,22 +295,21 @@ impl Tubes {
     /// Drops the entries and numbers of tubes that no longer exist, which are among those that may
     /// have gone.
     pub(crate) fn forget_gone(&mut self, jobs: &mut NumberedJobs, maybe_gone: &MaybeGone)
-        requires numbered { HaveNumbers jobs.old.tubes self.old.entries }
+        requires numbered { jobs.old.tubes ≡ self.old.numbers }
         requires tallies { self.old.tallies ≡ tallies_of jobs.old.jobs self.old.entries }
         ensures after { DropsGone maybe_gone.now self.old self.new }
         ensures kept { IfCounted self.old (AreCounts self.new) }
-        ensures numbered { HaveNumbers jobs.new.tubes self.new.entries }
+        ensures numbered { jobs.new.tubes ≡ self.new.numbers }
         ensures jobs { jobs.new ≡ record jobs.old { tubes = jobs.new.tubes } }
     {
         match maybe_gone {
             MaybeGone::Nothing => {}
-            MaybeGone::Of(name) => walks::forget_named(&mut self.kept, &mut self.ends, jobs, name),
+            MaybeGone::Of(gone) => walks::forget_one(&mut self.kept, &mut self.ends, jobs, gone),
             MaybeGone::Any => walks::forget_all(&mut self.kept, &mut self.ends, jobs),
         }
     }
 
     /// Returns when the first pause ends.
-    #[tactic(auto, using(crate::proofs::EndLemmas::first_seen))]
     pub fn first_pause_end(&self) -> Option<Moment>
         ensures { result ≡ first_pause_end self.now.entries }
     {

@@ -40,7 +40,7 @@ pub(crate) fn default_tube() -> TubeName
 pub(crate) fn numbered_default() -> Tube
     ensures { result ≡ default_tube }
 {
-    Tube::new(default_tube(), TubeNumber::first())
+    Tube::new(&default_tube(), TubeNumber::first())
 }
 
 // Makes room for one more element, if there is none.

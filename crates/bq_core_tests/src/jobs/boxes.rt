@@ -1,10 +1,9 @@
 //! The three boxes of a job. The allocation of any of them may fail, and they return to the heap
 //! after a peak.
 
-use crate::jobs::putting::{has, no_jobs, put_in_room, put_new, tube};
+use crate::jobs::putting::{TestJobs, has, no_jobs, put_in_room, put_new, tube};
 use bq_index::{BoxSource, NoMemory as Refused};
 use bq_job::{JobId, JobState, TubeName};
-use bq_jobs::NumberedJobs;
 use std::alloc::Global;
 use std::mem::size_of_val;
 use std::process::Abort;
@@ -28,7 +27,7 @@ impl BoxSource for Refusing {
 }
 
 // Adds the jobs below an id, each with room that is reserved for it.
-fn fill(alloc: Global, jobs: &mut NumberedJobs, name: TubeName, end: JobId) -> bool {
+fn fill(alloc: Global, jobs: &mut TestJobs, name: TubeName, end: JobId) -> bool {
     for id in 0..end {
         if !put_in_room(alloc, jobs, id, name, 0, JobState::Ready) {
             return false;
@@ -38,7 +37,7 @@ fn fill(alloc: Global, jobs: &mut NumberedJobs, name: TubeName, end: JobId) -> b
 }
 
 // Removes the jobs with these ids, and returns true if each existed.
-fn remove_all(jobs: &mut NumberedJobs, first: JobId, end: JobId) -> bool {
+fn remove_all(jobs: &mut TestJobs, first: JobId, end: JobId) -> bool {
     let mut are_there = true;
     for id in first..end {
         are_there = jobs.remove(id).is_some() && are_there;
@@ -48,7 +47,7 @@ fn remove_all(jobs: &mut NumberedJobs, first: JobId, end: JobId) -> bool {
 
 // Reserves room for a job from a heap in which one of the allocations fails. Returns true if the
 // call fails for it, and after this many allocations.
-fn fails_at(jobs: &mut NumberedJobs, heap: Global, refused: usize) -> bool {
+fn fails_at(jobs: &mut TestJobs, heap: Global, refused: usize) -> bool {
     let mut source = Refusing {
         heap,
         asked: 0,
@@ -58,7 +57,7 @@ fn fails_at(jobs: &mut NumberedJobs, heap: Global, refused: usize) -> bool {
 }
 
 // Does the same while all allocations succeed. Returns true if they are this many.
-fn asks_for(jobs: &mut NumberedJobs, heap: Global, count: usize) -> bool {
+fn asks_for(jobs: &mut TestJobs, heap: Global, count: usize) -> bool {
     let mut source = Refusing {
         heap,
         asked: 0,
@@ -70,7 +69,7 @@ fn asks_for(jobs: &mut NumberedJobs, heap: Global, count: usize) -> bool {
 /// Whichever box fails, the others are kept for the next call, which allocates the missing ones.
 fn refuses_one(
     alloc: Global,
-    jobs: &mut NumberedJobs,
+    jobs: &mut TestJobs,
     name: TubeName,
     refused: usize,
     left: usize,
@@ -98,7 +97,7 @@ fn each_box_refused_in_turn(rt: HostRuntime) {
 }
 
 /// Returns all spare room to the heap, and reports for how many jobs that was.
-fn give_back_all(jobs: &mut NumberedJobs) -> usize {
+fn give_back_all(jobs: &mut TestJobs) -> usize {
     let before = jobs.room();
     for _ in 0..before {
         jobs.give_back();
@@ -107,7 +106,7 @@ fn give_back_all(jobs: &mut NumberedJobs) -> usize {
 }
 
 // Three of 200 jobs are left.
-fn leaves_three(jobs: &mut NumberedJobs) -> bool {
+fn leaves_three(jobs: &mut TestJobs) -> bool {
     jobs.give_back();
     if !has(jobs, 200, 0) || !remove_all(jobs, 3, 200) || !has(jobs, 3, 197) {
         return false;
@@ -118,12 +117,12 @@ fn leaves_three(jobs: &mut NumberedJobs) -> bool {
 }
 
 // Then none is left.
-fn leaves_none(jobs: &mut NumberedJobs) -> bool {
+fn leaves_none(jobs: &mut TestJobs) -> bool {
     remove_all(jobs, 0, 3) && give_back_all(jobs) == 6 && has(jobs, 0, 0)
 }
 
 // A peak of 200 jobs, after which 3 are left and then none.
-fn peak_passes(rt: &impl Abort, alloc: Global, jobs: &mut NumberedJobs, name: TubeName) {
+fn peak_passes(rt: &impl Abort, alloc: Global, jobs: &mut TestJobs, name: TubeName) {
     assert!(rt; fill(alloc, jobs, name, 200));
     assert!(rt; leaves_three(jobs));
     assert!(rt; leaves_none(jobs));

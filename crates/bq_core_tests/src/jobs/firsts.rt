@@ -1,8 +1,7 @@
 //! The first job of each kind, by hand.
 
-use crate::jobs::putting::{no_jobs, put_in_room, tube};
+use crate::jobs::putting::{TestJobs, no_jobs, put_in_room, tube};
 use bq_job::{JobId, JobState, Pri, Seat};
-use bq_jobs::NumberedJobs;
 use std::alloc::Global;
 use std::process::Abort;
 
@@ -51,7 +50,7 @@ pub(crate) const FIRSTS: &[(Kind, Option<JobId>)] = &[
     (Kind::Held(0), None),
 ];
 
-fn first_of(rt: &impl Abort, jobs: &mut NumberedJobs, kind: Kind) -> Option<JobId> {
+fn first_of(rt: &impl Abort, jobs: &mut TestJobs, kind: Kind) -> Option<JobId> {
     match kind {
         Kind::Ready(name) => jobs.first_ready(&tube(rt, name)),
         Kind::Delayed(name) => jobs.first_delayed(&tube(rt, name)),
@@ -63,7 +62,7 @@ fn first_of(rt: &impl Abort, jobs: &mut NumberedJobs, kind: Kind) -> Option<JobI
 }
 
 // Adds the jobs of all rows.
-fn add_all(rt: &impl Abort, alloc: Global, jobs: &mut NumberedJobs) {
+fn add_all(rt: &impl Abort, alloc: Global, jobs: &mut TestJobs) {
     for (id, name, pri, state) in JOBS {
         assert!(rt; put_in_room(alloc, jobs, *id, tube(rt, name), *pri, *state));
     }
@@ -71,7 +70,7 @@ fn add_all(rt: &impl Abort, alloc: Global, jobs: &mut NumberedJobs) {
 }
 
 // Queries the first job of each kind.
-fn look(rt: &impl Abort, jobs: &mut NumberedJobs) {
+fn look(rt: &impl Abort, jobs: &mut TestJobs) {
     for (kind, wanted) in FIRSTS {
         let before = jobs.comparisons();
         assert!(rt; first_of(rt, jobs, *kind) == *wanted);
@@ -80,7 +79,7 @@ fn look(rt: &impl Abort, jobs: &mut NumberedJobs) {
     }
 }
 
-fn add_and_look(rt: &impl Abort, alloc: Global, jobs: &mut NumberedJobs) {
+fn add_and_look(rt: &impl Abort, alloc: Global, jobs: &mut TestJobs) {
     add_all(rt, alloc, jobs);
     look(rt, jobs);
 }

@@ -1,14 +1,13 @@
 //! More jobs than in any other test.
 
-use crate::jobs::putting::{has, no_jobs, put_in_room, tube};
+use crate::jobs::putting::{TestJobs, has, no_jobs, put_in_room, tube};
 use bq_job::{JobState, TubeName};
-use bq_jobs::NumberedJobs;
 use std::alloc::Global;
 
 const JOBS: u64 = 3_000;
 
 /// Adds all jobs, each more urgent than the previous one.
-fn fill(alloc: Global, jobs: &mut NumberedJobs, name: TubeName) -> bool {
+fn fill(alloc: Global, jobs: &mut TestJobs, name: TubeName) -> bool {
     for id in 0..JOBS {
         let pri = (JOBS - id) as u32;
         if !put_in_room(alloc, jobs, id, name, pri, JobState::Ready) {
@@ -19,7 +18,7 @@ fn fill(alloc: Global, jobs: &mut NumberedJobs, name: TubeName) -> bool {
 }
 
 /// Removes all jobs in the order in which they would be handed out: the last one first.
-fn empty(jobs: &mut NumberedJobs, name: &TubeName) -> bool {
+fn empty(jobs: &mut TestJobs, name: &TubeName) -> bool {
     for taken in 1..=JOBS {
         match jobs.first_ready(name) {
             Some(id) if id == JOBS - taken => {}
@@ -32,7 +31,7 @@ fn empty(jobs: &mut NumberedJobs, name: &TubeName) -> bool {
     true
 }
 
-fn fills_and_empties(alloc: Global, jobs: &mut NumberedJobs, name: TubeName) -> bool {
+fn fills_and_empties(alloc: Global, jobs: &mut TestJobs, name: TubeName) -> bool {
     fill(alloc, jobs, name) && has(jobs, 3_000, 0) && empty(jobs, &name) && has(jobs, 0, 3_000)
 }
 

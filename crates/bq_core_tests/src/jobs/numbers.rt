@@ -1,28 +1,21 @@
 //! Numbers of tubes: a tube that is forgotten leaves its number to the next one.
 
-use crate::jobs::putting::{no_jobs, put_in_room, tube};
+use crate::jobs::putting::{TestJobs, no_jobs, put_in_room, tube};
 use bq_job::{JobId, JobState, TubeName};
-use bq_jobs::{NumberedJobs, TubeNumber};
+use bq_jobs::TubeNumber;
 use std::alloc::Global;
 
-fn number_of(jobs: &mut NumberedJobs, id: JobId) -> Option<TubeNumber> {
-    match jobs.get(id) {
-        Some(row) => Some(row.tube),
-        None => None,
-    }
-}
-
 // Puts a job into a tube and returns the number of the tube.
-fn put(alloc: Global, jobs: &mut NumberedJobs, id: JobId, name: TubeName) -> Option<TubeNumber> {
+fn put(alloc: Global, jobs: &mut TestJobs, id: JobId, name: TubeName) -> Option<TubeNumber> {
     if put_in_room(alloc, jobs, id, name, 0, JobState::Ready) {
-        number_of(jobs, id)
+        jobs.number_of(id)
     } else {
         None
     }
 }
 
 // Removes the only job, and forgets its tube.
-fn forgets(jobs: &mut NumberedJobs, id: JobId, name: &TubeName) -> bool {
+fn forgets(jobs: &mut TestJobs, id: JobId, name: &TubeName) -> bool {
     if jobs.discard(id).is_none() || jobs.len() != 0 {
         return false;
     }
@@ -47,7 +40,7 @@ fn is_other(number: &Option<TubeNumber>, other: &Option<TubeNumber>) -> bool {
 // Of the three tubes, the second and the third have their jobs at the same time.
 fn uses_numbers_again(
     alloc: Global,
-    jobs: &mut NumberedJobs,
+    jobs: &mut TestJobs,
     a: &TubeName,
     b: &TubeName,
     c: &TubeName,

@@ -1,9 +1,176 @@
 //! How the tests add and change jobs.
+ghost use Rattle.std.specs.List.{list_any};
+ghost use Rattle.std.specs.Prelude.{◌≡◌, length, true, false};
+ghost use Rattle.bq_job.specs.reading.TubeName.{is_same_name};
+ghost use Rattle.bq_jobs.specs.Numbering.{is_known};
 
-use bq_job::{Body, Counts, Job, JobId, JobState, NoMemory, Pri, TubeName};
-use bq_jobs::NumberedJobs;
+use bq_index::BoxSource;
+use bq_job::{Body, Counts, Job, JobId, JobState, NoMemory, Pri, Seat, TubeName};
+use bq_jobs::{NumberedJobs, NumberedTubes, Removed, Tube, TubeNumber};
 use std::alloc::Global;
+use std::marker::Model;
 use std::process::Abort;
+
+/// Jobs and the table of the names of their tubes, which a core has once for all its parts.
+#[derive(Drop)]
+pub struct TestJobs {
+    tubes: NumberedTubes,
+    jobs: NumberedJobs,
+}
+
+impl Model for TestJobs {
+    ghost use Rattle.std.specs.Prelude.{◌≡◌};
+    ghost use Rattle.bq_jobs.specs.Kept.{Kept};
+
+    ghost Value = { Kept };
+
+    ghost view = { λ t. t.jobs };
+
+    // The jobs know the table as it is.
+    ghost invariant = { λ t. t.tubes.numbers ≡ t.jobs.tubes };
+}
+
+// Returns the tube with this name, whose number is not known.
+fn unnumbered(name: &TubeName) -> Tube {
+    Tube::new(name, TubeNumber::unknown())
+}
+
+impl TestJobs {
+    fn new(alloc: Global) -> Result<TestJobs, NoMemory> {
+        let tubes = NumberedTubes::new(alloc);
+        let jobs = NumberedJobs::new(alloc, &tubes)?;
+        Ok(TestJobs { tubes, jobs })
+    }
+
+    pub fn len(&self) -> usize
+        ensures { result ≡ length self.now.jobs }
+    {
+        self.jobs.len()
+    }
+
+    pub fn room(&self) -> usize {
+        self.jobs.room()
+    }
+
+    pub fn comparisons(&self) -> u64 {
+        self.jobs.comparisons()
+    }
+
+    pub fn reserve_one(&mut self, alloc: Global) -> Result<(), NoMemory> {
+        let mut heap = alloc;
+        self.reserve_one_from(&mut heap)
+    }
+
+    pub fn reserve_one_from<S: BoxSource>(&mut self, source: &mut S) -> Result<(), NoMemory> {
+        match self.jobs.reserve_one_from(source) {
+            Ok(()) => Ok(()),
+            Err(_) => Err(NoMemory),
+        }
+    }
+
+    pub fn give_back(&mut self) {
+        self.jobs.give_back();
+    }
+
+    // Returns true if a tube is registered.
+    fn is_registered(&self, name: &TubeName) -> bool
+        ensures { result ≡ true → is_known name.now self.now ≡ true }
+    {
+        self.tubes.number_of(name, TubeNumber::unknown()).is_some()
+    }
+
+    // Registers a tube, unless it is registered already. Returns false if an allocation fails.
+    #[tactic(auto, using(bq_jobs::proofs::TableViews::extends_by))]
+    fn register(&mut self, alloc: Global, name: &TubeName) -> bool
+        ensures { self.new ≡ record self.old { tubes = self.new.tubes } }
+    {
+        if self.tubes.number_of(name, TubeNumber::unknown()).is_some() {
+            return true;
+        }
+        if self.tubes.add(alloc, name).is_err() {
+            return false;
+        }
+        self.jobs.learn(&self.tubes);
+        true
+    }
+
+    /// Adds a job if there is room and no job with its id. Registers its tube before.
+    pub fn put(&mut self, alloc: Global, job: Job) -> bool {
+        if self.jobs.room() == 0
+            || self.jobs.get(job.id).is_some()
+            || !self.register(alloc, &job.tube)
+            || !self.is_registered(&job.tube)
+        {
+            return false;
+        }
+        self.jobs.add(&self.tubes, job, TubeNumber::unknown());
+        true
+    }
+
+    pub fn remove(&mut self, id: JobId) -> Option<Job> {
+        self.jobs.remove(&self.tubes, id)
+    }
+
+    pub fn discard(&mut self, id: JobId) -> Option<Removed> {
+        self.jobs.discard(&self.tubes, id)
+    }
+
+    /// Returns the state of the job with this id.
+    pub fn state_of(&mut self, id: JobId) -> Option<JobState> {
+        match self.jobs.get(id) {
+            Some(row) => Some(row.state()),
+            None => None,
+        }
+    }
+
+    /// Returns the number that the tube of the job with this id has.
+    pub fn number_of(&mut self, id: JobId) -> Option<TubeNumber> {
+        match self.jobs.get(id) {
+            Some(row) => Some(row.tube),
+            None => None,
+        }
+    }
+
+    pub fn tube_of(&mut self, id: JobId) -> Option<Tube> {
+        self.jobs.tube_of(&self.tubes, id)
+    }
+
+    pub fn share_body(&mut self, id: JobId) -> Option<Result<Body, NoMemory>> {
+        self.jobs.share_body(id)
+    }
+
+    pub fn first_ready(&mut self, name: &TubeName) -> Option<JobId> {
+        self.jobs.first_ready(&self.tubes, &unnumbered(name))
+    }
+
+    pub fn first_delayed(&mut self, name: &TubeName) -> Option<JobId> {
+        self.jobs.first_delayed(&self.tubes, &unnumbered(name))
+    }
+
+    pub fn first_buried(&mut self, name: &TubeName) -> Option<JobId> {
+        self.jobs.first_buried(&self.tubes, &unnumbered(name))
+    }
+
+    pub fn first_due(&mut self) -> Option<JobId> {
+        self.jobs.first_due()
+    }
+
+    pub fn first_lease(&mut self) -> Option<JobId> {
+        self.jobs.first_lease()
+    }
+
+    pub fn first_held(&mut self, seat: Seat) -> Option<JobId> {
+        self.jobs.first_held(seat)
+    }
+
+    /// Removes a tube that has no jobs.
+    pub fn forget(&mut self, name: &TubeName)
+        requires { list_any (λ j. is_same_name name.now j.tube) self.old.jobs ≡ false }
+    {
+        let _number = self.tubes.remove(name);
+        self.jobs.forget(&self.tubes, name);
+    }
+}
 
 /// Returns the tube with this name, which has to be a valid one.
 pub fn tube(rt: &impl Abort, name: &str) -> TubeName {
@@ -11,8 +178,8 @@ pub fn tube(rt: &impl Abort, name: &str) -> TubeName {
 }
 
 /// Returns no jobs, and no room for one.
-pub fn no_jobs(rt: &impl Abort, alloc: Global) -> NumberedJobs {
-    NumberedJobs::new(alloc).expect(rt, "the memory for no jobs")
+pub fn no_jobs(rt: &impl Abort, alloc: Global) -> TestJobs {
+    TestJobs::new(alloc).expect(rt, "the memory for no jobs")
 }
 
 /// Returns a job with a body of three bytes.
@@ -37,23 +204,19 @@ pub fn job(
 }
 
 /// Returns true if there are this many jobs, and room for this many more.
-pub fn has(jobs: &NumberedJobs, len: usize, room: usize) -> bool {
+pub fn has(jobs: &TestJobs, len: usize, room: usize) -> bool {
     jobs.len() == len && jobs.room() == room
 }
 
 /// Adds a job if there is room and no job with its id.
-pub fn put(alloc: Global, jobs: &mut NumberedJobs, job: Job) -> bool {
-    if jobs.room() == 0 || jobs.get(job.id).is_some() || jobs.know(alloc, &job.tube).is_err() {
-        return false;
-    }
-    jobs.add(job);
-    true
+pub fn put(alloc: Global, jobs: &mut TestJobs, job: Job) -> bool {
+    jobs.put(alloc, job)
 }
 
 /// Makes a job and adds it, as `put` does. Returns false if an allocation fails.
 pub fn put_new(
     alloc: Global,
-    jobs: &mut NumberedJobs,
+    jobs: &mut TestJobs,
     id: JobId,
     tube: TubeName,
     pri: Pri,
@@ -68,7 +231,7 @@ pub fn put_new(
 /// Does the same in room that is reserved for it.
 pub fn put_in_room(
     alloc: Global,
-    jobs: &mut NumberedJobs,
+    jobs: &mut TestJobs,
     id: JobId,
     tube: TubeName,
     pri: Pri,
@@ -78,7 +241,7 @@ pub fn put_in_room(
 }
 
 /// Changes the state of a job by removing it and adding it again.
-pub fn change(alloc: Global, jobs: &mut NumberedJobs, id: JobId, state: JobState) -> bool {
+pub fn change(alloc: Global, jobs: &mut TestJobs, id: JobId, state: JobState) -> bool {
     match jobs.remove(id) {
         None => false,
         Some(mut job) => {

@@ -1,8 +1,8 @@
 //! A job that goes from state to state in the room of one job.
 
-use crate::jobs::putting::{change, has, no_jobs, put_in_room, put_new, tube};
+use crate::jobs::putting::{TestJobs, change, has, no_jobs, put_in_room, put_new, tube};
 use bq_job::{JobState, TubeName};
-use bq_jobs::{NumberedJobs, Removed};
+use bq_jobs::Removed;
 use std::alloc::Global;
 use std::process::Abort;
 
@@ -25,7 +25,7 @@ const STATES: &[(JobState, [bool; 6])] = &[
     (JobState::Ready, [true, false, false, false, false, false]),
 ];
 
-fn kinds_with_jobs(jobs: &mut NumberedJobs, name: &TubeName) -> [bool; 6] {
+fn kinds_with_jobs(jobs: &mut TestJobs, name: &TubeName) -> [bool; 6] {
     [
         jobs.first_ready(name).is_some(),
         jobs.first_delayed(name).is_some(),
@@ -37,13 +37,13 @@ fn kinds_with_jobs(jobs: &mut NumberedJobs, name: &TubeName) -> [bool; 6] {
 }
 
 // Returns true if the job with id 1 has this state, and is in this tube.
-fn is_so(jobs: &mut NumberedJobs, name: &TubeName, state: JobState) -> bool {
-    let has_state = match jobs.get(1) {
-        Some(job) => job.state() == state,
+fn is_so(jobs: &mut TestJobs, name: &TubeName, state: JobState) -> bool {
+    let has_state = match jobs.state_of(1) {
+        Some(found) => found == state,
         None => false,
     };
     let is_there = match jobs.tube_of(1) {
-        Some(tube) => tube == *name,
+        Some(tube) => tube.name() == name,
         None => false,
     };
     has_state && is_there
@@ -52,7 +52,7 @@ fn is_so(jobs: &mut NumberedJobs, name: &TubeName, state: JobState) -> bool {
 // Changes the job with id 1, and returns true if only its new kinds have it.
 fn goes_to(
     alloc: Global,
-    jobs: &mut NumberedJobs,
+    jobs: &mut TestJobs,
     name: &TubeName,
     state: JobState,
     kinds: &[bool; 6],
@@ -66,7 +66,7 @@ fn goes_to(
 }
 
 // Adds the job with id 1 in the room of one job, which is reserved twice.
-fn puts_one(alloc: Global, jobs: &mut NumberedJobs, name: TubeName) -> bool {
+fn puts_one(alloc: Global, jobs: &mut TestJobs, name: TubeName) -> bool {
     has(jobs, 0, 0)
         && jobs.comparisons() == 0
         && jobs.reserve_one(alloc).is_ok()
@@ -75,11 +75,11 @@ fn puts_one(alloc: Global, jobs: &mut NumberedJobs, name: TubeName) -> bool {
         && put_new(alloc, jobs, 1, name, 3, JobState::Ready)
 }
 
-fn removes_one(jobs: &mut NumberedJobs) -> bool {
+fn removes_one(jobs: &mut TestJobs) -> bool {
     jobs.remove(1).is_some() && jobs.remove(1).is_none() && has(jobs, 0, 1)
 }
 
-fn go_through_states(rt: &impl Abort, alloc: Global, jobs: &mut NumberedJobs, name: &TubeName) {
+fn go_through_states(rt: &impl Abort, alloc: Global, jobs: &mut TestJobs, name: &TubeName) {
     assert!(rt; puts_one(alloc, jobs, *name));
     for (state, kinds) in STATES {
         assert!(rt; goes_to(alloc, jobs, name, *state, kinds));
@@ -94,7 +94,7 @@ fn all_states_in_one_room(rt: HostRuntime) {
 }
 
 // Adds a ready job to the first tube and a delayed one to the second.
-fn puts_two(alloc: Global, jobs: &mut NumberedJobs, first: TubeName, second: TubeName) -> bool {
+fn puts_two(alloc: Global, jobs: &mut TestJobs, first: TubeName, second: TubeName) -> bool {
     put_in_room(alloc, jobs, 1, first, 3, JobState::Ready)
         && put_in_room(alloc, jobs, 2, second, 7, JobState::Delayed(8))
 }
@@ -102,12 +102,14 @@ fn puts_two(alloc: Global, jobs: &mut NumberedJobs, first: TubeName, second: Tub
 // Returns true if that is the delayed job, of this tube.
 fn is_delayed(removed: Option<Removed>, tube: TubeName) -> bool {
     match removed {
-        Some(it) => it.tube == tube && it.at.pri == 7 && it.at.state == JobState::Delayed(8),
+        Some(it) => {
+            *it.tube.name() == tube && it.at.pri == 7 && it.at.state == JobState::Delayed(8)
+        }
         None => false,
     }
 }
 
-fn discards_one(jobs: &mut NumberedJobs, first: &TubeName, second: &TubeName) -> bool {
+fn discards_one(jobs: &mut TestJobs, first: &TubeName, second: &TubeName) -> bool {
     jobs.discard(3).is_none()
         && is_delayed(jobs.discard(2), *second)
         && jobs.discard(2).is_none()
@@ -117,7 +119,7 @@ fn discards_one(jobs: &mut NumberedJobs, first: &TubeName, second: &TubeName) ->
         && matches!(jobs.first_ready(first), Some(1))
 }
 
-fn put_and_discard(rt: &impl Abort, alloc: Global, jobs: &mut NumberedJobs) {
+fn put_and_discard(rt: &impl Abort, alloc: Global, jobs: &mut TestJobs) {
     let (first, second) = (tube(rt, "first"), tube(rt, "second"));
     assert!(rt; puts_two(alloc, jobs, first, second));
     assert!(rt; discards_one(jobs, &first, &second));

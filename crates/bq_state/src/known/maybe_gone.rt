@@ -7,29 +7,29 @@ ghost use Rattle.bq_state.specs.MaybeGoneTubes.{with_gone, with_existing};
 use crate::seats::SeatRecord;
 use crate::tubes::{Share, Tubes};
 use bq_job::TubeName;
-use bq_jobs::Tube;
+use bq_jobs::{Tube, TubeNumber};
 
 /// Which tubes may have gone while their entries are still kept. Only these are checked when
 /// entries are dropped.
-#[derive(Clone, Copy)]
+#[derive(Drop)]
 pub enum MaybeGone {
     /// None: each entry is of a tube that exists.
     Nothing,
     /// At most this tube, which a job, a user or a watcher left, or whose entry is new.
-    Of(TubeName),
+    Of(Tube),
     /// Any tube.
     Any,
 }
 
 impl MaybeGone {
     /// This tube may have gone too.
-    pub(crate) fn add(&mut self, name: &TubeName)
+    pub(crate) fn add(&mut self, name: &TubeName, hint: TubeNumber)
         ensures { self.new ≡ with_gone name.now self.old }
     {
         *self = match &*self {
-            MaybeGone::Nothing => MaybeGone::Of(*name),
-            MaybeGone::Of(gone) => if gone == name {
-                MaybeGone::Of(*name)
+            MaybeGone::Nothing => MaybeGone::Of(Tube::new(name, hint)),
+            MaybeGone::Of(gone) => if gone.name() == name {
+                MaybeGone::Of(Tube::new(name, hint))
             } else {
                 MaybeGone::Any
             },
@@ -38,11 +38,11 @@ impl MaybeGone {
     }
 
     /// This tube may have gone too, if `may_be_gone`.
-    pub(crate) fn add_if(&mut self, name: &TubeName, may_be_gone: bool)
+    pub(crate) fn add_if(&mut self, name: &TubeName, hint: TubeNumber, may_be_gone: bool)
         ensures { self.new ≡ (if may_be_gone then with_gone name.now self.old else self.old) }
     {
         if may_be_gone {
-            self.add(name);
+            self.add(name, hint);
         }
     }
 
@@ -52,7 +52,7 @@ impl MaybeGone {
     {
         let is_removed = match &*self {
             MaybeGone::Nothing => false,
-            MaybeGone::Of(gone) => gone == name,
+            MaybeGone::Of(gone) => gone.name() == name,
             MaybeGone::Any => false,
         };
         if is_removed {
@@ -60,30 +60,30 @@ impl MaybeGone {
         }
     }
 
-    // The tube with this name may have gone, unless its counts show that it exists.
-    fn add_unless_there(&mut self, tubes: &Tubes, name: &TubeName)
-        ensures { self.new ≡ gone_unless (exists_in tubes.now name.now) name.now self.old }
+    // The tube may have gone, unless its counts show that it exists.
+    fn add_unless_there(&mut self, tubes: &Tubes, tube: &Tube)
+        ensures { self.new ≡ gone_unless (exists_in tubes.now tube.now) tube.now self.old }
     {
-        if !tubes.is_tube(name) {
-            self.add(name);
+        if !tubes.is_tube(tube.name(), tube.number()) {
+            self.add(tube.name(), tube.number());
         }
     }
 
     // Does the same for each of these tubes.
+    #[tactic(auto, using(crate::proofs::LoopLemmas::folded_more))]
     fn add_all(&mut self, tubes: &Tubes, watched: &[Tube])
         ensures { self.new ≡ gone_all tubes.now watched.now self.old }
     {
-        *self = watched.iter().fold(*self, |mut gone, tube| {
-            gone.add_unless_there(tubes, tube.name());
-            gone
-        });
+        for i in 0..watched.len() {
+            self.add_unless_there(tubes, &watched[i]);
+        }
     }
 
     fn add_used(&mut self, tubes: &Tubes, used: &Tube, is_left: bool)
         ensures { self.new ≡ gone_if is_left tubes.now (used.now ∷ []) self.old }
     {
         if is_left {
-            self.add_unless_there(tubes, used.name());
+            self.add_unless_there(tubes, used);
         }
     }
 

@@ -6,15 +6,16 @@ ghost use Rattle.bq_state.specs.WantedJobs.{with_all_wanted, with_waiter, with_w
 use crate::seats::SeatChange;
 use crate::tubes::TubeChange;
 use bq_job::{Seat, TubeName};
+use bq_jobs::{Tube, TubeNumber};
 
 /// Which jobs waiting clients may have. Only these are searched when jobs are handed out. A tube
 /// for whose jobs no client waits does not count.
-#[derive(Clone, Copy)]
+#[derive(Drop)]
 pub enum Wanted {
     /// None.
     Nothing,
     /// At most those of this tube.
-    Tube(TubeName),
+    Tube(Tube),
     /// At most those that the client at this seat may have.
     Client(Seat),
     /// Any.
@@ -33,13 +34,13 @@ impl Wanted {
     }
 
     // The jobs of this tube may be had too.
-    fn add_tube(&mut self, name: &TubeName)
+    fn add_tube(&mut self, name: &TubeName, hint: TubeNumber)
         ensures { self.new ≡ with_wanted name.now self.old }
     {
         *self = match &*self {
-            Wanted::Nothing => Wanted::Tube(*name),
-            Wanted::Tube(wanted_tube) => if wanted_tube == name {
-                Wanted::Tube(*name)
+            Wanted::Nothing => Wanted::Tube(Tube::new(name, hint)),
+            Wanted::Tube(wanted_tube) => if wanted_tube.name() == name {
+                Wanted::Tube(Tube::new(name, hint))
             } else {
                 Wanted::Any
             },
@@ -57,12 +58,13 @@ impl Wanted {
         };
     }
 
-    /// The jobs of this tube may be had too, if `is_wanted`.
-    pub(crate) fn add_tube_if(&mut self, name: &TubeName, is_wanted: bool)
+    /// The jobs of this tube may be had too, if `is_wanted`. It is looked for at the number `hint`
+    /// first.
+    pub(crate) fn add_tube_if(&mut self, name: &TubeName, hint: TubeNumber, is_wanted: bool)
         ensures { self.new ≡ (if is_wanted then with_wanted name.now self.old else self.old) }
     {
         if is_wanted {
-            self.add_tube(name);
+            self.add_tube(name, hint);
         }
     }
 
@@ -86,11 +88,11 @@ impl Wanted {
     }
 
     /// What may be had after a change of a tube: if its pause ends, its jobs too.
-    pub(crate) fn change_tube(&mut self, name: &TubeName, what: TubeChange)
+    pub(crate) fn change_tube(&mut self, name: &TubeName, hint: TubeNumber, what: TubeChange)
         ensures { self.new ≡ wanted_after_tube name.now what self.old }
     {
         match what {
-            TubeChange::Pause(seconds, _) => self.add_tube_if(name, seconds == 0),
+            TubeChange::Pause(seconds, _) => self.add_tube_if(name, hint, seconds == 0),
             _ => {}
         }
     }

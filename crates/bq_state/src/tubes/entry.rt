@@ -14,9 +14,9 @@ ghost use Rattle.bq_state.specs.Crowds.{recounted};
 use super::pauses::PauseEnd;
 use crate::job_store::later;
 use crate::known::Tally;
-use bq_index::{Catalog, Edit};
+use bq_index::Edit;
 use bq_job::{Job, Moment, TubeName};
-use bq_jobs::{Moved, Removed};
+use bq_jobs::{Moved, Removed, TubeNumber, TubeTable};
 use std::marker::Model;
 
 /// A pause of a tube.
@@ -229,22 +229,29 @@ impl TubeEntry {
 }
 
 /// Changes the tube with this name. The contract also states that the names are in ascending order.
-pub(crate) fn change(catalog: &mut Catalog<TubeName, TubeEntry>, name: &TubeName, what: TubeChange)
+pub(crate) fn change(
+    catalog: &mut TubeTable<TubeEntry>,
+    name: &TubeName,
+    hint: TubeNumber,
+    what: TubeChange,
+)
+    ensures numbers { catalog.new.numbers ≡ catalog.old.numbers }
     ensures entries { catalog.new.entries
         ≡ edited_at name.now (kept_changed what) catalog.old.entries }
     ensures ordered { InOrder (slice_cmp nat_cmp) catalog.old.entries }
 {
-    let _changed = catalog.edit(name, &what);
+    let _changed = catalog.edit(name, hint, &what);
 }
 
 /// Ends the pause of the tube with this name, if it is due. Here, too, the names are in ascending
 /// order.
-pub(crate) fn end_pause(catalog: &mut Catalog<TubeName, TubeEntry>, name: &TubeName, moment: Moment)
+pub(crate) fn end_pause(catalog: &mut TubeTable<TubeEntry>, name: &TubeName, moment: Moment)
+    ensures numbers { catalog.new.numbers ≡ catalog.old.numbers }
     ensures entries { catalog.new.entries
         ≡ edited_at name.now (ended moment) catalog.old.entries }
     ensures ordered { InOrder (slice_cmp nat_cmp) catalog.old.entries }
 {
-    let _changed = catalog.edit(name, &PauseTimer { moment });
+    let _changed = catalog.edit(name, TubeNumber::unknown(), &PauseTimer { moment });
 }
 
 impl Edit<TubeEntry, ()> for TubeChange {
@@ -326,45 +333,52 @@ impl Edit<TubeEntry, ()> for Moved {
 }
 
 /// Counts a new job in its tube. Here, too, the names are in ascending order.
-pub(crate) fn add_job(catalog: &mut Catalog<TubeName, TubeEntry>, job: &Job)
+pub(crate) fn add_job(catalog: &mut TubeTable<TubeEntry>, job: &Job, hint: TubeNumber)
+    ensures numbers { catalog.new.numbers ≡ catalog.old.numbers }
     ensures entries { catalog.new.entries
         ≡ edited_at job.now.tube (kept_with job.now) catalog.old.entries }
     ensures ordered { InOrder (slice_cmp nat_cmp) catalog.old.entries }
 {
-    let _counted = catalog.edit(&job.tube, job);
+    let _counted = catalog.edit(&job.tube, hint, job);
 }
 
 /// Stops counting the job of this report in its tube, and counts its deletion. Returns whether a
 /// client uses or watches the tube. Here, too, the names are in ascending order.
-pub(crate) fn count_removal(catalog: &mut Catalog<TubeName, TubeEntry>, removed: &Removed) -> bool
+pub(crate) fn count_removal(catalog: &mut TubeTable<TubeEntry>, removed: &Removed) -> bool
+    ensures numbers { catalog.new.numbers ≡ catalog.old.numbers }
     ensures entries { catalog.new.entries
         ≡ edited_at removed.now.tube (kept_removed removed.now) catalog.old.entries }
     ensures ordered { InOrder (slice_cmp nat_cmp) catalog.old.entries }
     ensures seats { result
         ≡ has_seats (crowd_by (lookup (is_named_at removed.now.tube) catalog.old.entries)) }
 {
-    catalog.edit(&removed.tube, removed).unwrap_or(false)
+    catalog
+        .edit(removed.tube.name(), removed.tube.number(), removed)
+        .unwrap_or(false)
 }
 
 /// A job of a tube changed its state.
-pub(crate) fn move_job(catalog: &mut Catalog<TubeName, TubeEntry>, moved: &Moved)
-    ensures { catalog.new.entries
+pub(crate) fn move_job(catalog: &mut TubeTable<TubeEntry>, moved: &Moved)
+    ensures numbers { catalog.new.numbers ≡ catalog.old.numbers }
+    ensures entries { catalog.new.entries
         ≡ edited_at moved.now.tube (kept_moved moved.now) catalog.old.entries }
 {
-    let _counted = catalog.edit(&moved.tube, moved);
+    let _counted = catalog.edit(moved.tube.name(), moved.tube.number(), moved);
 }
 
 /// Adds the share of a seat to the counts of the tube with this name, or removes it.
 pub(crate) fn recount(
-    catalog: &mut Catalog<TubeName, TubeEntry>,
+    catalog: &mut TubeTable<TubeEntry>,
     name: &TubeName,
+    hint: TubeNumber,
     moving: Moving,
     share: Share,
 )
-    ensures { catalog.new.entries
+    ensures numbers { catalog.new.numbers ≡ catalog.old.numbers }
+    ensures entries { catalog.new.entries
         ≡ edited_at name.now (kept_recounted moving share) catalog.old.entries }
 {
-    let _counted = catalog.edit(name, &ShareChange { moving, share });
+    let _counted = catalog.edit(name, hint, &ShareChange { moving, share });
 }
 
 /// How a seat counts at a tube: whether its client uses it, watches it, and waits for its jobs.

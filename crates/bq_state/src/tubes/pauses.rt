@@ -18,17 +18,18 @@ ghost use Rattle.std.specs.Cmp as Cmp;
 use super::entry::{self, TubeChange, TubeEntry};
 use bq_index::{Catalog, Test};
 use bq_job::{Moment, NoMemory, TubeName};
+use bq_jobs::{TubeNumber, TubeTable};
 use std::alloc::Global;
 use std::cmp::Ordering;
 
 // Returns the end of the pause of the tube with this name, if it is paused.
 #[tactic(auto, using(crate::proofs::EndMoves::none_lent, crate::proofs::EndMoves::some_lent))]
-fn end_of(kept: &Catalog<TubeName, TubeEntry>, name: &TubeName) -> Option<PauseEnd>
+fn end_of(kept: &TubeTable<TubeEntry>, name: &TubeName, hint: TubeNumber) -> Option<PauseEnd>
     ensures end { result
         ≡ end_of name.now (pause_at name.now (map record_at kept.now.entries)) }
     ensures ordered { InOrder (slice_cmp nat_cmp) kept.now.entries }
 {
-    match kept.peek(name) {
+    match kept.get(name, hint) {
         None => None,
         Some(entry) => entry.end(name),
     }
@@ -36,42 +37,42 @@ fn end_of(kept: &Catalog<TubeName, TubeEntry>, name: &TubeName) -> Option<PauseE
 
 /// Pauses the tube with this name, or ends its pause.
 pub(crate) fn pause(
-    kept: &mut Catalog<TubeName, TubeEntry>,
+    kept: &mut TubeTable<TubeEntry>,
     ends: &mut PauseEnds,
     name: &TubeName,
+    hint: TubeNumber,
     what: TubeChange,
 )
     requires { AreEnds (map record_at kept.old.entries) ends.old }
+    ensures numbers { kept.new.numbers ≡ kept.old.numbers }
     ensures kept { kept.new.entries ≡ edited_at name.now (kept_changed what) kept.old.entries }
     ensures ends { AreEnds (map record_at kept.new.entries) ends.new }
     ensures ordered { InOrder (slice_cmp nat_cmp) kept.old.entries }
 {
-    let from = end_of(kept, name);
+    let from = end_of(kept, name, hint);
     leave(ends, from);
-    entry::change(kept, name, what);
-    let to = end_of(kept, name);
+    entry::change(kept, name, hint, what);
+    let to = end_of(kept, name, hint);
     enter(ends, to);
 }
 
 /// Drops the entry with this name, if there is one.
-pub(crate) fn drop_entry(
-    kept: &mut Catalog<TubeName, TubeEntry>,
-    ends: &mut PauseEnds,
-    name: &TubeName,
-)
+pub(crate) fn drop_entry(kept: &mut TubeTable<TubeEntry>, ends: &mut PauseEnds, name: &TubeName)
     requires { AreEnds (map record_at kept.old.entries) ends.old }
+    ensures numbers { kept.new.numbers ≡ remove_entry (is_named_at name.now) kept.old.numbers }
     ensures kept { kept.new.entries ≡ remove_entry (is_named_at name.now) kept.old.entries }
     ensures ends { AreEnds (map record_at kept.new.entries) ends.new }
     ensures ordered { InOrder (slice_cmp nat_cmp) kept.old.entries }
 {
-    let from = end_of(kept, name);
+    let from = end_of(kept, name, TubeNumber::unknown());
     leave(ends, from);
-    let _entry = kept.remove(name);
+    kept.remove(name);
 }
 
 // Ends the first pause, if it is due.
-fn end_first(kept: &mut Catalog<TubeName, TubeEntry>, ends: &mut PauseEnds, moment: Moment) -> bool
+fn end_first(kept: &mut TubeTable<TubeEntry>, ends: &mut PauseEnds, moment: Moment) -> bool
     requires { AreEnds (map record_at kept.old.entries) ends.old }
+    ensures numbers { kept.new.numbers ≡ kept.old.numbers }
     ensures done { result ≡ false
         → is_end_over moment (first_pause_end (map record_at kept.new.entries)) ≡ false }
     ensures records { records_ended moment kept.new.entries
@@ -91,8 +92,9 @@ fn end_first(kept: &mut Catalog<TubeName, TubeEntry>, ends: &mut PauseEnds, mome
 
 /// Ends pauses that are due. No other tube is accessed.
 #[tactic(auto, using(crate::proofs::PauseLemmas::no_pause_ends, crate::proofs::PauseLemmas::none_over))]
-pub(crate) fn end_all(kept: &mut Catalog<TubeName, TubeEntry>, ends: &mut PauseEnds, moment: Moment)
+pub(crate) fn end_all(kept: &mut TubeTable<TubeEntry>, ends: &mut PauseEnds, moment: Moment)
     requires { AreEnds (map record_at kept.old.entries) ends.old }
+    ensures numbers { kept.new.numbers ≡ kept.old.numbers }
     ensures records { map record_at kept.new.entries ≡ records_ended moment kept.old.entries }
     ensures tallies { map tally_kept kept.new.entries ≡ map tally_kept kept.old.entries }
     ensures crowds { map crowd_kept kept.new.entries ≡ map crowd_kept kept.old.entries }

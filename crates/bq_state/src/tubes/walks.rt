@@ -6,7 +6,6 @@ ghost use Rattle.bq_state.specs.KeptTubes.{is_alive_with, name_if_alive, with_al
 ghost use Rattle.bq_state.specs.KeptTubes.{is_alive_at, is_gone_by, is_gone_from, is_named_at};
 ghost use Rattle.bq_state.specs.KeptTubes.{record_at, tally_kept, without_gone};
 ghost use Rattle.bq_state.specs.Tallies.{tallies_of};
-ghost use Rattle.bq_state.specs.TubeNumbers.{HaveNumbers};
 ghost use Rattle.bq_job.specs.reading.TubeName.{is_same_name};
 ghost use Rattle.bq_index.specs.Order.{InOrder};
 ghost use Rattle.std.specs.Cmp.Lexicographic.{slice_cmp};
@@ -21,9 +20,9 @@ use super::entry::TubeEntry;
 use super::pauses::{self, PauseEnds};
 use crate::name_lists::Names;
 use crate::watch_list::default_tube;
-use bq_index::{Catalog, Test, Visitor};
+use bq_index::{Test, Visitor};
 use bq_job::{NoMemory, TubeName};
-use bq_jobs::NumberedJobs;
+use bq_jobs::{NumberedJobs, Tube, TubeTable};
 use std::alloc::Global;
 
 /// How many of the entries visited so far are of tubes that exist. The count stops at 2^64 - 1.
@@ -112,60 +111,60 @@ impl Test<TubeName, TubeEntry> for GoneTube {
     }
 }
 
-// Returns true if the tube with this name has an entry and no longer exists.
-fn is_gone(catalog: &Catalog<TubeName, TubeEntry>, name: &TubeName) -> bool
-    ensures { result ≡ is_gone_by name.now (lookup (is_named_at name.now) catalog.now.entries) }
+// Returns true if a tube has an entry and no longer exists.
+fn is_gone(catalog: &TubeTable<TubeEntry>, tube: &Tube) -> bool
+    ensures { result ≡ is_gone_by tube.now (lookup (is_named_at tube.now) catalog.now.entries) }
 {
-    match catalog.peek(name) {
+    match catalog.get(tube.name(), tube.number()) {
         None => false,
-        Some(entry) => !is_alive(name, entry),
+        Some(entry) => !is_alive(tube.name(), entry),
     }
 }
 
 // Drops the entry and the number of a tube that has no job.
 fn drop_tube(
-    catalog: &mut Catalog<TubeName, TubeEntry>,
+    catalog: &mut TubeTable<TubeEntry>,
     ends: &mut PauseEnds,
     jobs: &mut NumberedJobs,
     name: &TubeName,
 )
     requires ends { AreEnds (map record_at catalog.old.entries) ends.old }
-    requires numbered { HaveNumbers jobs.old.tubes (map record_at catalog.old.entries) }
+    requires numbered { jobs.old.tubes ≡ catalog.old.numbers }
     requires none { list_any (λ j. is_same_name name.now j.tube) jobs.old.jobs ≡ false }
     ensures kept { catalog.new.entries ≡ remove_entry (is_named_at name.now) catalog.old.entries }
     ensures ends { AreEnds (map record_at catalog.new.entries) ends.new }
     ensures ordered { InOrder (slice_cmp nat_cmp) catalog.old.entries }
-    ensures numbered { HaveNumbers jobs.new.tubes (map record_at catalog.new.entries) }
+    ensures numbered { jobs.new.tubes ≡ catalog.new.numbers }
     ensures jobs { jobs.new ≡ record jobs.old { tubes = jobs.new.tubes } }
 {
     pauses::drop_entry(catalog, ends, name);
-    jobs.forget(name);
+    jobs.forget(catalog.tubes(), name);
 }
 
-/// Drops the entry and the number of the tube with this name, if it no longer exists.
-pub(crate) fn forget_named(
-    catalog: &mut Catalog<TubeName, TubeEntry>,
+/// Drops the entry and the number of a tube, if it no longer exists.
+pub(crate) fn forget_one(
+    catalog: &mut TubeTable<TubeEntry>,
     ends: &mut PauseEnds,
     jobs: &mut NumberedJobs,
-    name: &TubeName,
+    tube: &Tube,
 )
     requires ends { AreEnds (map record_at catalog.old.entries) ends.old }
-    requires numbered { HaveNumbers jobs.old.tubes (map record_at catalog.old.entries) }
+    requires numbered { jobs.old.tubes ≡ catalog.old.numbers }
     requires tallies { map tally_kept catalog.old.entries
         ≡ tallies_of jobs.old.jobs (map record_at catalog.old.entries) }
     ensures ends { AreEnds (map record_at catalog.new.entries) ends.new }
-    ensures kept { catalog.new.entries ≡ without_gone name.now catalog.old.entries }
-    ensures numbered { HaveNumbers jobs.new.tubes (map record_at catalog.new.entries) }
+    ensures kept { catalog.new.entries ≡ without_gone tube.now catalog.old.entries }
+    ensures numbered { jobs.new.tubes ≡ catalog.new.numbers }
     ensures jobs { jobs.new ≡ record jobs.old { tubes = jobs.new.tubes } }
 {
-    if is_gone(catalog, name) {
-        drop_tube(catalog, ends, jobs, name);
+    if is_gone(catalog, tube) {
+        drop_tube(catalog, ends, jobs, tube.name());
     }
 }
 
 // Returns the name of the first entry whose tube no longer exists, from this name on if it is
 // given.
-fn next_gone(catalog: &Catalog<TubeName, TubeEntry>, from: &Option<TubeName>) -> Option<TubeName>
+fn next_gone(catalog: &TubeTable<TubeEntry>, from: &Option<TubeName>) -> Option<TubeName>
     ensures { result ≡ option_map (λ e. e.0) (find (is_gone_from from.now) catalog.now.entries) }
 {
     let found = match from {
@@ -182,17 +181,17 @@ fn next_gone(catalog: &Catalog<TubeName, TubeEntry>, from: &Option<TubeName>) ->
 /// continues from there.
 #[tactic(auto, using(crate::proofs::GoneLemmas::name_removed, crate::proofs::GoneLemmas::no_name, crate::proofs::GoneLemmas::none_gone))]
 pub(crate) fn forget_all(
-    catalog: &mut Catalog<TubeName, TubeEntry>,
+    catalog: &mut TubeTable<TubeEntry>,
     ends: &mut PauseEnds,
     jobs: &mut NumberedJobs,
 )
     requires ends { AreEnds (map record_at catalog.old.entries) ends.old }
-    requires numbered { HaveNumbers jobs.old.tubes (map record_at catalog.old.entries) }
+    requires numbered { jobs.old.tubes ≡ catalog.old.numbers }
     requires tallies { map tally_kept catalog.old.entries
         ≡ tallies_of jobs.old.jobs (map record_at catalog.old.entries) }
     ensures ends { AreEnds (map record_at catalog.new.entries) ends.new }
     ensures kept { catalog.new.entries ≡ filter is_alive_at catalog.old.entries }
-    ensures numbered { HaveNumbers jobs.new.tubes (map record_at catalog.new.entries) }
+    ensures numbered { jobs.new.tubes ≡ catalog.new.numbers }
     ensures jobs { jobs.new ≡ record jobs.old { tubes = jobs.new.tubes } }
 {
     let mut last = None;

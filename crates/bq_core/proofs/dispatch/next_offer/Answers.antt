@@ -25,22 +25,22 @@ returns-in-Nothing-clause-next c =
 pub returns-in-Tube-clause-next : goal.returns-in-Tube-clause-next
 returns-in-Tube-clause-next c =
     let st = c.args.state.now in
-    c.offer_to.ensures.offer ∙ go (is_waited_at c.in-Tube.name st.tubes) (sym (counted_there c.in-Tube.name st))
+    c.offer_to.ensures.offer ∙ go (is_waited_at c.in-Tube.tube st.tubes) (sym (counted_there c.in-Tube.tube st))
   where
-    go : (w : Bool) → list_any (is_waiter c.in-Tube.name) (machine_of c.args.state.now).seats ≡ w
-        → (if w then offered c.args.state.now.jobs.jobs c.args.state.now.tubes.entries c.in-Tube.name else None) ≡ next_rank
+    go : (w : Bool) → list_any (is_waiter c.in-Tube.tube) (machine_of c.args.state.now).seats ≡ w
+        → (if w then offered c.args.state.now.jobs.jobs c.args.state.now.tubes.entries c.in-Tube.tube else None) ≡ next_rank
         (machine_of c.args.state.now)
     go false e =
         let m = machine_of c.args.state.now in
         let known = subst (λ (f : Wanted). AreKnown f m.jobs m.seats m.tubes) c.in-Tube.is c.args.state.now.sound.known.wanted_jobs in
         sym
-        (rank_agrees m (λ j. false) (tube_waits m c.in-Tube.name false e known)
+        (rank_agrees m (λ j. false) (tube_waits m c.in-Tube.tube false e known)
         ∙ ap (option_map (ranked (λ j. j.pri))) (first_of_none_passes (λ j. false) is_job_before m.jobs
         (list_any_not (λ j. false) m.jobs (all_always (λ j. false ≡ false) m.jobs (λ j. refl)))))
     go true e =
         let st = c.args.state.now in
         let m = machine_of st in
-        let name = c.in-Tube.name in
+        let name = c.in-Tube.tube in
         let known = subst (λ (f : Wanted). AreKnown f m.jobs m.seats m.tubes) c.in-Tube.is c.args.state.now.sound.known.wanted_jobs in
         offered_is m.next_id m.jobs c.args.state.now.sound.ids st.tubes.entries (λ n. is_paused n m)
         (λ n. sym (paused_is n st.tubes.entries c.args.state.now.sound.entries.order c.args.state.now.sound.entries.fresh)) name

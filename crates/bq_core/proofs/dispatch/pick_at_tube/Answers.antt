@@ -21,10 +21,10 @@ returns-in_err-seat-clause-some c =
     let seat = next_has_seat m x next in
     let none : None ≡ option_map (λ (s : SeatRecord). s.number) (next_seat m x) =
     c.in_err-seat.ensures
-    ∙ ap (λ seats. option_map (λ (s : SeatRecord). s.number) (first_of (waits_at c.in_ok-tube.tube) is_wait_before seats))
+    ∙ ap (λ seats. option_map (λ (s : SeatRecord). s.number) (first_of (waits_at c.name.result.now) is_wait_before seats))
     c.as_slice.ensures.value
     ∙ ap (λ t. option_map (λ (s : SeatRecord). s.number) (first_of (waits_at t) is_wait_before m.seats))
-    (c.in_ok-tube.ensures.tube x there.1)
+    (c.name.ensures ∙ c.in_ok-tube.ensures.tube x there.1)
     ∙ ap (option_map (λ (s : SeatRecord). s.number)) (seat_at_tube m x next) in
     let some : option_map (λ (s : SeatRecord). s.number) (next_seat m x) ≡ Some seat.0.number =
     ap (option_map (λ (s : SeatRecord). s.number)) seat.1 in
@@ -38,10 +38,10 @@ returns-clause-picked c j is =
     let next = next_is m c.args.id x c.args.state.now.sound.ids c.requires.next there.1 in
     let same : x ≡ j = (let two : Some x ≡ Some j = sym next ∙ is in cc) in
     c.in_ok-seat.ensures
-    ∙ ap (λ seats. option_map (λ (s : SeatRecord). s.number) (first_of (waits_at c.in_ok-tube.tube) is_wait_before seats))
+    ∙ ap (λ seats. option_map (λ (s : SeatRecord). s.number) (first_of (waits_at c.name.result.now) is_wait_before seats))
     c.as_slice.ensures.value
     ∙ ap (λ t. option_map (λ (s : SeatRecord). s.number) (first_of (waits_at t) is_wait_before m.seats))
-    (c.in_ok-tube.ensures.tube x there.1)
+    (c.name.ensures ∙ c.in_ok-tube.ensures.tube x there.1)
     ∙ ap (option_map (λ (s : SeatRecord). s.number)) (seat_at_tube m x next)
     ∙ ap (λ k. option_map (λ (s : SeatRecord). s.number) (next_seat m k)) same
 

@@ -13,7 +13,7 @@ use Rattle.bq_jobs.proofs.Changes.{low_below}
 pub add-requires-clause-given : goal.add-requires-clause-given
 add-requires-clause-given c =
     let st = c.args.state.now in
-    let made = c.new_job-job.ensures c.in-Some.client.now (sym c.used.ensures) in
+    let made = c.new_job-job.ensures c.in-Some.client.now (sym c.used-tube.ensures) in
     let id : c.new_job-job.result.id ≡ st.next_id = ap (λ (j : Job). j.id) made in
     let next : c.count_put.new.state.next_id ≡ st.next_id + 1 =
     ap (λ (h : Held). h.next_id) c.count_put.ensures ∙ ap (λ (x : Machine). x.next_id + 1) c.in-Ok-make_room.ensures.after in
@@ -23,7 +23,7 @@ add-requires-clause-given c =
 pub add-requires-clause-free : goal.add-requires-clause-free
 add-requires-clause-free c =
     let st = c.args.state.now in
-    let made = c.new_job-job.ensures c.in-Some.client.now (sym c.used.ensures) in
+    let made = c.new_job-job.ensures c.in-Some.client.now (sym c.used-tube.ensures) in
     let id : c.new_job-job.result.id ≡ st.next_id = ap (λ (j : Job). j.id) made in
     let jobs : (machine_of c.count_put.new.state).jobs ≡ st.jobs.jobs =
     ap (λ (h : Held). h.jobs.jobs) c.count_put.ensures ∙ ap (λ (x : Machine). x.jobs) c.in-Ok-make_room.ensures.after in
@@ -40,7 +40,7 @@ add-requires-clause-entry c =
     let connected = asker_connected c.args.seat st.seats.items s found c.requires.asks in
     let here = found_passes (λ s. s.number == c.args.seat) st.seats.items s found in
     let has : HasTubes st.tubes.entries s = all_at (HasTubes st.tubes.entries) st.seats.items s st.sound.entries.of_seats here.1 in
-    let made = c.new_job-job.ensures s (sym c.used.ensures) in
+    let made = c.new_job-job.ensures s (sym c.used-tube.ensures) in
     ap (λ (h : Held). has_entry c.new_job-job.result.tube h.tubes.entries) c.count_put.ensures
     ∙ ap (λ tubes. has_entry c.new_job-job.result.tube tubes.entries) c.in-Ok-make_room.ensures.tubes
     ∙ ap (λ (j : Job). has_entry j.tube st.tubes.entries) made ∙ has.used connected
@@ -48,12 +48,12 @@ add-requires-clause-entry c =
 pub returns-clause-reply : goal.returns-clause-reply
 returns-clause-reply c s found =
     let m = machine_of c.args.state.now in
-    let tube = c.used.result.now in
+    let tube = c.used-tube.result.now in
     let job = c.new_job-job.result in
     let here : seat_with c.args.seat m.seats ≡ Some c.in-Some.client.now =
     ap (seat_with c.args.seat) (sym c.as_slice.ensures.value) ∙ sym c.in-Some.ensures in
     let same : c.in-Some.client.now ≡ s = cc in
-    let used : s.used ≡ tube = sym (c.used.ensures ∙ ap (λ (r : SeatRecord). r.used) same) in
+    let used : s.used ≡ tube = sym (c.used-tube.ensures ∙ ap (λ (r : SeatRecord). r.used) same) in
     let body : c.in-Ok.shared ≡ c.args.body.now = c.in-Ok.ensures in
     let is : job ≡ new_job m s c.args.new.pri c.args.new.delay c.args.new.ttr c.args.body.now =
     c.new_job-job.ensures s used ∙ ap (λ b. new_job m s c.args.new.pri c.args.new.delay c.args.new.ttr b) body in

@@ -1,8 +1,10 @@
-use Rattle.std.proofs.Common.{◌^◌, ◌∙◌, ap, subst, sym}
+use Rattle.std.proofs.Common.{◌^◌, ◌∙◌, ap, is_some, subst, sym}
+use Rattle.std.specs.Map.{lookup}
 use Rattle.bq_job.specs.{beside.AreIdsWithin, machine.with_put}
 use Rattle.bq_jobs.specs.Kept.{with_added}
 use Rattle.bq_state.specs.declared.tubes.entry.TubeChange.TheVariants.{CountPut}
-use Rattle.bq_state.specs.{CoreParts.machine_of, Knowledge.with_job, TubeEntries.{counted, tube_changed_at}}
+use Rattle.bq_state.specs.{CoreParts.machine_of, KeptTubes.{KeptTubes, is_named_at}, Knowledge.with_job}
+use Rattle.bq_state.specs.TubeEntries.{counted, has_entry, tube_changed_at}
 use Rattle.bq_state.proofs.{KnowledgeLemmas.{so_with_job, with_count}, TubeLemmas.{record_changed, same_entries}}
 use Rattle.bq_state.proofs.PartsLemmas.{entries_of_added, few_jobs, name_kept_at, tube_counts, tube_name_kept}
 use Rattle.bq_state.proofs.changes.add.Goals as goal
@@ -27,7 +29,12 @@ invariant_of-state c =
     }
 
 pub add-requires-clause-known : goal.add-requires-clause-known
-add-requires-clause-known c = c.args.state.now.numbered c.args.job.tube ∙ c.requires.entry
+add-requires-clause-known c =
+    let st = c.args.state.now in
+    let name = c.args.job.tube in
+    let there = same_entries (tube_changed_at name CountPut) (name_kept_at name CountPut) name st.tubes.entries ∙ c.requires.entry in
+    ap (λ ns. is_some (lookup (is_named_at name) ns)) (st.numbered ∙ ap (λ (k : KeptTubes). k.numbers) (sym c.add_job-2.ensures))
+    ∙ c.names.ensures.known name ∙ ap (λ (k : KeptTubes). has_entry name k.entries) c.add_job-2.ensures ∙ there
 
 pub returns-clause-after : goal.returns-clause-after
 returns-clause-after c =

@@ -1,7 +1,7 @@
 use Rattle.std.proofs.{Common.{◌∙◌, ap, arith}, lemmas.Grind.common_steps}
 use Rattle.bq_state.specs.{KeptTubes.KeptTubes, Knowledge.with_tube_changed, TubeEntries.tube_changed_at}
 use Rattle.bq_state.proofs.{KnowledgeLemmas.so_with_tube, PartsLemmas.{entries_of_tube, name_kept_at, tube_counts, tube_name_kept}}
-use Rattle.bq_state.proofs.{TubeLemmas.record_changed, TubeNumberLemmas.numbers_kept}
+use Rattle.bq_state.proofs.TubeLemmas.{record_changed}
 use Rattle.bq_state.proofs.changes.change_tube.Goals as goal
 
 pub returns-clause-after : goal.returns-clause-after
@@ -15,6 +15,4 @@ invariant_of-state c =
     with_tube_changed c.args.tube.now c.args.what k.entries st.known) c.change.ensures in
     let entries = entries_of_tube c.args.tube.now c.args.what st.jobs.jobs st.seats.items st.tubes.entries was.entries in
     let so = so_with_tube st c.args.tube.now c.args.what c.requires.entry in
-    let numbered = numbers_kept (tube_changed_at c.args.tube.now c.args.what)
-    (name_kept_at c.args.tube.now c.args.what) st.jobs.tubes st.tubes.entries st.numbered in
-    record { sound = rw (known, c.change.ensures) assumption; numbered = rw c.change.ensures numbered }
+    record { sound = rw (known, c.change.ensures) assumption; numbered = rw c.change.ensures st.numbered }

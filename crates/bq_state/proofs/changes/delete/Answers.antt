@@ -8,7 +8,7 @@ use Rattle.bq_jobs.specs.declared.rows.Removed.{Removed}
 use Rattle.bq_jobs.proofs.Changes.{found_id, without_none}
 use Rattle.bq_jobs.proofs.Told.{nothing_told_of, told_of}
 use Rattle.bq_state.specs.declared.tubes.entry.TubeChange.TheVariants.{CountDelete}
-use Rattle.bq_state.specs.{CoreParts.machine_of, Counting.with_removal_counted, JobChanges.once_deleted}
+use Rattle.bq_state.specs.{CoreParts.machine_of, Counting.with_removal_counted, JobChanges.once_deleted, KeptTubes.KeptTubes}
 use Rattle.bq_state.specs.TubeEntries.{counted, tube_changed_at}
 use Rattle.bq_state.specs.Crowds.{crowd_at, has_seats}
 use Rattle.bq_state.proofs.CrowdPlaces.{seated_by_counts}
@@ -57,7 +57,7 @@ invariant_of-state-2 c =
     ∙ sym c.count_removal-has_seats.ensures.seats ∙ has)) of.there in
     record {
       sound = rw (c.count_removal.ensures, c.count_removal-has_seats.ensures.after, is, jobs) assumption;
-      numbered = rw (c.count_removal-has_seats.ensures.after, is, names) mid.numbered;
+      numbered = names ∙ st.numbered ∙ ap (λ (k : KeptTubes). k.numbers) (sym c.count_removal-has_seats.ensures.after);
     }
 
 pub returns-clause-deleted : goal.returns-clause-deleted

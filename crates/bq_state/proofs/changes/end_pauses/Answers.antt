@@ -2,7 +2,7 @@ use Rattle.std.proofs.{Common.{◌∙◌, ap, arith, refl}, lemmas.Grind.common_
 use Rattle.bq_job.specs.machine.{tube_after_timers}
 use Rattle.bq_state.specs.{Dues.first_pause_end, KeptTubes.KeptTubes}
 use Rattle.bq_state.proofs.{KnowledgeLemmas.so_with_pauses, PartsLemmas.entries_of_timers}
-use Rattle.bq_state.proofs.{PauseLemmas.{no_pause_ends, none_counted, none_over}, TubeLemmas.filter_of_map, TubeNumberLemmas.numbers_kept}
+use Rattle.bq_state.proofs.{PauseLemmas.{no_pause_ends, none_counted, none_over}, TubeLemmas.filter_of_map}
 use Rattle.bq_state.proofs.changes.end_pauses.Goals as goal
 
 pub returns-clause-after : goal.returns-clause-after
@@ -20,8 +20,7 @@ invariant_of-state c =
             ∙ ap (λ (k : KeptTubes). first_pause_end k.entries) c.fire_timers.ensures,
         c.fire_timers.ensures,
       ) assumption;
-      numbered = rw c.fire_timers.ensures (numbers_kept (tube_after_timers s.moment)
-          (λ t. refl) s.jobs.tubes s.tubes.entries s.numbered);
+      numbered = rw c.fire_timers.ensures s.numbered;
     }
 
 pub returns-then-not-is_over-clause-after : goal.returns-then-not-is_over-clause-after

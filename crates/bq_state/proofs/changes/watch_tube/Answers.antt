@@ -17,13 +17,13 @@ returns-then-from-len-clause-watched c s found = grind (arith, common_steps, sli
 pub returns-in-Ok-clause-count : goal.returns-in-Ok-clause-count
 returns-in-Ok-clause-count c s found =
     let here = seat_there c.args.state.now.seats.items c.args.seat s c.args.state.now.sound.numbered found in
-    c.in-Ok.ensures.count s (ap (λ v. slice_get v.items c.args.seat) c.in_ok-provide_tube.ensures.seats ∙ here)
+    c.in-Ok.ensures.count s (ap (λ v. slice_get v.items c.args.seat) c.in_ok-number.ensures.seats ∙ here)
     ∙ ap (λ name. length (s.watched ++ name ∷ [])) c.new-watched.ensures
 
 pub returns-in-Ok-clause-watched : goal.returns-in-Ok-clause-watched
 returns-in-Ok-clause-watched c s found =
     let old = c.args.state.now in
-    let p = c.in_ok-provide_tube.ensures in
+    let p = c.in_ok-number.ensures in
     let here = seat_there old.seats.items c.args.seat s c.args.state.now.sound.numbered found in
     let there : slice_get c.provide_tube.new.state.seats.items c.args.seat ≡ Some s =
     ap (λ v. slice_get v.items c.args.seat) p.seats ∙ here in
@@ -37,7 +37,7 @@ returns-in-Ok-clause-watched c s found =
     ∙ sym (changed_there old.seats.items c.args.seat s (watching (s.watched ++ c.args.tube.now ∷ [])) c.args.state.now.sound.numbered here))
 
 pub returns-then-from-len-clause-wanted : goal.returns-then-from-len-clause-wanted
-returns-then-from-len-clause-wanted c s found rests = c.in_ok-provide_tube.ensures.wanted
+returns-then-from-len-clause-wanted c s found rests = c.in_ok-number.ensures.wanted
 
 pub returns-in-Ok-clause-wanted : goal.returns-in-Ok-clause-wanted
 returns-in-Ok-clause-wanted c s found rests =
@@ -48,18 +48,18 @@ returns-in-Ok-clause-wanted c s found rests =
     let read : t ≡ get_or mid.seats.items n t = c.index.ensures ∙ ap (λ k. get_or mid.seats.items k t) c.from-2.ensures in
     let here = slice_get_read mid.seats.items (length mid.seats.items) n t refl (omega arith) read in
     let there : slice_get mid.seats.items n ≡ Some s =
-    ap (λ v. slice_get v.items n) c.in_ok-provide_tube.ensures.seats ∙ seat_there old.seats.items n s old.sound.numbered found in
+    ap (λ v. slice_get v.items n) c.in_ok-number.ensures.seats ∙ seat_there old.seats.items n s old.sound.numbered found in
     let same : t ≡ s = (cc) in
     let none : c.of_watcher-share.result.waiting ≡ false =
     ap (λ (share : Share). share.waiting) c.of_watcher-share.ensures ∙ ap is_waiting same ∙ rests in
     c.add_all_if.ensures ∙ ap (λ b. if b then with_all_wanted mid.known.wanted else mid.known.wanted) none
-    ∙ c.in_ok-provide_tube.ensures.wanted
+    ∙ c.in_ok-number.ensures.wanted
 
 pub invariant_of-state : goal.invariant_of-state
 invariant_of-state c =
     let mid = c.provide_tube.new.state in
     let was = c.provide_tube.new.state.sound in
-    let p = c.in_ok-provide_tube.ensures in
+    let p = c.in_ok-number.ensures in
     let n = c.args.seat in
     let name = c.args.tube.now in
     let t = c.index.result.now in

@@ -10,16 +10,16 @@ use Rattle.bq_jobs.proofs.table.TubeTable.edit.Goals as goal
 pub returns-in_err-number-clause-told : goal.returns-in_err-number-clause-told
 returns-in_err-number-clause-told g c =
     let none = not_there c.self.inside.tubes c.self.inside.values.items c.self.invariant c.args.self.now c.self.view_is
-    c.args.tube.now c.number_of.result
-    (c.number_of.ensures.number ∙ ap (λ q. number_of q c.self.inside.tubes) c.name.ensures)
+    c.args.name.now c.number_of.result
+    c.number_of.ensures.number
     c.in_err-number.was in
     search rules
 
 pub returns-in_err-number-clause-entries : goal.returns-in_err-number-clause-entries
 returns-in_err-number-clause-entries g c =
     let none = not_there c.self.inside.tubes c.self.inside.values.items c.self.invariant c.args.self.now c.self.view_is
-    c.args.tube.now c.number_of.result
-    (c.number_of.ensures.number ∙ ap (λ q. number_of q c.self.inside.tubes) c.name.ensures)
+    c.args.name.now c.number_of.result
+    c.number_of.ensures.number
     c.in_err-number.was in
     search rules
 
@@ -29,8 +29,8 @@ returns-in_err-number-clause-ordered g c = table_order c.self.inside.tubes c.sel
 pub edit_at-requires : goal.edit_at-requires
 edit_at-requires g c =
     let slot = slot_there c.self.inside.tubes c.self.inside.values.items c.self.invariant c.args.self.now c.self.view_is
-    c.args.tube.now c.number_of.result
-    (c.number_of.ensures.number ∙ ap (λ q. number_of q c.self.inside.tubes) c.name.ensures)
+    c.args.name.now c.number_of.result
+    c.number_of.ensures.number
     c.in_ok-number.number c.in_ok-number.was in
     omega (arith, slot, c.get.ensures.number)
 
@@ -44,8 +44,8 @@ invariant_of-self g c = (
 pub returns-clause-told : goal.returns-clause-told
 returns-clause-told g c =
     let there = value_there c.self.inside.tubes c.self.inside.values.items c.self.invariant c.args.self.now c.self.view_is
-    c.args.tube.now c.number_of.result
-    (c.number_of.ensures.number ∙ ap (λ q. number_of q c.self.inside.tubes) c.name.ensures)
+    c.args.name.now c.number_of.result
+    c.number_of.ensures.number
     c.in_ok-number.number c.in_ok-number.was in
     c.edit_at.ensures.told ∙ ap (λ n. option_map (g.E.Edit.told c.args.edit.now) (slice_get c.self.inside.values.items n)) c.get.ensures.number
     ∙ ap (option_map (g.E.Edit.told c.args.edit.now)) (sym there)
@@ -56,8 +56,8 @@ returns-clause-entries g c =
     ∙ ap (λ n. entries_at c.self.inside.tubes.numbers (changed_at (g.E.Edit.edited c.args.edit.now) n c.self.inside.values.items))
     c.get.ensures.number
     ∙ entries_changed c.self.inside.tubes c.self.inside.values.items c.self.invariant c.args.self.now c.self.view_is
-    c.args.tube.now c.number_of.result
-    (c.number_of.ensures.number ∙ ap (λ q. number_of q c.self.inside.tubes) c.name.ensures)
+    c.args.name.now c.number_of.result
+    c.number_of.ensures.number
     (g.E.Edit.edited c.args.edit.now) c.in_ok-number.number c.in_ok-number.was
 
 pub returns-clause-ordered : goal.returns-clause-ordered

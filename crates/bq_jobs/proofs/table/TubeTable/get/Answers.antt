@@ -8,8 +8,8 @@ use Rattle.bq_jobs.proofs.table.TubeTable.get.Goals as goal
 pub returns-in_err-number-clause-value : goal.returns-in_err-number-clause-value
 returns-in_err-number-clause-value g c =
     let none = not_there c.self.inside.tubes c.self.inside.values.items c.self.invariant c.args.self.now c.self.view_is
-    c.args.tube.now c.number_of.result
-    (c.number_of.ensures.number ∙ ap (λ q. number_of q c.self.inside.tubes) c.name.ensures)
+    c.args.name.now c.number_of.result
+    c.number_of.ensures.number
     c.in_err-number.was in
     search rules
 
@@ -19,8 +19,8 @@ returns-in_err-number-clause-ordered g c = table_order c.self.inside.tubes c.sel
 pub returns-clause-value : goal.returns-clause-value
 returns-clause-value g c =
     let there = value_there c.self.inside.tubes c.self.inside.values.items c.self.invariant c.args.self.now c.self.view_is
-    c.args.tube.now c.number_of.result
-    (c.number_of.ensures.number ∙ ap (λ q. number_of q c.self.inside.tubes) c.name.ensures)
+    c.args.name.now c.number_of.result
+    c.number_of.ensures.number
     c.in_ok-number.number c.in_ok-number.was in
     c.value_at.ensures ∙ ap (slice_get c.as_slice.result.now) c.get.ensures.number
     ∙ ap (λ vs. slice_get vs (number_in c.in_ok-number.number)) c.as_slice.ensures.value ∙ sym there

@@ -8,7 +8,7 @@ pub returns : goal.returns
 returns c =
     let j = c.args.job.now in
     job_counted CountPut j.tube (kept_with j)
-    (tally_with j) c.self.inside.kept.entries _ c.args.self.now c.add_job.ensures.entries c.self.view_is c.add_job.ensures.ordered
+    (tally_with j) c.self.inside.kept.entries _ c.args.self.now _ _ c.add_job.ensures.entries c.add_job.ensures.numbers c.self.view_is c.add_job.ensures.ordered
     (change_kept CountPut) (λ t. refl) (λ t. refl)
 
 pub invariant_of-self : goal.invariant_of-self

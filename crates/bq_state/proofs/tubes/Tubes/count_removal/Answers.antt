@@ -10,7 +10,7 @@ pub returns-clause-after : goal.returns-clause-after
 returns-clause-after c =
     let r = c.args.removed.now in
     job_counted CountDelete r.tube (kept_removed r)
-    (tally_left r.at) c.self.inside.kept.entries _ c.args.self.now c.count_removal.ensures.entries c.self.view_is
+    (tally_left r.at) c.self.inside.kept.entries _ c.args.self.now _ _ c.count_removal.ensures.entries c.count_removal.ensures.numbers c.self.view_is
     c.count_removal.ensures.ordered (change_kept CountDelete) (λ t. refl) (λ t. refl)
 
 pub invariant_of-self : goal.invariant_of-self

@@ -12,7 +12,7 @@ read f o e = grind (arith, common_steps)
 pub returns-clause-entry : goal.returns-clause-entry
 returns-clause-entry c =
     let name = c.args.name.now in
-    read (record_of name) c.peek.result c.peek.ensures.value
+    read (record_of name) c.get.result c.get.ensures.value
     ∙ found_entry name c.self.inside.kept.entries
     ∙ ap (λ (k : KeptTubes). find (λ t. is_same_name name t.name) k.entries) c.self.view_is
 

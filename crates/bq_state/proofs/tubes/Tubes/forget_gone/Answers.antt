@@ -13,14 +13,14 @@ returns-in-Of-clause-after c jobs seats order all e f = grind (arith, common_ste
 pub returns-in-Of-clause-kept : goal.returns-in-Of-clause-kept
 returns-in-Of-clause-kept c jobs seats e f =
     let es = c.self.inside.kept.entries in
-    let name = c.in-Of.name in
+    let name = c.in-Of.gone in
     let tallied : AreTallied jobs seats es = (
       ap (λ (k : KeptTubes). k.tallies) c.self.view_is ∙ e
           ∙ ap (λ (k : KeptTubes). tallies_of jobs k.entries) (sym c.self.view_is),
       ap (λ (k : KeptTubes). k.crowds) c.self.view_is ∙ f
           ∙ ap (λ (k : KeptTubes). crowds_of seats k.entries) (sym c.self.view_is),
     ) in
-    subst (AreTallied jobs seats) (sym c.forget_named.ensures.kept)
+    subst (AreTallied jobs seats) (sym c.forget_one.ensures.kept)
     (if_tallied jobs seats (is_gone_by name (lookup (is_named_at name) es)) (is_named_at name) es tallied)
 
 pub returns-in-Any-clause-after : goal.returns-in-Any-clause-after

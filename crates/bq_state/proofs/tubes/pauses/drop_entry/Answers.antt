@@ -19,7 +19,7 @@ returns-clause-ends c =
     let m = moves_out name es (in_order es c.end_of-from.ensures.ordered) in
     let from = pause_at name (map record_at es) in
     let one = one_box name from c.end_of-from.result c.end_of-from.ensures.end in
-    subst (λ left. AreEnds (map record_at left) c.leave.new.ends) (sym c.remove-entry.ensures.entries)
+    subst (λ left. AreEnds (map record_at left) c.leave.new.ends) (sym c.remove.ensures.entries)
     (ends_moved name from None (map record_at es) (map record_at (remove_entry (is_named_at name) es)) c.args.ends.now c.requires m
     (λ x is. c.leave.ensures.ordered x (c.end_of-from.ensures.end ∙ is)) c.leave.new.ends
     (c.leave.ensures.entries ∙ ap (λ o. without_end o c.args.ends.now.entries) c.end_of-from.ensures.end)

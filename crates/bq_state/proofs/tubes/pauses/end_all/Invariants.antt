@@ -10,6 +10,7 @@ invariant-loop l = record {
       (map record_at l.fn.kept.entries);
   tallies : map tally_kept l.kept.entries ≡ map tally_kept l.fn.kept.entries;
   crowds : map crowd_kept l.kept.entries ≡ map crowd_kept l.fn.kept.entries;
+  numbers : l.kept.numbers ≡ l.fn.kept.numbers;
   ends : AreEnds (map record_at l.kept.entries) l.ends;
 }
 

@@ -2,7 +2,7 @@
 -- their numbers with them
 use Rattle.std.proofs.Common.{◌≡◌, filter, length, map}
 use Rattle.bq_jobs.specs.Kept.{Kept}
-use Rattle.bq_state.specs.{KeptTubes.{is_alive_at, record_at, tally_kept}, PauseEnds.AreEnds, Tallies.tallies_of, TubeNumbers.HaveNumbers}
+use Rattle.bq_state.specs.{KeptTubes.{is_alive_at, record_at, tally_kept}, PauseEnds.AreEnds, Tallies.tallies_of}
 use Rattle.bq_state.proofs.GoneLemmas.{AllLeftBefore}
 use Rattle.bq_state.proofs.tubes.walks.forget_all.Given as goal
 
@@ -11,7 +11,7 @@ invariant-loop-name l = record {
   left : filter is_alive_at l.catalog.entries ≡ filter is_alive_at l.fn.catalog.entries;
   before : AllLeftBefore l.last l.catalog.entries;
   ends : AreEnds (map record_at l.catalog.entries) l.ends;
-  numbered : HaveNumbers l.jobs.tubes (map record_at l.catalog.entries);
+  numbered : l.jobs.tubes ≡ l.catalog.numbers;
   tallies : map tally_kept l.catalog.entries ≡ tallies_of l.jobs.jobs (map record_at l.catalog.entries);
   jobs : l.jobs ≡ record l.fn.jobs { tubes = l.jobs.tubes };
 }
