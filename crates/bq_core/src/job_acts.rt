@@ -166,10 +166,7 @@ pub(crate) fn delete(state: &mut CoreParts, seat: Seat, id: JobId, answer: &mut 
     ensures reply { RepliesTo seat false (delete_effect id) state.old result answer.new state.new }
     ensures asks { AsksAsChanged state.old.jobs state.new.jobs }
 {
-    if !state.has_job(id, JobTest::FreeFor(seat)) {
-        return not_found(answer);
-    }
-    if changes::delete(state, id) {
+    if changes::delete(state, id, JobTest::FreeFor(seat)) {
         Reply::Deleted
     } else {
         not_found(answer)

@@ -3,11 +3,13 @@
 // descent returns whether the height of its box has changed. If it has not, the boxes above stay as
 // they are. The last step of a descent is a separate function, so that the steps on the way have
 // small stack frames.
-ghost use Rattle.std.specs.Prelude.{◌≡◌, ◌+◌, ◌<◌, ◌≤◌, ◌++◌, [], Some, None, is_some, IfSome};
+ghost use Rattle.std.specs.Prelude.{◌≡◌, ◌+◌, ◌<◌, ◌≤◌, ◌++◌, [], Some, None, cond, is_some, true, IfSome};
 ghost use Rattle.std.specs.Option.{option_map, option_to_list};
 ghost use Rattle.std.specs.Map.{lookup, remove_entry};
 ghost use Rattle.std.specs.BTreeMap.{is_at};
+ghost use Rattle.bq_index.specs.Lent.{value_of};
 ghost use Rattle.bq_index.specs.Order.{InOrder, LacksKeyOf, with_entry};
+ghost use Rattle.bq_index.specs.Removed.{lookup_if, passing, removed_if, value_of_top};
 ghost use Rattle.bq_index.specs.Tree.{entries, entries_in, entries_of, entry_in, entry_of_top, height, height_in, height_of, left_in, right_in};
 ghost use Rattle.bq_index.specs.declared.tree.Node.TheVariants.{Spare};
 ghost use Rattle.bq_index.specs.declared.tree.Tree.TheVariants.{Leaf};
@@ -17,6 +19,7 @@ ghost use Rattle.bq_index.specs.Tree.{IsRaised, LosesEntry, RaisedByAtMost};
 use super::find::compare_to;
 use super::rotation::{mend, sink_left, sink_right};
 use super::tree::{Node, Tree, fill, keep};
+use super::walk::Test;
 use std::cmp::Ordering;
 use std::mem;
 
@@ -192,30 +195,77 @@ fn is_key_of<K: Ord, V>(key: &K, node: &Node<K, V>, count: &mut u64) -> bool
     compare_to(key, node, count).is_eq()
 }
 
-// Returns whether the key is that of the left side, which is a single box or nothing.
-fn is_on_left<K: Ord, V>(here: &Node<K, V>, key: &K, count: &mut u64) -> bool
+// Returns whether the value of a box passes the test.
+fn passes_in<K, V, T: Test<K, V>>(key: &K, node: &Node<K, V>, test: &T) -> bool
+    ensures { result ≡ is_some (passing (T.passed test.now key.now) (value_of node.now)) }
+{
+    match node {
+        Node::Alone { value, .. } => test.passes(key, value),
+        Node::OnLeft { value, .. } => test.passes(key, value),
+        Node::OnRight { value, .. } => test.passes(key, value),
+        Node::Both { value, .. } => test.passes(key, value),
+        Node::Spare | Node::SpareBefore(_) => false,
+    }
+}
+
+// Returns whether the key is that of a box with nothing below it, and its value passes the test.
+#[tactic(auto, using(crate::proofs::Removed::passes_single, crate::proofs::Removed::not_there))]
+fn is_passing_key_of<K: Ord, V, T: Test<K, V>>(
+    key: &K,
+    node: &Node<K, V>,
+    count: &mut u64,
+    test: &T,
+) -> bool
+    requires level { IsLevel node.now }
+    requires alone { height_in node.now ≡ 1 }
+    ensures answer { result
+        ≡ is_some (lookup_if (is_at (K.cmp key.now)) (T.passed test.now key.now) (entries_in node.now)) }
+    ensures counted { RaisedByAtMost 1 count.old count.new }
+{
+    if !is_key_of(key, node, count) {
+        return false;
+    }
+    passes_in(key, node, test)
+}
+
+// Returns whether the key is that of the left side, which is a single box or nothing, and its value
+// passes the test.
+fn is_on_left<K: Ord, V, T: Test<K, V>>(
+    here: &Node<K, V>,
+    key: &K,
+    count: &mut u64,
+    test: &T,
+) -> bool
     requires balanced { IsBalancedFrom (left_in here.now) }
     requires low { height_of (left_in here.now) ≤ 1 }
-    ensures answer { result ≡ is_some (lookup (is_at (K.cmp key.now)) (entries_of (left_in here.now))) }
+    ensures answer { result
+        ≡ is_some (lookup_if (is_at (K.cmp key.now)) (T.passed test.now key.now) (entries_of (left_in here.now))) }
     ensures counted { RaisedByAtMost (height_of (left_in here.now)) count.old count.new }
 {
     match here {
-        Node::OnLeft { left, .. } => is_key_of(key, left, count),
-        Node::Both { left, .. } => is_key_of(key, left, count),
+        Node::OnLeft { left, .. } => is_passing_key_of(key, left, count, test),
+        Node::Both { left, .. } => is_passing_key_of(key, left, count, test),
         _ => false,
     }
 }
 
-// Returns whether the key is that of the right side, which is a single box or nothing.
-fn is_on_right<K: Ord, V>(here: &Node<K, V>, key: &K, count: &mut u64) -> bool
+// Returns whether the key is that of the right side, which is a single box or nothing, and its value
+// passes the test.
+fn is_on_right<K: Ord, V, T: Test<K, V>>(
+    here: &Node<K, V>,
+    key: &K,
+    count: &mut u64,
+    test: &T,
+) -> bool
     requires balanced { IsBalancedFrom (right_in here.now) }
     requires low { height_of (right_in here.now) ≤ 1 }
-    ensures answer { result ≡ is_some (lookup (is_at (K.cmp key.now)) (entries_of (right_in here.now))) }
+    ensures answer { result
+        ≡ is_some (lookup_if (is_at (K.cmp key.now)) (T.passed test.now key.now) (entries_of (right_in here.now))) }
     ensures counted { RaisedByAtMost (height_of (right_in here.now)) count.old count.new }
 {
     match here {
-        Node::OnRight { right, .. } => is_key_of(key, right, count),
-        Node::Both { right, .. } => is_key_of(key, right, count),
+        Node::OnRight { right, .. } => is_passing_key_of(key, right, count, test),
+        Node::Both { right, .. } => is_passing_key_of(key, right, count, test),
         _ => false,
     }
 }
@@ -294,14 +344,15 @@ where
     }
 }
 
-// Removes the key from the left side of a box, which is a single box or nothing. Returns whether
-// the height of `here` has changed.
+// Removes the key from the left side of a box, which is a single box or nothing, if the value there
+// passes the test. Returns whether the height of `here` has changed.
 #[tactic(auto, using(crate::proofs::Parts::come_apart, crate::proofs::Single::height_if_found))]
-fn cut_left<K: Ord, V>(
+fn cut_left<K: Ord, V, T: Test<K, V>>(
     here: &mut Node<K, V>,
     key: &K,
     count: &mut u64,
     found: &mut Tree<K, V>,
+    test: &T,
 ) -> bool
 where
     K: Drop,
@@ -309,14 +360,15 @@ where
     requires here_level { IsLevel here.old }
     requires low { height_of (left_in here.old) ≤ 1 }
     requires none { found.old ≡ Leaf }
-    ensures is { entries_in here.new ≡ remove_entry (is_at (K.cmp key.now)) (entries_of (left_in here.old))
+    ensures is { entries_in here.new
+        ≡ removed_if (is_at (K.cmp key.now)) (value_of_top found.new) (entries_of (left_in here.old))
         ++ (option_to_list (entry_in here.old) ++ entries_of (right_in here.old)) }
-    ensures found { option_map (λ e. e.1) (entry_of_top found.new)
-        ≡ lookup (is_at (K.cmp key.now)) (entries_of (left_in here.old)) }
+    ensures found { value_of_top found.new
+        ≡ lookup_if (is_at (K.cmp key.now)) (T.passed test.now key.now) (entries_of (left_in here.old)) }
     ensures lowered { IsLowered here.old here.new result }
     ensures counted { RaisedByAtMost (height_of (left_in here.old)) count.old count.new }
 {
-    if is_on_left(here, key, count) {
+    if is_on_left(here, key, count, test) {
         let (removed, changed) = shed_left(here);
         keep(found, Tree::Fork(removed));
         changed
@@ -325,14 +377,15 @@ where
     }
 }
 
-// Removes the key from the right side of a box, which is a single box or nothing. Returns whether
-// the height of `here` has changed.
+// Removes the key from the right side of a box, which is a single box or nothing, if the value there
+// passes the test. Returns whether the height of `here` has changed.
 #[tactic(auto, using(crate::proofs::Parts::come_apart, crate::proofs::Single::height_if_found))]
-fn cut_right<K: Ord, V>(
+fn cut_right<K: Ord, V, T: Test<K, V>>(
     here: &mut Node<K, V>,
     key: &K,
     count: &mut u64,
     found: &mut Tree<K, V>,
+    test: &T,
 ) -> bool
 where
     K: Drop,
@@ -341,13 +394,14 @@ where
     requires low { height_of (right_in here.old) ≤ 1 }
     requires none { found.old ≡ Leaf }
     ensures is { entries_in here.new ≡ entries_of (left_in here.old)
-        ++ (option_to_list (entry_in here.old) ++ remove_entry (is_at (K.cmp key.now)) (entries_of (right_in here.old))) }
-    ensures found { option_map (λ e. e.1) (entry_of_top found.new)
-        ≡ lookup (is_at (K.cmp key.now)) (entries_of (right_in here.old)) }
+        ++ (option_to_list (entry_in here.old)
+        ++ removed_if (is_at (K.cmp key.now)) (value_of_top found.new) (entries_of (right_in here.old))) }
+    ensures found { value_of_top found.new
+        ≡ lookup_if (is_at (K.cmp key.now)) (T.passed test.now key.now) (entries_of (right_in here.old)) }
     ensures lowered { IsLowered here.old here.new result }
     ensures counted { RaisedByAtMost (height_of (right_in here.old)) count.old count.new }
 {
-    if is_on_right(here, key, count) {
+    if is_on_right(here, key, count, test) {
         let (removed, changed) = shed_right(here);
         keep(found, Tree::Fork(removed));
         changed
@@ -524,14 +578,41 @@ where
     changed
 }
 
-// Removes the key from a box that has a side, or from below it. A box with the removed entry goes
-// to `found`, so that no value is copied on the way back. Returns whether the height of `here` has
-// changed.
-fn remove_below<K: Ord, V>(
+// Takes the entry out of a box that has a side, if its value passes the test. Returns whether the
+// height of `here` has changed.
+#[tactic(auto, using(crate::proofs::Removed::passed_value, crate::proofs::Removed::no_value))]
+fn take_out_if<K, V, T: Test<K, V>>(
+    here: &mut Node<K, V>,
+    key: &K,
+    found: &mut Tree<K, V>,
+    test: &T,
+) -> bool
+where
+    K: Drop,
+    V: Drop,
+    requires here_level { IsLevelWithSide here.old }
+    requires none { found.old ≡ Leaf }
+    ensures is { entries_in here.new
+        ≡ cond (is_some (value_of_top found.new)) (entries_of (left_in here.old) ++ entries_of (right_in here.old))
+        (entries_in here.old) }
+    ensures value { value_of_top found.new ≡ passing (T.passed test.now key.now) (value_of here.old) }
+    ensures lowered { IsLowered here.old here.new result }
+{
+    if !passes_in(key, here, test) {
+        return false;
+    }
+    take_out(here, found)
+}
+
+// Removes the key from a box that has a side, or from below it, if its value passes the test. A box
+// with the removed entry goes to `found`, so that no value is copied on the way back. Returns
+// whether the height of `here` has changed.
+fn remove_below<K: Ord, V, T: Test<K, V>>(
     here: &mut Node<K, V>,
     key: &K,
     count: &mut u64,
     found: &mut Tree<K, V>,
+    test: &T,
 ) -> bool
 where
     K: Drop,
@@ -539,20 +620,21 @@ where
     requires here_level { IsLevelWithSide here.old }
     requires in_order { InOrder K.cmp (entries_in here.old) }
     requires none { found.old ≡ Leaf }
-    ensures is { entries_in here.new ≡ remove_entry (is_at (K.cmp key.now)) (entries_in here.old) }
-    ensures found { option_map (λ e. e.1) (entry_of_top found.new)
-        ≡ lookup (is_at (K.cmp key.now)) (entries_in here.old) }
+    ensures is { entries_in here.new
+        ≡ removed_if (is_at (K.cmp key.now)) (value_of_top found.new) (entries_in here.old) }
+    ensures found { value_of_top found.new
+        ≡ lookup_if (is_at (K.cmp key.now)) (T.passed test.now key.now) (entries_in here.old) }
     ensures lowered { IsLowered here.old here.new result }
     ensures counted { RaisedByAtMost (height_in here.old) count.old count.new }
 {
     match compare_to(key, here, count) {
         Ordering::Less => {
             if !here.is_high_on_left() {
-                return cut_left(here, key, count, found);
+                return cut_left(here, key, count, found, test);
             }
             match here {
                 Node::Both { left, .. } => {
-                    let shrunk = remove_below(left, key, count, found);
+                    let shrunk = remove_below(left, key, count, found, test);
                     mend(here, shrunk)
                 }
                 _ => unreachable!(),
@@ -560,17 +642,17 @@ where
         }
         Ordering::Greater => {
             if !here.is_high_on_right() {
-                return cut_right(here, key, count, found);
+                return cut_right(here, key, count, found, test);
             }
             match here {
                 Node::Both { right, .. } => {
-                    let shrunk = remove_below(right, key, count, found);
+                    let shrunk = remove_below(right, key, count, found, test);
                     mend(here, shrunk)
                 }
                 _ => unreachable!(),
             }
         }
-        Ordering::Equal => take_out(here, found),
+        Ordering::Equal => take_out_if(here, key, found, test),
     }
 }
 
@@ -595,29 +677,77 @@ where
     }
 }
 
-// Removes the key from a tree that is a single box.
-fn remove_single<K: Ord, V>(
+// Removes the key from a tree that is a single box, if its value passes the test.
+fn remove_single<K: Ord, V, T: Test<K, V>>(
     top: Box<Node<K, V>>,
     key: &K,
     count: &mut u64,
+    test: &T,
 ) -> (Tree<K, V>, Option<(Box<Node<K, V>>, V)>)
 where
     K: Drop,
     V: Drop,
     requires level { IsLevel top.value }
     requires alone { height_in top.value ≡ 1 }
-    ensures is { entries result.0 ≡ remove_entry (is_at (K.cmp key.now)) (entries_in top.value) }
+    ensures is { entries result.0
+        ≡ removed_if (is_at (K.cmp key.now)) (option_map (λ p. p.1) result.1) (entries_in top.value) }
     ensures balanced { IsBalanced result.0 }
     ensures found { option_map (λ p. p.1) result.1
-        ≡ lookup (is_at (K.cmp key.now)) (entries_in top.value) }
+        ≡ lookup_if (is_at (K.cmp key.now)) (T.passed test.now key.now) (entries_in top.value) }
     ensures spare { IfSome result.1 (λ p. p.0.value ≡ Spare) }
     ensures counted { RaisedByAtMost 1 count.old count.new }
 {
-    if is_key_of(key, &top, count) {
+    if is_passing_key_of(key, &top, count, test) {
         let removed = taken(Tree::Fork(top));
         (Tree::Leaf, removed)
     } else {
         (Tree::Fork(top), None)
+    }
+}
+
+// Returns the tree without the key, and the removed value with a spare box, if the key was there and
+// its value passes the test. Otherwise the tree does not change.
+pub(crate) fn remove_if<K: Ord, V, T: Test<K, V>>(
+    tree: Tree<K, V>,
+    key: &K,
+    count: &mut u64,
+    test: &T,
+) -> (Tree<K, V>, Option<(Box<Node<K, V>>, V)>)
+where
+    K: Drop,
+    V: Drop,
+    requires balanced { IsBalanced tree }
+    requires in_order { InOrder K.cmp (entries tree) }
+    requires fits { height tree < 200 }
+    ensures is { entries result.0
+        ≡ removed_if (is_at (K.cmp key.now)) (option_map (λ p. p.1) result.1) (entries tree) }
+    ensures balanced { IsBalanced result.0 }
+    ensures found { option_map (λ p. p.1) result.1
+        ≡ lookup_if (is_at (K.cmp key.now)) (T.passed test.now key.now) (entries tree) }
+    ensures spare { IfSome result.1 (λ p. p.0.value ≡ Spare) }
+    ensures counted { RaisedByAtMost (height tree) count.old count.new }
+{
+    match tree {
+        Tree::Leaf => (Tree::Leaf, None),
+        Tree::Fork(mut top) => if top.height() > 1 {
+            let mut found = Tree::Leaf;
+            let _changed = remove_below(&mut top, key, count, &mut found, test);
+            let removed = taken(found);
+            (Tree::Fork(top), removed)
+        } else {
+            remove_single(top, key, count, test)
+        },
+    }
+}
+
+// A test that every entry passes.
+pub(crate) struct Always;
+
+impl<K, V> Test<K, V> for Always {
+    ghost passed = { λ t k v. true };
+
+    fn passes(&self, _key: &K, _value: &V) -> bool {
+        true
     }
 }
 
@@ -640,15 +770,5 @@ where
     ensures spare { IfSome result.1 (λ p. p.0.value ≡ Spare) }
     ensures counted { RaisedByAtMost (height tree) count.old count.new }
 {
-    match tree {
-        Tree::Leaf => (Tree::Leaf, None),
-        Tree::Fork(mut top) => if top.height() > 1 {
-            let mut found = Tree::Leaf;
-            let _changed = remove_below(&mut top, key, count, &mut found);
-            let removed = taken(found);
-            (Tree::Fork(top), removed)
-        } else {
-            remove_single(top, key, count)
-        },
-    }
+    remove_if(tree, key, count, &Always)
 }

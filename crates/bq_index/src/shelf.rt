@@ -6,9 +6,11 @@ ghost use Rattle.bq_index.specs.Order.{InOrder, entry_from};
 ghost use Rattle.std.specs.Map.{lookup, remove_entry};
 ghost use Rattle.std.specs.BTreeMap.{is_at, insert_entry};
 ghost use Rattle.bq_index.specs.Edited.{edited_at};
+ghost use Rattle.bq_index.specs.Removed.{lookup_if, removed_if};
 ghost use Rattle.bq_index.specs.Shelves.{key_from};
 ghost use Rattle.bq_index.specs.Tree.{entries, IsBalanced};
 
+use super::change::Always;
 use super::edit::{self, Edit};
 use super::tree::{self, BoxSource, Node, Tree};
 use super::walk::{Test, Visitor};
@@ -191,8 +193,24 @@ impl<K: Ord + Drop, V: Drop> Shelf<K, V> {
         ensures ordered { InOrder K.cmp self.old.entries }
         ensures comparisons { ComparesFew self.old self.new }
     {
+        self.remove_if(key, &Always)
+    }
+
+    /// Removes the entry of a key if its value passes a test, and returns the value. Its box becomes
+    /// spare. If there is no such entry, or it does not pass, only the count of comparisons changes.
+    ///
+    /// The test gets `key`. It takes no second search: the test runs where the search has ended.
+    pub fn remove_if<T: Test<K, V>>(&mut self, key: &K, test: &T) -> Option<V>
+        ensures value { result
+            ≡ lookup_if (is_at (K.cmp key.now)) (T.passed test.now key.now) self.old.entries }
+        ensures entries { self.new.entries
+            ≡ removed_if (is_at (K.cmp key.now)) result self.old.entries }
+        ensures spare { self.new.spare ≡ self.old.spare + (if is_some result then 1 else 0) }
+        ensures ordered { InOrder K.cmp self.old.entries }
+        ensures comparisons { ComparesFew self.old self.new }
+    {
         let tree = mem::replace(&mut self.tree, Tree::Leaf);
-        let (tree, found) = change::remove(tree, key, &mut self.comparisons);
+        let (tree, found) = change::remove_if(tree, key, &mut self.comparisons, test);
         self.tree = tree;
         let (node, value) = found?;
         self.len -= 1;

@@ -16,4 +16,5 @@ pub mod Shelved
 pub mod TableLemmas
 pub mod TableViews
 pub mod TableWalks
+pub mod TestedRemovals
 pub mod Told

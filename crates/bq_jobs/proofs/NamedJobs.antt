@@ -108,7 +108,7 @@ added_named k j (r ∷ rows) = elim (cases_Bool (nat_lt r.id j.id)) [
   | inr e ↦ rw e refl
 ]
 
-without_named : (k : Numbering) (id : ℕ) (rows : List Job) → without id (map (named k) rows) ≡ map (named k) (without id rows)
+pub without_named : (k : Numbering) (id : ℕ) (rows : List Job) → without id (map (named k) rows) ≡ map (named k) (without id rows)
 without_named k id [] = refl
 without_named k id (r ∷ rows) = elim (cases_Bool (r.id == id)) [
   | inl e ↦ rw e (without_named k id rows)

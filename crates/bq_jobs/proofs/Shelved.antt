@@ -20,7 +20,8 @@ use Rattle.bq_jobs.specs.Inside.{ById, IsOrderOf, IsShelved, jobs_of, kept_in, w
 use Rattle.bq_jobs.specs.Kept.{Kept, search_bound, with_added, without}
 use Rattle.bq_jobs.specs.PlaceOrder.{with_place, without_place}
 use Rattle.bq_jobs.specs.Places.{timer_place, group_place}
-use Rattle.bq_jobs.specs.Room.{Removes}
+use Rattle.bq_index.specs.Removed.{removed_if}
+use Rattle.bq_jobs.specs.Room.{Removes, RemovesIf}
 use Rattle.bq_jobs.proofs.ById.{insert_by_id, lookup_by_id, remove_by_id, same_jobs, set_by_id}
 use Rattle.bq_jobs.proofs.Changes.{added_within, changed, found_id, not_there, without_none, without_within}
 use Rattle.bq_jobs.proofs.Counting.{few_more, search_is_bounded}
@@ -160,8 +161,32 @@ removes id s n old removed h is entries spare l u =
     subst (λ m. Removes id removed m (kept_in n.by_id n.groups n.timers)) is
     (jobs, spare, ap (job_with id) jobs ∙ not_there id (jobs_of s.by_id.entries), few_more 4 seen seen _ _ refl refl l u)
 
--- what the search takes for a removal
-pub ruleset removals = (found_in, found_own)
+-- after a call that changed no entry
+pub shelved_kept : (s : Parts) (by_id : ById) → AreShelved s → by_id.entries ≡ s.by_id.entries → by_id.spare ≡ s.by_id.spare
+    → AreShelved (record s { by_id = by_id })
+shelved_kept s by_id h entries spare =
+    let jobs = jobs_of s.by_id.entries in
+    shelved_from (record s { by_id = by_id }) jobs (record {
+      own = entries ∙ h.by_own_id;
+      ids = h.ids;
+      tubes = subst (λ room. IsOrderOf group_cmp group_place jobs room s.groups) (sym spare) h.in_groups;
+      timed = subst (λ room. IsOrderOf timer_cmp timer_place jobs room s.timers) (sym spare) h.in_timers;
+    })
+
+-- what a removal does that asks a test first
+pub removes_if : (id : ℕ) (s n : Parts) (old : Kept) (removed : Option Job) → AreShelved s
+    → kept_in s.by_id s.groups s.timers ≡ old → n.by_id.entries ≡ removed_if (is_at (nat_cmp id)) removed s.by_id.entries
+    → n.by_id.spare ≡ s.by_id.spare + cond (is_some removed) 1 0 → compared s ≤ compared n
+    → compared n ≤ compared s + 4 * search_bound (jobs_of s.by_id.entries) → RemovesIf id removed old (kept_in n.by_id n.groups n.timers)
+removes_if id s n old removed h is entries spare l u =
+    let seen = kept_in s.by_id s.groups s.timers in
+    subst (λ m. RemovesIf id removed m (kept_in n.by_id n.groups n.timers)) is
+    (ap jobs_of entries ∙ of removed, spare, few_more 4 seen seen _ _ refl refl l u)
+  where
+    of : (o : Option Job) → jobs_of (removed_if (is_at (nat_cmp id)) o s.by_id.entries)
+        ≡ cond (is_some o) (without id (jobs_of s.by_id.entries)) (jobs_of s.by_id.entries)
+    of None = refl
+    of (Some x) = jobs_removed id s h
 
 -- after a change
 pub record Changed (j k : Job) (s n : Parts) : Type 0 where

@@ -1,5 +1,5 @@
 -- A change of a job that stays in the queue.
-use Rattle.std.specs.Prelude.{◌≡◌, ℕ, ◌==◌, if◌then◌else◌, List, map, Option, Some, None}
+use Rattle.std.specs.Prelude.{◌≡◌, ℕ, ◌==◌, if◌then◌else◌, Bool, List, map, Option, Some, None}
 use Rattle.std.specs.Ordering.{nat_cmp}
 use Rattle.std.specs.Map.{lookup, set_value}
 use Rattle.std.specs.BTreeMap.{is_at}
@@ -46,6 +46,10 @@ KeepsTube f = (j : Job) → (f j).tube ≡ j.tube
 -- The effect of f on a job does not depend on the job's tube, and does not change it.
 abbrev pub IgnoresTube : (Job → Job) → Type 0
 IgnoresTube f = (j : Job) (tube : List ℕ) → f (record j { tube = tube }) ≡ record (f j) { tube = tube }
+
+-- The answer of a test about a job does not depend on the job's tube.
+abbrev pub AsksNoTube : (Job → Bool) → Type 0
+AsksNoTube p = (j : Job) (tube : List ℕ) → p (record j { tube = tube }) ≡ p j
 
 -- the job with this id
 abbrev pub entry_at : ℕ → List (ℕ × Job) → Option Job

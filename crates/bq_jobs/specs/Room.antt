@@ -14,3 +14,10 @@ abbrev pub Removes : {A : Type 0} → ℕ → Option A → Kept → Kept → Typ
 Removes id removed old new =
     (new.jobs ≡ without id old.jobs) × (new.room ≡ old.room + (if is_some removed then 1 else 0)) × (job_with id new.jobs ≡ None)
     × ComparesAtMost 4 old new
+
+-- The same, if a test let the job go: if `removed` says that there is none, no job was removed.
+abbrev pub RemovesIf : {A : Type 0} → ℕ → Option A → Kept → Kept → Type 0
+RemovesIf id removed old new =
+    (new.jobs ≡ (if is_some removed then without id old.jobs else old.jobs))
+    × (new.room ≡ old.room + (if is_some removed then 1 else 0))
+    × ComparesAtMost 4 old new

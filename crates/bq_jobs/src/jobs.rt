@@ -15,7 +15,8 @@ ghost use Rattle.bq_job.specs.beside.Lawful.{AreIdsWithin};
 ghost use Rattle.bq_job.specs.machine.TubeCommands.{is_ready_in};
 ghost use Rattle.bq_job.specs.reading.TubeName.{is_same_name};
 ghost use Rattle.std.specs.List.{list_any};
-ghost use Rattle.bq_jobs.specs.Changed.{IgnoresTube, KeepsId, moved_by, removed_from, with_changed};
+ghost use Rattle.bq_index.specs.Removed.{passing};
+ghost use Rattle.bq_jobs.specs.Changed.{AsksNoTube, IgnoresTube, KeepsId, moved_by, removed_from, with_changed};
 ghost use Rattle.bq_jobs.specs.Names.{number_in};
 ghost use Rattle.bq_jobs.specs.Numbering.{Extends, IsPaired, is_known, name_of, number_of};
 ghost use Rattle.bq_jobs.specs.Seen.{IsBodyOf, IsTubeOf, but_for_tube};
@@ -25,11 +26,11 @@ ghost use Rattle.bq_jobs.specs.Laws.{AddsAtTheEnd, ChosenHasItsId, NextIsFree};
 ghost use Rattle.bq_jobs.specs.Leases.{deadline_of, is_lease_before};
 ghost use Rattle.bq_jobs.specs.Places.{held_by, list_of};
 ghost use Rattle.bq_jobs.specs.Ranks.{first_held, first_timed, id_in};
-ghost use Rattle.bq_jobs.specs.Room.{MakesRoom, Removes};
+ghost use Rattle.bq_jobs.specs.Room.{MakesRoom, Removes, RemovesIf};
 ghost use Rattle.bq_jobs.specs.Searching.{FindsById, Searches};
 
 use super::places::{Group, JobList, Timer};
-use super::rows::{self, JobEdit, Moved, MovedRow, Removed, Row, Rows, Standing};
+use super::rows::{self, JobEdit, Moved, MovedRow, Removed, Row, RowTest, Rows, Standing};
 use super::tube::Tube;
 use super::tubes::{NumberedTubes, TubeNumber};
 use bq_index::BoxSource;
@@ -181,6 +182,28 @@ impl NumberedJobs {
         ensures left { Removes id result self.old self.new }
     {
         let removed = self.rows.discard(id);
+        removed_of(tubes, removed)
+    }
+
+    /// Removes the job with this id, if there is one and it passes a test, and drops it. Its room is
+    /// free again. Returns the tube and the standing that the job had. Otherwise no job is removed.
+    ///
+    /// The job is searched once, and the test runs where the search has found it.
+    #[tactic(auto, using(crate::proofs::TestedRemovals::discards_if))]
+    pub fn discard_if<T: RowTest>(
+        &mut self,
+        tubes: &NumberedTubes,
+        id: JobId,
+        test: &T,
+    ) -> Option<Removed>
+        requires tube { AsksNoTube (T.passed test.now) }
+        requires same { tubes.now.numbers ≡ self.old.tubes }
+        ensures removed { result
+            ≡ option_map removed_from (passing (T.passed test.now) (job_with id self.old.jobs)) }
+        ensures tubes { self.new.tubes ≡ self.old.tubes }
+        ensures left { RemovesIf id result self.old self.new }
+    {
+        let removed = self.rows.discard_if(id, test);
         removed_of(tubes, removed)
     }
 

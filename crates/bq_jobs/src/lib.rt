@@ -20,7 +20,7 @@
 
 pub use jobs::{NumberedJobs, adds_at_the_end, chosen_has_its_id, next_is_free};
 pub use named_jobs::Jobs;
-pub use rows::{JobEdit, Moved, Removed, Row, Standing};
+pub use rows::{JobEdit, Moved, Removed, Row, RowTest, Standing};
 pub use table::TubeTable;
 pub use tube::Tube;
 pub use tubes::{NumberedTubes, TubeNumber};

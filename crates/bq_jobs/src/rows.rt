@@ -2,14 +2,17 @@
 //! The names of the tubes are in a table outside, one for the whole core.
 ghost use Rattle.std.specs.Option.{option_map};
 ghost use Rattle.std.specs.Prelude.{◌≡◌, ◌+◌, ◌-◌, ◌<◌, ◌^◌, ◌∷◌, if◌then◌else◌, []};
-ghost use Rattle.std.specs.Prelude.{nat_lt, length, IfOk, IfSome, None};
+ghost use Rattle.std.specs.Prelude.{nat_lt, length, is_some, true, IfOk, IfSome, None};
 ghost use Rattle.bq_job.specs.machine.Changes.{job_with};
 ghost use Rattle.bq_job.specs.beside.Lawful.{AreIdsWithin};
+ghost use Rattle.std.specs.BTreeMap.{is_at};
+ghost use Rattle.std.specs.Ordering.{nat_cmp};
+ghost use Rattle.bq_index.specs.Removed.{passing, removed_if};
 ghost use Rattle.bq_index.specs.Shelf.{ComparesFew};
 ghost use Rattle.bq_jobs.specs.Changed.{IgnoresTube, KeepsId, entry_at, row_moved_by, row_removed, standing, with_changed, with_edited};
 ghost use Rattle.bq_jobs.specs.Kept.{ComparesAtMost, with_added};
 ghost use Rattle.bq_jobs.specs.Ranks.{first_held, first_timed};
-ghost use Rattle.bq_jobs.specs.Room.{MakesRoom, Removes};
+ghost use Rattle.bq_jobs.specs.Room.{MakesRoom, Removes, RemovesIf};
 ghost use Rattle.bq_jobs.specs.Searching.{FindsById, Searches};
 ghost use Rattle.bq_jobs.specs.Seen.{IsBodyOf, IsTubeOf};
 ghost use Rattle.bq_jobs.specs.Stages.{state_of};
@@ -19,7 +22,7 @@ use super::places::{self, Group, Timer};
 use super::timers::Timers;
 use super::tube::Tube;
 use super::tubes::TubeNumber;
-use bq_index::{BoxSource, Edit, Shelf};
+use bq_index::{BoxSource, Edit, Shelf, Test};
 use bq_job::{Body, Counts, Job, JobId, JobState, Moment, NoMemory, Pri, Seat, TubeName};
 use std::alloc::Global;
 use std::marker::Model;
@@ -220,6 +223,30 @@ pub trait JobEdit {
         ensures { job.new ≡ edited self.now job.old };
 }
 
+/// A test of a job.
+pub trait RowTest {
+    ghost use Rattle.std.specs.Prelude.{Bool};
+    ghost use Rattle.bq_job.specs.declared.job.Job.{Job};
+
+    /// Whether a job passes.
+    ghost passed: { Self → Job → Bool };
+
+    /// Whether a job passes.
+    fn passes(&self, job: &Row) -> bool
+        ensures { result ≡ passed self.now job.now };
+}
+
+// A test that every job passes.
+struct AnyRow;
+
+impl RowTest for AnyRow {
+    ghost passed = { λ t j. true };
+
+    fn passes(&self, _job: &Row) -> bool {
+        true
+    }
+}
+
 /// The records of the jobs. A record is found by its id, and the first one of each kind without a
 /// search. It is [`super::Jobs`] with numbers in place of names, and knows no names.
 #[derive(Drop)]
@@ -335,13 +362,23 @@ impl Rows {
 
     /// Removes the job with this id and returns its record, if there is one. Its room is free
     /// again.
-    #[tactic(auto, using(crate::proofs::Shelved::removals))]
     pub(crate) fn remove(&mut self, id: JobId) -> Option<Row>
         ensures job { result ≡ job_with id self.old.jobs }
         ensures id { IfSome result (λ job. job.id ≡ id) }
         ensures left { Removes id result self.old self.new }
     {
-        let job = self.by_id.remove(&id)?;
+        self.remove_if(id, &AnyRow)
+    }
+
+    /// Removes the job with this id and returns its record, if there is one and it passes a test. Its
+    /// room is free again. Otherwise no job is removed.
+    #[tactic(auto, using(crate::proofs::TestedRemovals::passing_in, crate::proofs::TestedRemovals::passing_own))]
+    pub(crate) fn remove_if<T: RowTest>(&mut self, id: JobId, test: &T) -> Option<Row>
+        ensures job { result ≡ passing (T.passed test.now) (job_with id self.old.jobs) }
+        ensures id { IfSome result (λ job. job.id ≡ id) }
+        ensures left { RemovesIf id result self.old self.new }
+    {
+        let job = remove_at(&mut self.by_id, id, test)?;
         self.groups.leave(places::group_place(id, &job));
         self.timers.leave(places::timer_place(id, &job));
         Some(job)
@@ -354,6 +391,21 @@ impl Rows {
         ensures left { Removes id result self.old self.new }
     {
         let row = self.remove(id)?;
+        Some((row.tube, Standing::of_row(&row)))
+    }
+
+    /// Removes the job with this id, if there is one and it passes a test, and drops its record.
+    /// Returns the number of its tube and its standing. Its room is free again.
+    pub(crate) fn discard_if<T: RowTest>(
+        &mut self,
+        id: JobId,
+        test: &T,
+    ) -> Option<(TubeNumber, Standing)>
+        ensures removed { result
+            ≡ option_map row_removed (passing (T.passed test.now) (job_with id self.old.jobs)) }
+        ensures left { RemovesIf id result self.old self.new }
+    {
+        let row = self.remove_if(id, test)?;
         Some((row.tube, Standing::of_row(&row)))
     }
 
@@ -476,4 +528,28 @@ fn edit_at<E: JobEdit>(by_id: &mut Shelf<JobId, Row>, id: JobId, edit: &E) -> Op
     ensures comparisons { ComparesFew by_id.old by_id.new }
 {
     by_id.edit(&id, &Reported { edit })
+}
+
+// A test of an entry by its record.
+#[derive(Drop)]
+struct Asked<'t, T> {
+    test: &'t T,
+}
+
+impl<'t, T: RowTest> Test<JobId, Row> for Asked<'t, T> {
+    ghost passed = { λ a k j. T.passed a.test.now j };
+
+    fn passes(&self, _id: &JobId, job: &Row) -> bool {
+        self.test.passes(job)
+    }
+}
+
+// Removes the entry with this id, if there is one and its record passes a test.
+fn remove_at<T: RowTest>(by_id: &mut Shelf<JobId, Row>, id: JobId, test: &T) -> Option<Row>
+    ensures job { result ≡ passing (T.passed test.now) (entry_at id by_id.old.entries) }
+    ensures entries { by_id.new.entries ≡ removed_if (is_at (nat_cmp id)) result by_id.old.entries }
+    ensures spare { by_id.new.spare ≡ by_id.old.spare + (if is_some result then 1 else 0) }
+    ensures comparisons { ComparesFew by_id.old by_id.new }
+{
+    by_id.remove_if(&id, &Asked { test })
 }

@@ -9,6 +9,7 @@ pub mod EndLemmas
 pub mod EndMoves
 pub mod FirstTimeoutLemmas
 pub mod GoneLemmas
+pub mod JobTests
 pub mod KnowledgeLemmas
 pub mod LeavingLemmas
 pub mod LoopLemmas

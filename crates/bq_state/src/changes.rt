@@ -18,7 +18,8 @@ ghost use Rattle.bq_jobs.specs.Searching.{Asks};
 ghost use Rattle.bq_state.specs.Crowds.{may_wait};
 ghost use Rattle.bq_state.specs.declared.known.wanted.Wanted.TheVariants as wanted_jobs;
 ghost use Rattle.bq_state.specs.Dues.{is_end_over, with_warning_due};
-ghost use Rattle.bq_state.specs.JobChanges.{changed, once_deleted};
+ghost use Rattle.bq_state.specs.JobChanges.{changed, is_passed_by, once_deleted, passes};
+ghost use Rattle.bq_index.specs.Removed.{passing};
 ghost use Rattle.bq_jobs.specs.Names.{number_in};
 ghost use Rattle.std.specs.Map.{lookup};
 ghost use Rattle.bq_state.specs.KeptTubes.{first_tubes, is_named_at};
@@ -32,7 +33,7 @@ ghost use Rattle.bq_state.specs.TubeEntries.{has_entry, is_tube_of, tube_changed
 ghost use Rattle.bq_state.specs.Warnings.{has_waiting_holder, may_hold, warned_if_due, with_holder};
 
 use crate::core_parts::CoreParts;
-use crate::job_store::JobChange;
+use crate::job_store::{JobChange, JobTest};
 use crate::known::{Clients, FirstTimeout, Known, MaybeGone, Wanted, is_over};
 use crate::name_lists::Names;
 use crate::seats::{SeatChange, SeatRecord};
@@ -78,14 +79,17 @@ pub fn add(state: &mut CoreParts, job: Job, hint: TubeNumber)
 }
 
 /// Removes the job with this id and drops it, and counts the deletion in its tube. Returns false if
-/// there is no such job. Its room is kept, unless there is plenty.
-pub fn delete(state: &mut CoreParts, id: JobId) -> bool
-    ensures deleted { result ≡ is_some (job_with id (machine_of state.old).jobs) }
+/// there is no such job, or it does not pass the test; then nothing changes. The room of the job is
+/// kept, unless there is plenty.
+#[tactic(auto, using(crate::proofs::JobTests::asks_no_tube))]
+pub fn delete(state: &mut CoreParts, id: JobId, test: JobTest) -> bool
+    ensures deleted { result
+        ≡ is_passed_by (passes test) (job_with id (machine_of state.old).jobs) }
     ensures after { machine_of state.new
-        ≡ once_deleted (job_with id (machine_of state.old).jobs) (machine_of state.old) }
+        ≡ once_deleted (passing (passes test) (job_with id (machine_of state.old).jobs)) (machine_of state.old) }
     ensures asks { ComparesAtMost 4 state.old.jobs state.new.jobs }
 {
-    let Some(removed) = state.jobs.discard(state.tubes.names(), id) else {
+    let Some(removed) = state.jobs.discard_if(state.tubes.names(), id, &test) else {
         return false;
     };
     job_store::let_room_go(&mut state.jobs); // Of a peak in the past.

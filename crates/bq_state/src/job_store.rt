@@ -16,7 +16,7 @@ ghost use Rattle.bq_state.specs.JobKinds.{first_of_kind};
 ghost use Rattle.bq_state.specs.Room.{room_left};
 
 use bq_job::{Body, Job, JobId, JobState, Moment, NoMemory, Pri, Seat};
-use bq_jobs::{JobEdit, NumberedJobs, NumberedTubes, Row, Tube};
+use bq_jobs::{JobEdit, NumberedJobs, NumberedTubes, Row, RowTest, Tube};
 
 // How much more room than there are jobs is kept.
 const ROOM_TO_SPARE: usize = 1000;
@@ -225,6 +225,14 @@ fn passes(job: &Row, test: JobTest) -> bool
         JobTest::FreeFor(seat) => is_free_for(job, seat),
         JobTest::Free => !is_reserved(job),
         JobTest::Kickable => is_kickable(job),
+    }
+}
+
+impl RowTest for JobTest {
+    ghost passed = { passes };
+
+    fn passes(&self, job: &Row) -> bool {
+        passes(job, *self)
     }
 }
 

@@ -1,17 +1,20 @@
-use Rattle.std.proofs.Common.{◌==◌, ◌∙◌, ◌≡◌, Some, ap, not, refl, sym}
+use Rattle.std.proofs.Common.{◌==◌, ◌∙◌, ◌≡◌, Some, ap, is_some, not, sym}
 use Rattle.bq_job.specs.declared.job.Job.{Job}
 use Rattle.bq_job.specs.machine.{job_with, with_delete}
 use Rattle.bq_job.proofs.KeptLemmas.{ids_of_filter}
+use Rattle.bq_index.proofs.Removed.{value_there}
+use Rattle.bq_index.specs.Removed.{passing}
 use Rattle.bq_jobs.specs.Changed.{removed_from}
 use Rattle.bq_jobs.specs.Kept.{Kept, without}
 use Rattle.bq_jobs.specs.declared.rows.Removed.{Removed}
-use Rattle.bq_jobs.proofs.Changes.{found_id, without_none}
+use Rattle.bq_jobs.proofs.Changes.{found_id}
 use Rattle.bq_jobs.proofs.Told.{nothing_told_of, told_of}
 use Rattle.bq_state.specs.declared.tubes.entry.TubeChange.TheVariants.{CountDelete}
-use Rattle.bq_state.specs.{CoreParts.machine_of, Counting.with_removal_counted, JobChanges.once_deleted, KeptTubes.KeptTubes}
+use Rattle.bq_state.specs.{CoreParts.machine_of, Counting.with_removal_counted, JobChanges.{once_deleted, passes}, KeptTubes.KeptTubes}
 use Rattle.bq_state.specs.TubeEntries.{counted, tube_changed_at}
 use Rattle.bq_state.specs.Crowds.{crowd_at, has_seats}
 use Rattle.bq_state.proofs.CrowdPlaces.{seated_by_counts}
+use Rattle.bq_state.proofs.JobTests.{is_passed}
 use Rattle.bq_state.proofs.KnowledgeLemmas.{so_without_job, with_count}
 use Rattle.bq_state.proofs.PartsLemmas.{entries_of_fewer, has_of_job, tube_counts, tube_name_kept}
 use Rattle.bq_state.proofs.TubeLemmas.{record_changed}
@@ -20,31 +23,35 @@ use Rattle.bq_state.proofs.changes.delete.Goals as goal
 pub invariant_of-state : goal.invariant_of-state
 invariant_of-state c =
     let st = c.args.state.now in
-    let none = nothing_told_of removed_from (job_with c.args.id st.jobs.jobs) (sym c.in_default.ensures.removed) in
-    let same = c.in_default.ensures.left.0 ∙ without_none c.args.id st.jobs.jobs none in
+    let same = c.in_default.ensures.left.0 in
     record { sound = rw same st.sound; numbered = rw c.in_default.ensures.tubes st.numbered }
 
 pub returns-in_default-clause-deleted : goal.returns-in_default-clause-deleted
 returns-in_default-clause-deleted c =
     let st = c.args.state.now in
-    rw (nothing_told_of removed_from (job_with c.args.id st.jobs.jobs) (sym c.in_default.ensures.removed)) refl
+    let job = job_with c.args.id st.jobs.jobs in
+    let none = nothing_told_of removed_from (passing (passes c.args.test) job) (sym c.in_default.ensures.removed) in
+    sym (is_passed (passes c.args.test) job ∙ ap is_some none)
 
 pub returns-in_default-clause-after : goal.returns-in_default-clause-after
 returns-in_default-clause-after c =
     let st = c.args.state.now in
     let m = machine_of st in
-    let none = nothing_told_of removed_from (job_with c.args.id st.jobs.jobs) (sym c.in_default.ensures.removed) in
-    let same = c.in_default.ensures.left.0 ∙ without_none c.args.id st.jobs.jobs none in
+    let o = passing (passes c.args.test) (job_with c.args.id st.jobs.jobs) in
+    let none = nothing_told_of removed_from o (sym c.in_default.ensures.removed) in
+    let same = c.in_default.ensures.left.0 in
     ap (λ jobs. record m { jobs = jobs }) same ∙ ap (λ o. once_deleted o m) (sym none)
 
 pub invariant_of-state-2 : goal.invariant_of-state-2
 invariant_of-state-2 c =
     let st = c.args.state.now in
     let id = c.args.id in
-    let of = told_of removed_from (job_with id st.jobs.jobs) c.in-Some.removed (sym c.in-Some.ensures.removed) in
+    let p = passes c.args.test in
+    let of = told_of removed_from (passing p (job_with id st.jobs.jobs)) c.in-Some.removed (sym c.in-Some.ensures.removed) in
     let j = of.job in
+    let found : job_with id st.jobs.jobs ≡ Some j = sym (value_there p (job_with id st.jobs.jobs) j (sym of.there)) in
     let is = of.is in
-    let mid = with_count st j.tube CountDelete (has_of_job st.jobs.jobs st.seats.items st.tubes.entries id j st.sound.entries of.there) in
+    let mid = with_count st j.tube CountDelete (has_of_job st.jobs.jobs st.seats.items st.tubes.entries id j st.sound.entries found) in
     let was = mid.sound in
     let jobs : c.let_room_go.new.jobs.jobs ≡ without id st.jobs.jobs =
     ap (λ (k : Kept). k.jobs) c.let_room_go.ensures.same ∙ c.in-Some.ensures.left.0 in
@@ -54,7 +61,7 @@ invariant_of-state-2 c =
     let so = so_without_job mid id j c.count_removal-has_seats.result
     (λ has. seated_by_counts j.tube st.tubes.crowds st.seats.items st.tubes.entries st.sound.entries.of_seats st.sound.known.crowds
     (sym (ap (λ (r : Removed). has_seats (crowd_at r.tube st.tubes.entries st.tubes.crowds)) is)
-    ∙ sym c.count_removal-has_seats.ensures.seats ∙ has)) of.there in
+    ∙ sym c.count_removal-has_seats.ensures.seats ∙ has)) found in
     record {
       sound = rw (c.count_removal.ensures, c.count_removal-has_seats.ensures.after, is, jobs) assumption;
       numbered = names ∙ st.numbered ∙ ap (λ (k : KeptTubes). k.numbers) (sym c.count_removal-has_seats.ensures.after);
@@ -63,17 +70,19 @@ invariant_of-state-2 c =
 pub returns-clause-deleted : goal.returns-clause-deleted
 returns-clause-deleted c =
     let st = c.args.state.now in
-    let of = told_of removed_from (job_with c.args.id st.jobs.jobs) c.in-Some.removed (sym c.in-Some.ensures.removed) in
-    rw of.there refl
+    let job = job_with c.args.id st.jobs.jobs in
+    let of = told_of removed_from (passing (passes c.args.test) job) c.in-Some.removed (sym c.in-Some.ensures.removed) in
+    sym (is_passed (passes c.args.test) job ∙ ap is_some of.there)
 
 pub returns-clause-after : goal.returns-clause-after
 returns-clause-after c =
     let st = c.args.state.now in
     let m = machine_of st in
     let id = c.args.id in
-    let of = told_of removed_from (job_with id st.jobs.jobs) c.in-Some.removed (sym c.in-Some.ensures.removed) in
+    let p = passes c.args.test in
+    let of = told_of removed_from (passing p (job_with id st.jobs.jobs)) c.in-Some.removed (sym c.in-Some.ensures.removed) in
     let j = of.job in
-    let found : job_with id st.jobs.jobs ≡ Some j = of.there in
+    let found : job_with id st.jobs.jobs ≡ Some j = sym (value_there p (job_with id st.jobs.jobs) j (sym of.there)) in
     let there = has_of_job st.jobs.jobs st.seats.items st.tubes.entries id j st.sound.entries found in
     let own : id ≡ j.id = sym (found_id id st.jobs.jobs j found) in
     let jobs : c.let_room_go.new.jobs.jobs ≡ without j.id st.jobs.jobs =
@@ -84,4 +93,4 @@ returns-clause-after c =
     ∙ ap (λ tubes. record m { tubes = tubes; jobs = without j.id m.jobs })
     (sym (record_changed j.tube with_delete (tube_counts CountDelete)
     (tube_name_kept CountDelete) st.tubes.entries st.sound.entries.order st.sound.entries.fresh there))
-    ∙ ap (λ o. once_deleted o m) (sym found)
+    ∙ ap (λ o. once_deleted o m) (sym of.there)

@@ -1,0 +1,105 @@
+-- A removal that asks a test first, of the records and of their jobs with the names of their tubes.
+use Rattle.std.proofs.Common.{◌≡◌, ◌+◌, ℕ, Bool, true, false, cond, List, Option, Some, None, is_some, map, refl, sym, ap, ◌∙◌, subst}
+use Rattle.std.specs.Prelude.{if◌then◌else◌}
+use Rattle.std.specs.Option.{option_and_then, option_map}
+use Rattle.bq_index.proofs.Removed.{value_there}
+use Rattle.bq_index.specs.Removed.{passing}
+use Rattle.bq_job.specs.declared.job.Job.{Job}
+use Rattle.bq_job.specs.machine.Changes.{job_with}
+use Rattle.bq_jobs.specs.Changed.{AsksNoTube, entry_at, removed_from, row_removed}
+use Rattle.bq_jobs.specs.Kept.{Kept, without}
+use Rattle.bq_jobs.specs.Numbering.{AreRegistered, IsPaired, Numbering, kept_named, named}
+use Rattle.bq_jobs.specs.Room.{Removes, RemovesIf}
+use Rattle.bq_jobs.specs.Told.{removed_told}
+use Rattle.bq_jobs.specs.declared.rows.Rows.TheInside.{Inside as Parts}
+use Rattle.bq_jobs.specs.Inside.{jobs_of}
+use Rattle.bq_jobs.proofs.Changes.{not_there, without_none}
+use Rattle.bq_jobs.proofs.NamedJobs.{counted_as, job_named, registered_without, some_mapped, told_removed, without_named}
+use Rattle.bq_jobs.proofs.Shelved.{AreShelved, found_in, found_own}
+
+-- the job that an id finds, if it passes
+module _ (p : Job → Bool) (id : ℕ) (s : Parts) (h : AreShelved s) where
+  pub passing_in : passing p (entry_at id s.by_id.entries) ≡ passing p (job_with id (jobs_of s.by_id.entries))
+  passing_in = ap (passing p) (found_in id s h)
+
+  -- it is there,
+  pub passing_there : (j : Job) → passing p (entry_at id s.by_id.entries) ≡ Some j → job_with id (jobs_of s.by_id.entries) ≡ Some j
+  passing_there j e = sym (found_in id s h) ∙ sym (value_there p (entry_at id s.by_id.entries) j (sym e))
+
+  -- and has this id
+  pub passing_own : (j : Job) → passing p (entry_at id s.by_id.entries) ≡ Some j → j.id ≡ id
+  passing_own j e = found_own id s h j (sym (value_there p (entry_at id s.by_id.entries) j (sym e)))
+
+-- with a test that every job passes, the job is gone
+pub removes_all : (id : ℕ) (old new : Kept) (removed : Option Job) → removed ≡ job_with id old.jobs → RemovesIf id removed old new
+    → Removes id removed old new
+removes_all id old new removed e r = let jobs = r.0 ∙ of removed e in
+    (jobs, r.1, ap (job_with id) jobs ∙ not_there id old.jobs, r.2)
+  where
+    of : (o : Option Job) → o ≡ job_with id old.jobs → (if is_some o then without id old.jobs else old.jobs) ≡ without id old.jobs
+    of None e = sym (without_none id old.jobs (sym e))
+    of (Some j) e = refl
+
+-- a test that does not depend on the tube
+module _ (k : Numbering) (p : Job → Bool) (no_tube : AsksNoTube p) where
+  passing_of : (o : Option Job) → passing p (option_map (named k) o) ≡ option_map (named k) (passing p o)
+  passing_of None = refl
+  passing_of (Some j) = ap (λ b. cond b (Some (named k j)) None) (no_tube j _) ∙ of (p j)
+    where
+      of : (b : Bool) → cond b (Some (named k j)) None ≡ option_map (named k) (cond b (Some j) None)
+      of true = refl
+      of false = refl
+
+  pub passing_named : (id : ℕ) (rows : List Job) → passing p (job_with id (map (named k) rows))
+      ≡ option_map (named k) (passing p (job_with id rows))
+  passing_named id rows = ap (passing p) (job_named k id rows) ∙ passing_of (job_with id rows)
+
+-- what a report says of one it says of the one that passes
+told_if : {A B C D : Type 0} (t : B → Option C) (f : A → B) (g : D → C) (n : A → D) (p : A → Bool) (o : Option A)
+    → option_and_then t (option_map f o) ≡ option_map g (option_map n o)
+    → option_and_then t (option_map f (passing p o)) ≡ option_map g (option_map n (passing p o))
+told_if t f g n p None e = refl
+told_if t f g n p (Some x) e = of (p x)
+  where
+    of : (b : Bool) → option_and_then t (option_map f (cond b (Some x) None)) ≡ option_map g (option_map n (cond b (Some x) None))
+    of true = e
+    of false = refl
+
+module _ (k l : Numbering) (id : ℕ) (rows : List Job) (h : AreRegistered k rows) (g : IsPaired l) (same : l.numbers ≡ k.numbers)
+    (p : Job → Bool) (no_tube : AsksNoTube p) where
+  pub told_removed_if : option_and_then (removed_told l) (option_map row_removed (passing p (job_with id rows)))
+      ≡ option_map removed_from (passing p (job_with id (map (named k) rows)))
+  told_removed_if =
+      told_if (removed_told l) row_removed removed_from (named k) p (job_with id rows)
+      (told_removed k l id rows h g same ∙ ap (option_map removed_from) (job_named k id rows))
+      ∙ ap (option_map removed_from) (sym (passing_named k p no_tube id rows))
+
+  pub some_told_if : is_some (option_map removed_from (passing p (job_with id (map (named k) rows))))
+      ≡ is_some (option_map row_removed (passing p (job_with id rows)))
+  some_told_if = some_mapped removed_from (passing p (job_with id (map (named k) rows)))
+      ∙ ap is_some (passing_named k p no_tube id rows) ∙ some_mapped (named k) (passing p (job_with id rows))
+      ∙ sym (some_mapped row_removed (passing p (job_with id rows)))
+
+pub registered_if : (k : Numbering) (id : ℕ) (rows : List Job) (b : Bool) → AreRegistered k rows
+    → AreRegistered k (if b then without id rows else rows)
+registered_if k id rows true h = registered_without k id rows h
+registered_if k id rows false h = h
+
+named_if : (k : Numbering) (id : ℕ) (rows : List Job) (b : Bool)
+    → map (named k) (if b then without id rows else rows) ≡ (if b then without id (map (named k) rows) else map (named k) rows)
+named_if k id rows true = sym (without_named k id rows)
+named_if k id rows false = refl
+
+module _ {A B : Type 0} (k : Numbering) (id : ℕ) (rows new old : Kept) (row : Option A) (told : Option B) (is : kept_named rows k ≡ old)
+    (same : is_some told ≡ is_some row) where
+  pub removes_named_if : RemovesIf id row rows new → RemovesIf id told old (kept_named new k)
+  removes_named_if r =
+      subst (λ m. RemovesIf id told m (kept_named new k)) is (
+        ap (map (named k)) r.0 ∙ named_if k id rows.jobs (is_some row)
+            ∙ ap (λ b. if b then without id (map (named k) rows.jobs) else map (named k) rows.jobs) (sym same),
+        r.1 ∙ ap (λ b. rows.room + (if b then 1 else 0)) (sym same),
+        counted_as 4 k rows (kept_named rows k) new refl r.2,
+      )
+
+-- what the search takes for a removal that asks a test
+pub ruleset discards_if = (registered_if, told_removed_if)
