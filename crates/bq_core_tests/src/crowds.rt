@@ -4,6 +4,7 @@ use crate::bench::Bench;
 use crate::come_and_go::come_and_go;
 use crate::play::{Scripts, play};
 use crate::requests::{put, use_tube, watch};
+use crate::staying_tubes::{come_beside, go_on_beside};
 use crate::tubes_in_use::{pass_through_tubes, pause_tubes};
 use bq_job::{Answer, Request, Seat, Step, TubeName};
 use std::alloc::Global;
@@ -31,6 +32,31 @@ static WATCHED_TUBES: Scripts = "0 0 crowd of 10000 watched tubes
     0 0 crowd of 2000 paused tubes
     0 2 stats | 2 ..current-tubes: 1/
     0 2 due never";
+
+// Five tubes are left with their jobs, besides the two that a client keeps and the default tube.
+static TUBES_BESIDE: Scripts = "0 1 use keep-a | 1 USING keep-a
+    0 1 watch keep-a | 1 WATCHING 2
+    0 1 watch keep-b | 1 WATCHING 3
+    0 1 ignore default | 1 WATCHING 2
+    0 0 crowd of 4002 tubes beside others
+    0 2 stats | 2 ..current-jobs-ready: 2/current-jobs-reserved: 3/current-jobs-delayed: 0/current-jobs-buried: 0/
+    0 2 stats | 2 ..current-tubes: 8/
+    0 2 list-tubes | 2 OK 72~---/- default/- keep-a/- keep-b/- t0738/- t0745/- t0752/- t0759/- t0766/
+    0 0 crowd of 10000 tubes beside others
+    0 2 stats | 2 ..current-jobs-ready: 3/current-jobs-reserved: 2/current-jobs-delayed: 0/current-jobs-buried: 0/
+    0 2 stats | 2 ..total-jobs: 20000/
+    0 2 stats | 2 ..current-tubes: 8/
+    0 2 list-tubes | 2 OK 72~---/- default/- keep-a/- keep-b/- t0149/- t0156/- t0163/- t0170/- t0177/
+    0 1 list-tubes-watched | 1 OK 22~---/- keep-a/- keep-b/
+    0 1 put 0 0 9 1~z | 1 INSERTED 20001
+    0 1 peek-ready | 1 FOUND 20001 1~z
+    0 1 reserve | 1 RESERVED 20001 1~z
+    0 1 delete 20001 | 1 DELETED
+    0 1 close | 1 closed
+    0 2 stats | 2 ..current-jobs-ready: 5/current-jobs-reserved: 0/
+    0 2 stats | 2 ..current-tubes: 7/
+    0 0 use default | 0 USING default
+    0 2 list-tubes | 2 OK 54~---/- default/- t0149/- t0156/- t0163/- t0170/- t0177/";
 
 // Puts this many jobs, the first the most urgent, into a core that had none.
 fn put_jobs(alloc: Global, bench: &mut Bench, jobs: u32) -> Result<(), Fail> {
@@ -155,6 +181,8 @@ pub(crate) fn has_come(alloc: Global, bench: &mut Bench, words: &str) -> Result<
         "1200 tubes" => see_tubes(alloc, bench)?,
         "3000 tubes in turn" => come_and_go(alloc, bench)?,
         "10000 watched tubes" => pass_through_tubes(alloc, bench)?,
+        "4002 tubes beside others" => come_beside(alloc, bench)?,
+        "10000 tubes beside others" => go_on_beside(alloc, bench)?,
         "2000 paused tubes" => pause_tubes(alloc, bench)?,
         "250 watchers" => watch_all(bench, 250, false)?,
         "250 waiters" => watch_all(bench, 250, true)?,
@@ -171,6 +199,11 @@ fn tubes_come_and_go(rt: HostRuntime) -> Result<(), Fail> {
 #[test]
 fn tubes_in_use(rt: HostRuntime) -> Result<(), Fail> {
     play(rt.alloc(), WATCHED_TUBES)
+}
+
+#[test]
+fn tubes_beside_others(rt: HostRuntime) -> Result<(), Fail> {
+    play(rt.alloc(), TUBES_BESIDE)
 }
 
 #[test]

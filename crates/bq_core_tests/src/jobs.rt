@@ -3,9 +3,11 @@
 mod bodies;
 mod boxes;
 mod firsts;
+mod handles;
 mod many_jobs;
 mod named;
 mod numbers;
 mod putting;
 mod shelves;
 mod states;
+mod table;

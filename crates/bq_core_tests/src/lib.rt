@@ -13,6 +13,8 @@ mod crowds;
 #[cfg(test)]
 mod each_answer;
 #[cfg(test)]
+mod given_again;
+#[cfg(test)]
 mod holders;
 #[cfg(test)]
 mod jobs;
@@ -32,6 +34,8 @@ mod requests;
 mod requeue;
 #[cfg(test)]
 mod statistics;
+#[cfg(test)]
+mod staying_tubes;
 #[cfg(test)]
 mod texts;
 #[cfg(test)]
