@@ -1,22 +1,20 @@
 -- What each event at a seat does, if its seat is known.
-use Rattle.std.proofs.Common.{◌++◌, ◌+◌, ◌==◌, ◌∙◌, ◌∷◌, ◌≡◌, if◌then◌else◌, Bool, List, None, Option, Some, [], ℕ}
-use Rattle.std.proofs.Common.{ap, append-nil, arith, false, filter, is_some, length, map, nat_le, not, refl, set, slice_get, suc}
-use Rattle.std.proofs.{Common.{sym, true, zero}, lemmas.{Bool.{and_parts, cases_Bool, eqb-true}, Grind.common_steps}, Math.Bool.or-false}
-use Rattle.std.specs.List.{list_any}
-use Rattle.bq_job.specs.declared.{answer.Answer.Answer, job.Job.Job, request.Request.Request, step.Step.Step}
-use Rattle.bq_job.specs.machine.{SeatRecord, after_close, after_connect, ask_effect, asked, at_found, effect}
-use Rattle.bq_job.specs.machine.{end_effect, ignore_effect, is_full, is_reserved, job_with, last_id, new_job}
-use Rattle.bq_job.specs.machine.{put_effect, raised, reserve_job_effect, reserved_by, seat_with, step_takes_memory, takes_memory, telling}
-use Rattle.bq_job.specs.machine.{watch_effect, watches, watching, with_end, with_job, with_put, with_seat}
-use Rattle.bq_job.specs.{machine.{with_tube, Machine.Machine}, reading.TubeName.is_same_name}
+use Rattle.std.proofs.Common.{Bool, List, None, Option, Some, [], ap, append-nil, arith, false, filter, if◌then◌else◌, is_some, length, map}
+use Rattle.std.proofs.Common.{nat_le, not, refl, set, slice_get, suc, sym, true, zero, ℕ, ◌++◌, ◌+◌, ◌==◌, ◌∙◌, ◌∷◌, ◌≡◌}
+use Rattle.std.{proofs.{Math.Bool.or-false, lemmas.{Bool.{and_parts, cases_Bool, eqb-true}, Grind.common_steps}}, specs.List.list_any}
+use Rattle.bq_core.specs.{Acting.{Acts, Replies}, declared.acts.Reply.Reply}
+use Rattle.bq_core_api.specs.Outbox.{Outbox}
+use Rattle.bq_job.{proofs.ListLemmas.found_passes, specs.declared.{answer.Answer.Answer, job.Job.Job, request.Request.Request}}
+use Rattle.bq_job.specs.{declared.step.Step.Step, machine.{SeatRecord, after_close, after_connect, ask_effect, asked, at_found, effect}}
+use Rattle.bq_job.specs.machine.{end_effect, ignore_effect, is_full, is_reserved, job_with, last_id, new_job, put_effect, raised}
+use Rattle.bq_job.specs.machine.{reserve_job_effect, reserved_by, seat_with, step_takes_memory, takes_memory, telling, watch_effect}
+use Rattle.bq_job.specs.machine.{Machine.Machine, watches, watching, with_end, with_job, with_put, with_seat, with_tube}
+use Rattle.bq_job.specs.reading.TubeName.{is_same_name}
+use Rattle.bq_jobs.proofs.Changes.{found_id}
+use Rattle.bq_state.{proofs.{PartsLemmas.{changed_there, seat_there}, TubeLemmas.some_left}, specs.JobChanges.is_passed_by}
+use Rattle.bq_state.specs.{SeatChanges.AreNumbered, SeatStates.{is_asking, is_connected, is_free}}
 use Rattle.bq_job.specs.declared.answer.Answer.TheVariants as answers
 use Rattle.bq_job.specs.declared.step.Step.TheVariants as steps
-use Rattle.bq_job.proofs.ListLemmas.{found_passes}
-use Rattle.bq_core_api.specs.Outbox.{Outbox}
-use Rattle.bq_jobs.proofs.Changes.{found_id}
-use Rattle.bq_state.specs.{JobChanges.is_passed_by, SeatChanges.AreNumbered, SeatStates.{is_asking, is_connected, is_free}}
-use Rattle.bq_state.proofs.{PartsLemmas.{changed_there, seat_there}, TubeLemmas.some_left}
-use Rattle.bq_core.specs.{Acting.{Acts, Replies}, declared.acts.Reply.Reply}
 
 pub number_found : (n : ℕ) (seats : List SeatRecord) (s : SeatRecord) → seat_with n seats ≡ Some s → s.number ≡ n
 number_found n seats s h = eqb-true s.number n (found_passes (λ s. s.number == n) seats s h).0
@@ -62,10 +60,10 @@ same_set (y ∷ xs) (suc i) x h = ap (λ ys. y ∷ ys) (same_set xs i x h)
 pub watched_already : (m : Machine) (s : SeatRecord) (seat : ℕ) (tube : List ℕ) → AreNumbered m.seats → seat_with seat m.seats ≡ Some s
     → watches tube s ≡ true → watch_effect tube m s ≡ telling (answers.Watching (length s.watched)) m
 watched_already m s seat tube numbered found h =
-    let at : s.number ≡ seat = number_found seat m.seats s found in
-    let there = seat_there m.seats seat s numbered found in
+    let at : s.number ≡ seat = number_found _ _ _ found in
+    let there = seat_there _ _ _ numbered found in
     let same : map (λ t. if t.number == seat then watching s.watched t else t) m.seats ≡ m.seats =
-    changed_there m.seats seat s (watching s.watched) numbered there ∙ same_set m.seats seat s there in
+    changed_there _ _ _ _ numbered there ∙ same_set _ _ _ there in
     rw (h, at) (ap (λ seats. telling (answers.Watching (length s.watched)) (record m { seats = seats })) same)
 
 pub watched_now : (m : Machine) (s : SeatRecord) (seat : ℕ) (tube : List ℕ) → seat_with seat m.seats ≡ Some s → watches tube s ≡ false

@@ -1,14 +1,11 @@
 -- Sums of searches.
-use Rattle.std.proofs.Common.{◌*◌, ◌+◌, ◌<◌, ◌≡◌, ◌≤◌, List, ℕ, ap, arith, get_or, length, max, refl, subst, sym, take}
-use Rattle.std.proofs.{lemmas.{Grind.common_steps, List.Sums.sum_by_more, Nat.mul-le}, Math.Nat.add-mul}
-use Rattle.std.specs.List.{sum_by}
-use Rattle.bq_index.specs.Digits.{binary_digits}
+use Rattle.std.proofs.{Common.{List, ap, arith, get_or, length, max, refl, take, ℕ, ◌*◌, ◌+◌, ◌<◌, ◌≡◌, ◌≤◌}, Math.Nat.add-mul}
+use Rattle.std.{proofs.lemmas.{Grind.common_steps, Nat.mul-le}, specs.List.sum_by}
 use Rattle.bq_core_api.specs.Cost.{changed_jobs}
-use Rattle.bq_jobs.specs.Kept.{ComparesAtMost, Kept}
-use Rattle.bq_index.proofs.Bound.{digits_rise}
-use Rattle.bq_jobs.specs.Searching.{Asks}
-use Rattle.bq_state.specs.Asking.{AsksAsChanged, AsksWithin, search_among}
+use Rattle.bq_index.{proofs.Bound.digits_rise, specs.Digits.binary_digits}
+use Rattle.bq_jobs.specs.{Kept.{ComparesAtMost, Kept}, Searching.Asks}
 use Rattle.bq_state.proofs.{DueLemmas.warnings_walked, WaitingLemmas.turns_counted, WarningLemmas.{none_due, one_due, one_waits}}
+use Rattle.bq_state.specs.Asking.{AsksAsChanged, AsksWithin, search_among}
 
 -- among more jobs, a search takes at least as many comparisons
 pub search_grows : (i j : ℕ) → i ≤ j → search_among i ≤ search_among j
@@ -26,8 +23,7 @@ asks_then {n = n} {k = k} {first = first} {between = between} {last = last} a b 
 -- a turn of a loop with one search for each element that passes
 pub asks_summed : {A : Type 0} (f : A → ℕ) (xs : List A) (i : ℕ) (d : A) {first between last : Kept} → i < length xs
     → Asks (sum_by f (take i xs)) first between → Asks (f (get_or xs i d)) between last → Asks (sum_by f (take (i + 1) xs)) first last
-asks_summed f xs i d {first = first} {last = last} fits a b = subst (λ n. Asks n first last)
-    (sym (sum_by_more f xs i d fits)) (asks_then a b)
+asks_summed f xs i d {first = first} {last = last} fits a b = grind (arith, common_steps)
 
 -- this many searches are no more than more of them
 pub asks_more : {n : ℕ} (k : ℕ) {old new : Kept} → n ≤ k → Asks n old new → Asks k old new
@@ -45,9 +41,8 @@ pub asked_before : (n k : ℕ) {old between new : Kept} → n + k ≤ 10 → Ask
     → AsksAsChanged old new
 asked_before n k {old = old} {between = between} {new = new} few a b =
     let s = search_among (length old.jobs) in
-    let most = max (length old.jobs) (length new.jobs) in
-    let t = search_among most in
+    let t = search_among (max (length old.jobs) (length new.jobs)) in
     let all = 9 * changed_jobs old.jobs new.jobs + 10 in
     let same : k * search_among (length between.jobs) ≡ k * s = ap (λ i. k * search_among i) a.many in
-    let sum : (n + k) * s ≤ all * t = mul-le (n + k) s all t (omega arith) (search_grows (length old.jobs) most (omega arith)) in
+    let sum : (n + k) * s ≤ all * t = mul-le (n + k) s all t (omega arith) (search_grows _ _ (omega arith)) in
     record { stays = omega (arith, a.stays, b.0); rise = omega (arith, a.rise, b.1, same, sum, add-mul n k s) }

@@ -1,29 +1,27 @@
 -- A reserve that is given a job at once has the result of its wait and of one turn of dispatch.
-use Rattle.std.proofs.Common.{◌&&◌, ◌+◌, ◌++◌, ◌-◌, ◌==◌, ◌*◌, ◌∙◌, ◌∷◌, ◌≡◌, ◌≤◌, if◌then◌else◌, Bool, List, None, Option, Some}
-use Rattle.std.proofs.{Common.{[], ℕ, ap, arith, false, inl, inr, is_some, length, map, max, not, refl, subst, sym, true}, Math.Nat.add-mul}
-use Rattle.std.proofs.lemmas.{Bool.{and_parts, cases_Bool, eqb-true}, List.length-append, Nat.mul-le}
-use Rattle.std.specs.{List.{AllByRecursion as All, list_any}, Prelude.{Ok, fold, option_map}}
-use Rattle.bq_job.specs.declared.{job.Job.Job, step.Step.Step}
-use Rattle.bq_job.specs.machine.{DispatchTurn, SeatRecord, effect, has_refused_share, is_paused, is_waiting, is_waiting_for}
-use Rattle.bq_job.specs.machine.{job_with, later, next_job, next_seat, raised, reserved_by, seat_with}
-use Rattle.bq_job.specs.machine.{silent, waiting_from, with_job, with_seat, without_wait, Machine.Machine}
+use Rattle.std.proofs.Common.{Bool, List, None, Option, Some, [], ap, arith, false, if◌then◌else◌, inl, inr, length, map, not, refl, sym}
+use Rattle.std.proofs.{Common.{true, ℕ, ◌&&◌, ◌*◌, ◌++◌, ◌+◌, ◌==◌, ◌∙◌, ◌∷◌, ◌≡◌, ◌≤◌}, Math.Nat.add-mul, lemmas.Bool.and_parts}
+use Rattle.std.{proofs.lemmas.{Bool.{cases_Bool, eqb-true}, Grind.common_steps, Nat.mul-le}, specs.List.{AllByRecursion as All, list_any}}
+use Rattle.std.specs.Prelude.{Ok, fold, option_map}
+use Rattle.bq_core.proofs.{ActLemmas.{acts_silent, number_found}, AskLemmas.{asks_more, search_grows}, CostLemmas.given_length}
+use Rattle.bq_core.proofs.DispatchLemmas.{id_of_best, next_is, next_offer, next_there, seat_at_tube, some_at_tube, taker_known}
+use Rattle.bq_core.proofs.{DispatchLemmas.takers_known, SearchLemmas.{client_entries, client_waits, rank_agrees}, StepLemmas.waiting_alike}
+use Rattle.bq_core.{proofs.TurnLemmas.{shared_given, turn_given}, specs.{AtOnce.{ActsOrGives, is_reserve, waiting_at}, Serving.NoneIsGone}}
+use Rattle.bq_core.specs.Turns.{Gives}
+use Rattle.bq_core_api.specs.{Cost.changed_jobs, Outbox.Outbox}
+use Rattle.bq_job.{proofs.{KeptLemmas.only_seat, QuietLemmas.forgets_nothing}, specs.declared.{job.Job.Job, step.Step.Step}}
+use Rattle.bq_job.specs.machine.{DispatchTurn, SeatRecord, effect, has_refused_share, is_paused, is_waiting, is_waiting_for, job_with}
+use Rattle.bq_job.specs.machine.{later, next_job, next_seat, raised, reserved_by, seat_with, silent, waiting_from, with_job, with_seat}
+use Rattle.bq_job.specs.machine.{Machine.Machine, without_wait}
+use Rattle.bq_jobs.specs.{Kept.Kept, Searching.Asks, Seen.IsBodyOf}
+use Rattle.bq_state.proofs.{PartsLemmas.numbered_after, TubeLemmas.paused_is, WantedLemmas.{known_nothing, known_of_seat, none_known}}
+use Rattle.bq_state.specs.{Asking.{AsksAsChanged, AsksWithin}, CoreParts.machine_of, Cost.waited, Offers.{next_rank, with_offer}}
+use Rattle.bq_state.specs.{SeatChanges.AreNumbered, SeatStates.is_asking, WantedJobs.{AreKnown, is_nothing}}
+use Rattle.bq_state.specs.declared.{core_parts.CoreParts.CoreParts, known.wanted.Wanted.TheVariants.{Client, Nothing}}
+use Rattle.bq_state.specs.declared.seats.SeatChange.TheVariants.{Wait}
 use Rattle.bq_job.specs.declared.answer.Answer.TheVariants as answers
 use Rattle.bq_job.specs.declared.request.Request.TheVariants as requests
 use Rattle.bq_job.specs.declared.step.Step.TheVariants as steps
-use Rattle.bq_job.proofs.{KeptLemmas.only_seat, QuietLemmas.forgets_nothing}
-use Rattle.bq_core_api.specs.{Cost.changed_jobs, Outbox.Outbox}
-use Rattle.bq_jobs.specs.{Kept.Kept, Seen.IsBodyOf}
-use Rattle.bq_state.specs.declared.{core_parts.CoreParts.CoreParts, known.wanted.Wanted.TheVariants.{Client, Nothing}}
-use Rattle.bq_state.specs.declared.{seats.SeatChange.TheVariants.Wait}
-use Rattle.bq_jobs.specs.Searching.{Asks}
-use Rattle.bq_state.specs.{Asking.{AsksAsChanged, AsksWithin, search_among}, CoreParts.machine_of, Cost.waited}
-use Rattle.bq_state.specs.{Offers.{next_rank, with_offer}, SeatChanges.AreNumbered, SeatStates.is_asking, WantedJobs.{AreKnown, is_nothing}}
-use Rattle.bq_state.proofs.{PartsLemmas.numbered_after, WantedLemmas.{known_nothing, known_of_seat, none_known}, TubeLemmas.paused_is}
-use Rattle.bq_core.specs.{AtOnce.{ActsOrGives, is_reserve, waiting_at}, Serving.NoneIsGone, Turns.Gives}
-use Rattle.bq_core.proofs.{ActLemmas.{acts_silent, number_found}, AskLemmas.{asks_more, search_grows}, CostLemmas.given_length}
-use Rattle.bq_core.proofs.{DispatchLemmas.{id_of_best, next_is, next_offer, next_there}, TurnLemmas.{shared_given, turn_given}}
-use Rattle.bq_core.proofs.DispatchLemmas.{seat_at_tube, some_at_tube, taker_known, takers_known}
-use Rattle.bq_core.proofs.{SearchLemmas.{client_entries, client_waits, rank_agrees}, StepLemmas.waiting_alike}
 
 -- what a reserve does
 record Reserves (m : Machine) (seat : ℕ) (what : Step) : Type 0 where
@@ -32,20 +30,13 @@ record Reserves (m : Machine) (seat : ℕ) (what : Step) : Type 0 where
 
 reserves : (m : Machine) (seat : ℕ) (s : SeatRecord) → seat_with seat m.seats ≡ Some s → (s.connected && not (is_waiting s)) ≡ true
     → (what : Step) → is_reserve what ≡ true → Reserves m seat what
-reserves m seat s at asking (steps.Ask requests.Reserve) e = record {
-  until = None;
-  is = rw at (rw asking (ap (λ n. silent (waiting_at n None m)) (number_found seat m.seats s at)));
-}
+reserves m seat s at asking (steps.Ask requests.Reserve) e = grind (arith, common_steps, number_found)
 reserves m seat s at asking (steps.Ask (requests.ReserveWithTimeout seconds)) e = record {
   until = Some (later m.moment seconds);
   is = rw at (rw asking (ap (λ n. silent (waiting_at n (Some (later m.moment seconds)) m)) (number_found seat m.seats s at)));
 }
 reserves m seat s at asking (steps.Ask request) e = absurd cc
 reserves m seat s at asking what e = absurd cc
-
-none_by : {A : Type 0} (o : Option A) → is_some o ≡ false → o ≡ None
-none_by None e = refl
-none_by (Some a) e = absurd cc
 
 -- the seat once its client waits, and once it waits no longer
 module _ (seat : ℕ) (s : SeatRecord) (ticket : ℕ) (until : Option ℕ) where
@@ -62,16 +53,7 @@ module _ (seat : ℕ) (s : SeatRecord) (ticket : ℕ) (until : Option ℕ) where
       → map (λ t. if t.number == seat then without_wait t else t)
       (map (λ t. if t.number == seat then waiting_from ticket until t else t) seats) ≡ seats
   unset awake [] all = refl
-  unset awake (t ∷ seats) all = elim (cases_Bool (t.number == seat)) [
-    | inl e ↦
-        let same = all.0 (eqb-true t.number seat e) in
-        let none : t.wait ≡ None = none_by t.wait (ap is_waiting same ∙ awake) in
-        rw (e, e)
-        (ap (λ x. record t { wait = x } ∷ map (λ t. if t.number == seat then without_wait t else t)
-        (map (λ t. if t.number == seat then waiting_from ticket until t else t) seats)) (sym none)
-        ∙ ap (λ ts. t ∷ ts) (unset awake seats all.1))
-    | inr e ↦ rw (e, e) (ap (λ ts. t ∷ ts) (unset awake seats all.1))
-  ]
+  unset awake (t ∷ seats) all = grind (arith, common_steps, cases_Bool, eqb-true, unset awake seats all.1)
 
 module _ (st : CoreParts) (seat : ℕ) (s : SeatRecord) (at : seat_with seat st.seats.items ≡ Some s) (awake : is_waiting s ≡ false)
     (quiet : is_nothing st.known.wanted ≡ true) (until : Option ℕ) where
@@ -96,10 +78,8 @@ module _ (st : CoreParts) (seat : ℕ) (s : SeatRecord) (at : seat_with seat st.
 
   -- what its tubes offer is the next job
   rank : fold (with_offer st.jobs.jobs st.tubes.entries) None s.watched ≡ next_rank then_waits
-  rank =
-      next_offer m.next_id m.jobs st.sound.ids st.tubes.entries (λ name. is_paused name m)
-      (λ name. sym (paused_is name st.tubes.entries st.sound.entries.order st.sound.entries.fresh)) then_waits
-      (λ name. refl) (client ∷ [])
+  rank = next_offer m.next_id m.jobs st.sound.ids st.tubes.entries (λ name. is_paused name m)
+      (λ name. sym (paused_is name st.tubes.entries st.sound.entries.order st.sound.entries.fresh)) then_waits (λ name. refl) (client ∷ [])
       ∙ sym (rank_agrees then_waits (λ j. list_any (is_waiting_for then_waits j) (client ∷ []))
       (client_waits then_waits seat (Some client) numbered found known))
 
@@ -109,10 +89,8 @@ module _ (st : CoreParts) (seat : ℕ) (s : SeatRecord) (at : seat_with seat st.
     next = first ∙ ap (option_map (λ (r : ℕ × ℕ). r.1)) rank ∙ id_of_best (next_job then_waits)
 
     picked : (j : Job) → next_job then_waits ≡ Some j → Some seat ≡ option_map (λ (t : SeatRecord). t.number) (next_seat then_waits j)
-    picked j e =
-        taker_known seat (Client seat) j.tube then_waits.seats refl (some_at_tube then_waits j e)
-        (takers_known then_waits (Client seat) j e known)
-        ∙ ap (option_map (λ (t : SeatRecord). t.number)) (seat_at_tube then_waits j e)
+    picked j e = taker_known _ _ _ _ refl (some_at_tube then_waits j e)
+        (takers_known then_waits (Client seat) j e known) ∙ ap (option_map (λ (t : SeatRecord). t.number)) (seat_at_tube then_waits j e)
 
     body_of : (body : List ℕ) → IsBodyOf (job_with id m.jobs) body → (j : Job) → next_job then_waits ≡ Some j → body ≡ j.body
     body_of body is j e = of (job_with id m.jobs) refl
@@ -127,17 +105,14 @@ module _ (st : CoreParts) (seat : ℕ) (s : SeatRecord) (at : seat_with seat st.
     -- the machine once the client holds the job is the one after a turn of dispatch
     handed : (last : Machine) → last ≡ record (with_job id (reserved_by st.moment seat) m) { tickets = raised st.tickets }
         → last ≡ with_seat seat without_wait (with_job id (reserved_by then_waits.moment seat) then_waits)
-    handed last is =
-        is ∙ ap (λ seats. record (with_job id (reserved_by st.moment seat) m) { tickets = raised st.tickets; seats = seats })
-        (sym (unset seat s (raised st.tickets) until awake st.seats.items
-        (only_seat 0 (length st.seats.items) seat st.seats.items s st.sound.numbered at)))
+    handed last is = is ∙ ap (λ seats. record (with_job id (reserved_by st.moment seat) m) { tickets = raised st.tickets; seats = seats })
+        (sym (unset _ _ _ _ awake _ (only_seat _ _ _ _ _ st.sound.numbered at)))
 
     turn : (body : List ℕ) (old new : Outbox) (last : Machine) → IsBodyOf (job_with id m.jobs) body
         → last ≡ record (with_job id (reserved_by st.moment seat) m) { tickets = raised st.tickets }
         → new ≡ record old { given = old.given ++ (seat, answers.Reserved id body) ∷ [] }
         → Gives DispatchTurn has_refused_share then_waits last old new
-    turn body old new last is after told =
-        turn_given then_waits id next seat picked (Ok body) (body_of body is) old new last
+    turn body old new last is after told = turn_given then_waits id next seat picked (Ok body) (body_of body is) old new last
         (λ j t i n b. shared_given then_waits last id seat body j t old new i n b (handed last after) told)
 
   -- the client's tubes are among those that are waited at
@@ -146,8 +121,7 @@ module _ (st : CoreParts) (seat : ℕ) (s : SeatRecord) (at : seat_with seat st.
 
 one_given : (outs new : Outbox) (seat id : ℕ) (body : List ℕ)
     → new ≡ record outs { given = outs.given ++ (seat, answers.Reserved id body) ∷ [] } → length new.given ≡ length outs.given + 1
-one_given outs new seat id body told = ap (λ (o : Outbox). length o.given) told
-    ∙ length-append outs.given ((seat, answers.Reserved id body) ∷ [])
+one_given outs new seat id body told = grind (arith, common_steps)
 
 -- a seat whose client can ask
 pub record Asking (seat : ℕ) (seats : List SeatRecord) : Type 0 where
@@ -156,11 +130,7 @@ pub record Asking (seat : ℕ) (seats : List SeatRecord) : Type 0 where
   pub asks : (client.connected && not (is_waiting client)) ≡ true
 
 pub asking_client : (seat : ℕ) (seats : List SeatRecord) → is_asking (seat_with seat seats) ≡ true → Asking seat seats
-asking_client seat seats h = of (seat_with seat seats) refl h
-  where
-    of : (o : Option SeatRecord) → seat_with seat seats ≡ o → is_asking o ≡ true → Asking seat seats
-    of None at h = absurd cc
-    of (Some s) at h = record { client = s; at = at; asks = h }
+asking_client seat seats h = grind (arith, common_steps)
 
 -- A client that reserves while no waiting client may have a job is given the job that its tubes offer.
 pub given_at_once : (st : CoreParts) (seat id : ℕ) (what : Step) (body : List ℕ) (old new : Outbox) (last : Machine) (after : Kept)
@@ -174,26 +144,28 @@ pub given_at_once : (st : CoreParts) (seat id : ℕ) (what : Step) (body : List 
 given_at_once st seat id what body old new last after s reserve quiet at asking first is none after_is told few =
     let m = machine_of st in
     let awake = not_false (is_waiting s) ((and_parts s.connected (not (is_waiting s)) asking).1) in
-    let r = reserves m seat s at asking what reserve in
+    let r = reserves _ _ _ at asking what reserve in
     let left = waiting_at seat r.until m in
     let gives = turn st seat s at awake quiet r.until id first body old new last is after_is told in
-    let long = given_length DispatchTurn has_refused_share left last old new gives in
-    let one = one_given old new seat id body told in
-    let many : length gives.given ≡ 1 = omega (arith, long, one) in
+    let many : length gives.given ≡ 1 = omega (
+      arith,
+      (given_length DispatchTurn has_refused_share left last old new gives),
+      (one_given _ _ _ _ _ told),
+    ) in
     record {
       acted_machine = left;
       left = left;
       told = old;
       comparisons = st.jobs.comparisons;
-      acts = acts_silent m seat what old left r.is;
-      forgotten = sym (forgets_nothing left (waiting_alike m seat r.until none));
+      acts = acts_silent _ _ _ _ _ r.is;
+      forgotten = sym (forgets_nothing _ (waiting_alike m seat r.until none));
       turns = gives;
       asks = record { stays = omega arith; rise = omega arith };
       asks_then =
           let less : length s.watched + 9 ≤ length gives.given * (waited left + 9) =
           (let w = watched_few st seat s at awake quiet r.until in let p = ap (λ n. n * (waited left + 9)) many in
           omega (arith, w, p)) in
-          let a = asks_more (length gives.given * (waited left + 9)) less few in
+          let a = asks_more _ less few in
           record { many = a.many; stays = a.stays; rise = a.rise };
     }
   where
@@ -204,14 +176,4 @@ given_at_once st seat id what body old new last after s reserve quiet at asking 
 -- What is asked by a look that finds no job, and then by the command itself.
 pub looked_then : (before between after : Kept) → Asks 9 before between → between.jobs ≡ before.jobs → AsksAsChanged between after
     → AsksWithin (9 * changed_jobs before.jobs after.jobs + 20) before after
-looked_then before between after a same b =
-    let s = search_among (length before.jobs) in
-    let t = search_among (max (length before.jobs) (length after.jobs)) in
-    let c = changed_jobs before.jobs after.jobs in
-    let few : 9 * s ≤ 9 * t = mul-le 9 s 9 t (omega arith)
-    (search_grows (length before.jobs) (max (length before.jobs) (length after.jobs)) (omega arith)) in
-    let rise : after.comparisons ≤ between.comparisons + (9 * c + 10) * t =
-    subst (λ jobs. after.comparisons ≤ between.comparisons + (9 * changed_jobs jobs after.jobs + 10) * search_among
-    (max (length jobs) (length after.jobs))) same b.rise in
-    let sum : (9 + (9 * c + 10)) * t ≤ (9 * c + 20) * t = mul-le (9 + (9 * c + 10)) t (9 * c + 20) t (omega arith) (omega arith) in
-    record { stays = omega (arith, a.stays, b.stays); rise = omega (arith, a.rise, rise, few, sum, add-mul 9 (9 * c + 10) t) }
+looked_then before between after a same b = grind (arith, common_steps, mul-le, search_grows, add-mul)

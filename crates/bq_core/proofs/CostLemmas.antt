@@ -1,17 +1,17 @@
 -- The searches of the parts of a step, in terms of the machine.
-use Rattle.std.proofs.Common.{◌&&◌, ◌*◌, ◌+◌, ◌-◌, ◌<◌, ◌==◌, ◌∙◌, ◌∷◌, ◌≡◌, ◌≤◌, if◌then◌else◌, Bool}
-use Rattle.std.proofs.Common.{List, Some, [], ℕ, ap, arith, false, length, map, not, suc, true}
-use Rattle.std.proofs.{lemmas.{Bool.and_parts, Grind.common_steps, List.{length-append, Sums.sum_by-cons}, Nat.mul-le}, Math.Nat.suc-mul}
-use Rattle.std.specs.{List.{AllByRecursion as All, list_any, sum_by}, Prelude.{count_by, option_map}}
-use Rattle.bq_job.specs.machine.{Chain, DispatchTurn, GivenAnswer, IsHandOut, SeatRecord, WaitEndTurn, given_back}
-use Rattle.bq_job.specs.machine.{is_held_by, is_reserved, job_with, kicked, with_seat, without_wait, Machine.Machine}
-use Rattle.bq_job.specs.{beside.{AreIdsWithin, waiting_count}, declared.job.{Job.Job, JobState.JobState}}
-use Rattle.bq_job.specs.declared.job.JobState.TheVariants as states
-use Rattle.bq_job.proofs.{DispatchLemmas.turn_of, LawfulLemmas.end_of, ListLemmas.count_cons, LookupLemmas.job_in_map}
-use Rattle.bq_core_api.specs.{Cost.{changed_jobs, is_gone_or_changed, is_same_job, tubes_watched}, Outbox.Outbox}
-use Rattle.bq_jobs.proofs.Changes.{all_found}
-use Rattle.bq_state.specs.{Cost.waited_tubes, declared.job_store.JobKind.JobKind, JobKinds.is_of}
+use Rattle.std.proofs.Common.{Bool, List, Some, [], ap, arith, false, if◌then◌else◌, length, map, not, suc, true, ℕ, ◌&&◌, ◌*◌, ◌+◌, ◌-◌}
+use Rattle.std.proofs.{Common.{◌<◌, ◌==◌, ◌∙◌, ◌∷◌, ◌≡◌, ◌≤◌}, Math.Nat.suc-mul, lemmas.{Bool.and_parts, Grind.common_steps}}
+use Rattle.std.{proofs.lemmas.{List.{Sums.sum_by-cons, length-append}, Nat.mul-le}, specs.List.{AllByRecursion as All, list_any, sum_by}}
+use Rattle.std.specs.Prelude.{count_by, option_map}
 use Rattle.bq_core.specs.{Kicking.all_kicked, Turns.Gives}
+use Rattle.bq_core_api.specs.{Cost.{changed_jobs, is_gone_or_changed, is_same_job, tubes_watched}, Outbox.Outbox}
+use Rattle.bq_job.proofs.{DispatchLemmas.turn_of, LawfulLemmas.end_of, ListLemmas.count_cons, LookupLemmas.job_in_map}
+use Rattle.bq_job.specs.{beside.{AreIdsWithin, waiting_count}, declared.job.{Job.Job, JobState.JobState}, machine.{Chain, DispatchTurn}}
+use Rattle.bq_job.specs.machine.{GivenAnswer, IsHandOut, SeatRecord, WaitEndTurn, given_back, is_held_by, is_reserved, job_with, kicked}
+use Rattle.bq_job.specs.machine.{Machine.Machine, with_seat, without_wait}
+use Rattle.bq_jobs.proofs.Changes.{all_found}
+use Rattle.bq_state.specs.{Cost.waited_tubes, JobKinds.is_of, declared.job_store.JobKind.JobKind}
+use Rattle.bq_job.specs.declared.job.JobState.TheVariants as states
 
 -- if no change increases an element, the sum does not grow
 pub sum_falls : {X : Type 0} (f : X → ℕ) (g : X → X) → ((x : X) → f (g x) ≤ f x) → (xs : List X) → sum_by f (map g xs) ≤ sum_by f xs
@@ -37,8 +37,7 @@ module _ (f : SeatRecord → ℕ) (less : (s : SeatRecord) → f (without_wait s
   pub ended_stop : (first : Machine) (given : List GivenAnswer) (last : Machine) → Chain WaitEndTurn first given last
       → sum_by f last.seats ≤ sum_by f first.seats
   ended_stop first [] last chain = rw chain (omega arith)
-  ended_stop first (g ∷ given) last chain =
-      grind (arith, common_steps, end_of, stops, ended_stop chain.0 given last chain.2)
+  ended_stop first (g ∷ given) last chain = grind (arith, common_steps, end_of, stops, ended_stop chain.0 given last chain.2)
 
 pub waited_less : (s : SeatRecord) → waited_tubes (without_wait s) ≤ waited_tubes s
 waited_less s = omega arith
@@ -73,9 +72,7 @@ module _ (f : Job → Job) (keeps : (j : Job) → (f j).id ≡ j.id) (q : Job �
   counted_among new (j ∷ jobs) all = grind (arith, common_steps, count_cons, other, counted_among new jobs all.1)
 
   pub changed_of : (low next : ℕ) (jobs : List Job) → AreIdsWithin low jobs next → count_by q jobs ≤ changed_jobs jobs (map f jobs)
-  changed_of low next jobs ids =
-      let few = counted_among (map f jobs) jobs (each jobs (all_found low next jobs ids)) in
-      omega (arith, few)
+  changed_of low next jobs ids = omega (arith, (counted_among (map f jobs) jobs (each jobs (all_found _ _ _ ids))))
     where
       each : (ks : List Job) → All (λ j. job_with j.id jobs ≡ Some j) ks → All (λ j. job_with j.id (map f jobs) ≡ Some (f j)) ks
       each [] all = tt
@@ -84,13 +81,7 @@ module _ (f : Job → Job) (keeps : (j : Job) → (f j).id ≡ j.id) (q : Job �
 -- the jobs that a client loses are changed
 pub given_back_changed : (state : JobState) (seat low next : ℕ) (jobs : List Job) → is_reserved state ≡ false → AreIdsWithin low jobs next
     → count_by (is_held_by seat) jobs ≤ changed_jobs jobs (map (given_back state seat) jobs)
-given_back_changed state seat low next jobs free ids = changed_of (given_back state seat) keeps (is_held_by seat) other low next jobs ids
-  where
-    keeps : (j : Job) → (given_back state seat j).id ≡ j.id
-    keeps j = grind (arith, common_steps)
-
-    other : (j : Job) → is_held_by seat j ≡ true → is_same_job j (given_back state seat j) ≡ false
-    other j h = grind (arith, common_steps)
+given_back_changed state seat low next jobs free ids = grind (arith, common_steps, changed_of)
 
 -- what no longer passes was counted once
 passing_apart : (p : Job → Bool) (f : Job → Job) (jobs : List Job)
@@ -115,5 +106,4 @@ module _ (kind : JobKind) (tube : List ℕ) (out : (k : Job) → is_of kind tube
       → n ≤ changed_jobs jobs (all_kicked chosen jobs)
   kicked_changed low next n jobs ids few =
       let f = λ (j : Job). if list_any (λ k. k.id == j.id) chosen then kicked j else j in
-      let q = λ (j : Job). is_of kind tube j && not (is_of kind tube (f j)) in
-      omega (arith, passing_apart (is_of kind tube) f jobs, changed_of f kept_id q other low next jobs ids)
+      omega (arith, passing_apart (is_of kind tube) f jobs, changed_of _ kept_id _ other _ _ _ ids)

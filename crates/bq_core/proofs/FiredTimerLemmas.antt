@@ -1,24 +1,19 @@
 -- Timers of jobs fire one after another, and jobs are released one after another.
-use Rattle.std.proofs.Common.{◌&&◌, ◌+◌, ◌-◌, ◌<◌, ◌==◌, ◌||◌, ◌∙◌, ◌∷◌, ◌≡◌, ◌≤◌, if◌then◌else◌, Bool, List, None, Option}
-use Rattle.std.proofs.Common.{Some, [], ℕ, ap, arith, false, inl, inr, is_some, map, min, refl, suc, sym, true}
-use Rattle.std.proofs.lemmas.{Bool.{cases_Bool, eqb-true, Decides.nat_tests}, Grind.common_steps}
-use Rattle.std.specs.{List.{AllByRecursion as All, list_any}, Prelude.{count_by, nat_le, option_map}}
-use Rattle.bq_job.specs.machine.{SeatRecord, due_of, ends_waiting, first_of, given_back, greatest}
-use Rattle.bq_job.specs.machine.{grown, in_state, is_deadline_soon, is_delayed, is_due, is_due_before}
-use Rattle.bq_job.specs.machine.{is_ending_lease, is_expired, is_held_by, is_holder, is_pair_before, is_reserved}
-use Rattle.bq_job.specs.machine.{is_timed_out, is_timed_out_at, is_wait_before, is_waiting, job_after_timers}
-use Rattle.bq_job.specs.machine.{job_with, next_end, with_job, with_timeout, Machine.Machine}
-use Rattle.bq_job.specs.{beside.AreIdsWithin, declared.job.{Job.Job, JobState.JobState}}
-use Rattle.bq_job.specs.declared.job.JobState.TheVariants as states
-use Rattle.bq_job.proofs.ChoiceLemmas.{first_of_contains, first_of_is_least, first_of_is_some, first_of_none}
-use Rattle.bq_job.proofs.ChoiceLemmas.{first_of_none_passes, first_of_passes, pair_order}
-use Rattle.bq_job.proofs.ListLemmas.{all_always, all_at, all_from_members, all_weaker, count_all_not}
-use Rattle.bq_job.proofs.ListLemmas.{count_cons, list_any_not, list_any_with, map_all_same, none_pass}
-use Rattle.bq_jobs.specs.{Kept.ranked, Leases.{deadline_of, is_lease_before}}
-use Rattle.bq_jobs.proofs.Changes.{all_found, none_changed, others_above}
+use Rattle.std.proofs.Common.{Bool, List, None, Option, Some, [], ap, arith, false, if◌then◌else◌, inl, inr, is_some, map, refl, suc, sym}
+use Rattle.std.proofs.{Common.{true, ℕ, ◌&&◌, ◌+◌, ◌<◌, ◌==◌, ◌||◌, ◌∙◌, ◌∷◌, ◌≡◌, ◌≤◌}, lemmas.Bool.{cases_Bool, eqb-true}}
+use Rattle.std.{proofs.lemmas.{Bool.Decides.nat_tests, Grind.common_steps}, specs.List.{AllByRecursion as All, list_any}}
+use Rattle.std.specs.Prelude.{count_by, nat_le, option_map}
+use Rattle.bq_core.{proofs.KickLemmas.one_of_id, specs.FiredTimers.{ExpiresOne, IsOne, after_giving_back, after_job_timers, is_ripe}}
+use Rattle.bq_job.proofs.ChoiceLemmas.{first_of_contains, first_of_is_least, first_of_is_some, first_of_none, first_of_none_passes}
+use Rattle.bq_job.proofs.{ChoiceLemmas.{first_of_passes, pair_order}, ListLemmas.{all_always, all_at, all_from_members, all_weaker}}
+use Rattle.bq_job.proofs.ListLemmas.{count_all_not, count_cons, list_any_not, list_any_with, map_all_same, none_pass}
+use Rattle.bq_job.specs.{beside.AreIdsWithin, declared.job.{Job.Job, JobState.JobState}, machine.{SeatRecord, due_of, ends_waiting}}
+use Rattle.bq_job.specs.machine.{first_of, grown, in_state, is_deadline_soon, is_delayed, is_due, is_due_before, is_ending_lease}
+use Rattle.bq_job.specs.machine.{is_expired, is_held_by, is_holder, is_pair_before, is_reserved, is_timed_out, is_timed_out_at}
+use Rattle.bq_job.specs.machine.{Machine.Machine, is_wait_before, is_waiting, job_after_timers, job_with, next_end, with_job, with_timeout}
+use Rattle.bq_jobs.{proofs.Changes.{all_found, none_changed, others_above}, specs.{Kept.ranked, Leases.{deadline_of, is_lease_before}}}
 use Rattle.bq_state.specs.EndingWaits.{has_waited, is_lease_short, is_soon}
-use Rattle.bq_core.specs.FiredTimers.{ExpiresOne, IsOne, after_giving_back, after_job_timers, is_ripe}
-use Rattle.bq_core.proofs.KickLemmas.{one_of_id}
+use Rattle.bq_job.specs.declared.job.JobState.TheVariants as states
 
 -- changing one job and then all is changing all, if the second change subsumes the first
 absorbed : (f g : Job → Job) (id : ℕ) (jobs : List Job) → All (λ k. (k.id == id) ≡ true → f (g k) ≡ f k) jobs
@@ -63,14 +58,11 @@ fired_due m id ids one =
     let single = one_of_id id 1 m.next_id m.jobs one.job ids one.found in
     grind (arith, common_steps, all_weaker, ripened, not_expired, as_many)
 
-none_more : (t c : ℕ) → min (min (t + 0) greatest + c) greatest ≡ min (t + c) greatest
-none_more t c = omega arith
-
 -- one reservation ended and was counted, or none
 pub counted_fired : (m next : Machine) (t : ℕ) (b : Bool) → AreIdsWithin 1 m.jobs m.next_id
     → (b ≡ false → (list_any (λ j. is_expired m.moment j.state) m.jobs ≡ false) × (next ≡ m)) → (b ≡ true → ExpiresOne m next)
     → t ≡ grown (if b then 1 else 0) next.timeouts → after_job_timers (record next { timeouts = t }) ≡ after_job_timers m
-counted_fired m next t b ids none one e = grind (arith, common_steps, absorbed, all_always, fired_once, one_fewer, expired, none_more)
+counted_fired m next t b ids none one e = grind (arith, common_steps, absorbed, all_always, fired_once, one_fewer, expired)
 
 pub fewer_due : (m : Machine) (id : ℕ) → AreIdsWithin 1 m.jobs m.next_id → IsOne (λ j. is_due m.moment j.state) m.jobs id
     → count_by (is_ripe m.moment) (with_job id (job_after_timers m.moment) m).jobs < count_by (is_ripe m.moment) m.jobs
@@ -85,10 +77,9 @@ pub none_fires : (m : Machine) → list_any (λ j. is_due m.moment j.state) m.jo
     → list_any (λ j. is_expired m.moment j.state) m.jobs ≡ false → record m { timeouts = grown 0 m.timeouts } ≡ after_job_timers m
 none_fires m due over =
     let f = job_after_timers m.moment in
-    let not_due = none_pass (λ j. is_due m.moment j.state) m.jobs due in
-    let held = none_pass (λ j. is_expired m.moment j.state) m.jobs over in
-    let jobs : map f m.jobs ≡ m.jobs = map_all_same f m.jobs (stays m.jobs not_due held) in
-    let count : count_by (λ j. is_expired m.moment j.state) m.jobs ≡ 0 = count_all_not (λ j. is_expired m.moment j.state) m.jobs held in
+    let held = none_pass _ _ over in
+    let jobs : map f m.jobs ≡ m.jobs = map_all_same _ _ (stays m.jobs (none_pass _ _ due) held) in
+    let count : count_by (λ j. is_expired m.moment j.state) m.jobs ≡ 0 = count_all_not _ _ held in
     ap (λ js. record m { jobs = js; timeouts = grown 0 m.timeouts }) (sym jobs)
     ∙ ap (λ n. record m { jobs = map f m.jobs; timeouts = grown n m.timeouts }) (sym count)
   where
@@ -117,8 +108,7 @@ chosen p before low next jobs id ids e = go (first_of p before jobs) refl e
           job = j;
           first = f;
           id_is = is;
-          found = ap (λ n. job_with n jobs) is ∙ all_at (λ k. job_with k.id jobs ≡ Some k) jobs j (all_found low next jobs ids)
-              (first_of_contains p before jobs j f);
+          found = ap (λ n. job_with n jobs) is ∙ all_at _ _ _ (all_found _ _ _ ids) (first_of_contains _ _ _ _ f);
           passes_is = first_of_passes p before jobs j f;
         }
 
@@ -132,14 +122,13 @@ pub chosen_at : (p : Job → Bool) (number : Job → ℕ) (low next : ℕ) (jobs
     → Some (at, id) ≡ option_map (ranked number) (first_of p (λ a b. is_pair_before (number a) a.id (number b) b.id) jobs)
     → ChosenAt p number jobs at id
 chosen_at p number low next jobs at id ids e =
-    let c = chosen p (λ a b. is_pair_before (number a) a.id (number b) b.id) low next jobs id ids
-    (second (first_of p (λ a b. is_pair_before (number a) a.id (number b) b.id) jobs) e) in
+    let c = chosen _ _ _ _ _ _ ids (second (first_of p (λ a b. is_pair_before (number a) a.id (number b) b.id) jobs) e) in
     let n : at ≡ number c.job = first_is (first_of p (λ a b. is_pair_before (number a) a.id (number b) b.id) jobs) c.job e c.first in
     record {
       chosen_is = c;
       at_is = n;
-      least = all_from_members (λ k. p k ≡ true → at ≤ number k) jobs
-          (λ k here pass. late at id k n c.id_is (first_of_is_least p (pair_order number (λ j. j.id)) jobs c.job k c.first here pass));
+      least = all_from_members _ _
+          (λ k here pass. late at _ k n c.id_is (first_of_is_least _ (pair_order number (λ j. j.id)) _ _ _ c.first here pass));
     }
   where
     second : (o : Option Job) → Some (at, id) ≡ option_map (ranked number) o → Some id ≡ option_map (λ j. j.id) o
@@ -175,8 +164,7 @@ module _ (p : Job → Bool) (number : Job → ℕ) (q : ℕ → Job → Bool) (q
 
   -- there is no job of the kind
   pub none_such : (t : ℕ) → list_any p jobs ≡ false → list_any (q t) jobs ≡ false
-  none_such t none = list_any_not (q t) jobs
-      (all_weaker (λ k. p k ≡ false) (λ k. q t k ≡ false) jobs (λ k fail. q_is t k ∙ rw fail refl) (none_pass p jobs none))
+  none_such t none = grind (arith, common_steps, list_any_not, q, all_weaker, none_pass)
 
   -- there is none
   pub none_there : (t : ℕ) → None ≡ option_map (ranked number) (first_of p (λ a b. is_pair_before (number a) a.id (number b) b.id) jobs)
@@ -195,8 +183,7 @@ none_first : (p : Job → Bool) (before : Job → Job → Bool) (number : Job �
 none_first p before number jobs none = at (first_of p before jobs) (first_of_is_some p before jobs ∙ none)
   where
     at : (o : Option Job) → is_some o ≡ false → None ≡ option_map number o
-    at None e = refl
-    at (Some j) e = absurd cc
+    at o h1 = grind (arith, common_steps)
 
 pub no_first_due : (has : Bool) (jobs : List Job) → has ≡ list_any (λ j. is_delayed j.state) jobs → has ≡ false
     → None ≡ option_map (λ j. due_of j.state) (first_of (λ j. is_delayed j.state) is_due_before jobs)
@@ -227,21 +214,18 @@ pub given_fewer : (state : JobState) (seat : ℕ) (m : Machine) (id : ℕ) → i
     → Some id ≡ option_map (λ j. j.id) (first_of (is_held_by seat) is_lease_before m.jobs)
     → count_by (is_held_by seat) (with_job id (in_state state) m).jobs < count_by (is_held_by seat) m.jobs
 given_fewer state seat m id free ids first =
-    let one = chosen (is_held_by seat) is_lease_before 1 m.next_id m.jobs id ids first in
+    let one = chosen _ _ _ _ _ _ ids first in
     omega (
       arith,
-      one_fewer (is_held_by seat) (in_state state) id 1 m.next_id m.jobs one.job ids one.found one.passes_is
-          (held_by_none seat state free),
+      one_fewer (is_held_by seat) (in_state state) id 1 m.next_id m.jobs one.job ids one.found one.passes_is (held_by_none _ _ free),
     )
 
 pub given_none : (state : JobState) (seat : ℕ) (m : Machine)
     → None ≡ option_map (λ j. j.id) (first_of (is_held_by seat) is_lease_before m.jobs) → m ≡ after_giving_back state seat m
 given_none state seat m e =
-    let none = none_pass (is_held_by seat) m.jobs
+    let none = none_pass _ _
     (first_of_none (is_held_by seat) is_lease_before m.jobs (no_id (first_of (is_held_by seat) is_lease_before m.jobs) e)) in
-    ap (λ js. record m { jobs = js })
-    (sym (map_all_same (given_back state seat) m.jobs
-    (all_weaker (λ k. is_held_by seat k ≡ false) (λ k. given_back state seat k ≡ k) m.jobs (λ k h. rw h refl) none)))
+    ap (λ js. record m { jobs = js }) (sym (map_all_same _ _ (all_weaker _ _ _ (λ k h. rw h refl) none)))
   where
     no_id : (o : Option Job) → None ≡ option_map (λ j. j.id) o → o ≡ None
     no_id o h = grind (arith, common_steps)
@@ -268,24 +252,19 @@ soon_first p moment jobs found is = ap (is_soon moment) is ∙ go (first_of p is
 
     go : (o : Option Job) → first_of p is_lease_before jobs ≡ o
         → is_soon moment (option_map (ranked (λ j. deadline_of j.state)) o) ≡ list_any q jobs
-    go None e =
-        sym
-        (list_any_not q jobs (all_weaker (λ k. p k ≡ false) (λ k. q k ≡ false) jobs (λ k fail. rw fail refl)
+    go None e = sym (list_any_not q jobs (all_weaker (λ k. p k ≡ false) (λ k. q k ≡ false) jobs (λ k fail. rw fail refl)
         (none_pass p jobs (first_of_none p is_lease_before jobs e))))
     go (Some j) e = (grind (arith, common_steps, cases_Bool, nat_tests))
         ∙ elim (cases_Bool (nat_le (deadline_of j.state) (moment + 1000))) [
           | inl past ↦ past ∙ sym (list_any_with q jobs j (first_of_contains p is_lease_before jobs j e)
               (rw (first_of_passes p is_lease_before jobs j e, past) refl))
-          | inr later ↦
-              later
-              ∙ sym (list_any_not q jobs (all_from_members (λ k. q k ≡ false) jobs (λ k here. elim (cases_Bool (p k)) [
-                | inl pass ↦ rw (
-                  pass,
-                  late k j (first_of_is_least p (pair_order (λ k. deadline_of k.state)
-                      (λ k. k.id)) jobs j k e here pass) later,
-                ) refl
-                | inr fail ↦ rw fail refl
-              ])))
+          | inr later ↦ later ∙ sym (list_any_not q jobs (all_from_members (λ k. q k ≡ false) jobs (λ k here. elim (cases_Bool (p k)) [
+            | inl pass ↦ rw (
+              pass,
+              late k j (first_of_is_least p (pair_order (λ k. deadline_of k.state) (λ k. k.id)) jobs j k e here pass) later,
+            ) refl
+            | inr fail ↦ rw fail refl
+          ])))
         ]
 
 pub seat_warned : (seat moment : ℕ) (jobs : List Job) (found : Option (ℕ × ℕ)) (soon : Bool) → soon ≡ is_soon moment found
@@ -308,8 +287,7 @@ nobody_ends m h = first_of_none_passes (ends_waiting m) is_wait_before m.seats
 -- no wait has timed out, and no time to run ends soon
 pub none_ends : (m : Machine) → list_any (has_waited m.moment) m.seats ≡ false
     → list_any (is_lease_short m.moment) m.jobs ≡ false → next_end m ≡ None
-none_ends m waited short =
-    first_of_none_passes (ends_waiting m) is_wait_before m.seats
+none_ends m waited short = first_of_none_passes (ends_waiting m) is_wait_before m.seats
     (list_any_not (ends_waiting m) m.seats (all_weaker (λ s. has_waited m.moment s ≡ false) (λ s. ends_waiting m s ≡ false) m.seats
     (λ s none. go s (is_waiting s) none) (none_pass (has_waited m.moment) m.seats waited)))
   where
@@ -318,9 +296,7 @@ none_ends m waited short =
     not_soon number state h = grind (arith, common_steps)
 
     soon_none : (number : ℕ) → list_any (λ j. is_ending_lease m.moment number j.state) m.jobs ≡ false
-    soon_none number = list_any_not (λ j. is_ending_lease m.moment number j.state) m.jobs
-        (all_weaker (λ j. is_lease_short m.moment j ≡ false) (λ j. is_ending_lease m.moment number j.state ≡ false) m.jobs
-        (λ j h. not_soon number j.state h) (none_pass (is_lease_short m.moment) m.jobs short))
+    soon_none number = grind (arith, common_steps, list_any_not, all_weaker, not_soon, none_pass)
 
     go : (s : SeatRecord) (w : Bool) → (w && is_timed_out_at m.moment s) ≡ false → (w && (is_deadline_soon m s || is_timed_out m s)) ≡ false
     go s true h = rw (soon_none s.number) h

@@ -1,18 +1,16 @@
 -- Kicking the first job of a kind repeatedly kicks the first ones in order.
-use Rattle.std.proofs.Common.{◌&&◌, ◌+◌, ◌<◌, ◌==◌, ◌∙◌, ◌∷◌, ◌≡◌, if◌then◌else◌, Bool, List, None, Option, Some, [], ℕ}
-use Rattle.std.proofs.Common.{ap, arith, eq-eqb, false, filter, inl, inr, length, map, not, refl, suc, sym, take, true}
-use Rattle.std.proofs.lemmas.{Bool.{and_from, cases_Bool, eqb-true, ne_eqb, Decides.nat_tests}, Grind.common_steps}
-use Rattle.std.specs.{List.{AllByRecursion as All, Contains, list_any}, Prelude.option_map}
-use Rattle.bq_job.specs.{declared.job.Job.Job, beside.AreIdsWithin}
+use Rattle.std.proofs.Common.{Bool, List, None, Option, Some, [], ap, arith, eq-eqb, false, filter, if◌then◌else◌, inl, inr, length, map}
+use Rattle.std.proofs.{Common.{not, refl, suc, sym, take, true, ℕ, ◌&&◌, ◌+◌, ◌<◌, ◌==◌, ◌∙◌, ◌∷◌, ◌≡◌}, lemmas.Bool.{and_from, cases_Bool}}
+use Rattle.std.{proofs.lemmas.{Bool.{Decides.nat_tests, eqb-true, ne_eqb}, Grind.common_steps}, specs.List.AllByRecursion as All}
+use Rattle.std.specs.{List.{Contains, list_any}, Prelude.option_map}
+use Rattle.bq_core.{proofs.ActLemmas.none_left, specs.Kicking.{KicksFirst, all_kicked, jobs_of}}
+use Rattle.bq_job.proofs.{BecomeLemmas.{all_in_order, all_of_take}, ChoiceLemmas.{first_of_contains, first_of_is_least, first_of_is_some}}
+use Rattle.bq_job.proofs.{ChoiceLemmas.{first_of_none, first_of_passes, pair_order, pair_other}, KeptLemmas.ids_of_filter}
+use Rattle.bq_job.{proofs.ListLemmas.{all_at, all_from_members, list_any_with}, specs.{beside.AreIdsWithin, declared.job.Job.Job}}
 use Rattle.bq_job.specs.machine.{first_of, in_order, is_buried_before, is_buried_in, job_with, kickable, kicked, kicked_first, put_in_order}
-use Rattle.bq_job.proofs.ChoiceLemmas.{first_of_contains, first_of_is_least, first_of_is_some, first_of_none, first_of_passes, pair_order}
-use Rattle.bq_job.proofs.{KeptLemmas.ids_of_filter, ListLemmas.{all_at, all_from_members, list_any_with}}
-use Rattle.bq_job.proofs.{BecomeLemmas.{all_in_order, all_of_take}, ChoiceLemmas.pair_other}
 use Rattle.bq_jobs.proofs.Changes.{all_found, others_above}
-use Rattle.bq_state.specs.{declared.job_store.JobKind.{JobKind, TheVariants.{Buried, Delayed}}, JobKinds.{is_before_of, is_of, rank_of}}
-use Rattle.bq_state.proofs.TubeLemmas.{some_left}
-use Rattle.bq_core.specs.Kicking.{KicksFirst, all_kicked, jobs_of}
-use Rattle.bq_core.proofs.ActLemmas.{none_left}
+use Rattle.bq_state.{proofs.TubeLemmas.some_left, specs.{JobKinds.{is_before_of, is_of, rank_of}, declared.job_store.JobKind.JobKind}}
+use Rattle.bq_state.specs.declared.job_store.JobKind.TheVariants.{Buried, Delayed}
 
 -- a job is the only one with its id
 pub one_of_id : (id low next : ℕ) (jobs : List Job) (j : Job) → AreIdsWithin low jobs next → job_with id jobs ≡ Some j
@@ -20,7 +18,6 @@ pub one_of_id : (id low next : ℕ) (jobs : List Job) (j : Job) → AreIdsWithin
 one_of_id id low next [] j h found = tt
 one_of_id id low next (y ∷ jobs) j h found = elim (cases_Bool (y.id == id)) [
   | inl same ↦
-      let first : Some y ≡ Some j = rw same at found in
       let is : y ≡ j = cc in
       let at : y.id ≡ id = eqb-true y.id id same in
       (λ _. is, others jobs (others_above id (suc y.id) next jobs (omega arith) h.1))
@@ -94,8 +91,7 @@ kicked_in_turn j chosen others (x ∷ js) = go (x.id == j.id) refl (kicked_in_tu
         (map (λ k. if k.id == j.id then kicked k else k) js)
         → all_kicked (j ∷ chosen) (x ∷ js) ≡ all_kicked chosen
         ((if b then kicked x else x) ∷ map (λ k. if k.id == j.id then kicked k else k) js)
-    go true e rest =
-        grind (arith, common_steps, cases_Bool, nat_tests, eqb-true x.id j.id e, eq-eqb, not_chosen j.id chosen others)
+    go true e rest = grind (arith, common_steps, cases_Bool, nat_tests, eqb-true x.id j.id e, eq-eqb, not_chosen j.id chosen others)
     go false e rest = grind (arith, common_steps, ne_eqb, eq-eqb)
 
 those_at : (P : Job → Type 0) (q : Job → Bool) (x : Job) (js : List Job) (b : Bool) → q x ≡ b → (q x ≡ true → P x) → All P (filter q js)
@@ -118,8 +114,7 @@ some_there_at q id [] h = absurd cc
 some_there_at q id (x ∷ js) h = some_at q id x js (q x) refl h (some_there_at q id js)
 
 some_there : (q : Job → Bool) (js : List Job) (x : Job) → Contains js x → q x ≡ true → list_any (λ y. y.id == x.id) (filter q js) ≡ true
-some_there q js x here pass =
-    some_there_at q x.id js (list_any_with (λ y. (y.id == x.id) && q y) js x here
+some_there q js x here pass = some_there_at q x.id js (list_any_with (λ y. (y.id == x.id) && q y) js x here
     (and_from (x.id == x.id) (q x) (eq-eqb x.id x.id refl) pass))
 
 -- the first one is kicked
@@ -142,12 +137,9 @@ kicks_first kind tube low next jobs j out ids first =
     let rest = map (λ k. if k.id == j.id then kicked k else k) jobs in
     let ordered : jobs_of kind tube jobs ≡ j ∷ jobs_of kind tube rest =
     first_ordered before j low next (filter p jobs) (ids_of_filter p low next jobs ids) (those (Beside before j) p jobs beside)
-    (some_there p jobs j here passes)
-    ∙ ap (λ js. j ∷ in_order before js) (sym (kicked_are_out p j.id out jobs)) in
+    (some_there p jobs j here passes) ∙ ap (λ js. j ∷ in_order before js) (sym (kicked_are_out p j.id out jobs)) in
     record {
-      jobs = λ n.
-          ap (λ js. all_kicked (take (suc n) js) jobs) ordered
-          ∙ kicked_in_turn j (take n (jobs_of kind tube rest))
+      jobs = λ n. ap (λ js. all_kicked (take (suc n) js) jobs) ordered ∙ kicked_in_turn j (take n (jobs_of kind tube rest))
           (all_of_take (λ k. (k.id == j.id) ≡ false) n (jobs_of kind tube rest)
           (all_in_order (λ k. (k.id == j.id) ≡ false) before (filter p rest) (left_are_others p j.id out jobs))) jobs;
       count = λ n. ap (λ js. length (take (suc n) js)) ordered;
@@ -170,8 +162,7 @@ pub kickable_delayed : (tube : List ℕ) (jobs : List Job)
     → None ≡ option_map (λ j. j.id) (first_of (is_buried_in tube) is_buried_before jobs) → jobs_of Delayed tube jobs ≡ kickable tube jobs
 kickable_delayed tube jobs none =
     let empty : filter (is_buried_in tube) jobs ≡ [] =
-    none_left (is_buried_in tube) jobs (first_of_none (is_buried_in tube) is_buried_before jobs
-    (no_id (first_of (is_buried_in tube) is_buried_before jobs) none)) in
+    none_left (is_buried_in tube) jobs (first_of_none (is_buried_in tube) is_buried_before jobs (no_id _ none)) in
     ap (kicked_first tube jobs) (sym empty)
 
 pub none_of_kind : (kind : JobKind) (tube : List ℕ) (jobs : List Job) → None ≡ first_of (is_of kind tube) (is_before_of kind) jobs
@@ -179,15 +170,8 @@ pub none_of_kind : (kind : JobKind) (tube : List ℕ) (jobs : List Job) → None
 none_of_kind kind tube jobs none = ap (in_order (is_before_of kind))
     (none_left (is_of kind tube) jobs (first_of_none (is_of kind tube) (is_before_of kind) jobs (sym none)))
 
--- steps of counting
-pub zero_more : (n : ℕ) → 0 + n ≡ n
-zero_more n = omega arith
-
 pub one_on : (d n : ℕ) → (d + 1) + n ≡ d + suc n
 one_on d n = omega arith
-
-pub take_none : (n : ℕ) → take {A = Job} n [] ≡ []
-take_none n = grind (arith, common_steps)
 
 pub none_kicked : (jobs : List Job) → all_kicked [] jobs ≡ jobs
 none_kicked [] = refl

@@ -1,13 +1,10 @@
 -- What a walk over the waiting clients finds for them.
-use Rattle.std.proofs.{Common.{◌∙◌, ◌∷◌, ◌≡◌, List, None, Option, [], ℕ, ap, arith, refl, subst, sym}, lemmas.Grind.common_steps}
+use Rattle.std.proofs.{Common.{List, None, Option, [], ap, arith, refl, sym, ℕ, ◌∙◌, ◌∷◌, ◌≡◌}, lemmas.Grind.common_steps}
 use Rattle.std.specs.{List.sum_by, Prelude.fold}
-use Rattle.bq_job.specs.{declared.job.Job.Job, machine.{SeatRecord, TubeRecord}}
-use Rattle.bq_job.proofs.ChoiceLemmas.{pair_order}
-use Rattle.bq_jobs.specs.Kept.{Kept}
-use Rattle.bq_jobs.specs.Searching.{Asks}
-use Rattle.bq_state.specs.{Cost.waited_tubes, Offers.{better_rank, with_offers}}
-use Rattle.bq_state.specs.{SeatChanges.AreNumbered, WaitingTurns.{by_seat, turns_of, waited_at}}
-use Rattle.bq_state.proofs.{SeatPlaces.place_is_seat, WalkLemmas.{chosen, chosen_twice, walked}}
+use Rattle.bq_job.{proofs.ChoiceLemmas.pair_order, specs.{declared.job.Job.Job, machine.{SeatRecord, TubeRecord}}}
+use Rattle.bq_jobs.specs.{Kept.Kept, Searching.Asks}
+use Rattle.bq_state.{proofs.{SeatPlaces.place_is_seat, WalkLemmas.{chosen, chosen_twice, walked}}, specs.Cost.waited_tubes}
+use Rattle.bq_state.specs.{Offers.{better_rank, with_offers}, SeatChanges.AreNumbered, WaitingTurns.{by_seat, turns_of, waited_at}}
 
 ranks_swap : (b x y : Option (ℕ × ℕ)) → better_rank (better_rank b x) y ≡ better_rank (better_rank b y) x
 ranks_swap b x y = grind (arith, common_steps, chosen, chosen_twice, pair_order)
@@ -33,5 +30,4 @@ offers_walked jobs entries seats h = grind (arith, common_steps, fold_same, plac
 
 pub asks_walked : (seats : List SeatRecord) {old new : Kept} → AreNumbered seats → Asks (sum_by (waited_at seats) (turns_of seats)) old new
     → Asks (sum_by waited_tubes seats) old new
-asks_walked seats {old = old} {new = new} numbered asked = subst (λ n. Asks n old new)
-    (grind (arith, common_steps, fold_same, place_is_seat, walked)) asked
+asks_walked seats {old = old} {new = new} numbered asked = grind (arith, common_steps, fold_same, place_is_seat, walked)

@@ -1,23 +1,21 @@
 -- The next job, if it is known which jobs may be had.
-use Rattle.std.proofs.{Common.{◌&&◌, ◌==◌, ◌||◌, ◌∙◌, ◌∷◌, ◌≡◌, ◌≤◌, Bool, List, None, Option, Some}, lemmas.List.Sums.sum_by-cons}
-use Rattle.std.proofs.Common.{[], ℕ, ap, arith, false, length, not, refl, subst, sym, true}
-use Rattle.std.proofs.lemmas.{Bool.{and_parts, cases_Bool, eqb-true, or_cases, Decides.nat_tests}, Grind.common_steps}
-use Rattle.std.specs.{List.{AllByRecursion as All, Contains, list_any, sum_by}, Prelude.option_map}
-use Rattle.bq_job.specs.{declared.job.Job.Job, machine.{SeatRecord, first_of, is_job_before, is_paused, is_ready, is_ready_in}}
-use Rattle.bq_job.specs.{machine.{is_waiting, is_waiting_for, seat_with, watches, Machine.Machine}, reading.TubeName.is_same_name}
-use Rattle.bq_job.proofs.{ChoiceLemmas.first_of_agrees, KeptLemmas.only_seat}
-use Rattle.bq_job.proofs.ListLemmas.{all_at, all_from_members, all_weaker, contains_head}
-use Rattle.bq_job.proofs.ListLemmas.{contains_tail, found_passes, list_any_not, list_any_with}
+use Rattle.std.proofs.Common.{Bool, List, None, Option, Some, [], ap, arith, false, length, not, refl, subst, sym, true, ℕ, ◌&&◌, ◌==◌}
+use Rattle.std.proofs.{Common.{◌||◌, ◌∙◌, ◌∷◌, ◌≡◌, ◌≤◌}, lemmas.Bool.{Decides.nat_tests, and_parts, cases_Bool, eqb-true, or_cases}}
+use Rattle.std.{proofs.lemmas.{Grind.common_steps, List.Sums.sum_by-cons}, specs.List.{AllByRecursion as All, Contains, list_any, sum_by}}
+use Rattle.std.specs.Prelude.{option_map}
+use Rattle.bq_job.proofs.{ChoiceLemmas.first_of_agrees, KeptLemmas.only_seat, ListLemmas.{all_at, all_from_members, all_weaker}}
+use Rattle.bq_job.{proofs.ListLemmas.{contains_head, contains_tail, found_passes, list_any_not, list_any_with}, specs.declared.job.Job.Job}
+use Rattle.bq_job.specs.machine.{SeatRecord, first_of, is_job_before, is_paused, is_ready, is_ready_in, is_waiting, is_waiting_for}
+use Rattle.bq_job.specs.{machine.{Machine.Machine, seat_with, watches}, reading.TubeName.is_same_name}
 use Rattle.bq_jobs.specs.Kept.{ranked}
-use Rattle.bq_state.specs.{declared.known.wanted.Wanted.TheVariants.{Client, Tube}, SeatChanges.AreNumbered, WantedJobs.{AreKnown, IsKnown}}
-use Rattle.bq_state.specs.{Cost.waited_tubes, Crowds.is_waiter, Offers.{next_rank, these}}
-use Rattle.bq_state.proofs.{WantedLemmas.parts_of, TubeLemmas.same_name, WarningLemmas.none_found}
+use Rattle.bq_state.{proofs.{TubeLemmas.same_name, WantedLemmas.parts_of, WarningLemmas.none_found}, specs.Cost.waited_tubes}
+use Rattle.bq_state.specs.{Crowds.is_waiter, Offers.{next_rank, these}, SeatChanges.AreNumbered, WantedJobs.{AreKnown, IsKnown}}
+use Rattle.bq_state.specs.declared.known.wanted.Wanted.TheVariants.{Client, Tube}
 
 -- the next job is the first of those that pass, if these are the ones for which a client waits
 pub rank_agrees : (m : Machine) (p : Job → Bool) → All (λ j. list_any (is_waiting_for m j) m.seats ≡ p j) m.jobs
     → next_rank m ≡ option_map (ranked (λ j. j.pri)) (first_of p is_job_before m.jobs)
-rank_agrees m p same = ap (option_map (ranked (λ j. j.pri)))
-    (first_of_agrees (λ j. list_any (is_waiting_for m j) m.seats) p is_job_before m.jobs same)
+rank_agrees m p same = ap (option_map (ranked (λ j. j.pri))) (first_of_agrees _ _ _ _ same)
 
 -- for one client
 pub client_waits : (m : Machine) (seat : ℕ) (o : Option SeatRecord) → AreNumbered m.seats → seat_with seat m.seats ≡ o
@@ -25,10 +23,7 @@ pub client_waits : (m : Machine) (seat : ℕ) (o : Option SeatRecord) → AreNum
     → All (λ j. list_any (is_waiting_for m j) m.seats ≡ list_any (is_waiting_for m j) (these o)) m.jobs
 client_waits m seat None numbered found known =
     grind (arith, common_steps, cases_Bool, nat_tests, all_weaker, list_any_not, all_from_members, all_at, none_found seat m.seats found)
-client_waits m seat (Some s) numbered found known =
-    all_weaker (λ j. All (IsKnown (Client seat) m.tubes j) m.seats)
-    (λ j. list_any (is_waiting_for m j) m.seats ≡ (is_waiting_for m j s || false)) m.jobs
-    (λ j all. go j all (is_waiting_for m j s) refl) known
+client_waits m seat (Some s) numbered found known = all_weaker _ _ _ (λ j all. go j all (is_waiting_for m j s) refl) known
   where
     only : All (λ t. t.number ≡ seat → t ≡ s) m.seats
     only = only_seat 0 (length m.seats) seat m.seats s numbered found
@@ -43,8 +38,7 @@ client_waits m seat (Some s) numbered found known =
     go : (j : Job) → All (IsKnown (Client seat) m.tubes j) m.seats → (b : Bool) → is_waiting_for m j s ≡ b
         → list_any (is_waiting_for m j) m.seats ≡ (b || false)
     go j all true e = list_any_with (is_waiting_for m j) m.seats s here e
-    go j all false e =
-        grind (arith, common_steps, cases_Bool, list_any_not, all_from_members, unwanted, all_at, only)
+    go j all false e = grind (arith, common_steps, cases_Bool, list_any_not, all_from_members, unwanted, all_at, only)
 
 -- some client passes
 record Passes (p : SeatRecord → Bool) (seats : List SeatRecord) : Type 0 where
@@ -54,17 +48,13 @@ record Passes (p : SeatRecord → Bool) (seats : List SeatRecord) : Type 0 where
 
 some_passes : (p : SeatRecord → Bool) (seats : List SeatRecord) → list_any p seats ≡ true → Passes p seats
 some_passes p [] h = absurd cc
-some_passes p (s ∷ seats) h =
-    grind (arith, common_steps, or_cases, contains_head, contains_tail, some_passes p seats)
+some_passes p (s ∷ seats) h = grind (arith, common_steps, or_cases, contains_head, contains_tail, some_passes p seats)
 
 -- for one tube
 pub tube_waits : (m : Machine) (name : List ℕ) (w : Bool) → list_any (is_waiter name) m.seats ≡ w
     → AreKnown (Tube name) m.jobs m.seats m.tubes
     → All (λ j. list_any (is_waiting_for m j) m.seats ≡ (w && (is_ready_in name j && not (is_paused name m)))) m.jobs
-tube_waits m name w waits known =
-    all_weaker (λ j. All (IsKnown (Tube name) m.tubes j) m.seats)
-    (λ j. list_any (is_waiting_for m j) m.seats ≡ (w && (is_ready_in name j && not (is_paused name m)))) m.jobs
-    (λ j all. go j all (w && (is_ready_in name j && not (is_paused name m))) refl) known
+tube_waits m name w waits known = all_weaker _ _ _ (λ j all. go j all (w && (is_ready_in name j && not (is_paused name m))) refl) known
   where
     together : (a b c d : Bool) → a ≡ true → b ≡ true → c ≡ true → d ≡ true → (a && (b && c && d)) ≡ true
     together a b c d e f g h = rw (e, f, g, h) refl
@@ -99,20 +89,11 @@ tube_waits m name w waits known =
     go : (j : Job) → All (IsKnown (Tube name) m.tubes j) m.seats → (b : Bool) → (w && (is_ready_in name j && not (is_paused name m))) ≡ b
         → list_any (is_waiting_for m j) m.seats ≡ b
     go j all true e = is_wanted j e
-    go j all false e =
-        list_any_not (is_waiting_for m j) m.seats
-        (all_from_members (λ t. is_waiting_for m j t ≡ false) m.seats
-        (λ t c. unwanted j e t c (all_at (IsKnown (Tube name) m.tubes j) m.seats t all c) (is_waiting_for m j t) refl))
-
--- the tubes that one client watches are among all watched tubes
-entries_within : (f : SeatRecord → ℕ) (seats : List SeatRecord) → All (λ s. f s ≤ sum_by f seats) seats
-entries_within f [] = tt
-entries_within f (s ∷ seats) = grind (arith, common_steps, sum_by-cons, all_weaker, entries_within f seats)
+    go j all false e = list_any_not _ _ (all_from_members _ _ (λ t c. unwanted j e t c (all_at _ _ _ all c) (is_waiting_for m j t) refl))
 
 pub client_entries : (seats : List SeatRecord) (seat : ℕ) (o : Option SeatRecord) → seat_with seat seats ≡ o
     → sum_by waited_tubes (these o) ≤ sum_by waited_tubes seats
-client_entries seats seat o found = grind (arith, common_steps, sum_by-cons, all_at, entries_within, found_passes)
+client_entries seats seat o found = grind (arith, common_steps, sum_by-cons, all_at, found_passes)
 
 pub tube_entries : (seats : List SeatRecord) (name : List ℕ) → list_any (is_waiter name) seats ≡ true → 1 ≤ sum_by waited_tubes seats
-tube_entries seats name h =
-    grind (arith, common_steps, cases_Bool, some_passes (is_waiter name) seats h, all_at, entries_within waited_tubes seats)
+tube_entries seats name h = grind (arith, common_steps, cases_Bool, some_passes (is_waiter name) seats h, all_at)

@@ -1,21 +1,17 @@
 -- The searches of a whole step, from its parts.
-use Rattle.std.proofs.Common.{◌*◌, ◌+◌, ◌∙◌, ◌≡◌, ◌≤◌, List, None, [], ℕ, ap, arith, cond, false, length, max, subst, sym}
-use Rattle.std.proofs.{lemmas.Nat.mul-le, Math.Nat.add-mul}
-use Rattle.std.proofs.lemmas.{Grind.common_steps, List.length-append}
-use Rattle.std.specs.List.{sum_by}
-use Rattle.bq_job.specs.{declared.step.Step.Step, beside.waiting_count}
-use Rattle.bq_job.specs.machine.{DispatchTurn, GivenAnswer, SeatRecord, Serves, WaitEndTurn, has_refused_share}
-use Rattle.bq_job.specs.machine.{is_waiting, next_end, next_job, without_wait, Machine.Machine}
-use Rattle.bq_job.proofs.LawfulLemmas.{leaves_acted}
+use Rattle.std.proofs.Common.{List, None, [], ap, arith, cond, false, length, max, subst, sym, ℕ, ◌*◌, ◌+◌, ◌∙◌, ◌≡◌, ◌≤◌}
+use Rattle.std.{proofs.{Math.Nat.add-mul, lemmas.{Grind.common_steps, List.length-append, Nat.mul-le}}, specs.List.sum_by}
+use Rattle.bq_core.proofs.{AskLemmas.{asks_more, asks_then, search_grows}, CostLemmas.{ended_stop, entries_less, given_length, handed_stop}}
+use Rattle.bq_core.proofs.{CostLemmas.waited_less, StepLemmas.{Begun, keeps, serves_after, serves_into, whole_step}, WatchLemmas.acted_few}
+use Rattle.bq_core.{proofs.WatchLemmas.{waited_few, waiting_few}, specs.{AtOnce.kept_at, Serving.{NoneIsGone, ServesAsking, ServesInto}}}
+use Rattle.bq_core.specs.Turns.{Gives, none_refused}
 use Rattle.bq_core_api.specs.{Cost.{IsStepWithin, changed_jobs, ripening, tubes_watched, watched_tubes}, Outbox.Outbox}
-use Rattle.bq_jobs.specs.Kept.{Kept}
-use Rattle.bq_state.specs.declared.core_parts.CoreParts.{CoreParts}
-use Rattle.bq_jobs.specs.Searching.{Asks}
+use Rattle.bq_job.{proofs.LawfulLemmas.leaves_acted, specs.{beside.waiting_count, declared.step.Step.Step, machine.DispatchTurn}}
+use Rattle.bq_job.specs.machine.{GivenAnswer, SeatRecord, Serves, WaitEndTurn, has_refused_share, is_waiting, next_end, next_job}
+use Rattle.bq_job.specs.machine.{Machine.Machine, without_wait}
+use Rattle.bq_jobs.specs.{Kept.Kept, Searching.Asks}
 use Rattle.bq_state.specs.{Asking.{AsksByTurn, AsksWithin, search_among}, CoreParts.machine_of, Cost.{waited, waited_tubes}}
-use Rattle.bq_core.specs.{AtOnce.kept_at, Serving.{NoneIsGone, ServesAsking, ServesInto}, Turns.{Gives, none_refused}}
-use Rattle.bq_core.proofs.{AskLemmas.{asks_more, asks_then, search_grows}, StepLemmas.{Begun, keeps, serves_after, serves_into, whole_step}}
-use Rattle.bq_core.proofs.CostLemmas.{ended_stop, entries_less, given_length, handed_stop, waited_less}
-use Rattle.bq_core.proofs.WatchLemmas.{acted_few, waited_few, waiting_few}
+use Rattle.bq_state.specs.declared.core_parts.CoreParts.{CoreParts}
 
 -- dispatch and the ends of waits, one after the other
 pub serves_asking : (first between last : Machine) (before middle_jobs after : Kept) (old middle new : Outbox)
@@ -25,23 +21,22 @@ pub serves_asking : (first between last : Machine) (before middle_jobs after : K
     → ServesAsking first old new last before after
 unfolding serves_into
 serves_asking first between last before middle_jobs after old middle new d dispatched w ended none a b =
-    let n = waited first + 9 in
-    let turns = ap (λ k. k * n) (given_length DispatchTurn has_refused_share first between old middle d) in
+    let turns = ap (λ k. k * (waited first + 9)) (given_length DispatchTurn has_refused_share first between old middle d) in
     record {
       serves = serves_into first between last old middle new d dispatched w ended none;
       asks = asks_more _ (omega (arith, turns, d.taken)) (asks_then a b);
     }
 
 -- counts over seats decrease as jobs are handed out and waits end
-serve_falls : (f : SeatRecord → ℕ) → ((s : SeatRecord) → f (without_wait s) ≤ f s)
-    → (first : Machine) (handed ended : List GivenAnswer) (last : Machine) → Serves first handed ended last
-    → sum_by f last.seats ≤ sum_by f first.seats
-serve_falls f less first handed ended last s =
-    let d = s.dispatches in
-    let e = s.ends_waits in
-    let between = ap (λ (m : Machine). sum_by f m.seats) d.forgets in
-    let after = ap (λ (m : Machine). sum_by f m.seats) e.forgets in
-    omega (arith, handed_stop f less first handed d.end d.turns, ended_stop f less s.between ended e.end e.turns, between, after)
+serve_falls : (f : SeatRecord → ℕ) → ((s : SeatRecord) → f (without_wait s) ≤ f s) → (first : Machine) (handed ended : List GivenAnswer)
+    (last : Machine) → Serves first handed ended last → sum_by f last.seats ≤ sum_by f first.seats
+serve_falls f less first handed ended last s = omega (
+  arith,
+  handed_stop _ less _ _ _ s.dispatches.turns,
+  ended_stop _ less _ _ _ s.ends_waits.turns,
+  (ap (λ (m : Machine). sum_by f m.seats) s.dispatches.forgets),
+  (ap (λ (m : Machine). sum_by f m.seats) s.ends_waits.forgets),
+)
 
 -- The parts of a step make no more searches than its changes allow.
 bounded : (t h c g q w v x y : ℕ) → w ≤ q → v ≤ q → x ≤ q → y ≤ q + 1
@@ -64,10 +59,10 @@ summed first fired before left last n k c g most a b d e few =
       b.rise,
       d.rise,
       e.rise,
-      mul-le n (search_among (length first.jobs)) n s (omega arith) (search_grows (length first.jobs) jobs (omega arith)),
-      mul-le k (search_among (length fired.jobs)) k s (omega arith) (search_grows (length fired.jobs) jobs (omega arith)),
-      mul-le l (search_among o) l s (omega arith) (search_grows o jobs (omega arith)),
-      mul-le g (search_among (length left.jobs)) g s (omega arith) (search_grows (length left.jobs) jobs (omega arith)),
+      mul-le n (search_among (length first.jobs)) n s (omega arith) (search_grows _ _ (omega arith)),
+      mul-le k (search_among (length fired.jobs)) k s (omega arith) (search_grows _ _ (omega arith)),
+      mul-le l (search_among o) l s (omega arith) (search_grows _ _ (omega arith)),
+      mul-le g (search_among (length left.jobs)) g s (omega arith) (search_grows _ _ (omega arith)),
       mul-le (n + k + l + g) s most s few (omega arith),
       add-mul (n + k + l) g s,
       add-mul (n + k) l s,
@@ -84,22 +79,19 @@ pub serving_after : (first middle last : Machine) (before between after : Kept) 
 unfolding serves_after
 serving_after first middle last before between after old told new g s a =
     let w = waited first in
-    let v = waited middle in
     let falls = handed_stop waited_tubes waited_less first g.given middle g.turns in
-    let n = length g.given in
     let k = length s.serves.handed in
     record {
       serves = serves_after first middle last old told new g s.serves;
-      asks =
-          asks_more _ (omega (
-            arith,
-            length-append g.given s.serves.handed,
-            ap (λ i. i * (w + 9)) (length-append g.given s.serves.handed),
-            add-mul n k (w + 9),
-            mul-le k (v + 9) k (w + 9) (omega arith) (omega (arith, falls)),
-            g.taken,
-            falls,
-          )) (asks_then a s.asks);
+      asks = asks_more _ (omega (
+        arith,
+        length-append g.given s.serves.handed,
+        ap (λ i. i * (w + 9)) (length-append g.given s.serves.handed),
+        add-mul (length g.given) k (w + 9),
+        mul-le k ((waited middle) + 9) k (w + 9) (omega arith) (omega (arith, falls)),
+        g.taken,
+        falls,
+      )) (asks_then a s.asks);
     }
 
 -- A step is within its bound.
@@ -130,8 +122,7 @@ step_within first at seat what begun between asked new acted_machine left compar
     let fewer = serve_falls (λ s. cond (is_waiting s) 1 0) waits_less fired b.serves.handed b.serves.ended before b.serves.serves in
     let x : waited left ≤ q = (let here = ap waited b.forgotten ∙ ap waited b.acts.after in
     omega (arith, here, acted_few b.acts.memory before seat what kept.seated, falls, entered)) in
-    let z : waiting_count left ≤ q + 1 =
-    (let here = ap waiting_count b.forgotten ∙ ap waiting_count b.acts.after in
+    let z : waiting_count left ≤ q + 1 = (let here = ap waiting_count b.forgotten ∙ ap waiting_count b.acts.after in
     omega (arith, here, (leaves_acted b.acts.memory before seat what kept).waiting, fewer, v)) in
     record {
       step = whole_step first at seat what begun between asked new acted_machine left (machine_of last) empty in_it shared b y;

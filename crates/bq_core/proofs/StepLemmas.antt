@@ -1,21 +1,19 @@
 -- A whole step from its parts.
-use Rattle.std.proofs.Common.{◌++◌, ◌+◌, ◌<◌, ◌||◌, ◌∙◌, ◌∷◌, ◌≡◌, if◌then◌else◌, Bool, List, None, Option, []}
-use Rattle.std.proofs.Common.{ℕ, ap, append_assoc, arith, false, inl, inr, length, map, refl, subst, sym}
-use Rattle.std.proofs.{Common.map-id, lemmas.{Bool.Decides.nat_tests, Grind.common_steps, List.length-append}}
-use Rattle.std.proofs.{lemmas.List.Sums.count_by-le-length, Math.Bool.{or-false, or_assoc}}
+use Rattle.std.proofs.Common.{Bool, List, None, Option, [], ap, append_assoc, arith, false, if◌then◌else◌, inl, inr, length, map, map-id}
+use Rattle.std.proofs.{Common.{refl, subst, sym, ℕ, ◌++◌, ◌+◌, ◌<◌, ◌||◌, ◌∙◌, ◌∷◌, ◌≡◌}, Math.Bool.{or-false, or_assoc}}
+use Rattle.std.proofs.lemmas.{Bool.Decides.nat_tests, Grind.common_steps, List.{Sums.count_by-le-length, length-append}}
 use Rattle.std.specs.List.{list_all, list_any}
-use Rattle.bq_job.specs.machine.{Chain, DispatchTurn, GivenAnswer, IsHandOut, IsStep, SeatRecord, TubeRecord, WaitEndTurn, acted, addressed}
-use Rattle.bq_job.specs.machine.{after_hand_out, after_timers, at_moment, forgetting, has_refused_share, is_growth_refused}
-use Rattle.bq_job.specs.machine.{is_seated_at, is_share_refused, is_tube, is_waiting, job_after_timers, next_end}
-use Rattle.bq_job.specs.machine.{next_job, tube_after_timers, with_seat, without_wait, Machine.Machine}
-use Rattle.bq_job.specs.{beside.{IsLawful, waiting_count}, declared.{job.Job.Job, step.Step.Step}}
-use Rattle.bq_job.proofs.{DispatchLemmas.turn_of, KeptLemmas.{Keeps, kept_of_lawful}}
-use Rattle.bq_job.proofs.LawfulLemmas.{end_of, kept_of_timers, leaves_acted, length_addressed, only_tubes, seats_many, served}
-use Rattle.bq_job.proofs.{ListLemmas.list_all_agree, QuietLemmas.forgets_nothing}
+use Rattle.bq_core.{proofs.TurnLemmas.{chain_joined, refused_joined, room_kept}, specs.{Acting.Acts, AtOnce.waiting_at, Serving.NoneIsGone}}
+use Rattle.bq_core.specs.{Serving.ServesInto, Turns.{Gives, HasRoom, none_refused}}
 use Rattle.bq_core_api.specs.Outbox.{Outbox}
+use Rattle.bq_job.proofs.{DispatchLemmas.turn_of, KeptLemmas.{Keeps, kept_of_lawful}, LawfulLemmas.{end_of, kept_of_timers, leaves_acted}}
+use Rattle.bq_job.proofs.{LawfulLemmas.{length_addressed, only_tubes, seats_many, served}, ListLemmas.list_all_agree}
+use Rattle.bq_job.{proofs.QuietLemmas.forgets_nothing, specs.{beside.{IsLawful, waiting_count}, declared.{job.Job.Job, step.Step.Step}}}
+use Rattle.bq_job.specs.machine.{Chain, DispatchTurn, GivenAnswer, IsHandOut, IsStep, SeatRecord, TubeRecord, WaitEndTurn, acted, addressed}
+use Rattle.bq_job.specs.machine.{after_hand_out, after_timers, at_moment, forgetting, has_refused_share, is_growth_refused, is_seated_at}
+use Rattle.bq_job.specs.machine.{is_share_refused, is_tube, is_waiting, job_after_timers, next_end, next_job, tube_after_timers, with_seat}
+use Rattle.bq_job.specs.machine.{Machine.Machine, without_wait}
 use Rattle.bq_state.specs.{CoreParts.machine_of, declared.core_parts.CoreParts.CoreParts}
-use Rattle.bq_core.specs.{Acting.Acts, AtOnce.waiting_at, Serving.{NoneIsGone, ServesInto}, Turns.{Gives, HasRoom, none_refused}}
-use Rattle.bq_core.proofs.TurnLemmas.{chain_joined, refused_joined, room_kept}
 
 -- the same tubes have jobs, and the same are used and watched
 record SameTubes (m n : Machine) : Type 0 where
@@ -34,9 +32,6 @@ changed_alike : (m : Machine) (f : Job → Job) (g : SeatRecord → SeatRecord) 
     → ((name : List ℕ) (s : SeatRecord) → is_seated_at name (g s) ≡ is_seated_at name s) → (name : List ℕ)
     → is_tube name (record m { jobs = map f m.jobs; seats = map g m.seats }) ≡ is_tube name m
 changed_alike m f g in_tube at name = grind (arith, common_steps, agree_any)
-
-one_tube : (b : Bool) (x y : Job) → x.tube ≡ y.tube → (if b then x else y).tube ≡ y.tube
-one_tube b x y h = grind (arith, common_steps)
 
 one_seat : (b : Bool) (x y : SeatRecord) (name : List ℕ) → is_seated_at name x ≡ is_seated_at name y
     → is_seated_at name (if b then x else y) ≡ is_seated_at name y
@@ -59,7 +54,7 @@ waiting_alike m number until none = none_gone_after m (waiting_at number until m
     }
 
 hand_out_alike : (m : Machine) (j : Job) (s : SeatRecord) → SameTubes m (after_hand_out m j s)
-hand_out_alike m j s = grind (arith, common_steps, changed_alike, one_tube, one_seat)
+hand_out_alike m j s = grind (arith, common_steps, changed_alike, one_seat)
 
 given_alike : (m : Machine) (j : Job) (s : SeatRecord) (g : GivenAnswer) (next : Machine) → IsHandOut m j s g next
     → NoneIsGone m → NoneIsGone next
@@ -94,8 +89,7 @@ timers_alike at m none =
     names_alike (λ name. is_tube name n) (tube_after_timers now) (λ t. refl) m.tubes
     ∙ list_all_agree (λ t. is_tube t.name n) (λ t. is_tube t.name m) (λ t.
     ap (λ seats. is_tube t.name (record n { seats = seats })) (sym (map-id m.seats))
-    ∙ changed_alike m (job_after_timers now) (λ s. s) (λ j. grind (arith, common_steps)) (λ name s. refl) t.name) m.tubes
-    ∙ none
+    ∙ changed_alike m (job_after_timers now) (λ s. s) (λ j. grind (arith, common_steps)) (λ name s. refl) t.name) m.tubes ∙ none
 
 pub forgotten_none : (m : Machine) → NoneIsGone (forgetting m)
 forgotten_none m = only_tubes m
@@ -158,21 +152,19 @@ serves_after first middle last old told new g s =
 pub begins : (first fired : CoreParts) (at : ℕ) → IsLawful (machine_of first)
     → machine_of fired ≡ after_timers (at_moment at (machine_of first))
     → forgetting (after_timers (at_moment at (machine_of first))) ≡ machine_of fired
-begins first fired at lawful fires = forgets_nothing (after_timers (at_moment at (machine_of first)))
-    (timers_alike at (machine_of first) lawful.tubes) ∙ sym fires
+begins first fired at lawful fires = forgets_nothing _ (timers_alike at (machine_of first) lawful.tubes) ∙ sym fires
 
 -- at the beginning of a step there is room for an answer to each waiting client, and for one more
 pub first_room : (first fired : CoreParts) (at : ℕ) (begun : Outbox) → IsLawful (machine_of first)
     → machine_of fired ≡ after_timers (at_moment at (machine_of first)) → begun.given ≡ [] → first.config.seats < begun.most
     → HasRoom 1 (machine_of fired) begun
-first_room first fired at begun lawful fires empty h =
-    grind (
-      arith,
-      common_steps,
-      seats_many (machine_of first) (kept_of_lawful (machine_of first) lawful),
-      kept_of_lawful (machine_of first) lawful,
-      count_by-le-length is_waiting (machine_of first).seats,
-    )
+first_room first fired at begun lawful fires empty h = grind (
+  arith,
+  common_steps,
+  seats_many (machine_of first) (kept_of_lawful _ lawful),
+  kept_of_lawful _ lawful,
+  count_by-le-length is_waiting (machine_of first).seats,
+)
 
 -- room for one more answer than there are waiting clients is enough for those
 pub less_room : (m : Machine) (o : Outbox) → HasRoom 1 m o → HasRoom 0 m o
@@ -191,10 +183,9 @@ pub record Begun (first : CoreParts) (at seat : ℕ) (what : Step) (begun betwee
 
 pub keeps : (first : CoreParts) (at seat : ℕ) (what : Step) (begun between asked : Outbox) (acted_machine left : Machine)
     (b : Begun first at seat what begun between asked acted_machine left) → Keeps (machine_of b.served_state)
-keeps first at seat what begun between asked acted_machine left b =
-    let h = kept_of_timers at (machine_of first) (kept_of_lawful (machine_of first) b.lawful) in
-    (served (machine_of b.fired) b.serves.handed b.serves.ended (machine_of b.served_state)
-    (subst Keeps (begins first b.fired at b.lawful b.fires) h) b.serves.serves).keeps
+keeps first at seat what begun between asked acted_machine left b = (served _ _ _ _
+    (subst Keeps (begins first b.fired at b.lawful b.fires) (kept_of_timers at (machine_of first) (kept_of_lawful _ b.lawful)))
+    b.serves.serves).keeps
 
 -- the command's own effect leaves room for an answer to each waiting client
 pub room_after_act : (first : CoreParts) (at seat : ℕ) (what : Step) (begun between asked : Outbox) (acted_machine left : Machine)

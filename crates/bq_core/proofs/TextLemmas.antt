@@ -1,11 +1,9 @@
 -- Texts that are made.
-use Rattle.std.proofs.{Common.{◌++◌, ◌∙◌, ◌∷◌, ◌≡◌, Bor, Err, IfOk, List, Ok, Result, Some}, lemmas.Grind.common_steps}
-use Rattle.std.proofs.Common.{[], ℕ, ap, arith, codes, decimal, flat_map, option_map, refl, sym, true}
-use Rattle.bq_job.specs.declared.{fault.NoMemory.NoMemory, job.Job.Job}
-use Rattle.bq_job.specs.{beside.is_in_order, machine.{job_with, name_list}, texts.Yaml.{KeyValue, key_number, name_line}}
-use Rattle.bq_job.proofs.NameOrderLemmas.{stays_fold}
-use Rattle.bq_jobs.specs.Seen.{but_for_tube}
-use Rattle.bq_jobs.proofs.Changes.{found_id}
+use Rattle.std.proofs.Common.{Bor, Err, IfOk, List, Ok, Result, Some, [], ap, arith, codes, decimal, flat_map, option_map, refl, true, ℕ}
+use Rattle.std.proofs.{Common.{◌++◌, ◌∙◌, ◌∷◌, ◌≡◌}, lemmas.Grind.common_steps}
+use Rattle.bq_job.{proofs.NameOrderLemmas.stays_fold, specs.{beside.is_in_order, declared.{fault.NoMemory.NoMemory, job.Job.Job}}}
+use Rattle.bq_job.specs.{machine.{job_with, name_list}, texts.Yaml.{KeyValue, key_number, name_line}}
+use Rattle.bq_jobs.{proofs.Changes.found_id, specs.Seen.but_for_tube}
 use Rattle.bq_state.specs.Names.{names_of}
 
 -- A known text is the same for each matching machine.
@@ -34,6 +32,5 @@ lines_of (name ∷ names) = ap (λ more. name_line name.now ++ more) (lines_of n
 pub names_told : (names : List (Bor (List ℕ))) (r : Result (List ℕ) NoMemory) → is_in_order (names_of names) ≡ true
     → IfOk r (λ text. text ≡ codes "---\n" ++ flat_map (λ (name : Bor (List ℕ)). name_line name.now) names)
     → IfOk r (λ text. text ≡ name_list (names_of names))
-names_told names (Ok text) order is = is ∙ ap (λ lines. codes "---\n" ++ lines)
-    (lines_of names ∙ ap (flat_map name_line) (sym (stays_fold (names_of names) [] order)))
+names_told names (Ok text) order is = grind (arith, common_steps, lines_of, stays_fold)
 names_told names (Err e) order is = tt

@@ -1,11 +1,10 @@
 -- What a command that asks for one job shows.
-use Rattle.std.proofs.{Common.{◌≡◌, IfOk, List, Ok, Result, ℕ, arith, is_some, true}, lemmas.Grind.common_steps}
-use Rattle.bq_job.specs.{declared.fault.NoMemory.NoMemory, machine.{job_with, showing, telling}}
-use Rattle.bq_job.specs.declared.answer.Answer.TheVariants as answers
-use Rattle.bq_jobs.specs.Seen.{IsBodyOf}
-use Rattle.bq_jobs.proofs.Changes.{found_id}
-use Rattle.bq_state.specs.{CoreParts.{OnlyCompares, machine_of}, declared.core_parts.CoreParts.CoreParts}
+use Rattle.std.proofs.{Common.{IfOk, List, Ok, Result, arith, is_some, true, ℕ, ◌≡◌}, lemmas.Grind.common_steps}
 use Rattle.bq_core.proofs.{ActLemmas.some_there, TurnLemmas.if_ok}
+use Rattle.bq_job.specs.{declared.fault.NoMemory.NoMemory, machine.{job_with, showing, telling}}
+use Rattle.bq_jobs.{proofs.Changes.found_id, specs.Seen.IsBodyOf}
+use Rattle.bq_state.specs.{CoreParts.{OnlyCompares, machine_of}, declared.core_parts.CoreParts.CoreParts}
+use Rattle.bq_job.specs.declared.answer.Answer.TheVariants as answers
 
 -- A job that exists is shown with its body.
 pub shown_so : (st last : CoreParts) (id : ℕ) (r : Result (List ℕ) NoMemory) (body : List ℕ) → r ≡ Ok body

@@ -1,16 +1,16 @@
 -- A turn of dispatch or of the ends of waits, and chains of turns.
-use Rattle.std.proofs.{Common.{◌++◌, ◌<◌, ◌||◌, ◌∙◌, ◌∷◌, ◌≡◌, Bool, List, None, Some, [], ℕ}, lemmas.Result.IfOk-weaker}
-use Rattle.std.proofs.Common.{ap, append-nil, arith, false, get_or, length, refl, slice_get, subst, sym, true}
-use Rattle.std.proofs.{lemmas.{Grind.common_steps, List.length-append, Option.slice_get_read}, Math.Bool.{or-false, or-true}}
-use Rattle.std.specs.{List.{Contains, list_any}, Prelude.{IfOk, Ok, Result, option_map}}
-use Rattle.bq_job.specs.machine.{Chain, DispatchTurn, GivenAnswer, IsHandOut, SeatRecord, WaitEndTurn, end_of_wait, has_refused_share}
-use Rattle.bq_job.specs.machine.{is_job_before, is_out_of_memory, is_waiting, is_waiting_for, next_end, next_job, next_seat, reserved_by}
-use Rattle.bq_job.specs.{beside.waiting_count, declared.{answer.Answer.Answer, fault.NoMemory.NoMemory, job.Job.Job}}
-use Rattle.bq_job.specs.machine.{with_job, with_seat, without_wait, Machine.Machine}
-use Rattle.bq_job.specs.declared.answer.Answer.TheVariants as answers
-use Rattle.bq_job.proofs.{ChoiceLemmas.first_of_none_passes, ComputedLemmas.{next_seat_waits, waiting_falls}}
-use Rattle.bq_core_api.specs.Outbox.{Outbox}
+use Rattle.std.proofs.Common.{Bool, List, None, Some, [], ap, append-nil, arith, false, get_or, length, refl, slice_get, subst, sym, true}
+use Rattle.std.proofs.{Common.{ℕ, ◌++◌, ◌<◌, ◌||◌, ◌∙◌, ◌∷◌, ◌≡◌}, Math.Bool.{or-false, or-true}, lemmas.Grind.common_steps}
+use Rattle.std.{proofs.lemmas.{List.length-append, Option.slice_get_read, Result.IfOk-weaker}, specs.List.{Contains, list_any}}
+use Rattle.std.specs.Prelude.{IfOk, Ok, Result, option_map}
 use Rattle.bq_core.specs.{HandOuts.{AddsHandOut, HandsOut}, Turns.{Gives, HasRoom, none_refused}, WaitEnds.AddsWaitEnd}
+use Rattle.bq_core_api.specs.Outbox.{Outbox}
+use Rattle.bq_job.{proofs.{ChoiceLemmas.first_of_none_passes, ComputedLemmas.{next_seat_waits, waiting_falls}}, specs.beside.waiting_count}
+use Rattle.bq_job.specs.{declared.{answer.Answer.Answer, fault.NoMemory.NoMemory, job.Job.Job}, machine.{Chain, DispatchTurn, GivenAnswer}}
+use Rattle.bq_job.specs.machine.{IsHandOut, SeatRecord, WaitEndTurn, end_of_wait, has_refused_share, is_job_before, is_out_of_memory}
+use Rattle.bq_job.specs.machine.{is_waiting, is_waiting_for, next_end, next_job, next_seat, reserved_by, with_job, with_seat, without_wait}
+use Rattle.bq_job.specs.machine.Machine.{Machine}
+use Rattle.bq_job.specs.declared.answer.Answer.TheVariants as answers
 
 -- a hand-out makes the client stop waiting, whether the reference was given or not
 hand_out_falls : (m : Machine) (j : Job) (s : SeatRecord) (g : GivenAnswer) (next : Machine) → Contains m.seats s → is_waiting s ≡ true
@@ -21,16 +21,15 @@ hand_out_falls m j s g next here waits h = grind (arith, common_steps, waiting_f
 one_turn : (m next : Machine) (old new : Outbox) (j : Job) (s : SeatRecord) → next_job m ≡ Some j → next_seat m j ≡ Some s
     → Contains m.seats s → is_waiting s ≡ true → AddsHandOut m j s old new next → Gives DispatchTurn has_refused_share m next old new
 one_turn m next old new j s job seat here waits adds =
-    let g = adds.given in
-    let turn : DispatchTurn m g next = rw job (rw seat adds.hand_out) in
+    let turn : DispatchTurn m adds.given next = rw job (rw seat adds.hand_out) in
     record {
-      given = g ∷ [];
+      given = adds.given ∷ [];
       turns = (next, turn, refl);
       added = ap (λ o. o.given) adds.added;
       most = ap (λ o. o.most) adds.added;
       left_out = ap (λ o. o.left_out) adds.added;
-      unshared = ap (λ o. o.unshared) adds.added ∙ ap (λ b. old.unshared || b) (sym (or-false (is_out_of_memory g.1)));
-      taken = omega (arith, hand_out_falls m j s g next here waits adds.hand_out);
+      unshared = ap (λ o. o.unshared) adds.added ∙ ap (λ b. old.unshared || b) (sym (or-false (is_out_of_memory adds.given.1)));
+      taken = omega (arith, hand_out_falls m j s adds.given next here waits adds.hand_out);
     }
 
 -- no client waits: there is no next job

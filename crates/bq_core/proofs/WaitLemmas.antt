@@ -1,23 +1,19 @@
 -- The ends of waits, one waiting client after another in the order of their turns.
-use Rattle.std.proofs.Common.{◌&&◌, ◌<◌, ◌==◌, ◌||◌, ◌∙◌, ◌∷◌, ◌≡◌, ◌≤◌, if◌then◌else◌, Bool, List, None, Option, Some, map-id}
-use Rattle.std.proofs.Common.{[], ℕ, arith, false, inl, inr, length, map, not, refl, slice_get, subst, sym, true}
-use Rattle.std.proofs.lemmas.{Bool.{and_parts, cases_Bool, eq-eqb, eqb-true, Decides.nat_tests}, Grind.common_steps}
+use Rattle.std.proofs.Common.{Bool, List, None, Option, Some, [], arith, false, if◌then◌else◌, inl, inr, length, map, map-id, not, refl}
+use Rattle.std.proofs.{Common.{slice_get, subst, sym, true, ℕ, ◌&&◌, ◌<◌, ◌==◌, ◌||◌, ◌∙◌, ◌∷◌, ◌≡◌, ◌≤◌}, lemmas.Bool.and_parts}
+use Rattle.std.proofs.lemmas.{Bool.{Decides.nat_tests, cases_Bool, eq-eqb, eqb-true}, Grind.common_steps}
 use Rattle.std.specs.{List.{AllByRecursion as All, Contains, list_any}, Prelude.count_by}
-use Rattle.bq_job.specs.machine.{SeatRecord, WaitEndTurn, end_of_wait, ends_waiting, first_of, is_deadline_soon, is_pair_before}
-use Rattle.bq_job.specs.machine.{is_timed_out, is_wait_before, is_waiting, next_end, ticket_of, with_seat, without_wait, Machine.Machine}
-use Rattle.bq_job.specs.{beside.waiting_count, declared.answer.Answer.Answer}
-use Rattle.bq_job.specs.declared.answer.Answer.TheVariants as answers
-use Rattle.bq_job.proofs.ChoiceLemmas.{first_of_contains, first_of_is, first_of_is_least, first_of_none}
-use Rattle.bq_job.proofs.ChoiceLemmas.{first_of_none_passes, first_of_passes, pair_order}
-use Rattle.bq_job.proofs.{ComputedLemmas.waiting_falls, KeptLemmas.only_seat, ChoiceLemmas.pair_other, ListLemmas.one_or_none}
-use Rattle.bq_job.proofs.ListLemmas.{all_always, all_at, all_from_members, all_of_map, count_cons}
-use Rattle.bq_job.proofs.ListLemmas.{found_passes, list_any_not, list_any_with, none_pass}
+use Rattle.bq_core.{proofs.TurnLemmas.{gives_nothing, one_end}, specs.{Turns.{Gives, none_refused}, WaitEnds.LooksAt}}
 use Rattle.bq_core_api.specs.Outbox.{Outbox}
-use Rattle.bq_state.specs.declared.core_parts.CoreParts.{CoreParts}
-use Rattle.bq_state.specs.{CoreParts.machine_of, EndingWaits.{AreLookedAt, is_after, left_after, told_at_end, turn_of, waits_after}}
-use Rattle.bq_state.proofs.PartsLemmas.{seat_read, some_at}
-use Rattle.bq_core.specs.{Turns.{Gives, none_refused}, WaitEnds.LooksAt}
-use Rattle.bq_core.proofs.TurnLemmas.{gives_nothing, one_end}
+use Rattle.bq_job.proofs.ChoiceLemmas.{first_of_contains, first_of_is, first_of_is_least, first_of_none, first_of_none_passes}
+use Rattle.bq_job.proofs.{ChoiceLemmas.{first_of_passes, pair_order, pair_other}, ComputedLemmas.waiting_falls, KeptLemmas.only_seat}
+use Rattle.bq_job.proofs.ListLemmas.{all_always, all_at, all_from_members, all_of_map, count_cons, found_passes, list_any_not}
+use Rattle.bq_job.{proofs.ListLemmas.{list_any_with, none_pass, one_or_none}, specs.{beside.waiting_count, declared.answer.Answer.Answer}}
+use Rattle.bq_job.specs.machine.{SeatRecord, WaitEndTurn, end_of_wait, ends_waiting, first_of, is_deadline_soon, is_pair_before}
+use Rattle.bq_job.specs.machine.{Machine.Machine, is_timed_out, is_wait_before, is_waiting, next_end, ticket_of, with_seat, without_wait}
+use Rattle.bq_state.{proofs.PartsLemmas.{seat_read, some_at}, specs.{CoreParts.machine_of, EndingWaits.{AreLookedAt, is_after, left_after}}}
+use Rattle.bq_state.specs.{EndingWaits.{told_at_end, turn_of, waits_after}, declared.core_parts.CoreParts.CoreParts}
+use Rattle.bq_job.specs.declared.answer.Answer.TheVariants as answers
 
 -- the answer to a waiting client, by its first lease and its timeout
 pub told_soon : (m : Machine) (s : SeatRecord) → is_deadline_soon m s ≡ true → Some answers.DeadlineSoon ≡ told_at_end m s
@@ -35,9 +31,6 @@ pub told_is : (m : Machine) (s : SeatRecord) (answer : Answer) → is_waiting s 
     → (ends_waiting m s ≡ true) × (answer ≡ end_of_wait m s)
 told_is m s answer waits told = grind (arith, common_steps)
 
-pub told_nothing : (m : Machine) (s : SeatRecord) → None ≡ told_at_end m s → ends_waiting m s ≡ false
-told_nothing m s told = grind (arith, common_steps)
-
 -- no client was checked
 pub none_looked_at : (m : Machine) → AreLookedAt m None
 none_looked_at m = all_always (λ s. ends_waiting m s ≡ true → true ≡ true) m.seats (λ s h. refl)
@@ -48,9 +41,8 @@ all_left m = grind (arith, common_steps, count_cons)
 -- no client is left: no wait ends
 pub none_left : (m : Machine) (last : Option (ℕ × ℕ)) → AreLookedAt m last
     → None ≡ first_of (waits_after last) is_wait_before m.seats → next_end m ≡ None
-none_left m last looked none =
-    first_of_none_passes (ends_waiting m) is_wait_before m.seats (list_any_not (ends_waiting m) m.seats
-    (go m.seats looked (none_pass (waits_after last) m.seats (first_of_none (waits_after last) is_wait_before m.seats (sym none)))))
+none_left m last looked none = first_of_none_passes (ends_waiting m) is_wait_before m.seats (list_any_not _ _
+    (go m.seats looked (none_pass _ _ (first_of_none (waits_after last) is_wait_before m.seats (sym none)))))
   where
     one : (w e a : Bool) → (w && e ≡ true → a ≡ true) → (w && a) ≡ false → (w && e) ≡ false
     one w e a h i = grind (arith, common_steps)
@@ -65,8 +57,7 @@ none_left m last looked none =
 no_more : (p q : SeatRecord → Bool) (f : SeatRecord → SeatRecord) (xs : List SeatRecord) → All (λ x. q (f x) ≡ true → p x ≡ true) xs
     → count_by q (map f xs) ≤ count_by p xs
 no_more p q f [] w = omega arith
-no_more p q f (x ∷ xs) w = rw (count_cons q (f x) (map f xs), count_cons p x xs)
-    (omega (arith, one_or_none (p x) (q (f x)) w.0, no_more p q f xs w.1))
+no_more p q f (x ∷ xs) w = grind (arith, common_steps, count_cons, one_or_none, no_more p q f xs w.1)
 
 fewer : (p q : SeatRecord → Bool) (f : SeatRecord → SeatRecord) (xs : List SeatRecord) → All (λ x. q (f x) ≡ true → p x ≡ true) xs
     → list_any (λ x. p x && not (q (f x))) xs ≡ true → count_by q (map f xs) < count_by p xs
@@ -100,8 +91,7 @@ module _ (st : CoreParts) (last : Option (ℕ × ℕ)) (looked : AreLookedAt (ma
   one_waits = omega (arith, waiting_falls (machine_of st) s member passes.0)
 
   number_is : s.number ≡ k
-  number_is =
-      eqb-true s.number k ((found_passes (λ t. t.number == k) st.seats.items s (seat_read st.seats.items k s st.sound.numbered here)).0)
+  number_is = eqb-true s.number k ((found_passes (λ t. t.number == k) _ _ (seat_read _ _ _ st.sound.numbered here)).0)
 
   only : All (λ t. t.number ≡ k → t ≡ s) st.seats.items
   only = only_seat 0 (length st.seats.items) k st.seats.items s st.sound.numbered (seat_read st.seats.items k s st.sound.numbered here)
@@ -118,10 +108,8 @@ module _ (st : CoreParts) (last : Option (ℕ × ℕ)) (looked : AreLookedAt (ma
   comes_after t c w other = pair_other (ticket_of s.wait) s.number (ticket_of t.wait) t.number (not_sooner t c w) other
 
   next_is : ends_waiting (machine_of st) s ≡ true → next_end (machine_of st) ≡ Some s
-  next_is e =
-      first_of_is (ends_waiting (machine_of st)) (pair_order (λ u. ticket_of u.wait) (λ u. u.number)) st.seats.items s member e
-      (λ y c p. not_sooner y c (is_left y c p))
-      (λ y c a b. all_at (λ t. t.number ≡ k → t ≡ s) st.seats.items y only c ((grind (arith, nat_tests)) ∙ number_is))
+  next_is e = first_of_is _ (pair_order (λ u. ticket_of u.wait) (λ u. u.number)) _ _ member e (λ y c p. not_sooner y c (is_left y c p))
+      (λ y c a b. all_at _ _ _ only c ((grind (arith, nat_tests)) ∙ number_is))
 
   -- what becomes of it
   module _ (old new : Outbox) (next : Machine) (looks : LooksAt (machine_of st) k old new next) where
@@ -129,8 +117,8 @@ module _ (st : CoreParts) (last : Option (ℕ × ℕ)) (looked : AreLookedAt (ma
     look_given =
         let is = looks s here passes.0 in
         elim (cases_Bool (ends_waiting (machine_of st) s)) [
-          | inl e ↦ one_end (machine_of st) next old new s (next_is e) member passes.0 (is.ends e)
-          | inr e ↦ let same = is.stays e in rw (same.machine, same.outs) (gives_nothing WaitEndTurn none_refused refl (machine_of st) old)
+          | inl e ↦ one_end _ _ _ _ _ (next_is e) member passes.0 (is.ends e)
+          | inr e ↦ let same = is.stays e in rw (same.machine, same.outs) (gives_nothing _ _ refl _ _)
         ]
 
     pub look_passed : AreLookedAt next (Some (turn_of s))
@@ -138,12 +126,9 @@ module _ (st : CoreParts) (last : Option (ℕ × ℕ)) (looked : AreLookedAt (ma
         let is = looks s here passes.0 in
         elim (cases_Bool (ends_waiting (machine_of st) s)) [
           | inl e ↦ subst (λ (n : Machine). AreLookedAt n (Some (turn_of s))) (sym (is.ends e).ended) (
-              all_of_map (λ t. ends_waiting (with_seat s.number without_wait (machine_of st)) t ≡ true
-              → is_after (Some (turn_of s)) t ≡ true) (λ t. if t.number == s.number then without_wait t else t) st.seats.items
-              (all_from_members _ st.seats.items (λ t c. gone t c (t.number == s.number) refl))
+              all_of_map _ _ _ (all_from_members _ _ (λ t c. gone t c (t.number == s.number) refl))
               )
-          | inr e ↦ subst (λ (n : Machine). AreLookedAt n (Some (turn_of s))) (sym (is.stays e).machine)
-              (all_from_members (λ t. ends_waiting (machine_of st) t ≡ true → is_after (Some (turn_of s)) t ≡ true) st.seats.items
+          | inr e ↦ subst (λ (n : Machine). AreLookedAt n (Some (turn_of s))) (sym (is.stays e).machine) (all_from_members _ _
               (λ t c h. stays t c e h (t.number == s.number) refl))
         ]
       where
@@ -165,12 +150,10 @@ module _ (st : CoreParts) (last : Option (ℕ × ℕ)) (looked : AreLookedAt (ma
               (fewer (waits_after last) q (λ t. if t.number == s.number then without_wait t else t) st.seats.items
               (all_always _ st.seats.items (λ t. less t (t.number == s.number)))
               (list_any_with (λ t. waits_after last t && not (q (if t.number == s.number then without_wait t else t)))
-              st.seats.items s member
-              (rw (passes.0, passes.1) (out (s.number == s.number) (eq-eqb s.number s.number refl)))))
+              st.seats.items s member (rw (passes.0, passes.1) (out (s.number == s.number) (eq-eqb s.number s.number refl)))))
           | inr e ↦ subst (λ (n : Machine). left_after (Some (turn_of s)) n < left_after last (machine_of st)) (sym (is.stays e).machine)
               (subst (λ seats. count_by q seats < count_by (waits_after last) st.seats.items) (map-id st.seats.items)
-              (fewer (waits_after last) q (λ t. t) st.seats.items
-              (all_always _ st.seats.items (λ t. later t))
+              (fewer (waits_after last) q (λ t. t) st.seats.items (all_always _ st.seats.items (λ t. later t))
               (list_any_with (λ t. waits_after last t && not (q t)) st.seats.items s member
               (rw (passes.0, passes.1, pair_alone (ticket_of s.wait) s.number) refl))))
         ]

@@ -1,13 +1,11 @@
 -- The tubes that waiting clients watch, as commands change the seats.
-use Rattle.std.proofs.Common.{◌∙◌, ◌∷◌, ◌≡◌, ◌≤◌, List, [], ℕ, arith, false, length, map, subst, true}
-use Rattle.std.proofs.lemmas.{Bool.eqb-true, Grind.common_steps, List.Sums.sum_by-cons}
-use Rattle.std.specs.{List.{AllByRecursion as All, sum_by}, Prelude.count_by}
-use Rattle.bq_job.specs.{declared.{request.Request.Request, step.Step.Step}, beside.{IsLawful, waiting_count, watches_once}}
-use Rattle.bq_job.specs.machine.{Effect, Memory, SeatRecord, acted, after_close, after_connect, asked}
-use Rattle.bq_job.specs.machine.{empty_seat, is_waiting, numbers, with_end, with_seat, Machine.Machine}
-use Rattle.bq_job.proofs.{CommandKinds.kind_of, EachEvent.{IsSeat, each_acted}, EffectKinds.Kind, KeptLemmas.only_seat}
-use Rattle.bq_job.proofs.ListLemmas.{all_always, all_pass, all_weaker, count_cons}
+use Rattle.std.proofs.{Common.{List, [], arith, false, length, map, subst, true, ℕ, ◌∙◌, ◌∷◌, ◌≡◌, ◌≤◌}, lemmas.Bool.eqb-true}
+use Rattle.std.{proofs.lemmas.{Grind.common_steps, List.Sums.sum_by-cons}, specs.{List.{AllByRecursion as All, sum_by}, Prelude.count_by}}
 use Rattle.bq_core_api.specs.Cost.{tubes_watched, watched_tubes}
+use Rattle.bq_job.proofs.{CommandKinds.kind_of, EachEvent.{IsSeat, each_acted}, EffectKinds.Kind, KeptLemmas.only_seat}
+use Rattle.bq_job.{proofs.ListLemmas.{all_always, all_pass, all_weaker, count_cons}, specs.beside.{IsLawful, waiting_count, watches_once}}
+use Rattle.bq_job.specs.{declared.{request.Request.Request, step.Step.Step}, machine.{Effect, Memory, SeatRecord, acted, after_close}}
+use Rattle.bq_job.specs.machine.{Machine.Machine, after_connect, asked, empty_seat, is_waiting, numbers, with_end, with_seat}
 use Rattle.bq_state.specs.Cost.{waited, waited_tubes}
 
 sum_no_more : {X : Type 0} (f g : X → ℕ) (xs : List X) → All (λ x. f x ≤ g x) xs → sum_by f xs ≤ sum_by g xs
@@ -23,8 +21,7 @@ one_seat number s = grind (arith, common_steps)
 
 -- a waiting client is among those that wait or are at the seat
 pub waited_few : (number : ℕ) (m : Machine) → waited m ≤ watched_tubes number m
-waited_few number m = sum_no_more waited_tubes (tubes_watched number) m.seats
-    (all_always (λ s. waited_tubes s ≤ tubes_watched number s) m.seats (one_seat number))
+waited_few number m = grind (arith, common_steps, sum_no_more, all_always, one_seat)
 
 -- a change of one seat after which no more tubes are waited for than were watched there
 with_seat_few : (number : ℕ) (f : SeatRecord → SeatRecord) (m : Machine)
@@ -33,8 +30,7 @@ with_seat_few number f m less = grind (arith, common_steps, sum_of_map, all_weak
 
 always_few : (number : ℕ) (f : SeatRecord → SeatRecord) (m : Machine) → ((s : SeatRecord) → waited_tubes (f s) ≤ length s.watched)
     → waited (with_seat number f m) ≤ watched_tubes number m
-always_few number f m less = with_seat_few number f m
-    (all_always (λ s. s.number ≡ number → waited_tubes (f s) ≤ length s.watched) m.seats (λ s e. less s))
+always_few number f m less = grind (arith, common_steps, with_seat_few, all_always)
 
 -- every kind of command
 kind_few : (request : Request) (m : Machine) (s : SeatRecord) {e : Effect} → Kind m s request e
@@ -43,9 +39,7 @@ kind_few request m s h alone quiet = grind (arith, common_steps, waited_few, alw
 
 alone_at : (m : Machine) (seat : ℕ) (s : SeatRecord) → map (λ s. s.number) m.seats ≡ numbers 0 m.settings.seats → IsSeat m seat s
     → All (λ t. t.number ≡ s.number → t ≡ s) m.seats
-alone_at m seat s seated is =
-    all_weaker (λ t. t.number ≡ seat → t ≡ s) (λ t. t.number ≡ s.number → t ≡ s) m.seats (λ t only i. only (i ∙ is.number))
-    (only_seat 0 m.settings.seats seat m.seats s seated is.found)
+alone_at m seat s seated is = all_weaker _ _ _ (λ t only i. only (i ∙ is.number)) (only_seat _ _ _ _ _ seated is.found)
 
 -- After the command's own effect, a waiting client is one that waited before it or the one that
 -- asked.

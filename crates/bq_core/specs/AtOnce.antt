@@ -1,14 +1,13 @@
 -- A command's own effect, and the job that a reserve is given at once.
-use Rattle.std.specs.Prelude.{◌*◌, ◌+◌, ◌≡◌, Bool, Option, false, length, true, ℕ}
-use Rattle.bq_job.specs.declared.{request.Request.Request, step.Step.Step}
-use Rattle.bq_job.specs.machine.{DispatchTurn, forgetting, has_refused_share, raised, waiting_from, with_seat, Machine.Machine}
+use Rattle.std.specs.Prelude.{Bool, Option, false, length, true, ℕ, ◌*◌, ◌+◌, ◌≡◌}
+use Rattle.bq_core.specs.{Acting.Acts, Turns.Gives}
+use Rattle.bq_core_api.specs.{Cost.changed_jobs, Outbox.Outbox}
+use Rattle.bq_job.specs.{declared.{request.Request.Request, step.Step.Step}, machine.{DispatchTurn, forgetting, has_refused_share, raised}}
+use Rattle.bq_job.specs.machine.{Machine.Machine, waiting_from, with_seat}
+use Rattle.bq_jobs.specs.{Kept.Kept, Searching.Asks}
+use Rattle.bq_state.specs.{Asking.AsksWithin, Cost.waited}
 use Rattle.bq_job.specs.declared.request.Request.TheVariants as requests
 use Rattle.bq_job.specs.declared.step.Step.TheVariants as steps
-use Rattle.bq_jobs.specs.Kept.{Kept}
-use Rattle.bq_core_api.specs.{Cost.changed_jobs, Outbox.Outbox}
-use Rattle.bq_jobs.specs.Searching.{Asks}
-use Rattle.bq_state.specs.{Asking.AsksWithin, Cost.waited}
-use Rattle.bq_core.specs.{Acting.Acts, Turns.Gives}
 
 abbrev pub is_reserve_request : Request → Bool
 is_reserve_request requests.Reserve = true

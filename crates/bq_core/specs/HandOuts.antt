@@ -1,9 +1,8 @@
 -- One job is handed out.
-use Rattle.std.specs.{Option.option_map, Prelude.{◌++◌, ◌||◌, ◌∷◌, ◌≡◌, IfOk, List, Result, Some, [], ℕ}}
-use Rattle.bq_job.specs.declared.{fault.NoMemory.NoMemory, job.Job.Job}
-use Rattle.bq_job.specs.machine.{GivenAnswer, IsHandOut, SeatRecord, is_out_of_memory, next_job, next_seat}
-use Rattle.bq_job.specs.machine.{reserved_by, with_job, with_seat, without_wait, Machine.Machine}
+use Rattle.std.specs.{Option.option_map, Prelude.{IfOk, List, Result, Some, [], ℕ, ◌++◌, ◌||◌, ◌∷◌, ◌≡◌}}
 use Rattle.bq_core_api.specs.Outbox.{Outbox}
+use Rattle.bq_job.specs.{declared.{fault.NoMemory.NoMemory, job.Job.Job}, machine.{GivenAnswer, IsHandOut, SeatRecord, is_out_of_memory}}
+use Rattle.bq_job.specs.machine.{Machine.Machine, next_job, next_seat, reserved_by, with_job, with_seat, without_wait}
 
 -- the client at this seat gets the next job, if there is one
 abbrev pub IsPicked : Machine → ℕ → Type 0

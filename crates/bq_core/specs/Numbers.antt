@@ -1,8 +1,8 @@
 -- The numbers in statistics are those of the machine.
-use Rattle.std.specs.Prelude.{◌≡◌, List, ℕ, count_by, length}
-use Rattle.bq_job.specs.machine.{is_waiting, jobs_in, tube_record, tubes, using_count, waiting_clients_of, watching_count, Machine.Machine}
-use Rattle.bq_state.specs.Tallies.{tally_of}
+use Rattle.std.specs.Prelude.{List, count_by, length, ℕ, ◌≡◌}
 use Rattle.bq_core.specs.declared.texts.statistics.{ServerNumbers.ServerNumbers, TubeNumbers.TubeNumbers}
+use Rattle.bq_job.specs.machine.{Machine.Machine, is_waiting, jobs_in, tube_record, tubes, using_count, waiting_clients_of, watching_count}
+use Rattle.bq_state.specs.Tallies.{tally_of}
 
 -- the numbers of the tube with this name
 pub record AreOfTube (n : TubeNumbers) (name : List ℕ) (m : Machine) : Type 0 where

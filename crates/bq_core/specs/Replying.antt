@@ -1,10 +1,10 @@
 -- The outcomes of commands, between the states before and after.
-use Rattle.std.specs.Prelude.{◌≡◌, Bool, Option, ℕ}
-use Rattle.bq_job.specs.declared.answer.Answer.{Answer}
-use Rattle.bq_job.specs.machine.{Effect, SeatRecord, reserve_effect, showing, silent, telling, Machine.Machine}
-use Rattle.bq_state.specs.declared.{core_parts.CoreParts.CoreParts, job_store.JobKind.JobKind}
-use Rattle.bq_state.specs.{CoreParts.{AtSeat, machine_of}, JobKinds.first_of_kind}
+use Rattle.std.specs.Prelude.{Bool, Option, ℕ, ◌≡◌}
 use Rattle.bq_core.specs.{Acting.Replies, declared.acts.Reply.Reply}
+use Rattle.bq_job.specs.{declared.answer.Answer.Answer, machine.{Effect, SeatRecord, reserve_effect, showing, silent, telling}}
+use Rattle.bq_job.specs.machine.Machine.{Machine}
+use Rattle.bq_state.specs.{CoreParts.{AtSeat, machine_of}, JobKinds.first_of_kind, declared.core_parts.CoreParts.CoreParts}
+use Rattle.bq_state.specs.declared.job_store.JobKind.{JobKind}
 
 -- a request had this outcome
 abbrev pub RepliesBy : Bool → (Machine → Effect) → CoreParts → Reply → Answer → CoreParts → Type 0

@@ -1,7 +1,7 @@
 -- What dispatch and the ends of waits append to the answers.
-use Rattle.std.specs.Prelude.{◌++◌, ◌+◌, ◌||◌, ◌≡◌, ◌≤◌, Bool, List, ℕ, false, length}
-use Rattle.bq_job.specs.{beside.waiting_count, machine.{Chain, GivenAnswer, Machine.Machine}}
+use Rattle.std.specs.Prelude.{Bool, List, false, length, ℕ, ◌++◌, ◌+◌, ◌||◌, ◌≡◌, ◌≤◌}
 use Rattle.bq_core_api.specs.Outbox.{Outbox}
+use Rattle.bq_job.specs.{beside.waiting_count, machine.{Chain, GivenAnswer, Machine.Machine}}
 
 -- Turns of this kind led from the first machine to the last, and their answers were appended.
 -- `refused` says what they mean for the mark of failed allocations of references. Each made a

@@ -1,8 +1,8 @@
 -- One wait ends.
-use Rattle.std.specs.Prelude.{◌++◌, ◌∷◌, ◌≡◌, Some, [], ℕ, false, slice_get, true}
-use Rattle.bq_job.specs.declared.answer.Answer.{Answer}
-use Rattle.bq_job.specs.machine.{SeatRecord, end_of_wait, ends_waiting, is_waiting, with_seat, without_wait, Machine.Machine}
+use Rattle.std.specs.Prelude.{Some, [], false, slice_get, true, ℕ, ◌++◌, ◌∷◌, ◌≡◌}
 use Rattle.bq_core_api.specs.Outbox.{Outbox}
+use Rattle.bq_job.specs.{declared.answer.Answer.Answer, machine.{SeatRecord, end_of_wait, ends_waiting, is_waiting, with_seat}}
+use Rattle.bq_job.specs.machine.{Machine.Machine, without_wait}
 
 -- the wait of this client ended, and it was answered
 pub record AddsWaitEnd (m : Machine) (s : SeatRecord) (old new : Outbox) (last : Machine) : Type 0 where

@@ -1,14 +1,9 @@
 //! The command's own effect, by kind, and its answer.
-ghost use Rattle.std.specs.Prelude.{◌≡◌, true};
-ghost use Rattle.bq_job.specs.machine.Asked.{asked, effect, refusal_answer as answer_of_refusal};
-ghost use Rattle.bq_job.specs.machine.Changes.{seat_with};
+ghost use Rattle.std.specs.Prelude.{true, ◌≡◌};
+ghost use Rattle.bq_core.specs.{Acting.Acts, Replying.{RepliesAt, RepliesBy}, Turns.HasRoom};
+ghost use Rattle.bq_job.specs.machine.{Asked.{asked, effect, refusal_answer as answer_of_refusal}, Changes.seat_with};
 ghost use Rattle.bq_job.specs.machine.Steps.{step_takes_memory, takes_memory};
-ghost use Rattle.bq_state.specs.Asking.{AsksAsChanged};
-ghost use Rattle.bq_core.specs.Acting.{Acts};
-ghost use Rattle.bq_state.specs.SeatStates.{is_asking};
-ghost use Rattle.bq_core.specs.Replying.{RepliesAt, RepliesBy};
-ghost use Rattle.bq_state.specs.CoreParts.{machine_of};
-ghost use Rattle.bq_core.specs.Turns.{HasRoom};
+ghost use Rattle.bq_state.specs.{Asking.AsksAsChanged, CoreParts.machine_of, SeatStates.is_asking};
 ghost use Rattle.bq_job.specs.declared.step.Step.TheVariants as steps;
 
 use crate::job_acts::{NewJob, NewTurn};

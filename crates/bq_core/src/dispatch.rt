@@ -1,30 +1,18 @@
 //! Hands ready jobs out: to the clients that wait for them, and to a client whose reserve finds one at
 //! once.
-ghost use Rattle.std.specs.Prelude.{◌≡◌, ◌&&◌, ◌<◌, ◌+◌, ◌++◌, ◌∷◌, [], None, Some, true, false, IfSome, IfOk};
-ghost use Rattle.std.specs.Prelude.{fold, if◌then◌else◌, is_some, length};
-ghost use Rattle.std.specs.List.{AllByRecursion, list_any, sum_by};
-ghost use Rattle.std.specs.Option.{option_map};
-ghost use Rattle.bq_job.specs.declared.answer.Answer.TheVariants as answers;
-ghost use Rattle.bq_job.specs.machine.Changes.{first_of, job_with, seat_with, with_job, with_seat, without_wait};
-ghost use Rattle.bq_job.specs.beside.Computed.{waiting_count};
-ghost use Rattle.bq_job.specs.machine.Dispatch.{DispatchTurn, is_wait_before, next_job, reserved_by};
-ghost use Rattle.bq_job.specs.machine.Limits.{raised};
+ghost use Rattle.std.specs.{List.{AllByRecursion, list_any, sum_by}, Option.option_map, Prelude.{IfOk, IfSome, None, Some, [], false}};
+ghost use Rattle.std.specs.Prelude.{fold, if◌then◌else◌, is_some, length, true, ◌&&◌, ◌++◌, ◌+◌, ◌<◌, ◌∷◌, ◌≡◌};
+ghost use Rattle.bq_core.specs.{AtOnce.{ActsOrGives, is_reserve}, HandOuts.{HandsOut, IsPicked, handed_to}, Serving.IsLastTurn};
+ghost use Rattle.bq_core.specs.{Serving.NoneIsGone, Turns.{Gives, HasRoom}};
+ghost use Rattle.bq_job.specs.{beside.Computed.waiting_count, machine.Changes.{first_of, job_with, seat_with, with_job, with_seat}};
+ghost use Rattle.bq_job.specs.machine.{Changes.without_wait, Dispatch.{DispatchTurn, is_wait_before, next_job, reserved_by}, Limits.raised};
 ghost use Rattle.bq_job.specs.machine.Steps.{has_refused_share};
-ghost use Rattle.bq_jobs.specs.Seen.{IsBodyOf};
-ghost use Rattle.bq_jobs.specs.Searching.{Asks, Searches};
-ghost use Rattle.bq_state.specs.Asking.{AsksByTurn};
-ghost use Rattle.bq_state.specs.Cost.{waited, waited_tubes};
-ghost use Rattle.bq_core.specs.AtOnce.{ActsOrGives, is_reserve};
-ghost use Rattle.bq_core.specs.HandOuts.{HandsOut, IsPicked, handed_to};
+ghost use Rattle.bq_jobs.specs.{Searching.{Asks, Searches}, Seen.IsBodyOf};
+ghost use Rattle.bq_state.specs.{Asking.AsksByTurn, CoreParts.{AtSeat, machine_of}, Cost.{waited, waited_tubes}, Keeping.Looks};
 ghost use Rattle.bq_state.specs.Offers.{better_rank, is_waited_at, next_rank, offered, these, waits_at, with_offer, with_offers};
-ghost use Rattle.bq_state.specs.WaitingTurns.{by_seat, turns_of, waited_at};
-ghost use Rattle.bq_state.specs.SeatChanges.{AreNumbered};
-ghost use Rattle.bq_state.specs.SeatStates.{is_asking};
-ghost use Rattle.bq_state.specs.Keeping.{Looks};
-ghost use Rattle.bq_state.specs.CoreParts.{AtSeat, machine_of};
+ghost use Rattle.bq_state.specs.{SeatChanges.AreNumbered, SeatStates.is_asking, WaitingTurns.{by_seat, turns_of, waited_at}};
 ghost use Rattle.bq_state.specs.WantedJobs.{is_nothing, may_get};
-ghost use Rattle.bq_core.specs.Turns.{Gives, HasRoom};
-ghost use Rattle.bq_core.specs.Serving.{IsLastTurn, NoneIsGone};
+ghost use Rattle.bq_job.specs.declared.answer.Answer.TheVariants as answers;
 
 use crate::acts;
 use bq_core_api::Outs;

@@ -1,17 +1,11 @@
 //! Commands on one job, and those that wait for one.
-ghost use Rattle.std.specs.Prelude.{◌≡◌, true, false, Some};
-ghost use Rattle.bq_job.specs.declared.answer.Answer.TheVariants as answers;
-ghost use Rattle.bq_job.specs.machine.Acts.{telling};
-ghost use Rattle.bq_job.specs.machine.Changes.{seat_with};
-ghost use Rattle.bq_job.specs.machine.JobCommands.{is_full as is_full_of, new_job as job_of_put};
-ghost use Rattle.bq_job.specs.machine.JobCommands.{bury_effect, delete_effect, kick_job_effect, put_effect, release_effect};
-ghost use Rattle.bq_job.specs.machine.JobCommands.{reserve_job_effect, touch_effect};
-ghost use Rattle.bq_job.specs.machine.Limits.{later as later_by};
-ghost use Rattle.bq_job.specs.machine.Machine.{SeatRecord};
-ghost use Rattle.bq_state.specs.Asking.{AsksAsChanged};
-ghost use Rattle.bq_state.specs.SeatStates.{is_asking};
+ghost use Rattle.std.specs.Prelude.{Some, false, true, ◌≡◌};
 ghost use Rattle.bq_core.specs.Replying.{AnswersTo, RepliesAt, RepliesTo, Waits};
-ghost use Rattle.bq_state.specs.CoreParts.{machine_of};
+ghost use Rattle.bq_job.specs.machine.{Acts.telling, Changes.seat_with, JobCommands.{bury_effect, delete_effect, is_full as is_full_of}};
+ghost use Rattle.bq_job.specs.machine.JobCommands.{kick_job_effect, new_job as job_of_put, put_effect, release_effect, reserve_job_effect};
+ghost use Rattle.bq_job.specs.machine.{JobCommands.touch_effect, Limits.later as later_by, Machine.SeatRecord};
+ghost use Rattle.bq_state.specs.{Asking.AsksAsChanged, CoreParts.machine_of, SeatStates.is_asking};
+ghost use Rattle.bq_job.specs.declared.answer.Answer.TheVariants as answers;
 
 use crate::acts::Reply;
 use bq_job::{Answer, Body, Counts, Job, JobId, Moment, Pri, Seat};

@@ -1,13 +1,9 @@
-ghost use Rattle.std.specs.Prelude.{◌≡◌, ◌<◌, ◌≤◌, ◌+◌, ◌*◌, [], false, length, take, true, if◌then◌else◌};
-ghost use Rattle.bq_job.specs.declared.job.Job.{Job};
-ghost use Rattle.bq_job.specs.machine.JobCommands.{after_kick, kick_effect, kickable, kicked};
-ghost use Rattle.bq_jobs.specs.Searching.{Asks, Searches};
-ghost use Rattle.bq_state.specs.Asking.{AsksAsChanged};
+ghost use Rattle.std.specs.Prelude.{[], false, if◌then◌else◌, length, take, true, ◌*◌, ◌+◌, ◌<◌, ◌≡◌, ◌≤◌};
+ghost use Rattle.bq_core.specs.{Kicking.{KicksFirst, jobs_of}, Replying.RepliesAt};
 ghost use Rattle.bq_core_api.specs.Cost.{changed_jobs};
-ghost use Rattle.bq_state.specs.JobKinds.{is_of};
-ghost use Rattle.bq_core.specs.Kicking.{KicksFirst, jobs_of};
-ghost use Rattle.bq_core.specs.Replying.{RepliesAt};
-ghost use Rattle.bq_state.specs.CoreParts.{machine_of, count_jobs};
+ghost use Rattle.bq_job.specs.{declared.job.Job.Job, machine.JobCommands.{after_kick, kick_effect, kickable, kicked}};
+ghost use Rattle.bq_jobs.specs.Searching.{Asks, Searches};
+ghost use Rattle.bq_state.specs.{Asking.AsksAsChanged, CoreParts.{count_jobs, machine_of}, JobKinds.is_of};
 
 use crate::acts::Reply;
 use bq_job::{Answer, Seat};

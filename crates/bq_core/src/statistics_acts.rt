@@ -1,14 +1,10 @@
 //! Commands that count or list. They change nothing.
-ghost use Rattle.std.specs.Prelude.{◌≡◌, true, is_some, IfOk, IfSome};
-ghost use Rattle.bq_job.specs.machine.Changes.{job_with};
-ghost use Rattle.bq_job.specs.machine.StatisticsCommands.{list_tubes_effect, list_watched_effect};
-ghost use Rattle.bq_job.specs.machine.StatisticsCommands.{stats_effect, stats_job_effect, stats_tube_effect};
+ghost use Rattle.std.specs.Prelude.{IfOk, IfSome, is_some, true, ◌≡◌};
+ghost use Rattle.bq_core.specs.{Numbers.{AreOfServer, AreOfTube}, Replying.{RepliesAt, RepliesBy}, Texts.TellsJob};
+ghost use Rattle.bq_job.specs.machine.{Changes.job_with, StatisticsCommands.{list_tubes_effect, list_watched_effect, stats_effect}};
+ghost use Rattle.bq_job.specs.machine.StatisticsCommands.{stats_job_effect, stats_tube_effect};
 ghost use Rattle.bq_jobs.specs.Searching.{Searches};
-ghost use Rattle.bq_state.specs.Asking.{AsksAsChanged};
-ghost use Rattle.bq_core.specs.Numbers.{AreOfServer, AreOfTube};
-ghost use Rattle.bq_core.specs.Replying.{RepliesAt, RepliesBy};
-ghost use Rattle.bq_state.specs.CoreParts.{machine_of};
-ghost use Rattle.bq_core.specs.Texts.{TellsJob};
+ghost use Rattle.bq_state.specs.{Asking.AsksAsChanged, CoreParts.machine_of};
 
 use crate::acts::Reply;
 use crate::texts::{ServerNumbers, TubeNumbers, job_text, names_text, server_text, tube_text};

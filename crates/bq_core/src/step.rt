@@ -1,15 +1,10 @@
 //! The core, and the parts of a step in order.
-ghost use Rattle.std.specs.Prelude.{◌≡◌, ◌<◌, ◌↔◌, ◌&&◌, not, IsTrue, IfOk, IsErrOf};
-ghost use Rattle.bq_job.specs.beside.Lawful.{IsLawful};
-ghost use Rattle.bq_job.specs.machine.Machine.{new_machine};
-ghost use Rattle.bq_job.specs.beside.NextDue.{next_due};
-ghost use Rattle.bq_job.specs.machine.Steps.{IsStep};
-ghost use Rattle.bq_core_api.specs.Cost.{IsLookWithin, IsStepWithin};
-ghost use Rattle.bq_core_api.specs.Limits.{is_body_size, is_job_limit, is_seat_count};
-ghost use Rattle.bq_state.specs.CoreParts.{machine_of};
+ghost use Rattle.std.specs.Prelude.{IfOk, IsErrOf, IsTrue, not, ◌&&◌, ◌<◌, ◌↔◌, ◌≡◌};
+ghost use Rattle.bq_core.specs.{Serving.{NoneIsGone, ServesAsking, TakesStepWithin}, Turns.HasRoom};
+ghost use Rattle.bq_core_api.specs.{Cost.{IsLookWithin, IsStepWithin}, Limits.{is_body_size, is_job_limit, is_seat_count}};
 ghost use Rattle.bq_core_api.specs.Outbox.{outcome_of};
-ghost use Rattle.bq_core.specs.Serving.{NoneIsGone, ServesAsking, TakesStepWithin};
-ghost use Rattle.bq_core.specs.Turns.{HasRoom};
+ghost use Rattle.bq_job.specs.{beside.{Lawful.IsLawful, NextDue.next_due}, machine.{Machine.new_machine, Steps.IsStep}};
+ghost use Rattle.bq_state.specs.CoreParts.{machine_of};
 
 use crate::{dispatch, timers, waits};
 use bq_core_api::{Config, CoreFault, Outs, QueueCore};
@@ -28,8 +23,8 @@ pub struct Core {
 }
 
 impl Model for Core {
-    ghost use Rattle.bq_job.specs.beside.Lawful.{IsLawful};
     ghost use Rattle.bq_core.specs.CoreState.{CoreState};
+    ghost use Rattle.bq_job.specs.beside.Lawful.{IsLawful};
     ghost use Rattle.bq_state.specs.CoreParts.{machine_of};
 
     ghost Value = { CoreState };

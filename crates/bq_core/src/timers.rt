@@ -1,28 +1,16 @@
 //! Fires due timers, makes jobs of closed connections ready again, and finds when something happens
 //! by itself next.
-ghost use Rattle.std.specs.Prelude.{◌≡◌, ◌<◌, ◌+◌, ◌*◌, true, false, IfSome, None, if◌then◌else◌};
-ghost use Rattle.std.specs.Prelude.{count_by, fold, length};
-ghost use Rattle.std.specs.List.{list_any};
-ghost use Rattle.bq_job.specs.machine.Timers.{after_timers, is_due, is_expired};
-ghost use Rattle.bq_jobs.specs.Searching.{Asks, Searches};
-ghost use Rattle.bq_core.specs.FiredTimers.{ExpiresOne, IsOne, after_job_timers, is_ripe, is_some_due};
-ghost use Rattle.bq_core.specs.FiredTimers.{is_some_expired, after_giving_back};
-ghost use Rattle.bq_state.specs.Keeping.{Looks};
-ghost use Rattle.bq_state.specs.CoreParts.{machine_of, count_jobs};
-ghost use Rattle.bq_core.specs.FiredTimers.{HaveFired};
-ghost use Rattle.bq_job.specs.machine.Asked.{state_once_left};
-ghost use Rattle.bq_job.specs.machine.Changes.{is_held_by, is_waiting};
-ghost use Rattle.bq_job.specs.machine.Changes.{first_of};
-ghost use Rattle.bq_job.specs.machine.JobStates.{due_of, is_delayed, is_due_before, is_reserved};
-ghost use Rattle.bq_jobs.specs.Leases.{deadline_of, is_lease_before};
-ghost use Rattle.std.specs.Option.{option_copied, option_map};
-ghost use Rattle.bq_job.specs.beside.NextDue.{next_due as next_due_of};
-ghost use Rattle.bq_state.specs.Dues.{earlier_of_both, timers_due, warning_due};
-ghost use Rattle.bq_state.specs.Dues.{warning_due_at, with_seat_due, with_warning_due};
-ghost use Rattle.bq_state.specs.FirstTimeouts.{AreTimeouts};
-ghost use Rattle.bq_state.specs.SeatTurns.{AreTurnsOf};
-ghost use Rattle.bq_state.specs.WaitingTurns.{at_turn};
-ghost use Rattle.bq_state.specs.Warnings.{AreWarned, is_waiting_there};
+ghost use Rattle.std.specs.{List.list_any, Option.{option_copied, option_map}, Prelude.{IfSome, None, count_by, false, fold}};
+ghost use Rattle.std.specs.Prelude.{if◌then◌else◌, length, true, ◌*◌, ◌+◌, ◌<◌, ◌≡◌};
+ghost use Rattle.bq_core.specs.FiredTimers.{ExpiresOne, HaveFired, IsOne, after_giving_back, after_job_timers, is_ripe, is_some_due};
+ghost use Rattle.bq_core.specs.FiredTimers.{is_some_expired};
+ghost use Rattle.bq_job.specs.{beside.NextDue.next_due as next_due_of, machine.{Asked.state_once_left, Changes.{first_of, is_held_by}}};
+ghost use Rattle.bq_job.specs.machine.{Changes.is_waiting, JobStates.{due_of, is_delayed, is_due_before, is_reserved}, Timers.after_timers};
+ghost use Rattle.bq_job.specs.machine.Timers.{is_due, is_expired};
+ghost use Rattle.bq_jobs.specs.{Leases.{deadline_of, is_lease_before}, Searching.{Asks, Searches}};
+ghost use Rattle.bq_state.specs.{CoreParts.{count_jobs, machine_of}, Dues.{earlier_of_both, timers_due, warning_due, warning_due_at}};
+ghost use Rattle.bq_state.specs.{Dues.{with_seat_due, with_warning_due}, FirstTimeouts.AreTimeouts, Keeping.Looks, SeatTurns.AreTurnsOf};
+ghost use Rattle.bq_state.specs.{WaitingTurns.at_turn, Warnings.{AreWarned, is_waiting_there}};
 
 use bq_job::{JobId, JobState, Moment, Seat};
 use bq_jobs::NumberedJobs;

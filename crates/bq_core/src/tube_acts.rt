@@ -1,15 +1,9 @@
-ghost use Rattle.std.specs.Prelude.{◌≡◌, true, false};
-ghost use Rattle.std.specs.Option.{option_map};
-ghost use Rattle.bq_job.specs.machine.Acts.{telling};
-ghost use Rattle.bq_job.specs.declared.answer.Answer.TheVariants as answers;
-ghost use Rattle.bq_job.specs.machine.TubeCommands.{ignore_effect, pause_effect, peek_effect, use_effect, watch_effect};
-ghost use Rattle.bq_jobs.specs.Searching.{Asks};
-ghost use Rattle.bq_state.specs.Asking.{AsksAsChanged};
-ghost use Rattle.bq_state.specs.JobKinds.{first_of_kind};
-ghost use Rattle.bq_state.specs.CoreParts.{AtSeat};
+ghost use Rattle.std.specs.{Option.option_map, Prelude.{false, true, ◌≡◌}};
 ghost use Rattle.bq_core.specs.Replying.{RepliesAt, RepliesBy, RepliesTo, peek_first_effect};
-ghost use Rattle.bq_state.specs.Keeping.{Looks};
-ghost use Rattle.bq_state.specs.CoreParts.{machine_of};
+ghost use Rattle.bq_job.specs.machine.{Acts.telling, TubeCommands.{ignore_effect, pause_effect, peek_effect, use_effect, watch_effect}};
+ghost use Rattle.bq_jobs.specs.Searching.{Asks};
+ghost use Rattle.bq_state.specs.{Asking.AsksAsChanged, CoreParts.{AtSeat, machine_of}, JobKinds.first_of_kind, Keeping.Looks};
+ghost use Rattle.bq_job.specs.declared.answer.Answer.TheVariants as answers;
 
 use crate::acts::Reply;
 use bq_job::{Answer, JobId, Seat, TubeName};

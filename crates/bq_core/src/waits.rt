@@ -1,20 +1,11 @@
 //! Ends waits: because of a timeout, or because a time to run ends soon.
-ghost use Rattle.std.specs.Prelude.{◌≡◌, ◌<◌, ◌+◌, None, Some, true, false, length, slice_get, IfSome, if◌then◌else◌};
-ghost use Rattle.std.specs.List.{list_any};
-ghost use Rattle.bq_job.specs.beside.Computed.{waiting_count};
-ghost use Rattle.bq_job.specs.machine.Changes.{first_of};
-ghost use Rattle.bq_job.specs.machine.Dispatch.{is_wait_before};
-ghost use Rattle.bq_job.specs.machine.Machine.{SeatRecord};
+ghost use Rattle.std.specs.{List.list_any, Prelude.{IfSome, None, Some, false, if◌then◌else◌, length, slice_get, true, ◌+◌, ◌<◌, ◌≡◌}};
+ghost use Rattle.bq_core.specs.{Serving.IsLastTurn, Turns.{Gives, HasRoom, none_refused}, WaitEnds.{EndsWait, LooksAt}};
+ghost use Rattle.bq_job.specs.{beside.Computed.waiting_count, machine.{Changes.first_of, Dispatch.is_wait_before, Machine.SeatRecord}};
 ghost use Rattle.bq_job.specs.machine.Waits.{WaitEndTurn, is_ending_lease, next_end};
 ghost use Rattle.bq_jobs.specs.Searching.{Asks, Searches};
-ghost use Rattle.bq_state.specs.CoreParts.{held, machine_of};
-ghost use Rattle.bq_state.specs.EndingWaits.{AreLookedAt, has_waited, is_lease_short, is_soon, left_after, may_end};
-ghost use Rattle.bq_state.specs.EndingWaits.{told_at_end, waits_after};
-ghost use Rattle.bq_state.specs.Keeping.{Looks};
-ghost use Rattle.bq_state.specs.Places.{item_at};
-ghost use Rattle.bq_core.specs.Serving.{IsLastTurn};
-ghost use Rattle.bq_core.specs.Turns.{Gives, HasRoom, none_refused};
-ghost use Rattle.bq_core.specs.WaitEnds.{EndsWait, LooksAt};
+ghost use Rattle.bq_state.specs.{CoreParts.{held, machine_of}, EndingWaits.{AreLookedAt, has_waited, is_lease_short, is_soon, left_after}};
+ghost use Rattle.bq_state.specs.{EndingWaits.{may_end, told_at_end, waits_after}, Keeping.Looks, Places.item_at};
 
 use bq_core_api::Outs;
 use bq_job::{Answer, JobId, Moment, Seat};

@@ -1,13 +1,12 @@
 -- Counts of seats after one seat changes.
-use Rattle.std.proofs.Common.{◌+◌, ◌<◌, ◌==◌, ◌∙◌, ◌∷◌, ◌≡◌, ◌≤◌, if◌then◌else◌, Bool, List, Some, [], ℕ}
-use Rattle.std.proofs.Common.{ap, arith, cond, filter, length, map, not, refl, set, slice_get, suc, sym}
-use Rattle.std.proofs.lemmas.{Bool.{cases_Bool, eqb-true, ne_eqb}, Grind.common_steps, List.{length-map, Sums.count_by-le-length}}
-use Rattle.std.specs.{List.list_any, Prelude.{count_by, nat_lt}}
-use Rattle.bq_job.specs.machine.{SeatRecord, greatest, is_waiting, numbers, seat_with, watching}
-use Rattle.bq_job.proofs.ListLemmas.{count_cons}
-use Rattle.bq_state.specs.{declared.seats.SeatChange.SeatChange, Clients.{clients_of, clients_with, clients_without, seat_passes}}
-use Rattle.bq_state.specs.{SeatChanges.{AreNumbered, seat_changed, seat_changed_at}, Tallies.{count_with, count_without}}
-use Rattle.bq_state.proofs.{PartsLemmas.{changed_there, number_kept}, TallyLemmas.{with_is, without_is}}
+use Rattle.std.proofs.Common.{Bool, List, Some, [], ap, arith, cond, filter, if◌then◌else◌, length, map, not, refl, set, slice_get, suc}
+use Rattle.std.proofs.{Common.{sym, ℕ, ◌+◌, ◌<◌, ◌==◌, ◌∙◌, ◌∷◌, ◌≡◌, ◌≤◌}, lemmas.Bool.{cases_Bool, eqb-true, ne_eqb}}
+use Rattle.std.{proofs.lemmas.{Grind.common_steps, List.{Sums.count_by-le-length, length-map}}, specs.{List.list_any, Prelude.count_by}}
+use Rattle.std.specs.Prelude.{nat_lt}
+use Rattle.bq_job.{proofs.ListLemmas.count_cons, specs.machine.{SeatRecord, greatest, is_waiting, numbers, seat_with, watching}}
+use Rattle.bq_state.{proofs.{PartsLemmas.{changed_there, number_kept}, TallyLemmas.{with_is, without_is}}, specs.Clients.clients_of}
+use Rattle.bq_state.specs.{Clients.{clients_with, clients_without, seat_passes}, SeatChanges.{AreNumbered, seat_changed, seat_changed_at}}
+use Rattle.bq_state.specs.{Tallies.{count_with, count_without}, declared.seats.SeatChange.SeatChange}
 
 -- all seats except the one with this number
 abbrev pub others : ℕ → List SeatRecord → List SeatRecord
@@ -21,8 +20,7 @@ heads low s seats h = (cc, cc)
 pub all_others : (n high : ℕ) (seats : List SeatRecord) → n < high → map (λ s. s.number) seats ≡ numbers high (length seats)
     → others n seats ≡ seats
 all_others n high [] less h = refl
-all_others n high (s ∷ seats) less h =
-    grind (arith, common_steps, heads, ne_eqb, all_others n (suc high) seats)
+all_others n high (s ∷ seats) less h = grind (arith, common_steps, heads, ne_eqb, all_others n (suc high) seats)
 
 -- a change of the seat with a number leaves the others
 pub others_left : (n : ℕ) (f : SeatRecord → SeatRecord) → ((s : SeatRecord) → (f s).number ≡ s.number) → (seats : List SeatRecord)
@@ -35,8 +33,7 @@ module _ (p : SeatRecord → Bool) where
   parted : (n low : ℕ) (seats : List SeatRecord) → map (λ s. s.number) seats ≡ numbers low (length seats)
       → cond (seat_passes p (seat_with n seats)) 1 0 + count_by p (others n seats) ≡ count_by p seats
   parted n low [] h = refl
-  parted n low (s ∷ seats) h =
-      grind (arith, common_steps, heads, cases_Bool, eqb-true, all_others, count_cons, parted n (suc low) seats)
+  parted n low (s ∷ seats) h = grind (arith, common_steps, heads, cases_Bool, eqb-true, all_others, count_cons, parted n (suc low) seats)
 
   -- the count of seats that pass, after the seat with a number has changed
   count_moved : (n : ℕ) (f : SeatRecord → SeatRecord) → ((s : SeatRecord) → (f s).number ≡ s.number) → (seats : List SeatRecord)
@@ -47,13 +44,10 @@ module _ (p : SeatRecord → Bool) where
   count_moved n f keeps seats h h' fits =
       let g = λ (s : SeatRecord). if s.number == n then f s else s in
       let new = map g seats in
-      let rest = count_by p (others n seats) in
-      let was = without_is (seat_passes p (seat_with n seats)) (count_by p seats) rest (parted n 0 seats h) in
-      let is : cond (seat_passes p (seat_with n new)) 1 0 + rest ≡ count_by p new = grind (arith, common_steps, others_left, parted) in
-      let few = count_by-le-length p new in
-      let many = length-map seats g in
-      ap (count_with (seat_passes p (seat_with n new))) was
-      ∙ with_is (seat_passes p (seat_with n new)) rest (omega (arith, is, few, many, fits)) ∙ is
+      let is : cond (seat_passes p (seat_with n new)) 1 0 + (count_by p (others n seats)) ≡ count_by p new = grind
+      (arith, common_steps, others_left, parted) in
+      ap (count_with (seat_passes p (seat_with n new))) (without_is _ _ _ (parted n 0 seats h))
+      ∙ with_is _ _ (omega (arith, is, (count_by-le-length p new), (length-map seats g), fits)) ∙ is
 
   -- a change that does not affect the test does not affect the count
   pub count_stays : (f : SeatRecord → SeatRecord) → ((s : SeatRecord) → p (f s) ≡ p s) → (seats : List SeatRecord)
@@ -67,28 +61,23 @@ module _ (p : SeatRecord → Bool) where
   some_pass (s ∷ seats) = grind (arith, common_steps, some_pass seats)
 
 -- the seat with a number, after it has changed
-pub found_changed : (n : ℕ) (f : SeatRecord → SeatRecord) → ((s : SeatRecord) → (f s).number ≡ s.number)
-    → (s : SeatRecord) (seats : List SeatRecord)
-    → seat_with n seats ≡ Some s → seat_with n (map (λ t. if t.number == n then f t else t) seats) ≡ Some (f s)
+pub found_changed : (n : ℕ) (f : SeatRecord → SeatRecord) → ((s : SeatRecord) → (f s).number ≡ s.number) → (s : SeatRecord)
+    (seats : List SeatRecord) → seat_with n seats ≡ Some s → seat_with n (map (λ t. if t.number == n then f t else t) seats) ≡ Some (f s)
 found_changed n f keeps s [] found = absurd cc
 found_changed n f keeps s (t ∷ seats) found = grind (arith, common_steps, cases_Bool, found_changed n f keeps s seats)
 
 -- the count of seats that pass, after a known seat has changed
 pub count_changed : (p : SeatRecord → Bool) (n : ℕ) (f : SeatRecord → SeatRecord) → ((s : SeatRecord) → (f s).number ≡ s.number)
-    → (s : SeatRecord) (seats : List SeatRecord)
-    → AreNumbered seats → AreNumbered (map (λ s. if s.number == n then f s else s) seats) → length seats ≤ greatest
-    → seat_with n seats ≡ Some s
+    → (s : SeatRecord) (seats : List SeatRecord) → AreNumbered seats → AreNumbered (map (λ s. if s.number == n then f s else s) seats)
+    → length seats ≤ greatest → seat_with n seats ≡ Some s
     → count_with (p (f s)) (count_without (p s) (count_by p seats)) ≡ count_by p (map (λ s. if s.number == n then f s else s) seats)
-count_changed p n f keeps s seats h h' fits found =
-    (λ i. count_with (seat_passes p (sym (found_changed n f keeps s seats found) i))
-    (count_without (seat_passes p (sym found i)) (count_by p seats)))
-    ∙ count_moved p n f keeps seats h h' fits
+count_changed p n f keeps s seats h h' fits found = (λ i. count_with (seat_passes p (sym (found_changed n f keeps s seats found) i))
+    (count_without (seat_passes p (sym found i)) (count_by p seats))) ∙ count_moved p n f keeps seats h h' fits
 
 -- the same if that seat passes as before
 pub count_unchanged : (p : SeatRecord → Bool) (n : ℕ) (f : SeatRecord → SeatRecord) → ((s : SeatRecord) → (f s).number ≡ s.number)
-    → (s : SeatRecord) (seats : List SeatRecord)
-    → AreNumbered seats → AreNumbered (map (λ s. if s.number == n then f s else s) seats) → seat_with n seats ≡ Some s → p (f s) ≡ p s
-    → count_by p (map (λ s. if s.number == n then f s else s) seats) ≡ count_by p seats
+    → (s : SeatRecord) (seats : List SeatRecord) → AreNumbered seats → AreNumbered (map (λ s. if s.number == n then f s else s) seats)
+    → seat_with n seats ≡ Some s → p (f s) ≡ p s → count_by p (map (λ s. if s.number == n then f s else s) seats) ≡ count_by p seats
 count_unchanged p n f keeps s seats h h' found same =
     let new = map (λ t. if t.number == n then f t else t) seats in
     grind (arith, common_steps, parted p n 0 new h', others_left, parted p n 0 seats h, found_changed)
@@ -104,7 +93,6 @@ clients_moved n what seats h h' fits = λ i. record {
 }
 
 -- and after it watches other tubes.
-pub clients_watching : (names : List (List ℕ)) (i : ℕ) (s : SeatRecord) (seats : List SeatRecord)
-    → slice_get seats i ≡ Some s → AreNumbered seats
-    → clients_of (set seats i (watching names s)) ≡ clients_of seats
+pub clients_watching : (names : List (List ℕ)) (i : ℕ) (s : SeatRecord) (seats : List SeatRecord) → slice_get seats i ≡ Some s
+    → AreNumbered seats → clients_of (set seats i (watching names s)) ≡ clients_of seats
 clients_watching names i s seats found h = grind (arith, common_steps, changed_there seats i s (watching names) h found)

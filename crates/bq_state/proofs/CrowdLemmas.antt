@@ -53,8 +53,7 @@ share_at what s name = record {
 -- Changes of the entries with a name: with one name,
 module _ (f : Crowd → Crowd) where
   later_stay : (name : List ℕ) (g : TubeRecord → Crowd) (t : TubeRecord) → name ≡ t.name → (es : List TubeRecord)
-      → All (λ u. is_name_before t.name u.name ≡ true) es
-      → map g es ≡ map (λ u. if is_same_name name u.name then f (g u) else g u) es
+      → All (λ u. is_name_before t.name u.name ≡ true) es → map g es ≡ map (λ u. if is_same_name name u.name then f (g u) else g u) es
   later_stay name g t is [] all = refl
   later_stay name g t is (u ∷ es) all = grind (arith, before_differs, later_stay name g t is es all.1)
 
@@ -69,8 +68,7 @@ module _ (f : Crowd → Crowd) where
 
   none_else : (n : List ℕ) (ns : List (List ℕ)) → none_twice (n ∷ ns) ≡ true → (name : List ℕ) → is_same_name n name ≡ true
       → list_any (is_same_name name) ns ≡ false
-  none_else n ns once name e =
-      ap (λ m. list_any (is_same_name m) ns) (sym (same_name n name e))
+  none_else n ns once name e = ap (λ m. list_any (is_same_name m) ns) (sym (same_name _ _ e))
       ∙ not-true (list_any (is_same_name n) ns) (and_parts (not (list_any (is_same_name n) ns)) (none_twice ns) once).0
 
   -- and with several names, each of them once
@@ -79,10 +77,9 @@ module _ (f : Crowd → Crowd) where
   at_all_named [] g es order once = refl
   at_all_named (n ∷ ns) g es order once =
       let g' = λ (t : TubeRecord). if is_same_name n t.name then f (g t) else g t in
-      ap (λ cs. crowds_at_all ns f es cs) (at_named n g es order)
-      ∙ at_all_named ns g' es order (and_parts (not (list_any (is_same_name n) ns)) (none_twice ns) once).1
-      ∙ map_same _ _ es (λ t.
-      pick (is_same_name n t.name) (list_any (is_same_name t.name) ns) (g t) (none_else n ns once t.name)
+      ap (λ cs. crowds_at_all ns f es cs) (at_named _ _ _ order)
+      ∙ at_all_named ns g' es order (and_parts (not (list_any (is_same_name n) ns)) (none_twice ns) once).1 ∙ map_same _ _ _ (λ t.
+      pick _ _ _ (none_else n ns once t.name)
       ∙ ap (λ b. if b || list_any (is_same_name t.name) ns then f (g t) else g t) (same_turned n t.name))
 
 -- The shares of a seat are added and removed at its tubes.
@@ -112,7 +109,7 @@ module _ (n : ℕ) (what : SeatChange) (s : SeatRecord) (seats : List SeatRecord
       let new = seat_changed what s in
       (λ i. count_with ((and_turned (a new) (c new) ∙ sym (is new)) i)
       (count_without ((and_turned (a s) (c s) ∙ sym (is s)) i) (count_by p seats)))
-      ∙ count_changed p n (seat_changed what) (number_kept what) s seats h (numbered_after n what seats h) fits found
+      ∙ count_changed _ _ _ (number_kept _) _ _ h (numbered_after _ _ _ h) fits found
   field p a c false is same = grind (arith, count_stays)
 
   -- the counts of a tube, after the seat has changed
@@ -134,8 +131,7 @@ module _ (n : ℕ) (what : SeatChange) (s : SeatRecord) (seats : List SeatRecord
       let g = λ (t : TubeRecord). crowd_without (share_at (touched what) s t.name) (crowd_in seats t) in
       ap (crowds_recounted Comes (touched what) (seat_changed what s) es)
       (all_recounted Goes (touched what) s (crowd_in seats) es order once)
-      ∙ all_recounted Comes (touched what) (seat_changed what s) g es order once'
-      ∙ map_same _ _ es (λ t. crowd_moved t.name)
+      ∙ all_recounted Comes (touched what) (seat_changed what s) g es order once' ∙ map_same _ _ es (λ t. crowd_moved t.name)
 
 -- if there is no seat with this number, no seat is changed
 pub none_changed : (n : ℕ) (f : SeatRecord → SeatRecord) (seats : List SeatRecord) → seat_with n seats ≡ None

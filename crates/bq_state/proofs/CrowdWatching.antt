@@ -1,15 +1,14 @@
 -- Counts of the clients at tubes after a client watches one more tube, or one fewer.
-use Rattle.std.proofs.Common.{◌&&◌, ◌++◌, ◌==◌, ◌||◌, ◌∙◌, ◌∷◌, ◌≡◌, ◌≤◌, if◌then◌else◌, Bool, List, Some, []}
-use Rattle.std.proofs.Common.{ℕ, ap, false, filter, length, map, not, refl, set, slice_get, sym, true}
-use Rattle.std.proofs.{Common.arith, lemmas.Grind.common_steps, Math.Bool.{and-false, or-false}}
-use Rattle.std.specs.{List.list_any, Prelude.count_by}
-use Rattle.bq_job.specs.{machine.{SeatRecord, TubeRecord, greatest, is_waiting, watches, watching}, reading.TubeName.is_same_name}
-use Rattle.bq_job.proofs.WatchedLemmas.{none_twice_behind, none_twice_filter}
-use Rattle.bq_state.specs.{declared.tubes.entry.Crowd.Crowd, Crowds.{AreCrowds, IsSeated, crowd_in, crowd_of, crowd_with, crowd_without}}
-use Rattle.bq_state.specs.{Crowds.{crowds_at, is_user, is_waiter, is_watcher, share_of_watcher, share_of_watching}, SeatChanges.AreNumbered}
-use Rattle.bq_state.specs.{Tallies.{count_with, count_without}, TubeEntries.AreInOrder}
+use Rattle.std.proofs.Common.{Bool, List, Some, [], ap, arith, false, filter, if◌then◌else◌, length, map, not, refl, set, slice_get, sym}
+use Rattle.std.proofs.{Common.{true, ℕ, ◌&&◌, ◌++◌, ◌==◌, ◌||◌, ◌∙◌, ◌∷◌, ◌≡◌, ◌≤◌}, Math.Bool.{and-false, or-false}}
+use Rattle.std.{proofs.lemmas.Grind.common_steps, specs.{List.list_any, Prelude.count_by}}
+use Rattle.bq_job.{proofs.WatchedLemmas.{none_twice_behind, none_twice_filter}, specs.machine.{SeatRecord, TubeRecord, greatest}}
+use Rattle.bq_job.specs.{machine.{is_waiting, watches, watching}, reading.TubeName.is_same_name}
 use Rattle.bq_state.proofs.{ClientLemmas.{count_changed, count_unchanged}, CrowdLemmas.{at_named, map_same, same_turned}}
 use Rattle.bq_state.proofs.{PartsLemmas.{all_read, all_set, changed_there, seat_read, watching_numbered}, TubeLemmas.same_name}
+use Rattle.bq_state.specs.Crowds.{AreCrowds, crowd_of, crowd_with, crowd_without, crowds_at, is_user, is_waiter, is_watcher}
+use Rattle.bq_state.specs.{Crowds.{share_of_watcher, share_of_watching}, SeatChanges.AreNumbered, Tallies.{count_with, count_without}}
+use Rattle.bq_state.specs.{TubeEntries.AreInOrder, declared.tubes.entry.Crowd.Crowd}
 
 -- a name in a list with one more name
 any_with : (name more : List ℕ) (names : List (List ℕ))
@@ -43,17 +42,13 @@ module _ (names : List (List ℕ)) (i : ℕ) (s : SeatRecord) (seats : List Seat
   moved p = count_changed p i (watching names) (λ t. refl) s seats h numbered fits (seat_read seats i s h found) ∙ ap (count_by p) changed
 
   same : (p : SeatRecord → Bool) → p (watching names s) ≡ p s → count_by p seats ≡ count_by p new
-  same p e = sym (count_unchanged p i (watching names) (λ t. refl) s seats h numbered (seat_read seats i s h found) e)
-      ∙ ap (count_by p) changed
+  same p e = sym (count_unchanged _ _ _ (λ t. refl) _ _ h numbered (seat_read _ _ _ h found) e) ∙ ap (count_by p) changed
 
   -- the counts of a tube that the client watches as before,
   crowd_same : (name : List ℕ) → list_any (is_same_name name) names ≡ watches name s → crowd_of seats name ≡ crowd_of new name
   crowd_same name e = grind (arith, same)
 
   -- that it now watches,
-  and_true : (b : Bool) → b && true ≡ b
-  and_true b = grind (arith, common_steps)
-
   crowd_more : (name : List ℕ) → watches name s ≡ false → list_any (is_same_name name) names ≡ true
       → crowd_with (share_of_watcher s) (crowd_of seats name) ≡ crowd_of new name
   crowd_more name none some = λ k. record {
@@ -64,8 +59,7 @@ module _ (names : List (List ℕ)) (i : ℕ) (s : SeatRecord) (seats : List Seat
     where
       one : (b : Bool) (n : ℕ) → count_with b n ≡ count_with (b && list_any (is_same_name name) names)
           (count_without (b && watches name s) n)
-      one b n = λ k. count_with ((sym (and_true b) ∙ ap (λ c. b && c) (sym some)) k)
-          (count_without ((sym (and-false b) ∙ ap (λ c. b && c) (sym none)) k) n)
+      one b n = grind (arith, common_steps)
 
   -- or that it no longer watches
   crowd_fewer : (name : List ℕ) → list_any (is_same_name name) names ≡ false
@@ -85,14 +79,11 @@ pub crowds_watching : (more : List ℕ) (i : ℕ) (s : SeatRecord) (crowds : Lis
     → AreInOrder es → watches more s ≡ false → AreCrowds crowds seats es
     → AreCrowds (crowds_at more (crowd_with (share_of_watcher s)) es crowds) (set seats i (watching (s.watched ++ more ∷ []) s)) es
 crowds_watching more i s crowds seats es found h fits order none was =
-    let is = all_read IsSeated seats i s was.seated found in
+    let is = all_read _ _ _ _ was.seated found in
     record {
-      each =
-          ap (crowds_at more (crowd_with (share_of_watcher s)) es) was.each
-          ∙ at_named (crowd_with (share_of_watcher s)) more (crowd_in seats) es order
-          ∙ map_same _ _ es (λ t. at t.name (is_same_name more t.name) refl);
-      seated = all_set IsSeated seats i (watching (s.watched ++ more ∷ []) s) was.seated
-          (record { waits = is.waits; once = none_twice_behind more s.watched none is.once });
+      each = ap (crowds_at more (crowd_with (share_of_watcher s)) es) was.each ∙ at_named _ _ _ _ order
+          ∙ map_same _ _ _ (λ t. at t.name (is_same_name more t.name) refl);
+      seated = all_set _ _ _ _ was.seated (record { waits = is.waits; once = none_twice_behind more s.watched none is.once });
     }
   where
     names : List (List ℕ)
@@ -109,19 +100,16 @@ crowds_watching more i s crowds seats es found h fits order none was =
 
 -- or one fewer.
 pub crowds_ignoring : (lost : List ℕ) (i : ℕ) (s : SeatRecord) (crowds : List Crowd) (seats : List SeatRecord) (es : List TubeRecord)
-    → slice_get seats i ≡ Some s → AreNumbered seats → length seats ≤ greatest
-    → AreInOrder es → AreCrowds crowds seats es
+    → slice_get seats i ≡ Some s → AreNumbered seats → length seats ≤ greatest → AreInOrder es → AreCrowds crowds seats es
     → AreCrowds (crowds_at lost (crowd_without (share_of_watching lost s)) es crowds)
     (set seats i (watching (filter (λ other. not (is_same_name lost other)) s.watched) s)) es
 crowds_ignoring lost i s crowds seats es found h fits order was =
-    let is = all_read IsSeated seats i s was.seated found in
+    let is = all_read _ _ _ _ was.seated found in
     record {
-      each =
-          ap (crowds_at lost (crowd_without (share_of_watching lost s)) es) was.each
-          ∙ at_named (crowd_without (share_of_watching lost s)) lost (crowd_in seats) es order
-          ∙ map_same _ _ es (λ t. at t.name (is_same_name lost t.name) refl);
-      seated = all_set IsSeated seats i (watching names s) was.seated
-          (record { waits = is.waits; once = none_twice_filter (λ other. not (is_same_name lost other)) s.watched is.once });
+      each = ap (crowds_at lost (crowd_without (share_of_watching lost s)) es) was.each ∙ at_named _ _ _ _ order
+          ∙ map_same _ _ _ (λ t. at t.name (is_same_name lost t.name) refl);
+      seated = all_set _ _ _ _ was.seated
+          (record { waits = is.waits; once = none_twice_filter (λ other. not (is_same_name lost other)) _ is.once });
     }
   where
     names : List (List ℕ)

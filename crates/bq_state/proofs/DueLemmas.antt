@@ -1,21 +1,18 @@
 -- The next due moment, from those of jobs, tubes and seats.
-use Rattle.std.proofs.{Common.{◌&&◌, ◌++◌, ◌-◌, ◌==◌, ◌||◌, ◌∙◌, ◌∷◌, ◌≡◌, ◌≤◌, if◌then◌else◌, Bool, List, None}, lemmas.Grind.common_steps}
-use Rattle.std.proofs.Common.{Option, Some, [], ℕ, ap, arith, false, inl, inr, not, refl, sym, true}
-use Rattle.std.proofs.lemmas.Bool.{cases_Bool, Decides.nat_tests}
-use Rattle.std.specs.{List.{AllByRecursion as All, Contains, list_all, list_any}, Prelude.{flat_map, fold, is_some, nat_lt, option_map}}
-use Rattle.bq_job.specs.{declared.job.{Job.Job, JobState.JobState}, beside.{dues_of_pause, dues_of_state, earliest, is_before}}
-use Rattle.bq_job.specs.machine.{SeatRecord, TubeRecord, due_of, first_of, is_delayed, is_due_before}
-use Rattle.bq_job.specs.machine.{is_held_by, is_holder, is_pair_before, is_reserved, is_waiting, Machine.Machine}
-use Rattle.bq_job.specs.declared.job.JobState.TheVariants as states
+use Rattle.std.proofs.Common.{Bool, List, None, Option, Some, [], ap, arith, false, if◌then◌else◌, inl, inr, not, refl, sym, true, ℕ, ◌&&◌}
+use Rattle.std.proofs.{Common.{◌++◌, ◌-◌, ◌==◌, ◌||◌, ◌∙◌, ◌∷◌, ◌≡◌, ◌≤◌}, lemmas.Bool.{Decides.nat_tests, cases_Bool}}
+use Rattle.std.{proofs.lemmas.Grind.common_steps, specs.{List.{AllByRecursion as All, Contains, list_all, list_any}, Prelude.flat_map}}
+use Rattle.std.specs.Prelude.{fold, is_some, nat_lt, option_map}
 use Rattle.bq_job.proofs.ChoiceLemmas.{first_of_contains, first_of_is_least, first_of_is_some, first_of_none, first_of_passes, pair_order}
-use Rattle.bq_job.proofs.ListLemmas.{all_from_members, all_weaker, list_all_from, none_pass, list_all_agree, list_any_not}
+use Rattle.bq_job.proofs.ListLemmas.{all_from_members, all_weaker, list_all_agree, list_all_from, list_any_not, none_pass}
+use Rattle.bq_job.specs.{beside.{dues_of_pause, dues_of_state, earliest, is_before}, declared.job.{Job.Job, JobState.JobState}}
+use Rattle.bq_job.specs.machine.{SeatRecord, TubeRecord, due_of, first_of, is_delayed, is_due_before, is_held_by, is_holder, is_pair_before}
+use Rattle.bq_job.specs.machine.{Machine.Machine, is_reserved, is_waiting}
 use Rattle.bq_jobs.specs.{Kept.ranked, Leases.{deadline_of, is_lease_before}}
-use Rattle.bq_state.specs.{Dues.{earlier_of_both, jobs_due, warning_due, with_seat_due, with_warning_due}, WaitingTurns.{at_turn, turns_of}}
-use Rattle.bq_state.specs.{FirstTimeouts.{IsThere, is_gone_in_wait}, SeatChanges.AreNumbered, TubeEntries.{IsFreshUnlessCounted, counted}}
-use Rattle.bq_state.proofs.{WalkLemmas.walked, WarningLemmas.no_other}
-
-dues_swap : (b x y : Option ℕ) → earlier_of_both (earlier_of_both b x) y ≡ earlier_of_both (earlier_of_both b y) x
-dues_swap b x y = grind (arith)
+use Rattle.bq_state.{proofs.{WalkLemmas.walked, WarningLemmas.no_other}, specs.Dues.{earlier_of_both, jobs_due, warning_due, with_seat_due}}
+use Rattle.bq_state.specs.{Dues.with_warning_due, FirstTimeouts.{IsThere, is_gone_in_wait}, SeatChanges.AreNumbered}
+use Rattle.bq_state.specs.{TubeEntries.{IsFreshUnlessCounted, counted}, WaitingTurns.{at_turn, turns_of}}
+use Rattle.bq_job.specs.declared.job.JobState.TheVariants as states
 
 -- every waiting client can still send
 pub all_there : (seats : List SeatRecord) → false ≡ list_any is_gone_in_wait seats → All IsThere seats
@@ -29,15 +26,7 @@ held_some seat jobs = grind (arith, first_of_is_some (is_held_by seat) is_lease_
 
 -- If no client holds a job, this one does not.
 pub none_held : (seat : ℕ) (jobs : List Job) → list_any (λ j. is_reserved j.state) jobs ≡ false → list_any (is_held_by seat) jobs ≡ false
-none_held seat jobs none =
-    list_any_not (is_held_by seat) jobs (all_weaker (λ j. is_reserved j.state ≡ false) (λ j. is_held_by seat j ≡ false) jobs
-    (λ j. free j.state) (none_pass (λ j. is_reserved j.state) jobs none))
-  where
-    free : (state : JobState) → is_reserved state ≡ false → is_holder seat state ≡ false
-    free states.Ready e = refl
-    free (states.Delayed due) e = refl
-    free (states.Reserved holder deadline) e = absurd cc
-    free (states.Buried number) e = refl
+none_held seat jobs none = grind (arith, common_steps, list_any_not, all_weaker, none_pass)
 
 -- A walk over the waiting clients finds the first timeout, and the first DEADLINE_SOON.
 pub ends_walked : (seats : List SeatRecord) → AreNumbered seats
@@ -46,8 +35,7 @@ ends_walked seats h = grind (arith, walked)
 
 pub warnings_walked : (jobs : List Job) (seats : List SeatRecord) → AreNumbered seats
     → fold (at_turn (with_warning_due jobs) seats) None (turns_of seats) ≡ fold (with_warning_due jobs) None seats
-warnings_walked jobs seats h = walked (with_warning_due jobs) (λ s e b. rw e (no_other b))
-    (λ s t _ b. dues_swap b (warning_due jobs s) (warning_due jobs t)) seats h None
+warnings_walked jobs seats h = grind (arith, common_steps, walked, no_other)
 
 pub earliest_of_both : (xs ys : List ℕ) → earliest (xs ++ ys) ≡ earlier_of_both (earliest xs) (earliest ys)
 earliest_of_both [] ys = refl
@@ -56,8 +44,7 @@ earliest_of_both (x ∷ xs) ys = ap (λ o. earlier_of_both (Some x) o) (earliest
 earliest_from : {A : Type 0} (f : A → List ℕ) (best : Option ℕ) (xs : List A)
     → fold (λ b x. earlier_of_both b (earliest (f x))) best xs ≡ earlier_of_both best (earliest (flat_map f xs))
 earliest_from f best [] = sym (no_other best)
-earliest_from f best (x ∷ xs) =
-    grind (arith, earliest_of_both, earliest_from f (earlier_of_both best (earliest (f x))) xs)
+earliest_from f best (x ∷ xs) = grind (arith, earliest_of_both, earliest_from f (earlier_of_both best (earliest (f x))) xs)
 
 -- the earliest of all moments, found step by step
 pub earliest_of_all : {A : Type 0} (f : A → List ℕ) (xs : List A)
@@ -134,8 +121,7 @@ first_before t p number g rises jobs = go (first_of p before jobs) refl
 
     at : (j : Job) → first_of p before jobs ≡ Some j → (b : Bool) → nat_lt t (g j) ≡ b
         → b ≡ list_all (λ j. not (p j) || nat_lt t (g j)) jobs
-    at j e true h =
-        sym (list_all_from (λ j. not (p j) || nat_lt t (g j)) jobs
+    at j e true h = sym (list_all_from (λ j. not (p j) || nat_lt t (g j)) jobs
         (all_from_members (λ k. (not (p k) || nat_lt t (g k)) ≡ true) jobs (λ k here. elim (cases_Bool (p k)) [
           | inl pass ↦
               let least = first_of_is_least p (pair_order number (λ j. j.id)) jobs j k e here pass in
@@ -144,15 +130,12 @@ first_before t p number g rises jobs = go (first_of p before jobs) refl
               rw (pass, later) refl
           | inr fail ↦ rw fail refl
         ])))
-    at j e false h =
-        let pass = first_of_passes p before jobs j e in
-        sym (not_all (λ j. not (p j) || nat_lt t (g j)) jobs j (first_of_contains p before jobs j e) (rw (pass, h) refl))
+    at j e false h = sym (not_all (λ j. not (p j) || nat_lt t (g j)) jobs j (first_of_contains p before jobs j e)
+        (rw ((first_of_passes p before jobs j e), h) refl))
 
     go : (o : Option Job) → first_of p before jobs ≡ o
         → is_before t (option_map g (first_of p before jobs)) ≡ list_all (λ j. not (p j) || nat_lt t (g j)) jobs
-    go None e =
-        ap (λ o. is_before t (option_map g o)) e
-        ∙ sym (list_all_from (λ j. not (p j) || nat_lt t (g j)) jobs
+    go None e = ap (λ o. is_before t (option_map g o)) e ∙ sym (list_all_from (λ j. not (p j) || nat_lt t (g j)) jobs
         (all_weaker (λ k. p k ≡ false) (λ k. (not (p k) || nat_lt t (g k)) ≡ true) jobs (λ k fail. rw fail refl)
         (none_pass p jobs (first_of_none p before jobs e))))
     go (Some j) e = ap (λ o. is_before t (option_map g o)) e ∙ at j e (nat_lt t (g j)) refl
@@ -208,16 +191,13 @@ module _ (m : Machine) (t : ℕ) where
       (first_before t (λ j. is_delayed j.state) (λ j. due_of j.state) (λ j. due_of j.state) (λ a b le. le) m.jobs)
       ∙ ap (λ b. (list_all of_due m.jobs && b) && is_before t (fold (with_warning_due m.jobs) None m.seats))
       (first_before t (λ j. is_reserved j.state) (λ j. deadline_of j.state) (λ j. deadline_of j.state) (λ a b le. le) m.jobs)
-      ∙ ap (λ b. (list_all of_due m.jobs && list_all of_lease m.jobs) && b)
-      (fold_before t (warning_due m.jobs) None m.seats
-      ∙ list_all_agree (λ s. is_before t (warning_due m.jobs s)) (λ s. list_all (λ j. warned j.state s) m.jobs) warning_before m.seats
-      ∙ all_turned (λ s j. warned j.state s) m.seats m.jobs)
-      ∙ ap (λ b. b && list_all of_seats m.jobs) (all_of_both of_due of_lease m.jobs)
+      ∙ ap (λ b. (list_all of_due m.jobs && list_all of_lease m.jobs) && b) (fold_before t (warning_due m.jobs) None m.seats
+      ∙ list_all_agree _ _ warning_before _
+      ∙ all_turned (λ s j. warned j.state s) m.seats m.jobs) ∙ ap (λ b. b && list_all of_seats m.jobs) (all_of_both of_due of_lease m.jobs)
       ∙ all_of_both (λ j. of_due j && of_lease j) of_seats m.jobs
       ∙ list_all_agree (λ j. (of_due j && of_lease j) && of_seats j) (λ j. list_all (nat_lt t) (dues_of_state m j.state))
-      (λ j. state_later j.state) m.jobs
-      ∙ sym (all_flat (nat_lt t) (λ j. dues_of_state m j.state) m.jobs)
-      ∙ sym (before_earliest t (flat_map (λ j. dues_of_state m j.state) m.jobs))
+      (λ j. state_later _) _ ∙ sym (all_flat (nat_lt t) (λ j. dues_of_state m j.state) m.jobs)
+      ∙ sym (before_earliest _ (flat_map (λ j. dues_of_state m j.state) m.jobs))
 
 -- the first due moment of jobs, found by the first of each kind
 pub jobs_due_is : (m : Machine) → jobs_due m.jobs m.seats ≡ earliest (flat_map (λ j. dues_of_state m j.state) m.jobs)

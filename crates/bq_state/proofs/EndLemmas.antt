@@ -1,18 +1,16 @@
 -- The ends of pauses: lookups after a change, and the first end.
-use Rattle.std.proofs.{Common.{◌&&◌, ◌||◌, ◌∙◌, ◌∷◌, ◌≡◌, ◌≤◌, Bool, List, None, Option, Some, []}, lemmas.Grind.common_steps}
-use Rattle.std.proofs.Common.{ℕ, ap, arith, cond, false, inl, inr, is_some, map, refl, sym, true}
-use Rattle.std.proofs.{lemmas.{Bool.{cases_Bool, or_parts, Decides.nat_tests}, Cmp.alike_right}, Math.Bool.or-true}
-use Rattle.std.specs.{Cmp.Lexicographic.slice_cmp, declared.cmp.Ordering.{Ordering, TheVariants.Less}}
-use Rattle.std.specs.{List.{AllByRecursion as All, list_any, Sorted.IsStrictlySortedBy}, Map.keys_of, Option.option_map}
-use Rattle.std.specs.{Ordering.{is_eq, nat_cmp, ordering_then}, Prelude.{◌==◌, fold, nat_le}}
+use Rattle.std.proofs.Common.{Bool, List, None, Option, Some, [], ap, arith, cond, false, inl, inr, is_some, map, refl, sym, true, ℕ, ◌&&◌}
+use Rattle.std.proofs.{Common.{◌||◌, ◌∙◌, ◌∷◌, ◌≡◌, ◌≤◌}, Math.Bool.or-true, lemmas.Bool.{Decides.nat_tests, cases_Bool, or_parts}}
+use Rattle.std.{proofs.lemmas.{Cmp.alike_right, Grind.common_steps}, specs.List.{AllByRecursion as All, list_any}}
+use Rattle.std.specs.{List.Sorted.IsStrictlySortedBy, Map.keys_of, Option.option_map, Ordering.{is_eq, nat_cmp, ordering_then}}
+use Rattle.std.specs.{Prelude.{fold, nat_le, ◌==◌}, declared.cmp.Ordering.{Ordering, TheVariants.Less}}
 use Rattle.bq_index.specs.{Catalog.CatalogSeen, Order.InOrder}
 use Rattle.bq_job.specs.{beside.{dues_of_pause, earliest}, machine.{Pause as PauseRecord, TubeRecord}, reading.TubeName.is_same_name}
 use Rattle.bq_jobs.proofs.Choice.{equal_from, lookup_inserted, lookup_removed}
-use Rattle.bq_state.specs.{declared.tubes.pauses.PauseEnd.PauseEnd, Dues.{earlier_of_both, first_pause_end, is_end_over, with_tube_due}}
-use Rattle.bq_state.specs.KeptTubes.{KeptTubes, Named, record_at, tubes_kept}
-use Rattle.bq_state.specs.PauseEnds.{AreEnds, Ends, end_cmp, end_total, ends_at, first_end, found_end}
-use Rattle.bq_state.specs.PauseEnds.{has_end, if_over, is_end_in, is_end_of, with_end, without_end}
-use Rattle.bq_state.proofs.{NamedLemmas.ties, TubeLemmas.same_itself}
+use Rattle.bq_state.{proofs.{NamedLemmas.ties, TubeLemmas.same_itself}, specs.Dues.{earlier_of_both, first_pause_end, is_end_over}}
+use Rattle.bq_state.specs.{Dues.with_tube_due, KeptTubes.{KeptTubes, Named, record_at, tubes_kept}, PauseEnds.{AreEnds, Ends, end_cmp}}
+use Rattle.bq_state.specs.PauseEnds.{end_total, ends_at, first_end, found_end, has_end, if_over, is_end_in, is_end_of, with_end}
+use Rattle.bq_state.specs.{PauseEnds.without_end, declared.tubes.pauses.PauseEnd.PauseEnd}
 
 -- an end of another tube
 pub ends_apart : (e f : PauseEnd) → is_same_name e.name f.name ≡ false → is_eq (end_cmp e f) ≡ false
@@ -47,7 +45,7 @@ unfolding IsStrictlySortedBy
 least_end x ends s q h = elim (cases_Bool (is_eq (end_cmp q x.0))) [
   | inl t ↦ let same = first_of_both (q.until == x.0.until) (is_same_name q.name x.0.name) (sym (grind (arith, ties)) ∙ t) in
       grind (arith, nat_tests)
-  | inr t ↦ not_later x.0.until q.until (slice_cmp nat_cmp x.0.name q.name) (above x.0 q ends s.0 (rw t at h))
+  | inr t ↦ not_later _ _ _ (above _ _ _ s.0 (rw t at h))
 ]
   where
     first_of_both : (a b : Bool) → (a && b) ≡ true → a ≡ true
@@ -71,8 +69,7 @@ none_stays [] best none = refl
 none_stays (t ∷ ts) best none =
     let here : t.pause ≡ None = no_pause t t.pause refl (λ e. (or_parts (is_end_of e t) (is_end_in e ts) (none e)).0) in
     ap (λ p. fold with_tube_due (earlier_of_both best (earliest (dues_of_pause p))) ts) here
-    ∙ ap (λ o. fold with_tube_due o ts) (no_other best)
-    ∙ none_stays ts best (λ e. (or_parts (is_end_of e t) (is_end_in e ts) (none e)).1)
+    ∙ ap (λ o. fold with_tube_due o ts) (no_other best) ∙ none_stays ts best (λ e. (or_parts (is_end_of e t) (is_end_in e ts) (none e)).1)
   where
     no_other : (a : Option ℕ) → earlier_of_both a None ≡ a
     no_other a = grind (arith, common_steps)
@@ -103,8 +100,7 @@ stays_least m b h = grind (arith, common_steps)
 
 least_stays : (m : ℕ) (ts : List TubeRecord) → AreFrom m ts → fold with_tube_due (Some m) ts ≡ Some m
 least_stays m [] all = refl
-least_stays m (t ∷ ts) all =
-    ap (λ o. fold with_tube_due o ts) (stays_least m (earliest (dues_of_pause t.pause)) (due_from m t ts all t.pause refl))
+least_stays m (t ∷ ts) all = ap (λ o. fold with_tube_due o ts) (stays_least _ _ (due_from m t ts all t.pause refl))
     ∙ least_stays m ts (rest_from m t ts all)
 
 becomes_least : (m : ℕ) (best : Option ℕ) (p : Option PauseRecord) → IsFrom m best → ends_at m p ≡ true
@@ -115,11 +111,9 @@ least_found : (m : ℕ) (ts : List TubeRecord) (best : Option ℕ) → IsFrom m 
     → fold with_tube_due best ts ≡ Some m
 least_found m [] best h all hit = absurd cc
 least_found m (t ∷ ts) best h all hit = elim (cases_Bool (ends_at m t.pause)) [
-  | inl at ↦ ap (λ o. fold with_tube_due o ts) (becomes_least m best t.pause h at) ∙ least_stays m ts (rest_from m t ts all)
-  | inr other ↦
-      least_found m ts (earlier_of_both best (earliest (dues_of_pause t.pause)))
-      (both_from m best (earliest (dues_of_pause t.pause)) h (due_from m t ts all t.pause refl))
-      (rest_from m t ts all) (rw other at hit)
+  | inl at ↦ ap (λ o. fold with_tube_due o ts) (becomes_least _ _ _ h at) ∙ least_stays _ _ (rest_from m t ts all)
+  | inr other ↦ least_found m ts (earlier_of_both best (earliest (dues_of_pause t.pause)))
+      (both_from _ _ _ h (due_from m t ts all t.pause refl)) (rest_from m t ts all) (rw other at hit)
 ]
 
 hit_of : (e : PauseEnd) (ts : List TubeRecord) → is_end_in e ts ≡ true → list_any (λ t. ends_at e.until t.pause) ts ≡ true
@@ -127,8 +121,7 @@ hit_of e [] h = absurd cc
 hit_of e (t ∷ ts) h = grind (arith, common_steps, cases_Bool, or-true, hit_of e ts)
 
 first_there : (x : PauseEnd × Unit {0}) (ends : Ends) → has_end x.0 (x ∷ ends) ≡ true
-first_there x ends = ap (λ b. is_some (cond b (Some x.1) (found_end x.0 ends)))
-    ((grind (arith, ties)) ∙ (λ i. (same_moment x.0.until i) && (same_itself x.0.name i)))
+first_there x ends = grind (arith, common_steps, ties, same_moment, same_itself)
 
 -- The first due end is one of the ends, and is due.
 pub one_over : (moment : ℕ) (e : PauseEnd) (ends : Ends) → Some e ≡ if_over moment (first_end ends)
@@ -147,8 +140,7 @@ first_is entries ends h s = go ends.entries h.known s
     go : (es : Ends) → ((e : PauseEnd) → has_end e es ≡ is_end_in e entries) → InOrder end_cmp es
         → option_map (λ e. e.until) (first_end es) ≡ first_pause_end entries
     go [] known s = sym (none_stays entries None (λ e. sym (known e)))
-    go (x ∷ es) known s =
-        sym (least_found x.0.until entries None tt (λ e g. least_end x es s e (known e ∙ g))
+    go (x ∷ es) known s = sym (least_found x.0.until entries None tt (λ e g. least_end x es s e (known e ∙ g))
         (hit_of x.0 entries (sym (known x.0) ∙ first_there x es)))
 
 -- The first of the ends is the first end of a pause, as contracts see the tubes.

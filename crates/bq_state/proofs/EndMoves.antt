@@ -1,21 +1,18 @@
 -- How the ends of pauses change when a pause changes, or a tube is added or removed.
-use Rattle.std.proofs.Common.{◌&&◌, ◌+◌, ◌<◌, ◌||◌, ◌∙◌, ◌∷◌, ◌≡◌, ◌≤◌, if◌then◌else◌, Bool, List, None, Option, Some, []}
-use Rattle.std.proofs.Common.{ℕ, ap, arith, cond, false, inl, inr, is_some, length, map, refl, subst, suc, sym, true}
-use Rattle.std.proofs.{lemmas.{Bool.{cases_Bool, eqb-true, or_parts}, Grind.common_steps}, Math.Bool.or-false}
-use Rattle.std.specs.{Borrow.Bor, Map.{lookup, remove_entry}, Option.{ForSome, option_map}}
-use Rattle.std.specs.{Ordering.is_eq, Prelude.{◌==◌, count_by, nat_le}}
-use Rattle.bq_index.specs.{Catalog.CatalogSeen, Order.InOrder}
-use Rattle.bq_index.proofs.Order.{length_inserted, length_removed}
+use Rattle.std.proofs.Common.{Bool, List, None, Option, Some, [], ap, arith, cond, false, if◌then◌else◌, inl, inr, is_some, length, map}
+use Rattle.std.proofs.{Common.{refl, sym, true, ℕ, ◌&&◌, ◌+◌, ◌<◌, ◌||◌, ◌∙◌, ◌∷◌, ◌≡◌, ◌≤◌}, Math.Bool.or-false, lemmas.Bool.cases_Bool}
+use Rattle.std.{proofs.lemmas.{Bool.{eqb-true, or_parts}, Grind.common_steps}, specs.{Borrow.Bor, Map.{lookup, remove_entry}}}
+use Rattle.std.specs.{Option.{ForSome, option_map}, Ordering.is_eq, Prelude.{count_by, ◌==◌}}
+use Rattle.bq_index.{proofs.Order.{length_inserted, length_removed}, specs.{Catalog.CatalogSeen, Order.InOrder}}
 use Rattle.bq_job.specs.machine.{Pause as PauseRecord, TubeRecord, fresh_tube, pause_after_timers, tube_after_timers, with_record}
-use Rattle.bq_job.specs.{reading.TubeName.is_same_name}
-use Rattle.bq_state.specs.declared.tubes.{entry.TubeChange.TubeChange, pauses.PauseEnd.PauseEnd}
-use Rattle.bq_state.specs.KeptTubes.{KeptTube, Named, edited, ended, is_named_at, kept_changed, record_at, record_of}
-use Rattle.bq_state.specs.PauseEnds.{AreEnds, Ends, end_cmp, end_of, ends_at, first_end, found_end}
-use Rattle.bq_state.specs.PauseEnds.{has_end, if_over, is_end_in, is_paused, pause_at, with_end, without_end}
-use Rattle.bq_state.specs.TubeEntries.{AreInOrder, has_entry, tube_changed}
-use Rattle.bq_state.proofs.EndLemmas.{ends_alike, ends_apart, has_entered, has_left, one_over}
-use Rattle.bq_state.proofs.{NamedLemmas.{change_kept, edit_change, found_entry, ties}, TubeLemmas.{order_kept, same_itself, same_name}}
-use Rattle.bq_state.proofs.{PartsLemmas.tube_name_kept, TubeLemmas.{changed_one, none_later}}
+use Rattle.bq_job.specs.reading.TubeName.{is_same_name}
+use Rattle.bq_state.proofs.{EndLemmas.{ends_alike, ends_apart, has_entered, has_left, one_over}, NamedLemmas.{change_kept, edit_change}}
+use Rattle.bq_state.proofs.{NamedLemmas.{found_entry, ties}, PartsLemmas.tube_name_kept, TubeLemmas.{changed_one, none_later, order_kept}}
+use Rattle.bq_state.{proofs.TubeLemmas.{same_itself, same_name}, specs.KeptTubes.{KeptTube, Named, edited, ended, is_named_at}}
+use Rattle.bq_state.specs.{KeptTubes.{kept_changed, record_at, record_of}, PauseEnds.{AreEnds, Ends, end_cmp, end_of, ends_at, first_end}}
+use Rattle.bq_state.specs.PauseEnds.{found_end, has_end, if_over, is_end_in, is_paused, pause_at, with_end, without_end}
+use Rattle.bq_state.specs.{TubeEntries.{AreInOrder, has_entry, tube_changed}, declared.tubes.entry.TubeChange.TubeChange}
+use Rattle.bq_state.specs.declared.tubes.pauses.PauseEnd.{PauseEnd}
 
 abbrev pub one_if : Option PauseRecord → ℕ
 one_if p = cond (is_some p) 1 0
@@ -73,19 +70,15 @@ module _ (name : List ℕ) (from to : Option PauseRecord) (old new : List TubeRe
       go None f = h.known q ∙ m.was u ∙ ap (ends_at u) f
       go (Some p) f =
           let there : has_end q ends.entries ≡ (p.until == u) = h.known q ∙ m.was u ∙ ap (ends_at u) f in
-          has_left q (record { until = p.until; name = name }) ends.entries
-          (s (record { until = p.until; name = name }) (ap (end_of name) f))
-          ∙ (λ i. cond (ends_alike (record { until = p.until; name = name }) q (same_itself name) i) false (there i))
-          ∙ gone (p.until == u)
+          has_left _ _ _ (s (record { until = p.until; name = name }) (ap (end_of name) f))
+          ∙ (λ i. cond (ends_alike (record { until = p.until; name = name }) q (same_itself name) i) false (there i)) ∙ gone (p.until == u)
 
   others_left : (q : PauseEnd) → is_same_name name q.name ≡ false → has_end q left ≡ has_end q ends.entries
   others_left q other = go from refl
     where
       go : (p : Option PauseRecord) → from ≡ p → has_end q (without_end (end_of name p) ends.entries) ≡ has_end q ends.entries
       go None f = refl
-      go (Some p) f =
-          has_left q (record { until = p.until; name = name }) ends.entries
-          (s (record { until = p.until; name = name }) (ap (end_of name) f))
+      go (Some p) f = has_left _ _ _ (s (record { until = p.until; name = name }) (ap (end_of name) f))
           ∙ ap (λ b. cond b false (has_end q ends.entries)) (ends_apart (record { until = p.until; name = name }) q other)
 
   left_length : length left + one_if from ≡ length ends.entries
@@ -95,8 +88,8 @@ module _ (name : List ℕ) (from to : Option PauseRecord) (old new : List TubeRe
       go None f = omega arith
       go (Some p) f =
           let e : PauseEnd = record { until = p.until; name = name } in
-          let held = some_unit (found_end e ends.entries) (end_held name from to old new ends h m e (ap (end_of name) f)) in
-          length_removed (λ k. is_eq (end_cmp e k)) ends.entries (Some (e, tt)) refl (sym held)
+          length_removed (λ k. is_eq (end_cmp e k)) ends.entries (Some (e, tt)) refl
+          (sym (some_unit _ (end_held _ _ _ _ _ _ h m _ (ap (end_of name) f))))
 
   -- so the end of its new pause is absent.
   pub end_absent : (e : PauseEnd) → end_of name to ≡ Some e → found_end e left ≡ None
@@ -118,9 +111,7 @@ module _ (name : List ℕ) (from to : Option PauseRecord) (old new : List TubeRe
   }
     where
       grown : (p : Option PauseRecord) → to ≡ p → length (with_end (end_of name p) left) ≡ length left + one_if p
-      grown None f = omega arith
-      grown (Some p) f = length_inserted end_cmp (record { until = p.until; name = name }) tt left
-          (end_absent (record { until = p.until; name = name }) (ap (end_of name) f))
+      grown p h1 = grind (arith, common_steps, length_inserted, end_absent)
 
       added : (q : PauseEnd) → is_same_name name q.name ≡ false → (p : Option PauseRecord) → to ≡ p
           → has_end q (with_end (end_of name p) left) ≡ has_end q left
@@ -143,10 +134,8 @@ module _ (name : List ℕ) (from to : Option PauseRecord) (old new : List TubeRe
       own_at u (Some p) f =
           let e : PauseEnd = record { until = p.until; name = name } in
           let q : PauseEnd = record { until = u; name = name } in
-          has_entered q e left (end_absent e (ap (end_of name) f))
-          ∙ (λ i. ends_alike q e (same_itself name) i || none_left u i)
-          ∙ or-false (u == p.until)
-          ∙ turned u p.until
+          has_entered q e left (end_absent e (ap (end_of name) f)) ∙ (λ i. ends_alike q e (same_itself name) i || none_left u i)
+          ∙ or-false (u == p.until) ∙ turned u p.until
 
       own : (q : PauseEnd) → name ≡ q.name → has_end q (with_end (end_of name to) left) ≡ is_end_in q new
       own q same =
@@ -191,8 +180,7 @@ module _ (name : List ℕ) (f : TubeRecord → TubeRecord) (keeps : (t : TubeRec
   others_changed : (e : PauseEnd) → is_same_name name e.name ≡ false → (ts : List TubeRecord)
       → is_end_in e (map (changed_one name f) ts) ≡ is_end_in e ts
   others_changed e other [] = refl
-  others_changed e other (t ∷ ts) =
-      grind (arith, common_steps, cases_Bool, same_name, apart_from, others_changed e other ts)
+  others_changed e other (t ∷ ts) = grind (arith, common_steps, cases_Bool, same_name, apart_from, others_changed e other ts)
 
   count_changed : (ts : List TubeRecord) → AreInOrder ts
       → count_by is_paused (map (changed_one name f) ts) + one_if (pause_at name ts) ≡ count_by is_paused ts + one_if
@@ -200,16 +188,12 @@ module _ (name : List ℕ) (f : TubeRecord → TubeRecord) (keeps : (t : TubeRec
   count_changed [] order = refl
   count_changed (t ∷ ts) order = grind (arith, common_steps, stay, none_behind, count_changed ts order.1)
 
-  length_changed : (ts : List TubeRecord) → length (map (changed_one name f) ts) ≡ length ts
-  length_changed [] = refl
-  length_changed (t ∷ ts) = ap suc (length_changed ts)
-
   pub order_changed : (ts : List TubeRecord) → AreInOrder ts → AreInOrder (map (changed_one name f) ts)
   order_changed ts order = order_kept (changed_one name f) (λ t. grind (arith, common_steps)) ts order
 
   pub moves_changed : (ts : List TubeRecord) → AreInOrder ts
       → Moves name (pause_at name ts) (pause_at name (map (changed_one name f) ts)) ts (map (changed_one name f) ts)
-  moves_changed ts order = grind (arith, common_steps, others_changed, named_ends, order_changed, count_changed, length_changed)
+  moves_changed ts order = grind (arith, common_steps, others_changed, named_ends, order_changed, count_changed)
 
 -- the tube is removed
 module _ (name : List ℕ) where
@@ -280,8 +264,7 @@ module _ (name : List ℕ) (f : KeptTube → KeptTube) (g : TubeRecord → TubeR
 
   pub edit_moves : Moves name (pause_at name (map record_at es)) (pause_at name (map record_at last)) (map record_at es)
       (map record_at last)
-  edit_moves = subst (λ us. Moves name (pause_at name (map record_at es)) (pause_at name us) (map record_at es) us) (sym edit_is)
-      (moves_changed name g keeps (map record_at es) order)
+  edit_moves = grind (arith, common_steps, edit_is, moves_changed)
 
   pub edit_stays : ((t : TubeRecord) → (g t).pause ≡ t.pause) → (ends : CatalogSeen PauseEnd (Unit {0})) → AreEnds (map record_at es) ends
       → AreEnds (map record_at last) ends
@@ -324,9 +307,6 @@ module _ (moment : ℕ) (name : List ℕ) where
 own_end : (name : List ℕ) (u : ℕ) (p : Option PauseRecord) → ends_at u p ≡ true → end_of name p ≡ Some (record { until = u; name = name })
 own_end name u v3 h = grind (arith, common_steps, cases_Bool, eqb-true)
 
-over_ends : (moment u : ℕ) (p : Option PauseRecord) → ends_at u p ≡ true → nat_le u moment ≡ true → pause_after_timers moment p ≡ None
-over_ends moment u p h come = grind (arith)
-
 -- the first end, which is due
 module _ (moment : ℕ) (e : PauseEnd) (es last : List Named) (ends : CatalogSeen PauseEnd (Unit {0})) (h : AreEnds (map record_at es) ends)
     (order : AreInOrder (map record_at es))
@@ -346,17 +326,13 @@ module _ (moment : ℕ) (e : PauseEnd) (es last : List Named) (ends : CatalogSee
   over_from = own_end e.name e.until (pause_at e.name (map record_at es)) ends_then
 
   pub over_to : pause_at e.name (map record_at last) ≡ None
-  over_to = ap (pause_at e.name) last_is ∙ pause_then moment e.name (map record_at es)
-      ∙ over_ends moment e.until (pause_at e.name (map record_at es)) ends_then (one_over moment e ends.entries come).1
+  over_to = grind (arith, common_steps, last_is, pause_then, ends_then, one_over)
 
   pub over_records : map (tube_after_timers moment) (map record_at last) ≡ map (tube_after_timers moment) (map record_at es)
   over_records = ap (map (tube_after_timers moment)) last_is ∙ one_after moment e.name (map record_at es)
 
   one_from : one_if (pause_at e.name (map record_at es)) ≡ 1
-  one_from = go (pause_at e.name (map record_at es)) over_from
-    where
-      go : (p : Option PauseRecord) → end_of e.name p ≡ Some e → one_if p ≡ 1
-      go p is = grind (arith)
+  one_from = grind (arith, common_steps, over_from)
 
   pub over_fewer : count_by is_paused (map record_at last) < count_by is_paused (map record_at es)
   over_fewer = let none = ap one_if over_to in omega (arith, over_moves.count, one_from, none)

@@ -1,14 +1,14 @@
 -- The first timeout of a waiting client, as seats change.
-use Rattle.std.proofs.{Common.{◌==◌, ◌||◌, ◌∙◌, ◌∷◌, ◌≡◌, if◌then◌else◌, Bool, List, None, Option, Some, [], ℕ}, Math.Bool.or-false}
-use Rattle.std.proofs.Common.{ap, arith, false, length, map, refl, set, slice_get, suc, sym, true, zero}
+use Rattle.std.proofs.Common.{Bool, List, None, Option, Some, [], ap, arith, if◌then◌else◌, length, map, refl, set, slice_get, suc, sym}
+use Rattle.std.proofs.{Common.{true, zero, ℕ, ◌==◌, ◌||◌, ◌∙◌, ◌∷◌, ◌≡◌}, Math.Bool.or-false, lemmas.Grind.common_steps}
 use Rattle.std.specs.{List.{AllByRecursion as All, list_any}, Prelude.fold}
-use Rattle.bq_job.specs.machine.{SeatRecord, empty_seat, seat_with, watching}
-use Rattle.bq_job.proofs.{KeptLemmas.only_seat, ListLemmas.{all_both, all_of_map, all_weaker}}
+use Rattle.bq_job.{proofs.{KeptLemmas.only_seat, ListLemmas.{all_both, all_of_map, all_weaker}}, specs.machine.{SeatRecord, empty_seat}}
+use Rattle.bq_job.specs.machine.{seat_with, watching}
+use Rattle.bq_state.{proofs.{CrowdLemmas.none_changed, PartsLemmas.{all_read, all_set}}, specs.Dues.{earlier_of_both, is_end_over}}
+use Rattle.bq_state.specs.{Dues.with_seat_due, EndingWaits.has_waited, FirstTimeouts.{AreTimeouts, IsThere, gives_up_at, keeps_timeout}}
+use Rattle.bq_state.specs.{FirstTimeouts.timeout_after, SeatChanges.{AreNumbered, seat_changed, seat_changed_at}}
 use Rattle.bq_state.specs.declared.known.first_timeout.FirstTimeout.{FirstTimeout, TheVariants.{Known, Unknown}}
-use Rattle.bq_state.specs.{declared.seats.SeatChange.SeatChange, Dues.{earlier_of_both, is_end_over, with_seat_due}, EndingWaits.has_waited}
-use Rattle.bq_state.specs.FirstTimeouts.{AreTimeouts, IsThere, timeout_after, gives_up_at, keeps_timeout}
-use Rattle.bq_state.specs.SeatChanges.{AreNumbered, seat_changed, seat_changed_at}
-use Rattle.bq_state.proofs.{CrowdLemmas.none_changed, PartsLemmas.{all_read, all_set}}
+use Rattle.bq_state.specs.declared.seats.SeatChange.{SeatChange}
 
 -- the same moments have the same first one
 fold_kept : (g : SeatRecord → SeatRecord) (best : Option ℕ) (seats : List SeatRecord) → All (λ s. gives_up_at (g s) ≡ gives_up_at s) seats
@@ -20,14 +20,12 @@ fold_kept g best (s ∷ seats) same = fold_kept g (earlier_of_both best (gives_u
 fold_set : (best : Option ℕ) (seats : List SeatRecord) (i : ℕ) (s new : SeatRecord) → gives_up_at new ≡ gives_up_at s
     → slice_get seats i ≡ Some s → fold with_seat_due best (set seats i new) ≡ fold with_seat_due best seats
 fold_set best [] i s new same here = refl
-fold_set best (t ∷ seats) zero s new same here = let is : t ≡ s = cc in
-    ap (λ due. fold with_seat_due (earlier_of_both best due) seats) (same ∙ ap gives_up_at (sym is))
+fold_set best (t ∷ seats) zero s new same here = grind (arith, common_steps)
 fold_set best (t ∷ seats) (suc i) s new same here = fold_set (earlier_of_both best (gives_up_at t)) seats i s new same here
 
 -- a change that keeps this moment
 pub timeouts_of_seat : (number : ℕ) (what : SeatChange) (first : FirstTimeout) (seats : List SeatRecord) → AreNumbered seats
-    → AreTimeouts first seats
-    → AreTimeouts (timeout_after what (seat_with number seats) first) (map (seat_changed_at number what) seats)
+    → AreTimeouts first seats → AreTimeouts (timeout_after what (seat_with number seats) first) (map (seat_changed_at number what) seats)
 timeouts_of_seat number what first seats numbered known = go (seat_with number seats) refl
   where
     kept : (s : SeatRecord) → seat_with number seats ≡ Some s → keeps_timeout what s ≡ true
@@ -46,21 +44,13 @@ timeouts_of_seat number what first seats numbered known = go (seat_with number s
         → AreTimeouts f (map (seat_changed_at number what) seats)
     all_kept Unknown known keeps = tt
     all_kept (Known at) known keeps = (
-      fold_kept (seat_changed_at number what) None seats
-          (all_weaker (λ t. t.number ≡ number → keeps_timeout what t ≡ true)
-          (λ t. gives_up_at (seat_changed_at number what t) ≡ gives_up_at t) seats (λ t k. due t k (t.number == number) refl) keeps)
-          ∙ known.0,
-      all_of_map IsThere (seat_changed_at number what) seats
-          (all_weaker (λ t. (t.number ≡ number → keeps_timeout what t ≡ true) × IsThere t)
-          (λ t. IsThere (seat_changed_at number what t)) seats
-          (λ t k. there t k.0 k.1 (t.number == number) refl)
-          (all_both (λ t. t.number ≡ number → keeps_timeout what t ≡ true) IsThere seats keeps known.1)),
+      fold_kept _ _ _ (all_weaker _ _ _ (λ t k. due _ k _ refl) keeps) ∙ known.0,
+      all_of_map _ _ _ (all_weaker _ _ _ (λ t k. there _ k.0 k.1 _ refl) (all_both _ _ _ keeps known.1)),
     )
 
     at_seat : (s : SeatRecord) → seat_with number seats ≡ Some s → (b : Bool) → keeps_timeout what s ≡ b
         → AreTimeouts (if b then first else Unknown) (map (seat_changed_at number what) seats)
-    at_seat s found true e = all_kept first known (kept s found e)
-    at_seat s found false e = tt
+    at_seat s h1 b h2 = grind (arith, common_steps, all_kept, kept)
 
     go : (o : Option SeatRecord) → seat_with number seats ≡ o
         → AreTimeouts (timeout_after what o first) (map (seat_changed_at number what) seats)
@@ -72,17 +62,15 @@ pub timeouts_watching : (names : List (List ℕ)) (i : ℕ) (s : SeatRecord) (fi
     → slice_get seats i ≡ Some s → AreTimeouts first seats → AreTimeouts first (set seats i (watching names s))
 timeouts_watching names i s Unknown seats here known = tt
 timeouts_watching names i s (Known at) seats here known = (
-  fold_set None seats i s (watching names s) refl here
-      ∙ known.0,
-  all_set IsThere seats i (watching names s) known.1 (all_read IsThere seats i s known.1 here),
+  fold_set None seats i s (watching names s) refl here ∙ known.0,
+  all_set _ _ _ _ known.1 (all_read _ _ _ _ known.1 here),
 )
 
 -- whether the first of some moments has come
 over_all : (moment : ℕ) (best : Option ℕ) (seats : List SeatRecord) → All IsThere seats
     → is_end_over moment (fold with_seat_due best seats) ≡ (is_end_over moment best || list_any (has_waited moment) seats)
 over_all moment best [] there = sym (or-false (is_end_over moment best))
-over_all moment best (s ∷ seats) there =
-    grind (arith, over_all moment (earlier_of_both best (gives_up_at s)) seats there.1)
+over_all moment best (s ∷ seats) there = grind (arith, over_all moment (earlier_of_both best (gives_up_at s)) seats there.1)
 
 pub over_known : (moment : ℕ) (first : Option ℕ) (seats : List SeatRecord) → AreTimeouts (Known first) seats
     → is_end_over moment first ≡ list_any (has_waited moment) seats

@@ -1,21 +1,19 @@
 -- Entries of tubes that no longer exist are dropped from the catalog; the others are counted and
 -- listed.
-use Rattle.std.proofs.Common.{◌++◌, ◌+◌, ◌∙◌, ◌∷◌, ◌≡◌, ◌≤◌, if◌then◌else◌, Bool, List, None, Option, Some, []}
-use Rattle.std.proofs.Common.{ℕ, ap, append_assoc, arith, false, inl, inr, length, map, not, refl, sym, true}
-use Rattle.std.proofs.lemmas.{Bool.cases_Bool, Grind.common_steps, List.append-nil}
-use Rattle.std.specs.{Borrow.Bor, Cmp.Lexicographic.{nat_list_cmp_total, slice_cmp}, Map.{keys_of, lookup, remove_entry}, Option.option_map}
-use Rattle.std.specs.declared.cmp.Ordering.{Ordering, TheVariants.{Equal, Greater, Less}}
-use Rattle.std.specs.List.{AllByRecursion as All, Sorted.IsStrictlySortedBy}
-use Rattle.std.specs.{Ordering.{is_eq, is_gt, nat_cmp, ordering_reverse}, Prelude.{filter, find, fold}}
+use Rattle.std.proofs.Common.{Bool, List, None, Option, Some, [], ap, append_assoc, arith, false, if◌then◌else◌, inl, inr, length, map, not}
+use Rattle.std.proofs.{Common.{refl, sym, true, ℕ, ◌++◌, ◌+◌, ◌∙◌, ◌∷◌, ◌≡◌, ◌≤◌}, lemmas.{Bool.cases_Bool, Grind.common_steps}}
+use Rattle.std.{proofs.lemmas.List.append-nil, specs.{Borrow.Bor, Cmp.Lexicographic.{nat_list_cmp_total, slice_cmp}}}
+use Rattle.std.specs.{List.{AllByRecursion as All, Sorted.IsStrictlySortedBy}, Map.{keys_of, lookup, remove_entry}, Option.option_map}
+use Rattle.std.specs.{Ordering.{is_eq, is_gt, nat_cmp, ordering_reverse}, Prelude.{filter, find, fold}, declared.cmp.Ordering.Ordering}
+use Rattle.std.specs.declared.cmp.Ordering.TheVariants.{Equal, Greater, Less}
 use Rattle.bq_index.specs.{Order.InOrder, Walk.{entry_of, seen_by}}
 use Rattle.bq_job.specs.{declared.job.Job.Job, machine.{SeatRecord, greatest}, reading.TubeName.is_same_name}
-use Rattle.bq_state.specs.declared.{known.maybe_gone.MaybeGone.TheVariants.Of, tubes.walks.HowMany.HowMany}
-use Rattle.bq_state.specs.{Crowds.{crowd_in, crowds_of, has_seats}, MaybeGoneTubes.AreAlive, Tallies.{has_jobs, tallies_of, tally_in}}
-use Rattle.bq_state.specs.KeptTubes.{KeptTube, Named, crowd_kept, is_alive_at, is_alive_with, is_from, is_gone_by}
-use Rattle.bq_state.specs.KeptTubes.{is_gone_from, is_named_at, record_at, tally_kept, with_alive, with_name_of}
-use Rattle.bq_state.specs.TubeEntries.{AreInOrder, is_tube_of, names_alive}
-use Rattle.bq_state.proofs.{CrowdLemmas.has_seats_of, CrowdPlaces.exists_by_counts, TallyPlaces.has_jobs_in, TubeLemmas.same_name}
-use Rattle.bq_state.proofs.{MaybeGoneLemmas.{alive_but, alive_or, all_kept_alive, others_alive}, NamedLemmas.ties}
+use Rattle.bq_state.proofs.{CrowdLemmas.has_seats_of, CrowdPlaces.exists_by_counts, MaybeGoneLemmas.{alive_but, alive_or, all_kept_alive}}
+use Rattle.bq_state.proofs.{MaybeGoneLemmas.others_alive, NamedLemmas.ties, TallyPlaces.has_jobs_in, TubeLemmas.same_name}
+use Rattle.bq_state.specs.{Crowds.{crowd_in, crowds_of, has_seats}, KeptTubes.{KeptTube, Named, crowd_kept, is_alive_at, is_alive_with}}
+use Rattle.bq_state.specs.KeptTubes.{is_from, is_gone_by, is_gone_from, is_named_at, record_at, tally_kept, with_alive, with_name_of}
+use Rattle.bq_state.specs.{MaybeGoneTubes.AreAlive, Tallies.{has_jobs, tallies_of, tally_in}, TubeEntries.{AreInOrder, is_tube_of}}
+use Rattle.bq_state.specs.{TubeEntries.names_alive, declared.{known.maybe_gone.MaybeGone.TheVariants.Of, tubes.walks.HowMany.HowMany}}
 
 -- The counts are those of these jobs and seats.
 abbrev pub AreTallied : List Job → List SeatRecord → List Named → Type 0
@@ -72,8 +70,7 @@ module _ (jobs : List Job) (seats : List SeatRecord) where
       → (fold (seen_by (λ (s : HowMany) (name : List ℕ) (t : KeptTube). record { count = with_alive s.count name t }))
       (record { count = n }) es).count ≡ n + length (names_alive jobs seats (map record_at es))
   counted_names [] n h few = omega arith
-  counted_names (x ∷ es) n h few =
-      go (is_alive_at x) refl (λ k few. counted_names es k (rest_tallied x es h) few)
+  counted_names (x ∷ es) n h few = go (is_alive_at x) refl (λ k few. counted_names es k (rest_tallied x es h) few)
     where
       go : (b : Bool) → is_alive_at x ≡ b
           → ((k : ℕ) → k + length es ≤ greatest
@@ -114,11 +111,6 @@ module _ (jobs : List Job) (seats : List SeatRecord) where
 -- All such entries are dropped one after another.
 abbrev pub AllLeftBefore : Option (List ℕ) → List Named → Type 0
 AllLeftBefore from es = All (λ e. is_from from e ≡ false → is_alive_at e ≡ true) es
-
--- Before the first one, none was dropped.
-pub none_before : (es : List Named) → AllLeftBefore None es
-none_before [] = tt
-none_before (x ∷ es) = ((λ h. absurd (let g : true ≡ false = h in cc)), none_before es)
 
 -- If no further entry is found, none is left.
 pub none_gone : (from : Option (List ℕ)) (es : List Named) → find (is_gone_from from) es ≡ None → AllLeftBefore from es

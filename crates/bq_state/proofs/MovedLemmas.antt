@@ -1,20 +1,16 @@
 -- What a change of a job keeps.
-use Rattle.std.proofs.Common.{◌&&◌, ◌==◌, ◌∙◌, ◌∷◌, ◌≡◌, ◌≤◌, if◌then◌else◌, Bool, List, Some, [], ℕ, ap, arith, length, map, refl}
-use Rattle.std.proofs.{lemmas.List.length-map}
-use Rattle.std.proofs.lemmas.Grind.{common_steps}
-use Rattle.std.specs.List.{list_any}
-use Rattle.bq_job.specs.{declared.job.Job.Job, beside.AreIdsWithin, machine.{SeatRecord, TubeRecord, greatest, is_ready_state, job_with}}
-use Rattle.bq_job.specs.{reading.TubeName.is_same_name}
-use Rattle.bq_jobs.specs.declared.rows.Moved.{Moved}
-use Rattle.bq_jobs.specs.{Changed.{IgnoresTube, KeepsId, KeepsTube, moved_by, with_changed}, Kept.{with_added, without}}
-use Rattle.bq_jobs.proofs.Changes.{changed as changed_by_id, found_id}
-use Rattle.bq_state.specs.declared.known.{maybe_gone.MaybeGone.MaybeGone, wanted.Wanted.Wanted, tally.Tally.Tally, warns.Warns.Warns}
-use Rattle.bq_state.specs.{declared.job_store.JobChange.JobChange, Crowds.is_waiter, JobChanges.changed, MaybeGoneTubes.AreAlive}
-use Rattle.bq_state.specs.{SeatChanges.AreNumbered, WantedJobs.{AreKnown, with_wanted}, TubeEntries.{AreEntries, AreInOrder}}
-use Rattle.bq_state.specs.Tallies.{AreCounted, tallies_at, tallies_without, tally_moved, tally_of, tally_with, tally_without}
-use Rattle.bq_state.specs.Warnings.{AreWarned, has_waiting_holder, with_holder_of}
-use Rattle.bq_state.proofs.{PartsLemmas.{all_filtered, all_kept}, WantedLemmas.known_added}
-use Rattle.bq_state.proofs.{TallyPlaces.{counted_added, counted_taken}, WarningLemmas.warned_added, PartsLemmas.same_id}
+use Rattle.std.proofs.Common.{Bool, List, Some, [], ap, arith, if◌then◌else◌, length, map, refl, ℕ, ◌&&◌, ◌==◌, ◌∙◌, ◌∷◌, ◌≡◌, ◌≤◌}
+use Rattle.std.{proofs.lemmas.{Grind.common_steps, List.length-map}, specs.List.list_any}
+use Rattle.bq_job.specs.{beside.AreIdsWithin, declared.job.Job.Job, machine.{SeatRecord, TubeRecord, greatest, is_ready_state, job_with}}
+use Rattle.bq_job.specs.reading.TubeName.{is_same_name}
+use Rattle.bq_jobs.{proofs.Changes.{changed as changed_by_id, found_id}, specs.Changed.{IgnoresTube, KeepsId, KeepsTube, moved_by}}
+use Rattle.bq_jobs.specs.{Changed.with_changed, Kept.{with_added, without}, declared.rows.Moved.Moved}
+use Rattle.bq_state.proofs.{PartsLemmas.{all_filtered, all_kept, same_id}, TallyPlaces.{counted_added, counted_taken}}
+use Rattle.bq_state.{proofs.{WantedLemmas.known_added, WarningLemmas.warned_added}, specs.{Crowds.is_waiter, JobChanges.changed}}
+use Rattle.bq_state.specs.{MaybeGoneTubes.AreAlive, SeatChanges.AreNumbered, Tallies.{AreCounted, tallies_at, tally_moved, tally_of}}
+use Rattle.bq_state.specs.{Tallies.{tally_with, tally_without}, TubeEntries.{AreEntries, AreInOrder}, WantedJobs.{AreKnown, with_wanted}}
+use Rattle.bq_state.specs.{Warnings.{AreWarned, has_waiting_holder, with_holder_of}, declared.job_store.JobChange.JobChange}
+use Rattle.bq_state.specs.declared.known.{maybe_gone.MaybeGone.MaybeGone, tally.Tally.Tally, wanted.Wanted.Wanted, warns.Warns.Warns}
 
 -- no change depends on the tube
 pub tube_ignored : (change : JobChange) → IgnoresTube (changed change)
@@ -55,18 +51,16 @@ at_once name g h (t ∷ es) [] = refl
 at_once name g h (t ∷ es) (x ∷ tallies) = grind (arith, at_once name g h es tallies)
 
 -- the standing of a job changes
-pub counted_moved : (low next id : ℕ) (f : Job → Job) → KeepsId f → KeepsTube f → (j : Job) (m : Moved) → m ≡ moved_by f j
-    → (tally : Tally) (tallies : List Tally) (jobs : List Job) (es : List TubeRecord)
-    → AreIdsWithin low jobs next → job_with id jobs ≡ Some j → AreInOrder es → length jobs ≤ greatest
-    → AreCounted tally tallies jobs es → AreCounted (tally_moved m tally) (tallies_at m.tube (tally_moved m) es tallies)
-    (with_changed id f jobs) es
+pub counted_moved : (low next id : ℕ) (f : Job → Job) → KeepsId f → KeepsTube f → (j : Job) (m : Moved) → m ≡ moved_by f j → (tally : Tally)
+    (tallies : List Tally) (jobs : List Job) (es : List TubeRecord) → AreIdsWithin low jobs next → job_with id jobs ≡ Some j → AreInOrder es
+    → length jobs ≤ greatest → AreCounted tally tallies jobs es
+    → AreCounted (tally_moved m tally) (tallies_at m.tube (tally_moved m) es tallies) (with_changed id f jobs) es
 counted_moved low next id f keeps stays j m is tally tallies jobs es ids found order fits was =
     let made : with_added (f j) (without id jobs) ≡ with_changed id f jobs =
-    changed_by_id low next id f j jobs ids found (keeps j ∙ found_id id jobs j found) in
+    changed_by_id _ _ _ _ _ _ ids found (keeps j ∙ found_id _ _ _ found) in
     let as_many : length (with_added (f j) (without id jobs)) ≡ length jobs = ap length made ∙ length-map jobs _ in
     let fits_then : length (with_added (f j) (without id jobs)) ≤ greatest = omega (arith, as_many, fits) in
-    let after = counted_added (f j) (tally_without j tally) (tallies_without j es tallies) (without id jobs) es fits_then order
-    (counted_taken low next id j tally tallies jobs es ids found order was) in
+    let after = counted_added _ _ _ _ _ fits_then order (counted_taken _ _ _ _ _ _ _ _ ids found order was) in
     record {
       whole = ap (λ (n : Moved). tally_moved n tally) is ∙ after.whole ∙ ap tally_of made;
       each = grind (arith, common_steps, at_once j.tube (tally_with (f j)) (tally_without j) es tallies);
@@ -83,6 +77,5 @@ module _ (low next id : ℕ) (f : Job → Job) (keeps : KeepsId f) (stays : Keep
   known_moved wanted seats tubes b e was = grind (arith, known_added, all_filtered, made_of)
 
   pub warned_moved : (warns : Warns) (seats : List SeatRecord) (b : Bool) → AreNumbered seats → b ≡ has_waiting_holder m.to.state seats
-      → AreWarned warns jobs seats
-      → AreWarned (if b then with_holder_of m.to.state warns else warns) (with_changed id f jobs) seats
+      → AreWarned warns jobs seats → AreWarned (if b then with_holder_of m.to.state warns else warns) (with_changed id f jobs) seats
   warned_moved warns seats b numbered e was = grind (arith, warned_added, all_filtered, made_of)

@@ -1,18 +1,15 @@
 -- The names of the tubes that exist.
-use Rattle.std.proofs.{Common.{◌&&◌, ◌++◌, ◌+◌, ◌||◌, ◌∙◌, ◌∷◌, ◌≡◌, ◌⊎◌, if◌then◌else◌, Bool, List, Option, []}, lemmas.Bool.or_cases}
-use Rattle.std.proofs.{Common.{ℕ, ap, arith, codes, cond, false, inl, inr, map, refl, sym, true}, lemmas.Grind.common_steps}
-use Rattle.std.specs.{Borrow.Bor, List.{AllByRecursion as All, insert, list_any, prefix_len, slice_get}}
-use Rattle.std.specs.{Option.option_map, Prelude.{IsOk, Result, filter, find, flat_map, is_ok, unwrap_or}}
-use Rattle.bq_job.specs.{beside.is_in_order, machine.{TubeRecord, default_tube, fresh_tube, in_name_order, is_name_before, is_tube}}
-use Rattle.bq_job.specs.{machine.{name_list, seated_tubes, tubes, with_name, Machine.Machine}, reading.TubeName.is_same_name}
-use Rattle.bq_job.specs.texts.Yaml.{name_line}
+use Rattle.std.proofs.Common.{Bool, List, Option, [], ap, arith, codes, cond, false, if◌then◌else◌, inl, inr, map, refl, sym, true, ℕ, ◌&&◌}
+use Rattle.std.proofs.{Common.{◌++◌, ◌+◌, ◌||◌, ◌∙◌, ◌∷◌, ◌≡◌, ◌⊎◌}, lemmas.{Bool.{cases_Bool, or_cases}, Grind.common_steps}}
+use Rattle.std.specs.{Borrow.Bor, List.{AllByRecursion as All, insert, list_any, prefix_len, slice_get}, Option.option_map, Prelude.IsOk}
+use Rattle.std.specs.Prelude.{Result, filter, find, flat_map, is_ok, unwrap_or}
 use Rattle.bq_job.proofs.NameOrderLemmas.{after, first_of_order, in_order_fold, in_order_from, listed, not_before, not_same, rest_in_order}
-use Rattle.bq_job.proofs.NameOrderLemmas.{stays_fold}
-use Rattle.bq_state.specs.{Names.{is_named, names_of}, TubeEntries.{AreEntries, AreInOrder, IsFreshUnlessCounted, counted}}
-use Rattle.bq_state.specs.TubeEntries.{has_entry, is_counted, is_tube_of, names_alive}
-use Rattle.bq_state.proofs.{PartsLemmas.tube_has_entry}
-use Rattle.bq_state.proofs.TubeLemmas.{before_differs, none_found, none_later, order_filtered, same_itself, same_name}
-use Rattle.std.proofs.lemmas.Bool.{cases_Bool}
+use Rattle.bq_job.{proofs.NameOrderLemmas.stays_fold, specs.{beside.is_in_order, machine.{TubeRecord, default_tube, fresh_tube}}}
+use Rattle.bq_job.specs.machine.{Machine.Machine, in_name_order, is_name_before, is_tube, name_list, seated_tubes, tubes, with_name}
+use Rattle.bq_job.specs.{reading.TubeName.is_same_name, texts.Yaml.name_line}
+use Rattle.bq_state.proofs.{PartsLemmas.tube_has_entry, TubeLemmas.{before_differs, none_found, none_later, order_filtered, same_itself}}
+use Rattle.bq_state.{proofs.TubeLemmas.same_name, specs.{Names.{is_named, names_of}, TubeEntries.{AreEntries, AreInOrder}}}
+use Rattle.bq_state.specs.TubeEntries.{IsFreshUnlessCounted, counted, has_entry, is_counted, is_tube_of, names_alive}
 
 -- a name differs from all names that come after it
 none_listed : (name : List ℕ) (names : List (List ℕ)) → All (λ n. is_name_before name n ≡ true) names
@@ -22,13 +19,11 @@ none_listed name (n ∷ names) all = rw (before_differs name n all.0) (none_list
 
 -- a name in an ordered list is the first one, or comes after it
 first_or_later : (name first : List ℕ) (names : List (List ℕ)) → All (λ n. is_name_before first n ≡ true) names
-    → list_any (is_same_name name) (first ∷ names) ≡ true
-    → (name ≡ first) ⊎ (is_name_before first name ≡ true)
-first_or_later name first names all h =
-    elim (or_cases (is_same_name name first) (list_any (is_same_name name) names) h) [
-      | inl same ↦ inl (same_name name first same)
-      | inr more ↦ inr (behind names all more)
-    ]
+    → list_any (is_same_name name) (first ∷ names) ≡ true → (name ≡ first) ⊎ (is_name_before first name ≡ true)
+first_or_later name first names all h = elim (or_cases (is_same_name name first) (list_any (is_same_name name) names) h) [
+  | inl same ↦ inl (same_name _ _ same)
+  | inr more ↦ inr (behind names all more)
+]
   where
     behind : (names : List (List ℕ)) → All (λ n. is_name_before first n ≡ true) names → list_any (is_same_name name) names ≡ true
         → is_name_before first name ≡ true
@@ -80,8 +75,7 @@ later_names name (t ∷ entries) all = (all.0, later_names name entries all.1)
 
 names_in_order : (entries : List TubeRecord) → AreInOrder entries → is_in_order (map (λ t. t.name) entries) ≡ true
 names_in_order [] order = refl
-names_in_order (t ∷ entries) order =
-    in_order_from t.name (map (λ t. t.name) entries) (later_names t.name entries order.0) (names_in_order entries order.1)
+names_in_order (t ∷ entries) order = in_order_from _ _ (later_names _ _ order.0) (names_in_order entries order.1)
 
 -- a name is among those that pass, if it passes and has an entry
 among : (p : List ℕ → Bool) (name : List ℕ) (entries : List TubeRecord)
@@ -105,11 +99,7 @@ tubes_in_order m = in_order_fold (default_tube ∷ map (λ j. j.tube) m.jobs ++ 
 -- The tubes are those that have an entry and exist.
 pub alive_are_tubes : (m : Machine) (entries : List TubeRecord) → AreEntries m.jobs m.seats entries
     → names_alive m.jobs m.seats entries ≡ tubes m
-alive_are_tubes m entries e =
-    same_order (names_alive m.jobs m.seats entries) (tubes m)
-    (names_in_order (filter (λ t. is_tube_of m.jobs m.seats t.name) entries)
-    (order_filtered (λ t. is_tube_of m.jobs m.seats t.name) entries e.order))
-    (tubes_in_order m)
+alive_are_tubes m entries e = same_order _ _ (names_in_order _ (order_filtered _ _ e.order)) (tubes_in_order m)
     (λ name. among (is_tube_of m.jobs m.seats) name entries ∙ go name (is_tube_of m.jobs m.seats name) refl ∙ sym (listed name m))
   where
     go : (name : List ℕ) (b : Bool) → is_tube_of m.jobs m.seats name ≡ b → (b && has_entry name entries) ≡ is_tube name m
@@ -117,15 +107,13 @@ alive_are_tubes m entries e =
 
 -- The record of a tube is its entry.
 entry_at : (name : List ℕ) (t : TubeRecord) (entries : List TubeRecord) (same kept : Bool) → is_same_name name t.name ≡ same
-    → is_counted t ≡ kept
-    → IsFreshUnlessCounted t → All (λ u. is_name_before t.name u.name ≡ true) entries
+    → is_counted t ≡ kept → IsFreshUnlessCounted t → All (λ u. is_name_before t.name u.name ≡ true) entries
     → unwrap_or (find (λ t. is_same_name name t.name) (counted entries)) (fresh_tube name) ≡ unwrap_or
     (find (λ t. is_same_name name t.name) entries) (fresh_tube name)
     → unwrap_or (find (λ t. is_same_name name t.name) (counted (t ∷ entries))) (fresh_tube name) ≡ unwrap_or
     (find (λ t. is_same_name name t.name) (t ∷ entries)) (fresh_tube name)
 entry_at name t entries true true e k fresh later rest = rw (k, e) refl
-entry_at name t entries true false e k fresh later rest =
-    grind (arith, same_name name t.name e, none_later t.name entries later, none_found)
+entry_at name t entries true false e k fresh later rest = grind (arith, same_name name t.name e, none_later _ _ later, none_found)
 entry_at name t entries false true e k fresh later rest = rw (k, e) rest
 entry_at name t entries false false e k fresh later rest = rw (k, e) rest
 
@@ -147,13 +135,7 @@ module _ (name : List ℕ) where
       → is_named name (slice_get names (prefix_len (λ other. is_name_before other.now name) names)) ≡ true
       → names_of names ≡ with_name (names_of names) name
   place_kept [] h = absurd cc
-  place_kept (o ∷ names) h = go (is_name_before o.now name) refl (place_kept names) h
-    where
-      go : (b : Bool) → is_name_before o.now name ≡ b
-          → (is_named name (slice_get names (place names)) ≡ true → names_of names ≡ with_name (names_of names) name)
-          → is_named name (slice_get (o ∷ names) (cond b (1 + place names) 0)) ≡ true
-          → names_of (o ∷ names) ≡ with_name (names_of (o ∷ names)) name
-      go b e rest h = grind (arith, not_before)
+  place_kept (o ∷ names) h = grind (arith, common_steps, not_before, place_kept names)
 
   -- or it is inserted there.
   pub place_new : (x : Bor (List ℕ)) → x.now ≡ name → (names : List (Bor (List ℕ)))
@@ -163,9 +145,8 @@ module _ (name : List ℕ) where
   place_new x is (o ∷ names) h = go (is_name_before o.now name) refl (place_new x is names) h
     where
       go : (b : Bool) → is_name_before o.now name ≡ b
-          → (is_named name (slice_get names (place names)) ≡ false
-          → names_of (insert names (place names) x) ≡ with_name (names_of names) name)
-          → is_named name (slice_get (o ∷ names) (cond b (1 + place names) 0)) ≡ false
+          → (is_named name (slice_get names (place names)) ≡ false → names_of (insert names (place names) x) ≡ with_name (names_of names)
+          name) → is_named name (slice_get (o ∷ names) (cond b (1 + place names) 0)) ≡ false
           → names_of (insert (o ∷ names) (cond b (1 + place names) 0) x) ≡ with_name (names_of (o ∷ names)) name
       go true e rest h = grind (arith, not_same o.now name (is_same_name name o.now) refl e, not_before o.now name e)
       go false e rest h = grind (arith, after)

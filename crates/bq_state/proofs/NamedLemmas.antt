@@ -1,20 +1,17 @@
 -- The contents of the catalog of tubes: entries found by name.
-use Rattle.std.proofs.{Common.{◌&&◌, ◌+◌, ◌||◌, ◌∙◌, ◌∷◌, ◌≡◌, if◌then◌else◌, Bool, List, Option, Some, [], ℕ}, lemmas.Bool.cases_Bool}
-use Rattle.std.proofs.Common.{ap, arith, cond, false, inl, inr, is_some, map, refl, suc, sym, true}
-use Rattle.std.proofs.lemmas.{Bool.or_parts, Grind.common_steps}
-use Rattle.std.specs.{Borrow.Bor, BTreeMap.insert_entry, Cmp.Lexicographic.{nat_list_cmp_total, slice_cmp, texts_ties}}
-use Rattle.std.specs.declared.cmp.Ordering.{Ordering, TheVariants.{Equal, Greater, Less}}
-use Rattle.std.specs.{List.{AllByRecursion as All, insert, list_any, prefix_len, Sorted.IsStrictlySortedBy}, Map.{keys_of, lookup}}
-use Rattle.std.specs.{Option.option_map, Ordering.{is_eq, is_lt, match_ordering, nat_cmp, ordering_reverse}, Prelude.find}
+use Rattle.std.proofs.Common.{Bool, List, Some, [], ap, arith, cond, false, if◌then◌else◌, inl, inr, is_some, map, refl, suc, sym, true, ℕ}
+use Rattle.std.proofs.{Common.{◌&&◌, ◌+◌, ◌||◌, ◌∙◌, ◌∷◌, ◌≡◌}, lemmas.{Bool.{cases_Bool, or_parts}, Grind.common_steps}}
+use Rattle.std.specs.{BTreeMap.insert_entry, Cmp.Lexicographic.{nat_list_cmp_total, slice_cmp, texts_ties}, List.AllByRecursion as All}
+use Rattle.std.specs.{List.{Sorted.IsStrictlySortedBy, insert, list_any, prefix_len}, Map.{keys_of, lookup}, Option.option_map}
+use Rattle.std.specs.{Ordering.{is_eq, is_lt, match_ordering, nat_cmp, ordering_reverse}, Prelude.find, declared.cmp.Ordering.Ordering}
+use Rattle.std.specs.declared.cmp.Ordering.TheVariants.{Equal, Greater, Less}
 use Rattle.bq_index.specs.Order.{InOrder}
 use Rattle.bq_job.specs.{machine.{TubeRecord, fresh_tube, is_name_before, with_record}, reading.TubeName.is_same_name}
+use Rattle.bq_state.{proofs.TubeLemmas.{changed_one, none_later, same_name}, specs.Crowds.{crowd_at, crowds_at, crowds_provided, no_crowd}}
+use Rattle.bq_state.specs.KeptTubes.{KeptTube, KeptTubes, Named, crowd_by, crowd_kept, edited, fresh_entry, is_named_at, is_paused_by}
+use Rattle.bq_state.specs.{KeptTubes.{kept_changed, record_at, record_of, tally_by, tally_kept}, Tallies.{tallies_at, tallies_provided}}
+use Rattle.bq_state.specs.{Tallies.{tally_at, tally_of}, TubeEntries.{AreInOrder, has_entry, provided, tube_changed}}
 use Rattle.bq_state.specs.declared.{known.tally.Tally.Tally, tubes.entry.{Crowd.Crowd, TubeChange.TubeChange}}
-use Rattle.bq_state.specs.Crowds.{crowd_at, crowds_at, crowds_provided, no_crowd}
-use Rattle.bq_state.specs.KeptTubes.{KeptTube, KeptTubes, Named, crowd_by, crowd_kept, edited, fresh_entry}
-use Rattle.bq_state.specs.KeptTubes.{is_named_at, is_paused_by, kept_changed, record_at, record_of, tally_by, tally_kept}
-use Rattle.bq_state.specs.Tallies.{tallies_at, tallies_provided, tally_at, tally_of}
-use Rattle.bq_state.specs.TubeEntries.{AreInOrder, has_entry, provided, tube_changed}
-use Rattle.bq_state.proofs.TubeLemmas.{changed_one, none_later, same_name}
 
 -- keys compare equal exactly if the names are the same
 pub ties : (a b : List ℕ) → is_named_at a b ≡ is_same_name a b
@@ -178,9 +175,8 @@ module _ (name : List ℕ) where
       (1 + prefix_len (λ t. is_name_before t.name name) (map record_at es)) 0) (tally_of [])
   tally_new_at x es Less e other rest = rw (ap is_lt (reversed x.0 Less e)) refl
   tally_new_at x es Equal e other rest = absurd (let g : is_same_name name x.0 ≡ true = sym (ties name x.0) ∙ ap is_eq e in cc)
-  tally_new_at x es Greater e other rest =
-      rw (ap is_lt (reversed x.0 Greater e)) (ap (λ ts. x.1.tally ∷ ts) rest
-      ∙ ap (λ k. insert (x.1.tally ∷ map tally_kept es) k (tally_of [])) (sym (one_more (place (records es)))))
+  tally_new_at x es Greater e other rest = rw (ap is_lt (reversed _ _ e)) (ap (λ ts. x.1.tally ∷ ts) rest
+      ∙ ap (λ k. insert (x.1.tally ∷ map tally_kept es) k (tally_of [])) (sym (one_more _)))
 
   tally_new : (es : List Named) → has_entry name (map record_at es) ≡ false
       → map tally_kept (insert_entry (slice_cmp nat_cmp) es name fresh_entry) ≡ insert (map tally_kept es)
@@ -192,8 +188,7 @@ module _ (name : List ℕ) where
 
   pub new_tally : (es : List Named) → has_entry name (map record_at es) ≡ false
       → map tally_kept (insert_entry (slice_cmp nat_cmp) es name fresh_entry) ≡ tallies_provided name (map record_at es) (map tally_kept es)
-  new_tally es none = tally_new es none ∙ sym
-      (ap (λ b. if b then map tally_kept es else insert (map tally_kept es) (place (records es)) (tally_of [])) none)
+  new_tally es none = grind (arith, common_steps, tally_new)
 
   -- and of no client.
   crowd_new_at : (x : Named) (es : List Named) (a : Ordering) → slice_cmp nat_cmp name x.0 ≡ a → is_same_name name x.0 ≡ false
@@ -205,9 +200,8 @@ module _ (name : List ℕ) where
       (1 + prefix_len (λ t. is_name_before t.name name) (map record_at es)) 0) no_crowd
   crowd_new_at x es Less e other rest = rw (ap is_lt (reversed x.0 Less e)) refl
   crowd_new_at x es Equal e other rest = absurd (let g : is_same_name name x.0 ≡ true = sym (ties name x.0) ∙ ap is_eq e in cc)
-  crowd_new_at x es Greater e other rest =
-      rw (ap is_lt (reversed x.0 Greater e)) (ap (λ cs. x.1.crowd ∷ cs) rest
-      ∙ ap (λ k. insert (x.1.crowd ∷ map crowd_kept es) k no_crowd) (sym (one_more (place (records es)))))
+  crowd_new_at x es Greater e other rest = rw (ap is_lt (reversed _ _ e)) (ap (λ cs. x.1.crowd ∷ cs) rest
+      ∙ ap (λ k. insert (x.1.crowd ∷ map crowd_kept es) k no_crowd) (sym (one_more _)))
 
   crowd_new : (es : List Named) → has_entry name (map record_at es) ≡ false
       → map crowd_kept (insert_entry (slice_cmp nat_cmp) es name fresh_entry) ≡ insert (map crowd_kept es)
@@ -219,8 +213,7 @@ module _ (name : List ℕ) where
 
   pub new_crowd : (es : List Named) → has_entry name (map record_at es) ≡ false
       → map crowd_kept (insert_entry (slice_cmp nat_cmp) es name fresh_entry) ≡ crowds_provided name (map record_at es) (map crowd_kept es)
-  new_crowd es none = crowd_new es none ∙ sym
-      (ap (λ b. if b then map crowd_kept es else insert (map crowd_kept es) (place (records es)) no_crowd) none)
+  new_crowd es none = grind (arith, common_steps, crowd_new)
 
 -- An event at a tube changes its record.
 pub change_kept : (what : TubeChange) (name : List ℕ) (t : KeptTube)

@@ -1,21 +1,19 @@
 -- What changes of the state leave unchanged.
-use Rattle.std.proofs.Common.{◌++◌, ◌+◌, ◌<◌, ◌==◌, ◌^◌, ◌||◌, ◌∙◌, ◌∷◌, ◌≡◌, ◌≤◌, if◌then◌else◌, Bool, List, None, Some, []}
-use Rattle.std.proofs.Common.{ℕ, ap, arith, get_or, inl, inr, length, map, refl, set, slice_get, subst, suc, sym, true, zero}
-use Rattle.std.proofs.lemmas.{Bool.{and_parts, cases_Bool, eq-eqb, ne_eqb, or_cases}, List.length-map, Option.slice_get-get_or}
-use Rattle.std.proofs.lemmas.Grind.{common_steps}
+use Rattle.std.proofs.Common.{Bool, List, None, Some, [], ap, arith, get_or, if◌then◌else◌, inl, inr, length, map, refl, set, slice_get}
+use Rattle.std.proofs.{Common.{subst, suc, sym, true, zero, ℕ, ◌++◌, ◌+◌, ◌<◌, ◌==◌, ◌^◌, ◌||◌, ◌∙◌, ◌∷◌, ◌≡◌, ◌≤◌}, lemmas.Bool.and_parts}
+use Rattle.std.proofs.lemmas.{Bool.{cases_Bool, eq-eqb, ne_eqb, or_cases}, Grind.common_steps, List.length-map, Option.slice_get-get_or}
 use Rattle.std.specs.{List.{AllByRecursion as All, Contains, list_any}, Prelude.{filter, nat_le}}
-use Rattle.bq_job.specs.machine.{SeatRecord, TubeRecord, default_tube, empty_seat, fresh_tube, greatest, is_seated_at}
-use Rattle.bq_job.specs.machine.{job_with, numbers, seat_with, tube_after_timers, watches, watching}
-use Rattle.bq_job.specs.{beside.AreIdsWithin, declared.job.Job.Job, reading.TubeName.is_same_name}
 use Rattle.bq_job.proofs.{LawfulLemmas.length_numbers, ListLemmas.{all_at, all_from_members, all_weaker, found_passes}}
+use Rattle.bq_job.specs.{beside.AreIdsWithin, declared.job.Job.Job, machine.{SeatRecord, TubeRecord, default_tube, empty_seat, fresh_tube}}
+use Rattle.bq_job.specs.machine.{greatest, is_seated_at, job_with, numbers, seat_with, tube_after_timers, watches, watching}
+use Rattle.bq_job.specs.reading.TubeName.{is_same_name}
 use Rattle.bq_jobs.specs.Kept.{Kept, with_added}
-use Rattle.bq_state.specs.{declared.{core_parts.CoreParts.CoreParts, job_store.JobChange.JobChange}}
-use Rattle.bq_state.specs.declared.{seats.SeatChange.SeatChange, tubes.entry.TubeChange.TubeChange}
-use Rattle.bq_state.specs.{JobChanges.changed, SeatChanges.{AreNumbered, has_tube_of, seat_changed, seat_changed_at}, Soundness.Soundness}
-use Rattle.bq_state.specs.TubeEntries.{AreEntries, HasTubes, IsFreshUnlessCounted, counted, has_entry}
-use Rattle.bq_state.specs.TubeEntries.{is_counted, is_tube_of, provided, tube_changed, tube_changed_at}
 use Rattle.bq_state.proofs.TubeLemmas.{counted_inserted, entry_filtered, fresh_inserted, has_inserted, order_filtered, order_inserted}
-use Rattle.bq_state.proofs.TubeLemmas.{order_kept, same_entries, same_itself, same_name, still_has}
+use Rattle.bq_state.{proofs.TubeLemmas.{order_kept, same_entries, same_itself, same_name, still_has}, specs.JobChanges.changed}
+use Rattle.bq_state.specs.{SeatChanges.{AreNumbered, has_tube_of, seat_changed, seat_changed_at}, Soundness.Soundness}
+use Rattle.bq_state.specs.TubeEntries.{AreEntries, HasTubes, IsFreshUnlessCounted, counted, has_entry, is_counted, is_tube_of, provided}
+use Rattle.bq_state.specs.{TubeEntries.{tube_changed, tube_changed_at}, declared.core_parts.CoreParts.CoreParts}
+use Rattle.bq_state.specs.declared.{job_store.JobChange.JobChange, seats.SeatChange.SeatChange, tubes.entry.TubeChange.TubeChange}
 
 -- a property of all elements is kept if each change keeps it
 pub all_kept : {A : Type 0} (P : A → Type 0) (f : A → A) → ((x : A) → P x → P (f x)) → (xs : List A) → All P xs → All P (map f xs)
@@ -76,10 +74,6 @@ pub compared_sound : (st : CoreParts) (jobs : Kept) → jobs ≡ record st.jobs 
     → Soundness jobs.jobs st.seats.items st.tubes st.waiting st.known st.next_id st.draining
 compared_sound st jobs same = grind (arith, common_steps)
 
-pub compared_numbered : (st : CoreParts) (jobs : Kept) → jobs ≡ record st.jobs { comparisons = jobs.comparisons }
-    → jobs.tubes ≡ st.tubes.numbers
-compared_numbered st jobs same = ap (λ (k : Kept). k.tubes) same ∙ st.numbered
-
 -- It also does if an id was given out.
 pub sound_given : (st : CoreParts) → Soundness st.jobs.jobs st.seats.items st.tubes st.waiting st.known (st.next_id + 1)
     (nat_le 18446744073709551614 st.next_id)
@@ -122,8 +116,7 @@ fresh_at name what t fresh = grind (arith)
 
 pub entries_of_tube : (name : List ℕ) (what : TubeChange) (jobs : List Job) (seats : List SeatRecord) (entries : List TubeRecord)
     → AreEntries jobs seats entries → AreEntries jobs seats (map (tube_changed_at name what) entries)
-entries_of_tube name what jobs seats entries e =
-    grind (arith, all_weaker, order_kept, name_kept_at, all_kept, fresh_at, same_entries)
+entries_of_tube name what jobs seats entries e = grind (arith, all_weaker, order_kept, name_kept_at, all_kept, fresh_at, same_entries)
 
 -- an entry is added
 pub entries_provided : (name : List ℕ) (jobs : List Job) (seats : List SeatRecord) (entries : List TubeRecord)
@@ -155,22 +148,19 @@ passes_named jobs seats name h t e = ap (is_tube_of jobs seats) (sym e) ∙ h
 pub entries_forgotten : (jobs : List Job) (seats : List SeatRecord) (entries : List TubeRecord) → AreEntries jobs seats entries
     → AreEntries jobs seats (filter (λ t. is_tube_of jobs seats t.name) entries)
 entries_forgotten jobs seats entries e =
-    let p = λ (t : TubeRecord). is_tube_of jobs seats t.name in
     let still = λ (name : List ℕ) (is : is_tube_of jobs seats name ≡ true) (h : has_entry name entries ≡ true).
-    entry_filtered p name (passes_named jobs seats name is) entries h in
+    entry_filtered _ _ (passes_named jobs seats name is) _ h in
     record {
-      order = order_filtered p entries e.order;
-      fresh = all_filtered IsFreshUnlessCounted p entries e.fresh;
+      order = order_filtered _ _ e.order;
+      fresh = all_filtered _ _ _ e.fresh;
       of_default = still default_tube refl e.of_default;
-      of_jobs = all_from_members (λ j. has_entry j.tube (filter p entries) ≡ true) jobs
-          (λ j here. still j.tube (job_is_in_tube jobs seats j here) (all_at (λ j. has_entry j.tube entries ≡ true) jobs j e.of_jobs here));
-      of_seats = all_from_members (HasTubes (filter p entries)) seats (λ s here.
-          let has : HasTubes entries s = all_at (HasTubes entries) seats s e.of_seats here in
+      of_jobs = all_from_members _ _ (λ j here. still j.tube (job_is_in_tube jobs seats j here) (all_at _ _ _ e.of_jobs here));
+      of_seats = all_from_members _ _ (λ s here.
+          let has : HasTubes entries s = all_at _ _ _ e.of_seats here in
           record {
-            used = λ c. still s.used (seat_is_at_tube jobs seats s s.used here (rw (c, same_itself s.used) refl)) (has.used c);
-            watched = λ c. all_from_members (λ name. has_entry name (filter p entries) ≡ true) s.watched
-                (λ name there. still name (seat_is_at_tube jobs seats s name here (watched_at s name c there))
-                (all_at (λ name. has_entry name entries ≡ true) s.watched name (has.watched c) there));
+            used = λ c. still s.used (seat_is_at_tube jobs seats s s.used here (rw (c, same_itself _) refl)) (has.used c);
+            watched = λ c. all_from_members _ _ (λ name there. still name (seat_is_at_tube _ _ _ _ here (watched_at s name c there))
+                (all_at _ _ _ (has.watched c) there));
           });
     }
 
@@ -252,8 +242,7 @@ seat_there seats i s h found = seat_at 0 seats i s h (ap (λ n. seat_with n seat
 none_changed : (low high : ℕ) (seats : List SeatRecord) (f : SeatRecord → SeatRecord) → low < high
     → map (λ s. s.number) seats ≡ numbers high (length seats) → map (λ s. if s.number == low then f s else s) seats ≡ seats
 none_changed low high [] f less h = refl
-none_changed low high (t ∷ seats) f less h =
-    grind (arith, common_steps, ne_eqb, none_changed low (suc high) seats f)
+none_changed low high (t ∷ seats) f less h = grind (arith, common_steps, ne_eqb, none_changed low (suc high) seats f)
 
 set_at_place : (low : ℕ) (seats : List SeatRecord) (i : ℕ) (s : SeatRecord) (f : SeatRecord → SeatRecord)
     → map (λ s. s.number) seats ≡ numbers low (length seats) → slice_get seats i ≡ Some s
@@ -273,8 +262,7 @@ set_at_place low (t ∷ seats) zero s f h found =
 
     no_more : (low : ℕ) → low + 0 ≡ low
     no_more low = omega arith
-set_at_place low (t ∷ seats) (suc i) s f h found =
-    grind (arith, common_steps, ne_eqb, set_at_place (suc low) seats i s f)
+set_at_place low (t ∷ seats) (suc i) s f h found = grind (arith, common_steps, ne_eqb, set_at_place (suc low) seats i s f)
 
 pub changed_there : (seats : List SeatRecord) (i : ℕ) (s : SeatRecord) (f : SeatRecord → SeatRecord) → AreNumbered seats
     → slice_get seats i ≡ Some s → map (λ s. if s.number == i then f s else s) seats ≡ set seats i (f s)
@@ -298,10 +286,8 @@ mapped_numbered f keeps seats h = numbers_of_map f keeps seats ∙ h ∙ ap (num
 
 pub watching_numbered : (names : List (List ℕ)) (i : ℕ) (s : SeatRecord) (seats : List SeatRecord) → slice_get seats i ≡ Some s
     → AreNumbered seats → AreNumbered (set seats i (watching names s))
-watching_numbered names i s seats found h =
-    subst AreNumbered (changed_there seats i s (watching names) h found)
-    (mapped_numbered (λ t. if t.number == i then watching names t else t)
-    (λ t. same_number (t.number == i) (watching names t) t t.number refl refl) seats h)
+watching_numbered names i s seats found h = subst AreNumbered (changed_there _ _ _ _ h found)
+    (mapped_numbered (λ t. if t.number == i then watching names t else t) (λ t. same_number _ _ _ _ refl refl) _ h)
 
 pub all_read : {A : Type 0} (P : A → Type 0) (xs : List A) (i : ℕ) (x : A) → All P xs → slice_get xs i ≡ Some x → P x
 all_read P [] i x all found = absurd cc

@@ -1,12 +1,11 @@
 -- The moment at which the first pause ends.
-use Rattle.std.proofs.{Common.{◌∷◌, ◌≡◌, List, None, Option, [], ℕ, arith, false, map, refl}, lemmas.{Bool.or_parts, Grind.common_steps}}
+use Rattle.std.proofs.{Common.{List, None, Option, [], arith, false, map, refl, ℕ, ◌∷◌, ◌≡◌}, lemmas.{Bool.or_parts, Grind.common_steps}}
 use Rattle.std.specs.{List.list_any, Prelude.fold}
-use Rattle.bq_job.specs.{beside.{dues_of_pause, earliest}, machine.{TubeRecord, fresh_tube, tube_after_timers, with_record}}
-use Rattle.bq_job.proofs.ListLemmas.{all_of_filter, all_weaker, list_any_not, map_all_same, none_pass}
+use Rattle.bq_job.{proofs.ListLemmas.{all_of_filter, all_weaker, list_any_not, map_all_same, none_pass}, specs.beside.dues_of_pause}
+use Rattle.bq_job.specs.{beside.earliest, machine.{TubeRecord, fresh_tube, tube_after_timers, with_record}}
+use Rattle.bq_state.{proofs.WarningLemmas.no_other, specs.Dues.{earlier_of_both, first_pause_end, is_end_over, pause_end_after}}
+use Rattle.bq_state.specs.{Dues.with_tube_due, TubeEntries.{counted, has_entry, is_pause_over, provided, tube_changed_at}}
 use Rattle.bq_state.specs.declared.tubes.entry.TubeChange.{TubeChange}
-use Rattle.bq_state.specs.Dues.{earlier_of_both, first_pause_end, is_end_over, pause_end_after, with_tube_due}
-use Rattle.bq_state.specs.TubeEntries.{counted, has_entry, is_pause_over, provided, tube_changed_at}
-use Rattle.bq_state.proofs.WarningLemmas.{no_other}
 
 -- changes that keep the pauses
 pub end_after_change : (name : List ℕ) (what : TubeChange) (entries : List TubeRecord) (last : Option ℕ) → last ≡ first_pause_end entries

@@ -1,11 +1,10 @@
 -- Seats that are numbered in order are found by their places.
-use Rattle.std.proofs.Common.{◌++◌, ◌+◌, ◌<◌, ◌==◌, ◌∙◌, ◌∷◌, ◌≡◌, ◌≤◌, if◌then◌else◌, List, None, Option, Some}
-use Rattle.std.proofs.{Common.{[], ℕ, ap, arith, get_or, length, map, refl, slice_get, suc, sym, zero}, lemmas.Grind.common_steps}
-use Rattle.std.proofs.lemmas.{Bool.ne_eqb, List.map-append, Option.{slice_get_past, slice_get_read}}
-use Rattle.std.specs.{Borrow.Bor, List.HoldsAt, Option.{IfSome, MatchOption, option_copied}}
+use Rattle.std.proofs.Common.{List, None, Option, Some, [], ap, arith, get_or, if◌then◌else◌, length, map, refl, slice_get, suc, sym, zero}
+use Rattle.std.proofs.{Common.{ℕ, ◌++◌, ◌+◌, ◌<◌, ◌==◌, ◌∙◌, ◌∷◌, ◌≡◌, ◌≤◌}, lemmas.{Bool.ne_eqb, Grind.common_steps, List.map-append}}
+use Rattle.std.{proofs.lemmas.Option.{slice_get_past, slice_get_read}, specs.{Borrow.Bor, List.HoldsAt, Option.{IfSome, MatchOption}}}
+use Rattle.std.specs.Option.{option_copied}
 use Rattle.bq_job.specs.machine.{SeatRecord, empty_seat, numbers, seat_with}
-use Rattle.bq_state.specs.SeatChanges.{AreNumbered}
-use Rattle.bq_state.proofs.PartsLemmas.{seat_read, seat_there}
+use Rattle.bq_state.{proofs.PartsLemmas.{seat_read, seat_there}, specs.SeatChanges.AreNumbered}
 
 -- the seat at the place of a number is the seat with that number, if there is one
 pub place_is_seat : (seats : List SeatRecord) (i : ℕ) → AreNumbered seats → slice_get seats i ≡ seat_with i seats

@@ -1,10 +1,9 @@
 -- Counts of jobs after a job is added or removed.
-use Rattle.std.proofs.Common.{◌+◌, ◌∙◌, ◌∷◌, ◌≡◌, ◌≤◌, Bool, List, Some, [], ℕ, ap, arith, cond, false, filter, length, refl, sym, true}
-use Rattle.std.proofs.{Common.{◌&&◌, count_by}, lemmas.Grind.common_steps}
-use Rattle.bq_job.specs.declared.job.Job.{Job}
-use Rattle.bq_job.specs.{beside.AreIdsWithin, machine.{greatest, is_buried, is_delayed, is_ready, is_reserved, is_urgent, job_with}}
-use Rattle.bq_jobs.specs.Kept.{with_added, without}
-use Rattle.bq_jobs.proofs.Changes.{count_added, count_without as count_taken}
+use Rattle.std.proofs.Common.{Bool, List, Some, [], ap, arith, cond, count_by, false, filter, length, refl, sym, true, ℕ, ◌&&◌, ◌+◌, ◌∙◌}
+use Rattle.std.proofs.{Common.{◌∷◌, ◌≡◌, ◌≤◌}, lemmas.Grind.common_steps}
+use Rattle.bq_job.specs.{beside.AreIdsWithin, declared.job.Job.Job, machine.{greatest, is_buried, is_delayed, is_ready, is_reserved}}
+use Rattle.bq_job.specs.machine.{is_urgent, job_with}
+use Rattle.bq_jobs.{proofs.Changes.{count_added, count_without as count_taken}, specs.Kept.{with_added, without}}
 use Rattle.bq_state.specs.Tallies.{count_with, count_without, tally_of, tally_with, tally_without}
 
 -- a count after one more is counted,
@@ -29,15 +28,12 @@ module _ (chosen passes : Job → Bool) where
     some_taken : chosen j ≡ true → count_by passes (filter chosen (without id jobs)) ≡ count_without (passes j)
         (count_by passes (filter chosen jobs))
     some_taken e =
-        let taken = count_taken (λ k. chosen k && passes k) low next id j jobs ids found in
-        let a = ap (λ n. cond (passes j) 1 0 + n) (both_count (without id jobs)) in
         let c = ap (λ n. n + count_by (λ k. chosen k && passes k) (without id jobs)) (sym (rw e refl)) in
-        sym (without_is (passes j) _ _ (a ∙ c ∙ taken ∙ sym (both_count jobs)))
+        sym (without_is _ _ _ ((ap (λ n. cond (passes j) 1 0 + n) (both_count _)) ∙ c ∙ (count_taken _ _ _ _ _ _ ids found) ∙ sym
+        (both_count _)))
 
     none_taken : chosen j ≡ false → count_by passes (filter chosen (without id jobs)) ≡ count_by passes (filter chosen jobs)
-    none_taken e =
-        let taken = count_taken (λ k. chosen k && passes k) low next id j jobs ids found in
-        both_count (without id jobs) ∙ sym (rw e (omega arith)) ∙ taken ∙ sym (both_count jobs)
+    none_taken e = both_count _ ∙ sym (rw e (omega arith)) ∙ (count_taken _ _ _ _ _ _ ids found) ∙ sym (both_count _)
 
 -- The counts of chosen jobs after a chosen job is added.
 pub tally_added : (chosen : Job → Bool) (j : Job) (jobs : List Job) → length (with_added j jobs) ≤ greatest → chosen j ≡ true
@@ -63,15 +59,8 @@ tally_taken chosen low next id j jobs ids found e = λ i. record {
 
 -- The same after another job is removed.
 pub tally_stays_taken : (chosen : Job → Bool) (low next id : ℕ) (j : Job) (jobs : List Job) → AreIdsWithin low jobs next
-    → job_with id jobs ≡ Some j
-    → chosen j ≡ false → tally_of (filter chosen (without id jobs)) ≡ tally_of (filter chosen jobs)
-tally_stays_taken chosen low next id j jobs ids found e = λ i. record {
-  urgent = none_taken chosen is_urgent low next id j jobs ids found e i;
-  ready = none_taken chosen is_ready low next id j jobs ids found e i;
-  reserved = none_taken chosen (λ k. is_reserved k.state) low next id j jobs ids found e i;
-  delayed = none_taken chosen (λ k. is_delayed k.state) low next id j jobs ids found e i;
-  buried = none_taken chosen (λ k. is_buried k.state) low next id j jobs ids found e i;
-}
+    → job_with id jobs ≡ Some j → chosen j ≡ false → tally_of (filter chosen (without id jobs)) ≡ tally_of (filter chosen jobs)
+tally_stays_taken chosen low next id j jobs ids found e = grind (arith, common_steps, none_taken)
 
 all_chosen : (jobs : List Job) → filter (λ k. true) jobs ≡ jobs
 all_chosen [] = refl
@@ -80,8 +69,7 @@ all_chosen (j ∷ jobs) = ap (λ ks. j ∷ ks) (all_chosen jobs)
 -- The counts of all jobs after one is added or removed.
 pub whole_added : (j : Job) (jobs : List Job) → length (with_added j jobs) ≤ greatest
     → tally_of (with_added j jobs) ≡ tally_with j (tally_of jobs)
-whole_added j jobs fits =
-    sym (ap tally_of (all_chosen (with_added j jobs))) ∙ tally_added (λ k. true) j jobs fits refl
+whole_added j jobs fits = sym (ap tally_of (all_chosen (with_added j jobs))) ∙ tally_added (λ k. true) j jobs fits refl
     ∙ ap (λ ks. tally_with j (tally_of ks)) (all_chosen jobs)
 
 pub whole_taken : (low next id : ℕ) (j : Job) (jobs : List Job) → AreIdsWithin low jobs next → job_with id jobs ≡ Some j

@@ -1,16 +1,14 @@
 -- The counts of tubes are at the places of their entries.
-use Rattle.std.proofs.Common.{◌+◌, ◌∙◌, ◌∷◌, ◌≡◌, ◌≤◌, Bool, List, Some, [], ℕ, ap, arith, false, inl, inr, length, map, refl, sym, true}
-use Rattle.std.proofs.lemmas.{Bool.{cases_Bool, lt-ltb}, List.{drop-map, map-append, take-map}, Grind.common_steps}
+use Rattle.std.proofs.Common.{Bool, List, Some, [], ap, arith, false, inl, inr, length, map, refl, sym, true, ℕ, ◌+◌, ◌∙◌, ◌∷◌, ◌≡◌, ◌≤◌}
+use Rattle.std.proofs.lemmas.{Bool.{cases_Bool, lt-ltb}, Grind.common_steps, List.{drop-map, map-append, take-map}}
 use Rattle.std.specs.{Cmp.Lexicographic.bytes_decides, List.{AllByRecursion as All, list_any}, Prelude.{count_by, filter, nat_lt}}
-use Rattle.bq_job.specs.{declared.job.Job.Job, reading.TubeName.is_same_name}
-use Rattle.bq_job.specs.{beside.AreIdsWithin, machine.{TubeRecord, greatest, is_delayed, is_name_before, is_reserved, job_with}}
-use Rattle.bq_job.proofs.{ListLemmas.count_cons, NameOrderLemmas.not_same}
+use Rattle.bq_job.{proofs.{ListLemmas.count_cons, NameOrderLemmas.not_same}, specs.{beside.AreIdsWithin, declared.job.Job.Job}}
+use Rattle.bq_job.specs.{machine.{TubeRecord, greatest, is_delayed, is_name_before, is_reserved, job_with}, reading.TubeName.is_same_name}
 use Rattle.bq_jobs.specs.Kept.{with_added, without}
-use Rattle.bq_state.specs.{declared.known.tally.Tally.Tally, TubeEntries.{AreInOrder, has_entry, provided}}
-use Rattle.bq_state.specs.Tallies.{AreCounted, has_jobs, tallies_at, tallies_of, tallies_provided, tallies_with}
-use Rattle.bq_state.specs.Tallies.{tallies_without, tally_at, tally_in, tally_of, tally_with, tally_without}
 use Rattle.bq_state.proofs.TallyLemmas.{tally_added, tally_stays_added, tally_stays_taken, tally_taken, whole_added, whole_taken}
-use Rattle.bq_state.proofs.{TubeLemmas.provided_new}
+use Rattle.bq_state.{proofs.TubeLemmas.provided_new, specs.Tallies.{AreCounted, has_jobs, tallies_at, tallies_of, tallies_provided}}
+use Rattle.bq_state.specs.Tallies.{tallies_with, tallies_without, tally_at, tally_in, tally_of, tally_with, tally_without}
+use Rattle.bq_state.specs.{TubeEntries.{AreInOrder, has_entry, provided}, declared.known.tally.Tally.Tally}
 
 module _ (j : Job) (old new : List Job) (f : Tally → Tally)
     (here : (t : TubeRecord) → is_same_name t.name j.tube ≡ true → tally_in new t ≡ f (tally_in old t))
@@ -19,21 +17,19 @@ module _ (j : Job) (old new : List Job) (f : Tally → Tally)
   later_stay : (t : TubeRecord) → j.tube ≡ t.name → (es : List TubeRecord) → All (λ u. is_name_before t.name u.name ≡ true) es
       → tallies_of old es ≡ tallies_of new es
   later_stay t is [] all = refl
-  later_stay t is (u ∷ es) all =
-      grind (arith, not_same t.name u.name (is_same_name u.name t.name) refl all.0, later_stay t is es all.1)
+  later_stay t is (u ∷ es) all = grind (arith, not_same t.name u.name (is_same_name u.name t.name) refl all.0, later_stay t is es all.1)
 
   pub followed : (es : List TubeRecord) → AreInOrder es → tallies_at j.tube f es (tallies_of old es) ≡ tallies_of new es
   followed [] order = refl
-  followed (t ∷ es) order =
-      elim (cases_Bool (is_same_name j.tube t.name)) [
-        | inl e ↦
-            let is : j.tube ≡ t.name = (bytes_decides j.tube t.name).0 e in
-            let back : is_same_name t.name j.tube ≡ true = (bytes_decides t.name j.tube).1 (sym is) in
-            rw e (λ i. sym (here t back) i ∷ later_stay t is es order.0 i)
-        | inr e ↦
-            let apart : is_same_name t.name j.tube ≡ false = turned (is_same_name t.name j.tube) refl e in
-            rw e (λ i. sym (elsewhere t apart) i ∷ followed es order.1 i)
-      ]
+  followed (t ∷ es) order = elim (cases_Bool (is_same_name j.tube t.name)) [
+    | inl e ↦
+        let is : j.tube ≡ t.name = (bytes_decides j.tube t.name).0 e in
+        let back : is_same_name t.name j.tube ≡ true = (bytes_decides t.name j.tube).1 (sym is) in
+        rw e (λ i. sym (here t back) i ∷ later_stay t is es order.0 i)
+    | inr e ↦
+        let apart : is_same_name t.name j.tube ≡ false = turned (is_same_name t.name j.tube) refl e in
+        rw e (λ i. sym (elsewhere t apart) i ∷ followed es order.1 i)
+  ]
     where
       turned : (b : Bool) → is_same_name t.name j.tube ≡ b → is_same_name j.tube t.name ≡ false → b ≡ false
       turned false g e = refl
@@ -42,11 +38,9 @@ module _ (j : Job) (old new : List Job) (f : Tally → Tally)
 
 -- or removed
 pub tallies_taken : (low next id : ℕ) (j : Job) (jobs : List Job) → AreIdsWithin low jobs next → job_with id jobs ≡ Some j
-    → (es : List TubeRecord) → AreInOrder es
-    → tallies_without j es (tallies_of jobs es) ≡ tallies_of (without id jobs) es
+    → (es : List TubeRecord) → AreInOrder es → tallies_without j es (tallies_of jobs es) ≡ tallies_of (without id jobs) es
 tallies_taken low next id j jobs ids found = followed j jobs (without id jobs) (tally_without j)
-    (λ t e. tally_taken (λ k. is_same_name t.name k.tube) low next id j jobs ids found e)
-    (λ t e. tally_stays_taken (λ k. is_same_name t.name k.tube) low next id j jobs ids found e)
+    (λ t e. tally_taken _ _ _ _ _ _ ids found e) (λ t e. tally_stays_taken _ _ _ _ _ _ ids found e)
 
 -- the counts of a tube depend on its name only
 same_tallies : (f : TubeRecord → TubeRecord) → ((t : TubeRecord) → (f t).name ≡ t.name) → (jobs : List Job) (es : List TubeRecord)
@@ -54,23 +48,21 @@ same_tallies : (f : TubeRecord → TubeRecord) → ((t : TubeRecord) → (f t).n
 same_tallies f same jobs [] = refl
 same_tallies f same jobs (t ∷ es) = grind (arith, same_tallies f same jobs es)
 
-pub counted_kept : (f : TubeRecord → TubeRecord) → ((t : TubeRecord) → (f t).name ≡ t.name)
-    → (tally : Tally) (tallies : List Tally) (jobs : List Job) (es : List TubeRecord)
-    → AreCounted tally tallies jobs es → AreCounted tally tallies jobs (map f es)
+pub counted_kept : (f : TubeRecord → TubeRecord) → ((t : TubeRecord) → (f t).name ≡ t.name) → (tally : Tally) (tallies : List Tally)
+    (jobs : List Job) (es : List TubeRecord) → AreCounted tally tallies jobs es → AreCounted tally tallies jobs (map f es)
 counted_kept f same tally tallies jobs es was = record { whole = was.whole; each = was.each ∙ same_tallies f same jobs es }
 
 -- a tube that gets an entry has no job
 no_job_there : (name : List ℕ) (jobs : List Job) (es : List TubeRecord) → has_entry name es ≡ false
     → All (λ j. has_entry j.tube es ≡ true) jobs → filter (λ j. is_same_name name j.tube) jobs ≡ []
 no_job_there name [] es none all = refl
-no_job_there name (j ∷ jobs) es none all =
-    elim (cases_Bool (is_same_name name j.tube)) [
-      | inl e ↦
-          let is : name ≡ j.tube = (bytes_decides name j.tube).0 e in
-          let there : has_entry j.tube es ≡ false = ap (λ n. has_entry n es) (sym is) ∙ none in
-          absurd (let g = all.0 in cc)
-      | inr e ↦ rw e (no_job_there name jobs es none all.1)
-    ]
+no_job_there name (j ∷ jobs) es none all = elim (cases_Bool (is_same_name name j.tube)) [
+  | inl e ↦
+      let is : name ≡ j.tube = (bytes_decides name j.tube).0 e in
+      let there : has_entry j.tube es ≡ false = ap (λ n. has_entry n es) (sym is) ∙ none in
+      absurd (let g = all.0 in cc)
+  | inr e ↦ rw e (no_job_there name jobs es none all.1)
+]
 
 pub counted_provided : (name : List ℕ) (tally : Tally) (tallies : List Tally) (jobs : List Job) (es : List TubeRecord)
     → All (λ j. has_entry j.tube es ≡ true) jobs
@@ -100,12 +92,7 @@ no_more n = omega arith
 -- the count is above 0 if and only if a job passes
 some_pass : (p : Job → Bool) (jobs : List Job) → nat_lt 0 (count_by p jobs) ≡ list_any p jobs
 some_pass p [] = refl
-some_pass p (j ∷ jobs) =
-    ap (nat_lt 0) (count_cons p j jobs)
-    ∙ elim (cases_Bool (p j)) [
-      | inl e ↦ rw e (lt-ltb 0 (1 + count_by p jobs) (omega arith))
-      | inr e ↦ rw e (ap (nat_lt 0) (no_more (count_by p jobs)) ∙ some_pass p jobs)
-    ]
+some_pass p (j ∷ jobs) = grind (arith, common_steps, count_cons, cases_Bool, lt-ltb, no_more, some_pass p jobs)
 
 pub some_reserved : (t : Tally) (jobs : List Job) → t ≡ tally_of jobs → nat_lt 0 t.reserved ≡ list_any (λ j. is_reserved j.state) jobs
 some_reserved t jobs whole = ap (λ (t : Tally). nat_lt 0 t.reserved) whole ∙ some_pass (λ j. is_reserved j.state) jobs
@@ -125,13 +112,12 @@ has_jobs_in name (j ∷ jobs) = grind (arith, has_one, has_jobs_in name jobs)
 tally_named : (name : List ℕ) (jobs : List Job) (es : List TubeRecord) → has_entry name es ≡ true
     → tally_at name es (tallies_of jobs es) ≡ tally_of (filter (λ j. is_same_name name j.tube) jobs)
 tally_named name jobs [] h = absurd cc
-tally_named name jobs (t ∷ es) h =
-    elim (cases_Bool (is_same_name name t.name)) [
-      | inl e ↦
-          let is : name ≡ t.name = (bytes_decides name t.name).0 e in
-          rw e (ap (λ n. tally_of (filter (λ j. is_same_name n j.tube) jobs)) (sym is))
-      | inr e ↦ rw e (tally_named name jobs es (rw e at h))
-    ]
+tally_named name jobs (t ∷ es) h = elim (cases_Bool (is_same_name name t.name)) [
+  | inl e ↦
+      let is : name ≡ t.name = (bytes_decides name t.name).0 e in
+      rw e (ap (λ n. tally_of (filter (λ j. is_same_name n j.tube) jobs)) (sym is))
+  | inr e ↦ rw e (tally_named name jobs es (rw e at h))
+]
 
 tally_missing : (name : List ℕ) (jobs : List Job) (es : List TubeRecord) → has_entry name es ≡ false
     → tally_at name es (tallies_of jobs es) ≡ tally_of []

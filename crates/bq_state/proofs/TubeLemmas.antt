@@ -1,11 +1,10 @@
 -- What is kept of tubes: the entries and the machine's records of them.
-use Rattle.std.proofs.Common.{◌&&◌, ◌+◌, ◌<◌, ◌∙◌, ◌∷◌, ◌≡◌, if◌then◌else◌, Bool, List, None, Option, Some, [], ℕ}
-use Rattle.std.proofs.Common.{ap, arith, cond, false, inl, inr, is_some, length, map, not, refl, sym, true}
-use Rattle.std.proofs.lemmas.{Bool.{cases_Bool, or_cases, or_parts}, Grind.common_steps, List.Sums.prefix_len-le-length}
-use Rattle.std.specs.{Cmp.Lexicographic.bytes_decides, List.{AllByRecursion as All, insert, list_any, position, prefix_len}}
-use Rattle.std.specs.Prelude.{filter, find, unwrap_or}
-use Rattle.bq_job.specs.{machine.{TubeRecord, fresh_tube, is_name_before, with_record}, reading.TubeName.is_same_name}
-use Rattle.bq_job.proofs.NameOrderLemmas.{after, before_trans, not_before}
+use Rattle.std.proofs.Common.{Bool, List, None, Option, Some, [], ap, arith, cond, false, if◌then◌else◌, inl, inr, is_some, length, map}
+use Rattle.std.proofs.{Common.{not, refl, sym, true, ℕ, ◌&&◌, ◌+◌, ◌<◌, ◌∙◌, ◌∷◌, ◌≡◌}, lemmas.Bool.{cases_Bool, or_cases, or_parts}}
+use Rattle.std.{proofs.lemmas.{Grind.common_steps, List.Sums.prefix_len-le-length}, specs.Cmp.Lexicographic.bytes_decides}
+use Rattle.std.specs.{List.{AllByRecursion as All, insert, list_any, position, prefix_len}, Prelude.{filter, find, unwrap_or}}
+use Rattle.bq_job.{proofs.NameOrderLemmas.{after, before_trans, not_before}, specs.machine.{TubeRecord, fresh_tube, is_name_before}}
+use Rattle.bq_job.specs.{machine.with_record, reading.TubeName.is_same_name}
 use Rattle.bq_state.specs.TubeEntries.{AreInOrder, IsFreshUnlessCounted, counted, has_entry, is_counted, provided}
 
 pub same_name : (a b : List ℕ) → is_same_name a b ≡ true → a ≡ b
@@ -75,8 +74,7 @@ paused_at : (name : List ℕ) (t : TubeRecord) (entries : List TubeRecord) (same
     → is_counted t ≡ kept → IsFreshUnlessCounted t → All (λ u. is_name_before t.name u.name ≡ true) entries
     → is_some (found name entries).pause ≡ pauses_there name entries
     → is_some (found name (t ∷ entries)).pause ≡ pauses_there name (t ∷ entries)
-paused_at name t entries true true e k fresh later rest =
-    grind (arith, same_name name t.name e, none_later t.name entries later, no_pause_there)
+paused_at name t entries true true e k fresh later rest = grind (arith, same_name name t.name e, none_later _ _ later, no_pause_there)
 paused_at name t entries true false e k fresh later rest = grind (arith)
 paused_at name t entries false true e k fresh later rest = rw (k, e) rest
 paused_at name t entries false false e k fresh later rest = rw (k, e) rest
@@ -85,8 +83,7 @@ paused_at name t entries false false e k fresh later rest = rw (k, e) rest
 pub paused_is : (name : List ℕ) (entries : List TubeRecord) → AreInOrder entries → All IsFreshUnlessCounted entries
     → is_some (found name entries).pause ≡ pauses_there name entries
 paused_is name [] order fresh = refl
-paused_is name (t ∷ entries) order fresh =
-    paused_at name t entries (is_same_name name t.name) (is_counted t) refl refl fresh.0 order.0 (paused_is name entries order.1 fresh.1)
+paused_is name (t ∷ entries) order fresh = grind (arith, common_steps, paused_at, paused_is name entries order.1 fresh.1)
 
 -- the effect of a change on an entry with this name
 abbrev pub changed_one : List ℕ → (TubeRecord → TubeRecord) → TubeRecord → TubeRecord
@@ -109,8 +106,7 @@ first_record x (t ∷ entries) later = grind (arith, before_differs, first_recor
 comes_before : (name : List ℕ) (t : TubeRecord) (entries : List TubeRecord) → All (λ u. is_name_before t.name u.name ≡ true) entries
     → has_entry name entries ≡ true → is_name_before t.name name ≡ true
 comes_before name t [] later h = absurd cc
-comes_before name t (u ∷ entries) later h =
-    grind (arith, common_steps, or_cases, same_name, comes_before name t entries)
+comes_before name t (u ∷ entries) later h = grind (arith, common_steps, or_cases, same_name, comes_before name t entries)
 
 found_name : (name : List ℕ) (entries : List TubeRecord) → (found name entries).name ≡ name
 found_name name entries = go (counted entries)
@@ -133,17 +129,15 @@ changed_at : (name : List ℕ) (f : TubeRecord → TubeRecord) → ((t : TubeRec
     → with_record (f (found name (t ∷ entries))) (counted (t ∷ entries)) ≡ counted (map (changed_one name f) (t ∷ entries))
 changed_at name f counts keeps t entries true true e k fresh later h rest =
     grind (arith, same_name name t.name e, none_later t.name entries later, unchanged)
-changed_at name f counts keeps t entries true false e k fresh later h rest =
-    grind (
-      arith,
-      same_name name t.name e,
-      none_later t.name entries later,
-      first_record (f t) entries (rw (keeps t) later),
-      none_found,
-      unchanged,
-    )
-changed_at name f counts keeps t entries false true e k fresh later h rest =
-    grind (arith, found_name, not_before, comes_before)
+changed_at name f counts keeps t entries true false e k fresh later h rest = grind (
+  arith,
+  same_name name t.name e,
+  none_later t.name entries later,
+  first_record (f t) entries (rw (keeps t) later),
+  none_found,
+  unchanged,
+)
+changed_at name f counts keeps t entries false true e k fresh later h rest = grind (arith, found_name, not_before, comes_before)
 changed_at name f counts keeps t entries false false e k fresh later h rest = grind (arith, common_steps)
 
 -- the record of a tube that has an entry, after a change
@@ -178,15 +172,13 @@ later_filtered p name (t ∷ entries) all = grind (arith, later_filtered p name 
 
 pub order_filtered : (p : TubeRecord → Bool) (entries : List TubeRecord) → AreInOrder entries → AreInOrder (filter p entries)
 order_filtered p [] order = tt
-order_filtered p (t ∷ entries) order =
-    grind (arith, later_filtered p t.name entries order.0, order_filtered p entries order.1)
+order_filtered p (t ∷ entries) order = grind (arith, later_filtered p t.name entries order.0, order_filtered p entries order.1)
 
 -- an entry that passes is still there after the filter
 pub entry_filtered : (p : TubeRecord → Bool) (name : List ℕ) → ((t : TubeRecord) → name ≡ t.name → p t ≡ true) → (entries : List TubeRecord)
     → has_entry name entries ≡ true → has_entry name (filter p entries) ≡ true
 entry_filtered p name passes [] h = absurd cc
-entry_filtered p name passes (t ∷ entries) h =
-    grind (arith, common_steps, or_cases, same_name, entry_filtered p name passes entries)
+entry_filtered p name passes (t ∷ entries) h = grind (arith, common_steps, or_cases, same_name, entry_filtered p name passes entries)
 
 -- the place of a new entry
 pub placed : (x : TubeRecord) (entries : List TubeRecord) → has_entry x.name entries ≡ false

@@ -1,26 +1,23 @@
 -- The turns of the waiting clients after one seat changes.
-use Rattle.std.proofs.Common.{◌+◌, ◌-◌, ◌<◌, ◌==◌, ◌∙◌, ◌∷◌, ◌≡◌, ◌≤◌, if◌then◌else◌, Bool, List, None, Option, Some, [], ℕ, ap}
-use Rattle.std.proofs.Common.{arith, cond, false, inl, inr, length, map, not, refl, set, slice_get, subst, suc, sym, true, zero}
-use Rattle.std.proofs.lemmas.{Bool.{cases_Bool, eq-eqb, eqb-true}, Grind.common_steps, List.length-map}
-use Rattle.std.specs.{Cmp.IsStrictWeakOrder, List.{AllByRecursion as All, insert, position, prefix_len, remove}, Prelude.count_by}
-use Rattle.bq_job.specs.machine.{SeatRecord, empty_seat, is_waiting, numbers, seat_with, watching}
+use Rattle.std.proofs.Common.{Bool, List, None, Option, Some, [], ap, arith, cond, false, if◌then◌else◌, inl, inr, length, map, not, refl}
+use Rattle.std.proofs.Common.{set, slice_get, subst, suc, sym, true, zero, ℕ, ◌+◌, ◌-◌, ◌<◌, ◌==◌, ◌∙◌, ◌∷◌, ◌≡◌, ◌≤◌}
+use Rattle.std.{proofs.lemmas.{Bool.{cases_Bool, eq-eqb, eqb-true}, Grind.common_steps, List.length-map}, specs.Cmp.IsStrictWeakOrder}
+use Rattle.std.specs.{List.{AllByRecursion as All, insert, position, prefix_len, remove}, Prelude.count_by}
 use Rattle.bq_job.proofs.{ChoiceLemmas.pair_order, LawfulLemmas.length_numbers, ListLemmas.{all_weaker, found_passes}}
-use Rattle.bq_state.specs.{declared.seats.SeatChange.SeatChange, WaitingTurns.{placed, removed, turns_of, with_turn, without_turn}}
-use Rattle.bq_state.specs.{EndingWaits.turn_of, SeatChanges.{AreNumbered, seat_changed, seat_changed_at}}
-use Rattle.bq_state.specs.WaitingTurns.{AreInTurn, IsRising, WaitingTurns, is_none_or_before, is_turn_before}
-use Rattle.bq_state.proofs.ClientLemmas.{all_others, heads, others, others_left}
-use Rattle.bq_state.proofs.PartsLemmas.{all_read, changed_there, number_kept, numbered_after, some_at}
+use Rattle.bq_job.specs.machine.{SeatRecord, empty_seat, is_waiting, numbers, seat_with, watching}
+use Rattle.bq_state.proofs.{ClientLemmas.{all_others, heads, others, others_left}, PartsLemmas.{all_read, changed_there, number_kept}}
+use Rattle.bq_state.{proofs.PartsLemmas.{numbered_after, some_at}, specs.{EndingWaits.turn_of, SeatChanges.{AreNumbered, seat_changed}}}
+use Rattle.bq_state.specs.{SeatChanges.seat_changed_at, WaitingTurns.{AreInTurn, IsRising, WaitingTurns, is_none_or_before, is_turn_before}}
+use Rattle.bq_state.specs.{WaitingTurns.{placed, removed, turns_of, with_turn, without_turn}, declared.seats.SeatChange.SeatChange}
 
 -- the place after all elements that come before
 pub placed_at : {A : Type 0} (before : A → A → Bool) (x : A) (xs : List A)
     → insert xs (prefix_len (λ y. before y x) xs) x ≡ placed before x xs
 placed_at before x [] = refl
-placed_at before x (y ∷ ys) =
-    elim (cases_Bool (before y x)) [
-      | inl e ↦ rw e (ap (λ k. insert (y ∷ ys) k x) (one_more (prefix_len (λ z. before z x) ys))
-          ∙ ap (λ zs. y ∷ zs) (placed_at before x ys))
-      | inr e ↦ rw e refl
-    ]
+placed_at before x (y ∷ ys) = elim (cases_Bool (before y x)) [
+  | inl e ↦ rw e (ap (λ k. insert (y ∷ ys) k x) (one_more (prefix_len (λ z. before z x) ys)) ∙ ap (λ zs. y ∷ zs) (placed_at before x ys))
+  | inr e ↦ rw e refl
+]
   where
     one_more : (k : ℕ) → 1 + k ≡ suc k
     one_more k = omega arith
@@ -33,8 +30,7 @@ placed_length before x (y ∷ ys) = grind (arith, placed_length before x ys)
 pub placed_twice : {A : Type 0} {before : A → A → Bool} (order : IsStrictWeakOrder before) (a b : A) (xs : List A)
     → (before a b ≡ false → before b a ≡ true) → placed before a (placed before b xs) ≡ placed before b (placed before a xs)
 placed_twice {before = before} order a b [] apart = grind (arith)
-placed_twice {A = A} {before = before} order a b (x ∷ xs) apart =
-    grind (arith, common_steps, placed_twice order a b xs)
+placed_twice {A = A} {before = before} order a b (x ∷ xs) apart = grind (arith, common_steps, placed_twice order a b xs)
 
 -- turns of different seats
 turn_apart : (a b : ℕ × ℕ) → (a.1 == b.1) ≡ false → is_turn_before a b ≡ false → is_turn_before b a ≡ true
@@ -92,19 +88,15 @@ turn_taken n (Some s) turns at all = go (is_waiting s)
 -- After the client with a number has left, the turns of the others remain,
 turns_left : (n : ℕ) (seats : List SeatRecord) → AreNumbered seats
     → without_turn (seat_with n seats) (turns_of seats) ≡ turns_of (others n seats)
-turns_left n seats h =
-    ap (without_turn (seat_with n seats)) (turns_parted n 0 seats h)
-    ∙ turn_taken n (seat_with n seats) (turns_of (others n seats))
-    (λ s found. eqb-true s.number n (found_passes (λ u. u.number == n) seats s found).0) (others_stay n seats)
+turns_left n seats h = ap (without_turn (seat_with n seats)) (turns_parted _ _ _ h) ∙ turn_taken _ _ _
+    (λ s found. eqb-true s.number n (found_passes (λ u. u.number == n) _ _ found).0) (others_stay n seats)
 
 -- and it is inserted again as it is then.
 turns_changed : (n : ℕ) (f : SeatRecord → SeatRecord) → ((s : SeatRecord) → (f s).number ≡ s.number) → (seats : List SeatRecord)
     → AreNumbered seats → AreNumbered (map (λ s. if s.number == n then f s else s) seats)
     → with_turn (seat_with n (map (λ s. if s.number == n then f s else s) seats))
     (without_turn (seat_with n seats) (turns_of seats)) ≡ turns_of (map (λ s. if s.number == n then f s else s) seats)
-turns_changed n f keeps seats h h' =
-    let new = map (λ (s : SeatRecord). if s.number == n then f s else s) seats in
-    grind (arith, common_steps, turns_left, others_left, turns_parted)
+turns_changed n f keeps seats h h' = grind (arith, common_steps, turns_left, others_left, turns_parted)
 
 -- The turns are ordered.
 pub rising_placed : {A : Type 0} {before : A → A → Bool} (order : IsStrictWeakOrder before) (x : A) (ys : List A) → IsRising before ys
@@ -160,16 +152,11 @@ removed_there n (x ∷ xs) h = go (x.1 == n) (removed_there n xs) h
         → cond (not b) (1 + prefix_len (λ t. not (t.1 == n)) xs) 0 < suc (length xs)
         → (if b then xs else x ∷ removed n xs) ≡ remove (x ∷ xs) (cond (not b) (1 + prefix_len (λ t. not (t.1 == n)) xs) 0)
     go true rest less = refl
-    go false rest less = ap (λ ys. x ∷ ys) (rest (omega (arith, less)))
-        ∙ ap (remove (x ∷ xs)) (one_more (prefix_len (λ t. not (t.1 == n)) xs))
+    go false rest less = ap (λ ys. x ∷ ys) (rest (omega (arith, less))) ∙ ap (remove (x ∷ xs)) (one_more _)
 
 removed_nowhere : (n : ℕ) (xs : List (ℕ × ℕ)) → length xs ≤ prefix_len (λ t. not (t.1 == n)) xs → removed n xs ≡ xs
 removed_nowhere n [] h = refl
-removed_nowhere n (x ∷ xs) h = go (x.1 == n) (removed_nowhere n xs) h
-  where
-    go : (b : Bool) → (length xs ≤ prefix_len (λ t. not (t.1 == n)) xs → removed n xs ≡ xs)
-        → suc (length xs) ≤ cond (not b) (1 + prefix_len (λ t. not (t.1 == n)) xs) 0 → (if b then xs else x ∷ removed n xs) ≡ x ∷ xs
-    go b rest less = grind (arith, common_steps)
+removed_nowhere n (x ∷ xs) h = grind (arith, common_steps, removed_nowhere n xs)
 
 pub removed_found : (n : ℕ) (xs : List (ℕ × ℕ)) (i : ℕ) → Some i ≡ position (λ t. t.1 == n) xs
     → (i < length xs) × (removed n xs ≡ remove xs i)
@@ -201,8 +188,7 @@ turns_kept f same (s ∷ seats) = λ i. same s i (turns_kept f same seats i)
 
 pub in_turn_watching : (names : List (List ℕ)) (i : ℕ) (s : SeatRecord) (waiting : WaitingTurns) (seats : List SeatRecord)
     → slice_get seats i ≡ Some s → AreNumbered seats → AreInTurn waiting seats → AreInTurn waiting (set seats i (watching names s))
-in_turn_watching names i s waiting seats found h q =
-    grind (arith, changed_there seats i s (watching names) h found, turns_kept, length-map)
+in_turn_watching names i s waiting seats found h q = grind (arith, changed_there seats i s (watching names) h found, turns_kept, length-map)
 
 -- at the start
 pub none_in_turn : (ns : List ℕ) → turns_of (map empty_seat ns) ≡ []

@@ -1,17 +1,16 @@
 -- A walk over the waiting clients, in order of their turns, has the same result as one over all
 -- seats.
-use Rattle.std.proofs.{Common.{◌<◌, ◌==◌, ◌∙◌, ◌∷◌, ◌≡◌, ◌≤◌, if◌then◌else◌, Bool, List, None, Option, Some}, lemmas.Grind.common_steps}
-use Rattle.std.proofs.Common.{[], ℕ, ap, arith, false, length, map, refl, slice_get, suc, sym, true}
-use Rattle.std.proofs.lemmas.{Bool.{eq-eqb, ne_eqb}, List.Folds.find_at, Option.{slice_get_past, slice_get_within}}
-use Rattle.std.specs.{Cmp.IsStrictWeakOrder, List.{AllByRecursion as All, Contains, list_any, position}}
-use Rattle.std.specs.Prelude.{find, fold, is_some, option_map}
-use Rattle.bq_job.specs.machine.{SeatRecord, better_of, first_of, is_wait_before, is_waiting, numbers, seat_with, ticket_of}
+use Rattle.std.proofs.Common.{Bool, List, None, Option, Some, [], ap, arith, false, if◌then◌else◌, length, map, refl, slice_get, suc, sym}
+use Rattle.std.proofs.{Common.{true, ℕ, ◌<◌, ◌==◌, ◌∙◌, ◌∷◌, ◌≡◌}, lemmas.{Bool.{eq-eqb, ne_eqb}, Grind.common_steps, List.Folds.find_at}}
+use Rattle.std.{proofs.lemmas.Option.{slice_get_past, slice_get_within}, specs.{Cmp.IsStrictWeakOrder, List.AllByRecursion as All}}
+use Rattle.std.specs.{List.{Contains, list_any, position}, Prelude.{find, fold, is_some, option_map}}
 use Rattle.bq_job.proofs.{ChoiceLemmas.{first_of_contains, first_of_is_some, pair_order}, KeptLemmas.{numbers_above, only_seat}}
-use Rattle.bq_job.proofs.ListLemmas.{all_at, all_from_members, all_weaker}
-use Rattle.bq_state.specs.{Clients.seat_passes, EndingWaits.{is_after, turn_of, waits_after}, Places.item_at, SeatChanges.AreNumbered}
-use Rattle.bq_state.specs.WaitingTurns.{IsRising, at_turn, is_turn_after, is_turn_before, passes_at, placed, turns_of}
-use Rattle.bq_state.proofs.{ClientLemmas.heads, SeatPlaces.place_is_seat}
-use Rattle.bq_state.proofs.{WaitingLemmas.{all_placed, rising_placed}, WarningLemmas.none_found}
+use Rattle.bq_job.{proofs.ListLemmas.{all_at, all_from_members, all_weaker}, specs.machine.{SeatRecord, better_of, first_of}}
+use Rattle.bq_job.specs.machine.{is_wait_before, is_waiting, numbers, seat_with, ticket_of}
+use Rattle.bq_state.proofs.{ClientLemmas.heads, SeatPlaces.place_is_seat, WaitingLemmas.{all_placed, rising_placed}}
+use Rattle.bq_state.{proofs.WarningLemmas.none_found, specs.{Clients.seat_passes, EndingWaits.{is_after, turn_of, waits_after}}}
+use Rattle.bq_state.specs.{Places.item_at, SeatChanges.AreNumbered, WaitingTurns.{IsRising, at_turn, is_turn_after, is_turn_before}}
+use Rattle.bq_state.specs.WaitingTurns.{passes_at, placed, turns_of}
 
 -- the clients that wait, in the order of their turns
 abbrev pub in_turn : List SeatRecord → List SeatRecord
@@ -34,20 +33,16 @@ all_in_turn P (s ∷ seats) all = grind (arith, all_placed, all_in_turn P seats 
 
 -- each seat is at its place
 pub read_each : (seats : List SeatRecord) → AreNumbered seats → All (λ s. slice_get seats s.number ≡ Some s) seats
-read_each seats h = all_from_members (λ s. slice_get seats s.number ≡ Some s) seats
-    (λ s here. place_is_seat seats s.number h ∙ go s here (seat_with s.number seats) refl)
+read_each seats h = all_from_members _ _ (λ s here. place_is_seat _ _ h ∙ go s here (seat_with s.number seats) refl)
   where
     go : (s : SeatRecord) → Contains seats s → (o : Option SeatRecord) → seat_with s.number seats ≡ o → o ≡ Some s
     go s here None e =
-        let other : (s.number == s.number) ≡ false =
-        all_at (λ t. (t.number == s.number) ≡ false) seats s (none_found s.number seats e) here in
+        let other : (s.number == s.number) ≡ false = all_at _ _ _ (none_found _ _ e) here in
         absurd (let same = eq-eqb s.number s.number refl in let k = sym same ∙ other in cc)
     go s here (Some t) e = grind (arith, common_steps, only_seat 0 (length seats) s.number seats t h e)
 
 read_in_turn : (seats : List SeatRecord) → AreNumbered seats → All (λ s. slice_get seats s.number ≡ Some s) (in_turn seats)
-read_in_turn seats h = all_in_turn (λ s. slice_get seats s.number ≡ Some s) seats
-    (all_weaker (λ s. slice_get seats s.number ≡ Some s) (λ s. is_waiting s ≡ true → slice_get seats s.number ≡ Some s) seats (λ s e _. e)
-    (read_each seats h))
+read_in_turn seats h = all_in_turn _ _ (all_weaker _ _ _ (λ s e _. e) (read_each _ h))
 
 -- a fold in which the order does not matter
 fold_placed : {A B : Type 0} (f : B → A → B) (before : A → A → Bool) (x : A) (ys : List A)
@@ -56,9 +51,8 @@ fold_placed f before x [] all b = refl
 fold_placed {A = A} {B = B} f before x (y ∷ ys) all b = grind (arith, common_steps, fold_placed f before x ys)
 
 fold_in_turn : {B : Type 0} (f : B → SeatRecord → B) → ((s : SeatRecord) → is_waiting s ≡ false → (b : B) → f b s ≡ b)
-    → ((s t : SeatRecord) → (s.number == t.number) ≡ false → (b : B) → f (f b s) t ≡ f (f b t) s)
-    → (low : ℕ) (seats : List SeatRecord) → map (λ s. s.number) seats ≡ numbers low (length seats) → (b : B)
-    → fold f b (in_turn seats) ≡ fold f b seats
+    → ((s t : SeatRecord) → (s.number == t.number) ≡ false → (b : B) → f (f b s) t ≡ f (f b t) s) → (low : ℕ) (seats : List SeatRecord)
+    → map (λ s. s.number) seats ≡ numbers low (length seats) → (b : B) → fold f b (in_turn seats) ≡ fold f b seats
 fold_in_turn f skips swaps low [] h b = refl
 fold_in_turn {B = B} f skips swaps low (s ∷ seats) h b =
     let parts = heads low s seats h in
@@ -68,12 +62,10 @@ fold_in_turn {B = B} f skips swaps low (s ∷ seats) h b =
         → ((b : B) → fold f b (in_turn seats) ≡ fold f b seats)
         → fold f b (if c then placed is_wait_before s (in_turn seats) else in_turn seats) ≡ fold f (f b s) seats
     go true e parts rest =
-        let others : All (λ t. is_waiting t ≡ true → (b : B) → f (f b s) t ≡ f (f b t) s) seats =
-        all_weaker (λ t. suc low ≤ t.number) (λ t. is_waiting t ≡ true → (b : B) → f (f b s) t ≡ f (f b t) s) seats
+        let others : All (λ t. is_waiting t ≡ true → (b : B) → f (f b s) t ≡ f (f b t) s) seats = all_weaker _ _ _
         (λ t above _. swaps s t (ne_eqb s.number t.number (λ same. absurd (let a = parts.0 in omega arith))))
-        (numbers_above (suc low) (length seats) seats parts.1) in
-        fold_placed f is_wait_before s (in_turn seats) (all_in_turn (λ t. (b : B) → f (f b s) t ≡ f (f b t) s) seats others) b
-        ∙ rest (f b s)
+        (numbers_above _ _ _ parts.1) in
+        fold_placed f is_wait_before s (in_turn seats) (all_in_turn _ _ others) b ∙ rest (f b s)
     go false e parts rest = rest b ∙ ap (λ a. fold f a seats) (sym (skips s e b))
 
 fold_there : {B : Type 0} (f : B → SeatRecord → B) (seats ss : List SeatRecord) → All (λ s. slice_get seats s.number ≡ Some s) ss → (b : B)
@@ -103,16 +95,10 @@ no_other before b = grind (arith, common_steps)
 pub chosen_twice : {A : Type 0} {before : A → A → Bool} (order : IsStrictWeakOrder before) (b o u : Option A)
     → ((x y : A) → o ≡ Some x → u ≡ Some y → before x y ≡ false → before y x ≡ false → x ≡ y)
     → chosen before (chosen before b o) u ≡ chosen before (chosen before b u) o
-chosen_twice {before = before} order b None u same = ap (λ c. chosen before c u) (no_other before b)
-    ∙ sym (no_other before (chosen before b u))
-chosen_twice {before = before} order b (Some x) None same = no_other before (chosen before b (Some x))
-    ∙ ap (λ c. chosen before c (Some x)) (sym (no_other before b))
+chosen_twice {before = before} order b None u same = grind (arith, common_steps)
+chosen_twice {before = before} order b (Some x) None same = grind (arith, common_steps)
 chosen_twice order None (Some x) (Some y) same = two_chosen order x y (same x y refl refl)
 chosen_twice {before = before} order (Some z) (Some x) (Some y) same = grind (arith)
-
-better_chosen : {A : Type 0} (p : A → Bool) (before : A → A → Bool) (b : Option A) (x : A)
-    → better_of p before b x ≡ chosen before b (if p x then Some x else None)
-better_chosen p before b x = grind (arith, common_steps)
 
 -- seats with different numbers never compare equal
 wait_order : IsStrictWeakOrder is_wait_before
@@ -120,18 +106,7 @@ wait_order = pair_order (λ s. ticket_of s.wait) (λ s. s.number)
 
 better_swaps : (p : SeatRecord → Bool) (s t : SeatRecord) → (s.number == t.number) ≡ false → (b : Option SeatRecord)
     → better_of p is_wait_before (better_of p is_wait_before b s) t ≡ better_of p is_wait_before (better_of p is_wait_before b t) s
-better_swaps p s t other b =
-    let one = if p s then Some s else None in
-    let two = if p t then Some t else None in
-    better_chosen p is_wait_before (better_of p is_wait_before b s) t
-    ∙ ap (λ c. chosen is_wait_before c two) (better_chosen p is_wait_before b s)
-    ∙ chosen_twice wait_order b one two apart
-    ∙ ap (λ c. chosen is_wait_before c one) (sym (better_chosen p is_wait_before b t))
-    ∙ sym (better_chosen p is_wait_before (better_of p is_wait_before b t) s)
-  where
-    apart : (x y : SeatRecord) → (if p s then Some s else None) ≡ Some x → (if p t then Some t else None) ≡ Some y
-        → is_wait_before x y ≡ false → is_wait_before y x ≡ false → x ≡ y
-    apart x y e f g h = grind (arith)
+better_swaps p s t other b = grind (arith, common_steps)
 
 -- The clients that wait are in the order of their turns.
 rising_in_turn : (seats : List SeatRecord) → IsRising is_wait_before (in_turn seats)
@@ -145,8 +120,7 @@ fold_stays p before b (x ∷ xs) all = grind (arith, fold_stays p before b xs al
 
 first_rising : {A : Type 0} (p : A → Bool) (before : A → A → Bool) (xs : List A) → IsRising before xs → first_of p before xs ≡ find p xs
 first_rising p before [] rising = refl
-first_rising p before (x ∷ xs) rising =
-    grind (arith, fold_stays p before x xs rising.0, first_rising p before xs rising.1)
+first_rising p before (x ∷ xs) rising = grind (arith, fold_stays p before x xs rising.0, first_rising p before xs rising.1)
 
 find_mapped : (q : ℕ × ℕ → Bool) (p : SeatRecord → Bool) (ss : List SeatRecord) → All (λ s. q (turn_of s) ≡ p s) ss
     → find q (map turn_of ss) ≡ option_map turn_of (find p ss)
@@ -159,9 +133,7 @@ pub first_turn : (q : ℕ × ℕ → Bool) (p : SeatRecord → Bool) (seats : Li
     → ((s : SeatRecord) → is_waiting s ≡ true → slice_get seats s.number ≡ Some s → q (turn_of s) ≡ p s)
     → find q (turns_of seats) ≡ option_map turn_of (first_of p is_wait_before seats)
 first_turn q p seats h waits agrees =
-    let there = all_in_turn (λ s. q (turn_of s) ≡ p s) seats
-    (all_weaker (λ s. slice_get seats s.number ≡ Some s) (λ s. is_waiting s ≡ true → q (turn_of s) ≡ p s) seats
-    (λ s read waiting. agrees s waiting read) (read_each seats h)) in
+    let there = all_in_turn _ _ (all_weaker _ _ _ (λ s read waiting. agrees s waiting read) (read_each _ h)) in
     grind (arith, common_steps, turns_in, find_mapped, first_rising, rising_in_turn, fold_in_turn, better_swaps)
 
 pub none_at : {A : Type 0} (q : A → Bool) (xs : List A) → position q xs ≡ None → find q xs ≡ None
@@ -180,11 +152,9 @@ any_found q (x ∷ xs) = grind (arith, any_found q xs)
 -- One of the turns passes if and only if a client does.
 pub any_turn : (p : SeatRecord → Bool) (seats : List SeatRecord) → AreNumbered seats
     → ((s : SeatRecord) → is_waiting s ≡ false → p s ≡ false) → list_any (passes_at p seats) (turns_of seats) ≡ list_any p seats
-any_turn p seats h waits =
-    any_found (passes_at p seats) (turns_of seats)
+any_turn p seats h waits = any_found (passes_at p seats) (turns_of seats)
     ∙ ap is_some (first_turn (passes_at p seats) p seats h waits (λ s _ read. ap (seat_passes p) read))
-    ∙ go (first_of p is_wait_before seats)
-    ∙ first_of_is_some p is_wait_before seats
+    ∙ go (first_of p is_wait_before seats) ∙ first_of_is_some p is_wait_before seats
   where
     go : (o : Option SeatRecord) → is_some (option_map turn_of o) ≡ is_some o
     go o = grind (arith, common_steps)
@@ -201,12 +171,11 @@ first_read p seats h t is = go (first_of p is_wait_before seats) refl is
     go : (o : Option SeatRecord) → first_of p is_wait_before seats ≡ o → Some t ≡ option_map turn_of o
         → (slice_get seats t.1 ≡ o) × (t.1 < length seats)
     go None e i = absurd cc
-    go (Some s) e i =
-        grind (arith, common_steps, read_each seats h, first_of_contains p is_wait_before seats s e, slice_get_within)
+    go (Some s) e i = grind (arith, common_steps, read_each seats h, first_of_contains p is_wait_before seats s e, slice_get_within)
 
 pub next_turn : (last : Option (ℕ × ℕ)) (seats : List SeatRecord) → AreNumbered seats
     → find (is_turn_after last) (turns_of seats) ≡ option_map turn_of (first_of (waits_after last) is_wait_before seats)
-next_turn last seats h = first_turn (is_turn_after last) (waits_after last) seats h (λ s e. rw e refl) (λ s waits _. rw waits (same last s))
+next_turn last seats h = first_turn _ _ _ h (λ s e. rw e refl) (λ s waits _. rw waits (same last s))
   where
     same : (last : Option (ℕ × ℕ)) (s : SeatRecord) → is_turn_after last (turn_of s) ≡ is_after last s
     same last s = grind (arith, common_steps)

@@ -1,23 +1,18 @@
 -- What is known about the jobs that waiting clients may receive.
-use Rattle.std.proofs.Common.{◌&&◌, ◌==◌, ◌||◌, ◌∙◌, ◌∷◌, ◌≡◌, if◌then◌else◌, Bool, List, None, Option, Some, [], ℕ, ap}
-use Rattle.std.proofs.Common.{false, filter, find, inl, inr, is_some, map, not, refl, set, slice_get, subst, sym, true}
-use Rattle.std.proofs.{lemmas.Bool.cases_Bool}
-use Rattle.std.proofs.{Common.arith, lemmas.Grind.common_steps}
-use Rattle.std.specs.{List.{AllByRecursion as All, Contains, list_any}, Prelude.unwrap_or}
-use Rattle.bq_job.specs.{declared.job.Job.Job, machine.{with_delete, with_pause, with_put, with_record, with_tube, Machine.Machine}}
-use Rattle.bq_job.specs.machine.{Pause, SeatRecord, TubeRecord, forgetting, fresh_tube, is_job_before, is_name_before, is_paused, is_ready}
-use Rattle.bq_job.specs.machine.{is_tube, is_waiting, is_waiting_for, later, next_job, tube_record, watches, watching}
-use Rattle.bq_job.specs.{reading.TubeName.is_same_name}
-use Rattle.bq_job.proofs.ChoiceLemmas.{first_of_none, first_of_none_passes}
-use Rattle.bq_job.proofs.ListLemmas.{all_always, all_at, all_from_members, all_of_map, all_weaker}
-use Rattle.bq_job.proofs.ListLemmas.{find_in_filter, found_passes, list_any_not, none_pass}
+use Rattle.std.proofs.Common.{Bool, List, None, Option, Some, [], ap, arith, false, filter, find, if◌then◌else◌, inl, inr, is_some, map}
+use Rattle.std.proofs.{Common.{not, refl, set, slice_get, subst, sym, true, ℕ, ◌&&◌, ◌==◌, ◌∙◌, ◌∷◌, ◌≡◌}, lemmas.Bool.cases_Bool}
+use Rattle.std.{proofs.lemmas.Grind.common_steps, specs.{List.{Contains, list_any}, Prelude.unwrap_or}}
+use Rattle.bq_job.proofs.{ChoiceLemmas.{first_of_none, first_of_none_passes}, ListLemmas.{all_always, all_at, all_from_members, all_of_map}}
+use Rattle.bq_job.{proofs.ListLemmas.{all_weaker, find_in_filter, found_passes, list_any_not, none_pass}, specs.declared.job.Job.Job}
+use Rattle.bq_job.specs.machine.{Pause, SeatRecord, TubeRecord, forgetting, fresh_tube, is_name_before, is_paused, is_ready, is_tube}
+use Rattle.bq_job.specs.machine.{is_waiting, is_waiting_for, later, next_job, tube_record, watches, watching, with_delete, with_pause}
+use Rattle.bq_job.specs.{machine.{Machine.Machine, with_put, with_record, with_tube}, reading.TubeName.is_same_name}
 use Rattle.bq_jobs.specs.Kept.{with_added}
-use Rattle.bq_state.specs.declared.{known.wanted.Wanted.{Wanted, TheVariants.{Any, Client, Nothing, Tube}}, seats.SeatChange.SeatChange}
-use Rattle.bq_state.specs.declared.tubes.entry.TubeChange.{TubeChange, TheVariants.{CountDelete, CountPut, Pause as PauseFor}}
-use Rattle.bq_state.specs.{Crowds.is_waiter, SeatChanges.seat_changed_at, TubeEntries.tube_changed}
-use Rattle.bq_state.specs.WantedJobs.{AreKnown, IsKnown, is_nothing, is_paused_by, is_wanted_by}
-use Rattle.bq_state.specs.WantedJobs.{may_get, wanted_after_tube, wanted_after_seat, with_all_wanted, with_wanted}
-use Rattle.bq_state.proofs.{PartsLemmas.{all_added, all_read, all_set}, TubeLemmas.{same_itself, same_name}}
+use Rattle.bq_state.{proofs.{PartsLemmas.{all_added, all_read, all_set}, TubeLemmas.{same_itself, same_name}}, specs.Crowds.is_waiter}
+use Rattle.bq_state.specs.{SeatChanges.seat_changed_at, TubeEntries.tube_changed, WantedJobs.{AreKnown, IsKnown, is_nothing, is_paused_by}}
+use Rattle.bq_state.specs.WantedJobs.{is_wanted_by, may_get, wanted_after_seat, wanted_after_tube, with_all_wanted, with_wanted}
+use Rattle.bq_state.specs.declared.{known.wanted.Wanted.{TheVariants.{Any, Client, Nothing, Tube}, Wanted}, seats.SeatChange.SeatChange}
+use Rattle.bq_state.specs.declared.tubes.entry.TubeChange.{TheVariants.{CountDelete, CountPut, Pause as PauseFor}, TubeChange}
 
 -- a job that a client could receive can still be received
 still_wanted : (name : List ℕ) (wanted : Wanted) (tube : List ℕ) (seat : ℕ) → may_get wanted tube seat ≡ true
@@ -33,12 +28,9 @@ still_wanted name Any tube seat h = refl
 -- what is known about each job and client after a change
 known_then : (wanted wanted' : Wanted) (jobs : List Job) (seats : List SeatRecord) (tubes tubes' : List TubeRecord)
     → ((j : Job) → Contains jobs j → (s : SeatRecord) → IsKnown wanted tubes j s → IsKnown wanted' tubes' j s)
-    → AreKnown wanted jobs seats tubes
-    → AreKnown wanted' jobs seats tubes'
-known_then wanted wanted' jobs seats tubes tubes' goes known =
-    all_from_members (λ j. All (IsKnown wanted' tubes' j) seats) jobs
-    (λ j c. all_weaker (IsKnown wanted tubes j) (IsKnown wanted' tubes' j) seats (goes j c)
-    (all_at (λ k. All (IsKnown wanted tubes k) seats) jobs j known c))
+    → AreKnown wanted jobs seats tubes → AreKnown wanted' jobs seats tubes'
+known_then wanted wanted' jobs seats tubes tubes' goes known = all_from_members _ _ (λ j c. all_weaker _ _ _ (goes j c)
+    (all_at _ _ _ known c))
 
 pub parts_of : (tubes : List TubeRecord) (j : Job) (s : SeatRecord) → is_wanted_by tubes j s ≡ true
     → (is_waiting s ≡ true) × (is_ready j ≡ true) × (watches j.tube s ≡ true) × (is_paused_by tubes j.tube ≡ false)
@@ -51,26 +43,17 @@ paused_then : (wanted wanted' : Wanted) (tubes tubes' : List TubeRecord) (j : Jo
 paused_then wanted wanted' tubes tubes' j s more stays known is_wanted = grind (arith)
 
 pub known_any : (jobs : List Job) (seats : List SeatRecord) (tubes : List TubeRecord) → AreKnown Any jobs seats tubes
-known_any jobs seats tubes = all_always (λ j. All (IsKnown Any tubes j) seats) jobs
-    (λ j. all_always (IsKnown Any tubes j) seats (λ s w. refl))
+known_any jobs seats tubes = grind (arith, common_steps, all_always)
 
 -- there is no next job
 pub known_nothing : (m : Machine) → next_job m ≡ None → AreKnown Nothing m.jobs m.seats m.tubes
-known_nothing m none =
-    all_weaker (λ j. list_any (is_waiting_for m j) m.seats ≡ false) (λ j. All (IsKnown Nothing m.tubes j) m.seats) m.jobs
-    (λ j no. all_weaker (λ s. is_waiting_for m j s ≡ false) (IsKnown Nothing m.tubes j) m.seats (λ s f w. sym f ∙ w)
-    (none_pass (is_waiting_for m j) m.seats no))
-    (none_pass (λ j. list_any (is_waiting_for m j) m.seats) m.jobs
-    (first_of_none (λ j. list_any (is_waiting_for m j) m.seats) is_job_before m.jobs none))
+known_nothing m none = all_weaker _ _ _ (λ j no. all_weaker _ _ _ (λ s f w. sym f ∙ w) (none_pass _ _ no))
+    (none_pass _ _ (first_of_none (λ j. list_any (is_waiting_for m j) m.seats) _ _ none))
 
 -- there is no next job if no client may receive one
 pub none_known : (wanted : Wanted) (m : Machine) → is_nothing wanted ≡ true → AreKnown wanted m.jobs m.seats m.tubes → next_job m ≡ None
-none_known Nothing m e known =
-    first_of_none_passes (λ j. list_any (is_waiting_for m j) m.seats) is_job_before m.jobs
-    (list_any_not (λ j. list_any (is_waiting_for m j) m.seats) m.jobs
-    (all_weaker (λ j. All (IsKnown Nothing m.tubes j) m.seats) (λ j. list_any (is_waiting_for m j) m.seats ≡ false) m.jobs
-    (λ j all. list_any_not (is_waiting_for m j) m.seats
-    (all_weaker (IsKnown Nothing m.tubes j) (λ s. is_waiting_for m j s ≡ false) m.seats (λ s k. go (is_waiting_for m j s) k) all)) known))
+none_known Nothing m e known = first_of_none_passes (λ j. list_any (is_waiting_for m j) m.seats) _ _ (list_any_not _ _ (all_weaker _ _ _
+    (λ j all. list_any_not _ _ (all_weaker _ _ _ (λ s k. go (is_waiting_for m j s) k) all)) known))
   where
     go : (b : Bool) → (b ≡ true → false ≡ true) → b ≡ false
     go b k = grind (arith, common_steps)
@@ -91,8 +74,7 @@ known_added j wanted jobs seats tubes known = go (is_ready j && list_any (is_wai
     go : (b : Bool) → (is_ready j && list_any (is_waiter j.tube) seats) ≡ b
         → AreKnown (if b then with_wanted j.tube wanted else wanted) (with_added j jobs) seats tubes
     go true e = grind (arith, all_added, all_always, same_itself, known_then, still_wanted)
-    go false e = all_added (λ k. All (IsKnown wanted tubes k) seats) j jobs
-        (all_from_members (IsKnown wanted tubes j) seats (unwanted e)) known
+    go false e = all_added _ _ _ (all_from_members _ _ (unwanted e)) known
 
 -- a seat is changed
 pub known_of_seat : (number : ℕ) (what : SeatChange) (wanted : Wanted) (jobs : List Job) (seats : List SeatRecord) (tubes : List TubeRecord)
@@ -109,29 +91,21 @@ known_watching names i s wanted jobs seats tubes known = grind (arith, all_weake
 -- a client watches fewer
 any_left : (p q : List ℕ → Bool) (names : List (List ℕ)) → list_any p (filter q names) ≡ true → list_any p names ≡ true
 any_left p q [] h = absurd cc
-any_left p q (name ∷ names) h = go (p name) (q name) refl h (any_left p q names)
-  where
-    go : (b c : Bool) → p name ≡ b → list_any p (if c then name ∷ filter q names else filter q names) ≡ true
-        → (list_any p (filter q names) ≡ true → list_any p names ≡ true) → (b || list_any p names) ≡ true
-    go b c e h rest = grind (arith, common_steps)
+any_left p q (name ∷ names) h = grind (arith, common_steps, any_left p q names)
 
 pub known_ignoring : (q : List ℕ → Bool) (i : ℕ) (s : SeatRecord) (wanted : Wanted) (jobs : List Job) (seats : List SeatRecord)
     (tubes : List TubeRecord) → slice_get seats i ≡ Some s → AreKnown wanted jobs seats tubes
     → AreKnown wanted jobs (set seats i (watching (filter q s.watched) s)) tubes
-known_ignoring q i s wanted jobs seats tubes here known =
-    all_weaker (λ j. All (IsKnown wanted tubes j) seats)
-    (λ j. All (IsKnown wanted tubes j) (set seats i (watching (filter q s.watched) s))) jobs
-    (λ j all. all_set (IsKnown wanted tubes j) seats i (watching (filter q s.watched) s) all
-    (fewer j (all_read (IsKnown wanted tubes j) seats i s all here))) known
+known_ignoring q i s wanted jobs seats tubes here known = all_weaker _ _ _ (λ j all. all_set _ _ _ _ all
+    (fewer j (all_read _ _ _ _ all here))) known
   where
     fewer : (j : Job) → IsKnown wanted tubes j s → IsKnown wanted tubes j (watching (filter q s.watched) s)
     fewer j k w = grind (arith, any_left)
 
 -- a record whose pause does not end leaves all tubes paused
 paused_kept : (name : List ℕ) (t : TubeRecord) (tubes : List TubeRecord)
-    → (is_same_name name t.name ≡ true → is_some (unwrap_or (find (λ u. is_same_name name u.name) tubes) (fresh_tube name)).pause ≡ true
-    → is_some t.pause ≡ true)
-    → is_some (unwrap_or (find (λ u. is_same_name name u.name) tubes) (fresh_tube name)).pause ≡ true
+    → (is_same_name name t.name ≡ true → is_some (unwrap_or (find (λ u. is_same_name name u.name) tubes) (fresh_tube name)).pause ≡ true →
+    is_some t.pause ≡ true) → is_some (unwrap_or (find (λ u. is_same_name name u.name) tubes) (fresh_tube name)).pause ≡ true
     → is_some (unwrap_or (find (λ u. is_same_name name u.name) (with_record t tubes)) (fresh_tube name)).pause ≡ true
 paused_kept name t [] same = λ h. absurd cc
 paused_kept name t (u ∷ us) same = elim (cases_Bool (is_same_name t.name u.name)) [
@@ -160,27 +134,23 @@ named name m = go (find (λ t. is_same_name name t.name) m.tubes) refl
 pub pauses_kept : (tube : List ℕ) (f : TubeRecord → TubeRecord) (m : Machine) → ((t : TubeRecord) → (f t).name ≡ t.name)
     → (is_paused tube m ≡ true → is_some (f (tube_record tube m)).pause ≡ true) → (name : List ℕ) → is_paused name m ≡ true
     → is_paused name (with_tube tube f m) ≡ true
-pauses_kept tube f m keeps stays name =
-    paused_kept name (f (tube_record tube m)) m.tubes (λ e h.
-    let is : name ≡ tube = same_name name (f (tube_record tube m)).name e ∙ keeps (tube_record tube m) ∙ named tube m in
+pauses_kept tube f m keeps stays name = paused_kept name (f (tube_record tube m)) m.tubes (λ e h.
+    let is : name ≡ tube = same_name _ _ e ∙ keeps (tube_record tube m) ∙ named tube m in
     stays (subst (λ n. is_paused n m ≡ true) is h))
 
 -- a tube changes: only the end of its pause allows its jobs to be received
 other_paused : (name tube : List ℕ) (f : TubeRecord → TubeRecord) (m : Machine) → ((t : TubeRecord) → (f t).name ≡ t.name)
     → is_same_name tube name ≡ false → is_paused name m ≡ true → is_paused name (with_tube tube f m) ≡ true
-other_paused name tube f m keeps other =
-    paused_kept name (f (tube_record tube m)) m.tubes (λ e h.
-    let is : name ≡ tube = same_name name (f (tube_record tube m)).name e ∙ keeps (tube_record tube m) ∙ named tube m in
+other_paused name tube f m keeps other = paused_kept name (f (tube_record tube m)) m.tubes (λ e h.
+    let is : name ≡ tube = same_name _ _ e ∙ keeps (tube_record tube m) ∙ named tube m in
     absurd (let same : is_same_name tube name ≡ true = ap (is_same_name tube) is ∙ same_itself tube in cc))
 
 pub known_of_change : (tube : List ℕ) (what : TubeChange) (m : Machine) (wanted : Wanted) → AreKnown wanted m.jobs m.seats m.tubes
     → AreKnown (wanted_after_tube tube what wanted) m.jobs m.seats (with_tube tube (tube_changed what) m).tubes
-known_of_change tube CountPut m wanted known =
-    known_then wanted wanted m.jobs m.seats m.tubes (with_tube tube with_put m).tubes
+known_of_change tube CountPut m wanted known = known_then _ _ _ _ _ _
     (λ j c s k. paused_then wanted wanted m.tubes (with_tube tube with_put m).tubes j s (λ h. h)
     (pauses_kept tube with_put m (λ t. refl) (λ p. p) j.tube) k) known
-known_of_change tube CountDelete m wanted known =
-    known_then wanted wanted m.jobs m.seats m.tubes (with_tube tube with_delete m).tubes
+known_of_change tube CountDelete m wanted known = known_then _ _ _ _ _ _
     (λ j c s k. paused_then wanted wanted m.tubes (with_tube tube with_delete m).tubes j s (λ h. h)
     (pauses_kept tube with_delete m (λ t. refl) (λ p. p) j.tube) k) known
 known_of_change tube (PauseFor seconds moment) m wanted known = go (seconds == 0) refl
@@ -201,22 +171,17 @@ known_of_change tube (PauseFor seconds moment) m wanted known = go (seconds == 0
 
     go : (b : Bool) → (seconds == 0) ≡ b → AreKnown (if b then with_wanted tube wanted else wanted) m.jobs m.seats after
     go true e = known_then wanted (with_wanted tube wanted) m.jobs m.seats m.tubes after (λ j c s k. one j s k) known
-    go false e =
-        known_then wanted wanted m.jobs m.seats m.tubes after
-        (λ j c s k. paused_then wanted wanted m.tubes after j s (λ h. h)
+    go false e = known_then _ _ _ _ _ _ (λ j c s k. paused_then wanted wanted m.tubes after j s (λ h. h)
         (pauses_kept tube (with_pause seconds moment) m (λ t. refl)
         (λ p. stays (seconds == 0) (record { seconds = seconds; until = later moment seconds }) e) j.tube) k) known
 
 -- an entry that is dropped belongs to no tube with a job
 pub known_forgotten : (m : Machine) (wanted : Wanted) → AreKnown wanted m.jobs m.seats m.tubes
     → AreKnown wanted m.jobs m.seats (forgetting m).tubes
-known_forgotten m wanted known =
-    known_then wanted wanted m.jobs m.seats m.tubes (forgetting m).tubes
-    (λ j c s k. subst (λ (p : Option TubeRecord).
+known_forgotten m wanted known = known_then _ _ _ _ _ _ (λ j c s k. subst (λ (p : Option TubeRecord).
     (is_waiting s && (is_ready j && watches j.tube s && not (is_some (unwrap_or p (fresh_tube j.tube)).pause))) ≡ true
-    → may_get wanted j.tube s.number ≡ true)
-    (sym (find_in_filter (λ t. is_same_name j.tube t.name) (λ t. is_tube t.name m) m.tubes
-    (all_always (λ t. is_same_name j.tube t.name ≡ true → is_tube t.name m ≡ true) m.tubes (λ t e. stays j c t e)))) k) known
+    → may_get wanted j.tube s.number ≡ true) (sym (find_in_filter (λ t. is_same_name j.tube t.name) (λ t. is_tube t.name m) _
+    (all_always _ _ (λ t e. stays j c t e)))) k) known
   where
     stays : (j : Job) → Contains m.jobs j → (t : TubeRecord) → is_same_name j.tube t.name ≡ true → is_tube t.name m ≡ true
     stays j c t e = grind (arith, common_steps, same_name j.tube t.name e)

@@ -1,32 +1,20 @@
 -- What is known about the clients that wait while they hold a job.
-use Rattle.std.proofs.{Common.{◌-◌, ◌==◌, ◌∙◌, ◌∷◌, ◌≡◌, ◌≤◌, if◌then◌else◌, Bool, List, None, Option}, lemmas.Bool.cases_Bool}
-use Rattle.std.proofs.{Common.{Some, [], ℕ, ap, arith, false, map, refl, set, slice_get, true}, lemmas.{Bool.and_parts, Grind.common_steps}}
+use Rattle.std.proofs.Common.{Bool, List, None, Option, Some, [], ap, arith, false, if◌then◌else◌, map, refl, set, slice_get, true, ℕ, ◌-◌}
+use Rattle.std.proofs.{Common.{◌==◌, ◌∷◌, ◌≡◌, ◌≤◌}, lemmas.{Bool.{and_parts, cases_Bool}, Grind.common_steps}}
 use Rattle.std.specs.{List.{AllByRecursion as All, Contains, list_any}, Prelude.{count_by, fold, is_some, length, option_map}}
-use Rattle.bq_job.specs.declared.job.{Job.Job, JobState.JobState}
+use Rattle.bq_job.proofs.{ChoiceLemmas.{first_of_none, first_of_none_passes}, KeptLemmas.only_seat, ListLemmas.{all_at, all_from_members}}
+use Rattle.bq_job.{proofs.ListLemmas.{all_of_map, all_weaker, list_any_not, none_pass}, specs.declared.job.{Job.Job, JobState.JobState}}
 use Rattle.bq_job.specs.machine.{SeatRecord, first_of, is_held_by, is_holder, is_waiting, seat_with, watching}
-use Rattle.bq_job.specs.declared.job.JobState.TheVariants as states
-use Rattle.bq_job.proofs.{ChoiceLemmas.{first_of_none, first_of_none_passes}, KeptLemmas.only_seat}
-use Rattle.bq_job.proofs.ListLemmas.{all_at, all_from_members, all_of_map, all_weaker, list_any_not, none_pass}
 use Rattle.bq_jobs.specs.{Kept.with_added, Leases.{deadline_of, is_lease_before}}
-use Rattle.bq_state.specs.declared.known.warns.Warns.{Warns, TheVariants.{Client, Nobody}}
+use Rattle.bq_state.{proofs.PartsLemmas.{all_added, all_read, all_set}, specs.Dues.{earlier_of_both, warning_due, warning_due_at}}
+use Rattle.bq_state.specs.{Dues.with_warning_due, SeatChanges.{AreNumbered, seat_changed, seat_changed_at}, Warnings.{AreWarned, IsWarned}}
+use Rattle.bq_state.specs.Warnings.{has_waiting_holder, holds_in_wait, is_waiting_there, may_hold, may_warn, warned_by_seat, warned_if_due}
+use Rattle.bq_state.specs.{Warnings.{with_holder, with_holder_of}, declared.known.warns.Warns.{TheVariants.{Client, Nobody}, Warns}}
 use Rattle.bq_state.specs.declared.seats.SeatChange.{SeatChange, TheVariants.Wait}
-use Rattle.bq_state.specs.Dues.{earlier_of_both, warning_due, warning_due_at, with_warning_due}
-use Rattle.bq_state.specs.SeatChanges.{AreNumbered, seat_changed, seat_changed_at}
-use Rattle.bq_state.specs.Warnings.{AreWarned, IsWarned, has_waiting_holder, holds_in_wait, is_waiting_there, may_hold}
-use Rattle.bq_state.specs.Warnings.{may_warn, warned_by_seat, warned_if_due, with_holder, with_holder_of}
-use Rattle.bq_state.proofs.PartsLemmas.{all_added, all_read, all_set}
 
 -- with no other moment
 pub no_other : (a : Option ℕ) → earlier_of_both a None ≡ a
 no_other a = grind (arith, common_steps)
-
--- at least as much may be known
-abbrev AtLeast : Warns → Warns → Type 0
-AtLeast warns more = (number : ℕ) → may_warn warns number ≡ true → may_warn more number ≡ true
-
--- one more client may hold a job
-more_if : (b : Bool) (state : JobState) (warns : Warns) → AtLeast warns (if b then with_holder_of state warns else warns)
-more_if b state warns number h = grind (arith)
 
 -- the holder of a job in this state is known
 known_of : (b : Bool) (state : JobState) (warns : Warns) (number : ℕ) → b ≡ true → is_holder number state ≡ true
@@ -35,12 +23,7 @@ known_of b state warns number e h = grind (arith)
 
 pub none_found : (number : ℕ) (seats : List SeatRecord) → seat_with number seats ≡ None → All (λ t. (t.number == number) ≡ false) seats
 none_found number [] h = tt
-none_found number (t ∷ seats) h = go (t.number == number) refl h (none_found number seats)
-  where
-    go : (b : Bool) → (t.number == number) ≡ b → (if b then Some t else seat_with number seats) ≡ None
-        → (seat_with number seats ≡ None → All (λ u. (u.number == number) ≡ false) seats)
-        → ((t.number == number) ≡ false) × All (λ u. (u.number == number) ≡ false) seats
-    go b e h rest = grind (arith, common_steps)
+none_found number (t ∷ seats) h = grind (arith, common_steps, none_found number seats)
 
 -- the holder of a job is the client at the seat in the job's state
 holder_found : (j : Job) (seats : List SeatRecord) (s : SeatRecord) → AreNumbered seats → Contains seats s → holds_in_wait j s ≡ true
@@ -55,27 +38,19 @@ holder_found j seats s numbered here h = go j.state (parts.1)
     at seat e (Some t) f = grind (arith, common_steps, only_seat 0 (length seats) seat seats t numbered f)
 
     go : (state : JobState) → is_holder s.number state ≡ true → has_waiting_holder state seats ≡ true
-    go (states.Reserved seat deadline) e = at seat e (seat_with seat seats) refl
-    go states.Ready e = absurd cc
-    go (states.Delayed due) e = absurd cc
-    go (states.Buried number) e = absurd cc
+    go state h1 = grind (arith, common_steps, at)
 
 -- a job is added
 pub warned_added : (j : Job) (warns : Warns) (jobs : List Job) (seats : List SeatRecord) → AreNumbered seats → AreWarned warns jobs seats
     → AreWarned (if has_waiting_holder j.state seats then with_holder_of j.state warns else warns) (with_added j jobs) seats
-warned_added j warns jobs seats numbered known =
-    grind (arith, all_added, all_from_members, known_of, holder_found, and_parts, all_weaker, more_if)
+warned_added j warns jobs seats numbered known = grind (arith, all_added, all_from_members, known_of, holder_found, and_parts, all_weaker)
 
 -- a seat is changed
 pub warned_of_seat : (number : ℕ) (what : SeatChange) (warns : Warns) (jobs : List Job) (seats : List SeatRecord)
     → may_hold what number warns jobs ≡ true → AreWarned warns jobs seats
     → AreWarned (warned_by_seat number what warns) jobs (map (seat_changed_at number what) seats)
 warned_of_seat number what warns jobs seats holds known =
-    let later = warned_by_seat number what warns in
-    all_from_members (λ j. All (IsWarned later j) (map (seat_changed_at number what) seats)) jobs
-    (λ j c. all_of_map (IsWarned later j) (seat_changed_at number what) seats
-    (all_weaker (IsWarned warns j) (λ s. IsWarned later j (seat_changed_at number what s)) seats
-    (λ s k. go j c s k (s.number == number) refl) (all_at (λ k. All (IsWarned warns k) seats) jobs j known c)))
+    all_from_members _ _ (λ j c. all_of_map _ _ _ (all_weaker _ _ _ (λ s k. go j c s k (s.number == number) refl) (all_at _ _ _ known c)))
   where
     go : (j : Job) → Contains jobs j → (s : SeatRecord) → IsWarned warns j s → (b : Bool) → (s.number == number) ≡ b
         → IsWarned (warned_by_seat number what warns) j (if b then seat_changed what s else s)
@@ -102,21 +77,18 @@ not_known warns jobs s e all = grind (arith, first_of_none_passes (is_held_by s.
 
 of_first : (warns : Warns) (jobs : List Job) (s : SeatRecord) (seats : List SeatRecord) → AreWarned warns jobs (s ∷ seats)
     → All (λ j. IsWarned warns j s) jobs
-of_first warns jobs s seats known = all_weaker (λ j. All (IsWarned warns j) (s ∷ seats)) (λ j. IsWarned warns j s) jobs
-    (λ j all. all.0) known
+of_first warns jobs s seats known = grind (arith, common_steps, all_weaker)
 
 of_rest : (warns : Warns) (jobs : List Job) (s : SeatRecord) (seats : List SeatRecord) → AreWarned warns jobs (s ∷ seats)
     → AreWarned warns jobs seats
-of_rest warns jobs s seats known = all_weaker (λ j. All (IsWarned warns j) (s ∷ seats)) (λ j. All (IsWarned warns j) seats) jobs
-    (λ j all. all.1) known
+of_rest warns jobs s seats known = grind (arith, common_steps, all_weaker)
 
 pub warned_by_due : (warns : Warns) (jobs : List Job) (seats : List SeatRecord) → AreWarned warns jobs seats
     → AreWarned (warned_if_due (is_some (fold (with_warning_due jobs) None seats)) warns) jobs seats
 warned_by_due warns jobs seats known = go (fold (with_warning_due jobs) None seats) refl
   where
     held_by_none : (s : SeatRecord) → warning_due jobs s ≡ None → is_waiting s ≡ true → All (λ j. is_held_by s.number j ≡ false) jobs
-    held_by_none s none waits = none_pass (is_held_by s.number) jobs
-        (first_of_none (is_held_by s.number) is_lease_before jobs
+    held_by_none s none waits = none_pass (is_held_by s.number) jobs (first_of_none (is_held_by s.number) is_lease_before jobs
         (unmapped (first_of (is_held_by s.number) is_lease_before jobs) (rw waits at none)))
       where
         unmapped : (o : Option Job) → option_map (λ j. deadline_of j.state - 1000) o ≡ None → o ≡ None
@@ -127,30 +99,24 @@ warned_by_due warns jobs seats known = go (fold (with_warning_due jobs) None sea
 
     go : (o : Option ℕ) → fold (with_warning_due jobs) None seats ≡ o → AreWarned (warned_if_due (is_some o) warns) jobs seats
     go (Some due) e = known
-    go None e =
-        let each = (all_none (warning_due jobs) None seats e).1 in
-        all_from_members (λ j. All (IsWarned Nobody j) seats) jobs
-        (λ j c. all_weaker (λ s. warning_due jobs s ≡ None) (IsWarned Nobody j) seats (λ s none. quiet s none j c) each)
+    go None e = all_from_members _ _ (λ j c. all_weaker _ _ _ (λ s none. quiet s none j c) ((all_none _ _ _ e).1))
 
 -- No warning is due if no waiting client holds a job,
 pub none_due : (jobs : List Job) (seats : List SeatRecord) → AreWarned Nobody jobs seats → fold (with_warning_due jobs) None seats ≡ None
 none_due jobs [] known = refl
 none_due jobs (s ∷ seats) known =
-    ap (λ o. fold (with_warning_due jobs) o seats) (not_known Nobody jobs s refl (of_first Nobody jobs s seats known))
-    ∙ none_due jobs seats (of_rest Nobody jobs s seats known)
+    grind (arith, common_steps, not_known, of_first, of_rest, none_due jobs seats (of_rest Nobody jobs s seats known))
 
 -- and if only one client may hold one, the warning is its own: after it was found the others change
 -- nothing.
 found_already : (holder : ℕ) (jobs : List Job) (t : SeatRecord) (seats : List SeatRecord) → AreWarned (Client holder) jobs seats
-    → All (λ u. u.number ≡ holder → u ≡ t) seats
-    → fold (with_warning_due jobs) (warning_due jobs t) seats ≡ warning_due jobs t
+    → All (λ u. u.number ≡ holder → u ≡ t) seats → fold (with_warning_due jobs) (warning_due jobs t) seats ≡ warning_due jobs t
 found_already holder jobs t [] known only = refl
 found_already holder jobs t (s ∷ seats) known only =
     grind (arith, common_steps, not_known, of_first, of_rest, found_already holder jobs t seats)
 
 among : (holder : ℕ) (jobs : List Job) (o : Option SeatRecord) (seats : List SeatRecord) → seat_with holder seats ≡ o
-    → AreWarned (Client holder) jobs seats
-    → ((t : SeatRecord) → o ≡ Some t → All (λ u. u.number ≡ holder → u ≡ t) seats)
+    → AreWarned (Client holder) jobs seats → ((t : SeatRecord) → o ≡ Some t → All (λ u. u.number ≡ holder → u ≡ t) seats)
     → fold (with_warning_due jobs) None seats ≡ warning_due_at jobs o
 among holder jobs o [] e known only = ap (warning_due_at jobs) e
 among holder jobs o (s ∷ seats) e known only =

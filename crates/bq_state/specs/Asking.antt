@@ -1,9 +1,8 @@
 -- How many comparisons of keys calls make, stated as a number of searches among the jobs.
-use Rattle.std.specs.Prelude.{◌*◌, ◌+◌, ◌-◌, ◌≤◌, ℕ, length, max}
-use Rattle.bq_index.specs.Digits.{binary_digits}
-use Rattle.bq_jobs.specs.Kept.{Kept}
-use Rattle.bq_jobs.specs.Searching.{Asks}
+use Rattle.std.specs.Prelude.{length, max, ℕ, ◌*◌, ◌+◌, ◌-◌, ◌≤◌}
 use Rattle.bq_core_api.specs.{Cost.changed_jobs, Outbox.Outbox}
+use Rattle.bq_index.specs.Digits.{binary_digits}
+use Rattle.bq_jobs.specs.{Kept.Kept, Searching.Asks}
 
 -- twice the number of binary digits of a little more than twice the jobs: the most comparisons that
 -- one search among them takes

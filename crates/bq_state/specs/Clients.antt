@@ -1,7 +1,7 @@
 -- How many clients there are.
 use Rattle.std.specs.Prelude.{Bool, List, None, Option, Some, count_by, false}
 use Rattle.bq_job.specs.machine.{SeatRecord, is_waiting}
-use Rattle.bq_state.specs.{declared.known.clients.Clients.Clients, Tallies.{count_with, count_without}}
+use Rattle.bq_state.specs.{Tallies.{count_with, count_without}, declared.known.clients.Clients.Clients}
 
 abbrev pub clients_of : List SeatRecord → Clients
 clients_of seats = record { connected = count_by (λ s. s.connected) seats; waiting = count_by is_waiting seats }

@@ -1,10 +1,10 @@
 -- The machine that a core represents.
-use Rattle.std.specs.{Global.Global, Prelude.{◌≡◌, Bool, List, Some, Vec, ℕ, count_by, map}}
-use Rattle.bq_job.specs.declared.{job.Job.Job, settings.Settings.Settings}
-use Rattle.bq_job.specs.machine.{SeatRecord, seat_with, tube_after_timers, watching, with_seat, Machine.Machine}
+use Rattle.std.specs.{Global.Global, Prelude.{Bool, List, Some, Vec, count_by, map, ℕ, ◌≡◌}}
+use Rattle.bq_job.specs.{declared.{job.Job.Job, settings.Settings.Settings}, machine.{SeatRecord, seat_with, tube_after_timers, watching}}
+use Rattle.bq_job.specs.machine.{Machine.Machine, with_seat}
 use Rattle.bq_jobs.specs.Kept.{Kept}
-use Rattle.bq_state.specs.declared.{core_parts.CoreParts.CoreParts, known.Known.Known}
-use Rattle.bq_state.specs.{KeptTubes.KeptTubes, TubeEntries.counted, WaitingTurns.WaitingTurns}
+use Rattle.bq_state.specs.{KeptTubes.KeptTubes, TubeEntries.counted, WaitingTurns.WaitingTurns, declared.core_parts.CoreParts.CoreParts}
+use Rattle.bq_state.specs.declared.known.Known.{Known}
 
 -- the fields of a state, without its invariants
 pub record Held : Type 0 where

@@ -1,6 +1,6 @@
 -- How many tubes the waiting clients watch.
-use Rattle.std.specs.{List.sum_by, Prelude.{if◌then◌else◌, ℕ, length}}
-use Rattle.bq_job.specs.machine.{SeatRecord, is_waiting, Machine.Machine}
+use Rattle.std.specs.{List.sum_by, Prelude.{if◌then◌else◌, length, ℕ}}
+use Rattle.bq_job.specs.machine.{Machine.Machine, SeatRecord, is_waiting}
 
 -- how many tubes the client watches, if it waits
 abbrev pub waited_tubes : SeatRecord → ℕ

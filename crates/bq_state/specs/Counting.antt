@@ -1,12 +1,12 @@
 -- Records of tubes whose counts are those of jobs and of seats.
-use Rattle.std.specs.Prelude.{◌≡◌, List, Option, ℕ, filter, map}
+use Rattle.std.specs.Prelude.{List, Option, filter, map, ℕ, ◌≡◌}
 use Rattle.bq_job.specs.{declared.job.Job.Job, machine.SeatRecord}
 use Rattle.bq_jobs.specs.declared.rows.Removed.{Removed}
-use Rattle.bq_state.specs.declared.known.{maybe_gone.MaybeGone.MaybeGone, tally.Tally.Tally}
-use Rattle.bq_state.specs.declared.tubes.entry.{Crowd.Crowd, Moving.Moving, Share.Share, TubeChange.TheVariants.{CountDelete, CountPut}}
 use Rattle.bq_state.specs.{Crowds.{crowds_at, crowds_at_all, crowds_of, crowds_provided, crowds_recounted_for}, KeptTubes.KeptTubes}
-use Rattle.bq_state.specs.{MaybeGoneTubes.AreAlive, Tallies.{tallies_at, tallies_of, tally_left, tallies_provided, tallies_with}}
-use Rattle.bq_state.specs.TubeEntries.{AreInOrder, is_tube_of, provided, tube_changed_at}
+use Rattle.bq_state.specs.{MaybeGoneTubes.AreAlive, Tallies.{tallies_at, tallies_of, tallies_provided, tallies_with, tally_left}}
+use Rattle.bq_state.specs.{TubeEntries.{AreInOrder, is_tube_of, provided, tube_changed_at}, declared.known.maybe_gone.MaybeGone.MaybeGone}
+use Rattle.bq_state.specs.declared.{known.tally.Tally.Tally, tubes.entry.{Crowd.Crowd, Moving.Moving, Share.Share}}
+use Rattle.bq_state.specs.declared.tubes.entry.TubeChange.TheVariants.{CountDelete, CountPut}
 
 -- the counts are those of these jobs and seats
 abbrev pub AreCounts : KeptTubes → List Job → List SeatRecord → Type 0

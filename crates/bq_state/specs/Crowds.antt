@@ -1,11 +1,11 @@
 -- How many clients are at each tube.
-use Rattle.std.specs.{List.{AllByRecursion, insert, prefix_len}, Prelude.{[], ℕ, count_by, false, fold, map, nat_lt, not, true}}
-use Rattle.std.specs.Prelude.{◌&&◌, ◌||◌, ◌∷◌, ◌≡◌, if◌then◌else◌, Bool, List, None, Option, Some}
+use Rattle.std.specs.{List.{AllByRecursion, insert, prefix_len}, Prelude.{Bool, List, None, Option, Some, [], count_by, false, fold}}
+use Rattle.std.specs.Prelude.{if◌then◌else◌, map, nat_lt, not, true, ℕ, ◌&&◌, ◌||◌, ◌∷◌, ◌≡◌}
 use Rattle.bq_job.specs.{beside.none_twice, machine.{SeatRecord, TubeRecord, is_name_before, is_waiting, watches}}
-use Rattle.bq_job.specs.{reading.TubeName.is_same_name}
+use Rattle.bq_job.specs.reading.TubeName.{is_same_name}
+use Rattle.bq_state.specs.{SeatStates.is_connected, Tallies.{count_with, count_without}, TubeEntries.has_entry}
 use Rattle.bq_state.specs.declared.seats.SeatChange.{SeatChange, TheVariants.{Clear, Connect, End, StopWaiting, Use, Wait}}
 use Rattle.bq_state.specs.declared.tubes.entry.{Crowd.Crowd, Moving.{Moving, TheVariants.{Comes, Goes}}, Share.Share}
-use Rattle.bq_state.specs.{SeatStates.is_connected, Tallies.{count_with, count_without}, TubeEntries.has_entry}
 
 -- a connected client uses the tube, watches it, or waits for its jobs
 abbrev pub is_user : List ℕ → SeatRecord → Bool

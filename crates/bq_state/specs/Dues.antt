@@ -1,10 +1,10 @@
 -- The earliest of moments, if there are any.
-use Rattle.std.specs.{Option.option_map}
-use Rattle.std.specs.Prelude.{◌-◌, if◌then◌else◌, Bool, List, None, Option, Some, ℕ, false, fold, length, nat_le, nat_lt}
-use Rattle.bq_job.specs.{declared.job.Job.Job, beside.{dues_of_pause, dues_of_wait, earlier, earliest}}
-use Rattle.bq_job.specs.machine.{SeatRecord, TubeRecord, due_of, first_of, is_delayed, is_due_before, is_held_by, is_reserved, is_waiting}
+use Rattle.std.specs.{Option.option_map, Prelude.{Bool, List, None, Option, Some, false, fold, if◌then◌else◌, length, nat_le, nat_lt, ℕ}}
+use Rattle.std.specs.Prelude.{◌-◌}
+use Rattle.bq_job.specs.{beside.{dues_of_pause, dues_of_wait, earlier, earliest}, declared.job.Job.Job, machine.{SeatRecord, TubeRecord}}
+use Rattle.bq_job.specs.machine.{due_of, first_of, is_delayed, is_due_before, is_held_by, is_reserved, is_waiting}
 use Rattle.bq_jobs.specs.Leases.{deadline_of, is_lease_before}
-use Rattle.bq_state.specs.declared.tubes.entry.TubeChange.{TubeChange, TheVariants.{CountDelete, CountPut, Pause}}
+use Rattle.bq_state.specs.declared.tubes.entry.TubeChange.{TheVariants.{CountDelete, CountPut, Pause}, TubeChange}
 
 abbrev pub earlier_of_both : Option ℕ → Option ℕ → Option ℕ
 earlier_of_both None other = other

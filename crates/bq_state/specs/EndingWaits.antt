@@ -1,10 +1,10 @@
 -- Which waits end.
-use Rattle.std.specs.List.{AllByRecursion, list_any}
-use Rattle.std.specs.Prelude.{◌&&◌, ◌+◌, ◌-◌, ◌||◌, ◌≡◌, if◌then◌else◌, Bool, None, Option, Some, ℕ, count_by, false, nat_le, true}
-use Rattle.bq_job.specs.{declared.{answer.Answer.Answer, job.Job.Job}, machine.{is_waiting, ticket_of, Machine.Machine}}
-use Rattle.bq_job.specs.declared.answer.Answer.TheVariants as answers
-use Rattle.bq_job.specs.machine.{SeatRecord, ends_waiting, is_deadline_soon, is_pair_before, is_reserved, is_timed_out, is_timed_out_at}
+use Rattle.std.specs.{List.{AllByRecursion, list_any}, Prelude.{Bool, None, Option, Some, count_by, false, if◌then◌else◌, nat_le, true, ℕ}}
+use Rattle.std.specs.Prelude.{◌&&◌, ◌+◌, ◌-◌, ◌||◌, ◌≡◌}
+use Rattle.bq_job.specs.{declared.{answer.Answer.Answer, job.Job.Job}, machine.{SeatRecord, ends_waiting, is_deadline_soon, is_pair_before}}
+use Rattle.bq_job.specs.machine.{Machine.Machine, is_reserved, is_timed_out, is_timed_out_at, is_waiting, ticket_of}
 use Rattle.bq_jobs.specs.Leases.{deadline_of}
+use Rattle.bq_job.specs.declared.answer.Answer.TheVariants as answers
 
 -- a reservation whose time to run ends within a second
 abbrev pub is_lease_short : ℕ → Job → Bool

@@ -1,8 +1,8 @@
 -- When the first wait times out.
-use Rattle.std.specs.{List.AllByRecursion}
-use Rattle.std.specs.Prelude.{◌&&◌, ◌≡◌, if◌then◌else◌, Bool, List, None, Option, Some, ℕ, false, fold, is_some, not, true}
+use Rattle.std.specs.{List.AllByRecursion, Prelude.{Bool, List, None, Option, Some, false, fold, if◌then◌else◌, is_some, not, true, ℕ}}
+use Rattle.std.specs.Prelude.{◌&&◌, ◌≡◌}
 use Rattle.bq_job.specs.{beside.{dues_of_wait, earliest}, machine.{SeatRecord, is_waiting}}
-use Rattle.bq_state.specs.{declared.known.first_timeout.FirstTimeout.{FirstTimeout, TheVariants.{Known, Unknown}}, Dues.with_seat_due}
+use Rattle.bq_state.specs.{Dues.with_seat_due, declared.known.first_timeout.FirstTimeout.{FirstTimeout, TheVariants.{Known, Unknown}}}
 use Rattle.bq_state.specs.declared.seats.SeatChange.{SeatChange, TheVariants.{Clear, Connect, End, StopWaiting, Use, Wait}}
 
 -- when the client's wait times out, if it waits

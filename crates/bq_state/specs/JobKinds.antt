@@ -1,7 +1,7 @@
 -- The first job of a kind: by its priority, its due moment or its burial number, then by its id.
 use Rattle.std.specs.Prelude.{Bool, List, Option, ℕ}
-use Rattle.bq_job.specs.declared.job.Job.{Job}
-use Rattle.bq_job.specs.machine.{burial_of, due_of, first_of, is_buried_in, is_delayed_in, is_pair_before, is_ready_in}
+use Rattle.bq_job.specs.{declared.job.Job.Job, machine.{burial_of, due_of, first_of, is_buried_in, is_delayed_in, is_pair_before}}
+use Rattle.bq_job.specs.machine.{is_ready_in}
 use Rattle.bq_state.specs.declared.job_store.JobKind.{JobKind, TheVariants.{Buried, Delayed, Ready}}
 
 abbrev pub is_of : JobKind → List ℕ → Job → Bool

@@ -1,17 +1,14 @@
 -- The records of the tubes that have an entry.
-use Rattle.std.specs.{Borrow.Bor, BTreeMap.is_at, Cmp.Lexicographic.slice_cmp}
-use Rattle.std.specs.{Map.{lookup, remove_entry, set_value}, Ordering.{is_gt, nat_cmp}}
-use Rattle.std.specs.Prelude.{◌&&◌, ◌++◌, ◌∷◌, if◌then◌else◌, Bool, List, None, Option, Some, [], ℕ, false, is_some, map, not, true}
+use Rattle.std.specs.{BTreeMap.is_at, Borrow.Bor, Cmp.Lexicographic.slice_cmp, Map.{lookup, remove_entry, set_value}, Ordering.is_gt}
+use Rattle.std.specs.{Ordering.nat_cmp, Prelude.{Bool, List, None, Option, Some, [], false, if◌then◌else◌, is_some, map, not, true, ℕ}}
+use Rattle.std.specs.Prelude.{◌&&◌, ◌++◌, ◌∷◌}
 use Rattle.bq_index.specs.Edited.{edited_if}
-use Rattle.bq_job.specs.declared.job.Job.{Job}
-use Rattle.bq_job.specs.machine.{Pause, TubeRecord, default_tube, fresh_tube, pause_after_timers, raised, tube_after_timers}
-use Rattle.bq_jobs.specs.declared.rows.Moved.{Moved}
-use Rattle.bq_jobs.specs.declared.rows.Removed.{Removed}
-use Rattle.bq_state.specs.declared.{known.tally.Tally.Tally, tubes.entry.{Crowd.Crowd, Moving.Moving}}
-use Rattle.bq_state.specs.declared.tubes.entry.{Share.Share, TubeChange.{TubeChange, TheVariants.{CountDelete, CountPut}}}
-use Rattle.bq_state.specs.{Crowds.{has_seats, no_crowd, recounted}}
-use Rattle.bq_state.specs.Tallies.{has_jobs, tally_left, tally_moved, tally_of, tally_with}
-use Rattle.bq_state.specs.TubeEntries.{is_tube_by, tube_changed}
+use Rattle.bq_job.specs.{declared.job.Job.Job, machine.{Pause, TubeRecord, default_tube, fresh_tube, pause_after_timers, raised}}
+use Rattle.bq_job.specs.machine.{tube_after_timers}
+use Rattle.bq_jobs.specs.declared.rows.{Moved.Moved, Removed.Removed}
+use Rattle.bq_state.specs.{Crowds.{has_seats, no_crowd, recounted}, Tallies.{has_jobs, tally_left, tally_moved, tally_of, tally_with}}
+use Rattle.bq_state.specs.{TubeEntries.{is_tube_by, tube_changed}, declared.{known.tally.Tally.Tally, tubes.entry.Crowd.Crowd}}
+use Rattle.bq_state.specs.declared.tubes.entry.{Moving.Moving, Share.Share, TubeChange.{TheVariants.{CountDelete, CountPut}, TubeChange}}
 
 -- the entries and, parallel to them, the counts of the tubes' jobs and of their clients; and the
 -- number of each tube by its name

@@ -1,15 +1,13 @@
 -- What is known without a search: that it is true, and how it changes.
-use Rattle.std.specs.Prelude.{◌≡◌, if◌then◌else◌, Bool, List, None, Option, [], ℕ, not}
+use Rattle.std.specs.Prelude.{Bool, List, None, Option, [], if◌then◌else◌, not, ℕ, ◌≡◌}
 use Rattle.bq_job.specs.{declared.job.Job.Job, machine.{SeatRecord, TubeRecord}}
-use Rattle.bq_jobs.specs.declared.rows.Moved.{Moved}
-use Rattle.bq_jobs.specs.declared.rows.Removed.{Removed}
+use Rattle.bq_jobs.specs.declared.rows.{Moved.Moved, Removed.Removed}
+use Rattle.bq_state.specs.{Clients.{clients_of, clients_with, clients_without}, Crowds.AreCrowds, Dues.{first_pause_end, pause_end_after}}
+use Rattle.bq_state.specs.{Dues.pause_end_left, FirstTimeouts.{AreTimeouts, timeout_after}, KeptTubes.KeptTubes, Leaving.gone_of}
+use Rattle.bq_state.specs.{MaybeGoneTubes.{AreAlive, with_existing, with_gone}, Tallies.{AreCounted, tally_left, tally_moved, tally_of}}
+use Rattle.bq_state.specs.{Tallies.{tally_with, tally_without}, TubeEntries.counted, WantedJobs.{AreKnown, wanted_after_seat}}
+use Rattle.bq_state.specs.{WantedJobs.{wanted_after_tube, with_wanted}, Warnings.{AreWarned, warned_by_seat, with_holder_of}}
 use Rattle.bq_state.specs.declared.{known.Known.Known, seats.SeatChange.SeatChange, tubes.entry.{Share.Share, TubeChange.TubeChange}}
-use Rattle.bq_state.specs.{Clients.{clients_of, clients_with, clients_without}, Crowds.AreCrowds, Leaving.gone_of}
-use Rattle.bq_state.specs.{Dues.{first_pause_end, pause_end_after, pause_end_left}, MaybeGoneTubes.{AreAlive, with_gone, with_existing}}
-use Rattle.bq_state.specs.{FirstTimeouts.{AreTimeouts, timeout_after}, KeptTubes.KeptTubes}
-use Rattle.bq_state.specs.WantedJobs.{AreKnown, wanted_after_tube, wanted_after_seat, with_wanted}
-use Rattle.bq_state.specs.{Tallies.{AreCounted, tally_left, tally_moved, tally_of, tally_with, tally_without}, TubeEntries.counted}
-use Rattle.bq_state.specs.Warnings.{AreWarned, warned_by_seat, with_holder_of}
 use Rattle.bq_state.specs.declared.known.first_timeout.FirstTimeout.TheVariants as ends
 use Rattle.bq_state.specs.declared.known.maybe_gone.MaybeGone.TheVariants as gone_tubes
 use Rattle.bq_state.specs.declared.known.wanted.Wanted.TheVariants as wanted_jobs

@@ -1,9 +1,8 @@
 -- Which tubes may have gone after a client leaves them.
-use Rattle.std.specs.Prelude.{◌∷◌, Bool, List, None, Option, Some, [], ℕ, false, fold, true}
+use Rattle.std.specs.Prelude.{Bool, List, None, Option, Some, [], false, fold, true, ℕ, ◌∷◌}
 use Rattle.bq_job.specs.machine.{SeatRecord}
-use Rattle.bq_state.specs.declared.{known.maybe_gone.MaybeGone.MaybeGone, tubes.entry.Share.Share}
-use Rattle.bq_state.specs.{Crowds.{crowd_at, has_seats}, KeptTubes.KeptTubes, MaybeGoneTubes.with_gone}
-use Rattle.bq_state.specs.{Tallies.{has_jobs, tally_at}, TubeEntries.is_tube_by}
+use Rattle.bq_state.specs.{Crowds.{crowd_at, has_seats}, KeptTubes.KeptTubes, MaybeGoneTubes.with_gone, Tallies.{has_jobs, tally_at}}
+use Rattle.bq_state.specs.{TubeEntries.is_tube_by, declared.{known.maybe_gone.MaybeGone.MaybeGone, tubes.entry.Share.Share}}
 
 -- the tube exists, according to its counts
 abbrev pub exists_in : KeptTubes → List ℕ → Bool

@@ -1,5 +1,5 @@
 -- References to names.
-use Rattle.std.specs.{Borrow.Bor, Prelude.{Bool, List, None, Option, Some, ℕ, false, map}}
+use Rattle.std.specs.{Borrow.Bor, Prelude.{Bool, List, None, Option, Some, false, map, ℕ}}
 use Rattle.bq_job.specs.reading.TubeName.{is_same_name}
 
 -- the names that are referred to

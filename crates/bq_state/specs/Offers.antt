@@ -1,8 +1,8 @@
 -- The job that is handed out first, of those that waiting clients may have, found tube by tube.
-use Rattle.std.specs.{List.list_any, Option.option_map}
-use Rattle.std.specs.Prelude.{◌&&◌, ◌∷◌, if◌then◌else◌, Bool, List, None, Option, Some, [], ℕ, fold, is_some, nat_lt}
-use Rattle.bq_job.specs.{declared.job.Job.Job, machine.{SeatRecord, TubeRecord, first_of, is_job_before, is_pair_before}}
-use Rattle.bq_job.specs.{machine.{is_ready_in, is_waiting, next_job, Machine.Machine}, reading.TubeName.is_same_name}
+use Rattle.std.specs.{List.list_any, Option.option_map, Prelude.{Bool, List, None, Option, Some, [], fold, if◌then◌else◌, is_some, nat_lt}}
+use Rattle.std.specs.Prelude.{ℕ, ◌&&◌, ◌∷◌}
+use Rattle.bq_job.specs.{declared.job.Job.Job, machine.{SeatRecord, TubeRecord, first_of, is_job_before, is_pair_before, is_ready_in}}
+use Rattle.bq_job.specs.{machine.{Machine.Machine, is_waiting, next_job}, reading.TubeName.is_same_name}
 use Rattle.bq_jobs.specs.Kept.{ranked}
 use Rattle.bq_state.specs.{Crowds.crowd_at, KeptTubes.KeptTubes}
 

@@ -1,11 +1,11 @@
 -- The ordered ends of the pauses of tubes.
-use Rattle.std.specs.{BTreeMap.{insert_entry, is_at}, declared.cmp.Ordering.Ordering, List.list_any, Map.{lookup, remove_entry}}
-use Rattle.std.specs.Cmp.{IsTotalOrder, nat_cmp_total, on_total, then_total, Lexicographic.{nat_list_cmp_total, slice_cmp}}
-use Rattle.std.specs.{Ordering.{nat_cmp, on, then_cmp}, Prelude.{is_some, length, map, nat_le}}
-use Rattle.std.specs.Prelude.{◌&&◌, ◌+◌, ◌==◌, ◌∷◌, ◌≡◌, ◌≤◌, if◌then◌else◌, Bool, List, None, Option, Some, [], ℕ, count_by, false, find}
-use Rattle.bq_job.specs.{machine.{Pause, TubeRecord}, reading.TubeName.is_same_name}
+use Rattle.std.specs.{BTreeMap.{insert_entry, is_at}, Cmp.{IsTotalOrder, nat_cmp_total, on_total, then_total}}
+use Rattle.std.specs.{Cmp.Lexicographic.{nat_list_cmp_total, slice_cmp}, List.list_any, Map.{lookup, remove_entry}, Ordering.{nat_cmp, on}}
+use Rattle.std.specs.{Ordering.then_cmp, Prelude.{Bool, List, None, Option, Some, [], count_by, false, find, if◌then◌else◌, is_some}}
+use Rattle.std.specs.{Prelude.{length, map, nat_le, ℕ, ◌&&◌, ◌+◌, ◌==◌, ◌∷◌, ◌≡◌, ◌≤◌}, declared.cmp.Ordering.Ordering}
 use Rattle.bq_index.specs.Catalog.{CatalogSeen}
-use Rattle.bq_state.specs.{declared.tubes.pauses.PauseEnd.PauseEnd, KeptTubes.{Named, record_at}}
+use Rattle.bq_job.specs.{machine.{Pause, TubeRecord}, reading.TubeName.is_same_name}
+use Rattle.bq_state.specs.{KeptTubes.{Named, record_at}, declared.tubes.pauses.PauseEnd.PauseEnd}
 
 -- by moment, then by name
 abbrev pub end_cmp : PauseEnd → PauseEnd → Ordering

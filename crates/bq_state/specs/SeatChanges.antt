@@ -1,10 +1,10 @@
 -- Changes of seats, one by one.
-use Rattle.std.specs.{List.list_any}
-use Rattle.std.specs.Prelude.{◌++◌, ◌==◌, ◌∷◌, ◌≡◌, if◌then◌else◌, Bool, List, Some, [], ℕ, filter, length, map, not, set, slice_get, true}
+use Rattle.std.specs.{List.list_any, Prelude.{Bool, List, Some, [], filter, if◌then◌else◌, length, map, not, set, slice_get, true, ℕ, ◌++◌}}
+use Rattle.std.specs.Prelude.{◌==◌, ◌∷◌, ◌≡◌}
 use Rattle.bq_job.specs.machine.{SeatRecord, TubeRecord, empty_seat, numbers, using, waiting_from, with_end, without_wait}
-use Rattle.bq_job.specs.{reading.TubeName.is_same_name}
-use Rattle.bq_state.specs.declared.seats.SeatChange.{SeatChange, TheVariants.{Clear, Connect, End, StopWaiting, Use, Wait}}
-use Rattle.bq_state.specs.TubeEntries.{has_entry}
+use Rattle.bq_job.specs.reading.TubeName.{is_same_name}
+use Rattle.bq_state.specs.{TubeEntries.has_entry, declared.seats.SeatChange.{SeatChange, TheVariants.{Clear, Connect, End, StopWaiting}}}
+use Rattle.bq_state.specs.declared.seats.SeatChange.TheVariants.{Use, Wait}
 
 -- each seat is at the index of its number
 abbrev pub AreNumbered : List SeatRecord → Type 0

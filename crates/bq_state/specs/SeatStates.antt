@@ -1,5 +1,5 @@
 -- Whether a seat is free, and whether its client may make a request.
-use Rattle.std.specs.Prelude.{◌&&◌, Bool, None, Option, Some, false, not}
+use Rattle.std.specs.Prelude.{Bool, None, Option, Some, false, not, ◌&&◌}
 use Rattle.bq_job.specs.machine.{SeatRecord, is_waiting}
 
 -- no client is connected there

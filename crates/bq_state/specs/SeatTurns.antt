@@ -1,5 +1,5 @@
 -- The turns of the clients at given seats.
-use Rattle.std.specs.Prelude.{◌≡◌, List, ℕ}
+use Rattle.std.specs.Prelude.{List, ℕ, ◌≡◌}
 use Rattle.bq_job.specs.machine.{SeatRecord}
 use Rattle.bq_state.specs.{SeatChanges.AreNumbered, WaitingTurns.turns_of}
 

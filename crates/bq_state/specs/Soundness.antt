@@ -1,10 +1,9 @@
 -- The invariants of a core's state.
-use Rattle.std.proofs.Props.{props}
-use Rattle.std.specs.{Coded.{Unit-prop, le_prop, ×_prop}, Prelude.{◌∷◌, ◌≡◌, ◌≤◌, Bool, List, [], ℕ, false}}
+use Rattle.std.{proofs.Props.props, specs.{Coded.{Unit-prop, le_prop, ×_prop}, Prelude.{Bool, List, [], false, ℕ, ◌∷◌, ◌≡◌, ◌≤◌}}}
 use Rattle.bq_job.specs.{beside.AreIdsWithin, declared.job.Job.Job, machine.{SeatRecord, TubeRecord, last_id}}
-use Rattle.bq_state.specs.declared.known.{first_timeout.FirstTimeout.FirstTimeout, Known.Known}
-use Rattle.bq_state.specs.{FirstTimeouts.AreTimeouts, KeptTubes.KeptTubes, Knowledge.IsSo}
-use Rattle.bq_state.specs.{SeatChanges.AreNumbered, TubeEntries.{AreEntries, AreInOrder}, WaitingTurns.{AreInTurn, WaitingTurns}}
+use Rattle.bq_state.specs.{FirstTimeouts.AreTimeouts, KeptTubes.KeptTubes, Knowledge.IsSo, SeatChanges.AreNumbered, TubeEntries.AreEntries}
+use Rattle.bq_state.specs.{TubeEntries.AreInOrder, WaitingTurns.{AreInTurn, WaitingTurns}, declared.known.Known.Known}
+use Rattle.bq_state.specs.declared.known.first_timeout.FirstTimeout.{FirstTimeout}
 use Rattle.bq_state.specs.declared.known.first_timeout.FirstTimeout.TheVariants as ends
 
 -- The fields of a state agree with each other: the jobs, seats and tubes, and what is kept besides
@@ -36,7 +35,6 @@ AreTimeouts-prop ends.Unknown seats = Unit-prop
 AreTimeouts-prop (ends.Known first) seats = Prim.hlevel props
 
 -- It has at most one proof, so a field can hold it.
-pub Soundness-prop : (jobs : List Job) (seats : List SeatRecord) (tubes : KeptTubes) (turns : WaitingTurns) (k : Known)
-    → (next_id : ℕ) (draining : Bool)
-    → IsProp (Soundness jobs seats tubes turns k next_id draining)
+pub Soundness-prop : (jobs : List Job) (seats : List SeatRecord) (tubes : KeptTubes) (turns : WaitingTurns) (k : Known) → (next_id : ℕ)
+    (draining : Bool) → IsProp (Soundness jobs seats tubes turns k next_id draining)
 Soundness-prop jobs seats tubes turns k next_id draining = Prim.hlevel (props, AreInOrder-prop, AreIdsWithin-prop, AreTimeouts-prop)

@@ -1,10 +1,10 @@
 -- How many of the jobs are in each state.
-use Rattle.std.specs.List.{insert, prefix_len}
-use Rattle.std.specs.Prelude.{◌&&◌, ◌-◌, ◌||◌, ◌∷◌, ◌≡◌, if◌then◌else◌, Bool, List, [], ℕ, count_by, false, filter, map, nat_lt, true}
-use Rattle.bq_job.specs.{declared.job.Job.Job, machine.{TubeRecord, is_buried, is_delayed, is_name_before, is_ready}}
-use Rattle.bq_job.specs.{machine.{is_ready_state, is_reserved, is_urgent, raised}, reading.TubeName.is_same_name}
+use Rattle.std.specs.{List.{insert, prefix_len}, Prelude.{Bool, List, [], count_by, false, filter, if◌then◌else◌, map, nat_lt, true, ℕ}}
+use Rattle.std.specs.Prelude.{◌&&◌, ◌-◌, ◌||◌, ◌∷◌, ◌≡◌}
+use Rattle.bq_job.specs.{declared.job.Job.Job, machine.{TubeRecord, is_buried, is_delayed, is_name_before, is_ready, is_ready_state}}
+use Rattle.bq_job.specs.{machine.{is_reserved, is_urgent, raised}, reading.TubeName.is_same_name}
 use Rattle.bq_jobs.specs.declared.rows.{Moved.Moved, Standing.Standing}
-use Rattle.bq_state.specs.{declared.known.tally.Tally.Tally, TubeEntries.has_entry}
+use Rattle.bq_state.specs.{TubeEntries.has_entry, declared.known.tally.Tally.Tally}
 
 abbrev pub tally_of : List Job → Tally
 tally_of jobs = record {

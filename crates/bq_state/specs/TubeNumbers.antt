@@ -1,5 +1,5 @@
 -- Which tubes have a number: exactly those that have an entry.
-use Rattle.std.specs.{BTreeMap.is_at, Cmp.Lexicographic.slice_cmp, Map.lookup, Ordering.nat_cmp, Prelude.{◌≡◌, List, ℕ, is_some}}
+use Rattle.std.specs.{BTreeMap.is_at, Cmp.Lexicographic.slice_cmp, Map.lookup, Ordering.nat_cmp, Prelude.{List, is_some, ℕ, ◌≡◌}}
 use Rattle.bq_job.specs.machine.{TubeRecord}
 use Rattle.bq_state.specs.TubeEntries.{has_entry}
 

@@ -1,6 +1,6 @@
 -- The waiting clients, in order of their turns.
-use Rattle.std.specs.{List.{AllByRecursion, sum_by}, Prelude.{◌==◌, ◌∷◌, ◌≡◌, ◌≤◌, if◌then◌else◌, Bool, List, None, Option}}
-use Rattle.std.specs.Prelude.{Some, [], ℕ, false, fold, length, slice_get, true}
+use Rattle.std.specs.{List.{AllByRecursion, sum_by}, Prelude.{Bool, List, None, Option, Some, [], false, fold, if◌then◌else◌, length}}
+use Rattle.std.specs.Prelude.{slice_get, true, ℕ, ◌==◌, ◌∷◌, ◌≡◌, ◌≤◌}
 use Rattle.bq_job.specs.machine.{SeatRecord, is_pair_before, is_waiting, seat_with}
 use Rattle.bq_state.specs.{Clients.seat_passes, Cost.waited_tubes, EndingWaits.turn_of, Offers.these}
 

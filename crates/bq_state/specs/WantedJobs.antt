@@ -1,10 +1,10 @@
 -- Which jobs waiting clients may have.
-use Rattle.std.specs.{List.AllByRecursion}
-use Rattle.std.specs.Prelude.{◌&&◌, ◌==◌, ◌≡◌, if◌then◌else◌, Bool, List, ℕ, false, find, is_some, not, true, unwrap_or}
-use Rattle.bq_job.specs.declared.job.Job.{Job}
-use Rattle.bq_job.specs.{machine.{SeatRecord, TubeRecord, fresh_tube, is_ready, is_waiting, watches}, reading.TubeName.is_same_name}
-use Rattle.bq_state.specs.declared.known.wanted.Wanted.{Wanted, TheVariants.{Any, Client, Nothing, Tube}}
-use Rattle.bq_state.specs.declared.{seats.SeatChange.{SeatChange, TheVariants.Wait}, tubes.entry.TubeChange.{TubeChange, TheVariants.Pause}}
+use Rattle.std.specs.{List.AllByRecursion, Prelude.{Bool, List, false, find, if◌then◌else◌, is_some, not, true, unwrap_or, ℕ, ◌&&◌, ◌==◌}}
+use Rattle.std.specs.Prelude.{◌≡◌}
+use Rattle.bq_job.specs.{declared.job.Job.Job, machine.{SeatRecord, TubeRecord, fresh_tube, is_ready, is_waiting, watches}}
+use Rattle.bq_job.specs.reading.TubeName.{is_same_name}
+use Rattle.bq_state.specs.declared.{known.wanted.Wanted.{TheVariants.{Any, Client, Nothing, Tube}, Wanted}, seats.SeatChange.SeatChange}
+use Rattle.bq_state.specs.declared.{seats.SeatChange.TheVariants.Wait, tubes.entry.TubeChange.{TheVariants.Pause, TubeChange}}
 
 -- the client at this seat may have a job of this tube
 abbrev pub may_get : Wanted → List ℕ → ℕ → Bool

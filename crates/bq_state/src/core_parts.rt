@@ -49,21 +49,13 @@ pub struct CoreParts {
 }
 
 impl CoreParts {
-    ghost use Rattle.std.specs.Prelude.{◌&&◌, filter, is_some, IfSome, IfOk};
-    ghost use Rattle.std.specs.List.{list_any};
-    ghost use Rattle.std.specs.Option.{option_map};
-    ghost use Rattle.bq_job.specs.machine.Changes.{is_held_by, is_ready, is_waiting, job_with, seat_with};
-    ghost use Rattle.bq_job.specs.machine.JobStates.{is_delayed, is_reserved};
-    ghost use Rattle.bq_job.specs.reading.TubeName.{is_same_name};
+    ghost use Rattle.std.specs.{List.list_any, Option.option_map, Prelude.{IfOk, IfSome, filter, is_some, ◌&&◌}};
+    ghost use Rattle.bq_job.specs.machine.{Changes.{is_held_by, is_ready, is_waiting, job_with, seat_with}, JobStates.is_delayed};
+    ghost use Rattle.bq_job.specs.{machine.JobStates.is_reserved, reading.TubeName.is_same_name};
     ghost use Rattle.bq_jobs.specs.Seen.{IsBodyOf};
-    ghost use Rattle.bq_state.specs.JobKinds.{first_of_kind};
-    ghost use Rattle.bq_state.specs.SeatStates.{is_asking, is_connected, is_free};
-    ghost use Rattle.bq_state.specs.Crowds.{crowd_of, is_waiter};
-    ghost use Rattle.bq_state.specs.Keeping.{Looks};
-    ghost use Rattle.bq_state.specs.CoreParts.{machine_of};
-    ghost use Rattle.bq_state.specs.Tallies.{tally_of};
-    ghost use Rattle.bq_state.specs.Warnings.{has_waiting_holder};
-    ghost use Rattle.bq_state.specs.JobChanges.{is_passed_by, passes, ttr_held_by};
+    ghost use Rattle.bq_state.specs.{CoreParts.machine_of, Crowds.{crowd_of, is_waiter}, JobChanges.{is_passed_by, passes, ttr_held_by}};
+    ghost use Rattle.bq_state.specs.{JobKinds.first_of_kind, Keeping.Looks, SeatStates.{is_asking, is_connected, is_free}};
+    ghost use Rattle.bq_state.specs.{Tallies.tally_of, Warnings.has_waiting_holder};
 
     /// Returns true if there is a seat with this number and no client is connected to it.
     pub fn is_free(&self, seat: Seat) -> bool

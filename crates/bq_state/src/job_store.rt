@@ -1,19 +1,10 @@
 //! The jobs: changing one, testing one for a command, and room for more.
-ghost use Rattle.std.specs.Prelude.{◌≡◌, ◌<◌, ◌||◌, length, not, is_some, IfSome, IfOk};
-ghost use Rattle.std.specs.Option.{option_map};
-ghost use Rattle.bq_job.specs.machine.Changes.{is_ready, job_with};
-ghost use Rattle.bq_job.specs.machine.Changes.{is_held_by as held_by};
-ghost use Rattle.bq_job.specs.machine.Dispatch.{reserved_by};
-ghost use Rattle.bq_job.specs.machine.JobStates.{is_buried, is_delayed, is_reserved};
-ghost use Rattle.bq_job.specs.machine.Limits.{later as later_by};
-ghost use Rattle.std.specs.List.{list_any};
-ghost use Rattle.bq_job.specs.machine.Timers.{job_after_timers};
-ghost use Rattle.bq_job.specs.machine.JobCommands.{buried, delayed_by as delayed_for, kicked, released};
-ghost use Rattle.bq_jobs.specs.Seen.{IsBodyOf};
-ghost use Rattle.bq_jobs.specs.Searching.{Searches};
-ghost use Rattle.bq_state.specs.JobChanges.{changed, is_passed_by, passes, ttr_held_by};
-ghost use Rattle.bq_state.specs.JobKinds.{first_of_kind};
-ghost use Rattle.bq_state.specs.Room.{room_left};
+ghost use Rattle.std.specs.{List.list_any, Option.option_map, Prelude.{IfOk, IfSome, is_some, length, not, ◌<◌, ◌||◌, ◌≡◌}};
+ghost use Rattle.bq_job.specs.machine.{Changes.{is_held_by as held_by, is_ready, job_with}, Dispatch.reserved_by, JobCommands.buried};
+ghost use Rattle.bq_job.specs.machine.{JobCommands.{delayed_by as delayed_for, kicked, released}, JobStates.{is_buried, is_delayed}};
+ghost use Rattle.bq_job.specs.machine.{JobStates.is_reserved, Limits.later as later_by, Timers.job_after_timers};
+ghost use Rattle.bq_jobs.specs.{Searching.Searches, Seen.IsBodyOf};
+ghost use Rattle.bq_state.specs.{JobChanges.{changed, is_passed_by, passes, ttr_held_by}, JobKinds.first_of_kind, Room.room_left};
 
 use bq_job::{Body, Job, JobId, JobState, Moment, NoMemory, Pri, Seat};
 use bq_jobs::{JobEdit, NumberedJobs, NumberedTubes, Row, RowTest, Tube};

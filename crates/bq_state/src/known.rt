@@ -1,11 +1,8 @@
 //! What is known of the jobs, the seats and the tubes without a search: how many there are, and
 //! where something may be found, so that only that place is searched.
-ghost use Rattle.std.specs.Option.{option_copied};
-ghost use Rattle.std.specs.Prelude.{◌≡◌};
-ghost use Rattle.bq_state.specs.Dues.{earlier_of_both, is_end_over};
-ghost use Rattle.bq_state.specs.Knowledge.{nothing_known, with_forgotten, with_job};
-ghost use Rattle.bq_state.specs.Knowledge.{with_joined, with_left, with_moved, with_removal};
-ghost use Rattle.bq_state.specs.Knowledge.{with_tube_changed};
+ghost use Rattle.std.specs.{Option.option_copied, Prelude.◌≡◌};
+ghost use Rattle.bq_state.specs.{Dues.{earlier_of_both, is_end_over}, Knowledge.{nothing_known, with_forgotten, with_job, with_joined}};
+ghost use Rattle.bq_state.specs.Knowledge.{with_left, with_moved, with_removal, with_tube_changed};
 
 use crate::seats::{SeatChange, SeatRecord};
 use crate::tubes::{Share, TubeChange, Tubes};

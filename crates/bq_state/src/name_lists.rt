@@ -1,9 +1,6 @@
 //! Lists of names in byte order, without duplicates.
-ghost use Rattle.std.specs.Prelude.{◌≡◌, ◌<◌, ◌≤◌, ◌+◌, not, vec_len, IfOk};
-ghost use Rattle.std.specs.List.{position, prefix_len, slice_get};
-ghost use Rattle.std.specs.Vec.{vec_capacity};
-ghost use Rattle.bq_job.specs.machine.TubeOrder.{in_name_order, with_name};
-ghost use Rattle.bq_job.specs.machine.Tubes.{is_name_before};
+ghost use Rattle.std.specs.{List.{position, prefix_len, slice_get}, Prelude.{IfOk, not, vec_len, ◌+◌, ◌<◌, ◌≡◌, ◌≤◌}, Vec.vec_capacity};
+ghost use Rattle.bq_job.specs.machine.{TubeOrder.{in_name_order, with_name}, Tubes.is_name_before};
 ghost use Rattle.bq_state.specs.Names.{is_named, names_of};
 
 use bq_job::NoMemory;

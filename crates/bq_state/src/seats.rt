@@ -1,25 +1,13 @@
 //! The seats: what is known of each and of its client, and how that changes.
-ghost use Rattle.std.specs.Prelude.{◌≡◌, ◌<◌, true, map, length, IfOk, OnErr};
-ghost use Rattle.std.specs.List.{list_any, position};
-ghost use Rattle.std.specs.Option.{option_copied, option_map};
-ghost use Rattle.bq_job.specs.machine.Changes.{first_of, seat_with, is_waiting, without_wait};
-ghost use Rattle.bq_job.specs.machine.Dispatch.{is_wait_before, ticket_of};
-ghost use Rattle.bq_job.specs.machine.Machine.{empty_seat, numbers};
-ghost use Rattle.bq_job.specs.machine.TubeCommands.{watching, using};
-ghost use Rattle.bq_state.specs.SeatChanges.{AreNumbered, AtPlace, IsSetAt, seat_changed};
-ghost use Rattle.bq_state.specs.SeatChanges.{seat_changed_at, more_watched, fewer_watched};
-ghost use Rattle.bq_state.specs.SeatChanges.{watches_other};
-ghost use Rattle.bq_state.specs.EndingWaits.{has_waited, turn_of};
-ghost use Rattle.bq_state.specs.FirstTimeouts.{is_gone_in_wait};
-ghost use Rattle.bq_state.specs.Offers.{waits_at};
-ghost use Rattle.bq_state.specs.SeatTurns.{AreTurnsOf};
-ghost use Rattle.bq_state.specs.WaitingTurns.{passes_at};
-ghost use Rattle.bq_state.specs.Warnings.{has_waiting_holder, is_waiting_there};
-ghost use Rattle.bq_job.specs.machine.Asked.{with_end};
-ghost use Rattle.bq_job.specs.machine.JobCommands.{waiting_from};
-ghost use Rattle.bq_job.specs.beside.NextDue.{dues_of_wait, earliest};
-ghost use Rattle.bq_job.specs.machine.Tubes.{watches};
-ghost use Rattle.bq_job.specs.machine.Waits.{is_timed_out_at};
+ghost use Rattle.std.specs.{List.{list_any, position}, Option.{option_copied, option_map}, Prelude.{IfOk, OnErr, length, map, true, ◌<◌}};
+ghost use Rattle.std.specs.Prelude.{◌≡◌};
+ghost use Rattle.bq_job.specs.{beside.NextDue.{dues_of_wait, earliest}, machine.{Asked.with_end, Changes.{first_of, is_waiting}}};
+ghost use Rattle.bq_job.specs.machine.{Changes.{seat_with, without_wait}, Dispatch.{is_wait_before, ticket_of}, JobCommands.waiting_from};
+ghost use Rattle.bq_job.specs.machine.{Machine.{empty_seat, numbers}, TubeCommands.{using, watching}, Tubes.watches, Waits.is_timed_out_at};
+ghost use Rattle.bq_state.specs.{EndingWaits.{has_waited, turn_of}, FirstTimeouts.is_gone_in_wait, Offers.waits_at};
+ghost use Rattle.bq_state.specs.SeatChanges.{AreNumbered, AtPlace, IsSetAt, fewer_watched, more_watched, seat_changed, seat_changed_at};
+ghost use Rattle.bq_state.specs.{SeatChanges.watches_other, SeatTurns.AreTurnsOf, WaitingTurns.passes_at, Warnings.has_waiting_holder};
+ghost use Rattle.bq_state.specs.Warnings.{is_waiting_there};
 
 use crate::waiting;
 use crate::watch_list::{WatchList, numbered_default};

@@ -1,9 +1,7 @@
 //! How a seat counts at the tubes that its client uses and watches.
-ghost use Rattle.std.specs.Prelude.{◌≡◌};
-ghost use Rattle.std.specs.Option.{option_copied};
-ghost use Rattle.bq_state.specs.Counting.{recounted_for, with_crowds_at, with_crowds_at_all};
-ghost use Rattle.bq_state.specs.Crowds.{recounted, touched};
-ghost use Rattle.bq_state.specs.Crowds.{share_as_user, share_as_watcher, share_of_watcher, share_of_watching};
+ghost use Rattle.std.specs.{Option.option_copied, Prelude.◌≡◌};
+ghost use Rattle.bq_state.specs.{Counting.{recounted_for, with_crowds_at, with_crowds_at_all}, Crowds.{recounted, share_as_user}};
+ghost use Rattle.bq_state.specs.Crowds.{share_as_watcher, share_of_watcher, share_of_watching, touched};
 
 use crate::seats::{SeatChange, SeatRecord};
 use crate::tubes::{Moving, Share, Tubes};

@@ -1,27 +1,15 @@
 //! The tubes: what is kept of each that exists.
-ghost use Rattle.std.specs.Prelude.{◌≡◌, ◌&&◌, ◌<◌, [], false, IfOk, find, length, map, not, nat_lt, is_some, is_ok, if◌then◌else◌};
-ghost use Rattle.std.specs.List.{list_any};
-ghost use Rattle.std.specs.Option.{option_map};
-ghost use Rattle.std.specs.Cmp.Lexicographic.{slice_cmp};
-ghost use Rattle.std.specs.Ordering.{nat_cmp};
+ghost use Rattle.std.specs.{Cmp.Lexicographic.slice_cmp, List.list_any, Map.lookup, Option.option_map, Ordering.nat_cmp, Prelude.IfOk};
+ghost use Rattle.std.specs.Prelude.{[], false, find, if◌then◌else◌, is_ok, is_some, length, map, nat_lt, not, ◌&&◌, ◌<◌, ◌≡◌};
 ghost use Rattle.bq_index.specs.Order.{InOrder};
-ghost use Rattle.bq_jobs.specs.Names.{number_in};
-ghost use Rattle.bq_jobs.specs.Numbering.{Extends};
-ghost use Rattle.std.specs.Map.{lookup};
-ghost use Rattle.bq_job.specs.reading.TubeName.{is_same_name};
-ghost use Rattle.bq_job.specs.machine.Timers.{tube_after_timers};
-ghost use Rattle.bq_state.specs.Counting.{AreCounts, DropsGone, IfCounted, tubes_with, with_crowds_at};
-ghost use Rattle.bq_state.specs.Counting.{with_job_put, with_removal_counted, with_tallies_at};
-ghost use Rattle.bq_state.specs.Crowds.{crowd_at, has_seats, recounted};
-ghost use Rattle.bq_state.specs.Dues.{first_pause_end, pause_end_after, pause_end_left};
-ghost use Rattle.bq_state.specs.KeptTubes.{edited_at, is_named_at, kept_changed, record_at};
-ghost use Rattle.bq_state.specs.Leaving.{exists_in};
-ghost use Rattle.bq_state.specs.Offers.{is_waited_at};
-ghost use Rattle.bq_state.specs.PauseEnds.{AreEnds};
-ghost use Rattle.bq_state.specs.Tallies.{has_jobs, tallies_of, tally_at, tally_moved};
+ghost use Rattle.bq_job.specs.{machine.Timers.tube_after_timers, reading.TubeName.is_same_name};
+ghost use Rattle.bq_jobs.specs.{Names.number_in, Numbering.Extends};
+ghost use Rattle.bq_state.specs.Counting.{AreCounts, DropsGone, IfCounted, tubes_with, with_crowds_at, with_job_put, with_removal_counted};
+ghost use Rattle.bq_state.specs.{Counting.with_tallies_at, Crowds.{crowd_at, has_seats, recounted}, Dues.first_pause_end};
+ghost use Rattle.bq_state.specs.{Dues.{pause_end_after, pause_end_left}, KeptTubes.{edited_at, is_named_at, kept_changed, record_at}};
+ghost use Rattle.bq_state.specs.{Leaving.exists_in, Names.names_of, Offers.is_waited_at, PauseEnds.AreEnds, Tallies.{has_jobs, tallies_of}};
+ghost use Rattle.bq_state.specs.{Tallies.{tally_at, tally_moved}, TubeEntries.{has_entry, names_alive, tube_changed_at}};
 ghost use Rattle.bq_state.specs.TubeNumbers.{HaveNumbers};
-ghost use Rattle.bq_state.specs.Names.{names_of};
-ghost use Rattle.bq_state.specs.TubeEntries.{has_entry, names_alive, tube_changed_at};
 
 use crate::known::{Clients, MaybeGone, Tally};
 use crate::name_lists::Names;
@@ -52,8 +40,7 @@ pub struct Tubes {
 
 impl Model for Tubes {
     ghost use Rattle.std.specs.Prelude.{map};
-    ghost use Rattle.bq_state.specs.KeptTubes.{KeptTubes, record_at, tubes_kept};
-    ghost use Rattle.bq_state.specs.PauseEnds.{AreEnds};
+    ghost use Rattle.bq_state.specs.{KeptTubes.{KeptTubes, record_at, tubes_kept}, PauseEnds.AreEnds};
 
     ghost Value = { KeptTubes };
 

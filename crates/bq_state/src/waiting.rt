@@ -1,12 +1,8 @@
 //! The waiting clients, in order of their turns.
-ghost use Rattle.std.specs.Prelude.{◌≡◌, ◌==◌, ◌-◌, ◌<◌, ◌≤◌, [], find, not, length, vec_len, IfOk};
-ghost use Rattle.std.specs.List.{position, prefix_len, slice_get};
-ghost use Rattle.std.specs.Option.{option_copied};
-ghost use Rattle.std.specs.Vec.{vec_capacity};
-ghost use Rattle.bq_state.specs.Places.{item_at};
-ghost use Rattle.bq_state.specs.WaitingTurns.{IsRising, is_none_or_before, is_turn_after};
-ghost use Rattle.bq_state.specs.WaitingTurns.{is_turn_before, placed, removed, with_turn};
-ghost use Rattle.bq_state.specs.WaitingTurns.{without_turn};
+ghost use Rattle.std.specs.{List.{position, prefix_len, slice_get}, Option.option_copied, Prelude.{IfOk, [], find, length, not, vec_len}};
+ghost use Rattle.std.specs.{Prelude.{◌-◌, ◌<◌, ◌==◌, ◌≡◌, ◌≤◌}, Vec.vec_capacity};
+ghost use Rattle.bq_state.specs.{Places.item_at, WaitingTurns.{IsRising, is_none_or_before, is_turn_after, is_turn_before, placed}};
+ghost use Rattle.bq_state.specs.WaitingTurns.{removed, with_turn, without_turn};
 
 use crate::seats::{SeatRecord, Turn};
 use bq_job::{NoMemory, Seat};

@@ -1,8 +1,6 @@
-ghost use Rattle.std.specs.Prelude.{◌≡◌, ◌<◌, ◌++◌, ◌∷◌, [], true, filter, not, length, vec_len, IfOk, OnErr};
-ghost use Rattle.std.specs.List.{list_any};
+ghost use Rattle.std.specs.{List.list_any, Prelude.{IfOk, OnErr, [], filter, length, not, true, vec_len, ◌++◌, ◌<◌, ◌∷◌, ◌≡◌}};
 ghost use Rattle.std.specs.Vec.{vec_capacity};
-ghost use Rattle.bq_job.specs.machine.Machine.{default_tube};
-ghost use Rattle.bq_job.specs.reading.TubeName.{is_same_name};
+ghost use Rattle.bq_job.specs.{machine.Machine.default_tube, reading.TubeName.is_same_name};
 
 use bq_job::{NoMemory, TubeName};
 use bq_jobs::{Tube, TubeNumber};
@@ -16,7 +14,7 @@ pub(crate) struct WatchList {
 }
 
 impl Model for WatchList {
-    ghost use Rattle.std.specs.Prelude.{List, ℕ, ◌<◌, length};
+    ghost use Rattle.std.specs.Prelude.{List, length, ℕ, ◌<◌};
 
     ghost Value = { List (List ℕ) };
 

@@ -1,4 +1,4 @@
-ghost use Rattle.std.specs.Prelude.{◌≡◌, ◌+◌, ◌≤◌, ◌++◌, [], length, decimal, IfOk};
+ghost use Rattle.std.specs.Prelude.{IfOk, [], decimal, length, ◌++◌, ◌+◌, ◌≡◌, ◌≤◌};
 
 use bq_job::{NoMemory, Text};
 use itoa::Buffer;
@@ -12,8 +12,7 @@ pub(crate) struct TextBuilder {
 }
 
 impl Model for TextBuilder {
-    ghost use Rattle.std.specs.Prelude.{◌-◌, vec_len};
-    ghost use Rattle.std.specs.Vec.{vec_capacity};
+    ghost use Rattle.std.specs.{Prelude.{vec_len, ◌-◌}, Vec.vec_capacity};
     ghost use Rattle.bq_core.specs.Texts.{TextSoFar};
 
     ghost Value = { TextSoFar };

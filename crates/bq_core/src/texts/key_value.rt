@@ -1,6 +1,6 @@
-ghost use Rattle.std.specs.Prelude.{◌≡◌, ◌+◌, ◌≤◌, ◌++◌, length, decimal, IfOk};
-ghost use Rattle.bq_job.specs.texts.Yaml.{statistics_text};
+ghost use Rattle.std.specs.Prelude.{IfOk, decimal, length, ◌++◌, ◌+◌, ◌≡◌, ◌≤◌};
 ghost use Rattle.bq_core.specs.Texts.{value_text};
+ghost use Rattle.bq_job.specs.texts.Yaml.{statistics_text};
 
 use super::builder::{TextBuilder, digit_count};
 use super::lines::{Line, text_of};

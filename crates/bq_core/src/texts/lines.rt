@@ -1,5 +1,5 @@
 //! Texts that consist of lines.
-ghost use Rattle.std.specs.Prelude.{◌≡◌, ◌+◌, ◌≤◌, ◌++◌, List, ℕ, codes, flat_map, length, IfOk};
+ghost use Rattle.std.specs.Prelude.{IfOk, List, codes, flat_map, length, ℕ, ◌++◌, ◌+◌, ◌≡◌, ◌≤◌};
 ghost use Rattle.bq_core.specs.Texts.{IsSizeOf};
 
 use super::builder::TextBuilder;

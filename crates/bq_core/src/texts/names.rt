@@ -1,6 +1,5 @@
-ghost use Rattle.std.specs.Prelude.{◌≡◌, IfOk, IsTrue};
-ghost use Rattle.bq_job.specs.beside.NameOrder.{is_in_order};
-ghost use Rattle.bq_job.specs.machine.TubeOrder.{name_list};
+ghost use Rattle.std.specs.Prelude.{IfOk, IsTrue, ◌≡◌};
+ghost use Rattle.bq_job.specs.{beside.NameOrder.is_in_order, machine.TubeOrder.name_list};
 ghost use Rattle.bq_state.specs.Names.{names_of};
 
 use super::builder::TextBuilder;

@@ -1,9 +1,8 @@
-ghost use Rattle.std.specs.Prelude.{◌≡◌, IfOk};
-ghost use Rattle.bq_job.specs.machine.Machine.{Machine};
-ghost use Rattle.bq_job.specs.machine.Statistics.{bool_word, pause_seconds, pause_time_left, seconds_between, state_word, time_left};
-ghost use Rattle.bq_job.specs.machine.Statistics.{job_statistics, server_statistics, tube_statistics};
-ghost use Rattle.bq_jobs.specs.Seen.{in_tube};
+ghost use Rattle.std.specs.Prelude.{IfOk, ◌≡◌};
 ghost use Rattle.bq_core.specs.Numbers.{AreOfServer, AreOfTube};
+ghost use Rattle.bq_job.specs.machine.{Machine.Machine, Statistics.{bool_word, job_statistics, pause_seconds, pause_time_left}};
+ghost use Rattle.bq_job.specs.machine.Statistics.{seconds_between, server_statistics, state_word, time_left, tube_statistics};
+ghost use Rattle.bq_jobs.specs.Seen.{in_tube};
 
 use super::key_value::{number, statistics_text, word};
 use bq_job::{JobId, JobState, Moment, NoMemory, Text, TubeName};

@@ -1,6 +1,5 @@
 //! How many clients there are.
-ghost use Rattle.std.specs.Option.{option_copied};
-ghost use Rattle.std.specs.Prelude.{◌≡◌};
+ghost use Rattle.std.specs.{Option.option_copied, Prelude.◌≡◌};
 ghost use Rattle.bq_state.specs.Clients.{clients_with, clients_without};
 
 use crate::seats::SeatRecord;

@@ -1,9 +1,6 @@
 //! When the first wait times out.
-ghost use Rattle.std.specs.Option.{option_copied};
-ghost use Rattle.std.specs.Prelude.{◌≡◌, None, fold};
-ghost use Rattle.bq_state.specs.Dues.{with_seat_due};
-ghost use Rattle.bq_state.specs.FirstTimeouts.{AreTimeouts, timeout_after, keeps_timeout};
-ghost use Rattle.bq_state.specs.SeatTurns.{AreTurnsOf};
+ghost use Rattle.std.specs.{Option.option_copied, Prelude.{None, fold, ◌≡◌}};
+ghost use Rattle.bq_state.specs.{Dues.with_seat_due, FirstTimeouts.{AreTimeouts, keeps_timeout, timeout_after}, SeatTurns.AreTurnsOf};
 ghost use Rattle.bq_state.specs.WaitingTurns.{at_turn};
 
 use crate::known::earlier_of;

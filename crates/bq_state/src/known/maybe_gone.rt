@@ -1,8 +1,6 @@
 //! Which entries may be of tubes that have gone.
-ghost use Rattle.std.specs.Option.{option_copied};
-ghost use Rattle.std.specs.Prelude.{◌≡◌, [], if◌then◌else◌, ◌∷◌};
-ghost use Rattle.bq_state.specs.Leaving.{exists_in, gone_of, gone_all, gone_if, gone_unless};
-ghost use Rattle.bq_state.specs.MaybeGoneTubes.{with_gone, with_existing};
+ghost use Rattle.std.specs.{Option.option_copied, Prelude.{[], if◌then◌else◌, ◌∷◌, ◌≡◌}};
+ghost use Rattle.bq_state.specs.{Leaving.{exists_in, gone_all, gone_if, gone_of, gone_unless}, MaybeGoneTubes.{with_existing, with_gone}};
 
 use crate::seats::SeatRecord;
 use crate::tubes::{Share, Tubes};

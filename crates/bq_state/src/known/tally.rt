@@ -1,5 +1,5 @@
 //! How many jobs are in each state.
-ghost use Rattle.std.specs.Prelude.{◌≡◌, []};
+ghost use Rattle.std.specs.Prelude.{[], ◌≡◌};
 ghost use Rattle.bq_state.specs.Tallies.{has_jobs, tally_entered, tally_left, tally_of, tally_with};
 
 use bq_job::{Job, JobState, Pri};

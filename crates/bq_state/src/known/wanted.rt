@@ -1,7 +1,6 @@
 //! Which jobs waiting clients may have, as far as it is known without a search.
-ghost use Rattle.std.specs.Prelude.{◌≡◌, if◌then◌else◌};
-ghost use Rattle.bq_state.specs.WantedJobs.{is_nothing, wanted_after_tube, wanted_after_seat};
-ghost use Rattle.bq_state.specs.WantedJobs.{with_all_wanted, with_waiter, with_wanted};
+ghost use Rattle.std.specs.Prelude.{if◌then◌else◌, ◌≡◌};
+ghost use Rattle.bq_state.specs.WantedJobs.{is_nothing, wanted_after_seat, wanted_after_tube, with_all_wanted, with_waiter, with_wanted};
 
 use crate::seats::SeatChange;
 use crate::tubes::TubeChange;

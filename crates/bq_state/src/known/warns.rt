@@ -1,7 +1,6 @@
 //! Which clients may hold a job while they wait.
-ghost use Rattle.std.specs.Prelude.{◌≡◌, if◌then◌else◌};
-ghost use Rattle.bq_state.specs.Warnings.{warned_by_seat, warned_if_due, with_holder};
-ghost use Rattle.bq_state.specs.Warnings.{with_holder_of, without_holder};
+ghost use Rattle.std.specs.Prelude.{if◌then◌else◌, ◌≡◌};
+ghost use Rattle.bq_state.specs.Warnings.{warned_by_seat, warned_if_due, with_holder, with_holder_of, without_holder};
 
 use crate::seats::SeatChange;
 use bq_job::{JobState, Seat};

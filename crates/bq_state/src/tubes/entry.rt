@@ -1,15 +1,10 @@
 //! What is kept of a tube, and how the entry of a name is changed in place.
-ghost use Rattle.std.specs.Prelude.{◌≡◌, [], is_some};
-ghost use Rattle.std.specs.Cmp.Lexicographic.{slice_cmp};
-ghost use Rattle.std.specs.Ordering.{nat_cmp};
+ghost use Rattle.std.specs.{Cmp.Lexicographic.slice_cmp, Map.lookup, Ordering.nat_cmp, Prelude.{[], is_some, ◌≡◌}};
 ghost use Rattle.bq_index.specs.Order.{InOrder};
 ghost use Rattle.bq_job.specs.machine.TubeCommands.{with_pause};
-ghost use Rattle.bq_state.specs.KeptTubes.{ended, fresh_entry, kept_after, kept_changed, kept_moved};
-ghost use Rattle.bq_state.specs.KeptTubes.{crowd_by, kept_recounted, kept_removed, record_of, edited_at, is_named_at, kept_with};
-ghost use Rattle.std.specs.Map.{lookup};
-ghost use Rattle.bq_state.specs.PauseEnds.{end_of};
-ghost use Rattle.bq_state.specs.Crowds.{crowd_with, crowd_without, has_seats, is_none, no_crowd};
-ghost use Rattle.bq_state.specs.Crowds.{recounted};
+ghost use Rattle.bq_state.specs.{Crowds.{crowd_with, crowd_without, has_seats, is_none, no_crowd, recounted}, KeptTubes.crowd_by};
+ghost use Rattle.bq_state.specs.KeptTubes.{edited_at, ended, fresh_entry, is_named_at, kept_after, kept_changed, kept_moved};
+ghost use Rattle.bq_state.specs.{KeptTubes.{kept_recounted, kept_removed, kept_with, record_of}, PauseEnds.end_of};
 
 use super::pauses::PauseEnd;
 use crate::job_store::later;

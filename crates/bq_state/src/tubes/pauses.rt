@@ -1,18 +1,11 @@
 //! Changes of tubes in which pauses begin and end. The ends of the pauses are kept in order.
-ghost use Rattle.std.specs.Prelude.{◌≡◌, ◌<◌, map, true, false, ◌+◌, ◌≤◌, length, is_some};
-ghost use Rattle.std.specs.Prelude.{if◌then◌else◌, IfOk, None};
-ghost use Rattle.std.specs.Map.{remove_entry};
-ghost use Rattle.bq_state.specs.Dues.{first_pause_end, is_end_over};
-ghost use Rattle.bq_state.specs.KeptTubes.{crowd_kept, edited_at, is_named_at, kept_changed};
-ghost use Rattle.bq_state.specs.KeptTubes.{record_at, records_ended, tally_kept};
-ghost use Rattle.bq_state.specs.PauseEnds.{AreEnds, end_of, pause_at, paused_count, end_cmp};
-ghost use Rattle.bq_state.specs.PauseEnds.{end_total, first_end, found_end, has_end, if_over};
-ghost use Rattle.bq_state.specs.PauseEnds.{with_end, without_end};
-ghost use Rattle.std.proofs.Common.{refl};
-ghost use Rattle.std.specs.Cmp.Lexicographic.{slice_cmp};
-ghost use Rattle.std.specs.Ordering.{as_partial_cmp, eq_by_cmp, nat_cmp};
+ghost use Rattle.std.{proofs.Common.refl, specs.{Cmp.Lexicographic.slice_cmp, Map.remove_entry, Option.{ForSome, option_map}}};
+ghost use Rattle.std.specs.{Ordering.{as_partial_cmp, eq_by_cmp, nat_cmp}, Prelude.{IfOk, None, false, if◌then◌else◌, is_some, length}};
+ghost use Rattle.std.specs.Prelude.{map, true, ◌+◌, ◌<◌, ◌≡◌, ◌≤◌};
 ghost use Rattle.bq_index.specs.Order.{InOrder};
-ghost use Rattle.std.specs.Option.{ForSome, option_map};
+ghost use Rattle.bq_state.specs.{Dues.{first_pause_end, is_end_over}, KeptTubes.{crowd_kept, edited_at, is_named_at, kept_changed}};
+ghost use Rattle.bq_state.specs.{KeptTubes.{record_at, records_ended, tally_kept}, PauseEnds.{AreEnds, end_cmp, end_of, end_total}};
+ghost use Rattle.bq_state.specs.PauseEnds.{first_end, found_end, has_end, if_over, pause_at, paused_count, with_end, without_end};
 ghost use Rattle.std.specs.Cmp as Cmp;
 
 use super::entry::{self, TubeChange, TubeEntry};

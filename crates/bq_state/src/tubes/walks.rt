@@ -1,20 +1,11 @@
 //! Queries of all entries of tubes, and which of them are dropped.
-ghost use Rattle.std.specs.Prelude.{◌≡◌, ◌<◌, ◌≤◌, ◌+◌, ◌++◌, [], false, vec_len, IfOk, fold, filter};
-ghost use Rattle.std.specs.Prelude.{find, map};
-ghost use Rattle.std.specs.Vec.{vec_capacity};
-ghost use Rattle.bq_state.specs.KeptTubes.{is_alive_with, name_if_alive, with_alive, with_name_of};
-ghost use Rattle.bq_state.specs.KeptTubes.{is_alive_at, is_gone_by, is_gone_from, is_named_at};
-ghost use Rattle.bq_state.specs.KeptTubes.{record_at, tally_kept, without_gone};
-ghost use Rattle.bq_state.specs.Tallies.{tallies_of};
-ghost use Rattle.bq_job.specs.reading.TubeName.{is_same_name};
+ghost use Rattle.std.specs.{Cmp.Lexicographic.slice_cmp, List.list_any, Map.{lookup, remove_entry}, Option.option_map, Ordering.nat_cmp};
+ghost use Rattle.std.specs.{Prelude.{IfOk, [], false, filter, find, fold, map, vec_len, ◌++◌, ◌+◌, ◌<◌, ◌≡◌, ◌≤◌}, Vec.vec_capacity};
 ghost use Rattle.bq_index.specs.Order.{InOrder};
-ghost use Rattle.std.specs.Cmp.Lexicographic.{slice_cmp};
-ghost use Rattle.std.specs.List.{list_any};
-ghost use Rattle.std.specs.Ordering.{nat_cmp};
-ghost use Rattle.bq_state.specs.Names.{names_of};
-ghost use Rattle.std.specs.Map.{lookup, remove_entry};
-ghost use Rattle.std.specs.Option.{option_map};
-ghost use Rattle.bq_state.specs.PauseEnds.{AreEnds};
+ghost use Rattle.bq_job.specs.reading.TubeName.{is_same_name};
+ghost use Rattle.bq_state.specs.KeptTubes.{is_alive_at, is_alive_with, is_gone_by, is_gone_from, is_named_at, name_if_alive, record_at};
+ghost use Rattle.bq_state.specs.{KeptTubes.{tally_kept, with_alive, with_name_of, without_gone}, Names.names_of, PauseEnds.AreEnds};
+ghost use Rattle.bq_state.specs.Tallies.{tallies_of};
 
 use super::entry::TubeEntry;
 use super::pauses::{self, PauseEnds};

@@ -1,40 +1,33 @@
+use Rattle.std.proofs.{Common.arith, lemmas.Grind.common_steps}
 use Rattle.bq_core.proofs.ActLemmas.{number_found}
 use Rattle.bq_core.proofs.acts.carry_out.Goals as goal
 
 pub returns-in-Reserve-clause-reply : goal.returns-in-Reserve-clause-reply
-returns-in-Reserve-clause-reply c s found =
-    rw c.in-Reserve.is (c.reserve.ensures.reply s (number_found c.args.seat c.args.state.now.seats.items s found))
+returns-in-Reserve-clause-reply c s found = grind (arith, common_steps, number_found)
 
 pub returns-in-ReserveWithTimeout-clause-reply : goal.returns-in-ReserveWithTimeout-clause-reply
-returns-in-ReserveWithTimeout-clause-reply c s found =
-    rw c.in-ReserveWithTimeout.is (c.reserve_until.ensures.reply s (number_found c.args.seat c.args.state.now.seats.items s found))
+returns-in-ReserveWithTimeout-clause-reply c s found = grind (arith, common_steps, number_found)
 
 pub returns-in-ReserveJob-clause-reply : goal.returns-in-ReserveJob-clause-reply
-returns-in-ReserveJob-clause-reply c s found =
-    rw c.in-ReserveJob.is (c.reserve_job.ensures.reply s (number_found c.args.seat c.args.state.now.seats.items s found))
+returns-in-ReserveJob-clause-reply c s found = rw c.in-ReserveJob.is (c.reserve_job.ensures.reply s (number_found _ _ _ found))
 
 pub returns-in-Delete-clause-reply : goal.returns-in-Delete-clause-reply
-returns-in-Delete-clause-reply c s found =
-    rw c.in-Delete.is (c.delete.ensures.reply s (number_found c.args.seat c.args.state.now.seats.items s found))
+returns-in-Delete-clause-reply c s found = rw c.in-Delete.is (c.delete.ensures.reply s (number_found _ _ _ found))
 
 pub returns-in-Release-clause-reply : goal.returns-in-Release-clause-reply
-returns-in-Release-clause-reply c s found =
-    rw c.in-Release.is (c.release.ensures.reply s (number_found c.args.seat c.args.state.now.seats.items s found))
+returns-in-Release-clause-reply c s found = grind (arith, common_steps, number_found)
 
 pub returns-in-Bury-clause-reply : goal.returns-in-Bury-clause-reply
-returns-in-Bury-clause-reply c s found = rw c.in-Bury.is
-    (c.bury.ensures.reply s (number_found c.args.seat c.args.state.now.seats.items s found))
+returns-in-Bury-clause-reply c s found = grind (arith, common_steps, number_found)
 
 pub returns-in-Touch-clause-reply : goal.returns-in-Touch-clause-reply
-returns-in-Touch-clause-reply c s found = rw c.in-Touch.is
-    (c.touch.ensures.reply s (number_found c.args.seat c.args.state.now.seats.items s found))
+returns-in-Touch-clause-reply c s found = grind (arith, common_steps, number_found)
 
 pub returns-in-KickJob-clause-reply : goal.returns-in-KickJob-clause-reply
 returns-in-KickJob-clause-reply c s found = rw c.in-KickJob.is (c.kick_job.ensures.reply s)
 
 pub returns-in-Use-clause-reply : goal.returns-in-Use-clause-reply
-returns-in-Use-clause-reply c s found = rw c.in-Use.is
-    (c.use_tube.ensures.reply s (number_found c.args.seat c.args.state.now.seats.items s found))
+returns-in-Use-clause-reply c s found = rw c.in-Use.is (c.use_tube.ensures.reply s (number_found _ _ _ found))
 
 pub returns-in-ListTubeUsed-clause-reply : goal.returns-in-ListTubeUsed-clause-reply
 returns-in-ListTubeUsed-clause-reply c s found = rw c.in-ListTubeUsed.is (c.list_tube_used.ensures s found)

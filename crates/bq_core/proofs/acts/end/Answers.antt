@@ -1,6 +1,6 @@
 use Rattle.std.proofs.Common.{sym}
-use Rattle.bq_state.specs.CoreParts.{machine_of}
 use Rattle.bq_core.proofs.ActLemmas.{ended_connected}
+use Rattle.bq_state.specs.CoreParts.{machine_of}
 use Rattle.bq_core.proofs.acts.end.Goals as goal
 
 pub returns-then-is_connected-clause-after : goal.returns-then-is_connected-clause-after

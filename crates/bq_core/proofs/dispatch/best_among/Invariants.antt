@@ -1,5 +1,5 @@
 -- the best of the names so far
-use Rattle.std.proofs.Common.{◌≡◌, fold, take}
+use Rattle.std.proofs.Common.{fold, take, ◌≡◌}
 use Rattle.bq_jobs.specs.Searching.{Asks}
 use Rattle.bq_state.specs.Offers.{with_offer}
 use Rattle.bq_core.proofs.dispatch.best_among.Given as goal

@@ -1,6 +1,5 @@
 -- the best of the turns so far
-use Rattle.std.proofs.Common.{◌≡◌, None, take}
-use Rattle.std.specs.{List.sum_by, Prelude.fold}
+use Rattle.std.{proofs.Common.{None, take, ◌≡◌}, specs.{List.sum_by, Prelude.fold}}
 use Rattle.bq_jobs.specs.Searching.{Asks}
 use Rattle.bq_state.specs.{Offers.with_offers, WaitingTurns.{by_seat, waited_at}}
 use Rattle.bq_core.proofs.dispatch.best_of_turns.Given as goal

@@ -1,9 +1,9 @@
 -- what the turns so far gave, and how many searches they made
-use Rattle.std.proofs.Common.{◌*◌, ◌+◌, ◌-◌, length}
+use Rattle.std.proofs.Common.{length, ◌*◌, ◌+◌, ◌-◌}
+use Rattle.bq_core.specs.Turns.{Gives, HasRoom}
 use Rattle.bq_job.specs.{beside.waiting_count, machine.{DispatchTurn, has_refused_share}}
 use Rattle.bq_jobs.specs.Searching.{Asks}
 use Rattle.bq_state.specs.{CoreParts.machine_of, Cost.waited}
-use Rattle.bq_core.specs.Turns.{Gives, HasRoom}
 use Rattle.bq_core.proofs.dispatch.dispatch_all.Given as goal
 
 abbrev pub invariant-loop : goal.invariant-loop

@@ -1,8 +1,7 @@
-use Rattle.std.proofs.Common.{◌∙◌, ◌≡◌, IfOk, Some, ap, arith, option_map, refl, subst, sym}
-use Rattle.bq_job.specs.{declared.job.Job.Job, machine.{SeatRecord, next_job, next_seat, Machine.Machine}}
+use Rattle.std.proofs.Common.{IfOk, Some, ap, arith, option_map, refl, subst, sym, ◌∙◌, ◌≡◌}
+use Rattle.bq_core.{proofs.TurnLemmas.{no_next_job, somebody_waits, turn_falls, turn_given}, specs.HandOuts.HandsOut}
+use Rattle.bq_job.specs.{declared.job.Job.Job, machine.{Machine.Machine, SeatRecord, next_job, next_seat}}
 use Rattle.bq_state.specs.CoreParts.{machine_held, machine_of}
-use Rattle.bq_core.specs.HandOuts.{HandsOut}
-use Rattle.bq_core.proofs.TurnLemmas.{no_next_job, somebody_waits, turn_falls, turn_given}
 use Rattle.bq_core.proofs.dispatch.turn.Goals as goal
 
 pub returns-then-not-has_waiter-clause-done : goal.returns-then-not-has_waiter-clause-done
@@ -17,8 +16,7 @@ hand_out-requires c =
     record {
       room = omega (
         arith,
-        somebody_waits
-            (machine_of c.args.state.now) c.in-Some.id c.in-Some.ensures.id number picked,
+        somebody_waits (machine_of c.args.state.now) c.in-Some.id c.in-Some.ensures.id number picked,
         c.requires.room,
       );
     }
@@ -33,8 +31,7 @@ returns-clause-given c _ =
     → Some number ≡ option_map (λ (s : SeatRecord). s.number) (next_seat x j)) first c.in-Some-pick.ensures.picked in
     let body = subst (λ (x : Machine). IfOk shared (λ body. (j : Job) → next_job x ≡ Some j → body ≡ j.body)) first
     c.in-Some-pick.ensures.share in
-    turn_given (machine_of c.args.state.now) c.in-Some.id c.in-Some.ensures.id number picked shared body c.args.outs.now c.hand_out.new.outs
-    (machine_of c.hand_out.new.state)
+    turn_given _ _ c.in-Some.ensures.id _ picked _ body _ _ _
     (subst (λ (x : Machine). HandsOut x c.in-Some.id number shared c.args.outs.now c.hand_out.new.outs (machine_of c.hand_out.new.state))
     (second ∙ first) c.hand_out.ensures.given)
 
@@ -48,7 +45,6 @@ returns-clause-fewer c _ =
     → Some number ≡ option_map (λ (s : SeatRecord). s.number) (next_seat x j)) first c.in-Some-pick.ensures.picked in
     let body = subst (λ (x : Machine). IfOk shared (λ body. (j : Job) → next_job x ≡ Some j → body ≡ j.body)) first
     c.in-Some-pick.ensures.share in
-    turn_falls (machine_of c.args.state.now) c.in-Some.id c.in-Some.ensures.id number picked shared body c.args.outs.now c.hand_out.new.outs
-    (machine_of c.hand_out.new.state)
+    turn_falls _ _ c.in-Some.ensures.id _ picked _ body _ _ _
     (subst (λ (x : Machine). HandsOut x c.in-Some.id number shared c.args.outs.now c.hand_out.new.outs (machine_of c.hand_out.new.state))
     (second ∙ first) c.hand_out.ensures.given)

@@ -1,14 +1,11 @@
-use Rattle.std.proofs.Common.{◌++◌, ◌+◌, ◌==◌, ◌∙◌, ◌∷◌, ◌≡◌, Some, [], ap, arith, subst, sym}
-use Rattle.bq_job.specs.{declared.job.Job.Job, beside.AreIdsWithin}
-use Rattle.bq_job.specs.declared.answer.Answer.TheVariants as answers
-use Rattle.bq_job.specs.machine.{SeatRecord, job_with, new_job, seat_with, telling, with_put, with_tube, Machine.Machine}
-use Rattle.bq_job.proofs.ListLemmas.{all_at, found_passes}
-use Rattle.bq_jobs.specs.Kept.{Kept, with_added}
-use Rattle.bq_jobs.specs.Searching.{Asks}
-use Rattle.bq_state.specs.{CoreParts.{Held, machine_held, machine_of}, TubeEntries.{HasTubes, has_entry}}
+use Rattle.std.proofs.Common.{Some, [], ap, arith, subst, sym, ◌++◌, ◌+◌, ◌∙◌, ◌∷◌, ◌≡◌}
 use Rattle.bq_core.proofs.{ActLemmas.{after_given, asker_connected, put_done}, AskLemmas.asked_before}
+use Rattle.bq_job.{proofs.ListLemmas.{all_at, found_passes}, specs.{beside.AreIdsWithin, declared.job.Job.Job, machine.SeatRecord}}
+use Rattle.bq_job.specs.machine.{Machine.Machine, job_with, new_job, seat_with, telling, with_put, with_tube}
+use Rattle.bq_jobs.{proofs.Changes.low_below, specs.{Kept.{Kept, with_added}, Searching.Asks}}
+use Rattle.bq_state.specs.{CoreParts.{Held, machine_held, machine_of}, TubeEntries.{HasTubes, has_entry}}
+use Rattle.bq_job.specs.declared.answer.Answer.TheVariants as answers
 use Rattle.bq_core.proofs.job_acts.put.Goals as goal
-use Rattle.bq_jobs.proofs.Changes.{low_below}
 
 pub add-requires-clause-given : goal.add-requires-clause-given
 add-requires-clause-given c =
@@ -22,28 +19,25 @@ add-requires-clause-given c =
 
 pub add-requires-clause-free : goal.add-requires-clause-free
 add-requires-clause-free c =
-    let st = c.args.state.now in
     let made = c.new_job-job.ensures c.in-Some.client.now (sym c.used-tube.ensures) in
-    let id : c.new_job-job.result.id ≡ st.next_id = ap (λ (j : Job). j.id) made in
-    let jobs : (machine_of c.count_put.new.state).jobs ≡ st.jobs.jobs =
+    let id : c.new_job-job.result.id ≡ c.args.state.now.next_id = ap (λ (j : Job). j.id) made in
+    let jobs : (machine_of c.count_put.new.state).jobs ≡ c.args.state.now.jobs.jobs =
     ap (λ (h : Held). h.jobs.jobs) c.count_put.ensures ∙ ap (λ (x : Machine). x.jobs) c.in-Ok-make_room.ensures.after in
-    ap (λ n. job_with n (machine_of c.count_put.new.state).jobs) id
-    ∙ ap (job_with st.next_id) jobs
-    ∙ c.next_is_free.ensures 1 st.next_id st.jobs.jobs st.sound.ids
+    ap (λ n. job_with n (machine_of c.count_put.new.state).jobs) id ∙ ap (job_with c.args.state.now.next_id) jobs
+    ∙ c.next_is_free.ensures 1 c.args.state.now.next_id c.args.state.now.jobs.jobs c.args.state.now.sound.ids
 
 pub add-requires-clause-entry : goal.add-requires-clause-entry
 add-requires-clause-entry c =
-    let st = c.args.state.now in
     let s = c.in-Some.client.now in
-    let found : seat_with c.args.seat st.seats.items ≡ Some s =
+    let found : seat_with c.args.seat c.args.state.now.seats.items ≡ Some s =
     ap (seat_with c.args.seat) (sym c.as_slice.ensures.value) ∙ sym c.in-Some.ensures in
-    let connected = asker_connected c.args.seat st.seats.items s found c.requires.asks in
-    let here = found_passes (λ s. s.number == c.args.seat) st.seats.items s found in
-    let has : HasTubes st.tubes.entries s = all_at (HasTubes st.tubes.entries) st.seats.items s st.sound.entries.of_seats here.1 in
-    let made = c.new_job-job.ensures s (sym c.used-tube.ensures) in
+    let connected = asker_connected c.args.seat c.args.state.now.seats.items s found c.requires.asks in
+    let here = found_passes _ _ _ found in
+    let has : HasTubes c.args.state.now.tubes.entries s = all_at _ _ _ c.args.state.now.sound.entries.of_seats here.1 in
     ap (λ (h : Held). has_entry c.new_job-job.result.tube h.tubes.entries) c.count_put.ensures
     ∙ ap (λ tubes. has_entry c.new_job-job.result.tube tubes.entries) c.in-Ok-make_room.ensures.tubes
-    ∙ ap (λ (j : Job). has_entry j.tube st.tubes.entries) made ∙ has.used connected
+    ∙ ap (λ (j : Job). has_entry j.tube c.args.state.now.tubes.entries) (c.new_job-job.ensures s (sym c.used-tube.ensures)) ∙ has.used
+    connected
 
 pub returns-clause-reply : goal.returns-clause-reply
 returns-clause-reply c s found =

@@ -1,17 +1,12 @@
-use Rattle.std.proofs.{Common.{◌∙◌, ◌≡◌, ap, arith, count_by, take}, lemmas.Grind.common_steps}
+use Rattle.std.proofs.{Common.{ap, arith, count_by, take, ◌∙◌, ◌≡◌}, lemmas.Grind.common_steps}
+use Rattle.bq_core.{proofs.CostLemmas.kicked_changed, specs.Kicking.{all_kicked, jobs_of}}
 use Rattle.bq_job.specs.machine.Machine.{Machine}
 use Rattle.bq_jobs.specs.Kept.{Kept}
 use Rattle.bq_state.specs.{CoreParts.machine_of, JobKinds.is_of}
-use Rattle.bq_state.proofs.PartsLemmas.{compared_numbered, compared_sound}
-use Rattle.bq_core.specs.Kicking.{all_kicked, jobs_of}
-use Rattle.bq_core.proofs.CostLemmas.{kicked_changed}
 use Rattle.bq_core.proofs.kicks.kick_in.Goals as goal
 
 pub invariant_of-state : goal.invariant_of-state
-invariant_of-state c = record {
-  sound = compared_sound c.args.state.now _ c.kind_to_kick-kind.ensures.kept.same;
-  numbered = compared_numbered c.args.state.now _ c.kind_to_kick-kind.ensures.kept.same;
-}
+invariant_of-state c = grind (arith, common_steps)
 
 pub returns-clause-kicked : goal.returns-clause-kicked
 returns-clause-kicked c = grind (arith, common_steps)
@@ -24,12 +19,9 @@ pub returns-clause-changed : goal.returns-clause-changed
 returns-clause-changed c =
     let m = machine_of c.args.state.now in
     let kind = c.kind_to_kick-kind.result in
-    let tube = c.args.tube.now in
     let same : c.kind_to_kick-kind.new.jobs.jobs ≡ m.jobs = ap (λ (k : Kept). k.jobs) c.kind_to_kick-kind.ensures.kept.same in
-    let chosen = take c.args.bound (jobs_of kind tube c.kind_to_kick-kind.new.jobs.jobs) in
+    let chosen = take c.args.bound (jobs_of kind c.args.tube.now c.kind_to_kick-kind.new.jobs.jobs) in
     let made : c.kick_some.new.state.jobs.jobs ≡ all_kicked chosen m.jobs =
     ap (λ (x : Machine). x.jobs) c.kick_some.ensures.kicked ∙ ap (all_kicked chosen) same in
-    let fewer = c.kick_some.ensures.fewer in
-    rw made (kicked_changed kind tube c.kind_to_kick-kind.ensures.out chosen 1 m.next_id c.kick_some.result m.jobs
-    c.args.state.now.sound.ids
-    (omega (arith, ap (count_by (is_of kind tube)) made, ap (count_by (is_of kind tube)) same)))
+    rw made (kicked_changed _ _ c.kind_to_kick-kind.ensures.out _ _ _ _ _ c.args.state.now.sound.ids
+    (omega (arith, ap (count_by (is_of kind c.args.tube.now)) made, ap (count_by (is_of kind c.args.tube.now)) same)))

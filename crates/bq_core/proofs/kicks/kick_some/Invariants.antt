@@ -1,8 +1,8 @@
 -- Kicking `bound` of the first jobs is kicking those of them that are left.
-use Rattle.std.proofs.Common.{◌*◌, ◌+◌, ◌≡◌, ◌≤◌, ℕ, count_by, length, take}
+use Rattle.std.proofs.Common.{count_by, length, take, ℕ, ◌*◌, ◌+◌, ◌≡◌, ◌≤◌}
+use Rattle.bq_core.specs.Kicking.{all_kicked, jobs_of}
 use Rattle.bq_jobs.specs.Searching.{Asks}
 use Rattle.bq_state.specs.{CoreParts.machine_of, JobKinds.is_of}
-use Rattle.bq_core.specs.Kicking.{all_kicked, jobs_of}
 use Rattle.bq_core.proofs.kicks.kick_some.Given as goal
 
 abbrev pub invariant-loop-done : goal.invariant-loop-done

@@ -1,7 +1,7 @@
 use Rattle.std.proofs.Common.{ap, sym}
-use Rattle.bq_job.specs.declared.answer.Answer.TheVariants as answers
 use Rattle.bq_job.specs.machine.{telling}
 use Rattle.bq_state.specs.CoreParts.{machine_of}
+use Rattle.bq_job.specs.declared.answer.Answer.TheVariants as answers
 use Rattle.bq_core.proofs.statistics_acts.stats.Goals as goal
 
 pub returns-in-Ok : goal.returns-in-Ok

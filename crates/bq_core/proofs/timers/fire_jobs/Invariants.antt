@@ -1,8 +1,8 @@
 -- what the turns so far left to fire, and how many searches they made
-use Rattle.std.proofs.Common.{◌*◌, ◌-◌, ◌≡◌, ◌≤◌, count_by}
+use Rattle.std.proofs.Common.{count_by, ◌*◌, ◌-◌, ◌≡◌, ◌≤◌}
+use Rattle.bq_core.specs.FiredTimers.{after_job_timers, is_ripe}
 use Rattle.bq_jobs.specs.Searching.{Asks}
 use Rattle.bq_state.specs.CoreParts.{machine_of}
-use Rattle.bq_core.specs.FiredTimers.{after_job_timers, is_ripe}
 use Rattle.bq_core.proofs.timers.fire_jobs.Given as goal
 
 abbrev pub invariant-loop : goal.invariant-loop

@@ -1,6 +1,6 @@
-use Rattle.std.proofs.{Common.{◌∙◌, ap, arith}, lemmas.Grind.common_steps}
-use Rattle.bq_job.specs.machine.Machine.{Machine}
+use Rattle.std.proofs.{Common.{ap, arith, ◌∙◌}, lemmas.Grind.common_steps}
 use Rattle.bq_core.proofs.AskLemmas.{asks_more, asks_then}
+use Rattle.bq_job.specs.machine.Machine.{Machine}
 use Rattle.bq_core.proofs.timers.fire_one.Goals as goal
 
 pub returns-else-ripen-clause-done : goal.returns-else-ripen-clause-done

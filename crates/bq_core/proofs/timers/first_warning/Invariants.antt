@@ -1,5 +1,5 @@
 -- the earliest moment so far
-use Rattle.std.proofs.Common.{◌≡◌, None, fold, take}
+use Rattle.std.proofs.Common.{None, fold, take, ◌≡◌}
 use Rattle.bq_jobs.specs.Searching.{Asks}
 use Rattle.bq_state.specs.{Dues.with_warning_due, WaitingTurns.at_turn}
 use Rattle.bq_core.proofs.timers.first_warning.Given as goal

@@ -1,9 +1,9 @@
 -- what the turns so far left to do, and how many searches they made
-use Rattle.std.proofs.Common.{◌*◌, ◌-◌, ◌≡◌, ◌≤◌, count_by}
+use Rattle.std.proofs.Common.{count_by, ◌*◌, ◌-◌, ◌≡◌, ◌≤◌}
+use Rattle.bq_core.specs.FiredTimers.{after_giving_back}
 use Rattle.bq_job.specs.machine.{is_held_by}
 use Rattle.bq_jobs.specs.Searching.{Asks}
 use Rattle.bq_state.specs.CoreParts.{machine_of}
-use Rattle.bq_core.specs.FiredTimers.{after_giving_back}
 use Rattle.bq_core.proofs.timers.give_back_all.Given as goal
 
 abbrev pub invariant-loop-becomes : goal.invariant-loop-becomes

@@ -1,9 +1,9 @@
-use Rattle.std.proofs.{Common.{◌∙◌, ◌≡◌, None, ap, arith, flat_map, fold, sym}, lemmas.Grind.common_steps}
-use Rattle.bq_job.specs.declared.job.Job.{Job}
-use Rattle.bq_job.specs.{beside.{dues_of_pause, dues_of_state, dues_of_wait, earliest}, machine.{SeatRecord, TubeRecord}}
+use Rattle.std.proofs.{Common.{None, ap, arith, flat_map, fold, sym, ◌∙◌, ◌≡◌}, lemmas.Grind.common_steps}
+use Rattle.bq_job.specs.{beside.{dues_of_pause, dues_of_state, dues_of_wait, earliest}, declared.job.Job.Job, machine.SeatRecord}
+use Rattle.bq_job.specs.machine.{TubeRecord}
 use Rattle.bq_jobs.specs.Kept.{Kept}
-use Rattle.bq_state.specs.{CoreParts.{Held, machine_of}, Dues.{earlier_of_both, with_seat_due, with_warning_due}, TubeEntries.counted}
-use Rattle.bq_state.proofs.{DueLemmas.{all_due, earliest_of_all, jobs_due_is, pauses_counted}}
+use Rattle.bq_state.{proofs.DueLemmas.{all_due, earliest_of_all, jobs_due_is, pauses_counted}, specs.CoreParts.{Held, machine_of}}
+use Rattle.bq_state.specs.{Dues.{earlier_of_both, with_seat_due, with_warning_due}, TubeEntries.counted}
 use Rattle.bq_core.proofs.timers.next_due.Goals as goal
 
 pub warnings_due-warning-requires-clause-warned : goal.warnings_due-warning-requires-clause-warned
@@ -34,10 +34,4 @@ pub returns-clause-same : goal.returns-clause-same
 returns-clause-same c = grind (arith, common_steps)
 
 pub invariant_of-state : goal.invariant_of-state
-invariant_of-state c =
-    grind (
-      arith,
-      common_steps,
-      c.jobs_due-jobs.ensures.kept.same,
-      c.warnings_due-warning.ensures.kept.same,
-    )
+invariant_of-state c = grind (arith, common_steps, c.jobs_due-jobs.ensures.kept.same, c.warnings_due-warning.ensures.kept.same)

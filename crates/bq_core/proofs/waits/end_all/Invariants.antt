@@ -1,9 +1,9 @@
 -- what the checks so far gave, and how many searches they made
 use Rattle.std.proofs.Common.{◌-◌, ◌≤◌}
+use Rattle.bq_core.specs.Turns.{Gives, HasRoom, none_refused}
 use Rattle.bq_job.specs.{beside.waiting_count, machine.WaitEndTurn}
 use Rattle.bq_jobs.specs.Searching.{Asks}
 use Rattle.bq_state.specs.{CoreParts.machine_of, EndingWaits.{AreLookedAt, left_after}}
-use Rattle.bq_core.specs.Turns.{Gives, HasRoom, none_refused}
 use Rattle.bq_core.proofs.waits.end_all.Given as goal
 
 abbrev pub invariant-loop-last : goal.invariant-loop-last

@@ -1,8 +1,6 @@
-use Rattle.std.proofs.{Common.{◌∙◌, ◌≡◌, ap, arith, false, sym}, lemmas.Grind.common_steps}
-use Rattle.std.specs.List.{list_any}
-use Rattle.bq_state.specs.{CoreParts.{Held, machine_of}, EndingWaits.is_lease_short}
-use Rattle.bq_state.proofs.PartsLemmas.{compared_numbered, compared_sound}
+use Rattle.std.{proofs.{Common.{ap, arith, false, sym, ◌∙◌, ◌≡◌}, lemmas.Grind.common_steps}, specs.List.list_any}
 use Rattle.bq_core.proofs.FiredTimerLemmas.{nobody_ends, none_ends}
+use Rattle.bq_state.specs.{CoreParts.{Held, machine_of}, EndingWaits.is_lease_short}
 use Rattle.bq_core.proofs.waits.may_end.Goals as goal
 
 pub returns-then-not-has_waiter-clause-none : goal.returns-then-not-has_waiter-clause-none
@@ -20,7 +18,4 @@ pub returns-clause-same : goal.returns-clause-same
 returns-clause-same c = grind (arith, common_steps)
 
 pub invariant_of-state : goal.invariant_of-state
-invariant_of-state c = record {
-  sound = compared_sound c.is_some_wait_over.new.state _ c.is_some_deadline_soon.ensures.kept.same;
-  numbered = compared_numbered c.is_some_wait_over.new.state _ c.is_some_deadline_soon.ensures.kept.same;
-}
+invariant_of-state c = grind (arith, common_steps)

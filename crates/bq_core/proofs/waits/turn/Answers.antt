@@ -5,58 +5,45 @@ use Rattle.bq_core.proofs.waits.turn.Goals as goal
 
 pub returns-in_default-clause-done : goal.returns-in_default-clause-done
 returns-in_default-clause-done c _ =
-    let st = c.args.state.now in
-    let last = c.args.last.now in
-    let none = c.in_default.ensures.least in
-    (none_left (machine_of st) last c.requires.looked none, refl, refl)
+    (none_left (machine_of c.args.state.now) c.args.last.now c.requires.looked c.in_default.ensures.least, refl, refl)
 
 pub look_at-requires-clause-seat : goal.look_at-requires-clause-seat
 look_at-requires-clause-seat c = c.in-Some.ensures.bound
 
 pub look_at-requires-clause-room : goal.look_at-requires-clause-room
 look_at-requires-clause-room c =
-    let st = c.args.state.now in
-    let last = c.args.last.now in
     let k = c.in-Some.k in
     let there = c.in-Some.ensures.bound in
     let found = c.in-Some.ensures.least in
-    let waits = one_waits st last c.requires.looked k there found in
+    let waits = one_waits c.args.state.now c.args.last.now c.requires.looked k there found in
     omega (arith, waits, c.requires.room)
 
 pub returns-clause-given : goal.returns-clause-given
 returns-clause-given c _ =
-    let st = c.args.state.now in
-    let last = c.args.last.now in
     let k = c.in-Some.k in
     let there = c.in-Some.ensures.bound in
     let found = c.in-Some.ensures.least in
-    look_given st last c.requires.looked k there found
+    look_given c.args.state.now c.args.last.now c.requires.looked k there found
     c.args.outs.now c.look_at.new.outs (machine_of c.look_at.new.state) c.look_at.ensures.looked
 
 pub returns-clause-looked : goal.returns-clause-looked
 returns-clause-looked c _ =
-    let st = c.args.state.now in
-    let last = c.args.last.now in
     let k = c.in-Some.k in
     let there = c.in-Some.ensures.bound in
     let found = c.in-Some.ensures.least in
-    let read = same_read st.seats.items k (s st last c.requires.looked k there found) c.index.result.now there c.index.ensures
-    (here st last c.requires.looked k there found) in
-    let is : turn_of (s st last c.requires.looked k there found) ≡ c.turn.result = sym (c.turn.ensures ∙ ap turn_of read) in
+    let read = same_read _ _ _ _ there c.index.ensures (here _ _ c.requires.looked _ _ found) in
+    let is : turn_of (s _ _ c.requires.looked _ _ found) ≡ c.turn.result = sym (c.turn.ensures ∙ ap turn_of read) in
     subst (λ (t : ℕ × ℕ). AreLookedAt (machine_of c.look_at.new.state) (Some t)) is
-    (look_passed st last c.requires.looked k there found
+    (look_passed c.args.state.now c.args.last.now c.requires.looked k there found
     c.args.outs.now c.look_at.new.outs (machine_of c.look_at.new.state) c.look_at.ensures.looked)
 
 pub returns-clause-fewer : goal.returns-clause-fewer
 returns-clause-fewer c _ =
-    let st = c.args.state.now in
-    let last = c.args.last.now in
     let k = c.in-Some.k in
     let there = c.in-Some.ensures.bound in
     let found = c.in-Some.ensures.least in
-    let read = same_read st.seats.items k (s st last c.requires.looked k there found) c.index.result.now there c.index.ensures
-    (here st last c.requires.looked k there found) in
-    let is : turn_of (s st last c.requires.looked k there found) ≡ c.turn.result = sym (c.turn.ensures ∙ ap turn_of read) in
-    subst (λ (t : ℕ × ℕ). left_after (Some t) (machine_of c.look_at.new.state) < left_after last (machine_of st)) is
-    (look_falls st last c.requires.looked k there found
+    let read = same_read _ _ _ _ there c.index.ensures (here _ _ c.requires.looked _ _ found) in
+    let is : turn_of (s _ _ c.requires.looked _ _ found) ≡ c.turn.result = sym (c.turn.ensures ∙ ap turn_of read) in
+    subst (λ (t : ℕ × ℕ). left_after (Some t) (machine_of c.look_at.new.state) < left_after c.args.last.now (machine_of c.args.state.now))
+    is (look_falls c.args.state.now c.args.last.now c.requires.looked k there found
     c.args.outs.now c.look_at.new.outs (machine_of c.look_at.new.state) c.look_at.ensures.looked)

@@ -1,14 +1,10 @@
-use Rattle.std.proofs.Common.{◌^◌, ◌∙◌, ap, is_some, subst, sym}
-use Rattle.std.specs.Map.{lookup}
+use Rattle.std.proofs.{Common.{ap, arith, subst, sym, ◌^◌, ◌∙◌}, lemmas.Grind.common_steps}
 use Rattle.bq_job.specs.{beside.AreIdsWithin, machine.with_put}
-use Rattle.bq_jobs.specs.Kept.{with_added}
-use Rattle.bq_state.specs.declared.tubes.entry.TubeChange.TheVariants.{CountPut}
-use Rattle.bq_state.specs.{CoreParts.machine_of, KeptTubes.{KeptTubes, is_named_at}, Knowledge.with_job}
-use Rattle.bq_state.specs.TubeEntries.{counted, has_entry, tube_changed_at}
-use Rattle.bq_state.proofs.{KnowledgeLemmas.{so_with_job, with_count}, TubeLemmas.{record_changed, same_entries}}
-use Rattle.bq_state.proofs.PartsLemmas.{entries_of_added, few_jobs, name_kept_at, tube_counts, tube_name_kept}
+use Rattle.bq_jobs.{proofs.Changes.added_within, specs.Kept.with_added}
+use Rattle.bq_state.proofs.{KnowledgeLemmas.{so_with_job, with_count}, PartsLemmas.{entries_of_added, few_jobs, name_kept_at, tube_counts}}
+use Rattle.bq_state.{proofs.{PartsLemmas.tube_name_kept, TubeLemmas.{record_changed, same_entries}}, specs.CoreParts.machine_of}
+use Rattle.bq_state.specs.{Knowledge.with_job, TubeEntries.{counted, tube_changed_at}, declared.tubes.entry.TubeChange.TheVariants.CountPut}
 use Rattle.bq_state.proofs.changes.add.Goals as goal
-use Rattle.bq_jobs.proofs.Changes.{added_within}
 
 pub invariant_of-state : goal.invariant_of-state
 invariant_of-state c =
@@ -29,12 +25,7 @@ invariant_of-state c =
     }
 
 pub add-requires-clause-known : goal.add-requires-clause-known
-add-requires-clause-known c =
-    let st = c.args.state.now in
-    let name = c.args.job.tube in
-    let there = same_entries (tube_changed_at name CountPut) (name_kept_at name CountPut) name st.tubes.entries ∙ c.requires.entry in
-    ap (λ ns. is_some (lookup (is_named_at name) ns)) (st.numbered ∙ ap (λ (k : KeptTubes). k.numbers) (sym c.add_job-2.ensures))
-    ∙ c.names.ensures.known name ∙ ap (λ (k : KeptTubes). has_entry name k.entries) c.add_job-2.ensures ∙ there
+add-requires-clause-known c = grind (arith, common_steps, same_entries, name_kept_at)
 
 pub returns-clause-after : goal.returns-clause-after
 returns-clause-after c =
@@ -42,6 +33,5 @@ returns-clause-after c =
     let m = machine_of st in
     let j = c.args.job in
     (λ i. record m { tubes = counted (c.add_job-2.ensures i).entries; jobs = c.add.ensures.jobs i })
-    ∙ ap (λ tubes. record m { tubes = tubes; jobs = with_added j m.jobs })
-    (sym (record_changed j.tube with_put (tube_counts CountPut)
+    ∙ ap (λ tubes. record m { tubes = tubes; jobs = with_added j m.jobs }) (sym (record_changed j.tube with_put (tube_counts CountPut)
     (tube_name_kept CountPut) st.tubes.entries st.sound.entries.order st.sound.entries.fresh c.requires.entry))

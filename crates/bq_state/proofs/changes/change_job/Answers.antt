@@ -1,11 +1,9 @@
-use Rattle.std.proofs.{Common.{◌&&◌, ◌==◌, ◌∙◌, if◌then◌else◌, ap, arith, sym}, lemmas.Grind.common_steps}
-use Rattle.bq_job.specs.machine.{is_ready_state, job_with}
-use Rattle.bq_job.proofs.KeptLemmas.{ids_of_map}
-use Rattle.bq_jobs.specs.Changed.{moved_by}
-use Rattle.bq_jobs.proofs.Told.{nothing_told_of, told_of}
-use Rattle.bq_state.specs.{JobChanges.changed, Warnings.has_waiting_holder}
-use Rattle.bq_state.proofs.{CrowdPlaces.waiters_counted, KnowledgeLemmas.so_with_moved, PartsLemmas.{few_jobs, id_kept, no_job_changed}}
-use Rattle.bq_state.proofs.MovedLemmas.{entries_of_changed, one_id, one_tube, tube_ignored, tube_kept}
+use Rattle.std.proofs.{Common.{ap, arith, if◌then◌else◌, sym, ◌&&◌, ◌==◌, ◌∙◌}, lemmas.Grind.common_steps}
+use Rattle.bq_job.{proofs.KeptLemmas.ids_of_map, specs.machine.{is_ready_state, job_with}}
+use Rattle.bq_jobs.{proofs.Told.{nothing_told_of, told_of}, specs.Changed.moved_by}
+use Rattle.bq_state.proofs.{CrowdPlaces.waiters_counted, KnowledgeLemmas.so_with_moved, MovedLemmas.{entries_of_changed, one_id, one_tube}}
+use Rattle.bq_state.{proofs.{MovedLemmas.tube_kept, PartsLemmas.{few_jobs, id_kept, no_job_changed}}, specs.JobChanges.changed}
+use Rattle.bq_state.specs.Warnings.{has_waiting_holder}
 use Rattle.bq_state.proofs.changes.change_job.Goals as goal
 
 pub invariant_of-state : goal.invariant_of-state
@@ -21,8 +19,7 @@ invariant_of-state-2 c =
     let m = c.in-Some.moved in
     let of = told_of (moved_by f) (job_with id st.jobs.jobs) m (sym c.in-Some.ensures.moved) in
     let fits = few_jobs st.next_id st.jobs.jobs was.ids c.in-Some.ensures.ordered in
-    let is_wanted = c.counts_waiter_of-is_wanted.ensures
-    ∙ ap (λ b. is_ready_state m.to.state && b)
+    let is_wanted = c.counts_waiter_of-is_wanted.ensures ∙ ap (λ b. is_ready_state m.to.state && b)
     (waiters_counted m.tube st.known.clients st.tubes.crowds st.seats.items st.tubes.entries was.entries.of_seats was.known.crowds
     was.known.clients) in
     let waits = c.holder_waits-waits.ensures ∙ ap (has_waiting_holder m.to.state) c.as_slice.ensures.value in
@@ -35,6 +32,3 @@ invariant_of-state-2 c =
       sound = rw (c.move_job.ensures, c.move_job-2.ensures, c.in-Some.ensures.jobs) assumption;
       numbered = rw (c.move_job-2.ensures, c.in-Some.ensures.tubes) st.numbered;
     }
-
-pub change-requires-clause-tube : goal.change-requires-clause-tube
-change-requires-clause-tube c = tube_ignored c.args.what.now

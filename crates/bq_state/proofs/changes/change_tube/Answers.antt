@@ -1,7 +1,6 @@
-use Rattle.std.proofs.{Common.{◌∙◌, ap, arith}, lemmas.Grind.common_steps}
-use Rattle.bq_state.specs.{KeptTubes.KeptTubes, Knowledge.with_tube_changed, TubeEntries.tube_changed_at}
-use Rattle.bq_state.proofs.{KnowledgeLemmas.so_with_tube, PartsLemmas.{entries_of_tube, name_kept_at, tube_counts, tube_name_kept}}
-use Rattle.bq_state.proofs.TubeLemmas.{record_changed}
+use Rattle.std.proofs.{Common.{ap, arith, ◌∙◌}, lemmas.Grind.common_steps}
+use Rattle.bq_state.proofs.{KnowledgeLemmas.so_with_tube, PartsLemmas.{entries_of_tube, tube_counts, tube_name_kept}}
+use Rattle.bq_state.{proofs.TubeLemmas.record_changed, specs.{KeptTubes.KeptTubes, Knowledge.with_tube_changed}}
 use Rattle.bq_state.proofs.changes.change_tube.Goals as goal
 
 pub returns-clause-after : goal.returns-clause-after

@@ -1,8 +1,6 @@
-use Rattle.std.proofs.{Common.{◌∙◌, ap, arith, refl}, lemmas.Grind.common_steps}
-use Rattle.bq_job.specs.machine.{tube_after_timers}
-use Rattle.bq_state.specs.{Dues.first_pause_end, KeptTubes.KeptTubes}
-use Rattle.bq_state.proofs.{KnowledgeLemmas.so_with_pauses, PartsLemmas.entries_of_timers}
-use Rattle.bq_state.proofs.{PauseLemmas.{no_pause_ends, none_counted, none_over}, TubeLemmas.filter_of_map}
+use Rattle.std.proofs.{Common.{ap, arith, ◌∙◌}, lemmas.Grind.common_steps}
+use Rattle.bq_state.proofs.{KnowledgeLemmas.so_with_pauses, PartsLemmas.entries_of_timers, PauseLemmas.{no_pause_ends, none_counted}}
+use Rattle.bq_state.{proofs.{PauseLemmas.none_over, TubeLemmas.filter_of_map}, specs.{Dues.first_pause_end, KeptTubes.KeptTubes}}
 use Rattle.bq_state.proofs.changes.end_pauses.Goals as goal
 
 pub returns-clause-after : goal.returns-clause-after
@@ -16,8 +14,7 @@ invariant_of-state c =
     let known = so_with_pauses s in
     record {
       sound = rw (
-        c.first_pause_end-state.ensures
-            ∙ ap (λ (k : KeptTubes). first_pause_end k.entries) c.fire_timers.ensures,
+        c.first_pause_end-state.ensures ∙ ap (λ (k : KeptTubes). first_pause_end k.entries) c.fire_timers.ensures,
         c.fire_timers.ensures,
       ) assumption;
       numbered = rw c.fire_timers.ensures s.numbered;

@@ -1,7 +1,7 @@
-use Rattle.std.proofs.Common.{◌∙◌, ◌≡◌, ap, arith, filter, subst, sym}
+use Rattle.std.proofs.Common.{ap, arith, filter, subst, sym, ◌∙◌, ◌≡◌}
 use Rattle.bq_jobs.specs.Kept.{Kept}
-use Rattle.bq_state.specs.{CoreParts.machine_of, Soundness.Soundness, TubeEntries.{counted, is_counted, is_tube_of}}
 use Rattle.bq_state.proofs.{KnowledgeLemmas.so_forgotten, PartsLemmas.entries_forgotten, TubeLemmas.filters_swap}
+use Rattle.bq_state.specs.{CoreParts.machine_of, Soundness.Soundness, TubeEntries.{counted, is_counted, is_tube_of}}
 use Rattle.bq_state.proofs.changes.forget_tubes.Goals as goal
 
 pub returns-clause-after : goal.returns-clause-after
@@ -22,17 +22,14 @@ invariant_of-state c =
     c.forget_gone.ensures.after s.jobs.jobs s.seats.items was.entries.order was.known.alive was.known.counts.each was.known.crowds.each in
     let same = ap (λ (k : Kept). k.jobs) c.forget_gone.ensures.jobs in
     record {
-      sound =
-          subst (λ jobs. Soundness jobs s.seats.items c.forget_gone.new.self s.waiting c.forget_tubes.new.self s.next_id s.draining)
-          (sym same)
-          (record {
-            entries = rw left (entries_forgotten s.jobs.jobs s.seats.items s.tubes.entries was.entries);
+      sound = subst (λ jobs. Soundness jobs s.seats.items c.forget_gone.new.self s.waiting c.forget_tubes.new.self s.next_id s.draining)
+          (sym same) (record {
+            entries = rw left (entries_forgotten _ _ _ was.entries);
             numbered = was.numbered;
             next = was.next;
             ids = was.ids;
             waiting = was.waiting;
-            known =
-                rw c.forget_tubes.ensures
+            known = rw c.forget_tubes.ensures
                 (so_forgotten s c.forget_gone.new.self c.len-entries.result (omega (arith, c.len-entries.ensures)) left
                 (c.forget_gone.ensures.kept s.jobs.jobs s.seats.items was.known.counts.each was.known.crowds.each));
           });

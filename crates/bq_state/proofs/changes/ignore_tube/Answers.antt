@@ -1,10 +1,10 @@
-use Rattle.std.proofs.{Common.{◌∙◌, ◌≡◌, ◌≤◌, List, ℕ, ap, arith, filter, get_or, length, not, refl, sym}, lemmas.Grind.common_steps}
+use Rattle.std.proofs.{Common.{List, ap, arith, filter, get_or, length, not, refl, sym, ℕ, ◌∙◌, ◌≡◌, ◌≤◌}, lemmas.Grind.common_steps}
 use Rattle.std.proofs.lemmas.Option.{slice_get_read, slice_get_within}
-use Rattle.bq_job.specs.{machine.{greatest, watching}, reading.TubeName.is_same_name}
+use Rattle.bq_job.specs.{machine.greatest, reading.TubeName.is_same_name}
+use Rattle.bq_state.proofs.{KnowledgeLemmas.so_ignoring, PartsLemmas.{changed_there, seat_read, seat_there, watching_fewer}}
+use Rattle.bq_state.{proofs.{PartsLemmas.watching_numbered, WaitingLemmas.in_turn_watching}, specs.CoreParts.machine_of}
+use Rattle.bq_state.specs.{Counting.with_crowds_at, Crowds.recounted, KeptTubes.KeptTubes, TubeEntries.counted}
 use Rattle.bq_state.specs.declared.tubes.entry.Moving.TheVariants.{Goes}
-use Rattle.bq_state.specs.{CoreParts.machine_of, Counting.with_crowds_at, Crowds.recounted, KeptTubes.KeptTubes, TubeEntries.counted}
-use Rattle.bq_state.proofs.{KnowledgeLemmas.so_ignoring, WaitingLemmas.in_turn_watching}
-use Rattle.bq_state.proofs.PartsLemmas.{changed_there, seat_read, seat_there, watching_fewer, watching_numbered}
 use Rattle.bq_state.proofs.changes.ignore_tube.Goals as goal
 
 pub ignore-requires-clause-other : goal.ignore-requires-clause-other
@@ -12,14 +12,10 @@ ignore-requires-clause-other c s there = grind (arith, common_steps, seat_read)
 
 pub returns-then-from-len-clause-after : goal.returns-then-from-len-clause-after
 returns-then-from-len-clause-after c s found =
-    let old = c.args.state.now in
-    let there = seat_there old.seats.items c.args.seat s c.args.state.now.sound.numbered found in
-    let names = filter (λ other. not (is_same_name c.args.tube.now other)) s.watched in
-    ap (λ entries. record (machine_of old) { seats = c.ignore.new.seats.items; tubes = counted entries })
-    (ap (λ (k : KeptTubes). k.entries) c.recount.ensures)
-    ∙ ap (λ seats. record (machine_of old) { seats = seats })
-    (c.ignore.ensures.ignored s there ∙ sym (changed_there old.seats.items c.args.seat s
-    (watching names) c.args.state.now.sound.numbered there))
+    let there = seat_there _ _ _ c.args.state.now.sound.numbered found in
+    ap (λ entries. record (machine_of c.args.state.now) { seats = c.ignore.new.seats.items; tubes = counted entries })
+    (ap (λ (k : KeptTubes). k.entries) c.recount.ensures) ∙ ap (λ seats. record (machine_of c.args.state.now) { seats = seats })
+    (c.ignore.ensures.ignored s there ∙ sym (changed_there _ _ _ _ c.args.state.now.sound.numbered there))
 
 pub invariant_of-state : goal.invariant_of-state
 invariant_of-state c =
@@ -43,8 +39,7 @@ pub returns-else-from-len-clause-after : goal.returns-else-from-len-clause-after
 returns-else-from-len-clause-after c s found = grind (arith, common_steps, slice_get_within, seat_there)
 
 pub returns-then-from-len-clause-count : goal.returns-then-from-len-clause-count
-returns-then-from-len-clause-count c s found =
-    c.ignore.ensures.count s (seat_there c.args.state.now.seats.items c.args.seat s c.args.state.now.sound.numbered found)
+returns-then-from-len-clause-count c s found = c.ignore.ensures.count s (seat_there _ _ _ c.args.state.now.sound.numbered found)
 
 pub returns-else-from-len-clause-count : goal.returns-else-from-len-clause-count
 returns-else-from-len-clause-count c s found = grind (arith, common_steps, slice_get_within, seat_there)

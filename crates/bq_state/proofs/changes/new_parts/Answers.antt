@@ -4,6 +4,6 @@ use Rattle.bq_state.proofs.changes.new_parts.Goals as goal
 pub invariant_of-result : goal.invariant_of-result
 invariant_of-result c = record {
   sound = rw (c.requires.first, c.requires.none, c.requires.free, c.nothing.ensures)
-      (sound_at_first c.args.config.seats c.args.jobs.tubes c.args.waiting c.requires.nobody c.requires.room);
+      (sound_at_first _ _ _ c.requires.nobody c.requires.room);
   numbered = c.requires.numbered;
 }

@@ -1,7 +1,7 @@
-use Rattle.std.proofs.Common.{◌∙◌, ◌≡◌, ap, false, is_some, sym}
+use Rattle.std.proofs.{Common.{ap, arith, false, is_some, sym, ◌∙◌, ◌≡◌}, lemmas.Grind.common_steps}
 use Rattle.bq_jobs.specs.Kept.{Kept}
-use Rattle.bq_state.specs.{CoreParts.machine_of, KeptTubes.KeptTubes, TubeEntries.{counted, has_entry}}
 use Rattle.bq_state.proofs.{KnowledgeLemmas.so_provided, PartsLemmas.{counted_provided, entries_provided, has_provided}}
+use Rattle.bq_state.specs.TubeEntries.{has_entry}
 use Rattle.bq_state.proofs.changes.provide_tube.Goals as goal
 
 pub invariant_of-state-2 : goal.invariant_of-state-2
@@ -19,13 +19,7 @@ invariant_of-state-2 c =
     }
 
 pub returns-clause-after : goal.returns-clause-after
-returns-clause-after c =
-    let st = c.args.state.now in
-    let m = machine_of st in
-    ap (λ (k : Kept). record m { jobs = k.jobs; tubes = counted c.provide.new.self.entries }) c.learn.ensures
-    ∙ ap (λ tubes. record m { tubes = tubes })
-    (ap (λ (k : KeptTubes). counted k.entries) c.in_ok-number.ensures.after ∙ counted_provided c.args.tube.now st.tubes.entries)
+returns-clause-after c = grind (arith, common_steps, counted_provided)
 
 pub returns-clause-entry : goal.returns-clause-entry
-returns-clause-entry c = ap (λ (k : KeptTubes). has_entry c.args.tube.now k.entries) c.in_ok-number.ensures.after
-    ∙ has_provided c.args.tube.now c.args.state.now.tubes.entries
+returns-clause-entry c = grind (arith, common_steps, has_provided)

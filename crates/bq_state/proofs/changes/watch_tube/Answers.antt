@@ -1,11 +1,10 @@
-use Rattle.std.proofs.{Common.{◌++◌, ◌∙◌, ◌∷◌, ◌≡◌, ◌≤◌, if◌then◌else◌, Some, [], ap}, lemmas.Option.{slice_get_read, slice_get_within}}
-use Rattle.std.proofs.{Common.{arith, false, get_or, length, refl, set, slice_get, sym}, lemmas.Grind.common_steps}
-use Rattle.bq_job.specs.machine.{greatest, is_waiting, seat_with, watching, Machine.Machine}
+use Rattle.std.proofs.Common.{Some, [], ap, arith, get_or, if◌then◌else◌, length, refl, set, slice_get, sym, ◌++◌, ◌∙◌, ◌∷◌, ◌≡◌, ◌≤◌}
+use Rattle.std.proofs.lemmas.{Grind.common_steps, Option.{slice_get_read, slice_get_within}}
+use Rattle.bq_job.specs.machine.{Machine.Machine, greatest, seat_with, watching}
+use Rattle.bq_state.proofs.{KnowledgeLemmas.so_watching, PartsLemmas.{changed_there, seat_read, seat_there, watching_more}}
+use Rattle.bq_state.{proofs.{PartsLemmas.watching_numbered, WaitingLemmas.in_turn_watching}, specs.CoreParts.machine_of}
+use Rattle.bq_state.specs.{Counting.with_crowds_at, Crowds.recounted, KeptTubes.KeptTubes, TubeEntries.counted, WantedJobs.with_all_wanted}
 use Rattle.bq_state.specs.declared.tubes.entry.{Moving.TheVariants.Comes, Share.Share}
-use Rattle.bq_state.specs.{CoreParts.machine_of, Counting.with_crowds_at, Crowds.recounted}
-use Rattle.bq_state.specs.{KeptTubes.KeptTubes, WantedJobs.with_all_wanted, TubeEntries.counted}
-use Rattle.bq_state.proofs.{KnowledgeLemmas.so_watching, WaitingLemmas.in_turn_watching}
-use Rattle.bq_state.proofs.PartsLemmas.{changed_there, seat_read, seat_there, watching_more, watching_numbered}
 use Rattle.bq_state.proofs.changes.watch_tube.Goals as goal
 
 pub returns-then-from-len-clause-count : goal.returns-then-from-len-clause-count
@@ -16,44 +15,47 @@ returns-then-from-len-clause-watched c s found = grind (arith, common_steps, sli
 
 pub returns-in-Ok-clause-count : goal.returns-in-Ok-clause-count
 returns-in-Ok-clause-count c s found =
-    let here = seat_there c.args.state.now.seats.items c.args.seat s c.args.state.now.sound.numbered found in
-    c.in-Ok.ensures.count s (ap (λ v. slice_get v.items c.args.seat) c.in_ok-number.ensures.seats ∙ here)
-    ∙ ap (λ name. length (s.watched ++ name ∷ [])) c.new-watched.ensures
+    grind (
+      arith,
+      common_steps,
+      seat_there,
+      c.args.state.now.seats.items,
+      c.args.seat,
+      c.args.state.now.sound.numbered,
+      c.in-Ok.ensures.count,
+      c.in_ok-number.ensures.seats,
+      c.new-watched.ensures,
+    )
 
 pub returns-in-Ok-clause-watched : goal.returns-in-Ok-clause-watched
 returns-in-Ok-clause-watched c s found =
-    let old = c.args.state.now in
     let p = c.in_ok-number.ensures in
-    let here = seat_there old.seats.items c.args.seat s c.args.state.now.sound.numbered found in
+    let here = seat_there _ _ _ c.args.state.now.sound.numbered found in
     let there : slice_get c.provide_tube.new.state.seats.items c.args.seat ≡ Some s =
     ap (λ v. slice_get v.items c.args.seat) p.seats ∙ here in
     ap (λ entries. record (machine_of c.provide_tube.new.state) { seats = c.watch.new.seats.items; tubes = counted entries })
-    (ap (λ (k : KeptTubes). k.entries) c.recount.ensures)
-    ∙ ap (λ (m : Machine). record m { seats = c.watch.new.seats.items }) p.after
-    ∙ ap (λ seats. record (machine_of old) { seats = seats })
-    (c.in-Ok.ensures.watched s there
+    (ap (λ (k : KeptTubes). k.entries) c.recount.ensures) ∙ ap (λ (m : Machine). record m { seats = c.watch.new.seats.items }) p.after
+    ∙ ap (λ seats. record (machine_of c.args.state.now) { seats = seats }) (c.in-Ok.ensures.watched s there
     ∙ ap (λ name. set c.provide_tube.new.state.seats.items c.args.seat (watching (s.watched ++ name ∷ []) s)) c.new-watched.ensures
     ∙ ap (λ v. set v.items c.args.seat (watching (s.watched ++ c.args.tube.now ∷ []) s)) p.seats
-    ∙ sym (changed_there old.seats.items c.args.seat s (watching (s.watched ++ c.args.tube.now ∷ [])) c.args.state.now.sound.numbered here))
-
-pub returns-then-from-len-clause-wanted : goal.returns-then-from-len-clause-wanted
-returns-then-from-len-clause-wanted c s found rests = c.in_ok-number.ensures.wanted
+    ∙ sym (changed_there _ _ _ _ c.args.state.now.sound.numbered here))
 
 pub returns-in-Ok-clause-wanted : goal.returns-in-Ok-clause-wanted
 returns-in-Ok-clause-wanted c s found rests =
-    let old = c.args.state.now in
-    let mid = c.provide_tube.new.state in
-    let n = c.args.seat in
-    let t = c.index.result.now in
-    let read : t ≡ get_or mid.seats.items n t = c.index.ensures ∙ ap (λ k. get_or mid.seats.items k t) c.from-2.ensures in
-    let here = slice_get_read mid.seats.items (length mid.seats.items) n t refl (omega arith) read in
-    let there : slice_get mid.seats.items n ≡ Some s =
-    ap (λ v. slice_get v.items n) c.in_ok-number.ensures.seats ∙ seat_there old.seats.items n s old.sound.numbered found in
-    let same : t ≡ s = (cc) in
-    let none : c.of_watcher-share.result.waiting ≡ false =
-    ap (λ (share : Share). share.waiting) c.of_watcher-share.ensures ∙ ap is_waiting same ∙ rests in
-    c.add_all_if.ensures ∙ ap (λ b. if b then with_all_wanted mid.known.wanted else mid.known.wanted) none
-    ∙ c.in_ok-number.ensures.wanted
+    grind (
+      arith,
+      common_steps,
+      slice_get_read,
+      seat_there,
+      c.args.state.now,
+      c.provide_tube.new.state,
+      c.args.seat,
+      c.index.result.now,
+      c.index.ensures,
+      c.from-2.ensures,
+      c.in_ok-number.ensures.seats,
+      c.of_watcher-share.result.waiting,
+    )
 
 pub invariant_of-state : goal.invariant_of-state
 invariant_of-state c =

@@ -1,5 +1,5 @@
 -- the names so far, with those that are left, and room for these
-use Rattle.std.proofs.Common.{◌≡◌, ◌≤◌, drop, fold, length, vec_capacity, vec_len}
+use Rattle.std.proofs.Common.{drop, fold, length, vec_capacity, vec_len, ◌≡◌, ◌≤◌}
 use Rattle.bq_job.specs.machine.{in_name_order, with_name}
 use Rattle.bq_state.specs.Names.{names_of}
 use Rattle.bq_state.proofs.name_lists.in_order.Given as goal

@@ -1,5 +1,4 @@
 use Rattle.std.proofs.{Common.{arith, sym}, lemmas.{Grind.common_steps, Option.slice_get_read}}
-use Rattle.bq_state.specs.SeatChanges.{seat_changed}
 use Rattle.bq_state.proofs.{PartsLemmas.changed_there, SeatPlaces.none_there}
 use Rattle.bq_state.proofs.seats.change_at.Goals as goal
 
@@ -9,4 +8,4 @@ returns-in-Some c = grind (arith, common_steps, slice_get_read, changed_there)
 pub returns-in_default : goal.returns-in_default
 returns-in_default c =
     let past = c.in_default.ensures.item.3 in
-    sym (none_there c.args.seats.now.items c.args.number (seat_changed c.args.what.now) c.requires (let k = c.from.ensures in omega arith))
+    sym (none_there _ _ _ c.requires (let k = c.from.ensures in omega arith))

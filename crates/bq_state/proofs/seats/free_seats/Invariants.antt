@@ -1,5 +1,5 @@
 -- the seats so far, and room for all of them
-use Rattle.std.proofs.Common.{◌≡◌, ◌≤◌, map, vec_capacity, vec_len}
+use Rattle.std.proofs.Common.{map, vec_capacity, vec_len, ◌≡◌, ◌≤◌}
 use Rattle.bq_job.specs.machine.{empty_seat, numbers}
 use Rattle.bq_state.proofs.seats.free_seats.Given as goal
 

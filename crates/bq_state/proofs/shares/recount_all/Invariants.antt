@@ -1,5 +1,5 @@
 -- the tubes of the names so far
-use Rattle.std.proofs.Common.{◌≡◌, take}
+use Rattle.std.proofs.Common.{take, ◌≡◌}
 use Rattle.bq_state.specs.{Counting.with_crowds_at_all, Crowds.recounted}
 use Rattle.bq_state.proofs.shares.recount_all.Given as goal
 

@@ -8,5 +8,4 @@ returns-clause-kept c = filter_same _ (λ other. not (is_same_name c.args.name.n
     (λ x b f h. search rules) _ _ c.retain.ensures.filtered
 
 pub returns-clause-some : goal.returns-clause-some
-returns-clause-some c = rw (returns-clause-kept c)
-    (some_left (λ other. not (is_same_name c.args.name.now other)) c.args.tubes.now.items c.requires.other)
+returns-clause-some c = rw (returns-clause-kept c) (some_left (λ other. not (is_same_name c.args.name.now other)) _ c.requires.other)

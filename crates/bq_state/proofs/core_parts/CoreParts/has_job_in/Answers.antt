@@ -3,7 +3,4 @@ use Rattle.bq_state.proofs.CrowdPlaces.{jobs_there}
 use Rattle.bq_state.proofs.core_parts.CoreParts.has_job_in.Goals as goal
 
 pub returns : goal.returns
-returns c =
-    let s = c.args.self.now in
-    c.has_jobs_in.ensures ∙ jobs_there c.args.tube.now s.tubes.tallies s.jobs.jobs s.tubes.entries s.sound.entries.of_jobs
-    s.sound.known.counts.each
+returns c = c.has_jobs_in.ensures ∙ jobs_there _ _ _ _ c.args.self.now.sound.entries.of_jobs c.args.self.now.sound.known.counts.each

@@ -1,9 +1,7 @@
-use Rattle.std.proofs.Common.{◌∙◌, ap, refl}
-use Rattle.bq_state.specs.declared.tubes.entry.TubeChange.TheVariants.{CountDelete}
-use Rattle.bq_state.specs.Crowds.{crowd_at, has_seats}
-use Rattle.bq_state.specs.{KeptTubes.{KeptTubes, kept_removed}, Tallies.tally_left, TubeEntries.tube_changed}
+use Rattle.std.proofs.{Common.{arith, refl}, lemmas.Grind.common_steps}
 use Rattle.bq_state.proofs.{EditLemmas.job_counted, EndMoves.edit_stays, NamedLemmas.{change_kept, found_crowd, in_order}}
-use Rattle.bq_state.proofs.PartsLemmas.{tube_name_kept}
+use Rattle.bq_state.{proofs.PartsLemmas.tube_name_kept, specs.{KeptTubes.kept_removed, Tallies.tally_left, TubeEntries.tube_changed}}
+use Rattle.bq_state.specs.declared.tubes.entry.TubeChange.TheVariants.{CountDelete}
 use Rattle.bq_state.proofs.tubes.Tubes.count_removal.Goals as goal
 
 pub returns-clause-after : goal.returns-clause-after
@@ -15,12 +13,9 @@ returns-clause-after c =
 
 pub invariant_of-self : goal.invariant_of-self
 invariant_of-self c =
-    let r = c.args.removed.now in
-    let es = c.self.inside.kept.entries in
-    edit_stays r.tube (kept_removed r) (tube_changed CountDelete) (change_kept CountDelete) (tube_name_kept CountDelete) es _
-    (in_order es c.count_removal.ensures.ordered) c.count_removal.ensures.entries (λ t. refl) c.self.inside.ends c.self.invariant
+    edit_stays c.args.removed.now.tube (kept_removed c.args.removed.now) (tube_changed CountDelete) (change_kept CountDelete)
+    (tube_name_kept CountDelete) c.self.inside.kept.entries _
+    (in_order _ c.count_removal.ensures.ordered) c.count_removal.ensures.entries (λ t. refl) c.self.inside.ends c.self.invariant
 
 pub returns-clause-seats : goal.returns-clause-seats
-returns-clause-seats c =
-    c.count_removal.ensures.seats ∙ ap has_seats (found_crowd c.args.removed.now.tube c.self.inside.kept.entries)
-    ∙ ap (λ (k : KeptTubes). has_seats (crowd_at c.args.removed.now.tube k.entries k.crowds)) c.self.view_is
+returns-clause-seats c = grind (arith, common_steps, found_crowd)

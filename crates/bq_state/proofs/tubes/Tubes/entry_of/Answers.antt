@@ -1,8 +1,8 @@
-use Rattle.std.proofs.{Common.{◌∙◌, ◌≡◌, Option, ap, arith}, lemmas.Grind.common_steps}
-use Rattle.std.specs.{Borrow.Bor, Option.option_map, Prelude.find}
+use Rattle.std.{proofs.{Common.{Option, ap, arith, ◌∙◌, ◌≡◌}, lemmas.Grind.common_steps}, specs.{Borrow.Bor, Option.option_map}}
+use Rattle.std.specs.Prelude.{find}
 use Rattle.bq_job.specs.reading.TubeName.{is_same_name}
-use Rattle.bq_state.specs.KeptTubes.{KeptTube, KeptTubes, record_of}
-use Rattle.bq_state.proofs.NamedLemmas.{found_crowd, found_entry, found_pause, found_tally, in_order}
+use Rattle.bq_state.{proofs.NamedLemmas.{found_crowd, found_entry, found_pause, found_tally, in_order}, specs.KeptTubes.KeptTube}
+use Rattle.bq_state.specs.KeptTubes.{KeptTubes, record_of}
 use Rattle.bq_state.proofs.tubes.Tubes.entry_of.Goals as goal
 
 read : {B : Type 0} (f : KeptTube → B) (o : Option (Bor KeptTube)) {x : Option KeptTube} → option_map (λ (t : Bor KeptTube). t.now) o ≡ x
@@ -11,10 +11,8 @@ read f o e = grind (arith, common_steps)
 
 pub returns-clause-entry : goal.returns-clause-entry
 returns-clause-entry c =
-    let name = c.args.name.now in
-    read (record_of name) c.get.result c.get.ensures.value
-    ∙ found_entry name c.self.inside.kept.entries
-    ∙ ap (λ (k : KeptTubes). find (λ t. is_same_name name t.name) k.entries) c.self.view_is
+    read (record_of c.args.name.now) c.get.result c.get.ensures.value ∙ found_entry c.args.name.now c.self.inside.kept.entries
+    ∙ ap (λ (k : KeptTubes). find (λ t. is_same_name c.args.name.now t.name) k.entries) c.self.view_is
 
 pub returns-clause-tally : goal.returns-clause-tally
 returns-clause-tally c = grind (arith, common_steps, found_tally)

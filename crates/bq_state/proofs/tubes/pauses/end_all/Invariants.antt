@@ -1,5 +1,5 @@
 -- The pauses that are still to end, after those that ended so far.
-use Rattle.std.proofs.Common.{◌≡◌, count_by, map}
+use Rattle.std.proofs.Common.{count_by, map, ◌≡◌}
 use Rattle.bq_job.specs.machine.{tube_after_timers}
 use Rattle.bq_state.specs.{KeptTubes.{crowd_kept, record_at, tally_kept}, PauseEnds.{AreEnds, is_paused}}
 use Rattle.bq_state.proofs.tubes.pauses.end_all.Given as goal

@@ -1,9 +1,8 @@
 -- the entries of tubes that no longer exist are dropped up to the last one that was found, and
 -- their numbers with them
-use Rattle.std.proofs.Common.{◌≡◌, filter, length, map}
-use Rattle.bq_jobs.specs.Kept.{Kept}
-use Rattle.bq_state.specs.{KeptTubes.{is_alive_at, record_at, tally_kept}, PauseEnds.AreEnds, Tallies.tallies_of}
-use Rattle.bq_state.proofs.GoneLemmas.{AllLeftBefore}
+use Rattle.std.proofs.Common.{filter, length, map, ◌≡◌}
+use Rattle.bq_state.{proofs.GoneLemmas.AllLeftBefore, specs.{KeptTubes.{is_alive_at, record_at, tally_kept}, PauseEnds.AreEnds}}
+use Rattle.bq_state.specs.Tallies.{tallies_of}
 use Rattle.bq_state.proofs.tubes.walks.forget_all.Given as goal
 
 abbrev pub invariant-loop-name : goal.invariant-loop-name

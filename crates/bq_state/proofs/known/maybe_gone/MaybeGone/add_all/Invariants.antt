@@ -1,5 +1,5 @@
 -- those of the tubes so far may have gone
-use Rattle.std.proofs.Common.{◌≡◌, take}
+use Rattle.std.proofs.Common.{take, ◌≡◌}
 use Rattle.bq_state.specs.Leaving.{gone_all}
 use Rattle.bq_state.proofs.known.maybe_gone.MaybeGone.add_all.Given as goal
 
