@@ -48,7 +48,7 @@ FIRST_FREE = b"step bury 2 0\n"
 # How many allocations a step may make at most. A put: the three boxes of a job. A use and a watch: the box of a new
 # tube, that of the end of its pause, and the two through which the jobs know the tube; a watch also one for its
 # client's list. Commands answered with a text: that text, and the lists that are gathered for it. All others make none.
-MOST = {b"put": 3, b"use": 4, b"watch": 5, b"list-tubes": 4, b"list-tubes-watched": 2, b"stats-job": 1, b"stats-tube": 1, b"stats": 1}
+MOST = {b"put": 3, b"use": 4, b"watch": 5, b"list-tubes": 3, b"list-tubes-watched": 2, b"stats-job": 1, b"stats-tube": 1, b"stats": 1}
 
 
 def parted(out):

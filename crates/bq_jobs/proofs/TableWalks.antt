@@ -1,14 +1,14 @@
 -- What a walk over the tubes of a table shows, from a walk over the tubes and their numbers.
-use Rattle.std.proofs.Common.{◌≡◌, ℕ, Bool, true, false, cond, List, [], ◌∷◌, ◌++◌, fold, map}
+use Rattle.std.proofs.Common.{◌≡◌, ℕ, arith, Bool, true, false, cond, List, [], ◌∷◌, fold}
 use Rattle.std.proofs.Common.{Option, Some, None, refl, sym, ap, ◌∙◌}
-use Rattle.std.specs.Prelude.{find, slice_get, option_and_then, not, ◌&&◌}
-use Rattle.std.specs.Borrow.{Bor}
+use Rattle.std.specs.Prelude.{filter, find, slice_get, option_and_then, not, ◌&&◌}
+use Rattle.std.specs.Map.{keys_of}
 use Rattle.std.specs.Option.{option_map}
 use Rattle.std.specs.Ordering.{is_gt}
 use Rattle.std.specs.declared.cmp.Ordering.{Ordering}
-use Rattle.std.proofs.lemmas.List.{append_assoc, append-nil}
-use Rattle.bq_index.specs.Walk.{entry_of, passes_by, passes_from, seen_by}
-use Rattle.bq_jobs.specs.Table.{entries_at, listed_after, passes_if, valued_in, visited, with_value}
+use Rattle.std.proofs.lemmas.Grind.{common_steps}
+use Rattle.bq_index.specs.Walk.{passes_by, passes_from, seen_by}
+use Rattle.bq_jobs.specs.Table.{entries_at, passes_if, valued_in, visited, with_value}
 
 module _ {V : Type 0} (vs : List V) where
   -- A test of tubes and numbers that passes where a test of tubes and values does finds the same tube.
@@ -40,6 +40,13 @@ module _ {V : Type 0} (vs : List V) where
         ≡ find (passes_by passed) (entries_at ps vs)
     first_valued ps = find_valued (passes_by (λ name n. passes_if (passed name) (slice_get vs n))) (passes_by passed) (λ p. refl) ps
 
+    -- the names of the tubes that pass
+    pub keys_valued : (ps : List (List ℕ × ℕ))
+        → keys_of (filter (passes_by (λ name n. passes_if (passed name) (slice_get vs n))) ps)
+        ≡ keys_of (filter (passes_by passed) (entries_at ps vs))
+    keys_valued [] = refl
+    keys_valued (p ∷ ps) = grind (arith, common_steps, keys_valued ps)
+
     passes_both : (name : List ℕ) (b : Bool) (o : Option V) → (b && passes_if (passed name) o) ≡ passes_if (λ v. b && passed name v) o
     passes_both name true None = refl
     passes_both name false None = refl
@@ -65,16 +72,3 @@ module _ {V : Type 0} (vs : List V) where
     walk_valued (p ∷ ps) t =
         ap (λ a. fold (seen_by step) a ps) (shows t p.0 p.1) ∙ walk_valued ps (visited after t p.0 (slice_get vs p.1))
         ∙ ap make (seen_one t p.0 (slice_get vs p.1) (entries_at ps vs))
-
-  with_one : (name : List ℕ) (o : Option V) (es : List (List ℕ × V)) → with_value name o [] ++ es ≡ with_value name o es
-  with_one name None es = refl
-  with_one name (Some v) es = refl
-
-  -- a list of tubes and numbers, each with its value
-  pub list_valued : (xs : List (Bor (List ℕ) × Bor ℕ)) (es : List (List ℕ × V))
-      → fold (listed_after vs) es xs ≡ es ++ entries_at (map entry_of xs) vs
-  list_valued [] es = sym (append-nil es)
-  list_valued (x ∷ xs) es =
-      list_valued xs (listed_after vs es x)
-      ∙ append_assoc es (with_value x.0.now (slice_get vs x.1.now) []) (entries_at (map entry_of xs) vs)
-      ∙ ap (λ l. es ++ l) (with_one x.0.now (slice_get vs x.1.now) (entries_at (map entry_of xs) vs))

@@ -1,7 +1,6 @@
 -- A value for each registered tube.
-use Rattle.std.specs.Borrow.{Bor}
 use Rattle.std.specs.Option.{option_map}
-use Rattle.std.specs.Prelude.{ℕ, zero, suc, Bool, false, List, [], ◌∷◌, ◌++◌, Option, None, Some, slice_get}
+use Rattle.std.specs.Prelude.{ℕ, zero, suc, Bool, false, List, [], ◌∷◌, Option, None, Some, slice_get}
 
 -- the values in the order of the names of their tubes, and the number of each tube by its name
 pub record Tabled (V : Type 0) : Type 0 where
@@ -44,7 +43,3 @@ module _ {V : Type 0} where
   -- a tube with the value at its number
   abbrev pub valued_in : List V → List ℕ × ℕ → Option (List ℕ × V)
   valued_in vs p = option_map (λ v. (p.0, v)) (slice_get vs p.1)
-
-  -- a list of entries with one more tube, if it has a value
-  abbrev pub listed_after : List V → List (List ℕ × V) → Bor (List ℕ) × Bor ℕ → List (List ℕ × V)
-  listed_after vs es p = es ++ with_value p.0.now (slice_get vs p.1.now) []

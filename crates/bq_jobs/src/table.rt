@@ -1,5 +1,5 @@
 //! A value for each registered tube.
-ghost use Rattle.std.specs.Prelude.{◌≡◌, ◌+◌, ◌≤◌, ◌<◌, ◌^◌, [], None, Some, find, fold, length, map, option_and_then, slice_get};
+ghost use Rattle.std.specs.Prelude.{◌≡◌, ◌≤◌, ◌<◌, ◌^◌, [], None, Some, filter, find, fold, length, map, option_and_then, slice_get};
 ghost use Rattle.std.specs.Prelude.{IfOk, OnErr, OnOk, vec_len};
 ghost use Rattle.std.specs.BTreeMap.{is_at, insert_entry};
 ghost use Rattle.std.specs.Cmp.Lexicographic.{slice_cmp};
@@ -12,7 +12,7 @@ ghost use Rattle.bq_index.specs.Order.{InOrder};
 ghost use Rattle.bq_index.specs.Walk.{entry_of, passes_by, passes_from, seen_by};
 ghost use Rattle.bq_jobs.specs.Names.{number_in};
 ghost use Rattle.bq_jobs.specs.Numbering.{Extends};
-ghost use Rattle.bq_jobs.specs.Table.{changed_at, listed_after, passes_if, put_value, valued_in, visited};
+ghost use Rattle.bq_jobs.specs.Table.{changed_at, passes_if, put_value, valued_in, visited};
 
 use crate::tubes::{NumberedTubes, TubeNumber};
 use bq_index::{Edit, Test, Visitor};
@@ -122,39 +122,26 @@ fn valued<'a, V: Drop>(
     }
 }
 
-// Appends a tube with the value at its number to a list that has room for it.
-fn list_one<'a, V: Drop>(
-    all: &mut Vec<(&'a TubeName, &'a V), Global>,
-    entry: (&'a TubeName, &'a u32),
-    values: &'a [V],
-)
-    requires { vec_len all.old < vec_capacity all.old }
-    ensures items { map entry_of all.new.items ≡ listed_after values.now (map entry_of all.old.items) entry.entry }
-    ensures len { vec_len all.new ≤ vec_len all.old + 1 }
-    ensures capacity { vec_capacity all.new ≡ vec_capacity all.old }
-{
-    let (name, number) = entry;
-    if let Some(value) = value_at(values, *number) {
-        all.push_reserved((name, value));
-    }
-}
-
-// Returns tubes with the values at their numbers. The memory of the list is allocated before it is
-// filled.
-fn list_values<'a, V: Drop>(
+// Returns the names of the tubes that pass a test, in the order of the list. The memory of the names
+// is allocated before they are listed.
+fn list_passing<'a, T: Test<TubeName, u32>>(
     alloc: Global,
     listed: &[(&'a TubeName, &'a u32)],
-    values: &'a [V],
-) -> Result<Vec<(&'a TubeName, &'a V), Global>, NoMemory>
-    ensures { IfOk result (λ all. map entry_of all.items ≡ fold (listed_after values.now) [] listed.now) }
+    test: &T,
+) -> Result<Vec<&'a [u8], Global>, NoMemory>
+    ensures { IfOk result (λ names. map (λ n. n.now) names.items
+        ≡ keys_of (filter (passes_by (T.passed test.now)) (map entry_of listed.now))) }
 {
-    let Ok(mut all) = Vec::with_capacity(alloc, listed.len()) else {
+    let Ok(mut names) = Vec::with_capacity(alloc, listed.len()) else {
         return Err(NoMemory);
     };
     for i in 0..listed.len() {
-        list_one(&mut all, listed[i], values);
+        let (name, number) = listed[i];
+        if test.passes(name, number) {
+            names.push_reserved(name.as_slice());
+        }
     }
-    Ok(all)
+    Ok(names)
 }
 
 impl<V: Drop> TubeTable<V> {
@@ -202,16 +189,6 @@ impl<V: Drop> TubeTable<V> {
         ensures ordered { InOrder (slice_cmp nat_cmp) self.now.entries }
     {
         let number = self.tubes.number_of(name, hint)?;
-        value_at(self.values.as_slice(), number.get())
-    }
-
-    /// Returns the value of the tube with this name, if it is registered.
-    pub fn find(&self, name: &TubeName) -> Option<&V>
-        ensures value { option_map (λ v. v.now) result
-            ≡ lookup (is_at (slice_cmp nat_cmp name.now)) self.now.entries }
-        ensures ordered { InOrder (slice_cmp nat_cmp) self.now.entries }
-    {
-        let number = self.tubes.search(name)?;
         value_at(self.values.as_slice(), number.get())
     }
 
@@ -316,18 +293,24 @@ impl<V: Drop> TubeTable<V> {
         valued(values, self.tubes.by_name().first_from(from, &passing))
     }
 
-    /// Returns the tubes and their values in the order of the names. The memory of the list is
-    /// allocated before it is filled.
+    /// Returns the names of the tubes that pass a test, in byte order. It makes two allocations: a
+    /// list of all tubes with their numbers, and the list of names, each before it is filled.
     ///
     /// # Errors
     ///
-    /// `NoMemory` if that allocation fails.
-    pub fn list(&self, alloc: Global) -> Result<Vec<(&TubeName, &V), Global>, NoMemory>
-        ensures { IfOk result (λ listed. map entry_of listed.items ≡ self.now.entries) }
+    /// `NoMemory` if an allocation fails.
+    pub fn names_passing<T: Test<TubeName, V>>(
+        &self,
+        alloc: Global,
+        test: &T,
+    ) -> Result<Vec<&[u8], Global>, NoMemory>
+        ensures { IfOk result (λ names. map (λ n. n.now) names.items
+            ≡ keys_of (filter (passes_by (T.passed test.now)) self.now.entries)) }
     {
-        let Ok(numbered) = self.tubes.by_name().list(alloc) else {
+        let Ok(listed) = self.tubes.by_name().list(alloc) else {
             return Err(NoMemory);
         };
-        list_values(alloc, numbered.as_slice(), self.values.as_slice())
+        let values = self.values.as_slice();
+        list_passing(alloc, listed.as_slice(), &Passing { values, test })
     }
 }

@@ -1,17 +1,16 @@
 -- Entries of tubes that no longer exist are dropped from the catalog; the others are counted and
 -- listed.
-use Rattle.std.proofs.Common.{Bool, List, None, Option, Some, [], ap, append_assoc, arith, false, if◌then◌else◌, inl, inr, length, map, not}
-use Rattle.std.proofs.{Common.{refl, sym, true, ℕ, ◌++◌, ◌+◌, ◌∙◌, ◌∷◌, ◌≡◌, ◌≤◌}, lemmas.{Bool.cases_Bool, Grind.common_steps}}
-use Rattle.std.{proofs.lemmas.List.append-nil, specs.{Borrow.Bor, Cmp.Lexicographic.{nat_list_cmp_total, slice_cmp}}}
-use Rattle.std.specs.{List.{AllByRecursion as All, Sorted.IsStrictlySortedBy}, Map.{keys_of, lookup, remove_entry}, Option.option_map}
-use Rattle.std.specs.{Ordering.{is_eq, is_gt, nat_cmp, ordering_reverse}, Prelude.{filter, find, fold}, declared.cmp.Ordering.Ordering}
-use Rattle.std.specs.declared.cmp.Ordering.TheVariants.{Equal, Greater, Less}
-use Rattle.bq_index.specs.{Order.InOrder, Walk.{entry_of, seen_by}}
+use Rattle.std.proofs.Common.{Bool, List, None, Option, Some, [], ap, arith, false, if◌then◌else◌, inl, inr, length, map, not, refl, sym}
+use Rattle.std.proofs.{Common.{true, ℕ, ◌+◌, ◌∙◌, ◌∷◌, ◌≡◌, ◌≤◌}, lemmas.{Bool.cases_Bool, Grind.common_steps}}
+use Rattle.std.specs.{Cmp.Lexicographic.{nat_list_cmp_total, slice_cmp}, List.{AllByRecursion as All, Sorted.IsStrictlySortedBy}}
+use Rattle.std.specs.{Map.{keys_of, lookup, remove_entry}, Option.option_map, Ordering.{is_eq, is_gt, nat_cmp, ordering_reverse}}
+use Rattle.std.specs.{Prelude.{filter, find, fold}, declared.cmp.Ordering.{Ordering, TheVariants.{Equal, Greater, Less}}}
+use Rattle.bq_index.specs.{Order.InOrder, Walk.seen_by}
 use Rattle.bq_job.specs.{declared.job.Job.Job, machine.{SeatRecord, greatest}, reading.TubeName.is_same_name}
 use Rattle.bq_state.proofs.{CrowdLemmas.has_seats_of, CrowdPlaces.exists_by_counts, MaybeGoneLemmas.{alive_but, alive_or, all_kept_alive}}
 use Rattle.bq_state.proofs.{MaybeGoneLemmas.others_alive, NamedLemmas.ties, TallyPlaces.has_jobs_in, TubeLemmas.same_name}
 use Rattle.bq_state.specs.{Crowds.{crowd_in, crowds_of, has_seats}, KeptTubes.{KeptTube, Named, crowd_kept, is_alive_at, is_alive_with}}
-use Rattle.bq_state.specs.KeptTubes.{is_from, is_gone_by, is_gone_from, is_named_at, record_at, tally_kept, with_alive, with_name_of}
+use Rattle.bq_state.specs.KeptTubes.{is_from, is_gone_by, is_gone_from, is_named_at, record_at, tally_kept, with_alive}
 use Rattle.bq_state.specs.{MaybeGoneTubes.AreAlive, Tallies.{has_jobs, tallies_of, tally_in}, TubeEntries.{AreInOrder, is_tube_of}}
 use Rattle.bq_state.specs.{TubeEntries.names_alive, declared.{known.maybe_gone.MaybeGone.TheVariants.Of, tubes.walks.HowMany.HowMany}}
 
@@ -50,20 +49,11 @@ module _ (jobs : List Job) (seats : List SeatRecord) where
   filter_records [] h = refl
   filter_records (x ∷ es) h = grind (arith, alive_is, filter_records es (rest_tallied x es h))
 
-  abbrev names : List Named → List (List ℕ)
-  names es = names_alive jobs seats (map record_at es)
-
   -- The tubes that exist are listed
-  pub listed_names : (listed : List (Bor (List ℕ) × Bor KeptTube)) (so_far : List (List ℕ)) → AreTallied jobs seats (map entry_of listed)
-      → fold (with_name_of) so_far listed ≡ so_far ++ names_alive jobs seats (map record_at (map entry_of listed))
-  listed_names [] so_far h = sym (append-nil so_far)
-  listed_names (e ∷ listed) so_far h =
-      let x : Named = entry_of e in
-      let es = map entry_of listed in
-      let alive = alive_is x (let a = h.0 in cc, let b = h.1 in cc) in
-      listed_names listed (with_name_of so_far e) (rest_tallied x es h)
-      ∙ append_assoc so_far (if is_alive_at x then x.0 ∷ [] else []) (names es)
-      ∙ ap (λ ns. so_far ++ ns) (sym (grind (arith, common_steps)))
+  pub listed_names : (es : List Named) → AreTallied jobs seats es
+      → keys_of (filter is_alive_at es) ≡ names_alive jobs seats (map record_at es)
+  listed_names [] h = refl
+  listed_names (x ∷ es) h = grind (arith, alive_is, listed_names es (rest_tallied x es h))
 
   -- and counted.
   pub counted_names : (es : List Named) (n : ℕ) → AreTallied jobs seats es → n + length es ≤ greatest

@@ -1,7 +1,6 @@
 -- The records of the tubes that have an entry.
-use Rattle.std.specs.{BTreeMap.is_at, Borrow.Bor, Cmp.Lexicographic.slice_cmp, Map.{lookup, remove_entry, set_value}, Ordering.is_gt}
-use Rattle.std.specs.{Ordering.nat_cmp, Prelude.{Bool, List, None, Option, Some, [], false, if◌then◌else◌, is_some, map, not, true, ℕ}}
-use Rattle.std.specs.Prelude.{◌&&◌, ◌++◌, ◌∷◌}
+use Rattle.std.specs.{BTreeMap.is_at, Cmp.Lexicographic.slice_cmp, Map.{lookup, remove_entry, set_value}, Ordering.{is_gt, nat_cmp}}
+use Rattle.std.specs.Prelude.{Bool, List, None, Option, Some, [], false, if◌then◌else◌, is_some, map, not, true, ℕ, ◌&&◌, ◌∷◌}
 use Rattle.bq_index.specs.Edited.{edited_if}
 use Rattle.bq_job.specs.{declared.job.Job.Job, machine.{Pause, TubeRecord, default_tube, fresh_tube, pause_after_timers, raised}}
 use Rattle.bq_job.specs.machine.{tube_after_timers}
@@ -132,14 +131,6 @@ is_alive_at e = is_alive_with e.0 e.1
 -- one more if the tube exists
 abbrev pub with_alive : ℕ → List ℕ → KeptTube → ℕ
 with_alive count name t = if is_alive_with name t then raised count else count
-
--- the name, if the tube exists
-abbrev pub name_if_alive : List ℕ → KeptTube → List (List ℕ)
-name_if_alive name t = if is_alive_with name t then name ∷ [] else []
-
--- one name more, if the tube exists
-abbrev pub with_name_of : List (List ℕ) → Bor (List ℕ) × Bor KeptTube → List (List ℕ)
-with_name_of names e = names ++ name_if_alive e.0.now e.1.now
 
 -- whether this entry, if there is one, is of a tube that no longer exists
 abbrev pub is_gone_by : List ℕ → Option KeptTube → Bool

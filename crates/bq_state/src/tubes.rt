@@ -22,7 +22,7 @@ pub(crate) use entry::{Moving, Share};
 use pauses::PauseEnds;
 use std::alloc::Global;
 use std::marker::Model;
-use walks::HowMany;
+use walks::{AliveTube, HowMany};
 
 mod entry;
 mod pauses;
@@ -268,15 +268,13 @@ impl Tubes {
     }
 
     /// Returns the names of the tubes that exist, in byte order. Their memory is allocated first.
+    #[tactic(auto, using(crate::proofs::GoneLemmas::listed_names))]
     pub(crate) fn names_alive<'a>(&'a self, alloc: Global) -> Result<Names<'a>, NoMemory>
         ensures { IfCounted self.now
             (λ jobs seats. IfOk result
             (λ names. names_of names.items ≡ names_alive jobs seats self.now.entries)) }
     {
-        match self.kept.list(alloc) {
-            Ok(listed) => walks::names_alive(alloc, listed.as_slice()),
-            Err(_) => Err(NoMemory),
-        }
+        self.kept.names_passing(alloc, &AliveTube)
     }
 
     /// Drops the entries and numbers of tubes that no longer exist, which are among those that may

@@ -60,6 +60,19 @@ impl Test<TubeName, u64> for Is {
     }
 }
 
+/// Passes if the value is not this one.
+struct IsNot(u64);
+
+impl Test<TubeName, u64> for IsNot {
+    ghost use Rattle.std.specs.Prelude.{nat_eq, not};
+
+    ghost passed = { λ t _ v. not (nat_eq v t.0) };
+
+    fn passes(&self, _name: &TubeName, value: &u64) -> bool {
+        *value != self.0
+    }
+}
+
 /// The names of three tubes, in their order.
 #[derive(Clone, Copy)]
 struct ThreeNames {
@@ -83,7 +96,7 @@ fn insert(
     name: &TubeName,
     value: u64,
 ) -> Option<TubeNumber> {
-    if table.find(name).is_some() {
+    if table.get(name, TubeNumber::unknown()).is_some() {
         return None;
     }
     match table.insert(alloc, name, value) {
@@ -95,12 +108,12 @@ fn insert(
 // Returns true if the value of a tube is this one, from this hint and without one.
 fn has(table: &TubeTable<u64>, name: &TubeName, hint: TubeNumber, value: u64) -> bool {
     matches!(table.get(name, hint), Some(found) if *found == value)
-        && matches!(table.find(name), Some(found) if *found == value)
+        && matches!(table.get(name, TubeNumber::unknown()), Some(found) if *found == value)
 }
 
 // Returns true if a tube has no value, from this hint and without one.
 fn has_none(table: &TubeTable<u64>, name: &TubeName, hint: TubeNumber) -> bool {
-    table.get(name, hint).is_none() && table.find(name).is_none()
+    table.get(name, hint).is_none() && table.get(name, TubeNumber::unknown()).is_none()
 }
 
 // Returns true if a tube has this number, from this hint.
@@ -203,25 +216,24 @@ fn walks(table: &TubeTable<u64>) -> bool {
     seen.first == 10 && seen.second == 20 && seen.third == 30
 }
 
-fn is_listed(list: &[(&TubeName, &u64)], place: usize, name: &TubeName, value: u64) -> bool {
-    match list.get(place) {
-        Some((own, own_value)) => *own == name && **own_value == value,
-        None => false,
-    }
-}
-
-fn are_three(list: &[(&TubeName, &u64)], names: &ThreeNames) -> bool {
-    list.len() == 3
-        && is_listed(list, 0, &names.a, 10)
-        && is_listed(list, 1, &names.b, 20)
-        && is_listed(list, 2, &names.c, 30)
-}
-
-fn lists(alloc: Global, table: &TubeTable<u64>, names: &ThreeNames) -> bool {
-    match table.list(alloc) {
-        Ok(list) => are_three(list.as_slice(), names),
+// Returns true if the tubes that pass a test have these names, in this order.
+fn lists<T: Test<TubeName, u64>>(
+    alloc: Global,
+    table: &TubeTable<u64>,
+    test: &T,
+    names: &[&[u8]],
+) -> bool {
+    match table.names_passing(alloc, test) {
+        Ok(list) => list.as_slice() == names,
         Err(_) => false,
     }
+}
+
+fn lists_passing(alloc: Global, table: &TubeTable<u64>) -> bool {
+    lists(alloc, table, &IsNot(40), &[b"a", b"b", b"c"])
+        && lists(alloc, table, &IsNot(20), &[b"a", b"c"])
+        && lists(alloc, table, &Is(30), &[b"c"])
+        && lists(alloc, table, &Is(40), &[])
 }
 
 fn reads_all(alloc: Global, table: &mut TubeTable<u64>, names: &ThreeNames) -> bool {
@@ -230,7 +242,7 @@ fn reads_all(alloc: Global, table: &mut TubeTable<u64>, names: &ThreeNames) -> b
         && table.len() == 3
         && finds_first(table, names)
         && walks(table)
-        && lists(alloc, table, names)
+        && lists_passing(alloc, table)
 }
 
 #[test]

@@ -1,20 +1,17 @@
 //! Queries of all entries of tubes, and which of them are dropped.
 ghost use Rattle.std.specs.{Cmp.Lexicographic.slice_cmp, List.list_any, Map.{lookup, remove_entry}, Option.option_map, Ordering.nat_cmp};
-ghost use Rattle.std.specs.{Prelude.{IfOk, [], false, filter, find, fold, map, vec_len, ◌++◌, ◌+◌, ◌<◌, ◌≡◌, ◌≤◌}, Vec.vec_capacity};
+ghost use Rattle.std.specs.Prelude.{false, filter, find, map, ◌≡◌};
 ghost use Rattle.bq_index.specs.Order.{InOrder};
 ghost use Rattle.bq_job.specs.reading.TubeName.{is_same_name};
-ghost use Rattle.bq_state.specs.KeptTubes.{is_alive_at, is_alive_with, is_gone_by, is_gone_from, is_named_at, name_if_alive, record_at};
-ghost use Rattle.bq_state.specs.{KeptTubes.{tally_kept, with_alive, with_name_of, without_gone}, Names.names_of, PauseEnds.AreEnds};
-ghost use Rattle.bq_state.specs.Tallies.{tallies_of};
+ghost use Rattle.bq_state.specs.KeptTubes.{is_alive_at, is_alive_with, is_gone_by, is_gone_from, is_named_at, record_at, tally_kept};
+ghost use Rattle.bq_state.specs.{KeptTubes.{with_alive, without_gone}, PauseEnds.AreEnds, Tallies.tallies_of};
 
 use super::entry::TubeEntry;
 use super::pauses::{self, PauseEnds};
-use crate::name_lists::Names;
 use crate::watch_list::default_tube;
 use bq_index::{Test, Visitor};
-use bq_job::{NoMemory, TubeName};
+use bq_job::TubeName;
 use bq_jobs::{NumberedJobs, Tube, TubeTable};
-use std::alloc::Global;
 
 /// How many of the entries visited so far are of tubes that exist. The count stops at 2^64 - 1.
 #[derive(Clone, Copy)]
@@ -56,35 +53,16 @@ pub(crate) fn is_alive(name: &TubeName, entry: &TubeEntry) -> bool
     entry.tally().has_jobs() || entry.crowd().has_seats() || *name == default_tube()
 }
 
-// Adds the name of an entry if its tube exists. It allocates nothing.
-fn add_alive<'a>(names: &mut Names<'a>, name: &'a TubeName, entry: &TubeEntry)
-    requires { vec_len names.old < vec_capacity names.old }
-    ensures names { names_of names.new.items
-        ≡ names_of names.old.items ++ name_if_alive name.now entry.now }
-    ensures len { vec_len names.new ≤ vec_len names.old + 1 }
-    ensures capacity { vec_capacity names.new ≡ vec_capacity names.old }
-{
-    if is_alive(name, entry) {
-        names.push_reserved(name.as_slice());
-    }
-}
+/// The test of an entry whose tube exists.
+#[derive(Clone, Copy)]
+pub(crate) struct AliveTube;
 
-/// Returns the names of the tubes among these that exist, in order. Their memory is allocated
-/// first.
-pub(crate) fn names_alive<'a>(
-    alloc: Global,
-    listed: &[(&'a TubeName, &'a TubeEntry)],
-) -> Result<Names<'a>, NoMemory>
-    ensures { IfOk result (λ names. names_of names.items ≡ fold with_name_of [] listed.now) }
-{
-    let Ok(mut names) = Vec::with_capacity(alloc, listed.len()) else {
-        return Err(NoMemory);
-    };
-    for i in 0..listed.len() {
-        let (name, entry) = listed[i];
-        add_alive(&mut names, name, entry);
+impl Test<TubeName, TubeEntry> for AliveTube {
+    ghost passed = { λ _ n t. is_alive_with n t };
+
+    fn passes(&self, name: &TubeName, entry: &TubeEntry) -> bool {
+        is_alive(name, entry)
     }
-    Ok(names)
 }
 
 // The test of an entry whose tube no longer exists.
