@@ -1,7 +1,7 @@
 -- Operations on jobs by the names of their tubes agree with those on records by numbers.
 use Rattle.std.proofs.Common.{◌≡◌, ◌+◌, ◌*◌, ◌≤◌, ℕ, suc, length, Bor, Bool, true, false, ◌&&◌, ◌||◌, List}
 use Rattle.std.proofs.Common.{[], ◌∷◌, Option, Some, None, is_some, map, refl, sym, ap, ◌∙◌, subst, inl, inr}
-use Rattle.std.specs.Prelude.{◌==◌, nat_lt, unwrap_or, if◌then◌else◌, Result, Ok, Err, IfOk}
+use Rattle.std.specs.Prelude.{◌==◌, nat_lt, unwrap_or, Result, Ok, Err, IfOk}
 use Rattle.std.specs.BTreeMap.{is_at}
 use Rattle.std.specs.Cmp.Lexicographic.{bytes_decides, slice_cmp}
 use Rattle.std.specs.List.{AllByRecursion as All, list_any}
@@ -23,10 +23,9 @@ use Rattle.bq_jobs.specs.Changed.{IgnoresTube, moved_by, moved_in, removed_from,
 use Rattle.bq_jobs.specs.Numbering.{AreNumbered, AreRegistered, Extends, IsNumbered, IsPaired, Numbering, kept_named}
 use Rattle.bq_jobs.specs.Numbering.{name_of, named, number_of}
 use Rattle.bq_jobs.specs.Names.{number_in}
-use Rattle.bq_jobs.specs.Room.{Removes}
 use Rattle.bq_jobs.specs.Searching.{FindsById}
-use Rattle.bq_jobs.specs.Told.{job_told, moved_told, removed_told}
-use Rattle.bq_jobs.specs.Seen.{IsBodyOf, IsTubeOf, but_for_tube, in_tube}
+use Rattle.bq_jobs.specs.Told.{moved_told, removed_told}
+use Rattle.bq_jobs.specs.Seen.{IsBodyOf, IsTubeOf, but_for_tube}
 use Rattle.bq_jobs.proofs.Changes.{stays_in}
 use Rattle.bq_jobs.proofs.NumberingLemmas.{name_kept, number_other, same_names}
 
@@ -175,18 +174,6 @@ numbered_there k id (r ∷ rows) j all e = elim (cases_Bool (r.id == id)) [
 ]
 
 -- a numbered record has a name
-named_by : (j : Job) (o : Option (List ℕ)) → is_some o ≡ true → option_map (in_tube j) o ≡ Some (record j { tube = unwrap_or o [] })
-named_by j None some = absurd cc
-named_by j (Some name) some = refl
-
-rows_by : (k : Numbering) (id : ℕ) (rows : List Job) → AreNumbered k rows
-    → option_and_then (job_told k) (job_with id rows) ≡ job_with id (map (named k) rows)
-rows_by k id rows all = of (job_with id rows) refl ∙ sym (job_named k id rows)
-  where
-    of : (o : Option Job) → job_with id rows ≡ o → option_and_then (job_told k) o ≡ option_map (named k) o
-    of None there = refl
-    of (Some j) there = named_by j (name_of (number_in j.tube) k) ((numbered_there k id rows j all there).1)
-
 removed_by_name : (j : Job) (o : Option (List ℕ)) → is_some o ≡ true
     → option_map (λ tube. record { tube = tube; at = standing j }) o ≡ Some (removed_from (record j { tube = unwrap_or o [] }))
 removed_by_name j None some = absurd cc
@@ -204,12 +191,6 @@ removals_by k id rows all = of (job_with id rows) refl ∙ ap (option_map remove
 
 -- The same with the names of a table whose tubes have the same numbers.
 module _ (k l : Numbering) (id : ℕ) (rows : List Job) (h : AreRegistered k rows) (g : IsPaired l) (same : l.numbers ≡ k.numbers) where
-  pub told_rows : option_and_then (job_told l) (job_with id rows) ≡ job_with id (map (named k) rows)
-  told_rows =
-      ap (λ told. option_and_then told (job_with id rows))
-      (λ i row. option_map (in_tube row) (same_names k l h.paired g (number_in row.tube) same i))
-      ∙ rows_by k id rows h.numbered
-
   pub told_removed : option_and_then (removed_told l) (option_map row_removed (job_with id rows))
       ≡ option_map removed_from (job_with id (map (named k) rows))
   told_removed =
@@ -398,10 +379,10 @@ pub some_mapped : {A B : Type 0} (f : A → B) (o : Option A) → is_some (optio
 some_mapped f None = refl
 some_mapped f (Some x) = refl
 
-pub some_named : (k : Numbering) (id : ℕ) (rows : List Job) → is_some (job_with id (map (named k) rows)) ≡ is_some (job_with id rows)
+some_named : (k : Numbering) (id : ℕ) (rows : List Job) → is_some (job_with id (map (named k) rows)) ≡ is_some (job_with id rows)
 some_named k id rows = ap is_some (job_named k id rows) ∙ some_mapped (named k) (job_with id rows)
 
--- What a search or a removal does to records, it does to their jobs.
+-- What a search does to records, it does to their jobs.
 module _ {A B : Type 0} (k : Numbering) (id : ℕ) (rows new old : Kept) (row : Option A) (told : Option B) (is : kept_named rows k ≡ old)
     (same : is_some told ≡ is_some row) where
   pub finds_named : FindsById id row rows new → FindsById id told old (kept_named new k)
@@ -413,15 +394,6 @@ module _ {A B : Type 0} (k : Numbering) (id : ℕ) (rows new old : Kept) (row : 
           same = ap (λ (m : Kept). kept_named m k) f.1.same;
           asks = record { many = ap (λ (m : Kept). length (map (named k) m.jobs)) f.1.same; stays = few.0; rise = few.1 };
         },
-      )
-
-  pub removes_named : Removes id row rows new → Removes id told old (kept_named new k)
-  removes_named r =
-      subst (λ m. Removes id told m (kept_named new k)) is (
-        ap (map (named k)) r.0 ∙ sym (without_named k id rows.jobs),
-        r.1 ∙ ap (λ b. rows.room + (if b then 1 else 0)) (sym same),
-        job_named k id new.jobs ∙ ap (option_map (named k)) r.2,
-        counted_as 4 k rows (kept_named rows k) new refl r.3,
       )
 
 pub no_name : (k l : Numbering) (id : ℕ) (rows : List Job) → AreRegistered k rows → IsPaired l → l.numbers ≡ k.numbers → (n : List ℕ)
@@ -457,12 +429,8 @@ pub body_told : {E : Type 0} (k : Numbering) (id : ℕ) (rows : List Job) (r : R
 body_told k id rows (Ok body) is = body_is k id rows body is
 body_told k id rows (Err e) is = tt
 
--- what the search takes for an addition, a removal, a change and another reference to a body
+-- what the search takes for an addition, a change and another reference to a body
 pub ruleset additions = (ids_named, none_named, row_registered, row_added)
-
-pub ruleset removals = (job_named, registered_without, told_rows)
-
-pub ruleset discards = (job_named, registered_without, told_removed)
 
 pub ruleset changes = (changed_named, ids_named, registered_changed, told_moved)
 

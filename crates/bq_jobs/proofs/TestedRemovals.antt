@@ -9,11 +9,10 @@ use Rattle.bq_job.specs.machine.Changes.{job_with}
 use Rattle.bq_jobs.specs.Changed.{AsksNoTube, entry_at, removed_from, row_removed}
 use Rattle.bq_jobs.specs.Kept.{Kept, without}
 use Rattle.bq_jobs.specs.Numbering.{AreRegistered, IsPaired, Numbering, kept_named, named}
-use Rattle.bq_jobs.specs.Room.{Removes, RemovesIf}
+use Rattle.bq_jobs.specs.Room.{RemovesIf}
 use Rattle.bq_jobs.specs.Told.{removed_told}
 use Rattle.bq_jobs.specs.declared.rows.Rows.TheInside.{Inside as Parts}
 use Rattle.bq_jobs.specs.Inside.{jobs_of}
-use Rattle.bq_jobs.proofs.Changes.{not_there, without_none}
 use Rattle.bq_jobs.proofs.NamedJobs.{counted_as, job_named, registered_without, some_mapped, told_removed, without_named}
 use Rattle.bq_jobs.proofs.Shelved.{AreShelved, found_in, found_own}
 
@@ -29,16 +28,6 @@ module _ (p : Job → Bool) (id : ℕ) (s : Parts) (h : AreShelved s) where
   -- and has this id
   pub passing_own : (j : Job) → passing p (entry_at id s.by_id.entries) ≡ Some j → j.id ≡ id
   passing_own j e = found_own id s h j (sym (value_there p (entry_at id s.by_id.entries) j (sym e)))
-
--- with a test that every job passes, the job is gone
-pub removes_all : (id : ℕ) (old new : Kept) (removed : Option Job) → removed ≡ job_with id old.jobs → RemovesIf id removed old new
-    → Removes id removed old new
-removes_all id old new removed e r = let jobs = r.0 ∙ of removed e in
-    (jobs, r.1, ap (job_with id) jobs ∙ not_there id old.jobs, r.2)
-  where
-    of : (o : Option Job) → o ≡ job_with id old.jobs → (if is_some o then without id old.jobs else old.jobs) ≡ without id old.jobs
-    of None e = sym (without_none id old.jobs (sym e))
-    of (Some j) e = refl
 
 -- a test that does not depend on the tube
 module _ (k : Numbering) (p : Job → Bool) (no_tube : AsksNoTube p) where

@@ -1,7 +1,6 @@
 -- A record with the name of its tube.
 use Rattle.std.specs.Prelude.{List, Option, ℕ}
 use Rattle.std.specs.Option.{option_map}
-use Rattle.bq_job.specs.declared.job.Job.{Job}
 use Rattle.bq_jobs.specs.declared.rows.Moved.{Moved}
 use Rattle.bq_jobs.specs.declared.rows.MovedRow.{MovedRow}
 use Rattle.bq_jobs.specs.declared.rows.Removed.{Removed}
@@ -9,13 +8,8 @@ use Rattle.bq_jobs.specs.declared.rows.Standing.{Standing}
 use Rattle.bq_jobs.specs.Changed.{moved_in}
 use Rattle.bq_jobs.specs.Names.{number_in}
 use Rattle.bq_jobs.specs.Numbering.{Numbering, name_of}
-use Rattle.bq_jobs.specs.Seen.{in_tube}
 
--- the job of a record
-abbrev pub job_told : Numbering → Job → Option Job
-job_told k row = option_map (in_tube row) (name_of (number_in row.tube) k)
-
--- the report about its removal
+-- the report about the removal of a record
 abbrev pub removed_told : Numbering → List ℕ × Standing → Option Removed
 removed_told k r = option_map (λ tube. record { tube = tube; at = r.1 }) (name_of (number_in r.0) k)
 

@@ -20,13 +20,13 @@ ghost use Rattle.bq_jobs.specs.Changed.{AsksNoTube, IgnoresTube, KeepsId, moved_
 ghost use Rattle.bq_jobs.specs.Names.{number_in};
 ghost use Rattle.bq_jobs.specs.Numbering.{Extends, IsPaired, is_known, name_of, number_of};
 ghost use Rattle.bq_jobs.specs.Seen.{IsBodyOf, IsTubeOf, but_for_tube};
-ghost use Rattle.bq_jobs.specs.Told.{job_told, moved_told, removed_told};
+ghost use Rattle.bq_jobs.specs.Told.{moved_told, removed_told};
 ghost use Rattle.bq_jobs.specs.Kept.{ComparesAtMost, ranked, with_added};
 ghost use Rattle.bq_jobs.specs.Laws.{AddsAtTheEnd, ChosenHasItsId, NextIsFree};
 ghost use Rattle.bq_jobs.specs.Leases.{deadline_of, is_lease_before};
 ghost use Rattle.bq_jobs.specs.Places.{held_by, list_of};
 ghost use Rattle.bq_jobs.specs.Ranks.{first_held, first_timed, id_in};
-ghost use Rattle.bq_jobs.specs.Room.{MakesRoom, Removes, RemovesIf};
+ghost use Rattle.bq_jobs.specs.Room.{MakesRoom, RemovesIf};
 ghost use Rattle.bq_jobs.specs.Searching.{FindsById, Searches};
 
 use super::places::{Group, JobList, Timer};
@@ -47,8 +47,8 @@ use std::snapshot::Snapshot;
 /// [`NumberedJobs::forget`] of a tube that was removed.
 ///
 /// [`NumberedJobs::add`] adds a job to a registered tube, with the room that
-/// [`NumberedJobs::reserve_one`] made. [`NumberedJobs::remove`] removes a job and leaves its room
-/// for the next one, so to remove a job, change it and add it again allocates nothing.
+/// [`NumberedJobs::reserve_one`] made. [`NumberedJobs::discard_if`] removes a job and leaves its
+/// room for the next one.
 #[derive(Drop)]
 pub struct NumberedJobs {
     rows: Rows,
@@ -157,32 +157,6 @@ impl NumberedJobs {
         if let Some(number) = number_at(tubes, &job.tube, hint) {
             self.rows.add(job.id, rows::row_of(job, number));
         }
-    }
-
-    /// Removes the job with this id and returns it, if there is one. Its room is free again.
-    #[tactic(auto, using(crate::proofs::NamedJobs::removals))]
-    pub fn remove(&mut self, tubes: &NumberedTubes, id: JobId) -> Option<Job>
-        requires same { tubes.now.numbers ≡ self.old.tubes }
-        ensures job { result ≡ job_with id self.old.jobs }
-        ensures tubes { self.new.tubes ≡ self.old.tubes }
-        ensures id { IfSome result (λ job. job.id ≡ id) }
-        ensures left { Removes id result self.old self.new }
-    {
-        let row = self.rows.remove(id);
-        job_of(tubes, id, row)
-    }
-
-    /// Removes the job with this id, if there is one, and drops it. Its room is free again. Returns
-    /// the tube and the standing that the job had, which are less to copy than the job.
-    #[tactic(auto, using(crate::proofs::NamedJobs::discards))]
-    pub fn discard(&mut self, tubes: &NumberedTubes, id: JobId) -> Option<Removed>
-        requires same { tubes.now.numbers ≡ self.old.tubes }
-        ensures removed { result ≡ option_map removed_from (job_with id self.old.jobs) }
-        ensures tubes { self.new.tubes ≡ self.old.tubes }
-        ensures left { Removes id result self.old self.new }
-    {
-        let removed = self.rows.discard(id);
-        removed_of(tubes, removed)
     }
 
     /// Removes the job with this id, if there is one and it passes a test, and drops it. Its room is
@@ -483,20 +457,6 @@ fn tube_at(tubes: &NumberedTubes, number: TubeNumber) -> Option<Tube>
     match tubes.name_of(number) {
         None => None,
         Some(name) => Some(Tube::new(name, number)),
-    }
-}
-
-// Returns the job of the record with this id, with the name of its tube, if there is a record.
-fn job_of(tubes: &NumberedTubes, id: JobId, row: Option<Row>) -> Option<Job>
-    requires id { IfSome row (λ r. r.id ≡ id) }
-    ensures job { result ≡ option_and_then (job_told tubes.now) row }
-    ensures paired { IsPaired tubes.now }
-{
-    tubes.paired();
-    let row = row?;
-    match tubes.name_of(row.tube) {
-        None => None,
-        Some(name) => Some(rows::job_of(id, row, *name)),
     }
 }
 

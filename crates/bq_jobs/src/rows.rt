@@ -1,8 +1,8 @@
 //! The record of a job, in which the tube is a number; its changes; and the records of all jobs.
 //! The names of the tubes are in a table outside, one for the whole core.
 ghost use Rattle.std.specs.Option.{option_map};
-ghost use Rattle.std.specs.Prelude.{◌≡◌, ◌+◌, ◌-◌, ◌<◌, ◌^◌, ◌∷◌, if◌then◌else◌, []};
-ghost use Rattle.std.specs.Prelude.{nat_lt, length, is_some, true, IfOk, IfSome, None};
+ghost use Rattle.std.specs.Prelude.{◌≡◌, ◌+◌, ◌-◌, ◌<◌, ◌^◌, if◌then◌else◌, []};
+ghost use Rattle.std.specs.Prelude.{nat_lt, length, is_some, IfOk, IfSome, None};
 ghost use Rattle.bq_job.specs.machine.Changes.{job_with};
 ghost use Rattle.bq_job.specs.beside.Lawful.{AreIdsWithin};
 ghost use Rattle.std.specs.BTreeMap.{is_at};
@@ -12,7 +12,7 @@ ghost use Rattle.bq_index.specs.Shelf.{ComparesFew};
 ghost use Rattle.bq_jobs.specs.Changed.{IgnoresTube, KeepsId, entry_at, row_moved_by, row_removed, standing, with_changed, with_edited};
 ghost use Rattle.bq_jobs.specs.Kept.{ComparesAtMost, with_added};
 ghost use Rattle.bq_jobs.specs.Ranks.{first_held, first_timed};
-ghost use Rattle.bq_jobs.specs.Room.{MakesRoom, Removes, RemovesIf};
+ghost use Rattle.bq_jobs.specs.Room.{MakesRoom, RemovesIf};
 ghost use Rattle.bq_jobs.specs.Searching.{FindsById, Searches};
 ghost use Rattle.bq_jobs.specs.Seen.{IsBodyOf, IsTubeOf};
 ghost use Rattle.bq_jobs.specs.Stages.{state_of};
@@ -23,7 +23,7 @@ use super::timers::Timers;
 use super::tube::Tube;
 use super::tubes::TubeNumber;
 use bq_index::{BoxSource, Edit, Shelf, Test};
-use bq_job::{Body, Counts, Job, JobId, JobState, Moment, NoMemory, Pri, Seat, TubeName};
+use bq_job::{Body, Counts, Job, JobId, JobState, Moment, NoMemory, Pri, Seat};
 use std::alloc::Global;
 use std::marker::Model;
 use std::snapshot::Snapshot;
@@ -140,25 +140,6 @@ pub(crate) fn row_of(job: Job, number: TubeNumber) -> Row
     }
 }
 
-/// Returns the job of the record with this id, in the tube with this name.
-pub(crate) fn job_of(id: JobId, row: Row, tube: TubeName) -> Job
-    requires { row.id ≡ id }
-    ensures { result ≡ record row { tube = tube } }
-{
-    let state = row.state();
-    Job {
-        id,
-        tube,
-        pri: row.pri,
-        delay: row.delay,
-        ttr: row.ttr,
-        body: row.body,
-        put_at: row.put_at,
-        counts: row.counts,
-        state,
-    }
-}
-
 /// What gives a job's place in each order, besides its id and its tube.
 #[derive(Clone, Copy)]
 pub struct Standing {
@@ -234,17 +215,6 @@ pub trait RowTest {
     /// Whether a job passes.
     fn passes(&self, job: &Row) -> bool
         ensures { result ≡ passed self.now job.now };
-}
-
-// A test that every job passes.
-struct AnyRow;
-
-impl RowTest for AnyRow {
-    ghost passed = { λ t j. true };
-
-    fn passes(&self, _job: &Row) -> bool {
-        true
-    }
 }
 
 /// The records of the jobs. A record is found by its id, and the first one of each kind without a
@@ -360,16 +330,6 @@ impl Rows {
         self.by_id.insert(id, job);
     }
 
-    /// Removes the job with this id and returns its record, if there is one. Its room is free
-    /// again.
-    pub(crate) fn remove(&mut self, id: JobId) -> Option<Row>
-        ensures job { result ≡ job_with id self.old.jobs }
-        ensures id { IfSome result (λ job. job.id ≡ id) }
-        ensures left { Removes id result self.old self.new }
-    {
-        self.remove_if(id, &AnyRow)
-    }
-
     /// Removes the job with this id and returns its record, if there is one and it passes a test. Its
     /// room is free again. Otherwise no job is removed.
     #[tactic(auto, using(crate::proofs::TestedRemovals::passing_in, crate::proofs::TestedRemovals::passing_own))]
@@ -382,16 +342,6 @@ impl Rows {
         self.groups.leave(places::group_place(id, &job));
         self.timers.leave(places::timer_place(id, &job));
         Some(job)
-    }
-
-    /// Removes the job with this id, if there is one, and drops its record. Returns the number of
-    /// its tube and its standing. Its room is free again.
-    pub(crate) fn discard(&mut self, id: JobId) -> Option<(TubeNumber, Standing)>
-        ensures removed { result ≡ option_map row_removed (job_with id self.old.jobs) }
-        ensures left { Removes id result self.old self.new }
-    {
-        let row = self.remove(id)?;
-        Some((row.tube, Standing::of_row(&row)))
     }
 
     /// Removes the job with this id, if there is one and it passes a test, and drops its record.

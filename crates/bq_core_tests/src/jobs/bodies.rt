@@ -17,7 +17,7 @@ fn reads(jobs: &mut TestJobs, id: JobId, bytes: &[u8]) -> bool {
 fn shares_bodies(jobs: &mut TestJobs) -> bool {
     reads(jobs, 7, b"abc")
         && jobs.share_body(8).is_none()
-        && jobs.remove(7).is_some()
+        && jobs.discard(7).is_some()
         && jobs.share_body(7).is_none()
 }
 

@@ -40,7 +40,7 @@ fn fill(alloc: Global, jobs: &mut TestJobs, name: TubeName, end: JobId) -> bool 
 fn remove_all(jobs: &mut TestJobs, first: JobId, end: JobId) -> bool {
     let mut are_there = true;
     for id in first..end {
-        are_there = jobs.remove(id).is_some() && are_there;
+        are_there = jobs.discard(id).is_some() && are_there;
     }
     are_there
 }

@@ -6,7 +6,7 @@ ghost use Rattle.bq_jobs.specs.Numbering.{is_known};
 
 use bq_index::BoxSource;
 use bq_job::{Body, Counts, Job, JobId, JobState, NoMemory, Pri, Seat, TubeName};
-use bq_jobs::{NumberedJobs, NumberedTubes, Removed, Tube, TubeNumber};
+use bq_jobs::{JobEdit, NumberedJobs, NumberedTubes, Removed, Row, RowTest, Tube, TubeNumber};
 use std::alloc::Global;
 use std::marker::Model;
 use std::process::Abort;
@@ -28,6 +28,29 @@ impl Model for TestJobs {
 
     // The jobs know the table as it is.
     ghost invariant = { λ t. t.tubes.numbers ≡ t.jobs.tubes };
+}
+
+/// A test that every job passes.
+struct AnyJob;
+
+impl RowTest for AnyJob {
+    ghost passed = { λ _ _. true };
+
+    fn passes(&self, _job: &Row) -> bool {
+        true
+    }
+}
+
+/// Puts a job into this state.
+#[derive(Drop)]
+struct NewState(JobState);
+
+impl JobEdit for NewState {
+    ghost edited = { λ s j. record j { state = s.0 } };
+
+    fn edit(&self, job: &mut Row) {
+        job.set_state(self.0);
+    }
 }
 
 // Returns the tube with this name, whose number is not known.
@@ -107,12 +130,15 @@ impl TestJobs {
         true
     }
 
-    pub fn remove(&mut self, id: JobId) -> Option<Job> {
-        self.jobs.remove(&self.tubes, id)
+    pub fn discard(&mut self, id: JobId) -> Option<Removed> {
+        self.jobs.discard_if(&self.tubes, id, &AnyJob)
     }
 
-    pub fn discard(&mut self, id: JobId) -> Option<Removed> {
-        self.jobs.discard(&self.tubes, id)
+    /// Changes the state of the job with this id. Returns false if there is none.
+    pub fn change(&mut self, id: JobId, state: JobState) -> bool {
+        self.jobs
+            .change(&self.tubes, id, &NewState(state))
+            .is_some()
     }
 
     /// Returns the state of the job with this id.
@@ -238,15 +264,4 @@ pub fn put_in_room(
     state: JobState,
 ) -> bool {
     jobs.reserve_one(alloc).is_ok() && put_new(alloc, jobs, id, tube, pri, state)
-}
-
-/// Changes the state of a job by removing it and adding it again.
-pub fn change(alloc: Global, jobs: &mut TestJobs, id: JobId, state: JobState) -> bool {
-    match jobs.remove(id) {
-        None => false,
-        Some(mut job) => {
-            job.state = state;
-            put(alloc, jobs, job)
-        }
-    }
 }

@@ -1,6 +1,6 @@
 //! A job that goes from state to state in the room of one job.
 
-use crate::jobs::putting::{TestJobs, change, has, no_jobs, put_in_room, put_new, tube};
+use crate::jobs::putting::{TestJobs, has, no_jobs, put_in_room, put_new, tube};
 use bq_job::{JobState, TubeName};
 use bq_jobs::Removed;
 use std::alloc::Global;
@@ -50,15 +50,9 @@ fn is_so(jobs: &mut TestJobs, name: &TubeName, state: JobState) -> bool {
 }
 
 // Changes the job with id 1, and returns true if only its new kinds have it.
-fn goes_to(
-    alloc: Global,
-    jobs: &mut TestJobs,
-    name: &TubeName,
-    state: JobState,
-    kinds: &[bool; 6],
-) -> bool {
+fn goes_to(jobs: &mut TestJobs, name: &TubeName, state: JobState, kinds: &[bool; 6]) -> bool {
     let before = jobs.comparisons();
-    change(alloc, jobs, 1, state)
+    jobs.change(1, state)
         && jobs.comparisons() > before
         && has(jobs, 1, 0)
         && is_so(jobs, name, state)
@@ -76,13 +70,13 @@ fn puts_one(alloc: Global, jobs: &mut TestJobs, name: TubeName) -> bool {
 }
 
 fn removes_one(jobs: &mut TestJobs) -> bool {
-    jobs.remove(1).is_some() && jobs.remove(1).is_none() && has(jobs, 0, 1)
+    jobs.discard(1).is_some() && jobs.discard(1).is_none() && has(jobs, 0, 1)
 }
 
 fn go_through_states(rt: &impl Abort, alloc: Global, jobs: &mut TestJobs, name: &TubeName) {
     assert!(rt; puts_one(alloc, jobs, *name));
     for (state, kinds) in STATES {
-        assert!(rt; goes_to(alloc, jobs, name, *state, kinds));
+        assert!(rt; goes_to(jobs, name, *state, kinds));
     }
     assert!(rt; removes_one(jobs));
 }
