@@ -1,7 +1,7 @@
 -- Operations on jobs by the names of their tubes agree with those on records by numbers.
 use Rattle.std.proofs.Common.{◌≡◌, ◌+◌, ◌*◌, ◌≤◌, ℕ, suc, length, Bor, Bool, true, false, ◌&&◌, ◌||◌, List}
 use Rattle.std.proofs.Common.{[], ◌∷◌, Option, Some, None, is_some, map, refl, sym, ap, ◌∙◌, subst, inl, inr}
-use Rattle.std.specs.Prelude.{◌==◌, nat_lt, unwrap_or, Result, Ok, Err, IfOk}
+use Rattle.std.specs.Prelude.{◌==◌, nat_lt, unwrap_or, if◌then◌else◌, Result, Ok, Err, IfOk, IfSome}
 use Rattle.std.specs.BTreeMap.{is_at}
 use Rattle.std.specs.Cmp.Lexicographic.{bytes_decides, slice_cmp}
 use Rattle.std.specs.List.{AllByRecursion as All, list_any}
@@ -19,8 +19,8 @@ use Rattle.bq_job.proofs.KeptLemmas.{ids_of_map}
 use Rattle.bq_job.proofs.LookupLemmas.{job_in_map}
 use Rattle.bq_index.specs.Digits.{binary_digits}
 use Rattle.bq_jobs.specs.Kept.{ComparesAtMost, Kept, with_added, without}
-use Rattle.bq_jobs.specs.Changed.{IgnoresTube, moved_by, moved_in, removed_from, row_moved_by, row_removed, standing, with_changed}
-use Rattle.bq_jobs.specs.Numbering.{AreNumbered, AreRegistered, Extends, IsNumbered, IsPaired, Numbering, kept_named}
+use Rattle.bq_jobs.specs.Changed.{IgnoresTube, moved_by, removed_from, row_moved_by, row_removed, standing, with_changed}
+use Rattle.bq_jobs.specs.Numbering.{AreNumbered, AreRegistered, Extends, HasNumber, IsNumbered, IsPaired, Numbering, kept_named}
 use Rattle.bq_jobs.specs.Numbering.{name_of, named, number_of}
 use Rattle.bq_jobs.specs.Names.{number_in}
 use Rattle.bq_jobs.specs.Searching.{FindsById}
@@ -173,30 +173,17 @@ numbered_there k id (r ∷ rows) j all e = elim (cases_Bool (r.id == id)) [
   | inr t ↦ numbered_there k id rows j all.1 (rw t at e)
 ]
 
--- a numbered record has a name
-removed_by_name : (j : Job) (o : Option (List ℕ)) → is_some o ≡ true
-    → option_map (λ tube. record { tube = tube; at = standing j }) o ≡ Some (removed_from (record j { tube = unwrap_or o [] }))
-removed_by_name j None some = absurd cc
-removed_by_name j (Some name) some = refl
-
-removals_by : (k : Numbering) (id : ℕ) (rows : List Job) → AreNumbered k rows
-    → option_and_then (removed_told k) (option_map row_removed (job_with id rows))
-    ≡ option_map removed_from (job_with id (map (named k) rows))
-removals_by k id rows all = of (job_with id rows) refl ∙ ap (option_map removed_from) (sym (job_named k id rows))
+pub numbered_found : (k : Numbering) (id : ℕ) (rows : List Job) → AreNumbered k rows → IfSome (job_with id rows) (IsNumbered k)
+numbered_found k id rows all = of (job_with id rows) refl
   where
-    of : (o : Option Job) → job_with id rows ≡ o
-        → option_and_then (removed_told k) (option_map row_removed o) ≡ option_map removed_from (option_map (named k) o)
-    of None there = refl
-    of (Some j) there = removed_by_name j (name_of (number_in j.tube) k) ((numbered_there k id rows j all there).1)
+    of : (o : Option Job) → job_with id rows ≡ o → IfSome o (IsNumbered k)
+    of None there = tt
+    of (Some j) there = numbered_there k id rows j all there
 
--- The same with the names of a table whose tubes have the same numbers.
-module _ (k l : Numbering) (id : ℕ) (rows : List Job) (h : AreRegistered k rows) (g : IsPaired l) (same : l.numbers ≡ k.numbers) where
-  pub told_removed : option_and_then (removed_told l) (option_map row_removed (job_with id rows))
-      ≡ option_map removed_from (job_with id (map (named k) rows))
-  told_removed =
-      ap (λ told. option_and_then told (option_map row_removed (job_with id rows)))
-      (λ i r. option_map (λ tube. record { tube = tube; at = r.1 }) (same_names k l h.paired g (number_in r.0) same i))
-      ∙ removals_by k id rows h.numbered
+-- a numbered record has a name
+named_is : (o : Option (List ℕ)) → is_some o ≡ true → o ≡ Some (unwrap_or o [])
+named_is None some = absurd cc
+named_is (Some name) some = refl
 
 -- their ids are the same
 pub ids_named : (k : Numbering) (low next : ℕ) (rows : List Job) → AreIdsWithin low rows next → AreIdsWithin low (map (named k) rows) next
@@ -228,33 +215,39 @@ pub row_added : (k : Numbering) (rows : List Job) → AreRegistered k rows → (
 row_added k rows h j n own = ap (λ i. with_added i (map (named k) rows)) (sym (row_named k h.paired j n own))
     ∙ added_named k (record j { tube = n }) rows
 
--- the report about a changed record is the report about its job
-module _ (k : Numbering) (id : ℕ) (f : Job → Job) (ignores : IgnoresTube f) where
-  moved_by_name : (j : Job) (o : Option (List ℕ)) → is_some o ≡ true
-      → option_map (moved_in (row_moved_by f j)) o ≡ Some
-      (record { tube = unwrap_or o []; from = standing j; to = standing (named k (f j)) })
-  moved_by_name j None some = absurd cc
-  moved_by_name j (Some name) some = refl
+-- the report about a record is the report about its job,
+pub told_removed : (k : Numbering) (o : Option Job) → option_map (λ r. r.1) (option_map (removed_told k) (option_map row_removed o))
+    ≡ option_map removed_from (option_map (named k) o)
+told_removed k None = refl
+told_removed k (Some j) = refl
 
-  moves_by : (rows : List Job) → AreNumbered k rows
-      → option_and_then (moved_told k) (option_map (row_moved_by f) (job_with id rows)) ≡ option_map (moved_by f)
-      (job_with id (map (named k) rows))
-  moves_by rows all = of (job_with id rows) refl ∙ ap (option_map (moved_by f)) (sym (job_named k id rows))
-    where
-      of : (o : Option Job) → job_with id rows ≡ o
-          → option_and_then (moved_told k) (option_map (row_moved_by f) o) ≡ option_map (moved_by f) (option_map (named k) o)
-      of None there = refl
-      of (Some j) there =
-          moved_by_name j (name_of (number_in j.tube) k) ((numbered_there k id rows j all there).1)
-          ∙ ap (λ i. Some (record { tube = (named k j).tube; from = standing j; to = standing i })) (sym (edited_named k id f ignores j))
+pub told_moved : (k : Numbering) (id : ℕ) (f : Job → Job) → IgnoresTube f → (rows : List Job)
+    → option_map (λ r. r.1) (option_map (moved_told k) (option_map (row_moved_by f) (job_with id rows)))
+    ≡ option_map (moved_by f) (job_with id (map (named k) rows))
+told_moved k id f ignores rows = of (job_with id rows) ∙ ap (option_map (moved_by f)) (sym (job_named k id rows))
+  where
+    of : (o : Option Job) → option_map (λ r. r.1) (option_map (moved_told k) (option_map (row_moved_by f) o))
+        ≡ option_map (moved_by f) (option_map (named k) o)
+    of None = refl
+    of (Some j) = ap (λ i. Some (record { tube = (named k j).tube; from = standing j; to = standing i })) (sym (edited_named k id f ignores j))
 
-  pub told_moved : (l : Numbering) (rows : List Job) → AreRegistered k rows → IsPaired l → l.numbers ≡ k.numbers
-      → option_and_then (moved_told l) (option_map (row_moved_by f) (job_with id rows)) ≡ option_map (moved_by f)
-      (job_with id (map (named k) rows))
-  told_moved l rows h g same =
-      ap (λ told. option_and_then told (option_map (row_moved_by f) (job_with id rows)))
-      (λ i m. option_map (moved_in m) (same_names k l h.paired g (number_in m.tube) same i))
-      ∙ moves_by rows h.numbered
+-- and the tube of the job has the number that comes with it.
+pub has_number : (k : Numbering) → IsPaired k → (j : Job) → IsNumbered k j → HasNumber (named k j).tube j.tube k.numbers
+has_number k h j is = h.back (number_in j.tube) (named k j).tube (named_is (name_of (number_in j.tube) k) is.1)
+
+pub number_removed : (k : Numbering) → IsPaired k → (o : Option Job) → IfSome o (IsNumbered k)
+    → IfSome (option_map (removed_told k) (option_map row_removed o)) (λ r. HasNumber r.1.tube r.0 k.numbers)
+number_removed k h None is = tt
+number_removed k h (Some j) is = has_number k h j is
+
+pub number_moved : (k : Numbering) (f : Job → Job) (id : ℕ) (rows : List Job) → AreRegistered k rows
+    → IfSome (option_map (moved_told k) (option_map (row_moved_by f) (job_with id rows))) (λ r. HasNumber r.1.tube r.0 k.numbers)
+number_moved k f id rows h = of (job_with id rows) (numbered_found k id rows h.numbered)
+  where
+    of : (o : Option Job) → IfSome o (IsNumbered k)
+        → IfSome (option_map (moved_told k) (option_map (row_moved_by f) o)) (λ r. HasNumber r.1.tube r.0 k.numbers)
+    of None is = tt
+    of (Some j) is = has_number k h.paired j is
 
 -- Jobs keep their tubes if the names of these tubes stay.
 module _ (k l : Numbering) where
@@ -323,10 +316,6 @@ tube_named k l id rows h g same n e = same_names k l h.paired g (number_in n) sa
         let is : j.tube ≡ n = (cc) in
         ap (λ i. name_of (number_in i) k) (sym is)
         ∙ named_is (name_of (number_in j.tube) k) ((numbered_there k id rows j h.numbered there).1)
-      where
-        named_is : (o : Option (List ℕ)) → is_some o ≡ true → o ≡ Some (unwrap_or o [])
-        named_is None some = absurd cc
-        named_is (Some name) some = refl
 
 pub no_tube_named : (k : Numbering) (id : ℕ) (rows : List Job) → option_map (λ j. j.tube) (job_with id rows) ≡ None
     → None ≡ option_map (λ j. j.tube) (job_with id (map (named k) rows))

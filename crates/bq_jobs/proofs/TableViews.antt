@@ -13,7 +13,7 @@ use Rattle.std.proofs.lemmas.List.{length-map}
 use Rattle.bq_index.specs.Edited.{edited_at}
 use Rattle.bq_index.specs.Order.{InOrder}
 use Rattle.bq_jobs.specs.Names.{number_in}
-use Rattle.bq_jobs.specs.Numbering.{Extends, IsPaired, Numbering}
+use Rattle.bq_jobs.specs.Numbering.{Extends, HasNumber, IsPaired, Numbering}
 use Rattle.bq_jobs.specs.Numbering.{name_of, number_of, put_at, without_known}
 use Rattle.bq_jobs.specs.Table.{Tabled, changed_at, entries_at, put_value}
 use Rattle.bq_jobs.proofs.Choice.{lookup_inserted}
@@ -68,6 +68,10 @@ module _ {V : Type 0} (k : Numbering) (vs : List V) (h : IsPaired k × (length v
     pub table_absent : (q : List ℕ) → lookup (is_at (slice_cmp nat_cmp q)) t.entries ≡ None → number_of q k ≡ None
     table_absent q none = absent_by q (number_of q k) refl
         (sym (look q) ∙ ap (λ (s : Tabled V). lookup (is_at (slice_cmp nat_cmp q)) s.entries) is ∙ none)
+
+    -- the number of a registered tube
+    pub known_at : (q n : List ℕ) → HasNumber q n t.numbers → option_map number_in (Some n) ≡ number_of q k
+    known_at q n own = sym (ap (λ (s : Tabled V). lookup (is_at (slice_cmp nat_cmp q)) s.numbers) is ∙ own)
 
     -- the number of a tube, as a search reports it
     module _ (q : List ℕ) (o : Option (List ℕ)) (found : option_map number_in o ≡ number_of q k) where

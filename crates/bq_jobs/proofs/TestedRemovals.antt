@@ -1,19 +1,21 @@
 -- A removal that asks a test first, of the records and of their jobs with the names of their tubes.
 use Rattle.std.proofs.Common.{◌≡◌, ◌+◌, ℕ, Bool, true, false, cond, List, Option, Some, None, is_some, map, refl, sym, ap, ◌∙◌, subst}
 use Rattle.std.specs.Prelude.{if◌then◌else◌}
-use Rattle.std.specs.Option.{option_and_then, option_map}
+use Rattle.std.specs.Option.{IfSome, option_map}
 use Rattle.bq_index.proofs.Removed.{value_there}
 use Rattle.bq_index.specs.Removed.{passing}
 use Rattle.bq_job.specs.declared.job.Job.{Job}
 use Rattle.bq_job.specs.machine.Changes.{job_with}
 use Rattle.bq_jobs.specs.Changed.{AsksNoTube, entry_at, removed_from, row_removed}
 use Rattle.bq_jobs.specs.Kept.{Kept, without}
-use Rattle.bq_jobs.specs.Numbering.{AreRegistered, IsPaired, Numbering, kept_named, named}
-use Rattle.bq_jobs.specs.Room.{RemovesIf}
+use Rattle.bq_jobs.specs.Numbering.{AreRegistered, HasNumber, IsNumbered, Numbering, kept_named, named}
+use Rattle.bq_jobs.specs.Room.{Removes, RemovesIf}
 use Rattle.bq_jobs.specs.Told.{removed_told}
 use Rattle.bq_jobs.specs.declared.rows.Rows.TheInside.{Inside as Parts}
 use Rattle.bq_jobs.specs.Inside.{jobs_of}
-use Rattle.bq_jobs.proofs.NamedJobs.{counted_as, job_named, registered_without, some_mapped, told_removed, without_named}
+use Rattle.bq_jobs.proofs.Changes.{not_there, without_none}
+use Rattle.bq_jobs.proofs.NamedJobs.{counted_as, job_named, number_removed, numbered_found, registered_without, told_removed}
+use Rattle.bq_jobs.proofs.NamedJobs.{without_named}
 use Rattle.bq_jobs.proofs.Shelved.{AreShelved, found_in, found_own}
 
 -- the job that an id finds, if it passes
@@ -43,31 +45,25 @@ module _ (k : Numbering) (p : Job → Bool) (no_tube : AsksNoTube p) where
       ≡ option_map (named k) (passing p (job_with id rows))
   passing_named id rows = ap (passing p) (job_named k id rows) ∙ passing_of (job_with id rows)
 
--- what a report says of one it says of the one that passes
-told_if : {A B C D : Type 0} (t : B → Option C) (f : A → B) (g : D → C) (n : A → D) (p : A → Bool) (o : Option A)
-    → option_and_then t (option_map f o) ≡ option_map g (option_map n o)
-    → option_and_then t (option_map f (passing p o)) ≡ option_map g (option_map n (passing p o))
-told_if t f g n p None e = refl
-told_if t f g n p (Some x) e = of (p x)
+passing_numbered : (k : Numbering) (p : Job → Bool) (o : Option Job) → IfSome o (IsNumbered k) → IfSome (passing p o) (IsNumbered k)
+passing_numbered k p None is = tt
+passing_numbered k p (Some j) is = of (p j)
   where
-    of : (b : Bool) → option_and_then t (option_map f (cond b (Some x) None)) ≡ option_map g (option_map n (cond b (Some x) None))
-    of true = e
-    of false = refl
+    of : (b : Bool) → IfSome (cond b (Some j) None) (IsNumbered k)
+    of true = is
+    of false = tt
 
-module _ (k l : Numbering) (id : ℕ) (rows : List Job) (h : AreRegistered k rows) (g : IsPaired l) (same : l.numbers ≡ k.numbers)
-    (p : Job → Bool) (no_tube : AsksNoTube p) where
-  pub told_removed_if : option_and_then (removed_told l) (option_map row_removed (passing p (job_with id rows)))
+module _ (k : Numbering) (id : ℕ) (rows : List Job) (p : Job → Bool) where
+  pub told_removed_if : AsksNoTube p
+      → option_map (λ r. r.1) (option_map (removed_told k) (option_map row_removed (passing p (job_with id rows))))
       ≡ option_map removed_from (passing p (job_with id (map (named k) rows)))
-  told_removed_if =
-      told_if (removed_told l) row_removed removed_from (named k) p (job_with id rows)
-      (told_removed k l id rows h g same ∙ ap (option_map removed_from) (job_named k id rows))
+  told_removed_if no_tube = told_removed k (passing p (job_with id rows))
       ∙ ap (option_map removed_from) (sym (passing_named k p no_tube id rows))
 
-  pub some_told_if : is_some (option_map removed_from (passing p (job_with id (map (named k) rows))))
-      ≡ is_some (option_map row_removed (passing p (job_with id rows)))
-  some_told_if = some_mapped removed_from (passing p (job_with id (map (named k) rows)))
-      ∙ ap is_some (passing_named k p no_tube id rows) ∙ some_mapped (named k) (passing p (job_with id rows))
-      ∙ sym (some_mapped row_removed (passing p (job_with id rows)))
+  pub number_removed_if : AreRegistered k rows
+      → IfSome (option_map (removed_told k) (option_map row_removed (passing p (job_with id rows)))) (λ r. HasNumber r.1.tube r.0 k.numbers)
+  number_removed_if h =
+      number_removed k h.paired (passing p (job_with id rows)) (passing_numbered k p (job_with id rows) (numbered_found k id rows h.numbered))
 
 pub registered_if : (k : Numbering) (id : ℕ) (rows : List Job) (b : Bool) → AreRegistered k rows
     → AreRegistered k (if b then without id rows else rows)

@@ -33,10 +33,6 @@ row_removed j = (j.tube, standing j)
 abbrev pub removed_from : Job → Removed
 removed_from j = record { tube = j.tube; at = standing j }
 
--- the report about a record, with the name of its tube
-abbrev pub moved_in : MovedRow → List ℕ → Moved
-moved_in m tube = record { tube = tube; from = m.from; to = m.to }
-
 abbrev pub KeepsId : (Job → Job) → Type 0
 KeepsId f = (j : Job) → (f j).id ≡ j.id
 

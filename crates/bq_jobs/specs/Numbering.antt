@@ -91,6 +91,10 @@ kept_named rows k = record { jobs = map (named k) rows.jobs; room = rows.room; c
 abbrev pub is_known : List ℕ → Kept → Bool
 is_known name m = is_some (lookup (is_at (slice_cmp nat_cmp name)) m.tubes)
 
+-- the tube of this name is registered under this number
+abbrev pub HasNumber : List ℕ → List ℕ → List (List ℕ × ℕ) → Type 0
+HasNumber name number numbers = lookup (is_at (slice_cmp nat_cmp name)) numbers ≡ Some (number_in number)
+
 -- each tube keeps the number that it had
 abbrev pub Extends : List (List ℕ × ℕ) → List (List ℕ × ℕ) → Type 0
 Extends old new =

@@ -18,7 +18,7 @@ ghost use Rattle.std.specs.List.{list_any};
 ghost use Rattle.bq_index.specs.Removed.{passing};
 ghost use Rattle.bq_jobs.specs.Changed.{AsksNoTube, IgnoresTube, KeepsId, moved_by, removed_from, with_changed};
 ghost use Rattle.bq_jobs.specs.Names.{number_in};
-ghost use Rattle.bq_jobs.specs.Numbering.{Extends, IsPaired, is_known, name_of, number_of};
+ghost use Rattle.bq_jobs.specs.Numbering.{Extends, HasNumber, IsPaired, name_of, number_of};
 ghost use Rattle.bq_jobs.specs.Seen.{IsBodyOf, IsTubeOf, but_for_tube};
 ghost use Rattle.bq_jobs.specs.Told.{moved_told, removed_told};
 ghost use Rattle.bq_jobs.specs.Kept.{ComparesAtMost, ranked, with_added};
@@ -29,6 +29,7 @@ ghost use Rattle.bq_jobs.specs.Ranks.{first_held, first_timed, id_in};
 ghost use Rattle.bq_jobs.specs.Room.{MakesRoom, RemovesIf};
 ghost use Rattle.bq_jobs.specs.Searching.{FindsById, Searches};
 
+use super::ghost_name::GhostName;
 use super::places::{Group, JobList, Timer};
 use super::rows::{self, JobEdit, Moved, MovedRow, Removed, Row, RowTest, Rows, Standing};
 use super::tube::Tube;
@@ -140,61 +141,49 @@ impl NumberedJobs {
         self.rows.give_back();
     }
 
-    /// Adds a job, which uses the room of one. Its tube has to be registered, and is looked for at
-    /// the number `hint` first.
+    /// Adds a job, which uses the room of one. Its tube has to be registered under this number.
     #[tactic(auto, using(crate::proofs::NamedJobs::additions))]
-    pub fn add(&mut self, tubes: &NumberedTubes, job: Job, hint: TubeNumber)
+    pub fn add(&mut self, job: Job, number: TubeNumber)
         requires room { 0 < self.old.room }
         requires absent { job_with job.id self.old.jobs ≡ None }
-        requires known { is_known job.tube self.old ≡ true }
-        requires same { tubes.now.numbers ≡ self.old.tubes }
+        requires number { HasNumber job.tube number self.old.tubes }
         ensures jobs { self.new.jobs ≡ with_added job self.old.jobs }
         ensures ordered { AreIdsWithin 0 self.new.jobs (2 ^ 64) }
         ensures tubes { self.new.tubes ≡ self.old.tubes }
         ensures room { self.new.room + 1 ≡ self.old.room }
         ensures comparisons { ComparesAtMost 4 self.old self.new }
     {
-        if let Some(number) = number_at(tubes, &job.tube, hint) {
-            self.rows.add(job.id, rows::row_of(job, number));
-        }
+        self.rows.add(job.id, rows::row_of(job, number));
     }
 
     /// Removes the job with this id, if there is one and it passes a test, and drops it. Its room is
-    /// free again. Returns the tube and the standing that the job had. Otherwise no job is removed.
+    /// free again. Returns the number of its tube, and the report about it. Otherwise no job is
+    /// removed.
     ///
     /// The job is searched once, and the test runs where the search has found it.
     #[tactic(auto, using(crate::proofs::TestedRemovals::discards_if))]
-    pub fn discard_if<T: RowTest>(
-        &mut self,
-        tubes: &NumberedTubes,
-        id: JobId,
-        test: &T,
-    ) -> Option<Removed>
+    pub fn discard_if<T: RowTest>(&mut self, id: JobId, test: &T) -> Option<(TubeNumber, Removed)>
         requires tube { AsksNoTube (T.passed test.now) }
-        requires same { tubes.now.numbers ≡ self.old.tubes }
-        ensures removed { result
+        ensures removed { option_map (λ r. r.1) result
             ≡ option_map removed_from (passing (T.passed test.now) (job_with id self.old.jobs)) }
+        ensures number { IfSome result (λ r. HasNumber r.1.tube r.0 self.old.tubes) }
         ensures tubes { self.new.tubes ≡ self.old.tubes }
         ensures left { RemovesIf id result self.old self.new }
     {
         let removed = self.rows.discard_if(id, test);
-        removed_of(tubes, removed)
+        removed_of(&self.tubes, removed)
     }
 
     /// Changes the job with this id, if there is one, and moves it to its new place in each order.
-    /// The record itself does not move, and nothing is allocated.
+    /// The record itself does not move, and nothing is allocated. Returns the number of its tube,
+    /// and the report about it.
     #[tactic(auto, using(crate::proofs::NamedJobs::changes))]
-    pub fn change<E: JobEdit>(
-        &mut self,
-        tubes: &NumberedTubes,
-        id: JobId,
-        edit: &E,
-    ) -> Option<Moved>
+    pub fn change<E: JobEdit>(&mut self, id: JobId, edit: &E) -> Option<(TubeNumber, Moved)>
         requires id { KeepsId (E.edited edit.now) }
         requires tube { IgnoresTube (E.edited edit.now) }
-        requires same { tubes.now.numbers ≡ self.old.tubes }
-        ensures moved { result
+        ensures moved { option_map (λ r. r.1) result
             ≡ option_map (moved_by (E.edited edit.now)) (job_with id self.old.jobs) }
+        ensures number { IfSome result (λ r. HasNumber r.1.tube r.0 self.old.tubes) }
         ensures jobs { self.new.jobs ≡ with_changed id (E.edited edit.now) self.old.jobs }
         ensures ordered { AreIdsWithin 0 self.old.jobs (2 ^ 64) }
         ensures tubes { self.new.tubes ≡ self.old.tubes }
@@ -202,7 +191,7 @@ impl NumberedJobs {
         ensures comparisons { ComparesAtMost 7 self.old self.new }
     {
         let moved = self.rows.change(id, edit);
-        told_of(tubes, moved)
+        told_of(&self.tubes, moved)
     }
 
     /// Returns the record of the job with this id. It has all of the job but the name of its tube.
@@ -460,37 +449,32 @@ fn tube_at(tubes: &NumberedTubes, number: TubeNumber) -> Option<Tube>
     }
 }
 
-// Returns the report about a removed record, with the name of its tube.
-fn removed_of(tubes: &NumberedTubes, removed: Option<(TubeNumber, Standing)>) -> Option<Removed>
-    ensures removed { result ≡ option_and_then (removed_told tubes.now) removed }
-    ensures paired { IsPaired tubes.now }
+// Returns the number of the tube of a removed record, and the report about its job.
+fn removed_of(
+    tubes: &Snapshot<NumberedTubes>,
+    removed: Option<(TubeNumber, Standing)>,
+) -> Option<(TubeNumber, Removed)>
+    ensures { result ≡ option_map (removed_told tubes.now.value) removed }
 {
-    tubes.paired();
     let (number, at) = removed?;
-    match tubes.name_of(number) {
-        None => None,
-        Some(name) => Some(Removed {
-            tube: Tube::new(name, number),
-            at,
-        }),
-    }
+    let tube = GhostName::of(tubes, number);
+    Some((number, Removed { tube, at }))
 }
 
-// Returns the report about a changed record, with the name of its tube.
-fn told_of(tubes: &NumberedTubes, moved: Option<MovedRow>) -> Option<Moved>
-    ensures moved { result ≡ option_and_then (moved_told tubes.now) moved }
-    ensures paired { IsPaired tubes.now }
+// Returns the number of the tube of a changed record, and the report about its job.
+fn told_of(tubes: &Snapshot<NumberedTubes>, moved: Option<MovedRow>) -> Option<(TubeNumber, Moved)>
+    ensures { result ≡ option_map (moved_told tubes.now.value) moved }
 {
-    tubes.paired();
     let moved = moved?;
-    match tubes.name_of(moved.tube) {
-        None => None,
-        Some(name) => Some(Moved {
-            tube: Tube::new(name, moved.tube),
+    let tube = GhostName::of(tubes, moved.tube);
+    Some((
+        moved.tube,
+        Moved {
+            tube,
             from: moved.from,
             to: moved.to,
-        }),
-    }
+        },
+    ))
 }
 
 // Properties of the machine's definitions: what an addition does, and which job an id finds.

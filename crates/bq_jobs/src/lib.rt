@@ -18,6 +18,7 @@
 //! five pieces | 80 at most | | together | 392 at most |
 #![tactic(auto)]
 
+pub use ghost_name::GhostName;
 pub use jobs::{NumberedJobs, adds_at_the_end, chosen_has_its_id, next_is_free};
 pub use named_jobs::Jobs;
 pub use rows::{JobEdit, Moved, Removed, Row, RowTest, Standing};
@@ -25,6 +26,7 @@ pub use table::TubeTable;
 pub use tube::Tube;
 pub use tubes::{NumberedTubes, TubeNumber};
 
+mod ghost_name;
 mod groups;
 mod jobs;
 mod named_group;

@@ -17,10 +17,10 @@ ghost use Rattle.bq_jobs.specs.Searching.{FindsById, Searches};
 ghost use Rattle.bq_jobs.specs.Seen.{IsBodyOf, IsTubeOf};
 ghost use Rattle.bq_jobs.specs.Stages.{state_of};
 
+use super::ghost_name::GhostName;
 use super::groups::Groups;
 use super::places::{self, Group, Timer};
 use super::timers::Timers;
-use super::tube::Tube;
 use super::tubes::TubeNumber;
 use bq_index::{BoxSource, Edit, Shelf, Test};
 use bq_job::{Body, Counts, Job, JobId, JobState, Moment, NoMemory, Pri, Seat};
@@ -169,18 +169,20 @@ impl Standing {
     }
 }
 
-/// The report about a changed job: its tube, and its standing before and after the change.
+/// The report about a changed job: the name of its tube, for contracts only, and its standing before
+/// and after the change. The number of the tube comes with it.
 #[derive(Drop)]
 pub struct Moved {
-    pub tube: Tube,
+    pub tube: GhostName,
     pub from: Standing,
     pub to: Standing,
 }
 
-/// The report about a removed job: its tube, and its standing when it was removed.
+/// The report about a removed job: the name of its tube, for contracts only, and its standing when
+/// it was removed. The number of the tube comes with it.
 #[derive(Drop)]
 pub struct Removed {
-    pub tube: Tube,
+    pub tube: GhostName,
     pub at: Standing,
 }
 

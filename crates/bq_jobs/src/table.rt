@@ -11,9 +11,10 @@ ghost use Rattle.bq_index.specs.Edited.{edited_at};
 ghost use Rattle.bq_index.specs.Order.{InOrder};
 ghost use Rattle.bq_index.specs.Walk.{entry_of, passes_by, passes_from, seen_by};
 ghost use Rattle.bq_jobs.specs.Names.{number_in};
-ghost use Rattle.bq_jobs.specs.Numbering.{Extends};
+ghost use Rattle.bq_jobs.specs.Numbering.{Extends, HasNumber};
 ghost use Rattle.bq_jobs.specs.Table.{changed_at, passes_if, put_value, valued_in, visited};
 
+use crate::ghost_name::GhostName;
 use crate::tubes::{NumberedTubes, TubeNumber};
 use bq_index::{Edit, Test, Visitor};
 use bq_job::{NoMemory, TubeName};
@@ -189,7 +190,16 @@ impl<V: Drop> TubeTable<V> {
         ensures ordered { InOrder (slice_cmp nat_cmp) self.now.entries }
     {
         let number = self.tubes.number_of(name, hint)?;
-        value_at(self.values.as_slice(), number.get())
+        Some(self.get_numbered(name, number))
+    }
+
+    /// Returns the value of a tube that is registered under this number. No names are compared.
+    pub fn get_numbered(&self, name: &TubeName, number: TubeNumber) -> &V
+        requires number { HasNumber name.now number self.now.numbers }
+        ensures { Some result.now ≡ lookup (is_at (slice_cmp nat_cmp name.now)) self.now.entries }
+    {
+        let _ = name;
+        &self.values[number.get() as usize]
     }
 
     /// Changes the value of a tube in place. Returns what the change returns, or `None` if the tube
@@ -208,7 +218,28 @@ impl<V: Drop> TubeTable<V> {
         ensures numbers { self.new.numbers ≡ self.old.numbers }
     {
         let number = self.tubes.number_of(name, hint)?;
-        Some(edit_at(&mut self.values, number.get(), edit))
+        let name = GhostName::registered(&self.tubes, name, number);
+        Some(self.edit_numbered(&name, number, edit))
+    }
+
+    /// Changes the value of a tube that is registered under this number. Returns what the change
+    /// returns. No names are compared.
+    pub fn edit_numbered<T: Drop, E: Edit<V, T>>(
+        &mut self,
+        name: &GhostName,
+        number: TubeNumber,
+        edit: &E,
+    ) -> T
+        requires number { HasNumber name.now number self.old.numbers }
+        ensures told { Some result ≡ option_map (E.told edit.now)
+            (lookup (is_at (slice_cmp nat_cmp name.now)) self.old.entries) }
+        ensures entries { self.new.entries
+            ≡ edited_at (is_at (slice_cmp nat_cmp name.now)) (E.edited edit.now) self.old.entries }
+        ensures ordered { InOrder (slice_cmp nat_cmp) self.old.entries }
+        ensures numbers { self.new.numbers ≡ self.old.numbers }
+    {
+        let _ = name;
+        edit_at(&mut self.values, number.get(), edit)
     }
 
     /// Registers a tube that is not registered, with its value. Returns the number that the tube

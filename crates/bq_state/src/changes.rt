@@ -6,18 +6,18 @@ ghost use Rattle.bq_index.specs.Removed.{passing};
 ghost use Rattle.bq_job.specs.{beside.NameOrder.is_in_order, machine.Changes.{is_held_by, is_ready_state, is_waiting, job_with, seat_with}};
 ghost use Rattle.bq_job.specs.machine.{Changes.{with_job, with_seat}, Dispatch.next_job, JobCommands.{last_id, with_put}, Limits.grown};
 ghost use Rattle.bq_job.specs.machine.{Limits.raised, Machine.{empty_seat, new_machine, numbers}, Timers.at_moment, TubeOrder.tubes};
-ghost use Rattle.bq_job.specs.{machine.Tubes.{forgetting, watches, with_tube}, reading.TubeName.is_same_name};
-ghost use Rattle.bq_jobs.specs.{Kept.{ComparesAtMost, with_added}, Names.number_in, Searching.Asks};
-ghost use Rattle.bq_state.specs.{CoreParts.{AtSeat, Watches, held, machine_of, with_pauses_ended}, Crowds.may_wait, Dues.is_end_over};
-ghost use Rattle.bq_state.specs.{Dues.with_warning_due, JobChanges.{changed, is_passed_by, once_deleted, passes}, Keeping.Looks};
-ghost use Rattle.bq_state.specs.{KeptTubes.{first_tubes, is_named_at}, Names.names_of, Offers.is_waited_at, SeatChanges.fewer_watched};
-ghost use Rattle.bq_state.specs.{SeatChanges.{has_tube_of, more_watched, seat_changed, watches_other}, TubeEntries.{has_entry, is_tube_of}};
-ghost use Rattle.bq_state.specs.{TubeEntries.tube_changed, Warnings.{has_waiting_holder, may_hold, warned_if_due, with_holder}};
+ghost use Rattle.bq_job.specs.machine.Tubes.{forgetting, watches, with_tube};
+ghost use Rattle.bq_jobs.specs.{Kept.{ComparesAtMost, with_added}, Names.number_in, Numbering.HasNumber, Searching.Asks};
+ghost use Rattle.bq_state.specs.{CoreParts.{AtSeat, Watches, held, machine_of, with_pauses_ended}, Crowds.may_wait, Dues.with_warning_due};
+ghost use Rattle.bq_state.specs.{JobChanges.{changed, is_passed_by, once_deleted, passes}, KeptTubes.{first_tubes, is_named_at}};
+ghost use Rattle.bq_state.specs.{Names.names_of, Offers.is_waited_at, SeatChanges.{fewer_watched, has_tube_of, more_watched, seat_changed}};
+ghost use Rattle.bq_state.specs.{SeatChanges.watches_other, TubeEntries.{has_entry, is_tube_of, tube_changed}, Warnings.may_hold};
+ghost use Rattle.bq_state.specs.Warnings.{warned_if_due, with_holder};
 ghost use Rattle.bq_state.specs.declared.known.wanted.Wanted.TheVariants as wanted_jobs;
 
 use crate::core_parts::CoreParts;
 use crate::job_store::{JobChange, JobTest};
-use crate::known::{Clients, FirstTimeout, Known, MaybeGone, Wanted, is_over};
+use crate::known::{FirstTimeout, Known, MaybeGone, Wanted, is_over};
 use crate::name_lists::Names;
 use crate::seats::{SeatChange, SeatRecord};
 use crate::tubes::{Moving, TubeChange, Tubes};
@@ -25,7 +25,7 @@ use crate::waiting::Waiting;
 use crate::{job_store, seats, shares};
 use bq_core_api::Config;
 use bq_job::{Job, JobId, JobState, Moment, NoMemory, Seat, TubeName};
-use bq_jobs::{Moved, NumberedJobs, Tube, TubeNumber};
+use bq_jobs::{NumberedJobs, Tube, TubeNumber};
 use std::alloc::Global;
 
 // The last id that is given out. Its put makes the core drain, so the next id always fits.
@@ -43,6 +43,25 @@ pub fn make_room(state: &mut CoreParts, alloc: Global) -> Result<(), NoMemory>
     state.jobs.reserve_one(alloc)
 }
 
+// Returns true if the state is ready and the counts show a client that waits for jobs of the tube,
+// which is registered under this number.
+fn is_wanted(
+    known: &Known,
+    tubes: &Tubes,
+    state: JobState,
+    name: &TubeName,
+    number: TubeNumber,
+) -> bool
+    requires { HasNumber name.now number tubes.now.numbers }
+    ensures { result
+        ≡ (is_ready_state state
+        && (nat_lt 0 known.now.clients.waiting && is_waited_at name.now tubes.now)) }
+{
+    matches!(state, JobState::Ready)
+        && known.clients.waiting > 0
+        && tubes.crowd_numbered(name, number).waiting > 0
+}
+
 /// Adds a job, for which there is room, and counts it in its tube, which is looked for at the
 /// number `hint` first. Its id was given out, and its tube has an entry.
 pub fn add(state: &mut CoreParts, job: Job, hint: TubeNumber)
@@ -54,11 +73,12 @@ pub fn add(state: &mut CoreParts, job: Job, hint: TubeNumber)
         ≡ record (with_tube job.tube with_put (machine_of state.old)) { jobs = with_added job (machine_of state.old).jobs } }
     ensures asks { ComparesAtMost 4 state.old.jobs state.new.jobs }
 {
-    let is_wanted = state.is_wanted(&job, hint);
-    let waits = state.has_waiting_holder(&job);
-    state.known.add_job(&job, hint, is_wanted, waits);
-    state.tubes.add_job(&job, hint);
-    state.jobs.add(state.tubes.names(), job, hint);
+    let number = state.tubes.number_of(&job.tube, hint).unwrap();
+    let is_wanted = is_wanted(&state.known, &state.tubes, job.state, &job.tube, number);
+    let waits = seats::holder_waits(state.seats.as_slice(), job.state);
+    state.known.add_job(&job, number, is_wanted, waits);
+    state.tubes.add_job(&job, number);
+    state.jobs.add(job, number);
 }
 
 /// Removes the job with this id and drops it, and counts the deletion in its tube. Returns false if
@@ -72,24 +92,15 @@ pub fn delete(state: &mut CoreParts, id: JobId, test: JobTest) -> bool
         ≡ once_deleted (passing (passes test) (job_with id (machine_of state.old).jobs)) (machine_of state.old) }
     ensures asks { ComparesAtMost 4 state.old.jobs state.new.jobs }
 {
-    let Some(removed) = state.jobs.discard_if(state.tubes.names(), id, &test) else {
+    let Some(report) = state.jobs.discard_if(id, &test) else {
         return false;
     };
+    let (number, removed) = report;
     job_store::let_room_go(&mut state.jobs); // Of a peak in the past.
-    let has_seats = state.tubes.count_removal(&removed);
-    state.known.count_removal(&removed, has_seats);
+    let has_seats = state.tubes.count_removal(&removed, number);
+    let name = removed.tube.read(state.tubes.names(), number);
+    state.known.count_removal(&removed, name, number, has_seats);
     true
-}
-
-// Returns true if the job is now ready and the counts show a client that waits for jobs of its
-// tube.
-fn counts_waiter_of(clients: &Clients, tubes: &Tubes, moved: &Moved) -> bool
-    ensures { result
-        ≡ (is_ready_state moved.now.to.state
-        && (nat_lt 0 clients.now.waiting && is_waited_at moved.now.tube tubes.now)) }
-{
-    matches!(moved.to.state, JobState::Ready)
-        && tubes.has_waiter_at(clients, moved.tube.name(), moved.tube.number())
 }
 
 /// Changes the job with this id, if there is one.
@@ -97,13 +108,15 @@ pub fn change_job(state: &mut CoreParts, id: JobId, what: &JobChange)
     ensures after { machine_of state.new ≡ with_job id (changed what.now) (machine_of state.old) }
     ensures asks { Asks 8 state.old.jobs state.new.jobs }
 {
-    let Some(moved) = state.jobs.change(state.tubes.names(), id, what) else {
+    let Some(report) = state.jobs.change(id, what) else {
         return;
     };
-    let is_wanted = counts_waiter_of(&state.known.clients, &state.tubes, &moved);
+    let (number, moved) = report;
+    let name = moved.tube.read(state.tubes.names(), number);
+    let is_wanted = is_wanted(&state.known, &state.tubes, moved.to.state, name, number);
     let waits = seats::holder_waits(state.seats.as_slice(), moved.to.state);
-    state.known.move_job(&moved, is_wanted, waits);
-    state.tubes.move_job(&moved);
+    state.known.move_job(&moved, name, number, is_wanted, waits);
+    state.tubes.move_job(&moved, number);
 }
 
 /// Changes the seat with this number. If it starts to use a tube, that tube already has an entry.
@@ -213,7 +226,7 @@ pub fn provide_tube(
     ensures wanted { state.new.known.wanted ≡ state.old.known.wanted }
     ensures asks { Asks 0 state.old.jobs state.new.jobs }
 {
-    if let Some(number) = state.tubes.number_of(tube) {
+    if let Some(number) = state.tubes.number_of(tube, TubeNumber::unknown()) {
         return Ok(number);
     }
     let number = state.tubes.provide(alloc, tube)?;
@@ -280,7 +293,8 @@ pub fn number_of(state: &CoreParts, tube: &TubeName) -> TubeNumber
     ensures { number_in result
         ≡ unwrap_or (lookup (is_named_at tube.now) state.now.tubes.numbers) 1073741823 }
 {
-    state.tubes.number_of(tube).unwrap_or(TubeNumber::unknown())
+    let unknown = TubeNumber::unknown();
+    state.tubes.number_of(tube, unknown).unwrap_or(unknown)
 }
 
 /// Returns true if the tube exists. It is looked for at the number `hint` first.

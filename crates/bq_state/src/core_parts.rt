@@ -9,7 +9,7 @@ use crate::tubes::{Crowd, Tubes};
 use crate::waiting::Waiting;
 use crate::{job_store, seats};
 use bq_core_api::Config;
-use bq_job::{Body, Job, JobId, Moment, NoMemory, Seat, TubeName};
+use bq_job::{Body, JobId, Moment, NoMemory, Seat, TubeName};
 use bq_jobs::{NumberedJobs, Tube, TubeNumber};
 use std::alloc::Global;
 
@@ -50,12 +50,12 @@ pub struct CoreParts {
 
 impl CoreParts {
     ghost use Rattle.std.specs.{List.list_any, Option.option_map, Prelude.{IfOk, IfSome, filter, is_some, ◌&&◌}};
-    ghost use Rattle.bq_job.specs.machine.{Changes.{is_held_by, is_ready, is_waiting, job_with, seat_with}, JobStates.is_delayed};
-    ghost use Rattle.bq_job.specs.{machine.JobStates.is_reserved, reading.TubeName.is_same_name};
+    ghost use Rattle.bq_job.specs.machine.{Changes.{is_held_by, is_waiting, job_with, seat_with}, JobStates.{is_delayed, is_reserved}};
+    ghost use Rattle.bq_job.specs.reading.TubeName.{is_same_name};
     ghost use Rattle.bq_jobs.specs.Seen.{IsBodyOf};
-    ghost use Rattle.bq_state.specs.{CoreParts.machine_of, Crowds.{crowd_of, is_waiter}, JobChanges.{is_passed_by, passes, ttr_held_by}};
+    ghost use Rattle.bq_state.specs.{CoreParts.machine_of, Crowds.crowd_of, JobChanges.{is_passed_by, passes, ttr_held_by}};
     ghost use Rattle.bq_state.specs.{JobKinds.first_of_kind, Keeping.Looks, SeatStates.{is_asking, is_connected, is_free}};
-    ghost use Rattle.bq_state.specs.{Tallies.tally_of, Warnings.has_waiting_holder};
+    ghost use Rattle.bq_state.specs.Tallies.{tally_of};
 
     /// Returns true if there is a seat with this number and no client is connected to it.
     pub fn is_free(&self, seat: Seat) -> bool
@@ -165,14 +165,6 @@ impl CoreParts {
         self.known.clients.waiting > 0
     }
 
-    /// Returns true if some client waits for jobs of the tube.
-    #[tactic(auto, using(crate::proofs::CrowdPlaces::waiters_counted))]
-    pub(crate) fn has_waiter_at(&self, tube: &TubeName, hint: TubeNumber) -> bool
-        ensures { result ≡ list_any (is_waiter tube.now) self.now.seats.items }
-    {
-        self.tubes.has_waiter_at(&self.known.clients, tube, hint)
-    }
-
     /// Returns the counts of the jobs in the tube.
     #[tactic(auto, using(crate::proofs::TallyPlaces::tally_there))]
     pub fn tally_in(&self, tube: &TubeName, hint: TubeNumber) -> Tally
@@ -188,27 +180,5 @@ impl CoreParts {
         ensures { result ≡ crowd_of self.now.seats.items tube.now }
     {
         self.tubes.crowd_of(tube, hint)
-    }
-
-    /// Returns true if there is a job in the tube.
-    pub(crate) fn has_job_in(&self, tube: &TubeName, hint: TubeNumber) -> bool
-        ensures { result ≡ list_any (λ j. is_same_name tube.now j.tube) self.now.jobs.jobs }
-    {
-        self.tubes.has_jobs_in(tube, hint)
-    }
-
-    /// Returns true if the job is ready and a client waits for jobs of its tube.
-    pub(crate) fn is_wanted(&self, job: &Job, hint: TubeNumber) -> bool
-        ensures { result
-            ≡ (is_ready job.now && list_any (is_waiter job.now.tube) self.now.seats.items) }
-    {
-        job_store::is_ready(job) && self.has_waiter_at(&job.tube, hint)
-    }
-
-    /// Returns true if a client holds the job and waits.
-    pub(crate) fn has_waiting_holder(&self, job: &Job) -> bool
-        ensures { result ≡ has_waiting_holder job.now.state self.now.seats.items }
-    {
-        seats::holder_waits(self.seats.as_slice(), job.state)
     }
 }

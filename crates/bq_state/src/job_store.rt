@@ -1,12 +1,12 @@
 //! The jobs: changing one, testing one for a command, and room for more.
 ghost use Rattle.std.specs.{List.list_any, Option.option_map, Prelude.{IfOk, IfSome, is_some, length, not, ◌<◌, ◌||◌, ◌≡◌}};
-ghost use Rattle.bq_job.specs.machine.{Changes.{is_held_by as held_by, is_ready, job_with}, Dispatch.reserved_by, JobCommands.buried};
+ghost use Rattle.bq_job.specs.machine.{Changes.{is_held_by as held_by, job_with}, Dispatch.reserved_by, JobCommands.buried};
 ghost use Rattle.bq_job.specs.machine.{JobCommands.{delayed_by as delayed_for, kicked, released}, JobStates.{is_buried, is_delayed}};
 ghost use Rattle.bq_job.specs.machine.{JobStates.is_reserved, Limits.later as later_by, Timers.job_after_timers};
 ghost use Rattle.bq_jobs.specs.{Searching.Searches, Seen.IsBodyOf};
 ghost use Rattle.bq_state.specs.{JobChanges.{changed, is_passed_by, passes, ttr_held_by}, JobKinds.first_of_kind, Room.room_left};
 
-use bq_job::{Body, Job, JobId, JobState, Moment, NoMemory, Pri, Seat};
+use bq_job::{Body, JobId, JobState, Moment, NoMemory, Pri, Seat};
 use bq_jobs::{JobEdit, NumberedJobs, NumberedTubes, Row, RowTest, Tube};
 
 // How much more room than there are jobs is kept.
@@ -80,13 +80,6 @@ pub(crate) fn is_held_by(job: &Row, seat: Seat) -> bool
         JobState::Reserved(holder, _) => holder == seat,
         _ => false,
     }
-}
-
-/// Returns true if the job is ready.
-pub(crate) fn is_ready(job: &Job) -> bool
-    ensures { result ≡ is_ready job.now }
-{
-    matches!(job.state, JobState::Ready)
 }
 
 /// Returns true if the client at the seat holds a job.

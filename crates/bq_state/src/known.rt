@@ -70,24 +70,38 @@ impl Known {
         self.warns.warn_holder_if(job.state, waits);
     }
 
-    /// The job of this report is removed. `has_seats` says whether a client uses or watches its
-    /// tube.
-    pub(crate) fn count_removal(&mut self, removed: &Removed, has_seats: bool)
+    /// The job of this report is removed from the tube with this name and number. `has_seats` says
+    /// whether a client uses or watches the tube.
+    pub(crate) fn count_removal(
+        &mut self,
+        removed: &Removed,
+        name: &TubeName,
+        number: TubeNumber,
+        has_seats: bool,
+    )
+        requires { name.now ≡ removed.now.tube }
         ensures { self.new ≡ with_removal removed.now has_seats self.old }
     {
         self.tally.leave(removed.at);
-        self.maybe_gone
-            .add_if(removed.tube.name(), removed.tube.number(), !has_seats);
+        self.maybe_gone.add_if(name, number, !has_seats);
     }
 
-    /// A job is changed; the arguments describe it after the change.
-    pub(crate) fn move_job(&mut self, moved: &Moved, is_wanted: bool, waits: bool)
+    /// A job of the tube with this name and number is changed; the last two arguments describe it
+    /// after the change.
+    pub(crate) fn move_job(
+        &mut self,
+        moved: &Moved,
+        name: &TubeName,
+        number: TubeNumber,
+        is_wanted: bool,
+        waits: bool,
+    )
+        requires { name.now ≡ moved.now.tube }
         ensures { self.new ≡ with_moved moved.now is_wanted waits self.old }
     {
         self.tally.leave(moved.from);
         self.tally.enter(moved.to);
-        self.wanted
-            .add_tube_if(moved.tube.name(), moved.tube.number(), is_wanted);
+        self.wanted.add_tube_if(name, number, is_wanted);
         self.warns.warn_holder_if(moved.to.state, waits);
     }
 

@@ -1,17 +1,16 @@
 //! The tubes: what is kept of each that exists.
 ghost use Rattle.std.specs.{Cmp.Lexicographic.slice_cmp, List.list_any, Map.lookup, Option.option_map, Ordering.nat_cmp, Prelude.IfOk};
-ghost use Rattle.std.specs.Prelude.{[], false, find, if◌then◌else◌, is_ok, is_some, length, map, nat_lt, not, ◌&&◌, ◌<◌, ◌≡◌};
+ghost use Rattle.std.specs.Prelude.{[], false, find, if◌then◌else◌, is_ok, is_some, length, map, ◌&&◌, ◌<◌, ◌≡◌};
 ghost use Rattle.bq_index.specs.Order.{InOrder};
 ghost use Rattle.bq_job.specs.{machine.Timers.tube_after_timers, reading.TubeName.is_same_name};
-ghost use Rattle.bq_jobs.specs.{Names.number_in, Numbering.Extends};
+ghost use Rattle.bq_jobs.specs.{Names.number_in, Numbering.{Extends, HasNumber}};
 ghost use Rattle.bq_state.specs.Counting.{AreCounts, DropsGone, IfCounted, tubes_with, with_crowds_at, with_job_put, with_removal_counted};
 ghost use Rattle.bq_state.specs.{Counting.with_tallies_at, Crowds.{crowd_at, has_seats, recounted}, Dues.first_pause_end};
 ghost use Rattle.bq_state.specs.{Dues.{pause_end_after, pause_end_left}, KeptTubes.{edited_at, is_named_at, kept_changed, record_at}};
-ghost use Rattle.bq_state.specs.{Leaving.exists_in, Names.names_of, Offers.is_waited_at, PauseEnds.AreEnds, Tallies.{has_jobs, tallies_of}};
-ghost use Rattle.bq_state.specs.{Tallies.{tally_at, tally_moved}, TubeEntries.{has_entry, names_alive, tube_changed_at}};
-ghost use Rattle.bq_state.specs.TubeNumbers.{HaveNumbers};
+ghost use Rattle.bq_state.specs.{Leaving.exists_in, Names.names_of, PauseEnds.AreEnds, Tallies.{has_jobs, tallies_of, tally_at}};
+ghost use Rattle.bq_state.specs.{Tallies.tally_moved, TubeEntries.{has_entry, names_alive, tube_changed_at}, TubeNumbers.HaveNumbers};
 
-use crate::known::{Clients, MaybeGone, Tally};
+use crate::known::{MaybeGone, Tally};
 use crate::name_lists::Names;
 use crate::watch_list::default_tube;
 use bq_index::Catalog;
@@ -109,11 +108,11 @@ impl Tubes {
     }
 
     /// Returns the number of a tube, if it has an entry.
-    pub fn number_of(&self, name: &TubeName) -> Option<TubeNumber>
+    pub fn number_of(&self, name: &TubeName, hint: TubeNumber) -> Option<TubeNumber>
         ensures number { option_map number_in result ≡ lookup (is_named_at name.now) self.now.numbers }
         ensures there { is_some result ≡ has_entry name.now self.now.entries }
     {
-        self.kept.number_of(name, TubeNumber::unknown())
+        self.kept.number_of(name, hint)
     }
 
     /// Gives an entry and a number to a tube that has none, and returns the number. The allocations
@@ -175,28 +174,31 @@ impl Tubes {
         }
     }
 
-    /// Counts a new job in its tube.
-    pub(crate) fn add_job(&mut self, job: &Job, hint: TubeNumber)
+    /// Counts a new job in its tube, which has this number.
+    pub(crate) fn add_job(&mut self, job: &Job, number: TubeNumber)
+        requires { HasNumber job.now.tube number self.old.numbers }
         ensures { self.new ≡ with_job_put job.now self.old }
     {
-        entry::add_job(&mut self.kept, job, hint);
+        entry::add_job(&mut self.kept, job, number);
     }
 
-    /// Stops counting the job of this report in its tube, and counts its deletion. Returns whether
-    /// a client uses or watches the tube.
-    pub(crate) fn count_removal(&mut self, removed: &Removed) -> bool
+    /// Stops counting the job of this report in its tube, which has this number, and counts its
+    /// deletion. Returns whether a client uses or watches the tube.
+    pub(crate) fn count_removal(&mut self, removed: &Removed, number: TubeNumber) -> bool
+        requires { HasNumber removed.now.tube number self.old.numbers }
         ensures after { self.new ≡ with_removal_counted removed.now self.old }
         ensures seats { result
             ≡ has_seats (crowd_at removed.now.tube self.old.entries self.old.crowds) }
     {
-        entry::count_removal(&mut self.kept, removed)
+        entry::count_removal(&mut self.kept, removed, number)
     }
 
-    /// A job of the tube changed its state.
-    pub(crate) fn move_job(&mut self, moved: &Moved)
+    /// A job of the tube with this number changed its state.
+    pub(crate) fn move_job(&mut self, moved: &Moved, number: TubeNumber)
+        requires { HasNumber moved.now.tube number self.old.numbers }
         ensures { self.new ≡ with_tallies_at moved.now.tube (tally_moved moved.now) self.old }
     {
-        entry::move_job(&mut self.kept, moved);
+        entry::move_job(&mut self.kept, moved, number);
     }
 
     /// Returns the job counts of the tube with this name; none if it has no entry.
@@ -240,12 +242,12 @@ impl Tubes {
         }
     }
 
-    /// Returns true if a client waits for jobs of the tube with this name; `clients` are the counts
-    /// of clients. If no client waits, nothing is searched.
-    pub(crate) fn has_waiter_at(&self, clients: &Clients, name: &TubeName, hint: TubeNumber) -> bool
-        ensures { result ≡ (nat_lt 0 clients.now.waiting && is_waited_at name.now self.now) }
+    /// Returns the same for a tube that is registered under this number. Nothing is searched.
+    pub(crate) fn crowd_numbered(&self, name: &TubeName, number: TubeNumber) -> Crowd
+        requires { HasNumber name.now number self.now.numbers }
+        ensures { result ≡ crowd_at name.now self.now.entries self.now.crowds }
     {
-        clients.waiting > 0 && self.crowd_of(name, hint).waiting > 0
+        self.kept.get_numbered(name, number).crowd()
     }
 
     /// Returns true if the tube exists.

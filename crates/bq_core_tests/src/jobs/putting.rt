@@ -2,11 +2,10 @@
 ghost use Rattle.std.specs.List.{list_any};
 ghost use Rattle.std.specs.Prelude.{◌≡◌, length, true, false};
 ghost use Rattle.bq_job.specs.reading.TubeName.{is_same_name};
-ghost use Rattle.bq_jobs.specs.Numbering.{is_known};
 
 use bq_index::BoxSource;
 use bq_job::{Body, Counts, Job, JobId, JobState, NoMemory, Pri, Seat, TubeName};
-use bq_jobs::{JobEdit, NumberedJobs, NumberedTubes, Removed, Row, RowTest, Tube, TubeNumber};
+use bq_jobs::{JobEdit, NumberedJobs, NumberedTubes, Row, RowTest, Standing, Tube, TubeNumber};
 use std::alloc::Global;
 use std::marker::Model;
 use std::process::Abort;
@@ -95,13 +94,6 @@ impl TestJobs {
         self.jobs.give_back();
     }
 
-    // Returns true if a tube is registered.
-    fn is_registered(&self, name: &TubeName) -> bool
-        ensures { result ≡ true → is_known name.now self.now ≡ true }
-    {
-        self.tubes.number_of(name, TubeNumber::unknown()).is_some()
-    }
-
     // Registers a tube, unless it is registered already. Returns false if an allocation fails.
     #[tactic(auto, using(bq_jobs::proofs::TableViews::extends_by))]
     fn register(&mut self, alloc: Global, name: &TubeName) -> bool
@@ -122,23 +114,26 @@ impl TestJobs {
         if self.jobs.room() == 0
             || self.jobs.get(job.id).is_some()
             || !self.register(alloc, &job.tube)
-            || !self.is_registered(&job.tube)
         {
             return false;
         }
-        self.jobs.add(&self.tubes, job, TubeNumber::unknown());
+        let Some(number) = self.tubes.number_of(&job.tube, TubeNumber::unknown()) else {
+            return false;
+        };
+        self.jobs.add(job, number);
         true
     }
 
-    pub fn discard(&mut self, id: JobId) -> Option<Removed> {
-        self.jobs.discard_if(&self.tubes, id, &AnyJob)
+    /// Removes a job and drops it. Returns the name of its tube, as its number gives it, and its
+    /// standing.
+    pub fn discard(&mut self, id: JobId) -> Option<(TubeName, Standing)> {
+        let (number, removed) = self.jobs.discard_if(id, &AnyJob)?;
+        Some((*removed.tube.read(&self.tubes, number), removed.at))
     }
 
     /// Changes the state of the job with this id. Returns false if there is none.
     pub fn change(&mut self, id: JobId, state: JobState) -> bool {
-        self.jobs
-            .change(&self.tubes, id, &NewState(state))
-            .is_some()
+        self.jobs.change(id, &NewState(state)).is_some()
     }
 
     /// Returns the state of the job with this id.

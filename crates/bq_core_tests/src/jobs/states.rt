@@ -2,7 +2,7 @@
 
 use crate::jobs::putting::{TestJobs, has, no_jobs, put_in_room, put_new, tube};
 use bq_job::{JobState, TubeName};
-use bq_jobs::Removed;
+use bq_jobs::Standing;
 use std::alloc::Global;
 use std::process::Abort;
 
@@ -94,11 +94,9 @@ fn puts_two(alloc: Global, jobs: &mut TestJobs, first: TubeName, second: TubeNam
 }
 
 // Returns true if that is the delayed job, of this tube.
-fn is_delayed(removed: Option<Removed>, tube: TubeName) -> bool {
+fn is_delayed(removed: Option<(TubeName, Standing)>, tube: TubeName) -> bool {
     match removed {
-        Some(it) => {
-            *it.tube.name() == tube && it.at.pri == 7 && it.at.state == JobState::Delayed(8)
-        }
+        Some((name, at)) => name == tube && at.pri == 7 && at.state == JobState::Delayed(8),
         None => false,
     }
 }

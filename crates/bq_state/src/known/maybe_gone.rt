@@ -20,7 +20,8 @@ pub enum MaybeGone {
 }
 
 impl MaybeGone {
-    /// This tube may have gone too.
+    /// This tube may have gone too. It is not inlined, since it is rare and copies a name.
+    #[inline(never)]
     pub(crate) fn add(&mut self, name: &TubeName, hint: TubeNumber)
         ensures { self.new ≡ with_gone name.now self.old }
     {

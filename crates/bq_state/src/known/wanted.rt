@@ -32,7 +32,8 @@ impl Wanted {
         }
     }
 
-    // The jobs of this tube may be had too.
+    // The jobs of this tube may be had too. It is not inlined, since it is rare and copies a name.
+    #[inline(never)]
     fn add_tube(&mut self, name: &TubeName, hint: TubeNumber)
         ensures { self.new ≡ with_wanted name.now self.old }
     {

@@ -2,6 +2,7 @@
 ghost use Rattle.std.specs.{Cmp.Lexicographic.slice_cmp, Map.lookup, Ordering.nat_cmp, Prelude.{[], is_some, ◌≡◌}};
 ghost use Rattle.bq_index.specs.Order.{InOrder};
 ghost use Rattle.bq_job.specs.machine.TubeCommands.{with_pause};
+ghost use Rattle.bq_jobs.specs.Numbering.{HasNumber};
 ghost use Rattle.bq_state.specs.{Crowds.{crowd_with, crowd_without, has_seats, is_none, no_crowd, recounted}, KeptTubes.crowd_by};
 ghost use Rattle.bq_state.specs.KeptTubes.{edited_at, ended, fresh_entry, is_named_at, kept_after, kept_changed, kept_moved};
 ghost use Rattle.bq_state.specs.{KeptTubes.{kept_recounted, kept_removed, kept_with, record_of}, PauseEnds.end_of};
@@ -11,7 +12,7 @@ use crate::job_store::later;
 use crate::known::Tally;
 use bq_index::Edit;
 use bq_job::{Job, Moment, TubeName};
-use bq_jobs::{Moved, Removed, TubeNumber, TubeTable};
+use bq_jobs::{GhostName, Moved, Removed, TubeNumber, TubeTable};
 use std::marker::Model;
 
 /// A pause of a tube.
@@ -328,18 +329,25 @@ impl Edit<TubeEntry, ()> for Moved {
 }
 
 /// Counts a new job in its tube. Here, too, the names are in ascending order.
-pub(crate) fn add_job(catalog: &mut TubeTable<TubeEntry>, job: &Job, hint: TubeNumber)
+pub(crate) fn add_job(catalog: &mut TubeTable<TubeEntry>, job: &Job, number: TubeNumber)
+    requires { HasNumber job.now.tube number catalog.old.numbers }
     ensures numbers { catalog.new.numbers ≡ catalog.old.numbers }
     ensures entries { catalog.new.entries
         ≡ edited_at job.now.tube (kept_with job.now) catalog.old.entries }
     ensures ordered { InOrder (slice_cmp nat_cmp) catalog.old.entries }
 {
-    let _counted = catalog.edit(&job.tube, hint, job);
+    let name = GhostName::registered(catalog.tubes(), &job.tube, number);
+    catalog.edit_numbered(&name, number, job);
 }
 
 /// Stops counting the job of this report in its tube, and counts its deletion. Returns whether a
 /// client uses or watches the tube. Here, too, the names are in ascending order.
-pub(crate) fn count_removal(catalog: &mut TubeTable<TubeEntry>, removed: &Removed) -> bool
+pub(crate) fn count_removal(
+    catalog: &mut TubeTable<TubeEntry>,
+    removed: &Removed,
+    number: TubeNumber,
+) -> bool
+    requires { HasNumber removed.now.tube number catalog.old.numbers }
     ensures numbers { catalog.new.numbers ≡ catalog.old.numbers }
     ensures entries { catalog.new.entries
         ≡ edited_at removed.now.tube (kept_removed removed.now) catalog.old.entries }
@@ -347,18 +355,17 @@ pub(crate) fn count_removal(catalog: &mut TubeTable<TubeEntry>, removed: &Remove
     ensures seats { result
         ≡ has_seats (crowd_by (lookup (is_named_at removed.now.tube) catalog.old.entries)) }
 {
-    catalog
-        .edit(removed.tube.name(), removed.tube.number(), removed)
-        .unwrap_or(false)
+    catalog.edit_numbered(&removed.tube, number, removed)
 }
 
 /// A job of a tube changed its state.
-pub(crate) fn move_job(catalog: &mut TubeTable<TubeEntry>, moved: &Moved)
+pub(crate) fn move_job(catalog: &mut TubeTable<TubeEntry>, moved: &Moved, number: TubeNumber)
+    requires { HasNumber moved.now.tube number catalog.old.numbers }
     ensures numbers { catalog.new.numbers ≡ catalog.old.numbers }
     ensures entries { catalog.new.entries
         ≡ edited_at moved.now.tube (kept_moved moved.now) catalog.old.entries }
 {
-    let _counted = catalog.edit(moved.tube.name(), moved.tube.number(), moved);
+    catalog.edit_numbered(&moved.tube, number, moved);
 }
 
 /// Adds the share of a seat to the counts of the tube with this name, or removes it.

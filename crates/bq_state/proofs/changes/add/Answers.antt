@@ -1,10 +1,13 @@
-use Rattle.std.proofs.{Common.{ap, arith, subst, sym, ◌^◌, ◌∙◌}, lemmas.Grind.common_steps}
-use Rattle.bq_job.specs.{beside.AreIdsWithin, machine.with_put}
-use Rattle.bq_jobs.{proofs.Changes.added_within, specs.Kept.with_added}
-use Rattle.bq_state.proofs.{KnowledgeLemmas.{so_with_job, with_count}, PartsLemmas.{entries_of_added, few_jobs, name_kept_at, tube_counts}}
-use Rattle.bq_state.{proofs.{PartsLemmas.tube_name_kept, TubeLemmas.{record_changed, same_entries}}, specs.CoreParts.machine_of}
-use Rattle.bq_state.specs.{Knowledge.with_job, TubeEntries.{counted, tube_changed_at}, declared.tubes.entry.TubeChange.TheVariants.CountPut}
+use Rattle.std.proofs.Common.{◌&&◌, ◌^◌, ◌∙◌, ap, subst, sym}
+use Rattle.bq_job.specs.{beside.AreIdsWithin, machine.{is_ready, with_put}}
+use Rattle.bq_jobs.specs.Kept.{with_added}
+use Rattle.bq_state.specs.declared.tubes.entry.TubeChange.TheVariants.{CountPut}
+use Rattle.bq_state.specs.{CoreParts.machine_of, Knowledge.with_job, Warnings.has_waiting_holder}
+use Rattle.bq_state.specs.TubeEntries.{counted, tube_changed_at}
+use Rattle.bq_state.proofs.{CrowdPlaces.waiters_counted, KnowledgeLemmas.{so_with_job, with_count}, TubeLemmas.{record_changed, same_entries}}
+use Rattle.bq_state.proofs.PartsLemmas.{entries_of_added, few_jobs, name_kept_at, tube_counts, tube_name_kept}
 use Rattle.bq_state.proofs.changes.add.Goals as goal
+use Rattle.bq_jobs.proofs.Changes.{added_within}
 
 pub invariant_of-state : goal.invariant_of-state
 invariant_of-state c =
@@ -15,7 +18,11 @@ invariant_of-state c =
     let ids = added_within 1 st.next_id j st.jobs.jobs c.requires.given.0 c.requires.given.1 c.requires.free was.ids in
     let fits = few_jobs st.next_id (with_added j st.jobs.jobs) ids
     (subst (λ jobs. AreIdsWithin 0 jobs (2 ^ 64)) c.add.ensures.jobs c.add.ensures.ordered) in
-    let known = c.add_job.ensures ∙ (λ i. with_job j (c.is_wanted-is_wanted.ensures i) (c.has_waiting_holder-waits.ensures i) st.known) in
+    let is_wanted = c.is_wanted-is_wanted.ensures ∙ ap (λ b. is_ready j && b)
+    (waiters_counted j.tube st.known.clients st.tubes.crowds st.seats.items st.tubes.entries st.sound.entries.of_seats st.sound.known.crowds
+    st.sound.known.clients) in
+    let waits = c.holder_waits-waits.ensures ∙ ap (has_waiting_holder j.state) c.as_slice.ensures.value in
+    let known = c.add_job.ensures ∙ (λ i. with_job j (is_wanted i) (waits i) st.known) in
     let there = same_entries (tube_changed_at j.tube CountPut) (name_kept_at j.tube CountPut) j.tube st.tubes.entries ∙ c.requires.entry in
     let entries = entries_of_added j st.jobs.jobs st.seats.items mid.tubes.entries there was.entries in
     let so = so_with_job mid j fits in
@@ -23,9 +30,6 @@ invariant_of-state c =
       sound = rw (known, c.add_job-2.ensures, c.add.ensures.jobs) assumption;
       numbered = rw (c.add_job-2.ensures, c.add.ensures.tubes) mid.numbered;
     }
-
-pub add-requires-clause-known : goal.add-requires-clause-known
-add-requires-clause-known c = grind (arith, common_steps, same_entries, name_kept_at)
 
 pub returns-clause-after : goal.returns-clause-after
 returns-clause-after c =

@@ -1,12 +1,23 @@
-use Rattle.std.proofs.{Common.{Some, ap, arith, not, sym, ◌==◌, ◌∙◌, ◌≡◌}, lemmas.Grind.common_steps}
-use Rattle.bq_index.{proofs.Removed.value_there, specs.Removed.passing}
-use Rattle.bq_job.{proofs.KeptLemmas.ids_of_filter, specs.machine.{job_with, with_delete}}
-use Rattle.bq_jobs.{proofs.{Changes.found_id, Told.told_of}, specs.{Changed.removed_from, Kept.{Kept, without}}}
+use Rattle.std.proofs.Common.{arith}
+use Rattle.std.proofs.lemmas.Grind.{common_steps}
+use Rattle.std.proofs.Common.{Some, ap, not, sym, ◌==◌, ◌∙◌, ◌≡◌}
+use Rattle.bq_job.specs.machine.{job_with, with_delete}
+use Rattle.bq_job.proofs.KeptLemmas.{ids_of_filter}
+use Rattle.bq_index.proofs.Removed.{value_there}
+use Rattle.bq_index.specs.Removed.{passing}
+use Rattle.bq_jobs.specs.Changed.{removed_from}
+use Rattle.bq_jobs.specs.Kept.{Kept, without}
 use Rattle.bq_jobs.specs.declared.rows.Removed.{Removed}
-use Rattle.bq_state.proofs.{CrowdPlaces.seated_by_counts, KnowledgeLemmas.{so_without_job, with_count}, PartsLemmas.entries_of_fewer}
-use Rattle.bq_state.{proofs.{PartsLemmas.{has_of_job, tube_counts, tube_name_kept}, TubeLemmas.record_changed}, specs.CoreParts.machine_of}
-use Rattle.bq_state.specs.{Counting.with_removal_counted, Crowds.{crowd_at, has_seats}, JobChanges.{once_deleted, passes}}
-use Rattle.bq_state.specs.{KeptTubes.KeptTubes, TubeEntries.counted, declared.tubes.entry.TubeChange.TheVariants.CountDelete}
+use Rattle.bq_jobs.proofs.Changes.{found_id}
+use Rattle.bq_jobs.proofs.Told.{told_of}
+use Rattle.bq_state.specs.declared.tubes.entry.TubeChange.TheVariants.{CountDelete}
+use Rattle.bq_state.specs.{CoreParts.machine_of, Counting.with_removal_counted, JobChanges.{once_deleted, passes}, KeptTubes.KeptTubes}
+use Rattle.bq_state.specs.TubeEntries.{counted}
+use Rattle.bq_state.specs.Crowds.{crowd_at, has_seats}
+use Rattle.bq_state.proofs.CrowdPlaces.{seated_by_counts}
+use Rattle.bq_state.proofs.KnowledgeLemmas.{so_without_job, with_count}
+use Rattle.bq_state.proofs.PartsLemmas.{entries_of_fewer, has_of_job, tube_counts, tube_name_kept}
+use Rattle.bq_state.proofs.TubeLemmas.{record_changed}
 use Rattle.bq_state.proofs.changes.delete.Goals as goal
 
 pub invariant_of-state : goal.invariant_of-state
@@ -17,7 +28,7 @@ invariant_of-state-2 c =
     let st = c.args.state.now in
     let id = c.args.id in
     let p = passes c.args.test in
-    let of = told_of removed_from (passing p (job_with id st.jobs.jobs)) c.in-Some.removed (sym c.in-Some.ensures.removed) in
+    let of = told_of removed_from (passing p (job_with id st.jobs.jobs)) c.in-Some.report.1 (sym c.in-Some.ensures.removed) in
     let j = of.job in
     let found : job_with id st.jobs.jobs ≡ Some j = sym (value_there p (job_with id st.jobs.jobs) j (sym of.there)) in
     let is = of.is in
@@ -39,18 +50,19 @@ invariant_of-state-2 c =
 
 pub returns-clause-after : goal.returns-clause-after
 returns-clause-after c =
-    let m = machine_of c.args.state.now in
-    let of = told_of _ _ _ (sym c.in-Some.ensures.removed) in
-    let found : job_with c.args.id c.args.state.now.jobs.jobs ≡ Some of.job = sym (value_there _ _ _ (sym of.there)) in
-    let own : c.args.id ≡ of.job.id = sym (found_id _ _ _ found) in
-    let jobs : c.let_room_go.new.jobs.jobs ≡ without of.job.id c.args.state.now.jobs.jobs =
-    ap (λ (k : Kept). k.jobs) c.let_room_go.ensures.same ∙ c.in-Some.ensures.left.0 ∙ ap (λ n. without n c.args.state.now.jobs.jobs) own in
+    let st = c.args.state.now in
+    let m = machine_of st in
+    let id = c.args.id in
+    let p = passes c.args.test in
+    let of = told_of removed_from (passing p (job_with id st.jobs.jobs)) c.in-Some.report.1 (sym c.in-Some.ensures.removed) in
+    let j = of.job in
+    let found : job_with id st.jobs.jobs ≡ Some j = sym (value_there p (job_with id st.jobs.jobs) j (sym of.there)) in
+    let there = has_of_job st.jobs.jobs st.seats.items st.tubes.entries id j st.sound.entries found in
+    let own : id ≡ j.id = sym (found_id id st.jobs.jobs j found) in
+    let jobs : c.let_room_go.new.jobs.jobs ≡ without j.id st.jobs.jobs =
+    ap (λ (k : Kept). k.jobs) c.let_room_go.ensures.same ∙ c.in-Some.ensures.left.0 ∙ ap (λ n. without n st.jobs.jobs) own in
     (λ i. record m { tubes = counted (c.count_removal-has_seats.ensures.after i).entries; jobs = jobs i })
-    ∙ ap (λ (r : Removed). record m {
-      tubes = counted (with_removal_counted r c.args.state.now.tubes).entries;
-      jobs = without of.job.id
-          m.jobs;
-    }) of.is ∙ ap (λ tubes. record m { tubes = tubes; jobs = without of.job.id m.jobs })
-    (sym (record_changed of.job.tube with_delete (tube_counts CountDelete)
-    (tube_name_kept CountDelete) c.args.state.now.tubes.entries c.args.state.now.sound.entries.order c.args.state.now.sound.entries.fresh
-    (has_of_job _ _ _ _ _ c.args.state.now.sound.entries found))) ∙ ap (λ o. once_deleted o m) (sym of.there)
+    ∙ ap (λ (r : Removed). record m { tubes = counted (with_removal_counted r st.tubes).entries; jobs = without j.id m.jobs }) of.is
+    ∙ ap (λ tubes. record m { tubes = tubes; jobs = without j.id m.jobs }) (sym (record_changed j.tube with_delete (tube_counts CountDelete)
+    (tube_name_kept CountDelete) st.tubes.entries st.sound.entries.order st.sound.entries.fresh there))
+    ∙ ap (λ o. once_deleted o m) (sym of.there)
