@@ -1,10 +1,13 @@
 """Many clients of `bqd`, one command at a time, so that the order of the steps is known.
 
-The server's clock is also the machine's, so nothing may depend on milliseconds. The moments at which something happens
-by itself are more than SLACK apart, and no client sends while one of them is nearer than SLACK. A run can't be judged
-if an answer takes longer than SLACK, or if statistics are received only after the moment that they depend on. If a
-client disconnects while its reserve waits, the server notices within a second; the effect counts from the moment at
-which it noticed. Ages and times left are in whole seconds, and may be off by one.
+The server's clock is also the machine's, so nothing may depend on milliseconds. The machine takes each step at a moment
+that isn't after the server's step, and the run reads all answers to the step within SLACK of that moment. So whatever
+begins with a step (a lease, a delay, a pause, a wait) ends at the server when it ends at the machine, or less than SLACK
+later. The moments at which something happens by itself are more than SLACK apart, and no client sends while one of them
+is nearer than SLACK. A run can't be judged if an answer is read too late, even if it is the right one, or if statistics
+are received only after the moment that they depend on. If a client disconnects while its reserve waits, the server
+notices within a second; the machine takes that step when the run requested the last statistics that still counted the
+client. Ages and times left are in whole seconds, and may be off by one.
 """
 import random
 import re
@@ -19,9 +22,9 @@ from .machine import PLAIN, RESERVED
 from .reader import requests_of
 
 SLACK = 350  # milliseconds
-HERE = 20  # milliseconds: an answer that has arrived is read in less
 GONE = 1100  # milliseconds: how late a client that disconnected while its reserve waits may be noticed
 NEAR = 100000  # what is further ahead doesn't happen during a run
+GLANCE = 50  # milliseconds: how long a run waits for a client's answer before it requests statistics again
 TICKS_AHEAD = 8
 SHRINK_ANSWER_SECONDS = 2
 RUN_SECONDS = 60
@@ -154,7 +157,8 @@ class Run:
         return True
 
     def pass_moments(self):
-        """Waits past each moment that is near, and reads the answers that result."""
+        """Waits past each moment that is near, and reads the answers that result as they come. If the server hands a job
+        out too long after its moment, the job's lease ends too late as well, so such a run can't be judged."""
         while True:
             now, ahead = self.now(), self.coming(self.machine)
             self.looked_at = now
@@ -162,9 +166,13 @@ class Run:
                 return
             if any(it - ahead[0] <= SLACK for it in ahead[1:]):
                 raise Unclear("two moments came to lie together")
-            time.sleep(max(0, ahead[0] + SLACK - now) / 1000)
-            self.looked_at = self.now()
-            self.gather_what_is_here(self.machine.step(ahead[0], STEADY, "tick"))
+            self.sleep_until(ahead[0])
+            self.looked_at = ahead[0]
+            self.gather(self.machine.step(ahead[0], STEADY, "tick"))
+            self.sleep_until(ahead[0] + SLACK)
+
+    def sleep_until(self, moment):
+        time.sleep(max(0, moment - self.now()) / 1000)
 
     def gather(self, answers):
         """Reads these answers at their clients."""
@@ -173,18 +181,10 @@ class Run:
             self.clients[number].answer(wanted, until)
             self.hold_to_be_in_time()
 
-    def gather_what_is_here(self, answers):
-        """Reads answers whose moment was SLACK ago, so that they are here. One that comes later may be a different one."""
-        try:
-            self.gather(answers)
-        except Differs:
-            if HERE < self.now() - self.looked_at < 1000 * self.patience:
-                raise Unclear("an answer came more than %d ms after its moment" % SLACK)
-            raise
-
     def hold_to_be_in_time(self):
-        """Checks that less time has passed since the last reading than there is before the next moment."""
-        if self.now() - self.looked_at > SLACK:
+        """Checks that less time has passed since the last reading than there is before the next moment. One millisecond is
+        left, because the server's milliseconds don't begin when ours do."""
+        if self.now() - self.looked_at >= SLACK:
             raise Unclear("an answer took longer than %d ms" % SLACK)
 
     # -- actions ----------------------------------------------------------------------------------
@@ -194,8 +194,8 @@ class Run:
         try:
             happens(*of)
         except Differs:
-            # A late answer may be a different one; if none came at all, that is not the reason.
-            if SLACK < self.now() - self.looked_at < 1000 * self.patience:
+            # A late answer may be a different one; if none came at all, or the server ended, that is not the reason.
+            if SLACK <= self.now() - self.looked_at < 1000 * self.patience and self.server.is_running():
                 raise Unclear("another answer took longer than %d ms" % SLACK)
             raise
         self.hold_to_be_in_time()
@@ -299,18 +299,25 @@ class Run:
         is_waiting = self.machine.seats[number].is_waiting()
         connection.shutdown(socket.SHUT_WR)
         if is_waiting:
-            select.select([connection], [], [], self.patience)
-            began = self.noticed(began)
+            began = self.noticed(began, connection)
             self.gather(self.machine.step(began, number, "end"))
         self.close(number, began)
 
-    def noticed(self, began):
-        """The server now notices a client that left at that moment while it waited. The time is read again."""
-        now = self.now()
-        if now - began > GONE:
+    def noticed(self, began, connection=None):
+        """Waits until the server has noticed that a client left at that moment while it waited. Returns the last moment at
+        which it is known that the server hadn't. The time counts from then."""
+        since = self.until_statistics(self.one_less_connected(), began, connection)
+        if since - began > GONE:
             raise Unclear("a client that had gone was noticed after more than %d ms" % GONE)
-        self.looked_at = now
-        return now
+        ahead = self.coming(self.machine)
+        if ahead and ahead[0] <= since + SLACK:
+            raise Unclear("a client that had gone was noticed too near to the next moment")
+        self.looked_at = since
+        return since
+
+    def one_less_connected(self):
+        """Returns a line of the statistics after one client has left."""
+        return b"current-connections: %d\n" % (len(self.machine.seats) - 1)
 
     def do_drop(self, action):
         number = action.client
@@ -318,9 +325,8 @@ class Run:
         self.hold_to_leave(number, ["end", "close"] if is_waiting else ["close"])
         began = self.now()
         self.clients.pop(number).connection.close()
-        left = b"current-connections: %d\n" % (len(self.machine.seats) - 1)
+        left = self.one_less_connected()
         if is_waiting:
-            self.until_statistics(left)
             began = self.noticed(began)
         answers = self.machine.step(began, number, "end") if is_waiting else []
         answers += self.machine.step(began, number, "close")
@@ -329,12 +335,14 @@ class Run:
         if not is_waiting:
             self.until_statistics(left)
 
-    def until_statistics(self, line):
-        """The steady client requests statistics until they contain a line."""
+    def until_statistics(self, line, since=0, connection=None):
+        """The steady client requests statistics until they contain a line. With a connection, it requests them again as
+        soon as something arrives there. Returns when it requested the last ones without the line, or else `since`: the
+        server's step that led to the line came later."""
         until = time.monotonic() + self.patience
         ahead = self.coming(self.machine)
         while True:
-            client, got = self.clients[STEADY], None
+            client, got, asked_at = self.clients[STEADY], None, self.now()
             client.connection.sendall(b"stats\r\n")
             self.commands += 1
             while got is None:
@@ -342,10 +350,13 @@ class Run:
                     raise Differs("client %d: its connection ended" % STEADY)
                 got = client.whole_answer()
             if line in got:
-                return
+                return since
+            since = asked_at
             if ahead and self.now() >= ahead[0]:
                 raise Unclear("statistics came later than what they tell")
             time.sleep(0.002)
+            if connection is not None:
+                select.select([connection], [], [], GLANCE / 1000)
             if time.monotonic() > until:
                 raise Differs("statistics don't come to have %r: %s" % (line, report.told(got)))
 
