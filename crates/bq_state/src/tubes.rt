@@ -15,9 +15,9 @@ use crate::name_lists::Names;
 use crate::watch_list::default_tube;
 use bq_index::Catalog;
 use bq_job::{Job, Moment, NoMemory, TubeName};
-use bq_jobs::{Moved, NumberedJobs, NumberedTubes, Removed, TubeNumber, TubeTable};
+use bq_jobs::{GhostName, Moved, NumberedJobs, NumberedTubes, Removed, TubeNumber, TubeTable};
 pub use entry::{Crowd, Pausing, TubeChange, TubeEntry};
-pub(crate) use entry::{Moving, Share};
+pub(crate) use entry::{Moving, Share, ShareChange};
 use pauses::PauseEnds;
 use std::alloc::Global;
 use std::marker::Model;
@@ -64,8 +64,9 @@ fn change(
 {
     match what {
         TubeChange::Pause(_, _) => pauses::pause(kept, ends, name, hint, what),
-        TubeChange::CountPut => entry::change(kept, name, hint, what),
-        TubeChange::CountDelete => entry::change(kept, name, hint, what),
+        TubeChange::CountPut | TubeChange::CountDelete => {
+            let _changed = kept.edit(name, hint, &what);
+        }
     }
 }
 
@@ -179,7 +180,8 @@ impl Tubes {
         requires { HasNumber job.now.tube number self.old.numbers }
         ensures { self.new ≡ with_job_put job.now self.old }
     {
-        entry::add_job(&mut self.kept, job, number);
+        let name = GhostName::registered(self.kept.tubes(), &job.tube, number);
+        self.kept.edit_numbered(&name, number, job);
     }
 
     /// Stops counting the job of this report in its tube, which has this number, and counts its
@@ -190,7 +192,7 @@ impl Tubes {
         ensures seats { result
             ≡ has_seats (crowd_at removed.now.tube self.old.entries self.old.crowds) }
     {
-        entry::count_removal(&mut self.kept, removed, number)
+        self.kept.edit_numbered(&removed.tube, number, removed)
     }
 
     /// A job of the tube with this number changed its state.
@@ -198,7 +200,7 @@ impl Tubes {
         requires { HasNumber moved.now.tube number self.old.numbers }
         ensures { self.new ≡ with_tallies_at moved.now.tube (tally_moved moved.now) self.old }
     {
-        entry::move_job(&mut self.kept, moved, number);
+        self.kept.edit_numbered(&moved.tube, number, moved);
     }
 
     /// Returns the job counts of the tube with this name; none if it has no entry.
@@ -228,7 +230,7 @@ impl Tubes {
     )
         ensures { self.new ≡ with_crowds_at name.now (recounted moving share) self.old }
     {
-        entry::recount(&mut self.kept, name, hint, moving, share);
+        let _counted = self.kept.edit(name, hint, &ShareChange { moving, share });
     }
 
     /// Returns how many clients use or watch the tube with this name or wait for its jobs; none if

@@ -1,10 +1,8 @@
 //! What is kept of a tube, and how the entry of a name is changed in place.
-ghost use Rattle.std.specs.{Cmp.Lexicographic.slice_cmp, Map.lookup, Ordering.nat_cmp, Prelude.{[], is_some, ◌≡◌}};
-ghost use Rattle.bq_index.specs.Order.{InOrder};
+ghost use Rattle.std.specs.Prelude.{[], is_some, ◌≡◌};
 ghost use Rattle.bq_job.specs.machine.TubeCommands.{with_pause};
-ghost use Rattle.bq_jobs.specs.Numbering.{HasNumber};
-ghost use Rattle.bq_state.specs.{Crowds.{crowd_with, crowd_without, has_seats, is_none, no_crowd, recounted}, KeptTubes.crowd_by};
-ghost use Rattle.bq_state.specs.KeptTubes.{edited_at, ended, fresh_entry, is_named_at, kept_after, kept_changed, kept_moved};
+ghost use Rattle.bq_state.specs.{Crowds.{crowd_with, crowd_without, has_seats, is_none, no_crowd, recounted}, KeptTubes.ended};
+ghost use Rattle.bq_state.specs.KeptTubes.{fresh_entry, kept_after, kept_changed, kept_moved};
 ghost use Rattle.bq_state.specs.{KeptTubes.{kept_recounted, kept_removed, kept_with, record_of}, PauseEnds.end_of};
 
 use super::pauses::PauseEnd;
@@ -12,7 +10,7 @@ use crate::job_store::later;
 use crate::known::Tally;
 use bq_index::Edit;
 use bq_job::{Job, Moment, TubeName};
-use bq_jobs::{GhostName, Moved, Removed, TubeNumber, TubeTable};
+use bq_jobs::{Moved, Removed};
 use std::marker::Model;
 
 /// A pause of a tube.
@@ -224,32 +222,6 @@ impl TubeEntry {
     }
 }
 
-/// Changes the tube with this name. The contract also states that the names are in ascending order.
-pub(crate) fn change(
-    catalog: &mut TubeTable<TubeEntry>,
-    name: &TubeName,
-    hint: TubeNumber,
-    what: TubeChange,
-)
-    ensures numbers { catalog.new.numbers ≡ catalog.old.numbers }
-    ensures entries { catalog.new.entries
-        ≡ edited_at name.now (kept_changed what) catalog.old.entries }
-    ensures ordered { InOrder (slice_cmp nat_cmp) catalog.old.entries }
-{
-    let _changed = catalog.edit(name, hint, &what);
-}
-
-/// Ends the pause of the tube with this name, if it is due. Here, too, the names are in ascending
-/// order.
-pub(crate) fn end_pause(catalog: &mut TubeTable<TubeEntry>, name: &TubeName, moment: Moment)
-    ensures numbers { catalog.new.numbers ≡ catalog.old.numbers }
-    ensures entries { catalog.new.entries
-        ≡ edited_at name.now (ended moment) catalog.old.entries }
-    ensures ordered { InOrder (slice_cmp nat_cmp) catalog.old.entries }
-{
-    let _changed = catalog.edit(name, TubeNumber::unknown(), &PauseTimer { moment });
-}
-
 impl Edit<TubeEntry, ()> for TubeChange {
     ghost edited = { kept_changed };
 
@@ -260,10 +232,10 @@ impl Edit<TubeEntry, ()> for TubeChange {
     }
 }
 
-// The timer of a pause fires at this moment, if the pause is due.
+/// The timer of a pause fires at this moment, if the pause is due.
 #[derive(Clone, Copy)]
-struct PauseTimer {
-    moment: Moment,
+pub(crate) struct PauseTimer {
+    pub(crate) moment: Moment,
 }
 
 impl Edit<TubeEntry, ()> for PauseTimer {
@@ -276,11 +248,11 @@ impl Edit<TubeEntry, ()> for PauseTimer {
     }
 }
 
-// The share of a seat is added to the counts of a tube, or removed.
+/// The share of a seat is added to the counts of a tube, or removed.
 #[derive(Clone, Copy)]
-struct ShareChange {
-    moving: Moving,
-    share: Share,
+pub(crate) struct ShareChange {
+    pub(crate) moving: Moving,
+    pub(crate) share: Share,
 }
 
 impl Edit<TubeEntry, ()> for ShareChange {
@@ -326,61 +298,6 @@ impl Edit<TubeEntry, ()> for Moved {
     fn edit(&self, entry: &mut TubeEntry) {
         entry.move_job(self);
     }
-}
-
-/// Counts a new job in its tube. Here, too, the names are in ascending order.
-pub(crate) fn add_job(catalog: &mut TubeTable<TubeEntry>, job: &Job, number: TubeNumber)
-    requires { HasNumber job.now.tube number catalog.old.numbers }
-    ensures numbers { catalog.new.numbers ≡ catalog.old.numbers }
-    ensures entries { catalog.new.entries
-        ≡ edited_at job.now.tube (kept_with job.now) catalog.old.entries }
-    ensures ordered { InOrder (slice_cmp nat_cmp) catalog.old.entries }
-{
-    let name = GhostName::registered(catalog.tubes(), &job.tube, number);
-    catalog.edit_numbered(&name, number, job);
-}
-
-/// Stops counting the job of this report in its tube, and counts its deletion. Returns whether a
-/// client uses or watches the tube. Here, too, the names are in ascending order.
-pub(crate) fn count_removal(
-    catalog: &mut TubeTable<TubeEntry>,
-    removed: &Removed,
-    number: TubeNumber,
-) -> bool
-    requires { HasNumber removed.now.tube number catalog.old.numbers }
-    ensures numbers { catalog.new.numbers ≡ catalog.old.numbers }
-    ensures entries { catalog.new.entries
-        ≡ edited_at removed.now.tube (kept_removed removed.now) catalog.old.entries }
-    ensures ordered { InOrder (slice_cmp nat_cmp) catalog.old.entries }
-    ensures seats { result
-        ≡ has_seats (crowd_by (lookup (is_named_at removed.now.tube) catalog.old.entries)) }
-{
-    catalog.edit_numbered(&removed.tube, number, removed)
-}
-
-/// A job of a tube changed its state.
-pub(crate) fn move_job(catalog: &mut TubeTable<TubeEntry>, moved: &Moved, number: TubeNumber)
-    requires { HasNumber moved.now.tube number catalog.old.numbers }
-    ensures numbers { catalog.new.numbers ≡ catalog.old.numbers }
-    ensures entries { catalog.new.entries
-        ≡ edited_at moved.now.tube (kept_moved moved.now) catalog.old.entries }
-{
-    catalog.edit_numbered(&moved.tube, number, moved);
-}
-
-/// Adds the share of a seat to the counts of the tube with this name, or removes it.
-pub(crate) fn recount(
-    catalog: &mut TubeTable<TubeEntry>,
-    name: &TubeName,
-    hint: TubeNumber,
-    moving: Moving,
-    share: Share,
-)
-    ensures numbers { catalog.new.numbers ≡ catalog.old.numbers }
-    ensures entries { catalog.new.entries
-        ≡ edited_at name.now (kept_recounted moving share) catalog.old.entries }
-{
-    let _counted = catalog.edit(name, hint, &ShareChange { moving, share });
 }
 
 /// How a seat counts at a tube: whether its client uses it, watches it, and waits for its jobs.

@@ -8,7 +8,7 @@ ghost use Rattle.bq_state.specs.{KeptTubes.{record_at, records_ended, tally_kept
 ghost use Rattle.bq_state.specs.PauseEnds.{first_end, found_end, has_end, if_over, pause_at, paused_count, with_end, without_end};
 ghost use Rattle.std.specs.Cmp as Cmp;
 
-use super::entry::{self, TubeChange, TubeEntry};
+use super::entry::{PauseTimer, TubeChange, TubeEntry};
 use bq_index::{Catalog, Test};
 use bq_job::{Moment, NoMemory, TubeName};
 use bq_jobs::{TubeNumber, TubeTable};
@@ -44,7 +44,7 @@ pub(crate) fn pause(
 {
     let from = end_of(kept, name, hint);
     leave(ends, from);
-    entry::change(kept, name, hint, what);
+    let _changed = kept.edit(name, hint, &what);
     let to = end_of(kept, name, hint);
     enter(ends, to);
 }
@@ -78,7 +78,7 @@ fn end_first(kept: &mut TubeTable<TubeEntry>, ends: &mut PauseEnds, moment: Mome
     let Some(end) = first_over(ends, moment) else {
         return false;
     };
-    entry::end_pause(kept, &end.name, moment);
+    let _ended = kept.edit(&end.name, TubeNumber::unknown(), &PauseTimer { moment });
     leave(ends, Some(end));
     true
 }

@@ -15,10 +15,10 @@ pub returns-clause-records : goal.returns-clause-records
 returns-clause-records c = grind (arith, common_steps, over_records, in_order)
 
 pub returns-clause-tallies : goal.returns-clause-tallies
-returns-clause-tallies c = ap (map tally_kept) c.end_pause.ensures.entries ∙ edit_same_tallies _ _ (λ t. refl) _
+returns-clause-tallies c = ap (map tally_kept) c.edit-ended.ensures.entries ∙ edit_same_tallies _ _ (λ t. refl) _
 
 pub returns-clause-crowds : goal.returns-clause-crowds
-returns-clause-crowds c = ap (map crowd_kept) c.end_pause.ensures.entries ∙ edit_same_crowds _ _ (λ t. refl) _
+returns-clause-crowds c = ap (map crowd_kept) c.edit-ended.ensures.entries ∙ edit_same_crowds _ _ (λ t. refl) _
 
 pub returns-clause-fewer : goal.returns-clause-fewer
 returns-clause-fewer c _ = grind (arith, common_steps, over_fewer, in_order)
@@ -26,10 +26,10 @@ returns-clause-fewer c _ = grind (arith, common_steps, over_fewer, in_order)
 pub returns-clause-ends : goal.returns-clause-ends
 returns-clause-ends c =
     let end = c.in-Some.end in
-    let order = in_order c.args.kept.now.entries c.end_pause.ensures.ordered in
-    let is = over_from _ _ _ _ _ c.requires order c.in-Some.ensures.end c.end_pause.ensures.entries in
-    let gone = over_to _ _ _ _ _ c.requires order c.in-Some.ensures.end c.end_pause.ensures.entries in
-    let m = over_moves _ _ _ _ _ c.requires order c.in-Some.ensures.end c.end_pause.ensures.entries in
+    let order = in_order c.args.kept.now.entries c.edit-ended.ensures.ordered in
+    let is = over_from _ _ _ _ _ c.requires order c.in-Some.ensures.end c.edit-ended.ensures.entries in
+    let gone = over_to _ _ _ _ _ c.requires order c.in-Some.ensures.end c.edit-ended.ensures.entries in
+    let m = over_moves _ _ _ _ _ c.requires order c.in-Some.ensures.end c.edit-ended.ensures.entries in
     ends_moved _ _ _ _ _ _ c.requires m (λ _ _. c.in-Some.ensures.ordered) _
     (c.leave.ensures.entries ∙ (λ i. with_end (end_of end.name (sym gone i)) (without_end (sym is i) c.args.ends.now.entries)))
     (omega (arith, c.leave.ensures.spare, (one_box _ _ _ (sym is)), (ap (λ p. one_if p) gone)))

@@ -12,23 +12,23 @@ leave-requires c x is =
 
 pub enter-requires-clause-spare : goal.enter-requires-clause-spare
 enter-requires-clause-spare c x is =
-    let m = change_moves c.args.name.now c.args.what c.args.kept.now.entries c.change.new.catalog.entries
-    (in_order _ c.end_of-from.ensures.ordered) c.change.ensures.entries in
+    let m = change_moves c.args.name.now c.args.what c.args.kept.now.entries c.edit-changed.new.self.entries
+    (in_order _ c.end_of-from.ensures.ordered) c.edit-changed.ensures.entries in
     end_fits _ _ _ _ _ _ c.requires m _ (omega (arith, c.leave.ensures.spare, (one_box _ _ _ c.end_of-from.ensures.end))) _
     (sym c.end_of-to.ensures.end ∙ is)
 
 pub enter-requires-clause-absent : goal.enter-requires-clause-absent
 enter-requires-clause-absent c x is =
-    let m = change_moves c.args.name.now c.args.what c.args.kept.now.entries c.change.new.catalog.entries
-    (in_order _ c.end_of-from.ensures.ordered) c.change.ensures.entries in
+    let m = change_moves c.args.name.now c.args.what c.args.kept.now.entries c.edit-changed.new.self.entries
+    (in_order _ c.end_of-from.ensures.ordered) c.edit-changed.ensures.entries in
     ap (found_end x) (c.leave.ensures.entries ∙ ap (λ o. without_end o c.args.ends.now.entries) c.end_of-from.ensures.end)
     ∙ end_absent _ _ _ _ _ _ c.requires m (λ x is. c.leave.ensures.ordered x (c.end_of-from.ensures.end ∙ is)) _
     (sym c.end_of-to.ensures.end ∙ is)
 
 pub returns-clause-ends : goal.returns-clause-ends
 returns-clause-ends c =
-    let m = change_moves c.args.name.now c.args.what c.args.kept.now.entries c.change.new.catalog.entries
-    (in_order _ c.end_of-from.ensures.ordered) c.change.ensures.entries in
+    let m = change_moves c.args.name.now c.args.what c.args.kept.now.entries c.edit-changed.new.self.entries
+    (in_order _ c.end_of-from.ensures.ordered) c.edit-changed.ensures.entries in
     let left = c.leave.ensures.entries ∙ ap (λ o. without_end o c.args.ends.now.entries) c.end_of-from.ensures.end in
     ends_moved _ _ _ _ _ _ c.requires m (λ x is. c.leave.ensures.ordered x (c.end_of-from.ensures.end ∙ is)) _
     (c.enter.ensures.entries ∙ (λ i. with_end (c.end_of-to.ensures.end i) (left i))) (omega (
