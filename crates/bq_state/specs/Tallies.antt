@@ -3,7 +3,7 @@ use Rattle.std.specs.{List.{insert, prefix_len}, Prelude.{Bool, List, [], count_
 use Rattle.std.specs.Prelude.{◌&&◌, ◌-◌, ◌||◌, ◌∷◌, ◌≡◌}
 use Rattle.bq_job.specs.{declared.job.Job.Job, machine.{TubeRecord, is_buried, is_delayed, is_name_before, is_ready, is_ready_state}}
 use Rattle.bq_job.specs.{machine.{is_reserved, is_urgent, raised}, reading.TubeName.is_same_name}
-use Rattle.bq_jobs.specs.declared.rows.{Moved.Moved, Standing.Standing}
+use Rattle.bq_jobs.specs.{Changed.standing, declared.rows.{Moved.Moved, Standing.Standing}}
 use Rattle.bq_state.specs.{TubeEntries.has_entry, declared.known.tally.Tally.Tally}
 
 abbrev pub tally_of : List Job → Tally
@@ -49,25 +49,12 @@ tally_left at t = record {
 abbrev pub tally_moved : Moved → Tally → Tally
 tally_moved m t = tally_entered m.to (tally_left m.from t)
 
--- the counts including a job
+-- the counts including a job, and without it
 abbrev pub tally_with : Job → Tally → Tally
-tally_with j t = record {
-  urgent = count_with (is_urgent j) t.urgent;
-  ready = count_with (is_ready j) t.ready;
-  reserved = count_with (is_reserved j.state) t.reserved;
-  delayed = count_with (is_delayed j.state) t.delayed;
-  buried = count_with (is_buried j.state) t.buried;
-}
+tally_with j t = tally_entered (standing j) t
 
--- the counts without a job
 abbrev pub tally_without : Job → Tally → Tally
-tally_without j t = record {
-  urgent = count_without (is_urgent j) t.urgent;
-  ready = count_without (is_ready j) t.ready;
-  reserved = count_without (is_reserved j.state) t.reserved;
-  delayed = count_without (is_delayed j.state) t.delayed;
-  buried = count_without (is_buried j.state) t.buried;
-}
+tally_without j t = tally_left (standing j) t
 
 -- the counts of the jobs of each tube that has an entry, in the order of the entries
 abbrev pub tally_in : List Job → TubeRecord → Tally

@@ -7,7 +7,7 @@ ghost use Rattle.bq_state.specs.Knowledge.{with_left, with_moved, with_removal, 
 use crate::seats::{SeatChange, SeatRecord};
 use crate::tubes::{Share, TubeChange, Tubes};
 use bq_job::{Job, Moment, Seat, TubeName};
-use bq_jobs::{Moved, Removed, TubeNumber};
+use bq_jobs::{Moved, Removed, Standing, TubeNumber};
 pub use clients::Clients;
 pub use first_timeout::{FirstTimeout, first_to_give_up};
 pub use maybe_gone::MaybeGone;
@@ -64,7 +64,7 @@ impl Known {
     pub(crate) fn add_job(&mut self, job: &Job, hint: TubeNumber, is_wanted: bool, waits: bool)
         ensures { self.new ≡ with_job job.now is_wanted waits self.old }
     {
-        self.tally.add(job);
+        self.tally.enter(Standing::of(job));
         self.maybe_gone.remove(&job.tube);
         self.wanted.add_tube_if(&job.tube, hint, is_wanted);
         self.warns.warn_holder_if(job.state, waits);

@@ -1,8 +1,8 @@
 //! How many jobs are in each state.
 ghost use Rattle.std.specs.Prelude.{[], ◌≡◌};
-ghost use Rattle.bq_state.specs.Tallies.{has_jobs, tally_entered, tally_left, tally_of, tally_with};
+ghost use Rattle.bq_state.specs.Tallies.{has_jobs, tally_entered, tally_left, tally_of};
 
-use bq_job::{Job, JobState, Pri};
+use bq_job::{JobState, Pri};
 use bq_jobs::Standing;
 
 /// Ready jobs with a priority below this are urgent.
@@ -38,13 +38,6 @@ impl Tally {
         ensures { result ≡ has_jobs self.now }
     {
         self.ready > 0 || self.reserved > 0 || self.delayed > 0 || self.buried > 0
-    }
-
-    /// Counts a job.
-    pub(crate) fn add(&mut self, job: &Job)
-        ensures { self.new ≡ tally_with job.now self.old }
-    {
-        self.enter(Standing::of(job));
     }
 
     /// Counts a job in this state.

@@ -10,7 +10,7 @@ use crate::job_store::later;
 use crate::known::Tally;
 use bq_index::Edit;
 use bq_job::{Job, Moment, TubeName};
-use bq_jobs::{Moved, Removed};
+use bq_jobs::{Moved, Removed, Standing};
 use std::marker::Model;
 
 /// A pause of a tube.
@@ -184,7 +184,7 @@ impl TubeEntry {
         ensures { self.new ≡ kept_with job.now self.old }
     {
         self.change(TubeChange::CountPut);
-        self.tally.add(job);
+        self.tally.enter(Standing::of(job));
     }
 
     /// Stops counting the job of this report, and counts its deletion.
