@@ -1,7 +1,7 @@
 -- The outcomes of commands, between the states before and after.
 use Rattle.std.specs.Prelude.{Bool, Option, ℕ, ◌≡◌}
 use Rattle.bq_core.specs.{Acting.Replies, declared.acts.Reply.Reply}
-use Rattle.bq_job.specs.{declared.answer.Answer.Answer, machine.{Effect, SeatRecord, reserve_effect, showing, silent, telling}}
+use Rattle.bq_job.specs.{declared.answer.Answer.Answer, machine.{Effect, SeatRecord, reserve_effect, showing, silent}}
 use Rattle.bq_job.specs.machine.Machine.{Machine}
 use Rattle.bq_state.specs.{CoreParts.{AtSeat, machine_of}, JobKinds.first_of_kind, declared.core_parts.CoreParts.CoreParts}
 use Rattle.bq_state.specs.declared.job_store.JobKind.{JobKind}
@@ -17,11 +17,6 @@ RepliesAt seat takes effect old reply told new = AtSeat seat old (λ s. RepliesB
 -- the same for any record with this number
 abbrev pub RepliesTo : ℕ → Bool → (Machine → SeatRecord → Effect) → CoreParts → Reply → Answer → CoreParts → Type 0
 RepliesTo seat takes effect old reply told new = (s : SeatRecord) → s.number ≡ seat → RepliesBy takes (λ m. effect m s) old reply told new
-
--- the same if the request is always answered
-abbrev pub AnswersTo : ℕ → (Machine → SeatRecord → Effect) → CoreParts → Answer → CoreParts → Type 0
-AnswersTo seat effect old answer new =
-    (s : SeatRecord) → s.number ≡ seat → effect (machine_of old) s ≡ telling answer (machine_of new)
 
 -- the client at this seat waits, until this moment if there is one
 abbrev pub Waits : ℕ → Option ℕ → CoreParts → CoreParts → Type 0

@@ -85,33 +85,17 @@ fn carry_out(
             ttr,
             ref body,
         } => job_acts::put(state, alloc, seat, NewJob { pri, delay, ttr }, body, answer),
-        Request::Reserve => {
-            job_acts::reserve(state, seat, None);
-            Reply::Silent
-        }
-        Request::ReserveWithTimeout { seconds } => {
-            job_acts::reserve_until(state, seat, seconds);
-            Reply::Silent
-        }
+        Request::Reserve => job_acts::reserve(state, seat, None),
+        Request::ReserveWithTimeout { seconds } => job_acts::reserve_until(state, seat, seconds),
         Request::ReserveJob { id } => job_acts::reserve_job(state, seat, id, answer),
         Request::Delete { id } => job_acts::delete(state, seat, id, answer),
         Request::Release { id, pri, delay } => {
-            job_acts::release(state, seat, id, NewTurn { pri, delay }, answer);
-            Reply::Told
+            job_acts::release(state, seat, id, NewTurn { pri, delay }, answer)
         }
-        Request::Bury { id, pri } => {
-            job_acts::bury(state, seat, id, pri, answer);
-            Reply::Told
-        }
-        Request::Touch { id } => {
-            job_acts::touch(state, seat, id, answer);
-            Reply::Told
-        }
+        Request::Bury { id, pri } => job_acts::bury(state, seat, id, pri, answer),
+        Request::Touch { id } => job_acts::touch(state, seat, id, answer),
         Request::Kick { bound } => kicks::kick(state, seat, bound, answer),
-        Request::KickJob { id } => {
-            job_acts::kick_job(state, id, answer);
-            Reply::Told
-        }
+        Request::KickJob { id } => job_acts::kick_job(state, id, answer),
         Request::Use { ref tube } => tube_acts::use_tube(state, alloc, seat, tube, answer),
         Request::ListTubeUsed => tube_acts::list_tube_used(state, seat, answer),
         Request::Watch { ref tube } => tube_acts::watch(state, alloc, seat, tube, answer),

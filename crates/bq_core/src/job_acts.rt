@@ -1,7 +1,7 @@
 //! Commands on one job, and those that wait for one.
 ghost use Rattle.std.specs.Prelude.{Some, false, true, ◌≡◌};
-ghost use Rattle.bq_core.specs.Replying.{AnswersTo, RepliesAt, RepliesTo, Waits};
-ghost use Rattle.bq_job.specs.machine.{Acts.telling, Changes.seat_with, JobCommands.{bury_effect, delete_effect, is_full as is_full_of}};
+ghost use Rattle.bq_core.specs.Replying.{RepliesAt, RepliesBy, RepliesTo, Waits};
+ghost use Rattle.bq_job.specs.machine.{Changes.seat_with, JobCommands.{bury_effect, delete_effect, is_full as is_full_of}};
 ghost use Rattle.bq_job.specs.machine.JobCommands.{kick_job_effect, new_job as job_of_put, put_effect, release_effect, reserve_job_effect};
 ghost use Rattle.bq_job.specs.machine.{JobCommands.touch_effect, Limits.later as later_by, Machine.SeatRecord};
 ghost use Rattle.bq_state.specs.{Asking.AsksAsChanged, CoreParts.machine_of, SeatStates.is_asking};
@@ -105,25 +105,28 @@ pub(crate) fn put(
 
 /// The client waits, until this moment if there is one.
 #[tactic(auto, using(bq_state::proofs::CrowdLemmas::asking_is_connected, bq_state::proofs::WarningLemmas::known_holds))]
-pub(crate) fn reserve(state: &mut CoreParts, seat: Seat, until: Option<Moment>)
+pub(crate) fn reserve(state: &mut CoreParts, seat: Seat, until: Option<Moment>) -> Reply
     requires asks { is_asking (seat_with seat state.old.seats.items) ≡ true }
     ensures reply { Waits seat until state.old state.new }
+    ensures silent { result ≡ Reply.Silent }
     ensures asks { AsksAsChanged state.old.jobs state.new.jobs }
 {
     changes::note_leases(state, seat);
     let ticket = changes::give_ticket(state);
     let change = SeatChange::Wait(ticket, until);
     changes::change_seat(state, seat, &change);
+    Reply::Silent
 }
 
 /// The client waits for at most this many seconds.
-pub(crate) fn reserve_until(state: &mut CoreParts, seat: Seat, seconds: u32)
+pub(crate) fn reserve_until(state: &mut CoreParts, seat: Seat, seconds: u32) -> Reply
     requires asks { is_asking (seat_with seat state.old.seats.items) ≡ true }
     ensures reply { Waits seat (Some (later_by state.old.moment seconds)) state.old state.new }
+    ensures silent { result ≡ Reply.Silent }
     ensures asks { AsksAsChanged state.old.jobs state.new.jobs }
 {
     let until = job_store::later(state.moment, seconds);
-    reserve(state, seat, Some(until));
+    reserve(state, seat, Some(until))
 }
 
 /// Reserves a job that no client holds, in any tube.
@@ -138,12 +141,10 @@ pub(crate) fn reserve_job(
     ensures asks { AsksAsChanged state.old.jobs state.new.jobs }
 {
     if !state.has_job(id, JobTest::Free) {
-        *answer = Answer::NotFound;
-        return Reply::Told;
+        return not_found(answer);
     }
     let Some(shared) = state.share(id) else {
-        *answer = Answer::NotFound;
-        return Reply::Told;
+        return not_found(answer);
     };
     let Ok(body) = shared else {
         return Reply::Unshared;
@@ -167,10 +168,10 @@ pub(crate) fn delete(state: &mut CoreParts, seat: Seat, id: JobId, answer: &mut 
     }
 }
 
-// Answers that there is no such job. Not inlined, because its caller would otherwise reserve and
-// initialize room for an answer.
+/// Answers that there is no such job or tube. Not inlined, because its caller would otherwise
+/// reserve and initialize room for an answer.
 #[inline(never)]
-fn not_found(answer: &mut Answer) -> Reply
+pub(crate) fn not_found(answer: &mut Answer) -> Reply
     ensures answer { answer.new ≡ answers.NotFound }
     ensures reply { result ≡ Reply.Told }
 {
@@ -185,59 +186,66 @@ pub(crate) fn release(
     id: JobId,
     with: NewTurn,
     answer: &mut Answer,
-)
-    ensures reply { AnswersTo seat
-        (release_effect id with.pri with.delay) state.old answer.new state.new }
+) -> Reply
+    ensures reply { RepliesTo seat false
+        (release_effect id with.pri with.delay) state.old result answer.new state.new }
     ensures asks { AsksAsChanged state.old.jobs state.new.jobs }
 {
     if !state.has_job(id, JobTest::HeldBy(seat)) {
-        *answer = Answer::NotFound;
-        return;
+        return not_found(answer);
     }
     let change = JobChange::Release(with.pri, with.delay, state.moment);
     changes::change_job(state, id, &change);
     *answer = Answer::Released;
+    Reply::Told
 }
 
 /// Buries a job that the client holds.
-pub(crate) fn bury(state: &mut CoreParts, seat: Seat, id: JobId, pri: Pri, answer: &mut Answer)
-    ensures reply { AnswersTo seat (bury_effect id pri) state.old answer.new state.new }
+pub(crate) fn bury(
+    state: &mut CoreParts,
+    seat: Seat,
+    id: JobId,
+    pri: Pri,
+    answer: &mut Answer,
+) -> Reply
+    ensures reply { RepliesTo seat false
+        (bury_effect id pri) state.old result answer.new state.new }
     ensures asks { AsksAsChanged state.old.jobs state.new.jobs }
 {
     if !state.has_job(id, JobTest::HeldBy(seat)) {
-        *answer = Answer::NotFound;
-        return;
+        return not_found(answer);
     }
     let number = changes::give_burial_number(state);
     let change = JobChange::Bury(number, pri);
     changes::change_job(state, id, &change);
     *answer = Answer::Buried;
+    Reply::Told
 }
 
 /// Restarts the time to run of a job that the client holds.
-pub(crate) fn touch(state: &mut CoreParts, seat: Seat, id: JobId, answer: &mut Answer)
-    ensures reply { AnswersTo seat (touch_effect id) state.old answer.new state.new }
+pub(crate) fn touch(state: &mut CoreParts, seat: Seat, id: JobId, answer: &mut Answer) -> Reply
+    ensures reply { RepliesTo seat false (touch_effect id) state.old result answer.new state.new }
     ensures asks { AsksAsChanged state.old.jobs state.new.jobs }
 {
     let Some(ttr) = state.time_to_run(id, seat) else {
-        *answer = Answer::NotFound;
-        return;
+        return not_found(answer);
     };
     let change = JobChange::Touch(seat, job_store::later(state.moment, ttr));
     changes::change_job(state, id, &change);
     *answer = Answer::Touched;
+    Reply::Told
 }
 
 /// Makes a buried or delayed job ready.
-pub(crate) fn kick_job(state: &mut CoreParts, id: JobId, answer: &mut Answer)
+pub(crate) fn kick_job(state: &mut CoreParts, id: JobId, answer: &mut Answer) -> Reply
     ensures reply { (s : SeatRecord)
-        → kick_job_effect id (machine_of state.old) s ≡ telling answer.new (machine_of state.new) }
+        → RepliesBy false (λ m. kick_job_effect id m s) state.old result answer.new state.new }
     ensures asks { AsksAsChanged state.old.jobs state.new.jobs }
 {
     if !state.has_job(id, JobTest::Kickable) {
-        *answer = Answer::NotFound;
-        return;
+        return not_found(answer);
     }
     changes::change_job(state, id, &JobChange::Kick);
     *answer = Answer::Kicked;
+    Reply::Told
 }

@@ -7,6 +7,7 @@ ghost use Rattle.bq_jobs.specs.Searching.{Searches};
 ghost use Rattle.bq_state.specs.{Asking.AsksAsChanged, CoreParts.machine_of};
 
 use crate::acts::Reply;
+use crate::job_acts::not_found;
 use crate::texts::{ServerNumbers, TubeNumbers, job_text, names_text, server_text, tube_text};
 use bq_job::{Answer, JobId, Moment, NoMemory, Seat, Text, TubeName};
 use bq_jobs::{NumberedJobs, NumberedTubes, TubeNumber};
@@ -54,10 +55,7 @@ pub(crate) fn stats_job(
         id,
         state.moment,
     ) {
-        None => {
-            *answer = Answer::NotFound;
-            Reply::Told
-        }
+        None => not_found(answer),
         Some(Ok(text)) => {
             *answer = Answer::Ok(text);
             Reply::Told
@@ -98,8 +96,7 @@ pub(crate) fn stats_tube(
 {
     let hint = changes::number_of(state, tube);
     if !changes::is_tube(state, tube, hint) {
-        *answer = Answer::NotFound;
-        return Reply::Told;
+        return not_found(answer);
     }
     match tube_text(alloc, tube, &tube_numbers(state, tube, hint)) {
         Ok(text) => {

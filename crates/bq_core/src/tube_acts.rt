@@ -6,6 +6,7 @@ ghost use Rattle.bq_state.specs.{Asking.AsksAsChanged, CoreParts.{AtSeat, machin
 ghost use Rattle.bq_job.specs.declared.answer.Answer.TheVariants as answers;
 
 use crate::acts::Reply;
+use crate::job_acts::not_found;
 use bq_job::{Answer, JobId, Seat, TubeName};
 use bq_jobs::Tube;
 use bq_state::core_parts::CoreParts;
@@ -129,10 +130,7 @@ fn show(state: &mut CoreParts, id: JobId, answer: &mut Answer) -> Reply
     ensures asks { Asks 1 state.old.jobs state.new.jobs }
 {
     match state.share(id) {
-        None => {
-            *answer = Answer::NotFound;
-            Reply::Told
-        }
+        None => not_found(answer),
         Some(Ok(body)) => {
             *answer = Answer::Found(id, body);
             Reply::Told
@@ -171,10 +169,7 @@ pub(crate) fn peek_first(
     ensures asks { AsksAsChanged state.old.jobs state.new.jobs }
 {
     match first_used(state, seat, kind) {
-        None => {
-            *answer = Answer::NotFound;
-            Reply::Told
-        }
+        None => not_found(answer),
         Some(id) => show(state, id, answer),
     }
 }

@@ -15,13 +15,13 @@ pub returns-in-Delete-clause-reply : goal.returns-in-Delete-clause-reply
 returns-in-Delete-clause-reply c s found = rw c.in-Delete.is (c.delete.ensures.reply s (number_found _ _ _ found))
 
 pub returns-in-Release-clause-reply : goal.returns-in-Release-clause-reply
-returns-in-Release-clause-reply c s found = grind (arith, common_steps, number_found)
+returns-in-Release-clause-reply c s found = rw c.in-Release.is (c.release.ensures.reply s (number_found _ _ _ found))
 
 pub returns-in-Bury-clause-reply : goal.returns-in-Bury-clause-reply
-returns-in-Bury-clause-reply c s found = grind (arith, common_steps, number_found)
+returns-in-Bury-clause-reply c s found = rw c.in-Bury.is (c.bury.ensures.reply s (number_found _ _ _ found))
 
 pub returns-in-Touch-clause-reply : goal.returns-in-Touch-clause-reply
-returns-in-Touch-clause-reply c s found = grind (arith, common_steps, number_found)
+returns-in-Touch-clause-reply c s found = rw c.in-Touch.is (c.touch.ensures.reply s (number_found _ _ _ found))
 
 pub returns-in-KickJob-clause-reply : goal.returns-in-KickJob-clause-reply
 returns-in-KickJob-clause-reply c s found = rw c.in-KickJob.is (c.kick_job.ensures.reply s)
