@@ -232,7 +232,7 @@ told_moved k id f ignores rows = of (job_with id rows) ∙ ap (option_map (moved
     of (Some j) = ap (λ i. Some (record { tube = (named k j).tube; from = standing j; to = standing i })) (sym (edited_named k id f ignores j))
 
 -- and the tube of the job has the number that comes with it.
-pub has_number : (k : Numbering) → IsPaired k → (j : Job) → IsNumbered k j → HasNumber (named k j).tube j.tube k.numbers
+has_number : (k : Numbering) → IsPaired k → (j : Job) → IsNumbered k j → HasNumber (named k j).tube j.tube k.numbers
 has_number k h j is = h.back (number_in j.tube) (named k j).tube (named_is (name_of (number_in j.tube) k) is.1)
 
 pub number_removed : (k : Numbering) → IsPaired k → (o : Option Job) → IfSome o (IsNumbered k)

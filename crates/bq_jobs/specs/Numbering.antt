@@ -1,5 +1,5 @@
 -- The registered tubes and their numbers.
-use Rattle.std.specs.Prelude.{◌≡◌, ◌<◌, ◌≤◌, ◌^◌, ◌∷◌, [], ℕ, zero, suc, Bool, true, false, List, Option, Some, None, get_or, is_some, length, unwrap_or, map}
+use Rattle.std.specs.Prelude.{◌≡◌, ◌<◌, ◌≤◌, ◌^◌, ◌∷◌, [], ℕ, zero, suc, true, false, List, Option, Some, None, get_or, is_some, length, unwrap_or, map}
 use Rattle.std.specs.BTreeMap.{is_at, insert_entry}
 use Rattle.std.specs.Cmp.Lexicographic.{slice_cmp}
 use Rattle.std.specs.List.{AllByRecursion}
@@ -86,10 +86,6 @@ pub record AreRegistered (k : Numbering) (rows : List Job) : Type 0 where
 -- what is kept, as a contract sees it with the names of the tubes
 abbrev pub kept_named : Kept → Numbering → Kept
 kept_named rows k = record { jobs = map (named k) rows.jobs; room = rows.room; comparisons = rows.comparisons; tubes = k.numbers }
-
--- whether the tube of this name is registered
-abbrev pub is_known : List ℕ → Kept → Bool
-is_known name m = is_some (lookup (is_at (slice_cmp nat_cmp name)) m.tubes)
 
 -- the tube of this name is registered under this number
 abbrev pub HasNumber : List ℕ → List ℕ → List (List ℕ × ℕ) → Type 0
