@@ -130,7 +130,11 @@ def path_of(module, function, homes):
 
 
 def type_of(head):
-    """Returns the check's name for what a head begins: a type, a trait, or a trait of a type with the type first."""
+    """Returns the check's name for what a head begins: a type, a trait, or a trait of a type with the type first.
+
+    Arguments of a type or of a trait that are no parameters of the impl are part of its name.
+    """
+    full = head.replace("->", "  ")
     while "<" in head:
         plain = re.sub(r"<[^<>]*>", "", head.replace("->", "  "))
         if plain == head:
@@ -140,8 +144,17 @@ def type_of(head):
     words = [it for it in names if it not in ("impl", "trait")]
     if "for" in words:
         at = words.index("for")
-        return f"{words[at + 1]}{words[at - 1]}"
+        return "".join(it + arguments_of(it, full) for it in (words[at + 1], words[at - 1]))
     return words[0]
+
+
+def arguments_of(name, head):
+    """Returns the arguments of a type or a trait in the head of an impl, without the impl's parameters, as the check writes them."""
+    parameters = re.findall(r"(?:^impl<|, )(\w+)", head[: head.find("> ") + 1]) if head.startswith("impl<") else []
+    given = re.findall(rf"(?<!\w){re.escape(name)}<([^<>]*)>", head.removeprefix("impl"))
+    found = [it.strip() for it in given[-1].split(",")] if given else []
+    own = [it for it in found if not it.startswith("'") and it not in parameters]
+    return "".join("Unit" if it == "()" else it[:1].upper() + it[1:] for it in own)
 
 
 @dataclasses.dataclass(frozen=True)
