@@ -1,5 +1,5 @@
 -- Sums of searches.
-use Rattle.std.proofs.{Common.{List, ap, arith, get_or, length, max, refl, take, ℕ, ◌*◌, ◌+◌, ◌<◌, ◌≡◌, ◌≤◌}, Math.Nat.add-mul}
+use Rattle.std.proofs.{Common.{List, ap, arith, get_or, length, max, refl, take, ℕ, ◌*◌, ◌+◌, ◌<◌, ◌≤◌}, Math.Nat.add-mul}
 use Rattle.std.{proofs.lemmas.{Grind.common_steps, Nat.mul-le}, specs.List.sum_by}
 use Rattle.bq_core_api.specs.Cost.{changed_jobs}
 use Rattle.bq_index.{proofs.Bound.digits_rise, specs.Digits.binary_digits}
@@ -42,7 +42,5 @@ pub asked_before : (n k : ℕ) {old between new : Kept} → n + k ≤ 10 → Ask
 asked_before n k {old = old} {between = between} {new = new} few a b =
     let s = search_among (length old.jobs) in
     let t = search_among (max (length old.jobs) (length new.jobs)) in
-    let all = 9 * changed_jobs old.jobs new.jobs + 10 in
-    let same : k * search_among (length between.jobs) ≡ k * s = ap (λ i. k * search_among i) a.many in
-    let sum : (n + k) * s ≤ all * t = mul-le (n + k) s all t (omega arith) (search_grows _ _ (omega arith)) in
-    record { stays = omega (arith, a.stays, b.0); rise = omega (arith, a.rise, b.1, same, sum, add-mul n k s) }
+    let sum = mul-le (n + k) s (9 * changed_jobs old.jobs new.jobs + 10) t (omega arith) (search_grows _ _ (omega arith)) in
+    omega (arith, ap (λ i. k * search_among i) a.many, add-mul n k s)

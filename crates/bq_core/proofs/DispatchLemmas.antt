@@ -1,133 +1,122 @@
 -- Which job is handed out next, found tube by tube.
-use Rattle.std.proofs.Common.{Bool, List, None, Option, Some, [], ap, arith, false, if◌then◌else◌, inl, inr, not, refl, subst, sym, true, ℕ}
-use Rattle.std.proofs.{Common.{◌&&◌, ◌==◌, ◌||◌, ◌∙◌, ◌∷◌, ◌≡◌}, Math.Bool.or_assoc, lemmas.Bool.{cases_Bool, eqb-true, or_cases, or_left}}
-use Rattle.std.{proofs.lemmas.{Bool.{Decides.nat_tests, or_right}, Grind.common_steps}, specs.List.{AllByRecursion as All, Contains}}
-use Rattle.std.specs.{List.list_any, Prelude.{fold, is_some, option_map}}
-use Rattle.bq_core.proofs.FiredTimerLemmas.{chosen}
-use Rattle.bq_job.proofs.ChoiceLemmas.{first_of_agrees, first_of_contains, first_of_is, first_of_is_least, first_of_is_some, first_of_none}
-use Rattle.bq_job.proofs.{ChoiceLemmas.{first_of_none_passes, first_of_passes, first_of_some, pair_order}, ComputedLemmas.next_has_seat}
-use Rattle.bq_job.proofs.{ListLemmas.{all_always, all_at, all_weaker, list_any_not, none_pass}, WatchedLemmas.same_other}
-use Rattle.bq_job.specs.{beside.AreIdsWithin, declared.job.Job.Job, machine.{SeatRecord, TubeRecord, first_of, is_job_before, is_paused}}
-use Rattle.bq_job.specs.machine.{is_ready, is_ready_in, is_wait_before, is_waiting, is_waiting_for, job_with, may_have, next_job, next_seat}
-use Rattle.bq_job.specs.{machine.Machine.Machine, reading.TubeName.is_same_name}
-use Rattle.bq_jobs.{proofs.Changes.all_found, specs.Kept.ranked}
-use Rattle.bq_state.{proofs.TubeLemmas.{same_itself, same_name}, specs.Offers.{better_rank, is_paused_among, offered, waits_at, with_offer}}
-use Rattle.bq_state.specs.{Offers.with_offers, WantedJobs.{AreKnown, may_get}, declared.known.wanted.Wanted.{TheVariants.Client, Wanted}}
+use Rattle.std.proofs.Common.{Bool, List, None, Option, Some, [], ap, arith, false, if◌then◌else◌, is_some, not, refl, sym, true, ℕ, ◌&&◌}
+use Rattle.std.proofs.{Common.{◌||◌, ◌∙◌, ◌∷◌, ◌≡◌}, Math.Bool.{or-false, or_assoc}, lemmas.{Bool.cases_Bool, Grind.common_steps}}
+use Rattle.std.specs.{List.{AllByRecursion as All, list_any}, Prelude.{IfOk, Result, fold, option_map}}
+use Rattle.bq_core.{proofs.FiredTimerLemmas.chosen, specs.HandOuts.IsPicked}
+use Rattle.bq_job.proofs.{ChoiceLemmas.{first_of_agrees, first_of_contains}, ComputedLemmas.{next_has_seat, next_seat_waits}}
+use Rattle.bq_job.{proofs.{ListLemmas.{all_always, all_at}, WatchedLemmas.same_other}, specs.beside.AreIdsWithin}
+use Rattle.bq_job.specs.{declared.{fault.NoMemory.NoMemory, job.Job.Job}, machine.{Machine.Machine, SeatRecord, better_of, first_of}}
+use Rattle.bq_job.specs.machine.{is_job_before, is_paused, is_ready, is_ready_in, is_wait_before, is_waiting, is_waiting_for, job_with}
+use Rattle.bq_job.specs.{machine.{may_have, next_job, next_seat}, reading.TubeName.is_same_name}
+use Rattle.bq_jobs.specs.{Kept.ranked, Seen.{IsBodyOf, IsTubeOf}}
+use Rattle.bq_state.{proofs.TubeLemmas.{paused_is, same_itself, same_name}, specs.{CoreParts.machine_of, Offers.{better_rank, offered}}}
+use Rattle.bq_state.specs.{Offers.{waits_at, with_offer, with_offers}, WantedJobs.AreKnown, declared.core_parts.CoreParts.CoreParts}
+use Rattle.bq_state.specs.declared.known.wanted.Wanted.TheVariants.{Client}
 
-module _ (next : ℕ) (jobs : List Job) (ids : AreIdsWithin 1 jobs next) where
+-- neither the order of offers nor how they are grouped matters, and the same offer counts once
+pub ranks_swap : (b x y : Option (ℕ × ℕ)) → better_rank (better_rank b x) y ≡ better_rank (better_rank b y) x
+ranks_swap b x y = grind (arith, common_steps)
+
+ranks_group : (a b c : Option (ℕ × ℕ)) → better_rank a (better_rank b c) ≡ better_rank (better_rank a b) c
+ranks_group a b c = grind (arith, common_steps)
+
+ranks_once : (a b c : Option (ℕ × ℕ)) → better_rank (better_rank a c) (better_rank b c) ≡ better_rank (better_rank a b) c
+ranks_once a b c = grind (arith, common_steps)
+
+-- the best so far by priority and id, including this job if it passes
+abbrev with_rank : (Job → Bool) → Option (ℕ × ℕ) → Job → Option (ℕ × ℕ)
+with_rank p best j = if p j then better_rank best (Some (ranked (λ j. j.pri) j)) else best
+
+first_ranked : (p : Job → Bool) (best : Option Job) (jobs : List Job) → option_map (ranked (λ j. j.pri))
+    (fold (better_of p is_job_before) best jobs) ≡ fold (with_rank p) (option_map (ranked (λ j. j.pri)) best) jobs
+first_ranked p best [] = refl
+first_ranked p best (j ∷ jobs) = grind (arith, common_steps, first_ranked p (better_of p is_job_before best j) jobs)
+
+-- of the best ones by two tests, the better one is the best by both
+both_ranked : (p q : Bool) (a b : Option (ℕ × ℕ)) (r : ℕ × ℕ)
+    → better_rank (if p then better_rank a (Some r) else a) (if q then better_rank b (Some r) else b)
+    ≡ (if p || q then better_rank (better_rank a b) (Some r) else better_rank a b)
+both_ranked p q a b r =
+    grind (arith, cases_Bool, ranks_once a b (Some r), ranks_group a b (Some r), ranks_swap a (Some r) b)
+
+joined_from : (p q : Job → Bool) (a b : Option (ℕ × ℕ)) (jobs : List Job)
+    → better_rank (fold (with_rank p) a jobs) (fold (with_rank q) b jobs) ≡ fold (with_rank (λ j. p j || q j)) (better_rank a b) jobs
+joined_from p q a b [] = refl
+joined_from p q a b (j ∷ jobs) = joined_from p q (with_rank p a j) (with_rank q b j) jobs
+    ∙ ap (λ c. fold (with_rank (λ j. p j || q j)) c jobs) (both_ranked (p j) (q j) a b (ranked (λ j. j.pri) j))
+
+module _ (jobs : List Job) where
   -- the best of the jobs that pass, by its priority and its id
   abbrev pub best_of : (Job → Bool) → Option (ℕ × ℕ)
   best_of p = option_map (ranked (λ j. j.pri)) (first_of p is_job_before jobs)
 
-  same_job : (x y : Job) → Contains jobs x → Contains jobs y → is_job_before x y ≡ false → is_job_before y x ≡ false → y ≡ x
-  same_job x y i k a b = grind (arith, common_steps, all_at, all_found)
+  pub agreed : (p q : Job → Bool) → All (λ j. p j ≡ q j) jobs → best_of p ≡ best_of q
+  agreed p q same = ap (option_map (ranked (λ j. j.pri))) (first_of_agrees p q is_job_before jobs same)
 
-  from_second : (x y z : Job) → is_job_before y x ≡ true → is_job_before z x ≡ false → is_job_before z y ≡ false
-  from_second x y z a b = grind (arith, nat_tests)
+  agreed_all : (p q : Job → Bool) → ((j : Job) → p j ≡ q j) → best_of p ≡ best_of q
+  agreed_all p q same = λ i. best_of (λ j. same j i)
 
-  from_first : (x y z : Job) → is_job_before y x ≡ false → is_job_before z y ≡ false → is_job_before z x ≡ false
-  from_first x y z a b = grind (arith, nat_tests)
+  joined : (p q : Job → Bool) → better_rank (best_of p) (best_of q) ≡ best_of (λ j. p j || q j)
+  joined p q = simp first_ranked (joined_from p q None None jobs)
 
-  module _ (p q : Job → Bool) where
-    -- of the best ones by two tests, the better one is the best by both
-    first_better : (x y : Job) → first_of p is_job_before jobs ≡ Some x → first_of q is_job_before jobs ≡ Some y → (b : Bool)
-        → is_job_before y x ≡ b → first_of (λ j. p j || q j) is_job_before jobs ≡ (if b then Some y else Some x)
-    first_better x y e f true h =
-        let order = pair_order (λ (j : Job). j.pri) (λ (j : Job). j.id) in
-        let here = first_of_contains q is_job_before jobs y f in
-        first_of_is (λ j. p j || q j) order jobs y here (or_right (p y) (q y) (first_of_passes q is_job_before jobs y f))
-        (λ z there pass. elim (or_cases (p z) (q z) pass) [
-          | inl a ↦ from_second x y z h (first_of_is_least p order jobs x z e there a)
-          | inr a ↦ first_of_is_least q order jobs y z f there a
-        ]) (λ z there a b. same_job y z here there a b)
-    first_better x y e f false h =
-        let order = pair_order (λ (j : Job). j.pri) (λ (j : Job). j.id) in
-        let here = first_of_contains p is_job_before jobs x e in
-        first_of_is (λ j. p j || q j) order jobs x here (or_left (p x) (q x) (first_of_passes p is_job_before jobs x e))
-        (λ z there pass. elim (or_cases (p z) (q z) pass) [
-          | inl a ↦ first_of_is_least p order jobs x z e there a
-          | inr a ↦ from_first x y z h (first_of_is_least q order jobs y z f there a)
-        ]) (λ z there a b. same_job x z here there a b)
+-- the best of them, only if this holds
+pub only_if : (jobs : List Job) (b : Bool) (p : Job → Bool) → (if b then best_of jobs p else None) ≡ best_of jobs (λ j. b && p j)
+only_if jobs true p = refl
+only_if [] false p = refl
+only_if (j ∷ jobs) false p = only_if jobs false p
 
-    if_rank : (b : Bool) (x y : Job) → (if b then Some (ranked (λ j. j.pri) y) else Some (ranked (λ j. j.pri) x)) ≡ option_map
-        (ranked (λ j. j.pri)) (if b then Some y else Some x)
-    if_rank b x y = grind (arith, common_steps)
+module _ (paused : List ℕ → Bool) where
+  -- what a tube offers
+  abbrev pub offers : List ℕ → Job → Bool
+  offers name j = not (paused name) && is_ready_in name j
 
-    joined_at : (o u : Option Job) → first_of p is_job_before jobs ≡ o → first_of q is_job_before jobs ≡ u
-        → better_rank (option_map (ranked (λ j. j.pri)) o) (option_map (ranked (λ j. j.pri)) u) ≡ best_of (λ j. p j || q j)
-    joined_at None u e f = ap (option_map (ranked (λ j. j.pri))) (sym f ∙ first_of_agrees q (λ j. p j || q j) is_job_before jobs
-        (all_weaker (λ j. p j ≡ false) (λ j. q j ≡ (p j || q j)) jobs (λ j none. rw none refl)
-        (none_pass p jobs (first_of_none p is_job_before jobs e))))
-    joined_at (Some x) None e f = ap (option_map (ranked (λ j. j.pri))) (sym e ∙ first_of_agrees p (λ j. p j || q j) is_job_before jobs
-        (all_weaker (λ j. q j ≡ false) (λ j. p j ≡ (p j || q j)) jobs (λ j none. rw none (or_none (p j)))
-        (none_pass q jobs (first_of_none q is_job_before jobs f))))
-      where
-        or_none : (b : Bool) → b ≡ (b || false)
-        or_none b = grind (arith, common_steps)
-    joined_at (Some x) (Some y) e f = grind (arith, common_steps, if_rank, first_better)
+  -- ready in one of these tubes, which isn't paused
+  abbrev ready_among : List (List ℕ) → Job → Bool
+  ready_among names j = is_ready j && list_any (is_same_name j.tube) names && not (paused j.tube)
 
-    pub joined : better_rank (best_of p) (best_of q) ≡ best_of (λ j. p j || q j)
-    joined = joined_at (first_of p is_job_before jobs) (first_of q is_job_before jobs) refl refl
+  one_more_name : (name : List ℕ) (names : List (List ℕ)) (p : Job → Bool) (j : Job)
+      → ((p j || offers name j) || ready_among names j) ≡ (p j || ready_among (name ∷ names) j)
+  one_more_name name names p j = grind (arith, common_steps, cases_Bool, same_name, same_itself, same_other)
 
-  agreed : (p q : Job → Bool) → ((j : Job) → p j ≡ q j) → best_of p ≡ best_of q
-  agreed p q same = ap (option_map (ranked (λ j. j.pri))) (first_of_agrees p q is_job_before jobs (all_always (λ j. p j ≡ q j) jobs same))
+module _ (st : CoreParts) where
+  abbrev jobs : List Job
+  jobs = st.jobs.jobs
 
-  module _ (entries : List TubeRecord) (paused : List ℕ → Bool)
-      (paused_is : (name : List ℕ) → is_paused_among entries name ≡ paused name) where
-    -- what a tube offers
-    abbrev pub offers : List ℕ → Job → Bool
-    offers name j = is_ready_in name j && not (paused name)
+  abbrev paused : List ℕ → Bool
+  paused name = is_paused name (machine_of st)
 
-    pub offered_is : (name : List ℕ) → offered jobs entries name ≡ best_of (offers name)
-    offered_is name = ap (λ b. if b then None else best_of (is_ready_in name)) (paused_is name) ∙ go (paused name) refl
-      where
-        with_true : (b : Bool) → (b && true) ≡ b
-        with_true b = grind (arith, common_steps)
+  pub offered_is : (name : List ℕ) → offered st.jobs.jobs st.tubes.entries name
+      ≡ best_of st.jobs.jobs (offers (λ name. is_paused name (machine_of st)) name)
+  offered_is name = grind (
+    arith,
+    common_steps,
+    paused_is name st.tubes.entries st.sound.entries.order st.sound.entries.fresh,
+    only_if jobs (not (paused name)) (is_ready_in name),
+  )
 
-        with_false : (b : Bool) → (b && false) ≡ false
-        with_false b = grind (arith, common_steps)
+  with_names : (names : List (List ℕ)) (p : Job → Bool)
+      → fold (with_offer jobs st.tubes.entries) (best_of jobs p) names ≡ best_of jobs (λ j. p j || ready_among paused names j)
+  with_names [] p = grind (arith, common_steps, agreed_all)
+  with_names (name ∷ names) p = ap (λ b. fold (with_offer jobs st.tubes.entries) b names)
+      (ap (better_rank (best_of jobs p)) (offered_is name) ∙ joined jobs p (offers paused name))
+      ∙ with_names names (λ j. p j || offers paused name j) ∙ agreed_all jobs _ _ (one_more_name paused name names p)
 
-        go : (b : Bool) → paused name ≡ b → (if b then None else best_of (is_ready_in name)) ≡ best_of (offers name)
-        go true e = sym (ap (option_map (ranked (λ j. j.pri))) (first_of_none_passes (offers name) is_job_before jobs
-            (list_any_not (offers name) jobs (all_always (λ j. offers name j ≡ false) jobs (λ j. rw e (with_false (is_ready_in name j)))))))
-        go false e = agreed (is_ready_in name) (offers name) (λ j. rw e (sym (with_true (is_ready_in name j))))
+  with_seat_at : (s : SeatRecord) (p : Job → Bool) (b : Bool)
+      → (if b then fold (with_offer jobs st.tubes.entries) (best_of jobs p) s.watched else best_of jobs p) ≡ best_of jobs
+      (λ j. p j || (b && may_have (machine_of st) s j))
+  with_seat_at s p true = with_names s.watched p
+  with_seat_at s p false = agreed_all jobs _ _ (λ j. sym (or-false (p j)))
 
-    -- ready in one of these tubes, which isn't paused
-    abbrev ready_among : List (List ℕ) → Job → Bool
-    ready_among names j = is_ready j && list_any (is_same_name j.tube) names && not (paused j.tube)
+  with_seats : (seats : List SeatRecord) (p : Job → Bool) → fold (with_offers jobs st.tubes.entries) (best_of jobs p) seats ≡ best_of jobs
+      (λ j. p j || list_any (is_waiting_for (machine_of st) j) seats)
+  with_seats [] p = agreed_all jobs _ _ (λ j. sym (or-false (p j)))
+  with_seats (s ∷ seats) p = ap (λ o. fold (with_offers jobs st.tubes.entries) o seats) (with_seat_at s p (is_waiting s))
+      ∙ with_seats seats (λ j. p j || is_waiting_for (machine_of st) j s) ∙ agreed_all jobs _ _ (λ j. or_assoc (p j) _ _)
 
-    one_more_name : (name : List ℕ) (names : List (List ℕ)) (p : Job → Bool) (j : Job)
-        → ((p j || offers name j) || ready_among names j) ≡ (p j || ready_among (name ∷ names) j)
-    one_more_name name names p j = grind (arith, common_steps, cases_Bool, same_name, same_itself, same_other)
-
-    with_names : (names : List (List ℕ)) (p : Job → Bool)
-        → fold (with_offer jobs entries) (best_of p) names ≡ best_of (λ j. p j || ready_among names j)
-    with_names [] p = grind (arith, common_steps, agreed)
-    with_names (name ∷ names) p =
-        ap (λ b. fold (with_offer jobs entries) b names) (ap (better_rank (best_of p)) (offered_is _) ∙ joined _ _)
-        ∙ with_names names (λ j. p j || offers name j) ∙ agreed _ _ (one_more_name _ _ p)
-
-    module _ (m : Machine) (paused_in : (name : List ℕ) → paused name ≡ is_paused name m) where
-      one_more_seat : (s : SeatRecord) (seats : List SeatRecord) (p : Job → Bool) (b : Bool) → is_waiting s ≡ b
-          → ((q : Job → Bool) → fold (with_offers jobs entries) (best_of q) seats ≡ best_of
-          (λ j. q j || list_any (is_waiting_for m j) seats))
-          → fold (with_offers jobs entries) (if b then fold (with_offer jobs entries) (best_of p) s.watched else best_of p) seats ≡ best_of
-          (λ j. p j || list_any (is_waiting_for m j) (s ∷ seats))
-      one_more_seat s seats p true e rest = ap (λ o. fold (with_offers jobs entries) o seats) (with_names _ _)
-          ∙ rest (λ j. p j || ready_among s.watched j) ∙ agreed _ _
-          (λ j. rw (e, paused_in j.tube) (or_assoc (p j) (may_have m s j) (list_any (is_waiting_for m j) seats)))
-      one_more_seat s seats p false e rest = rest p ∙ agreed _ _ (λ j. rw e refl)
-
-      with_seats : (seats : List SeatRecord) (p : Job → Bool)
-          → fold (with_offers jobs entries) (best_of p) seats ≡ best_of (λ j. p j || list_any (is_waiting_for m j) seats)
-      with_seats [] p = grind (arith, common_steps, agreed)
-      with_seats (s ∷ seats) p = one_more_seat s seats p (is_waiting s) refl (with_seats seats)
-
-      pub next_offer : (seats : List SeatRecord)
-          → fold (with_offers jobs entries) None seats ≡ best_of (λ j. list_any (is_waiting_for m j) seats)
-      next_offer seats = ap (λ o. fold (with_offers jobs entries) o seats) (sym (ap (option_map (ranked (λ j. j.pri)))
-          (first_of_none_passes (λ _. false) is_job_before jobs
-          (list_any_not (λ _. false) jobs (all_always (λ _. false ≡ false) jobs (λ _. refl)))))) ∙ with_seats seats (λ _. false)
+  pub next_offer : (seats : List SeatRecord) → fold (with_offers st.jobs.jobs st.tubes.entries) None seats
+      ≡ best_of st.jobs.jobs (λ j. list_any (is_waiting_for (machine_of st) j) seats)
+  next_offer seats = ap (λ o. fold (with_offers jobs st.tubes.entries) o seats) (only_if jobs false (λ _. true))
+      ∙ with_seats seats (λ _. false)
 
 -- the id of the best one
 pub id_of_best : (o : Option Job) → option_map (λ (r : ℕ × ℕ). r.1) (option_map (ranked (λ j. j.pri)) o) ≡ option_map (λ j. j.id) o
@@ -135,67 +124,42 @@ id_of_best o = grind (arith, common_steps)
 
 -- a client that waits for jobs of the next job's tube waits for that job
 pub waits_alike : (m : Machine) (j : Job) → next_job m ≡ Some j → (s : SeatRecord) → waits_at j.tube s ≡ is_waiting_for m j s
-waits_alike m j e s =
-    let is_wanted = first_of_passes (λ j. list_any (is_waiting_for m j) m.seats) is_job_before m.jobs j e in
-    let free = may_go m.seats is_wanted in
-    rw (free.0, free.1) (bools (is_waiting s) (list_any (is_same_name j.tube) s.watched))
-  where
-    bools : (w n : Bool) → (w && n) ≡ (w && ((true && n) && not false))
-    bools w n = grind (arith, common_steps)
-
-    parts : (w r n d : Bool) → (w && ((r && n) && not d)) ≡ true → (r ≡ true) × (d ≡ false)
-    parts w r n d h = grind (arith, common_steps)
-
-    may_go : (seats : List SeatRecord) → list_any (is_waiting_for m j) seats ≡ true → (is_ready j ≡ true) × (is_paused j.tube m ≡ false)
-    may_go [] h = absurd cc
-    may_go (s ∷ seats) h = elim (or_cases (is_waiting_for m j s) (list_any (is_waiting_for m j) seats) h) [
-      | inl here ↦ parts _ _ _ _ here
-      | inr more ↦ may_go seats more
-    ]
+waits_alike m j e s = let first = next_has_seat m j e in grind (arith, common_steps, next_seat_waits m j first.0 first.1)
 
 -- the client that gets the next job waits for jobs of its tube, and has waited longest among those
 pub seat_at_tube : (m : Machine) (j : Job) → next_job m ≡ Some j → first_of (waits_at j.tube) is_wait_before m.seats ≡ next_seat m j
 seat_at_tube m j e = grind (arith, common_steps, first_of_agrees, all_always, waits_alike)
 
--- there is one
-pub some_at_tube : (m : Machine) (j : Job) → next_job m ≡ Some j → list_any (waits_at j.tube) m.seats ≡ true
-some_at_tube m j e =
-    let seat = next_has_seat m j e in
-    sym (first_of_is_some (waits_at j.tube) is_wait_before m.seats) ∙ ap is_some (seat_at_tube m j e ∙ seat.1)
+-- if only one client may have jobs, it gets the next one
+pub taker_known : (m : Machine) (waiter : ℕ) → AreKnown (Client waiter) m.jobs m.seats m.tubes → IsPicked m waiter
+taker_known m waiter known j e =
+    let first = next_has_seat m j e in
+    let may = all_at _ _ _ known (first_of_contains _ _ _ _ e) in
+    grind (arith, common_steps, next_seat_waits m j first.0 first.1, all_at)
 
--- it is known to be one that may have the job
-pub takers_known : (m : Machine) (wanted : Wanted) (j : Job) → next_job m ≡ Some j → AreKnown wanted m.jobs m.seats m.tubes
-    → All (λ s. waits_at j.tube s ≡ true → may_get wanted j.tube s.number ≡ true) m.seats
-takers_known m wanted j e known = grind (
-  arith,
-  common_steps,
-  cases_Bool,
-  all_weaker,
-  waits_alike,
-  all_at,
-  first_of_contains (λ j. list_any (is_waiting_for m j) m.seats) is_job_before m.jobs j e,
-)
+module _ (m : Machine) (id : ℕ) (ids : AreIdsWithin 1 m.jobs m.next_id) (first : Some id ≡ option_map (λ j. j.id) (next_job m)) where
+  -- the next job is the one with this id
+  pub next_is : next_job m ≡ job_with id m.jobs
+  next_is = let one = chosen _ _ _ _ _ _ ids first in one.first ∙ sym one.found
 
--- if only one client may have jobs, it is the first one that waits for jobs of the tube
-pub taker_known : (waiter : ℕ) (wanted : Wanted) (tube : List ℕ) (seats : List SeatRecord) → wanted ≡ Client waiter
-    → list_any (waits_at tube) seats ≡ true → All (λ s. waits_at tube s ≡ true → may_get wanted tube s.number ≡ true) seats
-    → Some waiter ≡ option_map (λ (s : SeatRecord). s.number) (first_of (waits_at tube) is_wait_before seats)
-taker_known waiter wanted tube seats is some known =
-    let s = first_of_some (waits_at tube) is_wait_before seats some in
-    let may = all_at _ _ _ known (first_of_contains _ _ _ _ s.1) (first_of_passes (waits_at tube) is_wait_before seats s.0 s.1) in
-    let at : (s.0.number == waiter) ≡ true = subst (λ f. may_get f tube s.0.number ≡ true) is may in
-    ap Some (sym (eqb-true s.0.number waiter at)) ∙ sym (ap (option_map (λ (t : SeatRecord). t.number)) s.1)
+  pub next_there : false ≡ is_some (job_with id m.jobs) → ⊥
+  next_there none = grind (arith, common_steps, next_is)
 
--- the job with this id is the next one
-pub next_is : (m : Machine) (id : ℕ) (x : Job) → AreIdsWithin 1 m.jobs m.next_id → Some id ≡ option_map (λ j. j.id) (next_job m)
-    → job_with id m.jobs ≡ Some x → next_job m ≡ Some x
-next_is m id x ids first found =
-    let one = chosen _ _ _ _ _ _ ids first in
-    let same : one.job ≡ x = let f = one.found in cc in
-    one.first ∙ ap Some same
+  -- a reference to its body
+  pub body_of_next : (shared : Result (List ℕ) NoMemory) → IfOk shared (IsBodyOf (job_with id m.jobs)) → IfOk shared (IsBodyOf (next_job m))
+  body_of_next shared told = rw next_is told
 
-pub next_there : (m : Machine) (id : ℕ) → AreIdsWithin 1 m.jobs m.next_id → Some id ≡ option_map (λ j. j.id) (next_job m)
-    → None ≡ job_with id m.jobs → ⊥
-next_there m id ids first none =
-    let one = chosen _ _ _ _ _ _ ids first in
-    cc
+  -- the client that waits for jobs of its tube, and has waited longest among those, gets it
+  module _ (seats : List SeatRecord) (seats_are : seats ≡ m.seats) (name tube : List ℕ) (name_is : name ≡ tube)
+      (tube_is : IsTubeOf (job_with id m.jobs) tube) (found : Option ℕ)
+      (found_is : found ≡ option_map (λ s. s.number) (first_of (waits_at name) is_wait_before seats)) where
+    pub picked_at_tube : (j : Job) → next_job m ≡ Some j → found ≡ option_map (λ s. s.number) (next_seat m j)
+    picked_at_tube j e =
+        let at = tube_is j (sym next_is ∙ e) in
+        rw (found_is, seats_are, name_is, at) (ap (option_map (λ s. s.number)) (seat_at_tube m j e))
+
+    pub one_picked : is_some found ≡ true
+    one_picked =
+        let one = chosen _ _ _ _ _ _ ids first in
+        let seat = next_has_seat m one.job one.first in
+        ap is_some (picked_at_tube one.job one.first ∙ ap (option_map (λ (s : SeatRecord). s.number)) seat.1)

@@ -1,30 +1,17 @@
 -- Texts that are made.
-use Rattle.std.proofs.Common.{Bor, Err, IfOk, List, Ok, Result, Some, [], ap, arith, codes, decimal, flat_map, option_map, refl, true, ℕ}
-use Rattle.std.proofs.{Common.{◌++◌, ◌∙◌, ◌∷◌, ◌≡◌}, lemmas.Grind.common_steps}
+use Rattle.std.proofs.Common.{Bor, Err, IfOk, List, Ok, Result, Some, [], ap, arith, codes, flat_map, option_map, refl, true, ℕ, ◌++◌, ◌∷◌}
+use Rattle.std.proofs.{Common.◌≡◌, lemmas.Grind.common_steps}
 use Rattle.bq_job.{proofs.NameOrderLemmas.stays_fold, specs.{beside.is_in_order, declared.{fault.NoMemory.NoMemory, job.Job.Job}}}
-use Rattle.bq_job.specs.{machine.{job_with, name_list}, texts.Yaml.{KeyValue, key_number, name_line}}
+use Rattle.bq_job.specs.{machine.{job_with, name_list}, texts.Yaml.name_line}
 use Rattle.bq_jobs.{proofs.Changes.found_id, specs.Seen.but_for_tube}
 use Rattle.bq_state.specs.Names.{names_of}
-
--- A known text is the same for each matching machine.
-pub told_of : {T E M : Type 0} (r : Result T E) (x : T) (Fits : M → Type 0) (f : M → T)
-    → IfOk r (λ t. t ≡ x) → ((m : M) → Fits m → x ≡ f m) → IfOk r (λ t. (m : M) → Fits m → t ≡ f m)
-told_of r x Fits f is same = grind (arith, common_steps)
-
--- a line with a known number
-pub with_number : (key : List ℕ) (p : KeyValue) (n k : ℕ) → p ≡ (key, decimal n) → n ≡ k → p ≡ key_number key k
-with_number key p n k line is = line ∙ ap (key_number key) is
-
--- a line with a known word
-pub with_word : (key : List ℕ) (p : KeyValue) (word known : List ℕ) → p ≡ (key, word) → word ≡ known → p ≡ (key, known)
-with_word key p word known line is = line ∙ ap (λ w. let pair : KeyValue = (key, w) in pair) is
 
 -- The record found by an id belongs to the job with that id.
 pub id_of_row : (id : ℕ) (row : Job) (jobs : List Job) → Some (but_for_tube row) ≡ option_map but_for_tube (job_with id jobs) → id ≡ row.id
 id_of_row id row jobs same = grind (arith, common_steps, found_id)
 
-lines_of : (names : List (Bor (List ℕ))) → flat_map
-    (λ (name : Bor (List ℕ)). name_line name.now) names ≡ flat_map name_line (names_of names)
+lines_of : (names : List (Bor (List ℕ)))
+    → flat_map (λ (name : Bor (List ℕ)). name_line name.now) names ≡ flat_map name_line (names_of names)
 lines_of [] = refl
 lines_of (name ∷ names) = ap (λ more. name_line name.now ++ more) (lines_of names)
 

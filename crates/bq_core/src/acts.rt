@@ -16,6 +16,7 @@ use bq_state::job_store::JobKind;
 use bq_state::seats::SeatChange;
 use std::alloc::Global;
 
+#[tactic(auto, using(crate::proofs::ToldLemmas::connects))]
 fn connect(state: &mut CoreParts, seat: Seat)
     ensures after { machine_of state.new
         ≡ (effect (machine_of state.old) seat steps.Connect).machine }
@@ -27,6 +28,7 @@ fn connect(state: &mut CoreParts, seat: Seat)
     }
 }
 
+#[tactic(auto, using(crate::proofs::ToldLemmas::ends))]
 fn end(state: &mut CoreParts, seat: Seat)
     ensures after { machine_of state.new ≡ (effect (machine_of state.old) seat steps.End).machine }
     ensures jobs { state.new.jobs ≡ state.old.jobs }
@@ -37,6 +39,7 @@ fn end(state: &mut CoreParts, seat: Seat)
 }
 
 // The jobs that the client holds become ready or delayed, and the seat is free.
+#[tactic(auto, using(std::proofs::lemmas::Grind::common_steps, crate::proofs::ToldLemmas::closes, crate::proofs::ToldLemmas::close_asks))]
 fn close(state: &mut CoreParts, seat: Seat) -> Option<Answer>
     ensures reply { effect (machine_of state.old) seat steps.Close
         ≡ record { machine = machine_of state.new; answer = result } }
@@ -66,6 +69,7 @@ fn refusal_answer(why: Refusal) -> Answer
 // Carries out a request that a connected client may make. A call initializes the room for all its
 // large values before it begins, whichever branch it takes. So commands that need a name or a job
 // by value are kept in functions of their own (`inline(never)`).
+#[tactic(auto, using(std::proofs::lemmas::Grind::common_steps, crate::proofs::ActLemmas::number_found))]
 fn carry_out(
     state: &mut CoreParts,
     alloc: Global,

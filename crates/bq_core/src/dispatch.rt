@@ -177,6 +177,7 @@ fn best_offer(
 }
 
 // Returns the job that is handed out next. Only jobs that may have become available are checked.
+#[tactic(auto, using(crate::proofs::SearchLemmas::offers_found))]
 fn next_offer(state: &mut CoreParts) -> Option<Offer>
     ensures next { result ≡ next_rank (machine_of state.old) }
     ensures kept { Looks (waited (machine_of state.old)) state.old state.new }

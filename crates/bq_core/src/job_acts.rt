@@ -62,6 +62,7 @@ fn is_full(state: &CoreParts) -> bool
 /// Puts a job. The boxes that it needs are allocated before any change; if the job limit is
 /// reached, nothing is allocated. The job shares the body with the client's step.
 #[inline(never)]
+#[tactic(auto, using(crate::proofs::ActLemmas::asked_in_all))]
 pub(crate) fn put(
     state: &mut CoreParts,
     alloc: Global,
@@ -157,6 +158,7 @@ pub(crate) fn reserve_job(
 
 /// Removes a job that no client holds, or that this client holds.
 #[inline(never)]
+#[tactic(auto, using(crate::proofs::ActLemmas::asked_in_all))]
 pub(crate) fn delete(state: &mut CoreParts, seat: Seat, id: JobId, answer: &mut Answer) -> Reply
     ensures reply { RepliesTo seat false (delete_effect id) state.old result answer.new state.new }
     ensures asks { AsksAsChanged state.old.jobs state.new.jobs }

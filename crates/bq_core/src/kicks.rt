@@ -28,6 +28,7 @@ fn kind_to_kick(jobs: &mut NumberedJobs, tubes: &NumberedTubes, tube: &Tube) -> 
 }
 
 // Kicks the first job of this kind. Returns false if there is none.
+#[tactic(auto, using(std::proofs::lemmas::Grind::common_steps, crate::proofs::KickLemmas::none_of_kind))]
 fn kick_first(state: &mut CoreParts, kind: JobKind, tube: &Tube) -> bool
     requires out { (k : Job) → is_of kind tube.now (kicked k) ≡ false }
     ensures none { result ≡ false → (jobs_of kind tube.now state.old.jobs.jobs ≡ [])
@@ -48,6 +49,7 @@ fn kick_first(state: &mut CoreParts, kind: JobKind, tube: &Tube) -> bool
 }
 
 // Kicks at most `bound` jobs of this kind, in order, and returns how many.
+#[tactic(auto, using(crate::proofs::ToldLemmas::loop_asks))]
 fn kick_some(state: &mut CoreParts, kind: JobKind, tube: &Tube, bound: u32) -> u64
     requires out { (k : Job) → is_of kind tube.now (kicked k) ≡ false }
     ensures kicked { machine_of state.new
@@ -68,6 +70,7 @@ fn kick_some(state: &mut CoreParts, kind: JobKind, tube: &Tube, bound: u32) -> u
 }
 
 // Kicks at most `bound` jobs of the tube, and returns how many.
+#[tactic(auto, using(std::proofs::lemmas::Grind::common_steps))]
 fn kick_in(state: &mut CoreParts, tube: &Tube, bound: u32) -> u64
     ensures kicked { machine_of state.new
         ≡ after_kick (take bound (kickable tube.now (machine_of state.old).jobs))

@@ -91,6 +91,7 @@ fn expire_first(state: &mut CoreParts) -> bool
 }
 
 // Ends and counts one reservation, if its time to run has expired.
+#[tactic(auto, using(crate::proofs::FiredTimerLemmas::none_fires))]
 fn expire(state: &mut CoreParts) -> bool
     ensures done { result ≡ false → is_some_due (machine_of state.old) ≡ false
         → HaveFired state.old state.new }
@@ -107,6 +108,7 @@ fn expire(state: &mut CoreParts) -> bool
 }
 
 // Fires one timer of a job, if one is due.
+#[tactic(auto, using(crate::proofs::AskLemmas::asks_more, crate::proofs::AskLemmas::asks_then))]
 fn fire_one(state: &mut CoreParts) -> bool
     ensures done { result ≡ false → HaveFired state.old state.new }
     ensures same { result ≡ false → (machine_of state.new).jobs ≡ (machine_of state.old).jobs }
@@ -120,6 +122,7 @@ fn fire_one(state: &mut CoreParts) -> bool
 }
 
 // Fires all due timers of jobs.
+#[tactic(auto, using(crate::proofs::AskLemmas::asks_more, crate::proofs::AskLemmas::asks_none, crate::proofs::AskLemmas::asks_then))]
 fn fire_jobs(state: &mut CoreParts)
     ensures after { HaveFired state.old state.new }
     ensures asks { Asks
@@ -146,6 +149,7 @@ pub(crate) fn state_once_left(state: &CoreParts) -> JobState
 }
 
 // Brings one job that the client at the seat holds into this state, if there is one.
+#[tactic(auto, using(crate::proofs::FiredTimerLemmas::given_none))]
 fn give_back_one(state: &mut CoreParts, seat: Seat, becomes: JobState) -> bool
     requires free { is_reserved becomes ≡ false }
     ensures done { result ≡ false
@@ -314,6 +318,7 @@ fn seats_due(first: &FirstTimeout, seats: &[SeatRecord], turns: &[Turn]) -> Opti
 }
 
 /// Returns the earliest moment at which something happens by itself, if there is any.
+#[tactic(auto, using(std::proofs::lemmas::Grind::common_steps))]
 pub(crate) fn next_due(state: &mut CoreParts) -> Option<Moment>
     ensures due { result ≡ next_due_of (machine_of state.old) }
     ensures same { machine_of state.new ≡ machine_of state.old }

@@ -19,6 +19,7 @@ use std::alloc::Global;
 /// The client's jobs go into this tube from now on. The allocations for a new tube come before any
 /// change.
 #[inline(never)]
+#[tactic(auto, using(crate::proofs::ToldLemmas::use_told))]
 pub(crate) fn use_tube(
     state: &mut CoreParts,
     alloc: Global,
@@ -84,6 +85,7 @@ pub(crate) fn watch(
 
 /// The client no longer watches this tube, unless it is the only one.
 #[inline(never)]
+#[tactic(auto, using(std::proofs::lemmas::Grind::common_steps, crate::proofs::ActLemmas::not_ignored))]
 pub(crate) fn ignore(
     state: &mut CoreParts,
     seat: Seat,

@@ -75,6 +75,7 @@ fn end_wait(state: &mut CoreParts, outs: &mut Outs, k: usize, answer: Answer)
 }
 
 // Ends the wait of the waiting client at place k if it ends now.
+#[tactic(auto, using(std::proofs::lemmas::Grind::common_steps))]
 fn look_at(state: &mut CoreParts, outs: &mut Outs, k: usize)
     requires seat { k < length state.old.seats.items }
     requires room { length outs.old.given < outs.old.most }
@@ -89,6 +90,7 @@ fn look_at(state: &mut CoreParts, outs: &mut Outs, k: usize)
 
 // Returns the place of the client that has waited longest among those whose turn comes after
 // `last`.
+#[tactic(auto, using(bq_state::proofs::WalkLemmas::none_first, bq_state::proofs::WalkLemmas::next_turn))]
 fn next_waiting(state: &CoreParts, last: Option<Turn>) -> Option<usize>
     ensures bound { IfSome result (λ k. k < length state.now.seats.items) }
     ensures least { item_at state.now.seats.items result
@@ -101,6 +103,7 @@ fn next_waiting(state: &CoreParts, last: Option<Turn>) -> Option<usize>
 }
 
 // Checks the next waiting client after `last`. Returns false if there is none.
+#[tactic(auto, using(crate::proofs::WaitLemmas::none_left))]
 fn turn(state: &mut CoreParts, outs: &mut Outs, last: &mut Option<Turn>) -> bool
     requires looked { AreLookedAt (machine_of state.old) last.old }
     requires room { HasRoom 0 (machine_of state.old) outs.old }
@@ -124,6 +127,7 @@ fn turn(state: &mut CoreParts, outs: &mut Outs, last: &mut Option<Turn>) -> bool
 
 // Ends the waits that end now, if there may be some. Each waiting client is checked once, in the
 // order of tickets.
+#[tactic(auto, using(crate::proofs::WaitLemmas::ends_of_waits))]
 fn end_all(state: &mut CoreParts, outs: &mut Outs)
     requires room { HasRoom 0 (machine_of state.old) outs.old }
     ensures given { Gives WaitEndTurn none_refused
@@ -155,6 +159,7 @@ fn is_some_wait_over(state: &mut CoreParts) -> bool
 
 // Returns true if some wait may end now: a time to run ends within a second, or a wait has timed
 // out. If no client waits, no shelf is searched.
+#[tactic(auto, using(std::proofs::lemmas::Grind::common_steps))]
 fn may_end(state: &mut CoreParts) -> bool
     ensures none { result ≡ false → next_end (machine_of state.old) ≡ None }
     ensures some { result ≡ may_end (machine_of state.old) }

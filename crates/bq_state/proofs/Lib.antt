@@ -4,7 +4,6 @@ pub mod CrowdLemmas
 pub mod CrowdPlaces
 pub mod CrowdWatching
 pub mod DueLemmas
-pub mod EditLemmas
 pub mod EndLemmas
 pub mod EndMoves
 pub mod FirstTimeoutLemmas
@@ -24,7 +23,6 @@ pub mod SeatPlaces
 pub mod TallyLemmas
 pub mod TallyPlaces
 pub mod TubeLemmas
-pub mod TubeNumberLemmas
 pub mod WaitingLemmas
 pub mod WalkLemmas
 pub mod WantedLemmas

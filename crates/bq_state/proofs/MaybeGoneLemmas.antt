@@ -1,193 +1,96 @@
 -- The entries of tubes that may no longer exist, as jobs and seats change.
-use Rattle.std.proofs.Common.{Bool, List, Option, Some, [], ap, arith, false, if◌then◌else◌, inl, inr, length, map, not, refl, set}
-use Rattle.std.proofs.{Common.{slice_get, suc, sym, true, zero, ℕ, ◌++◌, ◌||◌, ◌∙◌, ◌∷◌, ◌≡◌, ◌≤◌, ◌⊎◌}, lemmas.Bool.{cases_Bool, eqb-true}}
-use Rattle.std.{proofs.lemmas.{Bool.{or_cases, or_left, or_right}, Grind.common_steps}, specs.List.{AllByRecursion as All, list_any}}
-use Rattle.std.specs.Prelude.{filter}
-use Rattle.bq_job.{proofs.{ListLemmas.{all_weaker, filter_no_longer}, NameOrderLemmas.not_same}, specs.beside.AreIdsWithin}
-use Rattle.bq_job.specs.{declared.job.Job.Job, machine.{SeatRecord, TubeRecord, fresh_tube, is_name_before, is_seated_at, job_with}}
-use Rattle.bq_job.specs.{machine.{watching, with_record}, reading.TubeName.is_same_name}
-use Rattle.bq_jobs.{proofs.Changes.{all_kept, others_above}, specs.Kept.{with_added, without}}
-use Rattle.bq_state.{proofs.TubeLemmas.{same_itself, same_name}, specs.{Dues.{first_pause_end, pause_end_left}, MaybeGoneTubes.AreAlive}}
-use Rattle.bq_state.specs.{MaybeGoneTubes.{is_accounted, may_be_gone, with_existing, with_gone}, TubeEntries.{has_entry, is_tube_of}}
-use Rattle.bq_state.specs.{TubeEntries.provided, declared.known.maybe_gone.MaybeGone.{MaybeGone, TheVariants.{Any, Nothing, Of}}}
+use Rattle.std.proofs.Common.{Bool, List, Option, Some, [], arith, false, if◌then◌else◌, length, map, not, refl, set, slice_get, suc, true}
+use Rattle.std.proofs.{Common.{zero, ℕ, ◌++◌, ◌||◌, ◌∷◌, ◌≡◌, ◌≤◌}, lemmas.{Bool.cases_Bool, Grind.common_steps}}
+use Rattle.std.specs.{List.{AllByRecursion as All, list_any}, Prelude.filter}
+use Rattle.bq_job.proofs.ListLemmas.{all_always, all_both, all_of_map, all_weaker, filter_all, filter_no_longer, map_all_same}
+use Rattle.bq_job.specs.{beside.AreIdsWithin, declared.job.Job.Job, machine.{SeatRecord, TubeRecord, fresh_tube, is_name_before}}
+use Rattle.bq_job.specs.{machine.{is_seated_at, job_with, watching, with_record}, reading.TubeName.is_same_name}
+use Rattle.bq_jobs.{proofs.Changes.{changed, found_id}, specs.Kept.{with_added, without}}
+use Rattle.bq_state.{proofs.TubeLemmas.{before_differs, same_itself, same_name}, specs.Dues.{first_pause_end, pause_end_left}}
+use Rattle.bq_state.specs.{MaybeGoneTubes.{AreAlive, may_be_gone, with_existing, with_gone}, TubeEntries.{has_entry, is_tube_of, provided}}
+use Rattle.bq_state.specs.declared.known.maybe_gone.MaybeGone.{MaybeGone, TheVariants.{Nothing, Of}}
+
+both_same : (a b c : List ℕ) → is_same_name a b ≡ true → is_same_name a c ≡ true → is_same_name c b ≡ true
+both_same a b c h i = grind (arith, same_name a b, same_name a c, same_itself)
 
 -- a tube that is marked as possibly gone stays marked
 pub stays_gone : (more : List ℕ) (maybe : MaybeGone) (name : List ℕ) → may_be_gone maybe name ≡ true
     → may_be_gone (with_gone more maybe) name ≡ true
-stays_gone more Nothing name h = absurd cc
-stays_gone more (Of gone) name h = go (is_same_name gone more) refl
-  where
-    go : (b : Bool) → is_same_name gone more ≡ b → may_be_gone (if b then Of more else Any) name ≡ true
-    go true e = ap (λ n. is_same_name n name) (sym (same_name gone more e)) ∙ h
-    go false e = refl
-stays_gone more Any name h = refl
+stays_gone more maybe name h = grind (arith, common_steps, both_same)
 
-named_gone : (name more : List ℕ) (maybe : MaybeGone) → is_same_name name more ≡ true → may_be_gone (with_gone more maybe) name ≡ true
-named_gone name more maybe same = ap (may_be_gone (with_gone more maybe)) (same_name name more same) ∙ (grind (arith, same_itself))
-
--- the reasons why a tube is accounted for
-module _ (maybe : MaybeGone) (jobs : List Job) (seats : List SeatRecord) (name : List ℕ) where
-  pub by_job : list_any (λ j. is_same_name name j.tube) jobs ≡ true → is_accounted maybe jobs seats name ≡ true
-  by_job h = grind (arith, common_steps)
-
-  pub by_seat : list_any (is_seated_at name) seats ≡ true → is_accounted maybe jobs seats name ≡ true
-  by_seat h = grind (arith, common_steps)
-
-  pub by_gone : may_be_gone maybe name ≡ true → is_accounted maybe jobs seats name ≡ true
-  by_gone h = or_right (is_tube_of jobs seats name) _ h
-
-pub still_accounted : (maybe maybe' : MaybeGone) (jobs jobs' : List Job) (seats seats' : List SeatRecord) (name : List ℕ)
-    → (list_any (λ j. is_same_name name j.tube) jobs ≡ true → is_accounted maybe' jobs' seats' name ≡ true)
-    → (list_any (is_seated_at name) seats ≡ true → is_accounted maybe' jobs' seats' name ≡ true)
-    → (may_be_gone maybe name ≡ true → is_accounted maybe' jobs' seats' name ≡ true)
-    → is_accounted maybe jobs seats name ≡ true → is_accounted maybe' jobs' seats' name ≡ true
-still_accounted maybe maybe' jobs jobs' seats seats' name job seat gone h = grind (arith)
+pub named_gone : (name more : List ℕ) (maybe : MaybeGone) → is_same_name name more ≡ true → may_be_gone (with_gone more maybe) name ≡ true
+named_gone name more maybe same = grind (arith, common_steps, same_name name more, same_itself)
 
 -- a job is added
-still_some : (p : Job → Bool) (j : Job) (jobs : List Job) → list_any p jobs ≡ true → list_any p (with_added j jobs) ≡ true
-still_some p j [] h = absurd cc
-still_some p j (k ∷ jobs) h = grind (arith, common_steps, still_some p j jobs)
-
-now_some : (p : Job → Bool) (j : Job) (jobs : List Job) → p j ≡ true → list_any p (with_added j jobs) ≡ true
-now_some p j [] h = or_left (p j) _ h
-now_some p j (k ∷ jobs) h = grind (arith, now_some p j jobs h)
+pub any_added : (p : Job → Bool) (j : Job) (jobs : List Job) → list_any p (with_added j jobs) ≡ (p j || list_any p jobs)
+any_added p j [] = refl
+any_added p j (k ∷ jobs) = grind (arith, common_steps, cases_Bool, any_added p j jobs)
 
 pub alive_added : (j : Job) (maybe : MaybeGone) (jobs : List Job) (seats : List SeatRecord) (entries : List TubeRecord)
     → AreAlive maybe jobs seats entries → AreAlive (with_existing j.tube maybe) (with_added j jobs) seats entries
-alive_added j maybe jobs seats entries all = all_weaker _ _ _
-    (λ t h. still_accounted maybe (with_existing j.tube maybe) jobs (with_added j jobs) seats seats t.name
-    (λ some. by_job (with_existing j.tube maybe) (with_added j jobs) seats t.name
-    (still_some (λ k. is_same_name t.name k.tube) _ _ some)) (by_seat (with_existing j.tube maybe) (with_added j jobs) seats t.name)
-    (gone t.name maybe) h) all
-  where
-    at : (name gone : List ℕ) (b : Bool) → is_same_name gone j.tube ≡ b → is_same_name gone name ≡ true
-        → is_accounted (if b then Nothing else Of gone) (with_added j jobs) seats name ≡ true
-    at name gone true e h = grind (arith, same_name gone name h, now_some)
-    at name gone false e h = by_gone (Of gone) (with_added j jobs) seats name h
-
-    gone : (name : List ℕ) (maybe : MaybeGone) → may_be_gone maybe name ≡ true
-        → is_accounted (with_existing j.tube maybe) (with_added j jobs) seats name ≡ true
-    gone name maybe h1 = grind (arith, common_steps, at, by_gone)
+alive_added j maybe jobs seats entries all = grind (arith, common_steps, all_weaker, any_added, both_same)
 
 -- a job is removed: only its tube may have lost its last job
-module _ (p : Job → Bool) where
-  left_over : (low next id : ℕ) (j : Job) (jobs : List Job) → AreIdsWithin low jobs next → job_with id jobs ≡ Some j
-      → list_any p jobs ≡ true → (list_any p (without id jobs) ≡ true) ⊎ (p j ≡ true)
-  left_over low next id j [] ids found h = absurd cc
-  left_over low next id j (k ∷ jobs) ids found h = grind (
-    arith,
-    common_steps,
-    cases_Bool,
-    eqb-true,
-    or_cases,
-    all_kept,
-    others_above,
-    or_left,
-    or_right,
-    left_over (suc k.id) next id j jobs,
-  )
-
-fewer_alive : (low next id : ℕ) (j : Job) (maybe maybe' : MaybeGone) (jobs : List Job) (seats : List SeatRecord)
-    (entries : List TubeRecord) → AreIdsWithin low jobs next → job_with id jobs ≡ Some j
-    → ((name : List ℕ) → is_same_name name j.tube ≡ true → is_accounted maybe' (without id jobs) seats name ≡ true)
-    → ((name : List ℕ) → may_be_gone maybe name ≡ true → may_be_gone maybe' name ≡ true)
-    → AreAlive maybe jobs seats entries → AreAlive maybe' (without id jobs) seats entries
-fewer_alive low next id j maybe maybe' jobs seats entries ids found its others all = all_weaker _ _ _
-    (λ t h. still_accounted maybe maybe' jobs (without id jobs) seats seats t.name (λ some. elim (left_over _ _ _ _ _ _ ids found some) [
-      | inl rest ↦ by_job maybe' (without id jobs) seats t.name rest
-      | inr it ↦ its t.name it
-    ]) (by_seat maybe' (without id jobs) seats t.name) (λ gone. by_gone maybe' (without id jobs) seats t.name (others t.name gone)) h) all
+any_without : (low next id : ℕ) (j : Job) (jobs : List Job) → AreIdsWithin low jobs next → job_with id jobs ≡ Some j → (p : Job → Bool)
+    → list_any p jobs ≡ (p j || list_any p (without id jobs))
+any_without low next id j jobs ids found p =
+    let back = changed low next id (λ k. k) j jobs ids found (found_id id jobs j found) in
+    grind (arith, common_steps, any_added, map_all_same, all_always)
 
 -- and if a client uses or watches that tube, it exists
 pub alive_taken : (low next id : ℕ) (j : Job) (maybe : MaybeGone) (jobs : List Job) (seats : List SeatRecord) (entries : List TubeRecord)
     (has_seats : Bool) → (has_seats ≡ true → list_any (is_seated_at j.tube) seats ≡ true)
     → AreIdsWithin low jobs next → job_with id jobs ≡ Some j → AreAlive maybe jobs seats entries
     → AreAlive (if not has_seats then with_gone j.tube maybe else maybe) (without id jobs) seats entries
-alive_taken low next id j maybe jobs seats entries true seated ids found all =
-    fewer_alive low next id j maybe maybe jobs seats entries ids found (λ name same. by_seat maybe (without id jobs) seats name
-    (ap (λ n. list_any (is_seated_at n) seats) (same_name name j.tube same) ∙ seated refl)) (λ name h. h) all
-alive_taken low next id j maybe jobs seats entries false seated ids found all =
-    fewer_alive low next id j maybe (with_gone j.tube maybe) jobs seats entries ids found
-    (λ name same. by_gone (with_gone j.tube maybe) (without id jobs) seats name (named_gone name j.tube maybe same))
-    (λ name h. stays_gone j.tube maybe name h) all
+alive_taken low next id j maybe jobs seats entries has_seats seated ids found all = all_weaker _ _ entries (λ t h.
+    grind (arith, common_steps, any_without low next id j jobs ids found, same_name t.name j.tube, stays_gone, named_gone)) all
 
--- if a seat was at the tube and still is after a change of seats, the tube is still accounted for
-alive_reseated : (maybe maybe' : MaybeGone) (jobs : List Job) (seats seats' : List SeatRecord) (entries : List TubeRecord)
-    → ((name : List ℕ) → list_any (is_seated_at name) seats ≡ true → is_accounted maybe' jobs seats' name ≡ true)
-    → ((name : List ℕ) → may_be_gone maybe name ≡ true → may_be_gone maybe' name ≡ true)
-    → AreAlive maybe jobs seats entries → AreAlive maybe' jobs seats' entries
-alive_reseated maybe maybe' jobs seats seats' entries seat gone all = grind (arith, all_weaker)
-
--- a seat at its place watches other tubes
-pub any_set : (p : SeatRecord → Bool) (Q : Type 0) (seats : List SeatRecord) (i : ℕ) (s new : SeatRecord) → slice_get seats i ≡ Some s
-    → (p s ≡ true → (p new ≡ true) ⊎ Q) → list_any p seats ≡ true → (list_any p (set seats i new) ≡ true) ⊎ Q
-any_set p Q [] i s new found keeps h = absurd cc
-any_set p Q (t ∷ seats) zero s new found keeps h = grind (arith)
-any_set p Q (t ∷ seats) (suc i) s new found keeps h = grind (arith, common_steps, or_cases, or_left, or_right, any_set p Q seats i s new)
-
-any_joined : {A : Type 0} (p : A → Bool) (xs ys : List A) → list_any p xs ≡ true → list_any p (xs ++ ys) ≡ true
-any_joined p [] ys h = absurd cc
-any_joined p (x ∷ xs) ys h = grind (arith, common_steps, or_cases, or_left, or_right, any_joined p xs ys)
-
-watches_more : (name more : List ℕ) (s : SeatRecord) → is_seated_at name s ≡ true
-    → is_seated_at name (watching (s.watched ++ more ∷ []) s) ≡ true
-watches_more name more s h = grind (arith, any_joined)
+-- A seat at its place changes: the tubes that it leaves may be gone, and those of the other seats exist.
+pub any_set : (p : SeatRecord → Bool) (q : Bool) (seats : List SeatRecord) (i : ℕ) (s new : SeatRecord) → slice_get seats i ≡ Some s
+    → (p s ≡ true → (p new || q) ≡ true) → list_any p seats ≡ true → (list_any p (set seats i new) || q) ≡ true
+any_set p q [] i s new found keeps h = absurd cc
+any_set p q (t ∷ seats) zero s new found keeps h = grind (arith, common_steps, cases_Bool)
+any_set p q (t ∷ seats) (suc i) s new found keeps h = grind (arith, common_steps, cases_Bool, any_set p q seats i s new)
 
 pub alive_watching : (more : List ℕ) (i : ℕ) (s : SeatRecord) (maybe : MaybeGone) (jobs : List Job) (seats : List SeatRecord)
     (entries : List TubeRecord) → slice_get seats i ≡ Some s
     → AreAlive maybe jobs seats entries → AreAlive maybe jobs (set seats i (watching (s.watched ++ more ∷ []) s)) entries
-alive_watching more i s maybe jobs seats entries found all =
-    alive_reseated maybe maybe jobs seats (set seats i (watching (s.watched ++ more ∷ []) s)) entries
-    (λ name h. elim (any_set (is_seated_at name) ⊥ seats i s (watching (s.watched ++ more ∷ []) s) found
-    (λ at. inl (watches_more name more s at)) h) [
-      | inl still ↦ by_seat maybe jobs (set seats i (watching (s.watched ++ more ∷ []) s)) name still
-      | inr never ↦ absurd never
-    ]) (λ name h. h) all
+alive_watching more i s maybe jobs seats entries found all = all_weaker _ _ entries
+    (λ t h. grind (arith, common_steps, any_set (is_seated_at t.name) false seats i s (watching (s.watched ++ more ∷ []) s) found)) all
 
 -- or one tube fewer
 others_left : (gone name : List ℕ) (names : List (List ℕ)) → list_any (is_same_name name) names ≡ true
-    → (list_any (is_same_name name) (filter (λ other. not (is_same_name gone other)) names) ≡ true) ⊎ (is_same_name name gone ≡ true)
+    → (list_any (is_same_name name) (filter (λ other. not (is_same_name gone other)) names) || is_same_name name gone) ≡ true
 others_left gone name [] h = absurd cc
-others_left gone name (n ∷ names) h = grind (arith, common_steps, same_name, others_left gone name names)
+others_left gone name (n ∷ names) h = grind (arith, common_steps, same_name, same_itself, others_left gone name names)
 
 pub alive_ignoring : (gone : List ℕ) (i : ℕ) (s : SeatRecord) (maybe : MaybeGone) (jobs : List Job) (seats : List SeatRecord)
     (entries : List TubeRecord) → slice_get seats i ≡ Some s → AreAlive maybe jobs seats entries
     → AreAlive (with_gone gone maybe) jobs (set seats i (watching (filter (λ other. not (is_same_name gone other)) s.watched) s)) entries
-alive_ignoring gone i s maybe jobs seats entries found all = alive_reseated maybe (with_gone gone _) jobs seats (set seats i new) entries
-    (λ name h. elim (any_set (is_seated_at name) (is_same_name name gone ≡ true) seats i s new found (λ h. grind (arith, others_left)) h) [
-      | inl still ↦ by_seat (with_gone gone _) jobs (set seats i new) name still
-      | inr it ↦ by_gone (with_gone gone _) jobs (set seats i new) name (named_gone name gone maybe it)
-    ]) (λ name h. stays_gone gone _ _ h) all
-  where
-    new : SeatRecord
-    new = watching (filter (λ other. not (is_same_name gone other)) s.watched) s
+alive_ignoring gone i s maybe jobs seats entries found all = all_weaker _ _ entries (λ t h.
+    let still = any_set (is_seated_at t.name) (is_same_name t.name gone) seats i s
+    (watching (filter (λ other. not (is_same_name gone other)) s.watched) s) found in
+    grind (arith, common_steps, others_left, stays_gone, named_gone)) all
 
 -- an entry is added, and if it is new its tube may not exist
+all_inserted : (P : TubeRecord → Type 0) (x : TubeRecord) (entries : List TubeRecord) → P x → All P entries → All P (with_record x entries)
+all_inserted P x [] h all = (h, tt)
+all_inserted P x (t ∷ entries) h all = grind (arith, common_steps, cases_Bool, all_inserted P x entries h all.1)
+
 pub alive_provided : (name : List ℕ) (maybe : MaybeGone) (jobs : List Job) (seats : List SeatRecord) (entries : List TubeRecord)
     → AreAlive maybe jobs seats entries → AreAlive (if not (has_entry name entries) then with_gone name maybe else maybe) jobs seats
     (provided name entries)
-alive_provided name maybe jobs seats entries all = go (has_entry name entries)
-  where
-    weaker : AreAlive (with_gone name maybe) jobs seats entries
-    weaker = grind (arith, common_steps, alive_reseated, by_seat, stays_gone)
-
-    new : is_accounted (with_gone name maybe) jobs seats name ≡ true
-    new = by_gone (with_gone name maybe) jobs seats name (grind (arith, same_itself))
-
-    inserted : (entries : List TubeRecord) → AreAlive (with_gone name maybe) jobs seats entries
-        → AreAlive (with_gone name maybe) jobs seats (with_record (fresh_tube name) entries)
-    inserted [] all = (new, tt)
-    inserted (t ∷ entries) all = grind (arith, common_steps, cases_Bool, new, inserted entries all.1)
-
-    go : (b : Bool) → AreAlive (if not b then with_gone name maybe else maybe) jobs seats
-        (if b then entries else with_record (fresh_tube name) entries)
-    go b = grind (arith, common_steps, inserted, weaker)
+alive_provided name maybe jobs seats entries all =
+    elim (has_entry name entries) as (λ b. AreAlive (if not b then with_gone name maybe else maybe) jobs seats
+    (if b then entries else with_record (fresh_tube name) entries)) [
+      | true ↦ all
+      | false ↦ all_inserted _ _ entries (grind (arith, named_gone, same_itself)) (grind (arith, all_weaker, stays_gone))
+    ]
 
 -- names stay
 pub alive_renamed : (f : TubeRecord → TubeRecord) → ((t : TubeRecord) → (f t).name ≡ t.name) → (maybe : MaybeGone) (jobs : List Job)
     (seats : List SeatRecord) (entries : List TubeRecord) → AreAlive maybe jobs seats entries → AreAlive maybe jobs seats (map f entries)
-alive_renamed f keeps maybe jobs seats [] all = tt
-alive_renamed f keeps maybe jobs seats (t ∷ entries) all = grind (arith, common_steps, alive_renamed f keeps maybe jobs seats entries all.1)
+alive_renamed f keeps maybe jobs seats entries all = grind (arith, common_steps, all_of_map, all_weaker)
 
 -- If no tube may have gone, all entries are kept.
 pub alive_or : (b : Bool) → (b || false) ≡ true → b ≡ true
@@ -195,8 +98,7 @@ alive_or b h = grind (arith, common_steps)
 
 pub all_kept_alive : (jobs : List Job) (seats : List SeatRecord) (entries : List TubeRecord) → AreAlive Nothing jobs seats entries
     → filter (λ t. is_tube_of jobs seats t.name) entries ≡ entries
-all_kept_alive jobs seats [] all = refl
-all_kept_alive jobs seats (t ∷ entries) all = grind (arith, common_steps, alive_or, all_kept_alive jobs seats entries all.1)
+all_kept_alive jobs seats entries all = grind (arith, common_steps, alive_or, filter_all, all_weaker)
 
 -- If one tube may have gone, all other entries are kept.
 pub alive_but : (b c : Bool) → (b || c) ≡ true → c ≡ false → (b || false) ≡ true
@@ -204,15 +106,8 @@ alive_but b c h e = grind (arith, common_steps)
 
 pub others_alive : (name : List ℕ) (jobs : List Job) (seats : List SeatRecord) (entries : List TubeRecord)
     → All (λ u. is_name_before name u.name ≡ true) entries → AreAlive (Of name) jobs seats entries → AreAlive Nothing jobs seats entries
-others_alive name jobs seats [] later all = tt
-others_alive name jobs seats (t ∷ entries) later all = (
-  alive_but _ _ all.0 (apart (is_same_name name t.name) refl),
-  others_alive name jobs seats entries later.1 all.1,
-)
-  where
-    apart : (b : Bool) → is_same_name name t.name ≡ b → b ≡ false
-    apart false e = refl
-    apart true e = grind (arith, same_name name t.name e, not_same name t.name (is_same_name t.name name) refl later.0)
+others_alive name jobs seats entries later all =
+    all_weaker _ _ entries (λ t b. grind (arith, common_steps, before_differs)) (all_both _ _ entries later all)
 
 -- after that, each entry is of a tube that exists
 pub alive_forgotten : (jobs : List Job) (seats : List SeatRecord) (entries : List TubeRecord)

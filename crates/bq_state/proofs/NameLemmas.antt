@@ -1,97 +1,52 @@
 -- The names of the tubes that exist.
-use Rattle.std.proofs.Common.{Bool, List, Option, [], ap, arith, codes, cond, false, if◌then◌else◌, inl, inr, map, refl, sym, true, ℕ, ◌&&◌}
-use Rattle.std.proofs.{Common.{◌++◌, ◌+◌, ◌||◌, ◌∙◌, ◌∷◌, ◌≡◌, ◌⊎◌}, lemmas.{Bool.{cases_Bool, or_cases}, Grind.common_steps}}
-use Rattle.std.specs.{Borrow.Bor, List.{AllByRecursion as All, insert, list_any, prefix_len, slice_get}, Option.option_map, Prelude.IsOk}
-use Rattle.std.specs.Prelude.{Result, filter, find, flat_map, is_ok, unwrap_or}
-use Rattle.bq_job.proofs.NameOrderLemmas.{after, first_of_order, in_order_fold, in_order_from, listed, not_before, not_same, rest_in_order}
-use Rattle.bq_job.{proofs.NameOrderLemmas.stays_fold, specs.{beside.is_in_order, machine.{TubeRecord, default_tube, fresh_tube}}}
-use Rattle.bq_job.specs.machine.{Machine.Machine, in_name_order, is_name_before, is_tube, name_list, seated_tubes, tubes, with_name}
-use Rattle.bq_job.specs.{reading.TubeName.is_same_name, texts.Yaml.name_line}
+use Rattle.std.proofs.Common.{List, Option, [], ap, arith, codes, false, if◌then◌else◌, map, refl, sym, true, ℕ, ◌++◌, ◌∙◌, ◌∷◌, ◌≡◌}
+use Rattle.std.{proofs.lemmas.{Bool.{and_from, cases_Bool}, Grind.common_steps, Map.Views.any-filter_same}, specs.Borrow.Bor}
+use Rattle.std.specs.{List.{AllByRecursion as All, insert, list_any, prefix_len, slice_get}, Option.option_map, Prelude.{IsOk, Result}}
+use Rattle.std.specs.Prelude.{filter, find, flat_map, is_ok, unwrap_or}
+use Rattle.bq_job.proofs.{ListLemmas.{all_of_map, all_weaker, list_any_not}, NameOrderLemmas.{after, first_of_order, in_order_fold}}
+use Rattle.bq_job.proofs.NameOrderLemmas.{in_order_from, listed, not_before, not_same, rest_in_order, stays_fold}
+use Rattle.bq_job.specs.{beside.is_in_order, machine.{TubeRecord, default_tube, fresh_tube, in_name_order, is_name_before, name_list}}
+use Rattle.bq_job.specs.{machine.{seated_tubes, tubes, with_name, Machine.Machine}, reading.TubeName.is_same_name, texts.Yaml.name_line}
 use Rattle.bq_state.proofs.{PartsLemmas.tube_has_entry, TubeLemmas.{before_differs, none_found, none_later, order_filtered, same_itself}}
 use Rattle.bq_state.{proofs.TubeLemmas.same_name, specs.{Names.{is_named, names_of}, TubeEntries.{AreEntries, AreInOrder}}}
-use Rattle.bq_state.specs.TubeEntries.{IsFreshUnlessCounted, counted, has_entry, is_counted, is_tube_of, names_alive}
+use Rattle.bq_state.specs.TubeEntries.{IsFreshUnlessCounted, counted, has_entry, is_tube_of, names_alive}
 
--- a name differs from all names that come after it
+-- a name differs from all names that come after it,
 none_listed : (name : List ℕ) (names : List (List ℕ)) → All (λ n. is_name_before name n ≡ true) names
     → list_any (is_same_name name) names ≡ false
-none_listed name [] all = refl
-none_listed name (n ∷ names) all = rw (before_differs name n all.0) (none_listed name names all.1)
+none_listed name names all = list_any_not _ names (all_weaker _ _ names (before_differs name) all)
 
--- a name in an ordered list is the first one, or comes after it
-first_or_later : (name first : List ℕ) (names : List (List ℕ)) → All (λ n. is_name_before first n ≡ true) names
-    → list_any (is_same_name name) (first ∷ names) ≡ true → (name ≡ first) ⊎ (is_name_before first name ≡ true)
-first_or_later name first names all h = elim (or_cases (is_same_name name first) (list_any (is_same_name name) names) h) [
-  | inl same ↦ inl (same_name _ _ same)
-  | inr more ↦ inr (behind names all more)
-]
-  where
-    behind : (names : List (List ℕ)) → All (λ n. is_name_before first n ≡ true) names → list_any (is_same_name name) names ≡ true
-        → is_name_before first name ≡ true
-    behind [] all h = absurd cc
-    behind (n ∷ names) all h = elim (or_cases (is_same_name name n) (list_any (is_same_name name) names) h) [
-      | inl same ↦ ap (is_name_before first) (same_name name n same) ∙ all.0
-      | inr more ↦ behind names all.1 more
-    ]
+-- so one before the first of an ordered list is not in it
+not_listed : (x y : List ℕ) (ys : List (List ℕ)) → is_name_before x y ≡ true → is_in_order (y ∷ ys) ≡ true
+    → list_any (is_same_name x) (y ∷ ys) ≡ false
+not_listed x y ys b k = none_listed x (y ∷ ys) (first_of_order x (y ∷ ys) (and_from _ _ b k))
 
-first_is : (x y : List ℕ) → (x ≡ y) ⊎ (is_name_before y x ≡ true) → (y ≡ x) ⊎ (is_name_before x y ≡ true) → x ≡ y
-first_is x y h other = grind (arith, not_before)
+-- Two ordered lists with the same elements have the same first one,
+first_is : (x y : List ℕ) (xs ys : List (List ℕ)) → is_in_order (x ∷ xs) ≡ true → is_in_order (y ∷ ys) ≡ true
+    → ((name : List ℕ) → list_any (is_same_name name) (x ∷ xs) ≡ list_any (is_same_name name) (y ∷ ys)) → x ≡ y
+first_is x y xs ys h k same = grind (arith, same_itself, same x, same y, not_listed, after, same_name)
 
--- Two ordered lists with the same elements are equal.
+-- and are equal.
 pub same_order : (xs ys : List (List ℕ)) → is_in_order xs ≡ true → is_in_order ys ≡ true
     → ((name : List ℕ) → list_any (is_same_name name) xs ≡ list_any (is_same_name name) ys) → xs ≡ ys
 same_order [] [] h k same = refl
 same_order [] (y ∷ ys) h k same = grind (arith, same_itself y)
 same_order (x ∷ xs) [] h k same = grind (arith, same_itself x)
 same_order (x ∷ xs) (y ∷ ys) h k same =
-    λ i. head i ∷ same_order xs ys (rest_in_order x xs h) (rest_in_order y ys k) (λ name. tail name (is_same_name name x) refl) i
-  where
-    later_x : All (λ n. is_name_before x n ≡ true) xs
-    later_x = first_of_order x xs h
-
-    later_y : All (λ n. is_name_before y n ≡ true) ys
-    later_y = first_of_order y ys k
-
-    x_there : list_any (is_same_name x) (x ∷ xs) ≡ true
-    x_there = rw (same_itself x) refl
-
-    y_there : list_any (is_same_name y) (y ∷ ys) ≡ true
-    y_there = rw (same_itself y) refl
-
-    head : x ≡ y
-    head = first_is x y (first_or_later x y ys later_y (sym (same x) ∙ x_there)) (first_or_later y x xs later_x (same y ∙ y_there))
-
-    tail : (name : List ℕ) (b : Bool) → is_same_name name x ≡ b → list_any (is_same_name name) xs ≡ list_any (is_same_name name) ys
-    tail name true e =
-        let is : name ≡ x = same_name name x e in
-        ap (λ n. list_any (is_same_name n) xs) is ∙ none_listed x xs later_x
-        ∙ sym (ap (λ n. list_any (is_same_name n) ys) (is ∙ head) ∙ none_listed y ys later_y)
-    tail name false e = grind (arith, common_steps, cases_Bool, head)
-
--- the names of entries in order
-later_names : (name : List ℕ) (entries : List TubeRecord) → All (λ u. is_name_before name u.name ≡ true) entries
-    → All (λ n. is_name_before name n ≡ true) (map (λ t. t.name) entries)
-later_names name [] all = tt
-later_names name (t ∷ entries) all = (all.0, later_names name entries all.1)
+    let is = first_is x y xs ys h k same in
+    let later_x = none_listed x xs (first_of_order x xs h) in
+    let later_y = none_listed y ys (first_of_order y ys k) in
+    λ i. is i ∷ same_order xs ys (rest_in_order x xs h) (rest_in_order y ys k)
+    (λ name. grind (arith, common_steps, cases_Bool, same_name name x, same name)) i
 
 names_in_order : (entries : List TubeRecord) → AreInOrder entries → is_in_order (map (λ t. t.name) entries) ≡ true
 names_in_order [] order = refl
-names_in_order (t ∷ entries) order = in_order_from _ _ (later_names _ _ order.0) (names_in_order entries order.1)
+names_in_order (t ∷ entries) order =
+    in_order_from _ _ (all_of_map (λ n. is_name_before t.name n ≡ true) (λ u. u.name) entries order.0) (names_in_order entries order.1)
 
--- a name is among those that pass, if it passes and has an entry
-among : (p : List ℕ → Bool) (name : List ℕ) (entries : List TubeRecord)
-    → list_any (is_same_name name) (map (λ t. t.name) (filter (λ t. p t.name) entries)) ≡ (p name && has_entry name entries)
-among p name [] = grind (arith, common_steps)
-among p name (t ∷ entries) = go (is_same_name name t.name) (p t.name) refl refl (among p name entries)
-  where
-    some : List (List ℕ)
-    some = map (λ t. t.name) (filter (λ t. p t.name) entries)
-
-    go : (same pass : Bool) → is_same_name name t.name ≡ same → p t.name ≡ pass
-        → list_any (is_same_name name) some ≡ (p name && has_entry name entries)
-        → list_any (is_same_name name) (map (λ t. t.name)
-        (if pass then t ∷ filter (λ t. p t.name) entries else filter (λ t. p t.name) entries))
-        ≡ (p name && (same || has_entry name entries))
-    go same pass e f rest = grind (arith, same_name)
+any_names : (name : List ℕ) (entries : List TubeRecord) → list_any (is_same_name name) (map (λ t. t.name) entries) ≡ has_entry name entries
+any_names name [] = refl
+any_names name (t ∷ entries) = rw (any_names name entries) refl
 
 pub tubes_in_order : (m : Machine) → is_in_order (tubes m) ≡ true
 tubes_in_order m = in_order_fold (default_tube ∷ map (λ j. j.tube) m.jobs ++ flat_map seated_tubes m.seats) [] refl
@@ -99,57 +54,31 @@ tubes_in_order m = in_order_fold (default_tube ∷ map (λ j. j.tube) m.jobs ++ 
 -- The tubes are those that have an entry and exist.
 pub alive_are_tubes : (m : Machine) (entries : List TubeRecord) → AreEntries m.jobs m.seats entries
     → names_alive m.jobs m.seats entries ≡ tubes m
-alive_are_tubes m entries e = same_order _ _ (names_in_order _ (order_filtered _ _ e.order)) (tubes_in_order m)
-    (λ name. among (is_tube_of m.jobs m.seats) name entries ∙ go name (is_tube_of m.jobs m.seats name) refl ∙ sym (listed name m))
-  where
-    go : (name : List ℕ) (b : Bool) → is_tube_of m.jobs m.seats name ≡ b → (b && has_entry name entries) ≡ is_tube name m
-    go name b h = grind (arith, tube_has_entry)
+alive_are_tubes m entries e =
+    let is = is_tube_of m.jobs m.seats in
+    same_order _ _ (names_in_order _ (order_filtered _ _ e.order)) (tubes_in_order m) (λ name.
+    any_names name (filter (λ t. is t.name) entries)
+    ∙ any-filter_same (λ t. is_same_name name t.name) (λ t. is t.name) (is name)
+    (λ t same. ap is (sym (same_name name t.name same))) entries
+    ∙ grind (arith, common_steps, tube_has_entry m.jobs m.seats entries e name) ∙ sym (listed name m))
 
 -- The record of a tube is its entry.
-entry_at : (name : List ℕ) (t : TubeRecord) (entries : List TubeRecord) (same kept : Bool) → is_same_name name t.name ≡ same
-    → is_counted t ≡ kept → IsFreshUnlessCounted t → All (λ u. is_name_before t.name u.name ≡ true) entries
-    → unwrap_or (find (λ t. is_same_name name t.name) (counted entries)) (fresh_tube name) ≡ unwrap_or
-    (find (λ t. is_same_name name t.name) entries) (fresh_tube name)
-    → unwrap_or (find (λ t. is_same_name name t.name) (counted (t ∷ entries))) (fresh_tube name) ≡ unwrap_or
-    (find (λ t. is_same_name name t.name) (t ∷ entries)) (fresh_tube name)
-entry_at name t entries true true e k fresh later rest = rw (k, e) refl
-entry_at name t entries true false e k fresh later rest = grind (arith, same_name name t.name e, none_later _ _ later, none_found)
-entry_at name t entries false true e k fresh later rest = rw (k, e) rest
-entry_at name t entries false false e k fresh later rest = rw (k, e) rest
-
 pub record_of_entry : (name : List ℕ) (entries : List TubeRecord) → AreInOrder entries → All IsFreshUnlessCounted entries
     → unwrap_or (find (λ t. is_same_name name t.name) (counted entries)) (fresh_tube name) ≡ unwrap_or
     (find (λ t. is_same_name name t.name) entries) (fresh_tube name)
 record_of_entry name [] order fresh = refl
 record_of_entry name (t ∷ entries) order fresh =
-    entry_at name t entries (is_same_name name t.name) (is_counted t) refl refl fresh.0 order.0
-    (record_of_entry name entries order.1 fresh.1)
+    let rest = record_of_entry name entries order.1 fresh.1 in
+    grind (arith, common_steps, cases_Bool, same_name name t.name, none_later t.name entries, none_found name entries)
 
--- A name at the place of the first name that does not come before it.
-module _ (name : List ℕ) where
-  abbrev place : List (Bor (List ℕ)) → ℕ
-  place names = prefix_len (λ other. is_name_before other.now name) names
-
-  -- The name is already there,
-  pub place_kept : (names : List (Bor (List ℕ)))
-      → is_named name (slice_get names (prefix_len (λ other. is_name_before other.now name) names)) ≡ true
-      → names_of names ≡ with_name (names_of names) name
-  place_kept [] h = absurd cc
-  place_kept (o ∷ names) h = grind (arith, common_steps, not_before, place_kept names)
-
-  -- or it is inserted there.
-  pub place_new : (x : Bor (List ℕ)) → x.now ≡ name → (names : List (Bor (List ℕ)))
-      → is_named name (slice_get names (prefix_len (λ other. is_name_before other.now name) names)) ≡ false
-      → names_of (insert names (prefix_len (λ other. is_name_before other.now name) names) x) ≡ with_name (names_of names) name
-  place_new x is [] h = ap (λ n. n ∷ []) is
-  place_new x is (o ∷ names) h = go (is_name_before o.now name) refl (place_new x is names) h
-    where
-      go : (b : Bool) → is_name_before o.now name ≡ b
-          → (is_named name (slice_get names (place names)) ≡ false → names_of (insert names (place names) x) ≡ with_name (names_of names)
-          name) → is_named name (slice_get (o ∷ names) (cond b (1 + place names) 0)) ≡ false
-          → names_of (insert (o ∷ names) (cond b (1 + place names) 0) x) ≡ with_name (names_of (o ∷ names)) name
-      go true e rest h = grind (arith, not_same o.now name (is_same_name name o.now) refl e, not_before o.now name e)
-      go false e rest h = grind (arith, after)
+-- A name at the place of the first name that does not come before it: it is there already, or it is inserted.
+pub placed : (x : Bor (List ℕ)) (names : List (Bor (List ℕ)))
+    → (let i = prefix_len (λ other. is_name_before other.now x.now) names in
+    names_of (if is_named x.now (slice_get names i) then names else insert names i x)) ≡ with_name (names_of names) x.now
+placed x [] = refl
+placed x (o ∷ names) =
+    let apart = not_same o.now x.now (is_same_name x.now o.now) refl in
+    grind (arith, common_steps, cases_Bool, not_before o.now x.now, after, placed x names)
 
 -- a call that succeeds
 pub when_ok : {T E X : Type 0} (r : Result T E) (a b : X) → IsOk r → (if is_ok r then a else b) ≡ a

@@ -1,11 +1,10 @@
 -- The moment at which the first pause ends.
-use Rattle.std.proofs.{Common.{List, None, Option, [], arith, false, map, refl, ℕ, ◌∷◌, ◌≡◌}, lemmas.{Bool.or_parts, Grind.common_steps}}
+use Rattle.std.proofs.{Common.{List, None, Option, [], arith, false, map, sym, ℕ, ◌||◌, ◌∙◌, ◌∷◌, ◌≡◌}, lemmas.Grind.common_steps}
 use Rattle.std.specs.{List.list_any, Prelude.fold}
-use Rattle.bq_job.{proofs.ListLemmas.{all_of_filter, all_weaker, list_any_not, map_all_same, none_pass}, specs.beside.dues_of_pause}
-use Rattle.bq_job.specs.{beside.earliest, machine.{TubeRecord, fresh_tube, tube_after_timers, with_record}}
-use Rattle.bq_state.{proofs.WarningLemmas.no_other, specs.Dues.{earlier_of_both, first_pause_end, is_end_over, pause_end_after}}
-use Rattle.bq_state.specs.{Dues.with_tube_due, TubeEntries.{counted, has_entry, is_pause_over, provided, tube_changed_at}}
-use Rattle.bq_state.specs.declared.tubes.entry.TubeChange.{TubeChange}
+use Rattle.bq_job.{proofs.ListLemmas.{all_of_filter, all_weaker, list_any_not, map_all_same, none_pass}, specs.machine.TubeRecord}
+use Rattle.bq_job.specs.machine.{fresh_tube, tube_after_timers, with_record}
+use Rattle.bq_state.specs.{Dues.{first_pause_end, is_end_over, pause_end_after, with_tube_due}, TubeEntries.{counted, has_entry}}
+use Rattle.bq_state.specs.{TubeEntries.{is_pause_over, provided, tube_changed_at}, declared.tubes.entry.TubeChange.TubeChange}
 
 -- changes that keep the pauses
 pub end_after_change : (name : List ℕ) (what : TubeChange) (entries : List TubeRecord) (last : Option ℕ) → last ≡ first_pause_end entries
@@ -15,23 +14,21 @@ end_after_change name what entries last h = grind (arith, common_steps)
 -- a new entry has no pause
 fresh_adds_none : (name : List ℕ) (entries : List TubeRecord) (best : Option ℕ) → has_entry name entries ≡ false
     → fold with_tube_due best (with_record (fresh_tube name) entries) ≡ fold with_tube_due best entries
-fresh_adds_none name [] best h = no_other best
-fresh_adds_none name (t ∷ entries) best h =
-    grind (arith, common_steps, or_parts, fresh_adds_none name entries (earlier_of_both best (earliest (dues_of_pause t.pause))))
+fresh_adds_none name [] best h = grind (arith, common_steps)
+fresh_adds_none name (t ∷ entries) best h = grind (arith, common_steps, fresh_adds_none name entries (with_tube_due best t))
 
 pub end_provided : (name : List ℕ) (entries : List TubeRecord) → first_pause_end (provided name entries) ≡ first_pause_end entries
 end_provided name entries = grind (arith, fresh_adds_none)
 
 -- If the first end is not due yet, no pause is.
-all_to_come : (moment : ℕ) (best : Option ℕ) (entries : List TubeRecord) → is_end_over moment (fold with_tube_due best entries) ≡ false
-    → (is_end_over moment best ≡ false) × (list_any (is_pause_over moment) entries ≡ false)
-all_to_come moment best [] h = (h, refl)
-all_to_come moment best (t ∷ entries) h =
-    grind (arith, all_to_come moment (earlier_of_both best (earliest (dues_of_pause t.pause))) entries h)
+all_to_come : (moment : ℕ) (best : Option ℕ) (entries : List TubeRecord)
+    → is_end_over moment (fold with_tube_due best entries) ≡ (is_end_over moment best || list_any (is_pause_over moment) entries)
+all_to_come moment best [] = grind (arith, common_steps)
+all_to_come moment best (t ∷ entries) = grind (arith, common_steps, all_to_come moment (with_tube_due best t) entries)
 
 pub none_over : (moment : ℕ) (entries : List TubeRecord) → is_end_over moment (first_pause_end entries) ≡ false
     → list_any (is_pause_over moment) entries ≡ false
-none_over moment entries h = (all_to_come moment None entries h).1
+none_over moment entries h = sym (all_to_come moment None entries) ∙ h
 
 -- no pause has ended
 pub none_counted : (moment : ℕ) (entries : List TubeRecord) → list_any (is_pause_over moment) entries ≡ false

@@ -1,17 +1,12 @@
 -- If no end of a pause is kept, no tube is paused.
-use Rattle.std.proofs.{Common.{List, [], arith, count_by, false, is_some, length, map, refl, ℕ, ◌&&◌, ◌∷◌, ◌≡◌}, lemmas.Grind.common_steps}
-use Rattle.std.specs.List.{list_any}
+use Rattle.std.{proofs.{Common.{List, arith, false, is_some, length, map, ℕ, ◌&&◌, ◌≡◌}, lemmas.Grind.common_steps}, specs.List.list_any}
 use Rattle.bq_index.specs.Catalog.{CatalogSeen}
-use Rattle.bq_job.specs.{machine.TubeRecord, reading.TubeName.is_same_name}
+use Rattle.bq_job.{proofs.ListLemmas.{all_weaker, count_none, list_any_not}, specs.{machine.TubeRecord, reading.TubeName.is_same_name}}
 use Rattle.bq_state.specs.{KeptTubes.{KeptTubes, Named, record_at, tubes_kept}, PauseEnds.{AreEnds, is_paused}}
 use Rattle.bq_state.specs.declared.tubes.pauses.PauseEnd.{PauseEnd}
-
-none_counted : (name : List ℕ) (ts : List TubeRecord) → count_by is_paused ts ≡ 0
-    → list_any (λ (t : TubeRecord). is_same_name name t.name && is_some t.pause) ts ≡ false
-none_counted name [] e = refl
-none_counted name (t ∷ ts) e = grind (arith, common_steps, none_counted name ts)
 
 pub none_paused : (name : List ℕ) (es : List Named) (ends : CatalogSeen PauseEnd (Unit {0})) (ns : List (List ℕ × ℕ)) (k : KeptTubes)
     (n : ℕ) → n ≡ length ends.entries → AreEnds (map record_at es) ends → tubes_kept ns es ≡ k → n ≡ 0
     → false ≡ list_any (λ (t : TubeRecord). is_same_name name t.name && is_some t.pause) k.entries
-none_paused name es ends ns k n len are seen none = grind (arith, common_steps, none_counted)
+none_paused name es ends ns k n len are seen none =
+    grind (arith, common_steps, count_none is_paused (map record_at es), list_any_not, all_weaker)

@@ -104,6 +104,7 @@ pub fn delete(state: &mut CoreParts, id: JobId, test: JobTest) -> bool
 }
 
 /// Changes the job with this id, if there is one.
+#[tactic(auto, using(crate::proofs::MovedLemmas::tube_ignored))]
 pub fn change_job(state: &mut CoreParts, id: JobId, what: &JobChange)
     ensures after { machine_of state.new ≡ with_job id (changed what.now) (machine_of state.old) }
     ensures asks { Asks 8 state.old.jobs state.new.jobs }
@@ -190,6 +191,7 @@ pub fn settle_warnings(state: &mut CoreParts, is_due: bool)
 }
 
 /// Ends the pauses that are over. If none is, no tube is checked.
+#[tactic(auto, using(crate::proofs::TubeLemmas::filter_of_map))]
 pub fn end_pauses(state: &mut CoreParts)
     ensures after { machine_of state.new ≡ with_pauses_ended (machine_of state.old) }
     ensures jobs { state.new.jobs ≡ state.old.jobs }
@@ -203,6 +205,7 @@ pub fn end_pauses(state: &mut CoreParts)
 }
 
 /// Changes the record of a tube that has an entry. It is looked for at the number `hint` first.
+#[tactic(auto, using(crate::proofs::PartsLemmas::recorded))]
 pub fn change_tube(state: &mut CoreParts, tube: &TubeName, hint: TubeNumber, what: TubeChange)
     requires entry { has_entry tube.now state.old.tubes.entries ≡ true }
     ensures after { machine_of state.new
@@ -215,6 +218,7 @@ pub fn change_tube(state: &mut CoreParts, tube: &TubeName, hint: TubeNumber, wha
 
 /// Ensures that a tube has an entry and a number, and returns the number. The allocations for that
 /// come before any change. Returns `NoMemory` if one fails.
+#[tactic(auto, using(crate::proofs::PartsLemmas::counted_provided, crate::proofs::PartsLemmas::has_provided))]
 pub fn provide_tube(
     state: &mut CoreParts,
     alloc: Global,
@@ -237,6 +241,7 @@ pub fn provide_tube(
 
 /// The client at the seat watches one more tube. The allocations for that come before any change.
 /// Returns how many tubes it then watches.
+#[tactic(auto, using(crate::proofs::SeatPlaces::at_seats))]
 pub fn watch_tube(
     state: &mut CoreParts,
     alloc: Global,
@@ -270,6 +275,7 @@ pub fn watch_tube(
 
 /// The client at the seat no longer watches a tube; it still watches another one. Returns how many
 /// tubes it then watches.
+#[tactic(auto, using(crate::proofs::SeatPlaces::at_seats))]
 pub fn ignore_tube(state: &mut CoreParts, seat: Seat, tube: &TubeName) -> u64
     requires other { AtSeat seat state.old (λ s. watches_other tube.now s ≡ true) }
     ensures count { AtSeat seat state.old (λ s. result ≡ length (fewer_watched tube.now s)) }

@@ -151,6 +151,7 @@ fn place_waiting(seats: &[SeatRecord], turns: &[Turn], tube: &TubeName) -> Optio
 
 /// Returns the seat of the client that has waited longest for jobs of this tube. Only waiting
 /// clients are checked.
+#[tactic(auto, using(crate::proofs::WalkLemmas::found_first, crate::proofs::WalkLemmas::item_found))]
 pub fn first_waiting(seats: &[SeatRecord], turns: &[Turn], tube: &TubeName) -> Option<Seat>
     requires { AreTurnsOf turns.now seats.now }
     ensures { result

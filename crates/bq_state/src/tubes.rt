@@ -101,6 +101,7 @@ impl Tubes {
     }
 
     /// Returns the names of the tubes with their numbers.
+    #[tactic(auto, using(crate::proofs::NamedLemmas::have_numbers))]
     pub fn names(&self) -> &NumberedTubes
         ensures numbers { result.now.numbers ≡ self.now.numbers }
         ensures known { HaveNumbers self.now.numbers self.now.entries }
@@ -109,6 +110,7 @@ impl Tubes {
     }
 
     /// Returns the number of a tube, if it has an entry.
+    #[tactic(auto, using(crate::proofs::NamedLemmas::have_numbers, crate::proofs::NamedLemmas::number_there))]
     pub fn number_of(&self, name: &TubeName, hint: TubeNumber) -> Option<TubeNumber>
         ensures number { option_map number_in result ≡ lookup (is_named_at name.now) self.now.numbers }
         ensures there { is_some result ≡ has_entry name.now self.now.entries }
@@ -118,6 +120,7 @@ impl Tubes {
 
     /// Gives an entry and a number to a tube that has none, and returns the number. The allocations
     /// for that come before any change.
+    #[tactic(auto, using(crate::proofs::NamedLemmas::new_parts))]
     pub(crate) fn provide(&mut self, alloc: Global, name: &TubeName) -> Result<TubeNumber, NoMemory>
         requires { has_entry name.now self.old.entries ≡ false }
         ensures after { self.new
@@ -148,6 +151,7 @@ impl Tubes {
 
     /// Returns the entry with this name, which contains how many jobs and clients the tube has, and
     /// whether it is paused.
+    #[tactic(auto, using(crate::proofs::NamedLemmas::found_parts))]
     pub fn entry_of(&self, name: &TubeName, hint: TubeNumber) -> Option<&TubeEntry>
         ensures entry { option_map (λ t. record_of name.now t.now) result
             ≡ find (λ t. is_same_name name.now t.name) self.now.entries }
@@ -186,6 +190,7 @@ impl Tubes {
 
     /// Stops counting the job of this report in its tube, which has this number, and counts its
     /// deletion. Returns whether a client uses or watches the tube.
+    #[tactic(auto, using(crate::proofs::NamedLemmas::seats_told))]
     pub(crate) fn count_removal(&mut self, removed: &Removed, number: TubeNumber) -> bool
         requires { HasNumber removed.now.tube number self.old.numbers }
         ensures after { self.new ≡ with_removal_counted removed.now self.old }
@@ -245,6 +250,7 @@ impl Tubes {
     }
 
     /// Returns the same for a tube that is registered under this number. Nothing is searched.
+    #[tactic(auto, using(crate::proofs::NamedLemmas::crowd_of_found))]
     pub(crate) fn crowd_numbered(&self, name: &TubeName, number: TubeNumber) -> Crowd
         requires { HasNumber name.now number self.now.numbers }
         ensures { result ≡ crowd_at name.now self.now.entries self.now.crowds }
@@ -283,6 +289,7 @@ impl Tubes {
 
     /// Drops the entries and numbers of tubes that no longer exist, which are among those that may
     /// have gone.
+    #[tactic(auto, using(crate::proofs::GoneLemmas::dropped))]
     pub(crate) fn forget_gone(&mut self, jobs: &mut NumberedJobs, maybe_gone: &MaybeGone)
         requires numbered { jobs.old.tubes ≡ self.old.numbers }
         requires tallies { self.old.tallies ≡ tallies_of jobs.old.jobs self.old.entries }

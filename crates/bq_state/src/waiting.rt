@@ -77,6 +77,7 @@ fn ends_before(turns: &[Turn], turn: Turn) -> bool
 }
 
 // Returns where the turn would be inserted. A client that begins to wait mostly comes last.
+#[tactic(auto, using(crate::proofs::TubeLemmas::place_told))]
 fn place_of(turns: &[Turn], turn: Turn) -> usize
     requires { IsRising is_turn_before turns.now }
     ensures { result ≡ prefix_len (λ other. is_turn_before other turn) turns.now }

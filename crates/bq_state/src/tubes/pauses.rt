@@ -16,7 +16,7 @@ use std::alloc::Global;
 use std::cmp::Ordering;
 
 // Returns the end of the pause of the tube with this name, if it is paused.
-#[tactic(auto, using(crate::proofs::EndMoves::none_lent, crate::proofs::EndMoves::some_lent))]
+#[tactic(auto, using(crate::proofs::EndMoves::pause_is))]
 fn end_of(kept: &TubeTable<TubeEntry>, name: &TubeName, hint: TubeNumber) -> Option<PauseEnd>
     ensures end { result
         ≡ end_of name.now (pause_at name.now (map record_at kept.now.entries)) }
@@ -29,6 +29,7 @@ fn end_of(kept: &TubeTable<TubeEntry>, name: &TubeName, hint: TubeNumber) -> Opt
 }
 
 /// Pauses the tube with this name, or ends its pause.
+#[tactic(auto, using(crate::proofs::EndMoves::end_held))]
 pub(crate) fn pause(
     kept: &mut TubeTable<TubeEntry>,
     ends: &mut PauseEnds,
@@ -50,6 +51,7 @@ pub(crate) fn pause(
 }
 
 /// Drops the entry with this name, if there is one.
+#[tactic(auto, using(crate::proofs::EndMoves::end_held))]
 pub(crate) fn drop_entry(kept: &mut TubeTable<TubeEntry>, ends: &mut PauseEnds, name: &TubeName)
     requires { AreEnds (map record_at kept.old.entries) ends.old }
     ensures numbers { kept.new.numbers ≡ remove_entry (is_named_at name.now) kept.old.numbers }
@@ -63,6 +65,7 @@ pub(crate) fn drop_entry(kept: &mut TubeTable<TubeEntry>, ends: &mut PauseEnds, 
 }
 
 // Ends the first pause, if it is due.
+#[tactic(auto, using(crate::proofs::EndMoves::first_ended))]
 fn end_first(kept: &mut TubeTable<TubeEntry>, ends: &mut PauseEnds, moment: Moment) -> bool
     requires { AreEnds (map record_at kept.old.entries) ends.old }
     ensures numbers { kept.new.numbers ≡ kept.old.numbers }

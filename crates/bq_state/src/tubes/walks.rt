@@ -148,7 +148,7 @@ fn next_gone(catalog: &TubeTable<TubeEntry>, from: &Option<TubeName>) -> Option<
 
 /// Drops all entries whose tubes no longer exist, and their numbers. After each, the search
 /// continues from there.
-#[tactic(auto, using(crate::proofs::GoneLemmas::name_removed, crate::proofs::GoneLemmas::no_name, crate::proofs::GoneLemmas::none_gone))]
+#[tactic(auto, using(crate::proofs::GoneLemmas::name_removed, crate::proofs::GoneLemmas::none_gone))]
 pub(crate) fn forget_all(
     catalog: &mut TubeTable<TubeEntry>,
     ends: &mut PauseEnds,

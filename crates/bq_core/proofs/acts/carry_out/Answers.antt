@@ -1,12 +1,5 @@
-use Rattle.std.proofs.{Common.arith, lemmas.Grind.common_steps}
 use Rattle.bq_core.proofs.ActLemmas.{number_found}
 use Rattle.bq_core.proofs.acts.carry_out.Goals as goal
-
-pub returns-in-Reserve-clause-reply : goal.returns-in-Reserve-clause-reply
-returns-in-Reserve-clause-reply c s found = grind (arith, common_steps, number_found)
-
-pub returns-in-ReserveWithTimeout-clause-reply : goal.returns-in-ReserveWithTimeout-clause-reply
-returns-in-ReserveWithTimeout-clause-reply c s found = grind (arith, common_steps, number_found)
 
 pub returns-in-ReserveJob-clause-reply : goal.returns-in-ReserveJob-clause-reply
 returns-in-ReserveJob-clause-reply c s found = rw c.in-ReserveJob.is (c.reserve_job.ensures.reply s (number_found _ _ _ found))
@@ -34,6 +27,3 @@ returns-in-ListTubeUsed-clause-reply c s found = rw c.in-ListTubeUsed.is (c.list
 
 pub returns-in-Ignore-clause-reply : goal.returns-in-Ignore-clause-reply
 returns-in-Ignore-clause-reply c s found = rw c.in-Ignore.is (c.ignore.ensures.reply s found)
-
-pub returns-in-Kick-clause-reply : goal.returns-in-Kick-clause-reply
-returns-in-Kick-clause-reply c s found = rw c.in-Kick.is (c.kick.ensures.reply s found)

@@ -1,19 +1,17 @@
 -- what the turns so far left to fire, and how many searches they made
-use Rattle.std.proofs.Common.{count_by, ◌*◌, ◌-◌, ◌≡◌, ◌≤◌}
+use Rattle.std.proofs.Common.{◌*◌, ◌-◌, ◌≡◌, ◌≤◌}
 use Rattle.bq_core.specs.FiredTimers.{after_job_timers, is_ripe}
 use Rattle.bq_jobs.specs.Searching.{Asks}
-use Rattle.bq_state.specs.CoreParts.{machine_of}
+use Rattle.bq_state.specs.CoreParts.{count_jobs, machine_of}
 use Rattle.bq_core.proofs.timers.fire_jobs.Given as goal
 
 abbrev pub invariant-loop : goal.invariant-loop
 invariant-loop l = record {
   left : after_job_timers (machine_of l.state) ≡ after_job_timers (machine_of l.fn.state);
-  asks : Asks
-      (10 * (count_by (is_ripe l.fn.state.moment) (machine_of l.fn.state).jobs - count_by (is_ripe l.fn.state.moment)
-      (machine_of l.state).jobs)) l.fn.state.jobs l.state.jobs;
-  fewer : count_by (is_ripe l.fn.state.moment) (machine_of l.state).jobs ≤ count_by (is_ripe l.fn.state.moment)
-      (machine_of l.fn.state).jobs;
+  asks : Asks (10 * (count_jobs (is_ripe l.fn.state.moment) l.fn.state - count_jobs (is_ripe l.fn.state.moment) l.state))
+      l.fn.state.jobs l.state.jobs;
+  fewer : count_jobs (is_ripe l.fn.state.moment) l.state ≤ count_jobs (is_ripe l.fn.state.moment) l.fn.state;
 }
 
 abbrev pub decreases-loop : goal.decreases-loop
-decreases-loop l = count_by (is_ripe l.fn.state.moment) (machine_of l.state).jobs
+decreases-loop l = count_jobs (is_ripe l.fn.state.moment) l.state

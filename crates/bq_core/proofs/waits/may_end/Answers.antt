@@ -1,4 +1,4 @@
-use Rattle.std.{proofs.{Common.{ap, arith, false, sym, ◌∙◌, ◌≡◌}, lemmas.Grind.common_steps}, specs.List.list_any}
+use Rattle.std.{proofs.Common.{ap, sym, ◌∙◌}, specs.List.list_any}
 use Rattle.bq_core.proofs.FiredTimerLemmas.{nobody_ends, none_ends}
 use Rattle.bq_state.specs.{CoreParts.{Held, machine_of}, EndingWaits.is_lease_short}
 use Rattle.bq_core.proofs.waits.may_end.Goals as goal
@@ -7,15 +7,6 @@ pub returns-then-not-has_waiter-clause-none : goal.returns-then-not-has_waiter-c
 returns-then-not-has_waiter-clause-none c _ = nobody_ends (machine_of c.args.state.now) (sym c.if-not-has_waiter.ensures)
 
 pub returns-clause-none : goal.returns-clause-none
-returns-clause-none c none =
-    let m = machine_of c.args.state.now in
-    let soon : list_any (is_lease_short m.moment) m.jobs ≡ false =
-    ap (λ (h : Held). list_any (is_lease_short h.moment) h.jobs.jobs) (sym c.if-is_some_wait_over.ensures.same)
-    ∙ sym c.is_some_deadline_soon.ensures.soon ∙ none in
-    none_ends m (sym c.if-is_some_wait_over.ensures.over) soon
-
-pub returns-clause-same : goal.returns-clause-same
-returns-clause-same c = grind (arith, common_steps)
-
-pub invariant_of-state : goal.invariant_of-state
-invariant_of-state c = grind (arith, common_steps)
+returns-clause-none c none = none_ends (machine_of c.args.state.now) (sym c.if-is_some_wait_over.ensures.over)
+    (ap (λ (h : Held). list_any (is_lease_short h.moment) h.jobs.jobs) (sym c.if-is_some_wait_over.ensures.same)
+    ∙ sym c.is_some_deadline_soon.ensures.soon ∙ none)

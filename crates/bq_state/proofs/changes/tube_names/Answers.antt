@@ -10,8 +10,5 @@ returns-clause-names c = subst (λ list. IfOk c.names_alive.result (λ names. na
     c.args.state.now.sound.known.crowds.each)
 
 pub returns-clause-ordered : goal.returns-clause-ordered
-returns-clause-ordered c =
-    let s = c.args.state.now in
-    let listed = alive_are_tubes (machine_of s) s.tubes.entries s.sound.entries in
-    IfOk-weaker c.names_alive.result _ _ (λ names is. ap is_in_order (is ∙ listed) ∙ tubes_in_order (machine_of s))
-    (c.names_alive.ensures s.jobs.jobs s.seats.items s.sound.known.counts.each s.sound.known.crowds.each)
+returns-clause-ordered c = IfOk-weaker c.names_alive.result _ _
+    (λ names is. ap is_in_order is ∙ tubes_in_order (machine_of c.args.state.now)) (returns-clause-names c)

@@ -1,4 +1,4 @@
-use Rattle.std.{proofs.{Common.{List, ap, ℕ, ◌∙◌}, lemmas.List.Sums.prefix_len-le-length}, specs.List.{insert, prefix_len}}
+use Rattle.std.proofs.lemmas.List.Sums.{prefix_len-le-length}
 use Rattle.bq_state.{proofs.{NameLemmas.when_ok, WaitingLemmas.placed_at}, specs.WaitingTurns.is_turn_before}
 use Rattle.bq_state.proofs.waiting.place.Goals as goal
 
@@ -6,8 +6,9 @@ pub insert-fits-requires : goal.insert-fits-requires
 insert-fits-requires c = rw (c.place_of-i.ensures, ← c.as_slice.ensures.len) (prefix_len-le-length _ _)
 
 pub returns-clause-turns : goal.returns-clause-turns
-returns-clause-turns c =
-    let place = λ (ts : List (ℕ × ℕ)). prefix_len (λ other. is_turn_before other c.args.turn) ts in
-    c.insert-fits.ensures.items ∙ when_ok _ _ _ (c.insert-fits.ensures.succeeds c.requires.fits)
-    ∙ ap (λ k. insert c.args.turns.now.items k c.args.turn) (c.place_of-i.ensures ∙ ap place c.as_slice.ensures.value) ∙ placed_at
-    is_turn_before c.args.turn c.args.turns.now.items
+returns-clause-turns c = rw (
+  c.insert-fits.ensures.items,
+  when_ok _ _ _ (c.insert-fits.ensures.succeeds c.requires.fits),
+  c.place_of-i.ensures,
+  c.as_slice.ensures.value,
+) (placed_at is_turn_before c.args.turn c.args.turns.now.items)

@@ -1,6 +1,5 @@
 use Rattle.bq_state.proofs.EndLemmas.{first_seen}
 use Rattle.bq_state.proofs.tubes.Tubes.first_pause_end.Goals as goal
 
--- src/tubes.rt:319:5
 pub returns : goal.returns
 returns c = first_seen _ _ _ _ _ c.first_until.ensures.until c.self.invariant c.first_until.ensures.ordered c.self.view_is
