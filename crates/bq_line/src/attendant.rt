@@ -183,10 +183,14 @@ impl<L: Line + Drop> Attendant<L> {
     }
 
     /// Returns true if it has to read or write again although nothing moved and no event will
-    /// report it, because the call was interrupted.
+    /// report it, because the call was interrupted or timed out. A seat that waits for an answer
+    /// polls its mail before it reads again.
     pub fn tries_again(&self) -> bool {
         match &self.place {
             LinePlace::On(line, Action::Read, _) => line.may_give(),
+            LinePlace::On(line, Action::PollMail, _) => {
+                line.may_give() && self.machine.would_read()
+            }
             LinePlace::On(line, Action::Write(_), _) => line.may_take(),
             _ => false,
         }

@@ -39,6 +39,17 @@ asking_stage request = if is_quit request then stages.AskingQuit else stages.Ask
 abbrev pub reads_on : Bool → SeatMachine → Bool
 reads_on waits m = waits && not m.end_told && (length m.kept == 0)
 
+-- the same by its stage
+abbrev pub would_read_in : Stage → SeatMachine → Bool
+would_read_in stages.Reading m = true
+would_read_in stages.ReadingOn m = true
+would_read_in (stages.Polling waits) m = reads_on waits m
+would_read_in _ m = false
+
+-- The next action of the machine is a read, or the one after a poll that finds no mail is.
+abbrev pub would_read : SeatMachine → Bool
+would_read m = would_read_in m.stage m
+
 -- An awaited line that is opened begins with its connect.
 abbrev pub OpensLine : Event → Action → SeatMachine → Type 0
 OpensLine events.Opened action new = is_stray action ≡ false → (action ≡ actions.Submit steps.Connect) × AgreesWith new first_past

@@ -91,7 +91,7 @@ impl SeatMachine {
     ghost use Rattle.bq_job.specs.machine.OneClient.{is_closed_answer};
     ghost use Rattle.bq_seat.specs.Outstanding.{ReadsWith};
     ghost use Rattle.bq_seat.specs.SeatMoves.{IsMove};
-    ghost use Rattle.bq_seat.specs.SeatParts.{GoesOn, asking_stage, holding, in_stage, reads_on};
+    ghost use Rattle.bq_seat.specs.SeatParts.{GoesOn, asking_stage, holding, in_stage, reads_on, would_read};
     ghost use Rattle.bq_seat.specs.SeatStands.{awaited, kept_bytes};
 
     /// Returns a machine that waits for its first line. It rejects bodies of more than
@@ -120,6 +120,17 @@ impl SeatMachine {
     {
         match self.stage {
             Stage::ReadingOn => true,
+            _ => false,
+        }
+    }
+
+    /// Returns true if its next action, or the one after a poll that finds no mail, is a read.
+    pub fn would_read(&self) -> bool
+        ensures { result ≡ would_read self.now }
+    {
+        match self.stage {
+            Stage::ReadingOn | Stage::Reading => true,
+            Stage::Polling { waits } => self.reads_on(waits),
             _ => false,
         }
     }
@@ -324,6 +335,13 @@ impl SeatMachine {
         *next = Action::PollMail;
     }
 
+    // Returns true if the line is read while an answer is outstanding.
+    fn reads_on(&self, waits: bool) -> bool
+        ensures { result ≡ reads_on waits self.now }
+    {
+        waits && !self.end_told && self.kept.is_empty()
+    }
+
     // No answer has come yet. While a reserve waits, the line is read if no bytes are kept.
     fn no_mail_yet(&mut self, waits: bool, next: &mut Action)
         ensures action { next.new
@@ -331,7 +349,7 @@ impl SeatMachine {
         ensures after { self.new
             ≡ (if reads_on waits self.old then in_stage Stage.ReadingOn self.old else self.old) }
     {
-        if waits && !self.end_told && self.kept.is_empty() {
+        if self.reads_on(waits) {
             self.stage = Stage::ReadingOn;
             *next = Action::Read;
         } else {
