@@ -84,6 +84,7 @@ abbrev pub MayRefuse : Options → Fault → Type 0
 MayRefuse options faults.CannotListen = Unit {0}
 MayRefuse options (faults.NoMemory need) = Unit {0}
 MayRefuse options faults.ThreadRefused = Unit {0}
+MayRefuse options faults.EpollRefused = Unit {0}
 MayRefuse options faults.BadConfiguration = are_in_range (settings_of options) ≡ false
 MayRefuse options _ = ⊥
 

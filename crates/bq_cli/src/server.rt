@@ -20,7 +20,7 @@ use bq_job::NoMemory;
 use bq_line::control_line::ControlReader;
 use bq_line::line::ReadBuffer;
 use bq_line::{Door, FreeDoors, Refusals, TcpDoor, clock};
-use bq_program::{Fault, Need, Options, Program, tell_cannot_listen, tell_server};
+use bq_program::{Fault, Need, Options, Program, fault_of_loop, tell_cannot_listen, tell_server};
 use bq_run::{Run, run_threads};
 use std::alloc::Global;
 use std::io;
@@ -230,7 +230,7 @@ fn run_loop<'l, R: Net + Wait + Clock + Print + Eprint, I: ControlReader + Drop>
     let clock = TellingClock::new(rt);
     match serve_doors_by_loop(rt, alloc, options, doors, clock, control, source) {
         Ok(run) => Ok(run),
-        Err(fault) => Err(Fault::from(fault)),
+        Err(fault) => Err(fault_of_loop(fault)),
     }
 }
 

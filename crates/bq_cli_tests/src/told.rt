@@ -31,6 +31,7 @@ static FAULTS: &[(Program, Fault)] = &[
     (Program::Bqd, Fault::NoMemory(Need::Doors)),
     (Program::Bqd, Fault::NoMemory(Need::Queue)),
     (Program::Bqd, Fault::ThreadRefused),
+    (Program::Bqd, Fault::EpollRefused),
     (Program::Bqd, Fault::BadConfiguration),
     (Program::Bqd, Fault::NotAccepted),
 ];
@@ -45,6 +46,7 @@ static REPORTS: &str = "bq: read failed\n\
     bqd: no memory\nbqd: could not allocate memory for the buffers of the seats\n\
     bqd: no memory\nbqd: could not allocate memory for the queue and its seats\n\
     bqd: a thread was refused\n\
+    bqd: epoll was refused\nbqd: could not watch the listener and standard input\n\
     bqd: bad configuration\n\
     bqd: a connection could not be accepted\n";
 

@@ -22,10 +22,11 @@ use std::sync::Wait;
 /// Serves the lines of all doors, each door at a seat of its own, until no more lines come at any
 /// of them. The calling thread does everything, as epoll reports that lines are ready. It also
 /// reads the control line, where each line `drain` starts draining. It reads it when epoll reports
-/// `control_source`, its descriptor, as ready. If there is no descriptor or epoll rejects it, the
-/// control line is read to its end before any door is checked.
+/// `control_source`, its descriptor, as ready. If there is no descriptor, or it is that of a file,
+/// the control line is read to its end before any door is checked.
 ///
-/// Doors must not block when they are checked. The errors are those of `run_turns`.
+/// Doors must not block when they are checked. The errors are those of `run_turns`, and
+/// `ThreadRefused` if the system refused epoll, or refused to watch a door or the control line.
 pub fn run_event_loop<
     R: Net + rt::Clock + Wait,
     L: Line + Drop,
@@ -60,6 +61,6 @@ pub fn run_event_loop<
     ensures bad_configuration { IsErrOf result RunFault.BadConfiguration
         ↔ IsTrue (not (are_in_range config && vec_len doors == config.seats)) }
 {
-    let turns = Poller::new(rt, alloc, config.seats, control_source);
+    let turns = Poller::new(rt, alloc, config.seats, doors.as_slice(), control_source);
     run_turns(rt, alloc, config, doors, clock, control, turns)
 }

@@ -18,7 +18,7 @@ use bq_line::line::{Line, ReadBuffer, Readiness};
 use control_watch::ControlWatch;
 use mio::event::Event;
 use mio::unix::SourceFd;
-use mio::{Events, Interest, Poll, Token};
+use mio::{Events, Interest, Poll, Registry, Token};
 use std::alloc::Global;
 use std::net::Net;
 use std::os::fd::RawFd;
@@ -36,6 +36,9 @@ const CONTROL: Token = Token(usize::MAX);
 /// The token of the doors.
 const DOORS: Token = Token(usize::MAX - 1);
 
+/// The Linux error number that means that a descriptor is registered already, EEXIST.
+const IS_WATCHED: i32 = 17;
+
 /// How many events one wait takes from the system.
 const EVENTS: usize = 256;
 
@@ -45,8 +48,6 @@ const NOTHING: Turn = Turn::Seat(usize::MAX);
 /// The next part of a round.
 #[derive(Clone, Copy)]
 enum Stage {
-    /// The doors and the control line are not registered yet.
-    Start,
     Control,
     /// The control line was read.
     ControlRead,
@@ -75,13 +76,18 @@ pub struct Poller<'r, R> {
 }
 
 impl<'r, R: Net + rt::Clock> Poller<'r, R> {
-    /// Returns a poller for this many seats. The descriptor is that of the control line. If it is
-    /// `None`, or epoll rejects it because it belongs to a file, the control line is read to its
-    /// end before any door is checked.
-    pub fn new(
+    /// Returns a poller for this many seats at these doors, which watches the doors and the control
+    /// line. `control` is the descriptor of the control line. If it is `None`, or epoll rejects it
+    /// because it belongs to a file, the control line is read to its end before any door is
+    /// checked.
+    ///
+    /// Returns `NoMemory` if an allocation failed. Returns `Refused` if the system refused epoll or
+    /// does not report a door or the control line, since that would never be looked at.
+    pub fn new<L: Line + Drop, D: Door<Line = L>>(
         rt: &'r R,
         alloc: Global,
         seats: u16,
+        doors: &[D],
         control: Option<RawFd>,
     ) -> Result<Poller<'r, R>, TurnsFault> {
         let Ok(queue) = SeatQueue::new(alloc, usize::from(seats)) else {
@@ -96,15 +102,17 @@ impl<'r, R: Net + rt::Clock> Poller<'r, R> {
         let Ok(poll) = Poll::new(rt) else {
             return Err(TurnsFault::Refused);
         };
+        watch_doors(poll.registry(), doors)?;
+        let control = ControlWatch::new(poll.registry(), control)?;
         Ok(Poller {
             rt,
             poll,
             events,
-            control: ControlWatch::new(control),
+            control,
             accepts: Accepts::new(),
             queue,
             buffer,
-            stage: Stage::Start,
+            stage: Stage::Control,
             visit: Visit::new(0, Part::Answers),
             is_visiting: false,
         })
@@ -112,17 +120,6 @@ impl<'r, R: Net + rt::Clock> Poller<'r, R> {
 }
 
 impl<'r, R: rt::Clock> Poller<'r, R> {
-    // Most doors share a listener, which is registered once: the system rejects the other
-    // registrations.
-    fn watch_doors<L: Line + Drop, D: Door<Line = L>>(&self, row: &Row<L, D>) {
-        for seat in 0..row.len() {
-            if let Some(fd) = source_of_door(row, seat) {
-                let registry = self.poll.registry();
-                let _watched = registry.register(&mut SourceFd(&fd), DOORS, Interest::READABLE);
-            }
-        }
-    }
-
     // Returns the turn of the control line in this round, or that of the doors if the control line
     // is not read.
     fn control_turn<L: Line + Drop, D: Door<Line = L>>(
@@ -395,12 +392,6 @@ impl<'r, R: rt::Clock> Turns for Poller<'r, R> {
         news: News,
     ) -> Turn {
         match self.stage {
-            Stage::Start => {
-                self.watch_doors(row);
-                self.control.watch(self.poll.registry());
-                self.stage = Stage::Control;
-                NOTHING
-            }
             Stage::Control => self.control_turn(alloc, row, news),
             Stage::ControlRead => {
                 self.control.watch_on(self.poll.registry(), news.control);
@@ -420,18 +411,39 @@ impl<'r, R: rt::Clock> Turns for Poller<'r, R> {
     }
 }
 
+// Registers the listener of each door.
+fn watch_doors<L: Line + Drop, D: Door<Line = L>>(
+    registry: &Registry,
+    doors: &[D],
+) -> Result<(), TurnsFault> {
+    for door in doors {
+        if let Some(fd) = door.source() {
+            watch_door(registry, fd)?;
+        }
+    }
+    Ok(())
+}
+
+// Most doors share a listener, which is registered once: the system rejects the other
+// registrations.
+fn watch_door(registry: &Registry, fd: RawFd) -> Result<(), TurnsFault> {
+    match registry.register(&mut SourceFd(&fd), DOORS, Interest::READABLE) {
+        Ok(()) => Ok(()),
+        Err(e) => {
+            if e.raw_os_error() == Some(IS_WATCHED) {
+                Ok(())
+            } else {
+                Err(TurnsFault::Refused)
+            }
+        }
+    }
+}
+
 fn shorter(due: Option<Duration>, rest: Duration) -> Duration {
     match due {
         Some(due) => due.min(rest),
         None => rest,
     }
-}
-
-fn source_of_door<L: Line + Drop, D: Door<Line = L>>(
-    row: &Row<L, D>,
-    seat: usize,
-) -> Option<RawFd> {
-    row.door(seat)?.source()
 }
 
 fn source_of_line<L: Line + Drop, D: Door<Line = L>>(

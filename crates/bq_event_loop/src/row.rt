@@ -33,11 +33,6 @@ impl<L: Line + Drop, D: Door<Line = L>> Row<L, D> {
         self.seats.get(seat)
     }
 
-    /// Returns the door of the seat with this number.
-    pub fn door(&self, seat: usize) -> Option<&D> {
-        self.doors.get(seat)
-    }
-
     /// Returns true if every seat is done.
     pub fn are_done(&self) -> bool
         ensures { result ≡ true → AreDone self.now.seats.items }

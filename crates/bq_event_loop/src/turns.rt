@@ -65,7 +65,7 @@ pub struct News {
 pub enum TurnsFault {
     /// Out of memory.
     NoMemory,
-    /// The system rejected what the turns wait with.
+    /// The system refused what the turns wait with, or to watch a door or the control line with it.
     Refused,
 }
 

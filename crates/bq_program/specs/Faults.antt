@@ -14,6 +14,12 @@ fault_of_run runs.NoMemory = faults.NoMemory needs.Queue
 fault_of_run runs.ThreadRefused = faults.ThreadRefused
 fault_of_run runs.BadConfiguration = faults.BadConfiguration
 
+-- the same for a run by an event loop, which starts no thread
+abbrev pub fault_of_loop : RunFault → Fault
+fault_of_loop runs.NoMemory = faults.NoMemory needs.Queue
+fault_of_loop runs.ThreadRefused = faults.EpollRefused
+fault_of_loop runs.BadConfiguration = faults.BadConfiguration
+
 -- None: the line ended well
 abbrev pub fault_of_end : LineEnd → Option Fault
 fault_of_end ends.Quit = None
@@ -33,6 +39,7 @@ fault_text faults.WriteFailed = codes "write failed"
 fault_text faults.CannotListen = codes "cannot listen"
 fault_text (faults.NoMemory need) = codes "no memory"
 fault_text faults.ThreadRefused = codes "a thread was refused"
+fault_text faults.EpollRefused = codes "epoll was refused"
 fault_text faults.BadConfiguration = codes "bad configuration"
 fault_text faults.NotAccepted = codes "a connection could not be accepted"
 
@@ -45,4 +52,5 @@ need_text needs.Queue = codes "could not allocate memory for the queue and its s
 -- the second line, if the fault alone determines one
 abbrev pub fault_detail : Fault → Option (List ℕ)
 fault_detail (faults.NoMemory need) = Some (need_text need)
+fault_detail faults.EpollRefused = Some (codes "could not watch the listener and standard input")
 fault_detail _ = None

@@ -1,6 +1,6 @@
 //! Why a program fails.
 ghost use Rattle.std.specs.Prelude.{◌≡◌, option_map};
-ghost use Rattle.bq_program.specs.Faults.{fault_detail, fault_of_end, fault_of_run, fault_text, need_text};
+ghost use Rattle.bq_program.specs.Faults.{fault_detail, fault_of_end, fault_of_loop, fault_of_run, fault_text, need_text};
 
 use crate::chosen::OptionFault;
 use bq_host::RunFault;
@@ -32,6 +32,8 @@ pub enum Fault {
     NoMemory(Need),
     /// The system refused to start a thread.
     ThreadRefused,
+    /// The system refused epoll, or to watch the listener or the control line with it.
+    EpollRefused,
     /// The configuration is out of its ranges, or has another number of seats than there are doors.
     BadConfiguration,
     /// Some seat ended because a connection could not be accepted.
@@ -50,17 +52,19 @@ impl Fault {
             Fault::CannotListen => "cannot listen",
             Fault::NoMemory(_) => "no memory",
             Fault::ThreadRefused => "a thread was refused",
+            Fault::EpollRefused => "epoll was refused",
             Fault::BadConfiguration => "bad configuration",
             Fault::NotAccepted => "a connection could not be accepted",
         }
     }
 
-    /// The second line of the report, if the fault has one: what the memory was for.
+    /// The second line of the report, if the fault has one: what the memory or epoll was for.
     pub fn detail(self) -> Option<&'static str>
         ensures { option_map (λ text. text.now) result ≡ fault_detail self }
     {
         match self {
             Fault::NoMemory(need) => Some(text_of_need(need)),
+            Fault::EpollRefused => Some("could not watch the listener and standard input"),
             _ => None,
         }
     }
@@ -86,6 +90,18 @@ impl From<RunFault> for Fault {
             RunFault::ThreadRefused => Fault::ThreadRefused,
             RunFault::BadConfiguration => Fault::BadConfiguration,
         }
+    }
+}
+
+/// Returns the fault that an error of a run by an event loop is. It starts no threads: what the
+/// system may refuse is epoll.
+pub fn fault_of_loop(fault: RunFault) -> Fault
+    ensures { result ≡ fault_of_loop fault }
+{
+    match fault {
+        RunFault::NoMemory => Fault::NoMemory(Need::Queue),
+        RunFault::ThreadRefused => Fault::EpollRefused,
+        RunFault::BadConfiguration => Fault::BadConfiguration,
     }
 }
 

@@ -5,7 +5,7 @@
 pub use arguments::words;
 pub use chosen::{BqOptions, BqdOptions, OptionFault, Options};
 pub use command_line::{bq_options, bqd_options, options};
-pub use fault::{Fault, Need, Stop, fault_of_end};
+pub use fault::{Fault, Need, Stop, fault_of_end, fault_of_loop};
 pub use program::Program;
 pub use told::{tell_cannot_listen, tell_fault, tell_server, tell_stop};
 

@@ -1,18 +1,19 @@
 //! When the control line is read, and how far.
 
 use super::CONTROL;
-use crate::turns::{ControlReads, ControlStands};
+use crate::turns::{ControlReads, ControlStands, TurnsFault};
 use mio::unix::SourceFd;
 use mio::{Interest, Registry};
 use std::os::fd::RawFd;
+
+/// The Linux error number that means that a descriptor cannot be watched, as that of a file: EPERM.
+const IS_FILE: i32 = 1;
 
 /// What is known about the control line. Its descriptor is never switched to non-blocking mode,
 /// since other processes may share it. So a read that may block is made only after the system
 /// reported that it would not.
 #[derive(Clone, Copy)]
 pub enum ControlWatch {
-    /// The descriptor is not registered yet.
-    Unwatched(RawFd),
     /// The system cannot report when there is more, so the line is read to its end at once.
     Whole,
     /// The system reports bytes or the end; `has_come` tells that it did.
@@ -22,24 +23,26 @@ pub enum ControlWatch {
 }
 
 impl ControlWatch {
-    /// Returns the initial state. Without a descriptor the line cannot be watched.
-    pub fn new(source: Option<RawFd>) -> ControlWatch {
-        match source {
-            Some(fd) => ControlWatch::Unwatched(fd),
-            None => ControlWatch::Whole,
-        }
-    }
-
-    /// Registers the descriptor. The system rejects files and the like.
-    pub fn watch(&mut self, registry: &Registry) {
-        if let ControlWatch::Unwatched(fd) = *self {
-            *self = match registry.register(&mut SourceFd(&fd), CONTROL, Interest::READABLE) {
-                Ok(()) => ControlWatch::Watched {
-                    fd,
-                    has_come: false,
-                },
-                Err(_) => ControlWatch::Whole,
-            };
+    /// Registers the descriptor, and returns the initial state. Without a descriptor, or with one
+    /// of a file, the line cannot be watched. Any other error is returned as `Refused`: a pipe that
+    /// was taken for a file would be read until its other end is closed, before any client is
+    /// served.
+    pub fn new(registry: &Registry, source: Option<RawFd>) -> Result<ControlWatch, TurnsFault> {
+        let Some(fd) = source else {
+            return Ok(ControlWatch::Whole);
+        };
+        match registry.register(&mut SourceFd(&fd), CONTROL, Interest::READABLE) {
+            Ok(()) => Ok(ControlWatch::Watched {
+                fd,
+                has_come: false,
+            }),
+            Err(e) => {
+                if e.raw_os_error() == Some(IS_FILE) {
+                    Ok(ControlWatch::Whole)
+                } else {
+                    Err(TurnsFault::Refused)
+                }
+            }
         }
     }
 
