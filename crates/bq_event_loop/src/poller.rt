@@ -208,10 +208,10 @@ impl<'r, R: rt::Clock> Poller<'r, R> {
     }
 
     fn registers_line(&self, fd: RawFd, seat: usize) -> bool {
-        let both = Interest::READABLE | Interest::WRITABLE;
+        let all = Interest::READABLE | Interest::WRITABLE | Interest::PRIORITY;
         self.poll
             .registry()
-            .register(&mut SourceFd(&fd), Token(seat), both)
+            .register(&mut SourceFd(&fd), Token(seat), all)
             .is_ok()
     }
 
@@ -508,7 +508,7 @@ fn note_event<L: Line + Drop, D: Door<Line = L>>(
 }
 
 fn readiness_of(event: &Event) -> Readiness {
-    let is_closing = event.is_read_closed() || event.is_error();
+    let is_closing = event.is_read_closed() || event.is_error() || event.is_priority();
     Readiness {
         reads: event.is_readable() || is_closing,
         writes: event.is_writable() || event.is_error(),

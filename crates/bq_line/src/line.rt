@@ -149,8 +149,8 @@ pub struct Readiness {
     pub reads: bool,
     /// There may be room for bytes.
     pub writes: bool,
-    /// The client sends no more: after a read that leaves room in its buffer comes the end of the
-    /// input.
+    /// A read that leaves room in its buffer may not have taken all that came. The client sends no
+    /// more, so that the end of the input follows; or it sent urgent data, at which a read stops.
     pub is_closing: bool,
     /// No event of the stream will be reported, so the connection can't be used: its next read
     /// fails.
