@@ -10,7 +10,8 @@ use Rattle.bq_job.specs.declared.step.Step.TheVariants as steps
 use Rattle.bq_job.specs.machine.OneClient.{is_closed_answer}
 use Rattle.bq_seat.specs.Looks.{GoesFurther, LooksOn, is_read_on}
 use Rattle.bq_seat.specs.Past.{Past, with_action, with_event, past_after, is_stray, answers, first_past}
-use Rattle.bq_seat.specs.SeatParts.{GoesOn, IfLineOver, IsStagedMove, OpensLine, in_stage, reads_on}
+use Rattle.bq_seat.specs.SeatParts.{GoesOn, IfLineOver, IsStagedMove, OpensLine, between, in_stage, reads_on}
+use Rattle.bq_seat.specs.Served.{IsServed}
 use Rattle.bq_seat.specs.SeatStands.{AgreesWith, IsOpen, StandsInStage, awaited_at}
 use Rattle.bq_wire.specs.Standing.{Stands}
 use Rattle.bq_wire.specs.declared.reader.ReaderState.{ReaderState}
@@ -391,16 +392,22 @@ bytes_in_reading_on m kept bytes e =
           (sym (one_unanswered m.reader m.kept m.end_told p h.0.0)) refl;
     })
 
--- an answer comes after the close: the close's own answer ends the line
-ends_by_closed : (m : SeatMachine) (end : LineEnd) (answer : Answer) → is_closed_answer answer ≡ true
-    → IsStagedMove (in_stage (stages.Leaving end) m) (events.Mail answer) (actions.LineOver end) (in_stage stages.Between m)
-ends_by_closed m end answer own = record {
+-- an answer comes after the close: the close's own answer ends the line, and the reader is restarted
+ends_by_closed : (m : SeatMachine) (next : ReaderState) (end : LineEnd) (answer : Answer) → next.max_job_size ≡ m.reader.max_job_size
+    → is_closed_answer answer ≡ true
+    → IsStagedMove (in_stage (stages.Leaving end) m) (events.Mail answer) (actions.LineOver end) (between next m)
+ends_by_closed m next end answer same own = record {
   stray = refl;
   unchanged = λ e. cc;
   awaits = λ e. refl;
-  limit = refl;
+  limit = same;
   opened = tt;
-  past = λ p h. (end, served_now m.reader.max_job_size end p answer own h);
+  past = λ p h. (
+    end,
+    subst (λ (size : ℕ). (written : List ℕ)
+        → IsServed size written end (past_after (events.Mail answer) (actions.LineOver end) p)) (sym same)
+        (served_now m.reader.max_job_size end p answer own h),
+  );
   over = λ p h. served_now m.reader.max_job_size end p answer own h;
   looks = λ e p h. subst (λ b. MatchBool b (MatchBool (is_closed_answer answer) (Unit {0}) (actions.LineOver end ≡ actions.PollMail))
       (actions.LineOver end ≡ actions.Write answer)) (sym h.closing_is)
@@ -422,11 +429,11 @@ stays_leaving m end answer other = record {
       (subst (λ b. MatchBool b ⊥ (actions.PollMail ≡ actions.PollMail)) (sym other) refl);
 }
 
-pub mail_in_leaving : (m : SeatMachine) (end : LineEnd) (answer : Answer) (own : Bool) → m.stage ≡ stages.Leaving end
-    → is_closed_answer answer ≡ own
+pub mail_in_leaving : (m : SeatMachine) (next : ReaderState) (end : LineEnd) (answer : Answer) (own : Bool) → m.stage ≡ stages.Leaving end
+    → next.max_job_size ≡ m.reader.max_job_size → is_closed_answer answer ≡ own
     → IsStagedMove m (events.Mail answer) (if own then actions.LineOver end else actions.PollMail)
-    (if own then in_stage stages.Between m else m)
-mail_in_leaving m end answer true s e = from_stage m _ (events.Mail answer) (actions.LineOver end) (stages.Leaving end) s
-    (ends_by_closed m end answer e)
-mail_in_leaving m end answer false s e = stays_in m (events.Mail answer) actions.PollMail (stages.Leaving end) s
+    (if own then between next m else m)
+mail_in_leaving m next end answer true s same e = from_stage m _ (events.Mail answer) (actions.LineOver end) (stages.Leaving end) s
+    (ends_by_closed m next end answer same e)
+mail_in_leaving m next end answer false s same e = stays_in m (events.Mail answer) actions.PollMail (stages.Leaving end) s
     (stays_leaving m end answer e)

@@ -9,6 +9,7 @@ use Rattle.bq_seat.specs.Looks.{GoesFurther, LooksOn}
 use Rattle.bq_seat.specs.Past.{Past, answers, awaited_by, first_past, is_stray, past_after, with_action}
 use Rattle.bq_seat.specs.SeatStands.{AgreesWith, IsOpen, awaited}
 use Rattle.bq_seat.specs.Served.{IsServed}
+use Rattle.bq_wire.specs.declared.reader.ReaderState.{ReaderState}
 use Rattle.bq_seat.specs.declared.machine.Action.{Action}
 use Rattle.bq_seat.specs.declared.machine.Action.TheVariants as actions
 use Rattle.bq_seat.specs.declared.machine.Event.{Event}
@@ -26,6 +27,10 @@ pub record GoesOn (old : SeatMachine) (action : Action) (new : SeatMachine) : Ty
 
 abbrev pub in_stage : Stage → SeatMachine → SeatMachine
 in_stage stage m = record m { stage = stage }
+
+-- the machine between two lines, with this reader
+abbrev pub between : ReaderState → SeatMachine → SeatMachine
+between reader m = record m { reader = reader; stage = stages.Between }
 
 -- the machine with these bytes kept
 abbrev pub holding : List ℕ → SeatMachine → SeatMachine

@@ -1,5 +1,5 @@
 //! The state machine of a connection.
-ghost use Rattle.std.specs.Prelude.{◌≡◌, ◌==◌, ◌≤◌, length, not, IfOk, if◌then◌else◌};
+ghost use Rattle.std.specs.Prelude.{◌≡◌, ◌==◌, ◌≤◌, [], length, not, IfOk, if◌then◌else◌};
 ghost use Rattle.bq_seat.specs.SeatParts.{asking_stage};
 
 use crate::byte_buffer::ByteBuffer;
@@ -91,7 +91,9 @@ impl SeatMachine {
     ghost use Rattle.bq_job.specs.machine.OneClient.{is_closed_answer};
     ghost use Rattle.bq_seat.specs.Outstanding.{ReadsWith};
     ghost use Rattle.bq_seat.specs.SeatMoves.{IsMove};
-    ghost use Rattle.bq_seat.specs.SeatParts.{GoesOn, asking_stage, holding, in_stage, reads_on, would_read};
+    ghost use Rattle.bq_seat.specs.SeatParts.{GoesOn, asking_stage, between, holding, in_stage, reads_on, would_read};
+    ghost use Rattle.bq_job.specs.declared.line_end.LineEnd.{LineEnd};
+    ghost use Rattle.bq_wire.specs.Standing.{Stands};
     ghost use Rattle.bq_seat.specs.SeatStands.{awaited, kept_bytes};
 
     /// Returns a machine that waits for its first line. It rejects bodies of more than
@@ -237,11 +239,13 @@ impl SeatMachine {
     }
 
     /// An answer came. It must already be in `next` as a `Write`; if it is to be written, it stays
-    /// there.
+    /// there. If it ends the line, the memory for a body that did not come whole is freed.
     #[tactic(auto, using(crate::proofs::FindLemmas::is_move))]
     pub fn mail(&mut self, next: &mut Action)
-        ensures { (answer : Answer) → next.old ≡ Action.Write answer
+        ensures moved { (answer : Answer) → next.old ≡ Action.Write answer
             → IsMove self.old (Event.Mail answer) next.new self.new }
+        ensures freed { (answer : Answer) (end : LineEnd) → next.old ≡ Action.Write answer
+            → next.new ≡ Action.LineOver end → Stands self.new.reader [] }
     {
         match self.stage {
             Stage::Polling { .. } => self.stage = Stage::Writing,
@@ -373,15 +377,19 @@ impl SeatMachine {
         *next = Action::PollMail;
     }
 
-    // The answer to the close ends the line. Other mail is dropped.
+    // The answer to the close ends the line. Other mail is dropped. A body that did not come whole
+    // is freed here, since the next connection may come much later.
     fn mail_after_close(&mut self, end: LineEnd, next: &mut Action)
         ensures action { (answer : Answer) → next.old ≡ Action.Write answer
             → next.new ≡ (if is_closed_answer answer then Action.LineOver end else Action.PollMail) }
         ensures after { (answer : Answer) → next.old ≡ Action.Write answer
-            → self.new ≡ (if is_closed_answer answer then in_stage Stage.Between self.old else self.old) }
+            → self.new ≡ (if is_closed_answer answer then between self.new.reader self.old else self.old) }
+        ensures limit { self.new.reader.max_job_size ≡ self.old.reader.max_job_size }
+        ensures freed { (over : LineEnd) → next.new ≡ Action.LineOver over → Stands self.new.reader [] }
     {
         match next {
             Action::Write(Answer::Closed) => {
+                self.reader.restart();
                 self.stage = Stage::Between;
                 *next = Action::LineOver(end);
             }

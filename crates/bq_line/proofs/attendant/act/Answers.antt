@@ -31,7 +31,7 @@ pub returns-then-mail-clause-carried : goal.returns-then-mail-clause-carried
 returns-then-mail-clause-carried g c =
     let came = rw c.if-mail.true at c.mail.ensures.went in
     comes_by g.K.Link.went results.Moved _ _ _ _ _ _ _ _ actions.PollMail c.in-PollMail.is [] (came.0 ∷ []) came.2
-    (refl, refl, (came.0, refl, c.mail-then-mail.ensures came.0 came.1))
+    (refl, refl, (came.0, refl, c.mail-then-mail.ensures.moved came.0 came.1))
 
 pub returns-else-mail-clause-carried : goal.returns-else-mail-clause-carried
 returns-else-mail-clause-carried g c =
