@@ -67,7 +67,7 @@ pub struct Poller<'r, R> {
     accepts: Accepts,
     queue: SeatQueue,
     // The buffer for the reads of the line whose seat is being visited. A line that keeps bytes
-    // keeps the buffer and gives its own in exchange.
+    // keeps the buffer and gives its own in exchange. If the line ends, its door gives it back.
     buffer: ReadBuffer,
     stage: Stage,
     // The current visit, if there is one.
@@ -306,30 +306,14 @@ impl<'r, R: rt::Clock> Poller<'r, R> {
     {
         let visit = self.visit;
         match pause_of(&visit, row) {
-            None => {
-                if ends_line(row, visit.seat()) {
-                    self.take_back(row);
-                }
-                true
-            }
+            None => true,
             Some(pause) => {
                 self.is_visiting = false;
-                self.take_back(row);
+                // The line or, if it has ended, its door gives the shared buffer back.
+                row.exchange(visit.seat(), &mut self.buffer);
                 self.pause(alloc, row, visit.seat(), pause);
                 false
             }
-        }
-    }
-
-    // Takes the shared buffer back, when a visit pauses or before a line ends. Otherwise the door
-    // of the line would keep it, and in the end each door would hold a used buffer of 64 KB.
-    fn take_back<L: Line + Drop, D: Door<Line = L>>(&mut self, row: &mut Row<L, D>)
-        requires tended { AreTended L.seen (door_seen D.is_out D.is_at_end D.lines_over) row.old }
-        ensures keeps { KeepsRow L.seen (door_seen D.is_out D.is_at_end D.lines_over) D.same row.old row.new }
-    {
-        if self.visit.is_lent() {
-            row.exchange(self.visit.seat(), &mut self.buffer);
-            self.visit.give_back();
         }
     }
 
@@ -451,14 +435,6 @@ fn source_of_line<L: Line + Drop, D: Door<Line = L>>(
     seat: usize,
 ) -> Option<RawFd> {
     row.seat(seat)?.source()
-}
-
-// Returns true if the next action of a seat closes its line.
-fn ends_line<L: Line + Drop, D: Door<Line = L>>(row: &Row<L, D>, seat: usize) -> bool {
-    match row.seat(seat) {
-        Some(seat) => visits::ends_line(seat),
-        None => false,
-    }
 }
 
 // Returns the reason for a pause of a visit before its next action, if it pauses.

@@ -73,13 +73,14 @@ impl<L: Line + Drop, D: Door<Line = L>> Row<L, D> {
         }
     }
 
-    /// Swaps the read buffer of a seat's line with this one, if both are empty.
+    /// Swaps the read buffer of a seat's line with this one, if both are empty. A seat between two
+    /// lines swaps that of its door, which drops what the last line left in it.
     pub fn exchange(&mut self, seat: usize, buffer: &mut ReadBuffer)
         requires tended { AreTended L.seen (door_seen D.is_out D.is_at_end D.lines_over) self.old }
         ensures keeps { KeepsRow L.seen (door_seen D.is_out D.is_at_end D.lines_over) D.same self.old self.new }
     {
         if seat < self.seats.len() {
-            self.seats[seat].exchange(buffer);
+            exchange_at(&mut self.seats[seat], &mut self.doors[seat], buffer);
         }
     }
 
@@ -110,6 +111,23 @@ fn look_at<L: Line + Drop, D: Door<Line = L>>(
         return Looked::Opened;
     }
     seat.look(alloc, door, may_have_come)
+}
+
+// Swaps the read buffer of a seat's line, or of its door between two lines, with this one.
+fn exchange_at<L: Line + Drop, D: Door<Line = L>>(
+    seat: &mut Attendant<L>,
+    door: &mut D,
+    buffer: &mut ReadBuffer,
+)
+    ensures went { let at = door_seen D.is_out D.is_at_end D.lines_over in
+        Tends L.seen seat.old (at door.old) [] [] seat.new (at door.new) }
+    ensures same { (first : D) → D.same first door.old → D.same first door.new }
+{
+    if seat.is_between() {
+        door.exchange(buffer);
+    } else {
+        seat.exchange(buffer);
+    }
 }
 
 /// Returns new seats. All memory but that for bodies is allocated here.

@@ -36,6 +36,13 @@ none_more seen size a door before got h =
 pub tends_still : {L : Type 0} (seen : L → LineSeen) (a : Attendant L) (door : DoorSeen) → Tends seen a door [] [] a door
 tends_still seen a door size before got h = none_more seen size a door before got h
 
+-- Its door changed in nothing that it records.
+pub tends_beside : {L : Type 0} (seen : L → LineSeen) (a : Attendant L) (door next : DoorSeen) → next.is_out ≡ door.is_out
+    → next.is_at_end ≡ door.is_at_end → next.lines_over ≡ door.lines_over → Tends seen a door [] [] a next
+tends_beside seen a door next out ended over =
+    let same : next ≡ door = cc in
+    subst (λ (d : DoorSeen). Tends seen a door [] [] a d) (sym same) (tends_still seen a door)
+
 -- A line was opened.
 pub tends_opened : {L : Type 0} (seen : L → LineSeen) (old new : SeatMachine) (line : L) (action : Action) (door next : DoorSeen)
     → IsMove old events.Opened action new → next.lines_over ≡ door.lines_over → next.is_out ≡ true → next.is_at_end ≡ false

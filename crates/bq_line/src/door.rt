@@ -19,7 +19,7 @@ mod mem_door;
 mod open_doors;
 mod refusals;
 
-use crate::line::Line;
+use crate::line::{Line, ReadBuffer};
 use bq_job::LineEnd;
 use std::net::TcpListener;
 use std::os::fd::RawFd;
@@ -95,6 +95,15 @@ pub trait Door {
     fn source(&self) -> Option<RawFd> {
         None
     }
+
+    /// Swaps the door's own read buffer with this one, and drops the bytes that the last line left
+    /// in it. A door without a buffer, or whose line has it, does nothing.
+    fn exchange(&mut self, _buffer: &mut ReadBuffer)
+        ensures inside { is_out self.new ≡ is_out self.old }
+        ensures at_end { is_at_end self.new ≡ is_at_end self.old }
+        ensures over { lines_over self.new ≡ lines_over self.old }
+        ensures same { (first : Self) → same first self.old → same first self.new }
+    {}
 
     /// Takes back the open line, which has ended in this way.
     fn shut(&mut self, line: Self::Line, end: LineEnd)

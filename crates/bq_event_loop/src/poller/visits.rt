@@ -190,12 +190,10 @@ pub struct Visit {
     // The result of its last action, and how many of its last actions moved nothing.
     last: Progress,
     unmoved: u32,
-    // Whether its line has the shared buffer.
-    is_lent: bool,
 }
 
 impl Visit {
-    /// Returns a new visit, whose line has the shared buffer.
+    /// Returns a new visit.
     pub fn new(seat: usize, part: Part) -> Visit {
         Visit {
             seat,
@@ -203,18 +201,7 @@ impl Visit {
             left: MOST,
             last: Progress::Moved,
             unmoved: 0,
-            is_lent: true,
         }
-    }
-
-    /// Notes that its line gave the shared buffer back.
-    pub fn give_back(&mut self) {
-        self.is_lent = false;
-    }
-
-    /// Returns true if its line has the shared buffer.
-    pub fn is_lent(&self) -> bool {
-        self.is_lent
     }
 
     /// Returns the seat that is visited.
@@ -310,10 +297,4 @@ fn ends_part<L: Line + Drop>(part: Part, seat: &Attendant<L>) -> bool {
         _ => seat.writes() || (seat.reads() && !seat.reads_on()),
     };
     is_next || seat.is_between() || seat.is_done() || seat.awaits_bytes()
-}
-
-/// Returns true if the next action closes the line.
-pub fn ends_line<L: Line + Drop>(seat: &Attendant<L>) -> bool {
-    let is_on_line = seat.submits() || seat.polls_mail() || seat.writes() || seat.reads();
-    !is_on_line && !seat.is_between() && !seat.is_done()
 }

@@ -11,6 +11,7 @@ use super::{Door, DoorFault, Listen, Opening};
 use crate::line::{BufferedLine, Connection, Line, ReadBuffer, Socket};
 use bq_job::LineEnd;
 use std::io::Eprint;
+use std::mem;
 use std::os::fd::RawFd;
 use std::rt::Clock;
 use std::sync::Wait;
@@ -290,6 +291,13 @@ impl<'l, R: Wait + Clock + Eprint, S: Socket + Drop + Send, T: Listen<Stream = S
 
     fn source(&self) -> Option<RawFd> {
         self.listener.source()
+    }
+
+    fn exchange(&mut self, buffer: &mut ReadBuffer) {
+        if let Some(own) = &mut self.buffer {
+            mem::swap(own, buffer);
+            buffer.clear();
+        }
     }
 
     // Data that the system still gathers is sent first: closing a socket with unread input discards

@@ -1,6 +1,6 @@
 use Rattle.std.proofs.Common.{arith}
 use Rattle.bq_line.specs.Tending.{door_seen}
-use Rattle.bq_event_loop.proofs.RowLemmas.{rested_seat, tended_seat}
+use Rattle.bq_event_loop.proofs.RowLemmas.{rested_there, tended_there}
 use Rattle.bq_event_loop.proofs.row.Row.exchange.Goals as goal
 
 pub returns-then-seat-len : goal.returns-then-seat-len
@@ -9,13 +9,15 @@ returns-then-seat-len g c =
     let row = c.args.self.now in
     record {
       keeps = (
-        tended_seat g.L.Line.seen at row.seats.items row.doors.items c.args.seat c.index_mut.result.now c.exchange.new.self
+        tended_there g.L.Line.seen at row.seats.items row.doors.items c.args.seat c.index_mut.result.now c.exchange_at.new.seat
+            c.index_mut-then-seat-len.result.now c.exchange_at.new.door
             (let e = c.len.ensures in let b = c.if-seat-len.true in
-            omega arith) c.requires.tended c.index_mut.ensures.value c.exchange.ensures,
+            omega arith) c.requires.tended c.index_mut.ensures.value c.index_mut-then-seat-len.ensures.value c.exchange_at.ensures.went,
         λ first rests.
-            rested_seat g.L.Line.seen at g.D.Door.same first.seats.items row.seats.items first.doors.items row.doors.items c.args.seat
-            c.index_mut.result.now c.exchange.new.self
+            rested_there g.L.Line.seen at g.D.Door.same first.seats.items row.seats.items first.doors.items row.doors.items c.args.seat
+            c.index_mut.result.now c.exchange_at.new.seat c.index_mut-then-seat-len.result.now c.exchange_at.new.door
             (let e = c.len.ensures in let b = c.if-seat-len.true in
-            omega arith) c.requires.tended.doored c.index_mut.ensures.value c.exchange.ensures rests,
+            omega arith) c.requires.tended.doored c.index_mut.ensures.value c.index_mut-then-seat-len.ensures.value c.exchange_at.ensures.went
+            c.exchange_at.ensures.same rests,
       );
     }
