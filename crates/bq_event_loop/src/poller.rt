@@ -12,14 +12,15 @@ ghost use Rattle.bq_event_loop.specs.Rows.{AreTended, KeepsRow};
 use crate::row::Row;
 use crate::turns::{ControlReads, ControlStands, News, Turn, Turns, TurnsFault};
 use accepts::Accepts;
-use bq_line::Door;
 use bq_line::attendant::{Looked, Progress};
 use bq_line::line::{Line, ReadBuffer, Readiness};
+use bq_line::{Door, Watcher};
 use control_watch::ControlWatch;
 use mio::event::Event;
 use mio::unix::SourceFd;
 use mio::{Events, Interest, Poll, Registry, Token};
 use std::alloc::Global;
+use std::io;
 use std::net::Net;
 use std::os::fd::RawFd;
 use std::rt;
@@ -55,6 +56,22 @@ enum Stage {
     Visits(Part),
     /// Time has passed.
     Wait,
+}
+
+/// Has epoll report the line of one seat.
+#[derive(Clone, Copy)]
+struct LineWatcher<'p> {
+    registry: &'p Registry,
+    seat: usize,
+}
+
+impl<'p> Watcher for LineWatcher<'p> {
+    // Urgent data is reported too: a read stops at it, and the bytes after it would stay unread.
+    fn watch(&self, fd: RawFd) -> io::Result<()> {
+        let all = Interest::READABLE | Interest::WRITABLE | Interest::PRIORITY;
+        self.registry
+            .register(&mut SourceFd(&fd), Token(self.seat), all)
+    }
 }
 
 /// Chooses the next seat by readiness. All of its memory is allocated when it is created.
@@ -170,11 +187,12 @@ impl<'r, R: rt::Clock> Poller<'r, R> {
         ensures keeps { KeepsRow L.seen (door_seen D.is_out D.is_at_end D.lines_over) D.same row.old row.new }
     {
         let may_have_come = self.accepts.may_come();
-        let looked = row.look(alloc, seat, may_have_come);
+        let watcher = LineWatcher {
+            registry: self.poll.registry(),
+            seat,
+        };
+        let looked = row.look(alloc, seat, may_have_come, &watcher);
         self.note_looked(seat, may_have_come, looked);
-        if looked == Looked::Opened {
-            self.watch_line(row, seat);
-        }
     }
 
     // Notes the result of a check for a line. A seat without a line checks again when a connection
@@ -193,26 +211,6 @@ impl<'r, R: rt::Clock> Poller<'r, R> {
                 self.queue.set_free(seat);
             }
         }
-    }
-
-    // Watches a line. A line that the system cannot watch is lost: its next read fails.
-    fn watch_line<L: Line + Drop, D: Door<Line = L>>(&self, row: &mut Row<L, D>, seat: usize)
-        requires tended { AreTended L.seen (door_seen D.is_out D.is_at_end D.lines_over) row.old }
-        ensures keeps { KeepsRow L.seen (door_seen D.is_out D.is_at_end D.lines_over) D.same row.old row.new }
-    {
-        if let Some(fd) = source_of_line(row, seat) {
-            if !self.registers_line(fd, seat) {
-                row.note_ready(seat, Readiness::LOST);
-            }
-        }
-    }
-
-    fn registers_line(&self, fd: RawFd, seat: usize) -> bool {
-        let all = Interest::READABLE | Interest::WRITABLE | Interest::PRIORITY;
-        self.poll
-            .registry()
-            .register(&mut SourceFd(&fd), Token(seat), all)
-            .is_ok()
     }
 
     // Begins the visits of all seats that are in the queue now.
@@ -430,13 +428,6 @@ fn shorter(due: Option<Duration>, rest: Duration) -> Duration {
     }
 }
 
-fn source_of_line<L: Line + Drop, D: Door<Line = L>>(
-    row: &Row<L, D>,
-    seat: usize,
-) -> Option<RawFd> {
-    row.seat(seat)?.source()
-}
-
 // Returns the reason for a pause of a visit before its next action, if it pauses.
 fn pause_of<L: Line + Drop, D: Door<Line = L>>(visit: &Visit, row: &Row<L, D>) -> Option<Pause> {
     match row.seat(visit.seat()) {
@@ -489,6 +480,5 @@ fn readiness_of(event: &Event) -> Readiness {
         reads: event.is_readable() || is_closing,
         writes: event.is_writable() || event.is_error(),
         is_closing,
-        is_lost: false,
     }
 }

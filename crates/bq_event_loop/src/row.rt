@@ -5,7 +5,7 @@ ghost use Rattle.bq_core_api.specs.Limits.{is_body_size};
 ghost use Rattle.bq_line.specs.Tending.{DoorSeen, IsNewSeat, IsPlaced, Tends, door_seen};
 
 use bq_job::NoMemory;
-use bq_line::Door;
+use bq_line::{Door, Watcher};
 use bq_line::attendant::{Attendant, Looked};
 use bq_line::line::{Line, ReadBuffer, Readiness};
 use std::alloc::Global;
@@ -45,10 +45,16 @@ impl<L: Line + Drop, D: Door<Line = L>> Row<L, D> {
         true
     }
 
-    /// Checks for the next line at a door, without waiting for it. `may_have_come` is false if none
-    /// can have come since the last check. A seat that has a line is left alone, and the result is
-    /// `Looked::Opened`.
-    pub fn look(&mut self, alloc: Global, seat: usize, may_have_come: bool) -> Looked
+    /// Checks for the next line at a door, without waiting for it, and has it watched.
+    /// `may_have_come` is false if none can have come since the last check. A seat that has a line
+    /// is left alone, and the result is `Looked::Opened`.
+    pub fn look<W: Watcher>(
+        &mut self,
+        alloc: Global,
+        seat: usize,
+        may_have_come: bool,
+        watcher: &W,
+    ) -> Looked
         requires tended { AreTended L.seen (door_seen D.is_out D.is_at_end D.lines_over) self.old }
         ensures keeps { KeepsRow L.seen (door_seen D.is_out D.is_at_end D.lines_over) D.same self.old self.new }
     {
@@ -60,6 +66,7 @@ impl<L: Line + Drop, D: Door<Line = L>> Row<L, D> {
             &mut self.seats[seat],
             &mut self.doors[seat],
             may_have_come,
+            watcher,
         )
     }
 
@@ -96,11 +103,12 @@ impl<L: Line + Drop, D: Door<Line = L>> Row<L, D> {
 }
 
 // Checks for the next line at a door, unless its seat has a line.
-fn look_at<L: Line + Drop, D: Door<Line = L>>(
+fn look_at<L: Line + Drop, D: Door<Line = L>, W: Watcher>(
     alloc: Global,
     seat: &mut Attendant<L>,
     door: &mut D,
     may_have_come: bool,
+    watcher: &W,
 ) -> Looked
     requires placed { IsPlaced seat.old.place (door_seen D.is_out D.is_at_end D.lines_over door.old) }
     ensures went { let at = door_seen D.is_out D.is_at_end D.lines_over in
@@ -110,7 +118,7 @@ fn look_at<L: Line + Drop, D: Door<Line = L>>(
     if !seat.is_between() {
         return Looked::Opened;
     }
-    seat.look(alloc, door, may_have_come)
+    seat.look(alloc, door, may_have_come, watcher)
 }
 
 // Swaps the read buffer of a seat's line, or of its door between two lines, with this one.

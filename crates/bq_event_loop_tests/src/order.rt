@@ -4,9 +4,11 @@ ghost use Rattle.bq_event_loop.specs.Rows.{AreTended, KeepsRow};
 
 use crate::together::Together;
 use bq_event_loop::{ControlReads, News, Row, Turn, Turns};
-use bq_line::Door;
 use bq_line::line::Line;
+use bq_line::{Door, Watcher};
 use std::alloc::Global;
+use std::io;
+use std::os::fd::RawFd;
 
 /// The largest number of seats in a run.
 const MOST: usize = 8;
@@ -214,6 +216,16 @@ impl<'t> Turns for Order<'t> {
     }
 }
 
+// The lines of scripts are never waited for.
+#[derive(Clone, Copy)]
+struct Nobody;
+
+impl Watcher for Nobody {
+    fn watch(&self, _fd: RawFd) -> io::Result<()> {
+        Ok(())
+    }
+}
+
 // With some rules a seat checks for its next line before its turn. With the others it opens its
 // door in its turn.
 fn look_if_free<L: Line + Drop, D: Door<Line = L>>(
@@ -226,6 +238,6 @@ fn look_if_free<L: Line + Drop, D: Door<Line = L>>(
     ensures keeps { KeepsRow L.seen (door_seen D.is_out D.is_at_end D.lines_over) D.same row.old row.new }
 {
     if matches!(rule, Rule::Next | Rule::Woken) {
-        let _looked = row.look(alloc, seat, true);
+        let _looked = row.look(alloc, seat, true, &Nobody);
     }
 }

@@ -10,7 +10,7 @@ use crate::together::Together;
 use crate::visits::{Run, Table};
 use bq_job::LineEnd;
 use bq_line::line::{IoLine, Line};
-use bq_line::{Door, DoorFault, Opening};
+use bq_line::{Door, DoorFault, Opening, Watcher};
 use std::alloc::Global;
 use std::collections::VecDeque;
 
@@ -78,7 +78,11 @@ impl<'t> Door for ScriptDoor<'t> {
         }
     }
 
-    fn look(&mut self, _may_have_come: bool) -> Result<Opening<IoLine<Script<'t>>>, DoorFault> {
+    fn look<W: Watcher>(
+        &mut self,
+        _may_have_come: bool,
+        _watcher: &W,
+    ) -> Result<Opening<IoLine<Script<'t>>>, DoorFault> {
         match self.open() {
             Ok(Some(line)) => Ok(Opening::Line(line)),
             Ok(None) => Ok(Opening::NoMore),

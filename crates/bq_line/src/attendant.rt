@@ -15,13 +15,12 @@ ghost use Rattle.bq_line.specs.Carried.{Carried, CarriedPart, HasGone};
 ghost use Rattle.bq_line.specs.Links.{Calls, SubmitsInPlace, TakesInPlace};
 
 use crate::buffers::{Buffers, Wrote, read, write_answer};
-use crate::door::{Door, Opening};
+use crate::door::{Door, Opening, Watcher};
 use crate::line::{Line, ReadBuffer, Readiness};
 use bq_job::{LARGEST_BODY, LineEnd, NoMemory, Step};
 use bq_seat::{Action, Event, SeatMachine};
 use std::alloc::Global;
 use std::mem;
-use std::os::fd::RawFd;
 
 /// A seat's link to the core. Steps and answers are passed by reference, so they are not copied.
 pub trait Link {
@@ -203,15 +202,6 @@ impl<L: Line + Drop> Attendant<L> {
         matches!(self.place, LinePlace::Between)
     }
 
-    /// Returns the descriptor on which the system reports that the open line is ready, if there is
-    /// one.
-    pub fn source(&self) -> Option<RawFd> {
-        match &self.place {
-            LinePlace::On(line, _, _) => line.source(),
-            _ => None,
-        }
-    }
-
     /// Records what the system reported about the line's readiness.
     pub fn note_ready(&mut self, ready: Readiness)
         ensures { (door : DoorSeen) → Tends L.seen self.old door [] [] self.new door }
@@ -239,13 +229,14 @@ impl<L: Line + Drop> Attendant<L> {
         }
     }
 
-    /// Opens the next line without waiting for it. `may_have_come` is false if no client can have
-    /// connected since the last call.
-    pub fn look<D: Door<Line = L>>(
+    /// Opens the next line without waiting for it, and has it watched. `may_have_come` is false if
+    /// no client can have connected since the last call.
+    pub fn look<D: Door<Line = L>, W: Watcher>(
         &mut self,
         alloc: Global,
         door: &mut D,
         may_have_come: bool,
+        watcher: &W,
     ) -> Looked
         requires between { self.old.place ≡ LinePlace.Between }
         requires more { MayOpen (D.is_out door.old) (D.is_at_end door.old) }
@@ -253,7 +244,7 @@ impl<L: Line + Drop> Attendant<L> {
             Tends L.seen self.old (at door.old) [] [] self.new (at door.new) }
         ensures same { (first : D) → D.same first door.old → D.same first door.new }
     {
-        match door.look(may_have_come) {
+        match door.look(may_have_come, watcher) {
             Ok(Opening::Line(line)) => {
                 let action = self.machine.on(alloc, Event::Opened);
                 self.place = LinePlace::On(line, action, 0);

@@ -9,6 +9,7 @@ pub use listen_door::ListenDoor;
 pub use mem_door::MemDoor;
 pub use open_doors::OpenDoors;
 pub use refusals::Refusals;
+pub use watcher::Watcher;
 
 mod accept;
 mod free_doors;
@@ -18,6 +19,7 @@ mod listen_door;
 mod mem_door;
 mod open_doors;
 mod refusals;
+mod watcher;
 
 use crate::line::{Line, ReadBuffer};
 use bq_job::LineEnd;
@@ -82,9 +84,13 @@ pub trait Door {
         ensures same { (first : Self) → same first self.old → same first self.new };
 
     /// Opens the next line without waiting for it. `may_have_come` is false if no client can have
-    /// connected since the last call, so that no system call is needed. After an error no more
-    /// lines come.
-    fn look(&mut self, may_have_come: bool) -> Result<Opening<Self::Line>, DoorFault>
+    /// connected since the last call, so that no system call is needed. The line is watched by
+    /// `watcher`, or it is not opened. After an error no more lines come.
+    fn look<W: Watcher>(
+        &mut self,
+        may_have_come: bool,
+        watcher: &W,
+    ) -> Result<Opening<Self::Line>, DoorFault>
         requires more { MayOpen (is_out self.old) (is_at_end self.old) }
         ensures opened { IsLookedFor Self.Line.seen (is_out self.new) (is_at_end self.new) result }
         ensures over { lines_over self.new ≡ lines_over self.old }

@@ -9,6 +9,7 @@
 
 pub use door::{
     Door, DoorFault, FreeDoors, Listen, ListenDoor, MemDoor, OpenDoors, Opening, Refusals, TcpDoor,
+    Watcher,
 };
 
 pub mod attendant;

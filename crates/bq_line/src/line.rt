@@ -18,7 +18,6 @@ mod stream;
 use bq_job::LineFault;
 use std::io;
 use std::io::ErrorKind;
-use std::os::fd::RawFd;
 
 /// A line to one client. It records the bytes that its reads returned and its writes took since it
 /// was made, whether its input has ended, and the first fault that a call returned.
@@ -129,11 +128,6 @@ pub trait Line {
         ensures stays { StaysOver lies_over self.old self.new }
     {}
 
-    /// Returns the descriptor on which the system reports that the line is ready, if there is one.
-    fn source(&self) -> Option<RawFd> {
-        None
-    }
-
     /// Records what the system reported about the line's readiness. A line that is not watched does
     /// nothing.
     fn note_ready(&mut self, _ready: Readiness)
@@ -152,9 +146,6 @@ pub struct Readiness {
     /// A read that leaves room in its buffer may not have taken all that came. The client sends no
     /// more, so that the end of the input follows; or it sent urgent data, at which a read stops.
     pub is_closing: bool,
-    /// No event of the stream will be reported, so the connection can't be used: its next read
-    /// fails.
-    pub is_lost: bool,
 }
 
 impl Readiness {
@@ -163,15 +154,6 @@ impl Readiness {
         reads: false,
         writes: true,
         is_closing: false,
-        is_lost: false,
-    };
-
-    /// The state of a stream whose events cannot be watched.
-    pub const LOST: Readiness = Readiness {
-        reads: true,
-        writes: false,
-        is_closing: true,
-        is_lost: true,
     };
 
     /// Combines what is known with what was reported now.
@@ -180,7 +162,6 @@ impl Readiness {
             reads: self.reads || more.reads,
             writes: self.writes || more.writes,
             is_closing: self.is_closing || more.is_closing,
-            is_lost: self.is_lost || more.is_lost,
         }
     }
 
@@ -196,7 +177,6 @@ impl Readiness {
             reads: !took_all,
             writes: self.writes,
             is_closing: self.is_closing,
-            is_lost: self.is_lost,
         }
     }
 
@@ -211,7 +191,6 @@ impl Readiness {
             reads: self.reads,
             writes: !found_no_room,
             is_closing: self.is_closing,
-            is_lost: self.is_lost,
         }
     }
 }

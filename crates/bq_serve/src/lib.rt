@@ -19,6 +19,7 @@ pub use bq_line::line::{
 };
 pub use bq_line::{
     Door, DoorFault, FreeDoors, Listen, ListenDoor, MemDoor, OpenDoors, Opening, Refusals, TcpDoor,
+    Watcher,
 };
 pub use bq_link::{Anything, CoreEnd, Intake, IntakeInvariant, NoTicks, SeatEnd, links};
 pub use bq_lock::{Locked, LockedRun, run_locked};

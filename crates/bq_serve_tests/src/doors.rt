@@ -8,7 +8,7 @@ use crate::cases::Case;
 use crate::clients::{Client, Outcome, parts_of};
 use bq_job::{LineEnd, NoMemory};
 use bq_line::line::MemLine;
-use bq_line::{Door, DoorFault, MemDoor, Opening};
+use bq_line::{Door, DoorFault, MemDoor, Opening, Watcher};
 use std::alloc::Global;
 use std::collections::VecDeque;
 use std::sync::atomic::{AtomicU64, Ordering};
@@ -40,9 +40,13 @@ impl<'c> Door for CountedDoor<'c> {
         self.door.open()
     }
 
-    fn look(&mut self, may_have_come: bool) -> Result<Opening<MemLine>, DoorFault> {
+    fn look<W: Watcher>(
+        &mut self,
+        may_have_come: bool,
+        watcher: &W,
+    ) -> Result<Opening<MemLine>, DoorFault> {
         self.opened.fetch_add(1, Ordering::SeqCst);
-        self.door.look(may_have_come)
+        self.door.look(may_have_come, watcher)
     }
 
     fn shut(&mut self, line: MemLine, end: LineEnd) {

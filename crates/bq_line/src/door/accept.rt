@@ -2,8 +2,8 @@
 ghost use Rattle.std.specs.Prelude.{◌≡◌, OnErr, true};
 ghost use Rattle.bq_line.specs.Accepts.{ends_listener, is_listener_fault};
 
-use super::Listen;
 use super::refusals::{Met, Refusals};
+use super::{Listen, Watcher};
 use crate::line::{Connection, Socket};
 use std::io::{Eprint, ErrorKind};
 use std::rt::Clock;
@@ -83,13 +83,15 @@ pub(super) enum Accepted<S> {
     Short,
 }
 
-/// Accepts the next connection of a listener that does not wait. `is_met` is true if an error
-/// occurred since the last connection was accepted; such an error is reported once.
-pub(super) fn accept_now<R: Eprint, T: Listen>(
+/// Accepts the next connection of a listener that does not wait, and has it watched. `is_met` is
+/// true if an error occurred since the last connection was accepted; such an error is reported
+/// once, and so are many clients in a row that had disconnected.
+pub(super) fn accept_now<R: Eprint, T: Listen, W: Watcher>(
     rt: &R,
     listener: &T,
     refusals: Option<&Refusals>,
     is_met: &mut bool,
+    watcher: &W,
 ) -> io::Result<Accepted<T::Stream>>
     ensures { OnErr result (T.may_fail listener.now ≡ true) }
 {
@@ -99,9 +101,7 @@ pub(super) fn accept_now<R: Eprint, T: Listen>(
             Ok(mut stream) => {
                 // Neither can be set if the peer has disconnected.
                 if stream.set_gathers(false).is_ok() && stream.set_waits(false).is_ok() {
-                    met.end();
-                    *is_met = false;
-                    return Ok(Accepted::Came(Connection::watched(stream)));
+                    return Ok(take_watched(rt, stream, watcher, met, is_met));
                 }
             }
             Err(e) => {
@@ -123,7 +123,40 @@ pub(super) fn accept_now<R: Eprint, T: Listen>(
             }
         }
     }
+    met.note(rt, &io::Error::from(ErrorKind::ConnectionAborted));
+    *is_met = true;
     Ok(Accepted::Short)
+}
+
+// Returns the connection, which is watched from here on. One that can't be watched is closed: it
+// would never be read.
+fn take_watched<R: Eprint, S: Socket + Drop, W: Watcher>(
+    rt: &R,
+    stream: S,
+    watcher: &W,
+    mut met: Met<'_>,
+    is_met: &mut bool,
+) -> Accepted<S> {
+    match watch(&stream, watcher) {
+        Ok(()) => {
+            met.end();
+            *is_met = false;
+            Accepted::Came(Connection::watched(stream))
+        }
+        Err(e) => {
+            met.note(rt, &e);
+            *is_met = true;
+            Accepted::Short
+        }
+    }
+}
+
+// A stream without a descriptor can't be watched.
+fn watch<S: Socket, W: Watcher>(stream: &S, watcher: &W) -> io::Result<()> {
+    match stream.source() {
+        Some(fd) => watcher.watch(fd),
+        None => Err(io::Error::from(ErrorKind::Unsupported)),
+    }
 }
 
 fn meaning_of(e: &io::Error) -> NotAccepted

@@ -7,7 +7,7 @@ use super::free_doors::FreeDoors;
 use super::line_record::LineRecord;
 use super::open_doors::OpenDoors;
 use super::refusals::Refusals;
-use super::{Door, DoorFault, Listen, Opening};
+use super::{Door, DoorFault, Listen, Opening, Watcher};
 use crate::line::{BufferedLine, Connection, Line, ReadBuffer, Socket};
 use bq_job::LineEnd;
 use std::io::Eprint;
@@ -242,9 +242,10 @@ impl<'l, R: Wait + Clock + Eprint, S: Socket + Drop + Send, T: Listen<Stream = S
     }
 
     // The listener was set not to wait.
-    fn look(
+    fn look<W: Watcher>(
         &mut self,
         may_have_come: bool,
+        watcher: &W,
     ) -> Result<Opening<BufferedLine<Connection<S>>>, DoorFault>
         requires more { MayOpen self.old.is_out self.old.is_at_end }
         ensures opened { IsLookedFor ⟦<BufferedLine<Connection<S>> as Line>⟧.seen
@@ -272,6 +273,7 @@ impl<'l, R: Wait + Clock + Eprint, S: Socket + Drop + Send, T: Listen<Stream = S
             self.listener,
             self.refusals,
             &mut self.met_shortage,
+            watcher,
         ) {
             Ok(Accepted::Came(stream)) => {
                 self.tell_taken();

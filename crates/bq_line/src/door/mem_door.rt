@@ -6,7 +6,7 @@ ghost use Rattle.std.specs.Vec.{vec_capacity};
 ghost use Rattle.bq_line.specs.Doors.{IsLookedFor, IsOpened, MayOpen};
 ghost use Rattle.bq_line.specs.MemDoors.{IsFresh, line_over};
 
-use super::{Door, DoorFault, Opening};
+use super::{Door, DoorFault, Opening, Watcher};
 use crate::line::{Line, MemLine};
 use bq_job::{LineEnd, NoMemory};
 use std::alloc::Global;
@@ -119,8 +119,12 @@ impl Door for MemDoor {
         }
     }
 
-    // Its lines are never waited for.
-    fn look(&mut self, _may_have_come: bool) -> Result<Opening<MemLine>, DoorFault>
+    // Its lines are never waited for, so nothing is watched.
+    fn look<W: Watcher>(
+        &mut self,
+        _may_have_come: bool,
+        _watcher: &W,
+    ) -> Result<Opening<MemLine>, DoorFault>
         requires more { MayOpen self.old.is_out self.old.is_at_end }
         ensures opened { IsLookedFor ⟦<MemLine as Line>⟧.seen
             self.new.is_out self.new.is_at_end result }

@@ -9,7 +9,6 @@ use crate::line::{Line, Readiness, is_nothing_yet, note_fault};
 use boxcar::tag::{Names, Tag};
 use bq_job::LineFault;
 use std::marker::Model;
-use std::os::fd::RawFd;
 use std::{io, mem};
 
 /// A line over any stream. Besides the stream it keeps two flags, and records of the bytes that the
@@ -209,10 +208,6 @@ impl<S: Duplex> Line for IoLine<S> {
         self.stream.may_take()
     }
 
-    fn source(&self) -> Option<RawFd> {
-        self.stream.source()
-    }
-
     fn note_ready(&mut self, ready: Readiness)
         ensures seen { ⟦<IoLine<S> as Line>⟧.seen self.new ≡ ⟦<IoLine<S> as Line>⟧.seen self.old }
         ensures stream { MovesNothing S.remaining S.contents self.old.stream self.new.stream }
@@ -342,10 +337,6 @@ impl<S: Duplex> Line for BufferedLine<S> {
         if self.came.is_empty() && buffer.is_empty() {
             mem::swap(&mut self.came, buffer);
         }
-    }
-
-    fn source(&self) -> Option<RawFd> {
-        self.line.source()
     }
 
     fn note_ready(&mut self, ready: Readiness) {

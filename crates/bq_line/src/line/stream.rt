@@ -230,9 +230,6 @@ impl<S: Socket> Connection<S> {
         if !ready.reads {
             return Err(would_block());
         }
-        if ready.is_lost {
-            return Err(io::Error::from(ErrorKind::NotConnected));
-        }
         let came = self.stream.read(buf);
         self.ready = Some(ready.after_read(&came, buf.len()));
         came
@@ -381,10 +378,6 @@ impl<S: Socket> Duplex for Connection<S> {
             Some(ready) => ready.writes,
             None => true,
         }
-    }
-
-    fn source(&self) -> Option<RawFd> {
-        self.stream.source()
     }
 
     fn note_ready(&mut self, ready: Readiness) {

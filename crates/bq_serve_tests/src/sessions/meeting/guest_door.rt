@@ -6,7 +6,7 @@ ghost use Rattle.bq_line.specs.LineCalls.{new_line};
 use super::guest::Guest;
 use bq_job::LineEnd;
 use bq_line::line::{IoLine, Line};
-use bq_line::{Door, DoorFault, Opening};
+use bq_line::{Door, DoorFault, Opening, Watcher};
 
 /// A door where one client connects, and no other.
 #[derive(Drop)]
@@ -83,7 +83,11 @@ impl<'m> Door for GuestDoor<'m> {
         }
     }
 
-    fn look(&mut self, _may_have_come: bool) -> Result<Opening<IoLine<Guest<'m>>>, DoorFault> {
+    fn look<W: Watcher>(
+        &mut self,
+        _may_have_come: bool,
+        _watcher: &W,
+    ) -> Result<Opening<IoLine<Guest<'m>>>, DoorFault> {
         match self.coming.take() {
             Some(line) => {
                 self.is_out = true;

@@ -18,7 +18,7 @@ last_but_one (suc n) [] ys x e = absurd cc
 last_but_one (suc n) (z ∷ xs) ys x e = last_but_one n xs ys x e
 
 pub invariant_of-self : goal.invariant_of-self
-invariant_of-self c =
+invariant_of-self g c =
     let door = c.args.self.now in
     let room = rw c.requires.more.0 at door.room in
     record {
