@@ -12,6 +12,7 @@ ghost use Rattle.bq_event_loop.specs.Rows.{AreTended, KeepsRow};
 use crate::row::Row;
 use crate::turns::{ControlReads, ControlStands, News, Turn, Turns, TurnsFault};
 use accepts::Accepts;
+use bq_job::Moment;
 use bq_line::attendant::{Looked, Progress};
 use bq_line::line::{Line, ReadBuffer, Readiness};
 use bq_line::{Door, Watcher};
@@ -87,6 +88,9 @@ pub struct Poller<'r, R> {
     // keeps the buffer and gives its own in exchange. If the line ends, its door gives it back.
     buffer: ReadBuffer,
     stage: Stage,
+    // The core's latest moment, and what it was when the round's visits began.
+    moment: Moment,
+    began: Moment,
     // The current visit, if there is one.
     visit: Visit,
     is_visiting: bool,
@@ -130,7 +134,9 @@ impl<'r, R: Net + rt::Clock> Poller<'r, R> {
             queue,
             buffer,
             stage: Stage::Control,
-            visit: Visit::new(0, Part::Answers),
+            moment: 0,
+            began: 0,
+            visit: Visit::new(0, Part::Answers, 0, 0),
             is_visiting: false,
         })
     }
@@ -223,6 +229,7 @@ impl<'r, R: rt::Clock> Poller<'r, R> {
         ensures keeps { KeepsRow L.seen (door_seen D.is_out D.is_at_end D.lines_over) D.same row.old row.new }
     {
         self.queue.begin_round();
+        self.began = self.moment;
         let part = Part::first(self.queue.round());
         self.stage = Stage::Visits(part);
         self.begin_next(alloc, row, part)
@@ -240,7 +247,7 @@ impl<'r, R: rt::Clock> Poller<'r, R> {
         ensures keeps { KeepsRow L.seen (door_seen D.is_out D.is_at_end D.lines_over) D.same row.old row.new }
     {
         if self.is_visiting {
-            self.visit.note(progress);
+            self.visit.note(progress, self.moment);
             if self.goes_on(alloc, row) {
                 return self.visit.turn();
             }
@@ -263,7 +270,7 @@ impl<'r, R: rt::Clock> Poller<'r, R> {
             return self.end_part(part);
         };
         row.exchange(seat, &mut self.buffer);
-        self.visit = Visit::new(seat, part);
+        self.visit = Visit::new(seat, part, self.began, self.moment);
         self.is_visiting = true;
         if self.goes_on(alloc, row) {
             return self.visit.turn();
@@ -328,7 +335,11 @@ impl<'r, R: rt::Clock> Poller<'r, R> {
     {
         match pause {
             Pause::PartDone | Pause::IsDone => {}
-            Pause::GoesOn => self.queue.enqueue(seat),
+            // Answers that are held back for further ones would wait for the visits of all others.
+            Pause::GoesOn => {
+                self.queue.enqueue(seat);
+                row.hand_on(seat);
+            }
             // Otherwise the last answers of a batch would wait for the client's acknowledgement.
             Pause::Rests => row.hand_on(seat),
             Pause::IsFree => self.look(alloc, row, seat),
@@ -373,6 +384,7 @@ impl<'r, R: rt::Clock> Turns for Poller<'r, R> {
         row: &mut Row<L, D>,
         news: News,
     ) -> Turn {
+        self.moment = news.moment;
         match self.stage {
             Stage::Control => self.control_turn(alloc, row, news),
             Stage::ControlRead => {

@@ -50,6 +50,7 @@ pub fn serve<
     let mut news = News {
         progress: Progress::NothingToDo,
         due: None,
+        moment: core.timed.time.moment,
         control: control.stands(),
     };
     for _ in rt.forever() {
@@ -89,10 +90,12 @@ fn take_turn<
     match turn {
         Turn::Seat(seat) => {
             news.progress = serve_seat(row, core, seat, buffers, Extent::Action);
+            news.moment = core.timed.time.moment;
             false
         }
         Turn::Command(seat) => {
             news.progress = serve_seat(row, core, seat, buffers, Extent::Command);
+            news.moment = core.timed.time.moment;
             false
         }
         Turn::Control(reads) => {

@@ -5,6 +5,7 @@ ghost use Rattle.bq_event_loop.specs.Rows.{AreTended, KeepsRow};
 
 use crate::row::Row;
 use bq_host::RunFault;
+use bq_job::Moment;
 use bq_line::Door;
 use bq_line::attendant::Progress;
 use bq_line::line::Line;
@@ -57,6 +58,8 @@ pub struct News {
     /// In how many milliseconds something is due, as of the last `Turn::Time`. `None` if nothing
     /// is.
     pub due: Option<u64>,
+    /// The core's latest moment, in milliseconds.
+    pub moment: Moment,
     pub control: ControlStands,
 }
 

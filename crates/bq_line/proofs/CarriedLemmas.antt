@@ -159,7 +159,23 @@ not_yet went old seen sent link later now answer e w =
       [],
       refl,
       (
-        ends_write results.NoRoom answer (inr refl),
+        ends_write results.NoRoom answer (inr (inl refl)),
+        (refl, refl),
+        λ first f. (first, w first f, (refl, refl, (refl, refl, refl))),
+      ),
+    )
+
+pub wrote_part : {K : Type 0} (went : K → List Step → List Answer → K → Type 0) (old : SeatMachine) (seen : LineSeen) (sent : ℕ) (link : K)
+    (later : LineSeen) (now : ℕ) {action : Action} (answer : Answer)
+    → action ≡ actions.Write answer → Resumes (answer_text answer) sent seen wrotes.Part now later
+    → ComesOn went results.Part old seen sent link old later now link (actions.Write answer) action
+wrote_part went old seen sent link later now answer e w =
+    subst (ComesOn went results.Part old seen sent link old later now link (actions.Write answer)) (sym e) (
+      [],
+      [],
+      refl,
+      (
+        ends_write results.Part answer (inr (inr refl)),
         (refl, refl),
         λ first f. (first, w first f, (refl, refl, (refl, refl, refl))),
       ),

@@ -301,13 +301,17 @@ carried_on result size old new seen later actions.Read next submitted more taken
 carried_on result size old new seen later (actions.Write answer) next submitted more taken got h s =
     nothing_more size new later next submitted more taken got h.0 h.1 (by_turn result h.2)
   where
-    by_turn : (r : Progress) → IsWrittenAs r old seen answer new later next → IsOnLine size new later next submitted taken
-    by_turn results.Moved (inl m) = wrote_on size old new seen later answer next submitted taken m.0 m.1 s
-    by_turn results.Moved (inr m) = broke_on size old new seen later answer next submitted taken m.0 m.1 s
-    by_turn results.NoRoom m =
+    still_to_write : (later ≡ seen) × (next ≡ actions.Write answer) × (new ≡ old) → IsOnLine size new later next submitted taken
+    still_to_write m =
         subst (λ (a : Action). IsOnLine size new later a submitted taken) (sym m.1)
         (subst (λ (x : LineSeen). IsOnLine size new x (actions.Write answer) submitted taken) (sym m.0)
         (subst (λ (n : SeatMachine). IsOnLine size n seen (actions.Write answer) submitted taken) (sym m.2) s))
+
+    by_turn : (r : Progress) → IsWrittenAs r old seen answer new later next → IsOnLine size new later next submitted taken
+    by_turn results.Moved (inl m) = wrote_on size old new seen later answer next submitted taken m.0 m.1 s
+    by_turn results.Moved (inr m) = broke_on size old new seen later answer next submitted taken m.0 m.1 s
+    by_turn results.NoRoom m = still_to_write m
+    by_turn results.Part m = still_to_write m
     by_turn _ m = absurd m
 carried_on result size old new seen later actions.PollMail next submitted more taken got h s =
     subst (λ (xs : List Step). IsOnLine size new later next xs (taken ++ got))

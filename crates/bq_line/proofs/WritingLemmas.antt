@@ -1,13 +1,16 @@
 -- Texts that are written in several parts.
 use Rattle.std.proofs.Common.{◌≡◌, ℕ, ◌+◌, ◌-◌, ◌≤◌, Bool, true, false, nat_lt, List, [], ◌++◌, append-nil}
 use Rattle.std.proofs.Common.{refl, sym, ap, subst, ◌∙◌, arith, length, take, take_all, drop, take-add, append_assoc, if◌then◌else◌}
+use Rattle.std.proofs.Common.{◌==◌, Result, Ok, Err}
+use Rattle.std.specs.Io.{WritesAtMost}
+use Rattle.std.specs.declared.io.Error.{Error}
 use Rattle.std.proofs.lemmas.Bool.Decides.{nat_tests}
 use Rattle.std.proofs.lemmas.Grind.{common_steps}
-use Rattle.std.proofs.lemmas.List.{take-append-drop, drop-append-le, drop_all}
+use Rattle.std.proofs.lemmas.List.{length-append, take-append-drop, take-append-le, drop-append-le, drop_all}
 use Rattle.std.proofs.Math.Seq.{drop-append-add}
 use Rattle.bq_job.specs.promise.LineSteps.{LineSeen, IsBeginning}
 use Rattle.bq_job.specs.declared.line_end.LineFault.TheVariants as faults
-use Rattle.bq_line.specs.LineCalls.{with_line_fault}
+use Rattle.bq_line.specs.LineCalls.{after_write, with_line_fault}
 use Rattle.bq_line.specs.declared.buffers.Wrote.{Wrote}
 use Rattle.bq_line.specs.declared.buffers.Wrote.TheVariants as wrotes
 use Rattle.bq_line.specs.Writing.{BreaksOff, WritesOn, with_begun, with_written}
@@ -25,6 +28,36 @@ pub written_on : (old mid new : LineSeen) (bytes rest : List ℕ) (done n : ℕ)
 written_on old mid new bytes rest done n m rest_is h =
     let whole : take (length bytes - done) (drop done bytes) ≡ drop done bytes = grind (arith, common_steps) in
     rw (take-add done n bytes, ← whole, ← rest_is) (written_joined old mid new (take done bytes) (take n rest) m h)
+
+-- A write that was offered a first part of a text writes a first part of the text.
+pub offered_first : (result : Result ℕ Error) (part whole : List ℕ) (old : LineSeen) → WritesAtMost result part → IsBeginning part whole
+    → after_write result part old ≡ after_write result whole old
+offered_first (Err e) part whole old bound begins = refl
+offered_first (Ok n) part whole old bound begins =
+    let same : take n part ≡ take n whole = sym (take-append-le n part begins.0 bound) ∙ ap (take n) (sym begins.1) in
+    ap (λ bytes. if n == 0 then with_line_fault faults.Write old else record old { written = old.written ++ bytes }) same
+
+pub offered_at_most : (result : Result ℕ Error) (part whole : List ℕ) → WritesAtMost result part → IsBeginning part whole
+    → WritesAtMost result whole
+offered_at_most (Err e) part whole bound begins = tt
+offered_at_most (Ok n) part whole bound begins =
+    let long : length whole ≡ length part + length begins.0 = ap length begins.1 ∙ length-append part begins.0 in omega (arith, bound, long)
+
+-- a first piece of the middle of three parts
+pub first_of_three : (head piece body tail : List ℕ) → IsBeginning piece body → IsBeginning ((head ++ piece) ++ []) ((head ++ body) ++ tail)
+first_of_three head piece body tail begins = (
+  begins.0 ++ tail,
+  ap (λ b. (head ++ b) ++ tail) begins.1
+  ∙ ap (λ b. b ++ tail) (sym (append_assoc head piece begins.0))
+  ∙ append_assoc (head ++ piece) begins.0 tail
+  ∙ ap (λ b. b ++ (begins.0 ++ tail)) (sym (append-nil (head ++ piece))),
+)
+
+pub first_of_two : (piece body tail : List ℕ) → IsBeginning piece body → IsBeginning piece (body ++ tail)
+first_of_two piece body tail begins = (
+  begins.0 ++ tail,
+  ap (λ b. b ++ tail) begins.1 ∙ append_assoc piece begins.0 tail,
+)
 
 -- nothing more was written before the fault
 pub breaks_off : (old mid new : LineSeen) (text cut : List ℕ) → IsBeginning cut text → mid ≡ with_written cut old

@@ -38,12 +38,13 @@ IsPolledAs results.Moved old new next taken = (answer : Answer) × (taken ≡ an
 IsPolledAs results.NoMail old new next taken = (taken ≡ []) × IsMove old events.NothingYet next new
 IsPolledAs _ old new next taken = ⊥
 
--- The rest of the answer was written or cut off, or none of it was written and the action stays as
--- it is.
+-- The rest of the answer was written or cut off, or a part of it was written or there was no room,
+-- and the action stays as it is.
 abbrev pub IsWrittenAs : Progress → SeatMachine → LineSeen → Answer → SeatMachine → LineSeen → Action → Type 0
 IsWrittenAs results.Moved old seen answer new later next =
     ((later ≡ with_written (answer_text answer) seen) × IsMove old events.WriteDone next new)
     ⊎ (BreaksOff (answer_text answer) seen later × IsMove old events.WriteFault next new)
+IsWrittenAs results.Part old seen answer new later next = (later ≡ seen) × (next ≡ actions.Write answer) × (new ≡ old)
 IsWrittenAs results.NoRoom old seen answer new later next = (later ≡ seen) × (next ≡ actions.Write answer) × (new ≡ old)
 IsWrittenAs _ old seen answer new later next = ⊥
 
@@ -90,7 +91,7 @@ abbrev pub CanEnd : Progress → Action → Type 0
 CanEnd result (actions.Submit step) = (result ≡ results.Moved) ⊎ (result ≡ results.NotAccepted)
 CanEnd result actions.Read = (result ≡ results.Moved) ⊎ (result ≡ results.NoBytes)
 CanEnd result actions.PollMail = (result ≡ results.Moved) ⊎ (result ≡ results.NoMail)
-CanEnd result (actions.Write answer) = (result ≡ results.Moved) ⊎ (result ≡ results.NoRoom)
+CanEnd result (actions.Write answer) = (result ≡ results.Moved) ⊎ (result ≡ results.NoRoom) ⊎ (result ≡ results.Part)
 CanEnd result (actions.LineOver end) = result ≡ results.NothingToDo
 CanEnd result actions.Stray = result ≡ results.NothingToDo
 

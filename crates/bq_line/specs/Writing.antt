@@ -22,6 +22,7 @@ with_begun text sent line = with_written (take sent text) line
 -- How far the writing of a text got on a line that recorded `first` before any of it was written.
 abbrev pub WritesOn : List ℕ → LineSeen → Wrote → ℕ → LineSeen → Type 0
 WritesOn text first wrotes.Whole sent later = later ≡ with_written text first
+WritesOn text first wrotes.Part sent later = later ≡ with_begun text sent first
 WritesOn text first wrotes.NotYet sent later = later ≡ with_begun text sent first
 WritesOn text first wrotes.Fault sent later = BreaksOff text first later
 

@@ -47,12 +47,15 @@ pub trait Link {
         ensures went { TakesInPlace went self.old place.old result place.new self.new };
 }
 
-/// Whether an action of a seat moved something. If it moved nothing, the seat submitted no step and
-/// took no answer, and the value says what was missing.
+/// Whether an action of a seat moved something. Unless it is `Moved`, the seat submitted no step and
+/// took no answer, and the value says what remains to be done or what was missing.
 #[derive(Clone, Copy, Debug, PartialEq, Eq)]
 pub enum Progress {
     /// Something moved.
     Moved,
+    /// A part of an answer was written, and the rest remains to be written. There may be room for
+    /// more, so the seat can act again at once.
+    Part,
     /// The link did not accept the step. The same step is submitted again.
     NotAccepted,
     /// No answer has come.
@@ -66,7 +69,7 @@ pub enum Progress {
 }
 
 impl Progress {
-    /// Returns true if something moved.
+    /// Returns true if an action was carried out whole.
     pub fn has_moved(self) -> bool
         ensures { IsTrue result ↔ (self ≡ Progress.Moved) }
     {
@@ -386,10 +389,12 @@ fn leave<L: Line + Drop, K: Link>(place: &mut LinePlace<L>, link: &mut K) -> Pro
 /// after.
 ///
 /// If the action writes an answer, `sent` is the number of its bytes that were written before.
-/// Bytes for which the line has no room remain to be written.
+/// Bytes for which the line has no room remain to be written, and so do those of a long answer
+/// after the first 256 KB.
 ///
 /// The result says what moved or what was missing: a step was not accepted, there was no mail, or
-/// the line had no bytes or no room yet. The same action can then be tried again later.
+/// the line had no bytes or no room yet. The same action can then be tried again later. After a
+/// part of an answer it can be continued at once.
 pub fn carry_out<L: Line, K: Link>(
     alloc: Global,
     machine: &mut SeatMachine,
@@ -414,6 +419,7 @@ pub fn carry_out<L: Line, K: Link>(
                     machine.write_done(alloc, action);
                     Progress::Moved
                 }
+                Wrote::Part => Progress::Part,
                 Wrote::NotYet => Progress::NoRoom,
                 Wrote::Fault => {
                     *sent = 0;

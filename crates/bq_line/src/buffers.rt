@@ -3,7 +3,7 @@
 ghost use Rattle.std.specs.Prelude.{ℕ, List, [], ◌≡◌, ◌<◌, ◌≤◌, ◌+◌, ◌++◌, drop, length, take, false, true, if◌then◌else◌};
 ghost use Rattle.std.specs.Io.{ReadsAtMost, WritesAtMost};
 ghost use Rattle.std.specs.IoError.{error_kind};
-ghost use Rattle.bq_job.specs.promise.LineSteps.{LineSeen};
+ghost use Rattle.bq_job.specs.promise.LineSteps.{IsBeginning, LineSeen};
 ghost use Rattle.bq_job.specs.texts.AnswerText.{answer_text};
 ghost use Rattle.bq_line.specs.LineCalls.{after_fill, after_read, after_write, is_nothing_yet};
 ghost use Rattle.bq_line.specs.Streams.{StaysOver};
@@ -39,11 +39,17 @@ impl Buffers {
     }
 }
 
+/// How many bytes of an answer one action writes before other seats have their turn. The largest
+/// answers have many megabytes.
+const MOST_WRITTEN: usize = 262_144;
+
 /// How far the writing of a text got.
 #[derive(Clone, Copy, Debug, PartialEq, Eq)]
 pub enum Wrote {
     /// All of it is written.
     Whole,
+    /// As many bytes as one action writes are written, and there may be room for more.
+    Part,
     /// There is no room for the rest yet.
     NotYet,
     /// A write failed.
@@ -54,8 +60,8 @@ pub enum Wrote {
 /// the line.
 ///
 /// It goes out in one write if the line takes all of it. The contents of the buffers have no
-/// meaning before and after. If there is no room yet for all of it, `sent` becomes the number of bytes
-/// written so far.
+/// meaning before and after. If there is no room yet for all of it, or it is long, `sent` becomes the
+/// number of bytes written so far.
 pub fn write_answer<L: Line>(
     line: &mut L,
     answer: &Answer,
@@ -67,6 +73,7 @@ pub fn write_answer<L: Line>(
 {
     match write_text(line, answer, sent, buffers) {
         Wrote::Whole => flush(line),
+        Wrote::Part => Wrote::Part,
         Wrote::NotYet => Wrote::NotYet,
         Wrote::Fault => Wrote::Fault,
     }
@@ -177,7 +184,8 @@ fn write_joined<L: Line>(
     write_rest(line, &room[..end], sent)
 }
 
-// Writes the rest of three parts, as much at a time as one call takes.
+// Writes the rest of three parts, as much at a time as one call takes, until one action has written
+// enough.
 fn write_parts<L: Line>(
     line: &mut L,
     head: &[u8],
@@ -190,7 +198,12 @@ fn write_parts<L: Line>(
     ensures stays { StaysOver L.lies_over line.old line.new }
 {
     let mut done = *sent;
+    let enough = sent.saturating_add(MOST_WRITTEN);
     while !is_whole(head, body, tail, done) {
+        if done >= enough {
+            *sent = done;
+            return Wrote::Part;
+        }
         match write_some(line, head, body, tail, done) {
             Ok(count) => {
                 if count == 0 {
@@ -232,9 +245,24 @@ fn write_some<L: Line>(
     ensures stays { StaysOver L.lies_over line.old line.new }
 {
     if done < head.len() {
-        line.write_together(behind(done, head), body, tail)
+        write_first(line, behind(done, head), body, tail)
     } else {
         write_of_two(line, body, tail, done - head.len())
+    }
+}
+
+// Makes one write from three parts. One with a long body takes a first piece of it.
+fn write_first<L: Line>(line: &mut L, head: &[u8], body: &[u8], tail: &[u8]) -> io::Result<usize>
+    requires { 0 < length head.now }
+    ensures bound { WritesAtMost result (head.now ++ body.now ++ tail.now) }
+    ensures seen { L.seen line.new
+        ≡ after_write result (head.now ++ body.now ++ tail.now) (L.seen line.old) }
+    ensures stays { StaysOver L.lies_over line.old line.new }
+{
+    if body.len() > MOST_WRITTEN {
+        line.write_together(head, first_piece(body), &[])
+    } else {
+        line.write_together(head, body, tail)
     }
 }
 
@@ -247,10 +275,32 @@ fn write_of_two<L: Line>(line: &mut L, body: &[u8], tail: &[u8], done: usize) ->
     ensures stays { StaysOver L.lies_over line.old line.new }
 {
     if done < body.len() {
-        line.write_together(behind(done, body), tail, &[])
+        write_body(line, behind(done, body), tail)
     } else {
         line.write(behind(done - body.len(), tail))
     }
+}
+
+// Makes one write from two parts. One from a long body takes a first piece of it.
+fn write_body<L: Line>(line: &mut L, body: &[u8], tail: &[u8]) -> io::Result<usize>
+    requires { 0 < length body.now }
+    ensures bound { WritesAtMost result (body.now ++ tail.now) }
+    ensures seen { L.seen line.new ≡ after_write result (body.now ++ tail.now) (L.seen line.old) }
+    ensures stays { StaysOver L.lies_over line.old line.new }
+{
+    if body.len() > MOST_WRITTEN {
+        line.write(first_piece(body))
+    } else {
+        line.write_together(body, tail, &[])
+    }
+}
+
+// As many bytes of a text as one action writes.
+fn first_piece(bytes: &[u8]) -> &[u8]
+    ensures begins { IsBeginning result.now bytes.now }
+    ensures some { 0 < length bytes.now → 0 < length result.now }
+{
+    &bytes[..bytes.len().min(MOST_WRITTEN)]
 }
 
 // The bytes after the first `count`.

@@ -111,7 +111,7 @@ impl<L: Line + Drop, D: Door<Line = L> + Drop> Post<D> {
 fn yield_after(progress: Progress) {
     match progress {
         Progress::NotAccepted | Progress::NoBytes | Progress::NoRoom => thread::yield_now(),
-        Progress::Moved | Progress::NoMail | Progress::NothingToDo => {}
+        Progress::Moved | Progress::Part | Progress::NoMail | Progress::NothingToDo => {}
     }
 }
 

@@ -92,7 +92,7 @@ fn pause_after(progress: Progress, awaits_line: bool) -> u64 {
         Progress::NotAccepted => INTAKE_REST,
         Progress::NoBytes => rest_without_bytes(awaits_line),
         Progress::NoRoom => LINE_REST,
-        Progress::Moved | Progress::NoMail | Progress::NothingToDo => 0,
+        Progress::Moved | Progress::Part | Progress::NoMail | Progress::NothingToDo => 0,
     }
 }
 

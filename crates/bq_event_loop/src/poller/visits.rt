@@ -2,6 +2,7 @@
 //! seat does without waiting, before other seats have their turn.
 
 use crate::turns::Turn;
+use bq_job::Moment;
 use bq_line::attendant::{Attendant, Progress};
 use bq_line::line::Line;
 use std::alloc::{AllocError, Global};
@@ -130,6 +131,10 @@ impl SeatQueue {
 /// The largest number of actions in a visit.
 const MOST: u32 = 64;
 
+/// How long the visits of a round go on with further commands, in milliseconds of the core's moment.
+/// The core reads its clock when it takes a step, so this is no limit for a single step.
+const LONGEST: Moment = 2;
+
 /// How many actions a turn for a whole command counts as, so that a visit serves 32 commands that
 /// came together.
 const COMMAND: u32 = 2;
@@ -187,18 +192,28 @@ pub struct Visit {
     part: Part,
     // How many more actions it may do.
     left: u32,
+    // From which moment on it begins no further command.
+    ends: Moment,
+    // Whether it began after that moment, and whether its last turn ended after it.
+    is_late: bool,
+    is_over: bool,
     // The result of its last action, and how many of its last actions moved nothing.
     last: Progress,
     unmoved: u32,
 }
 
 impl Visit {
-    /// Returns a new visit.
-    pub fn new(seat: usize, part: Part) -> Visit {
+    /// Returns a visit that begins at the moment `now`, in a round that began at the moment
+    /// `began`.
+    pub fn new(seat: usize, part: Part, began: Moment, now: Moment) -> Visit {
+        let ends = began.saturating_add(LONGEST);
         Visit {
             seat,
             part,
             left: MOST,
+            ends,
+            is_late: now >= ends,
+            is_over: false,
             last: Progress::Moved,
             unmoved: 0,
         }
@@ -209,8 +224,13 @@ impl Visit {
         self.seat
     }
 
-    /// Returns the next turn of its seat. In the last part of a round it is a whole command.
+    /// Returns the next turn of its seat. In the last part of a round it is a whole command. If the
+    /// time of the round is over, it is one action, so that after an answer is written the other
+    /// seats have their turn.
     pub fn turn(&self) -> Turn {
+        if self.is_late {
+            return Turn::Seat(self.seat);
+        }
         match self.part {
             Part::Answers => Turn::Command(self.seat),
             Part::Reads | Part::Steps => Turn::Seat(self.seat),
@@ -225,9 +245,14 @@ impl Visit {
         }
     }
 
-    /// Notes another turn, and the result of its last action.
-    pub fn note(&mut self, progress: Progress) {
-        self.left = self.left.saturating_sub(self.cost());
+    /// Notes another turn, the result of its last action, and the core's moment after it. A part of
+    /// a long answer ends the visit.
+    pub fn note(&mut self, progress: Progress, moment: Moment) {
+        self.left = match progress {
+            Progress::Part => 0,
+            _ => self.left.saturating_sub(self.cost()),
+        };
+        self.is_over = moment >= self.ends;
         self.last = progress;
         self.unmoved = if progress.has_moved() {
             0
@@ -262,11 +287,17 @@ impl Visit {
             Some(Pause::Rests)
         } else if self.is_stuck() {
             Some(self.rest(seat))
-        } else if self.left == 0 {
+        } else if self.left == 0 || self.ends_by_time(seat) {
             Some(Pause::GoesOn)
         } else {
             None
         }
+    }
+
+    // The time of the round is over, and the next action would begin a further command. A seat at
+    // which nothing moved rests soon.
+    fn ends_by_time<L: Line + Drop>(&self, seat: &Attendant<L>) -> bool {
+        self.is_over && self.unmoved == 0 && !seat.writes()
     }
 
     // If nothing moves, it rests, unless a step was rejected and is submitted again, or a call of
@@ -283,7 +314,7 @@ impl Visit {
     // mail and reads: if neither moves anything, it rests.
     fn is_stuck(&self) -> bool {
         match self.last {
-            Progress::Moved => false,
+            Progress::Moved | Progress::Part => false,
             Progress::NotAccepted | Progress::NoRoom => true,
             Progress::NoMail | Progress::NoBytes | Progress::NothingToDo => self.unmoved > 1,
         }

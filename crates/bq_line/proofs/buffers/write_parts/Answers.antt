@@ -5,24 +5,24 @@ use Rattle.bq_line.proofs.buffers.write_parts.Goals as goal
 
 pub returns-then-count-eq0-clause-text : goal.returns-then-count-eq0-clause-text
 returns-then-count-eq0-clause-text g c = λ first e.
-    breaks_off first _ _ _ _ (take_begins c.loop-line.done (c.args.head.now ++ c.args.body.now ++ c.args.tail.now))
-    (c.loop-line.invariant.seen first e) (rw c.if-count-eq0.true at c.in-Ok.ensures.seen)
+    breaks_off first _ _ _ _ (take_begins c.loop-sent.done (c.args.head.now ++ c.args.body.now ++ c.args.tail.now))
+    (c.loop-sent.invariant.seen first e) (rw c.if-count-eq0.true at c.in-Ok.ensures.seen)
 
-pub loop-line-preserved : goal.loop-line-preserved
-loop-line-preserved g c =
+pub loop-sent-preserved : goal.loop-sent-preserved
+loop-sent-preserved g c =
     let some : (c.in-Ok.count == 0) ≡ false = grind (arith, nat_tests, c.if-count-eq0.false) in
     record {
-      seen = λ first e. written_from first _ _ (c.args.head.now ++ c.args.body.now ++ c.args.tail.now) c.loop-line.done c.in-Ok.count
-          (c.loop-line.invariant.seen first e) (rw some at c.in-Ok.ensures.seen);
-      stays = λ first over. c.in-Ok.ensures.stays first (c.loop-line.invariant.stays first over);
+      seen = λ first e. written_from first _ _ (c.args.head.now ++ c.args.body.now ++ c.args.tail.now) c.loop-sent.done c.in-Ok.count
+          (c.loop-sent.invariant.seen first e) (rw some at c.in-Ok.ensures.seen);
+      stays = λ first over. c.in-Ok.ensures.stays first (c.loop-sent.invariant.stays first over);
     }
 
 pub returns-in-Err-clause-text : goal.returns-in-Err-clause-text
 returns-in-Err-clause-text g c = λ first e.
-    stops (c.args.head.now ++ c.args.body.now ++ c.args.tail.now) _ _ first c.loop-line.done _ _
-    (c.loop-line.invariant.seen first e) c.after_error.ensures c.in-Err.ensures.seen
+    stops (c.args.head.now ++ c.args.body.now ++ c.args.tail.now) _ _ first c.loop-sent.done _ _
+    (c.loop-sent.invariant.seen first e) c.after_error.ensures c.in-Err.ensures.seen
 
 pub returns-clause-text : goal.returns-clause-text
 returns-clause-text g c = λ first e.
-    whole_on (c.args.head.now ++ c.args.body.now ++ c.args.tail.now) _ first c.loop-line.done
-    (c.is_whole.ensures.whole c.loop-line-test.false) (c.loop-line.invariant.seen first e)
+    whole_on (c.args.head.now ++ c.args.body.now ++ c.args.tail.now) _ first c.loop-sent.done
+    (c.is_whole.ensures.whole c.loop-sent-test.false) (c.loop-sent.invariant.seen first e)
