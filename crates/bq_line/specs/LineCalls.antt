@@ -19,6 +19,15 @@ is_nothing_yet kinds.TimedOut = true
 is_nothing_yet kinds.Interrupted = true
 is_nothing_yet _ = false
 
+abbrev pub is_would_block : ErrorKind → Bool
+is_would_block kinds.WouldBlock = true
+is_would_block _ = false
+
+-- The call found no bytes, or no room: the system reports when there are some.
+abbrev pub found_nothing : Result ℕ Error → Bool
+found_nothing (Ok n) = false
+found_nothing (Err e) = is_would_block (error_kind e)
+
 -- the first fault is kept
 abbrev pub first_fault : Option LineFault → LineFault → Option LineFault
 first_fault None fault = Some fault

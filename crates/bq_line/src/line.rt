@@ -1,10 +1,10 @@
 //! Lines of bytes, each to one client and back, and what is known of the stream of a line that
 //! never waits: whether a read or a write is worth a system call.
-ghost use Rattle.std.specs.Prelude.{◌≡◌, ◌≤◌, ◌<◌, ℕ, List, length, min, take, ◌++◌};
+ghost use Rattle.std.specs.Prelude.{◌≡◌, ◌≤◌, ◌<◌, ℕ, List, length, min, not, take, ◌++◌};
 ghost use Rattle.std.specs.Io.{ReadsAtMost, WritesAtMost};
 ghost use Rattle.std.specs.IoError.{error_kind};
 ghost use Rattle.bq_job.specs.promise.LineSteps.{LineSeen};
-ghost use Rattle.bq_line.specs.LineCalls.{after_fill, after_flush, after_read, after_take, after_write, first_fault, is_nothing_yet};
+ghost use Rattle.bq_line.specs.LineCalls.{after_fill, after_flush, after_read, after_take, after_write, first_fault, found_nothing, is_nothing_yet};
 ghost use Rattle.bq_line.specs.Streams.{StaysOver, StreamSeen};
 
 pub use io_line::{BufferedLine, ByteRecord, IoLine};
@@ -171,7 +171,7 @@ impl Readiness {
     pub fn after_read(self, came: &io::Result<usize>, room: usize) -> Readiness {
         let took_all = match came {
             Ok(count) => *count < room && !self.is_closing,
-            Err(e) => e.kind() == ErrorKind::WouldBlock,
+            Err(_) => found_nothing(came),
         };
         Readiness {
             reads: !took_all,
@@ -182,16 +182,29 @@ impl Readiness {
 
     /// Returns what is known after a write. A write that was interrupted left the room as it was,
     /// and has to be repeated.
-    pub fn after_write(self, took: &io::Result<usize>) -> Readiness {
-        let found_no_room = match took {
-            Ok(_) => false,
-            Err(e) => e.kind() == ErrorKind::WouldBlock,
-        };
+    pub fn after_write(self, took: &io::Result<usize>) -> Readiness
+        ensures room { result.writes ≡ not (found_nothing took.now) }
+        ensures rest { result ≡ record self { writes = result.writes } }
+    {
+        let found_no_room = found_nothing(took);
         Readiness {
             reads: self.reads,
             writes: !found_no_room,
             is_closing: self.is_closing,
         }
+    }
+}
+
+// Returns true if a call found no bytes or no room.
+fn found_nothing(came: &io::Result<usize>) -> bool
+    ensures { result ≡ found_nothing came.now }
+{
+    match came {
+        Ok(_) => false,
+        Err(e) => match e.kind() {
+            ErrorKind::WouldBlock => true,
+            _ => false,
+        },
     }
 }
 
