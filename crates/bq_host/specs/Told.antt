@@ -1,9 +1,10 @@
 -- What is logged about the core's steps.
-use Rattle.std.specs.Prelude.{ℕ, ◌-◌, Bool, true, false, Option, None, Some, nat_le, if◌then◌else◌}
+use Rattle.std.specs.Prelude.{ℕ, ◌≡◌, ◌||◌, ◌-◌, Bool, true, false, Option, None, Some, nat_le, if◌then◌else◌}
 use Rattle.bq_job.specs.declared.refusal.Refusal.TheVariants as refusals
 use Rattle.bq_job.specs.declared.request.Request.TheVariants as requests
 use Rattle.bq_job.specs.declared.step.Step.{Step}
 use Rattle.bq_job.specs.declared.step.Step.TheVariants as steps
+use Rattle.bq_core_api.specs.Outbox.{Outbox}
 use Rattle.bq_line.specs.declared.clock.Notice.{Notice}
 use Rattle.bq_line.specs.declared.clock.Notice.TheVariants as notices
 use Rattle.bq_host.specs.declared.notices.Concern.{Concern}
@@ -36,3 +37,7 @@ told_after concerns.Put true at told = after_refusal told.refused at told
 told_after concerns.Put false at told = (None, after_put told.refused at told)
 told_after concerns.Other true at told = after_refusal told.refused at told
 told_after concerns.Other false at told = (None, told)
+
+-- The new state of the log after a step with these answers, at this moment.
+abbrev pub HasLogged : Concern → Outbox → ℕ → Notices → Notices → Type 0
+HasLogged concern outs at told new = new ≡ (told_after concern (outs.left_out || outs.unshared) at told).1

@@ -5,6 +5,7 @@ ghost use Rattle.bq_job.specs.machine.Machine.{new_machine};
 ghost use Rattle.bq_core_api.specs.Limits.{are_in_range};
 ghost use Rattle.bq_core_api.specs.Cost.{IsLookWithin};
 ghost use Rattle.bq_host.specs.Compared.{LooksOnce};
+ghost use Rattle.bq_host.specs.Told.{HasLogged, concern_of};
 ghost use Rattle.bq_host.specs.Timed.{HasHeard, HearsDue, IsNewTimed, IsReady, LooksAndSteps, OnlyHears, PassesOver, TakesStep};
 
 use crate::fault::RunFault;
@@ -124,6 +125,10 @@ impl<C: Clock + Drop, K: QueueCore + Drop> TimedCore<C, K> {
         requires ready { IsReady K.machine self.old }
         ensures ready { IsReady K.machine self.new }
         ensures taken { TakesStep C.given K.machine K.comparisons self.old seat what.now self.new }
+        // What was logged before decides what is logged now, and so does whether an allocation of
+        // this step failed.
+        ensures told { HasLogged (concern_of what.now) self.new.outs self.new.time.moment
+            self.old.notices self.new.notices }
     {
         let concern = concern_of(what);
         self.step(seat, what);
@@ -134,6 +139,7 @@ impl<C: Clock + Drop, K: QueueCore + Drop> TimedCore<C, K> {
     fn step(&mut self, seat: Seat, what: &Step)
         requires ready { IsReady K.machine self.old }
         ensures ready { IsReady K.machine self.new }
+        ensures notices { self.new.notices ≡ self.old.notices }
         ensures taken { TakesStep C.given K.machine K.comparisons self.old seat what.now self.new }
     {
         let _reading = self.time.hear();
@@ -144,7 +150,9 @@ impl<C: Clock + Drop, K: QueueCore + Drop> TimedCore<C, K> {
 
     // Logs through the clock what has to be reported about the last step.
     fn tell(&mut self, concern: Concern)
-        ensures { self.new ≡ record self.old { notices = self.new.notices } }
+        ensures rest { self.new ≡ record self.old { notices = self.new.notices } }
+        ensures told { HasLogged concern self.old.outs self.old.time.moment
+            self.old.notices self.new.notices }
     {
         let is_refused = self.outs.left_out() || self.outs.unshared();
         if let Some(notice) = self.notices.after(concern, is_refused, self.time.moment) {
