@@ -15,5 +15,6 @@ mod loop_core;
 mod poller;
 mod row;
 mod run;
+mod seat_queue;
 mod serve;
 mod turns;

@@ -10,6 +10,7 @@ ghost use Rattle.bq_line.specs.Tending.{door_seen};
 ghost use Rattle.bq_event_loop.specs.Rows.{AreTended, KeepsRow};
 
 use crate::row::Row;
+use crate::seat_queue::SeatQueue;
 use crate::turns::{ControlReads, ControlStands, News, Turn, Turns, TurnsFault};
 use accepts::Accepts;
 use bq_job::Moment;
@@ -26,7 +27,7 @@ use std::net::Net;
 use std::os::fd::RawFd;
 use std::rt;
 use std::time::Duration;
-use visits::{Part, Pause, SeatQueue, Visit};
+use visits::{Part, Pause, Visit};
 
 mod accepts;
 mod control_watch;

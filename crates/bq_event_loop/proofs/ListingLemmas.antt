@@ -1,0 +1,135 @@
+-- Seats that enter and leave the lists of an event loop.
+use Rattle.std.proofs.Common.{ℕ, zero, suc, ◌≡◌, ◌≢◌, ◌⊎◌, inl, inr, ◌+◌, ◌-◌, ◌≤◌, ◌<◌, ◌==◌, true, false, List, [], ◌∷◌, ◌++◌, length, replicate, slice_set, slice_index_or, refl, sym, ap, ◌∙◌, arith, subst, append_assoc, append-nil}
+use Rattle.std.specs.List.{count_by}
+use Rattle.std.proofs.lemmas.Grind.{common_steps}
+use Rattle.std.proofs.lemmas.List.{get_or-replicate, get_or-set_same, get_or_past, length-replicate}
+use Rattle.std.proofs.lemmas.List.Folds.{sum_by-replicate}
+use Rattle.std.proofs.lemmas.List.Sums.{sum_by-cons}
+use Rattle.std.proofs.lemmas.Bool.{cases_lt}
+use Rattle.std.proofs.lemmas.Bool.Decides.{eqb_tells}
+use Rattle.bq_event_loop.proofs.MarkLemmas.{has_mark, left, marked, none_marked, one_if, stayed, within}
+use Rattle.bq_event_loop.specs.Listings.{AreMarked, IsDisjoint, falling, is_free, is_queued}
+use Rattle.bq_event_loop.specs.Marks.{HasMarks, times}
+use Rattle.bq_event_loop.specs.declared.seat_queue.Listed.{Listed}
+use Rattle.bq_event_loop.specs.declared.seat_queue.Listed.TheVariants as lists
+
+queued_is : (y : Listed) → is_queued y ≡ true → y ≡ lists.Queued
+queued_is lists.Queued is = refl
+queued_is lists.Nowhere is = absurd cc
+queued_is lists.Free is = absurd cc
+
+free_is : (y : Listed) → is_free y ≡ true → y ≡ lists.Free
+free_is lists.Free is = refl
+free_is lists.Nowhere is = absurd cc
+free_is lists.Queued is = absurd cc
+
+-- The first of the queue leaves.
+pub left_queue : (s : ℕ) (queue free : List ℕ) (marks : List Listed) → AreMarked (s ∷ queue) free marks
+    → AreMarked queue free (slice_set marks s lists.Nowhere)
+left_queue s queue free marks are =
+    let below = within is_queued lists.Nowhere [] queue marks s refl are.0 in
+    let is = queued_is _ (marked is_queued lists.Nowhere [] queue marks s are.0) in (
+      left is_queued lists.Nowhere [] queue marks s lists.Nowhere are.0 below refl,
+      stayed is_free lists.Nowhere free marks s lists.Nowhere are.1 below (ap is_free is),
+    )
+
+-- The last of the free seats leaves.
+pub left_free : (s : ℕ) (queue free : List ℕ) (marks : List Listed) → AreMarked queue (free ++ s ∷ []) marks
+    → AreMarked queue free (slice_set marks s lists.Nowhere)
+left_free s queue free marks are =
+    let below = within is_free lists.Nowhere free [] marks s refl are.1 in
+    let is = free_is _ (marked is_free lists.Nowhere free [] marks s are.1) in
+    let less : HasMarks is_free lists.Nowhere (free ++ []) (slice_set marks s lists.Nowhere)
+    = left is_free lists.Nowhere free [] marks s lists.Nowhere are.1 below refl in (
+      stayed is_queued lists.Nowhere queue marks s lists.Nowhere are.0 below (ap is_queued is),
+      subst (λ z. HasMarks is_free lists.Nowhere z (slice_set marks s lists.Nowhere)) (append-nil free) less,
+    )
+
+-- No seat is in both lists, or twice in one.
+pub disjoint : (queue free : List ℕ) (marks : List Listed) (round at : ℕ) → AreMarked queue free marks
+    → IsDisjoint (record { seats = length marks; queue = queue; free = free; round = round; at = at })
+disjoint queue free marks round at are = record { once = once; within = beyond } where
+  most : (y : Listed) → one_if (is_queued y) + one_if (is_free y) ≤ 1
+  most lists.Nowhere = omega arith
+  most lists.Queued = omega arith
+  most lists.Free = omega arith
+
+  once : (seat : ℕ) → times seat queue + times seat free ≤ 1
+  once seat = omega (arith, are.0.each seat, are.1.each seat, most (slice_index_or marks seat lists.Nowhere))
+
+  beyond : (seat : ℕ) → length marks ≤ seat → times seat queue + times seat free ≡ 0
+  beyond seat past =
+      let none : slice_index_or marks seat lists.Nowhere ≡ lists.Nowhere = get_or_past marks seat lists.Nowhere past in
+      let no : has_mark is_queued lists.Nowhere marks seat ≡ 0 = ap (λ z. one_if (is_queued z)) none in
+      let nor : has_mark is_free lists.Nowhere marks seat ≡ 0 = ap (λ z. one_if (is_free z)) none in
+      omega (arith, are.0.each seat, are.1.each seat, no, nor)
+
+-- A free seat that was taken is free no more.
+pub gone : (s : ℕ) (queue free : List ℕ) (marks : List Listed) → AreMarked queue (free ++ s ∷ []) marks → times s free ≡ 0
+gone s queue free marks are =
+    let below = within is_free lists.Nowhere free [] marks s refl are.1 in
+    let after = left_free s queue free marks are in
+    after.1.each s ∙ ap (λ z. one_if (is_free z)) (get_or-set_same marks s lists.Nowhere lists.Nowhere below)
+
+-- the largest number leaves
+falling_next : (n m : ℕ) → n ≡ suc m → falling n ≡ m ∷ falling m
+falling_next n m is = ap falling is
+
+pub falling_more : (n k : ℕ) (xs : List ℕ) → k < n → falling n ≡ xs ++ falling (n - k)
+    → falling n ≡ (xs ++ (n - 1 - k) ∷ []) ++ falling (n - (k + 1))
+falling_more n k xs below is =
+    let next : falling (n - k) ≡ (n - 1 - k) ∷ falling (n - 1 - k) = falling_next (n - k) (n - 1 - k) (omega (arith, below)) in
+    let rest : n - 1 - k ≡ n - (k + 1) = omega arith in
+    is ∙ ap (λ z. xs ++ z) next ∙ ap (λ z. xs ++ (n - 1 - k) ∷ falling z) rest
+    ∙ sym (append_assoc xs ((n - 1 - k) ∷ []) (falling (n - (k + 1))))
+
+length_falling : (n : ℕ) → length (falling n) ≡ n
+length_falling zero = refl
+length_falling (suc n) = ap suc (length_falling n)
+
+-- each number below n is once in `falling n`
+falls_never : (n t : ℕ) → n ≤ t → times t (falling n) ≡ 0
+falls_never zero t past = refl
+falls_never (suc n) t past = by (falls_never n t (omega (arith, past))) (eqb_tells n t) where
+  by : times t (falling n) ≡ 0 → ((n == t) ≡ true) × (n ≡ t) ⊎ ((n == t) ≡ false) × (n ≢ t) → times t (falling (suc n)) ≡ 0
+  by never (inl (_, same)) = absurd (omega (arith, same, past))
+  by never (inr (test, _)) =
+      let head = sum_by-cons (λ x. one_if (x == t)) n (falling n) in
+      let none : one_if (n == t) ≡ 0 = ap one_if test in
+      omega (arith, head, none, never)
+
+falls_once : (n t : ℕ) → t < n → times t (falling n) ≡ 1
+falls_once zero t below = absurd (omega (arith, below))
+falls_once (suc n) t below = by (falls_once n t) (eqb_tells n t) where
+  by : (t < n → times t (falling n) ≡ 1) → ((n == t) ≡ true) × (n ≡ t) ⊎ ((n == t) ≡ false) × (n ≢ t) → times t (falling (suc n)) ≡ 1
+  by once (inl (test, same)) =
+      let head = sum_by-cons (λ x. one_if (x == t)) n (falling n) in
+      let one : one_if (n == t) ≡ 1 = ap one_if test in
+      omega (arith, head, one, falls_never n t (omega (arith, same)))
+  by once (inr (test, differs)) =
+      let head = sum_by-cons (λ x. one_if (x == t)) n (falling n) in
+      let none : one_if (n == t) ≡ 0 = ap one_if test in
+      omega (arith, head, none, once (omega (arith, below, differs)))
+
+-- All seats are free at first.
+all_marked : (n : ℕ) → AreMarked [] (falling n) (replicate n lists.Free)
+all_marked n = (none_marked is_queued lists.Nowhere n lists.Free refl refl, record { each = each; many = many }) where
+  at : (t : ℕ) → (t < n) ⊎ (n ≤ t) → times t (falling n) ≡ has_mark is_free lists.Nowhere (replicate n lists.Free) t
+  at t (inl below) =
+      falls_once n t below ∙ sym (ap (λ z. one_if (is_free z)) (get_or-replicate n t lists.Free lists.Nowhere below))
+  at t (inr past) =
+      falls_never n t past
+      ∙ sym (ap (λ z. one_if (is_free z)) (get_or_past (replicate n lists.Free) t lists.Nowhere
+      (omega (arith, past, length-replicate n lists.Free))))
+
+  each : (t : ℕ) → times t (falling n) ≡ has_mark is_free lists.Nowhere (replicate n lists.Free) t
+  each t = at t (cases_lt t n)
+
+  many : length (falling n) ≡ count_by is_free (replicate n lists.Free)
+  many = length_falling n ∙ grind (arith, common_steps, sum_by-replicate (λ x. one_if (is_free x)) n lists.Free)
+
+pub new_marked : (n : ℕ) (queue free : List ℕ) (marks : List Listed) → queue ≡ [] → free ≡ falling n → marks ≡ replicate n lists.Free
+    → AreMarked queue free marks
+new_marked n queue free marks empty all same =
+    subst (λ q. AreMarked q free marks) (sym empty)
+    (subst (λ f. AreMarked [] f marks) (sym all) (subst (λ m. AreMarked [] (falling n) m) (sym same) (all_marked n)))
