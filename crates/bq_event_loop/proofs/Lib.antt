@@ -1,4 +1,5 @@
 mod ControlLemmas
+mod DueLemmas
 mod ListingLemmas
 mod LoopCoreLemmas
 mod LoopSeatLemmas
@@ -6,3 +7,4 @@ mod MarkLemmas
 mod RowLemmas
 mod ServingLemmas
 mod SessionsLemmas
+mod WakeLemmas

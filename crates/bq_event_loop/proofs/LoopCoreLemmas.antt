@@ -18,6 +18,8 @@ use Rattle.bq_line.specs.GivenReadings.{GaveReadings}
 use Rattle.bq_job.specs.declared.settings.Settings.{Settings}
 use Rattle.bq_host.specs.MailStates.{IsInOrder, IsSorted}
 use Rattle.bq_event_loop.specs.declared.loop_core.LoopCore.{LoopCore}
+use Rattle.bq_event_loop.specs.WakeLists.{Wakes}
+use Rattle.bq_event_loop.proofs.WakeLemmas.{wakes_none, wakes_same, wakes_then}
 use Rattle.bq_host.proofs.{TimedWentLemmas.{by_then}, WentLemmas.{gave_none, seat_none, seat_sorted}}
 
 -- The core of a loop is in order if its machine is ready and its marks about answers are right.
@@ -34,24 +36,33 @@ order_ready machine compared first last ready settings mails none o = record {
 
 pub went_none : {C K : Type 0} (machine : K → Machine) (compared : K → ℕ) (given : C → List (Option ℕ) → C → Type 0) (seat : ℕ)
     (core : LoopCore C K) → WentAt machine compared given seat core [] [] core
-went_none machine compared given seat core = ([], gave_none given core.timed.time.clock, seat_none (state_of machine compared core) seat)
+went_none machine compared given seat core = (
+  ([], gave_none given core.timed.time.clock, seat_none (state_of machine compared core) seat),
+  wakes_none core.mails.items core.woken,
+)
 
 pub went_then : {C K : Type 0} (machine : K → Machine) (compared : K → ℕ) (given : C → List (Option ℕ) → C → Type 0) (seat other : ℕ)
     (first next last : LoopCore C K) (submitted more : List Step) (taken later : List Answer)
     → other ≡ seat → WentAt machine compared given seat first submitted taken next
     → WentAt machine compared given other next more later last
     → WentAt machine compared given seat first (submitted ++ more) (taken ++ later) last
-went_then machine compared given seat other first next last submitted more taken later same a b =
-    by_then given seat other first.timed.time.clock next.timed.time.clock last.timed.time.clock (state_of machine compared first)
-    (state_of machine compared next) (state_of machine compared last) submitted more taken later same a b
+went_then machine compared given seat other first next last submitted more taken later same a b = (
+  by_then given seat other first.timed.time.clock next.timed.time.clock last.timed.time.clock (state_of machine compared first)
+      (state_of machine compared next) (state_of machine compared last) submitted more taken later same a.0 b.0,
+  wakes_then first.mails.items next.mails.items last.mails.items first.woken next.woken last.woken a.1 b.1,
+)
 
 pub went_sorted : {C K : Type 0} (machine : K → Machine) (compared : K → ℕ) (given : C → List (Option ℕ) → C → Type 0) (seat : ℕ)
     (first last : LoopCore C K) → IsSorted (state_of machine compared first) (state_of machine compared last)
-    → last.timed.time.clock ≡ first.timed.time.clock → WentAt machine compared given seat first [] [] last
-went_sorted machine compared given seat first last s same = (
-  [],
-  subst (λ c. GaveReadings given first.timed.time.clock [] c) (sym same) (gave_none given first.timed.time.clock),
-  seat_sorted (state_of machine compared first) (state_of machine compared last) seat s,
+    → last.timed.time.clock ≡ first.timed.time.clock → Wakes first.mails.items last.mails.items first.woken last.woken
+    → WentAt machine compared given seat first [] [] last
+went_sorted machine compared given seat first last s same wakes = (
+  (
+    [],
+    subst (λ c. GaveReadings given first.timed.time.clock [] c) (sym same) (gave_none given first.timed.time.clock),
+    seat_sorted (state_of machine compared first) (state_of machine compared last) seat s,
+  ),
+  wakes,
 )
 
 -- If no tick was taken, no answer was given.
@@ -62,6 +73,14 @@ none_over {C} {K} machine compared given old new (looked, l, rest) = elim rest [
   | inr h ↦ ap (λ (x : TimedCore C K). x.outs) h.2 ∙ l.outs
 ]
 
+-- If no tick was taken, the core represents the same machine.
+pub machine_over : {C K : Type 0} (machine : K → Machine) (compared : K → ℕ) (given : C → List (Option ℕ) → C → Type 0)
+    (old new : TimedCore C K) → PassesOver given machine compared old new → machine new.core ≡ machine old.core
+machine_over {C} {K} machine compared given old new (looked, l, rest) = elim rest [
+  | inl e ↦ ap (λ (x : TimedCore C K). machine x.core) e ∙ l.same
+  | inr h ↦ ap (λ (x : TimedCore C K). machine x.core) h.2 ∙ l.same
+]
+
 -- All answers at the core of a loop are still there, in some place.
 pub went_still : {C K : Type 0} (machine : K → Machine) (compared : K → ℕ) (given : C → List (Option ℕ) → C → Type 0) (seat : ℕ)
     (first last : LoopCore C K)
@@ -69,8 +88,8 @@ pub went_still : {C K : Type 0} (machine : K → Machine) (compared : K → ℕ)
     → (state_of machine compared last).pending ≡ (state_of machine compared first).pending
     → last.timed.time.moment ≡ first.timed.time.moment → last.timed.outs.most ≡ first.timed.outs.most
     → last.timed.is_due_known ≡ first.timed.is_due_known → last.timed.due ≡ first.timed.due → last.timed.time.clock ≡ first.timed.time.clock
-    → WentAt machine compared given seat first [] [] last
-went_still machine compared given seat first last core mails pending heard most known due clock =
+    → last.woken ≡ first.woken → WentAt machine compared given seat first [] [] last
+went_still machine compared given seat first last core mails pending heard most known due clock woken =
     went_sorted machine compared given seat first last (record {
       core = ap machine core;
       heard = heard;
@@ -82,7 +101,7 @@ went_still machine compared given seat first last core mails pending heard most 
       waiting_is = λ t below.
           ap (λ ms. slice_index_or ms.items t [] ++ answers_to t (state_of machine compared last).pending) mails
           ∙ ap (λ (xs : List GivenAnswer). slice_index_or first.mails.items t [] ++ answers_to t xs) pending;
-    }) clock
+    }) clock (wakes_same first.mails.items last.mails.items first.woken last.woken (ap (λ ms. ms.items) mails) woken)
 
 pub order_woken : {C K : Type 0} (machine : K → Machine) (compared : K → ℕ) (next last : LoopCore C K)
     → last ≡ record next { woken = last.woken } → IsInOrder (state_of machine compared next) → IsInOrder (state_of machine compared last)

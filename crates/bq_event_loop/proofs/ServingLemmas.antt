@@ -11,7 +11,7 @@ use Rattle.bq_job.specs.promise.History.{steps_at}
 use Rattle.bq_job.specs.promise.LineSteps.{LineSeen}
 use Rattle.bq_event_loop.specs.LoopCores.{WentAt, state_of}
 use Rattle.bq_host.specs.MailStates.{MailState}
-use Rattle.bq_host.specs.Went.{SeatWent}
+use Rattle.bq_host.specs.Went.{SeatWent, SeatWentBy}
 use Rattle.bq_line.specs.Links.{Calls}
 use Rattle.bq_line.specs.Tending.{AreSame, DoorSeen, GoesOn, IsTended, Tends}
 use Rattle.bq_event_loop.specs.Rows.{AllRested}
@@ -256,8 +256,8 @@ module _ {L D : Type 0} (seen : L → LineSeen) (at : D → DoorSeen) where
         → later.seats.items ≡ slice_set row.seats.items i next → later.doors.items ≡ slice_set row.doors.items i door
         → ServesOn machine compared given seen at same old row [] new later
     serves_turn old new row later i seat a next d door is below goes on seats_are doors_are =
-        let w = subst (λ (n : ℕ). WentAt machine compared given n old goes.0 goes.1 new) is
-        (went_by machine compared given seat old new goes.0 goes.1 goes.2) in
+        let w = (subst (λ (n : ℕ). WentAt machine compared given n old goes.0 goes.1 new) is
+        (went_by machine compared given seat old new goes.0 goes.1 goes.2)).0 in
         let so = slice_set row.seats.items i next in
         let ds = slice_set row.doors.items i door in
         record {
@@ -293,9 +293,10 @@ module _ {L D : Type 0} (seen : L → LineSeen) (at : D → DoorSeen) where
         (subst (λ (y : D). (first : D) → same first y → same first door) d_is on) seats_are doors_are
 
     -- A tick was taken, or answers moved to another place.
-    pub serves_time : (old new : LoopCore C K) (row : Row L D) (i : ℕ) → WentAt machine compared given i old [] [] new
+    serves_passed : (old new : LoopCore C K) (row : Row L D) (i : ℕ)
+        → SeatWentBy given i old.timed.time.clock (state_of machine compared old) [] [] new.timed.time.clock (state_of machine compared new)
         → ServesOn machine compared given seen at same old row [] new row
-    serves_time old new row i w = record {
+    serves_passed old new row i w = record {
       reads = w.0;
       gave = w.1;
       mailed = w.2.went.many;
@@ -308,11 +309,16 @@ module _ {L D : Type 0} (seen : L → LineSeen) (at : D → DoorSeen) where
       same_doors = λ handed_in h. h;
     }
 
+    pub serves_time : (old new : LoopCore C K) (row : Row L D) (i : ℕ) → WentAt machine compared given i old [] [] new
+        → ServesOn machine compared given seen at same old row [] new row
+    serves_time old new row i w = serves_passed old new row i w.0
+
     -- The control line submitted steps.
     pub serves_control : (old new : LoopCore C K) (row : Row L D) (seat : ℕ) (more : List Step) → seat ≡ length row.seats.items
         → WentAt machine compared given seat old more [] new
         → ServesOn machine compared given seen at same old row more new row
-    serves_control old new row seat more is w =
+    serves_control old new row seat more is went =
+        let w = went.0 in
         let own = subst (λ (n : ℕ). SeatWent n (state_of machine compared old) w.0 more [] (state_of machine compared new)) is w.2 in
         record {
           reads = w.0;
@@ -347,7 +353,7 @@ module _ {L D : Type 0} (seen : L → LineSeen) (at : D → DoorSeen) where
     -- The same if the loop's core and its clock have not changed.
     pub serves_same : (old new : LoopCore C K) (row : Row L D) → state_of machine compared new ≡ state_of machine compared old
         → new.timed.time.clock ≡ old.timed.time.clock → ServesOn machine compared given seen at same old row [] new row
-    serves_same old new row state clock = serves_time old new row 0 (
+    serves_same old new row state clock = serves_passed old new row 0 (
       [],
       subst (λ c. GaveReadings given old.timed.time.clock [] c) (sym clock) (gave_none given old.timed.time.clock),
       subst (λ (d : MailState). SeatWent 0 (state_of machine compared old) [] [] [] d) (sym state)

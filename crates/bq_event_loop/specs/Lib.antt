@@ -1,7 +1,9 @@
 pub mod ControlTold
+pub mod DueTimes
 pub mod EventLoopRuns
 pub mod Listings
 pub mod LoopCores
 pub mod Marks
 pub mod Rows
 pub mod Serving
+pub mod WakeLists

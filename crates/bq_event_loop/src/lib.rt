@@ -18,3 +18,4 @@ mod run;
 mod seat_queue;
 mod serve;
 mod turns;
+mod woken;

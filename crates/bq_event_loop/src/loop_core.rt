@@ -1,7 +1,7 @@
 //! The core of an event loop with its clock and the answers that no seat has taken yet, and a seat's
 //! link to it.
 ghost use Rattle.std.specs.Prelude.{◌≡◌, ◌<◌, ◌≤◌, ◌+◌, ◌++◌, ◌∷◌, [], ℕ, List, None, Option, Some, true, false};
-ghost use Rattle.std.specs.Prelude.{◌↔◌, ◌&&◌, not, IfErr, IfOk, IfSome, IsErrOf, IsTrue, IsNone, MatchResult, length, slice_index_or};
+ghost use Rattle.std.specs.Prelude.{◌↔◌, ◌&&◌, not, IfErr, IfOk, IfSome, IsErrOf, IsTrue, IsNone, MatchResult, length, slice_index_or, if◌then◌else◌};
 ghost use Rattle.std.specs.Option.{option_to_list};
 ghost use Rattle.bq_job.specs.declared.answer.Answer.{Answer};
 ghost use Rattle.bq_job.specs.declared.step.Step.{Step};
@@ -10,10 +10,12 @@ ghost use Rattle.bq_line.specs.Links.{Calls};
 ghost use Rattle.bq_line.specs.Tending.{GoesOn, IsPlaced, MayEndAt, door_seen};
 ghost use Rattle.bq_host.specs.MailStates.{IsInOrder};
 ghost use Rattle.bq_event_loop.specs.LoopCores.{IsInOrderFor, WentAt, WentInOrder, state_of};
+ghost use Rattle.bq_event_loop.specs.WakeLists.{Wakes, none_waits, to_wake};
 
+use crate::woken::Woken;
 use bq_core_api::{Config, QueueCore};
 use bq_host::{Mail, RunFault, TimedCore, new_mails};
-use bq_job::{Answer, NoMemory, Seat, Step};
+use bq_job::{Answer, Seat, Step};
 use bq_line::Door;
 use bq_line::attendant::{Attendant, Link, Progress};
 use bq_line::buffers::Buffers;
@@ -21,7 +23,6 @@ use bq_line::clock::Clock;
 use bq_line::line::Line;
 use bq_seat::Action;
 use std::alloc::Global;
-use std::collections::VecDeque;
 
 /// The core with its clock, and the answers that no seat has taken yet. An answer to the seat that
 /// submitted the last step is taken from where the core put it. All other answers go through the
@@ -36,12 +37,13 @@ pub struct LoopCore<C, K> {
     pub mails: Vec<Mail, Global>,
     /// True if it is known that all answers are in the mail.
     pub is_sorted: bool,
-    /// The seats that received mail.
+    /// The seats that received mail and have to be woken.
     pub woken: Woken,
 }
 
 impl<C: Clock + Drop, K: QueueCore + Drop> LoopCore<C, K> {
     ghost use Rattle.bq_job.specs.beside.NextDue.{is_before, next_due};
+    ghost use Rattle.bq_event_loop.specs.DueTimes.{IsLimit, time_left};
     ghost use Rattle.bq_host.specs.MailStates.{IsNewMailState, IsSorted};
     ghost use Rattle.bq_core_api.specs.Limits.{are_in_range};
     ghost use Rattle.bq_line.specs.Links.{TakesInPlace, as_submitted};
@@ -54,6 +56,7 @@ impl<C: Clock + Drop, K: QueueCore + Drop> LoopCore<C, K> {
         ensures made { IfOk result (λ core. IsNewMailState config (state_of K.machine K.comparisons core)) }
         ensures order { IfOk result (λ core. IsInOrder (state_of K.machine K.comparisons core)) }
         ensures clock { IfOk result (λ core. core.timed.time.clock ≡ clock) }
+        ensures woken { IfOk result (λ core. core.woken ≡ none_waits (length core.mails.items)) }
         ensures bad_configuration { IsErrOf result RunFault.BadConfiguration ↔ IsTrue
             (not (are_in_range config)) }
     {
@@ -170,6 +173,7 @@ impl<C: Clock + Drop, K: QueueCore + Drop> LoopCore<C, K> {
         ensures heard { self.new.timed.time.moment ≡ self.old.timed.time.moment }
         ensures due { (self.new.timed.is_due_known ≡ self.old.timed.is_due_known) × (self.new.timed.due ≡ self.old.timed.due) }
         ensures marked { self.new.is_sorted ≡ self.old.is_sorted }
+        ensures woken { self.new.woken ≡ self.old.woken }
     {
         self.timed.outs.take_first()
     }
@@ -207,6 +211,7 @@ impl<C: Clock + Drop, K: QueueCore + Drop> LoopCore<C, K> {
     fn put_back(&mut self, seat: Seat, answer: Answer)
         ensures held { self.new.held ≡ Some (seat, answer) }
         ensures marked { self.new.is_sorted ≡ false }
+        ensures woken { self.new.woken ≡ self.old.woken }
         ensures outs { self.new.timed.outs ≡ self.old.timed.outs }
         ensures core { self.new.timed.core ≡ self.old.timed.core }
         ensures mails { self.new.mails ≡ self.old.mails }
@@ -234,6 +239,7 @@ impl<C: Clock + Drop, K: QueueCore + Drop> LoopCore<C, K> {
         requires order { IsInOrder (state_of K.machine K.comparisons self.old) }
         ensures many { length self.new.mails.items ≡ length self.old.mails.items }
         ensures none { result ≡ true → (state_of K.machine K.comparisons self.new).pending ≡ [] }
+        ensures sorted { IsSorted (state_of K.machine K.comparisons self.old) (state_of K.machine K.comparisons self.new) }
         ensures went { WentInOrder K.machine K.comparisons C.given seat self.old [] [] self.new }
     {
         if self.is_sorted {
@@ -248,6 +254,7 @@ impl<C: Clock + Drop, K: QueueCore + Drop> LoopCore<C, K> {
         ensures order { IsInOrder (state_of K.machine K.comparisons self.new) }
         ensures sorted { IsSorted (state_of K.machine K.comparisons self.old) (state_of K.machine K.comparisons self.new) }
         ensures clock { self.new.timed.time.clock ≡ self.old.timed.time.clock }
+        ensures wakes { Wakes self.old.mails.items self.new.mails.items self.old.woken self.new.woken }
         ensures none { result ≡ true → (state_of K.machine K.comparisons self.new).pending ≡ [] }
     {
         let sorts = self.deliver();
@@ -259,6 +266,7 @@ impl<C: Clock + Drop, K: QueueCore + Drop> LoopCore<C, K> {
     fn deliver(&mut self) -> bool
         ensures sorted { IsSorted (state_of K.machine K.comparisons self.old) (state_of K.machine K.comparisons self.new) }
         ensures clock { self.new.timed.time.clock ≡ self.old.timed.time.clock }
+        ensures wakes { Wakes self.old.mails.items self.new.mails.items self.old.woken self.new.woken }
         ensures none { result ≡ true → (state_of K.machine K.comparisons self.new).pending ≡ [] }
     {
         if self.has_none_pending() {
@@ -292,6 +300,7 @@ impl<C: Clock + Drop, K: QueueCore + Drop> LoopCore<C, K> {
         ensures heard { self.new.timed.time.moment ≡ self.old.timed.time.moment }
         ensures due { (self.new.timed.is_due_known ≡ self.old.timed.is_due_known) × (self.new.timed.due ≡ self.old.timed.due) }
         ensures marked { self.new.is_sorted ≡ self.old.is_sorted }
+        ensures woken { self.new.woken ≡ self.old.woken }
     {
         if self.held.is_some() {
             return self.held.take();
@@ -299,18 +308,24 @@ impl<C: Clock + Drop, K: QueueCore + Drop> LoopCore<C, K> {
         self.timed.outs.take_first()
     }
 
-    /// Removes and returns the first of the seats that received mail.
+    /// Removes and returns the first of the seats that are to be woken.
     pub fn next_woken(&mut self) -> Option<Seat>
-        ensures { self.new ≡ record self.old { woken = self.new.woken } }
+        ensures first { self.old.woken.waiting ≡ option_to_list result ++ self.new.woken.waiting }
+        ensures none { IsNone result ↔ (self.old.woken.waiting ≡ []) }
+        ensures seats { self.new.woken.seats ≡ self.old.woken.seats }
+        ensures rest { self.new ≡ record self.old { woken = self.new.woken } }
     {
         self.woken.take_first()
     }
 
     /// Takes a tick if something is due by now, and puts all answers into the mail. Returns in how
-    /// many milliseconds something is due next, or `None` if nothing is; 0 if a tick was taken.
+    /// many milliseconds something is due next, or `None` if nothing is; 0 if something was due.
     pub fn pass_time(&mut self) -> Option<u64>
         requires order { IsInOrder (state_of K.machine K.comparisons self.old) }
         ensures went { WentInOrder K.machine K.comparisons C.given 0 self.old [] [] self.new }
+        ensures due { result ≡ (if is_before self.new.timed.time.moment (next_due (K.machine self.old.timed.core))
+            then time_left (next_due (K.machine self.old.timed.core)) self.new.timed.time.moment else Some 0) }
+        ensures within { IsLimit result (next_due (K.machine self.new.timed.core)) self.new.timed.time.moment }
     {
         let ticks = self.tick_if_due();
         let _all = self.sort(0);
@@ -318,7 +333,9 @@ impl<C: Clock + Drop, K: QueueCore + Drop> LoopCore<C, K> {
     }
 
     // Returns in how many milliseconds something is due, as far as that is known; 0 after a tick.
-    fn rest(&self, ticks: bool) -> Option<u64> {
+    fn rest(&self, ticks: bool) -> Option<u64>
+        ensures { result ≡ (if ticks then Some 0 else time_left self.now.timed.due self.now.timed.time.moment) }
+    {
         if ticks {
             return Some(0);
         }
@@ -330,6 +347,10 @@ impl<C: Clock + Drop, K: QueueCore + Drop> LoopCore<C, K> {
     // can be taken yet because an answer waits for room in a mail.
     fn tick_if_due(&mut self) -> bool
         requires order { IsInOrder (state_of K.machine K.comparisons self.old) }
+        ensures due { result
+            ≡ not (is_before self.new.timed.time.moment (next_due (K.machine self.old.timed.core))) }
+        ensures known { self.new.timed.due ≡ next_due (K.machine self.old.timed.core) }
+        ensures same { result ≡ false → K.machine self.new.timed.core ≡ K.machine self.old.timed.core }
         ensures went { WentInOrder K.machine K.comparisons C.given 0 self.old [] [] self.new }
     {
         if self.sort(0) {
@@ -345,6 +366,8 @@ impl<C: Clock + Drop, K: QueueCore + Drop> LoopCore<C, K> {
         requires order { IsInOrder (state_of K.machine K.comparisons self.old) }
         ensures due { result
             ≡ not (is_before self.new.timed.time.moment (next_due (K.machine self.old.timed.core))) }
+        ensures known { self.new.timed.due ≡ next_due (K.machine self.old.timed.core) }
+        ensures same { K.machine self.new.timed.core ≡ K.machine self.old.timed.core }
         ensures went { WentInOrder K.machine K.comparisons C.given 0 self.old [] [] self.new }
     {
         self.timed.is_due()
@@ -356,6 +379,8 @@ impl<C: Clock + Drop, K: QueueCore + Drop> LoopCore<C, K> {
         requires empty { (state_of K.machine K.comparisons self.old).pending ≡ [] }
         ensures due { result
             ≡ not (is_before self.new.timed.time.moment (next_due (K.machine self.old.timed.core))) }
+        ensures known { self.new.timed.due ≡ next_due (K.machine self.old.timed.core) }
+        ensures same { result ≡ false → K.machine self.new.timed.core ≡ K.machine self.old.timed.core }
         ensures went { WentInOrder K.machine K.comparisons C.given 0 self.old [] [] self.new }
     {
         let ticks = self.timed.tick_if_due(0);
@@ -378,53 +403,12 @@ fn post(
         (λ done. (other : ℕ) → other < length mails.old.items → slice_index_or mails.new.items other []
         ≡ slice_index_or mails.old.items other [] ++ answers_to other ((seat, answer) ∷ []))
         (λ back. (back ≡ answer) × (mails.new.items ≡ mails.old.items)) }
+    ensures woken { woken.new ≡ to_wake seat woken.old }
 {
     woken.add(seat);
     match mails.get_mut(usize::from(seat)) {
         Some(mail) => mail.put(answer),
         None => Ok(()),
-    }
-}
-
-/// The seats that have mail and were not woken for it yet: a queue of seats, each at most once.
-#[derive(Drop)]
-pub struct Woken {
-    seats: VecDeque<Seat, Global>,
-    marks: Vec<bool, Global>,
-}
-
-impl Woken {
-    /// Allocates room for this many seats.
-    pub fn new(alloc: Global, seats: u16) -> Result<Woken, NoMemory> {
-        let Ok(queue) = VecDeque::with_capacity(alloc, usize::from(seats)) else {
-            return Err(NoMemory);
-        };
-        let Ok(marks) = Vec::from_elem(alloc, false, usize::from(seats)) else {
-            return Err(NoMemory);
-        };
-        Ok(Woken {
-            seats: queue,
-            marks,
-        })
-    }
-
-    /// Adds a seat, unless it is in the queue.
-    pub fn add(&mut self, seat: Seat) {
-        if let Some(mark) = self.marks.get_mut(usize::from(seat)) {
-            if !*mark {
-                *mark = true;
-                let _fits = self.seats.push_back(seat);
-            }
-        }
-    }
-
-    /// Removes and returns the first seat.
-    pub fn take_first(&mut self) -> Option<Seat> {
-        let seat = self.seats.pop_front()?;
-        if let Some(mark) = self.marks.get_mut(usize::from(seat)) {
-            *mark = false;
-        }
-        Some(seat)
     }
 }
 

@@ -7,6 +7,7 @@ ghost use Rattle.bq_host.specs.MailStates.{IsInOrder};
 ghost use Rattle.bq_event_loop.specs.LoopCores.{WentAt, state_of};
 ghost use Rattle.bq_event_loop.specs.Rows.{AreDone};
 ghost use Rattle.bq_event_loop.specs.Serving.{AreReady, AreReadyFor, ServesOn, TurnServes};
+ghost use Rattle.bq_event_loop.specs.WakeLists.{none_waits};
 ghost use Rattle.bq_event_loop.specs.declared.control_turns.Stage.TheVariants as stages;
 
 use crate::control_turns::ControlTurns;
@@ -123,17 +124,15 @@ fn is_over<L: Line + Drop, D: Door<Line = L>, I: ControlInput>(
     control.is_over() && row.are_done()
 }
 
-// Reports to the turns each seat that has mail.
+// Reports to the turns each seat that has mail. No seat is then left to be woken.
 fn wake_all<T: Turns, C: Clock + Drop, K: QueueCore + Drop>(
     turns: &mut T,
     core: &mut LoopCore<C, K>,
 )
-    ensures { core.new ≡ record core.old { woken = core.new.woken } }
+    ensures none { core.new.woken ≡ none_waits core.old.woken.seats }
+    ensures rest { core.new ≡ record core.old { woken = core.new.woken } }
 {
-    for _ in 0..core.mails.len() {
-        let Some(seat) = core.next_woken() else {
-            return;
-        };
+    while let Some(seat) = core.next_woken() {
         turns.wake(usize::from(seat));
     }
 }

@@ -60,7 +60,7 @@ loop-preserved g c =
     let core = c.take_turn.new.core in
     let later = c.take_turn.new.row in
     let woken = c.wake_all.new.core in
-    let same = c.wake_all.ensures in
+    let same = c.wake_all.ensures.rest in
     let rested = serves_on g.L.Line.seen at machine compared g.C.Clock.given g.D.Door.same c.args.core.now c.loop.core c.loop.core
     c.args.row.now row c.next-turn.new.row i.0 i.2
     (serves_rested g.L.Line.seen at machine compared g.C.Clock.given g.D.Door.same c.loop.core row c.next-turn.new.row rests) in

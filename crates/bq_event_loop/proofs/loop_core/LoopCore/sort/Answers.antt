@@ -14,5 +14,5 @@ pub returns-clause-went : goal.returns-clause-went
 returns-clause-went g c = (
   c.sort_out.ensures.order,
   went_sorted g.K.QueueCore.machine g.K.QueueCore.comparisons g.C.Clock.given c.args.seat c.args.self.now c.sort_out.new.self
-      c.sort_out.ensures.sorted c.sort_out.ensures.clock,
+      c.sort_out.ensures.sorted c.sort_out.ensures.clock c.sort_out.ensures.wakes,
 )

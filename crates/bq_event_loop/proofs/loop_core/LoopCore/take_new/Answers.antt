@@ -5,6 +5,7 @@ use Rattle.bq_line.specs.GivenReadings.{GaveReadings}
 use Rattle.bq_event_loop.specs.LoopCores.{WentAt, state_of}
 use Rattle.bq_host.proofs.WentLemmas.{gave_none}
 use Rattle.bq_event_loop.proofs.LoopCoreLemmas.{takes_on, went_still}
+use Rattle.bq_event_loop.proofs.WakeLemmas.{wakes_same}
 use Rattle.bq_host.proofs.MailLemmas.{seat_takes_pending}
 use Rattle.bq_event_loop.proofs.loop_core.LoopCore.take_new.Goals as goal
 
@@ -13,7 +14,7 @@ returns-in_default-clause-went g c =
     let h = c.next_new.ensures in (
       refl,
       went_still g.K.QueueCore.machine g.K.QueueCore.comparisons g.C.Clock.given c.args.seat c.args.self.now c.next_new.new.self h.core
-          h.mails (sym c.in_default.ensures.pending) h.heard h.most h.due.0 h.due.1 h.clock,
+          h.mails (sym c.in_default.ensures.pending) h.heard h.most h.due.0 h.due.1 h.clock h.woken,
     )
 
 pub returns-then-seat-first-clause-went : goal.returns-then-seat-first-clause-went
@@ -28,10 +29,13 @@ returns-then-seat-first-clause-went g c =
       c.in-Some.answer,
       refl,
       (
-        [],
-        subst (λ x. GaveReadings g.C.Clock.given old.timed.time.clock [] x) (sym h.clock) (gave_none g.C.Clock.given old.timed.time.clock),
-        seat_takes_pending (state old) (state new) c.args.seat c.in-Some.answer c.requires.empty first_is
-            (ap g.K.QueueCore.machine h.core) h.due.0 (ap g.K.QueueCore.comparisons h.core) h.heard (ap (λ ms. ms.items) h.mails),
+        (
+          [],
+          subst (λ x. GaveReadings g.C.Clock.given old.timed.time.clock [] x) (sym h.clock) (gave_none g.C.Clock.given old.timed.time.clock),
+          seat_takes_pending (state old) (state new) c.args.seat c.in-Some.answer c.requires.empty first_is
+              (ap g.K.QueueCore.machine h.core) h.due.0 (ap g.K.QueueCore.comparisons h.core) h.heard (ap (λ ms. ms.items) h.mails),
+        ),
+        wakes_same old.mails.items new.mails.items old.woken new.woken (ap (λ ms. ms.items) h.mails) h.woken,
       ),
     )
 
@@ -52,6 +56,6 @@ returns-clause-went g c =
     ∙ sym c.in-Some.ensures.pending in
     let still : WentAt machine compared given c.args.seat old [] [] back =
     went_still machine compared given c.args.seat old back (b.core ∙ h.core) (b.mails ∙ h.mails) pending (b.heard ∙ h.heard)
-    (ap (λ o. o.most) b.outs ∙ h.most) (b.due.0 ∙ h.due.0) (b.due.1 ∙ h.due.1) (b.clock ∙ h.clock) in
+    (ap (λ o. o.most) b.outs ∙ h.most) (b.due.0 ∙ h.due.0) (b.due.1 ∙ h.due.1) (b.clock ∙ h.clock) (b.woken ∙ h.woken) in
     takes_on machine compared given c.args.seat old back c.take_kept.new.self c.args.place.now c.take_kept.new.place c.take_kept.result
     still c.take_kept.ensures.went

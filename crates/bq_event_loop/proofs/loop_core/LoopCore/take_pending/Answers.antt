@@ -5,6 +5,7 @@ use Rattle.bq_line.specs.GivenReadings.{GaveReadings}
 use Rattle.bq_event_loop.specs.LoopCores.{WentAt, state_of}
 use Rattle.bq_host.proofs.WentLemmas.{gave_none}
 use Rattle.bq_event_loop.proofs.LoopCoreLemmas.{went_still, went_then}
+use Rattle.bq_event_loop.proofs.WakeLemmas.{wakes_same}
 use Rattle.bq_host.proofs.MailLemmas.{seat_takes_pending}
 use Rattle.bq_event_loop.proofs.loop_core.LoopCore.take_pending.Goals as goal
 
@@ -15,7 +16,7 @@ returns-in_default g c =
       went = (
         search rules,
         went_still g.K.QueueCore.machine g.K.QueueCore.comparisons g.C.Clock.given c.args.seat c.args.self.now c.next_pending.new.self
-            h.core h.mails (sym c.in_default.ensures.pending) h.heard h.most h.due.0 h.due.1 h.clock,
+            h.core h.mails (sym c.in_default.ensures.pending) h.heard h.most h.due.0 h.due.1 h.clock h.woken,
       );
     }
 
@@ -32,10 +33,13 @@ returns-then-first-seat g c =
       went = (
         search rules,
         (
-          [],
-          subst (λ x. GaveReadings given old.timed.time.clock [] x) (sym h.clock) (gave_none given old.timed.time.clock),
-          seat_takes_pending (state old) (state new) c.args.seat c.in-Some.answer c.requires.empty first_is
-              (ap g.K.QueueCore.machine h.core) h.due.0 (ap g.K.QueueCore.comparisons h.core) h.heard (ap (λ ms. ms.items) h.mails),
+          (
+            [],
+            subst (λ x. GaveReadings given old.timed.time.clock [] x) (sym h.clock) (gave_none given old.timed.time.clock),
+            seat_takes_pending (state old) (state new) c.args.seat c.in-Some.answer c.requires.empty first_is
+                (ap g.K.QueueCore.machine h.core) h.due.0 (ap g.K.QueueCore.comparisons h.core) h.heard (ap (λ ms. ms.items) h.mails),
+          ),
+          wakes_same old.mails.items new.mails.items old.woken new.woken (ap (λ ms. ms.items) h.mails) h.woken,
         ),
       );
     }
@@ -57,7 +61,7 @@ returns g c =
     ∙ sym c.in-Some.ensures.pending in
     let still : WentAt machine compared given c.args.seat old [] [] back =
     went_still machine compared given c.args.seat old back (b.core ∙ h.core) (b.mails ∙ h.mails) pending (b.heard ∙ h.heard)
-    (ap (λ o. o.most) b.outs ∙ h.most) (b.due.0 ∙ h.due.0) (b.due.1 ∙ h.due.1) (b.clock ∙ h.clock) in
+    (ap (λ o. o.most) b.outs ∙ h.most) (b.due.0 ∙ h.due.0) (b.due.1 ∙ h.due.1) (b.clock ∙ h.clock) (b.woken ∙ h.woken) in
     record {
       went = (
         c.take_mail.ensures.went.0,
