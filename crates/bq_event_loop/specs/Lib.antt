@@ -1,9 +1,12 @@
+pub mod Accepting
 pub mod ControlTold
 pub mod DueTimes
 pub mod EventLoopRuns
 pub mod Listings
+pub mod Looking
 pub mod LoopCores
 pub mod Marks
 pub mod Rows
 pub mod Serving
 pub mod WakeLists
+pub mod Waits

@@ -6,8 +6,15 @@
 //! the wait. A seat can act if its line became ready, it has mail, or its last visit was cut short.
 //! If several can, all lines are read first, then all steps are taken, and then all answers are
 //! written, so that each part finds its code and data in the processor's caches.
+ghost use Rattle.std.specs.Prelude.{◌≡◌, ◌*◌, [], true, false, Some, IfSome};
+ghost use Rattle.std.specs.Option.{option_map};
+ghost use Rattle.std.specs.Duration.{as_nanos};
 ghost use Rattle.bq_line.specs.Tending.{door_seen};
+ghost use Rattle.bq_event_loop.specs.Accepting.{rests};
+ghost use Rattle.bq_event_loop.specs.Listings.{enqueued};
+ghost use Rattle.bq_event_loop.specs.Looking.{listed_after};
 ghost use Rattle.bq_event_loop.specs.Rows.{AreTended, KeepsRow};
+ghost use Rattle.bq_event_loop.specs.Waits.{IsWaitWithin};
 
 use crate::row::Row;
 use crate::seat_queue::SeatQueue;
@@ -28,10 +35,12 @@ use std::os::fd::RawFd;
 use std::rt;
 use std::time::Duration;
 use visits::{Part, Pause, Visit};
+use waits::longest_wait;
 
 mod accepts;
 mod control_watch;
 mod visits;
+mod waits;
 
 /// The token of the control line. The token of a line is the number of its seat.
 const CONTROL: Token = Token(usize::MAX);
@@ -204,7 +213,11 @@ impl<'r, R: rt::Clock> Poller<'r, R> {
 
     // Notes the result of a check for a line. A seat without a line checks again when a connection
     // may have come.
-    fn note_looked(&mut self, seat: usize, may_have_come: bool, looked: Looked) {
+    fn note_looked(&mut self, seat: usize, may_have_come: bool, looked: Looked)
+        ensures queue { self.new.queue ≡ listed_after looked seat self.old.queue }
+        ensures seen { (looked ≡ Looked.NotYet → ⊥) → self.new.accepts.may_have_come ≡ self.old.accepts.may_have_come }
+        ensures rests { looked ≡ Looked.Later → rests self.new.accepts.rest ≡ true }
+    {
         match looked {
             Looked::Opened | Looked::NoMore => self.queue.enqueue(seat),
             Looked::NotYet => {
@@ -366,15 +379,25 @@ impl<'r, R: rt::Clock> Poller<'r, R> {
         );
     }
 
-    fn longest_wait(&self, news: News) -> Option<Duration> {
-        if !self.queue.is_empty() || news.control == ControlStands::Owes {
-            return Some(Duration::ZERO);
-        }
-        let due = news.due.map(Duration::from_millis);
-        match self.accepts.rests_for(self.rt) {
-            Some(rest) => Some(shorter(due, rest)),
-            None => due,
-        }
+    // Returns how long the loop may sleep: not at all if a seat is queued or the control line owes
+    // a step, and no longer than until something is due or a pause of the doors ends.
+    fn longest_wait(&self, news: News) -> Option<Duration>
+        ensures queued { (self.now.queue.queue ≡ [] → ⊥) → option_map as_nanos result ≡ Some 0 }
+        ensures owes { news.control ≡ ControlStands.Owes → option_map as_nanos result ≡ Some 0 }
+        ensures due { IfSome news.due (λ ms. IsWaitWithin (option_map as_nanos result) (ms * 1000000)) }
+        ensures rest { rests self.now.accepts.rest ≡ true → IsWaitWithin (option_map as_nanos result) 100000000 }
+    {
+        let rest = self.accepts.rests_for(self.rt);
+        longest_wait(self.is_busy(news.control), news.due, rest)
+    }
+
+    // Returns true if a seat is queued or the control line owes a step.
+    fn is_busy(&self, control: ControlStands) -> bool
+        ensures queued { (self.now.queue.queue ≡ [] → ⊥) → result ≡ true }
+        ensures owes { control ≡ ControlStands.Owes → result ≡ true }
+        ensures idle { self.now.queue.queue ≡ [] → (control ≡ ControlStands.Owes → ⊥) → result ≡ false }
+    {
+        !self.queue.is_empty() || control == ControlStands::Owes
     }
 }
 
@@ -401,7 +424,9 @@ impl<'r, R: rt::Clock> Turns for Poller<'r, R> {
         }
     }
 
-    fn wake(&mut self, seat: usize) {
+    fn wake(&mut self, seat: usize)
+        ensures { self.new.queue ≡ enqueued seat self.old.queue }
+    {
         self.queue.enqueue(seat);
     }
 }
@@ -431,13 +456,6 @@ fn watch_door(registry: &Registry, fd: RawFd) -> Result<(), TurnsFault> {
                 Err(TurnsFault::Refused)
             }
         }
-    }
-}
-
-fn shorter(due: Option<Duration>, rest: Duration) -> Duration {
-    match due {
-        Some(due) => due.min(rest),
-        None => rest,
     }
 }
 

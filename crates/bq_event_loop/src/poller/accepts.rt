@@ -1,4 +1,6 @@
 //! Whether connections may be accepted.
+ghost use Rattle.std.specs.Prelude.{◌≡◌, ◌≤◌, ◌↔◌, false, true, IfSome, IsNone};
+ghost use Rattle.std.specs.Duration.{as_nanos};
 
 use std::rt;
 use std::time::{Duration, Instant};
@@ -16,6 +18,14 @@ enum Rest {
     OneWait,
 }
 
+// Returns this length of time, or that of a pause if it is shorter.
+fn at_most_rest(left: Duration) -> Duration
+    ensures { as_nanos result ≤ 100000000 }
+{
+    let most = Duration::from_millis(REST);
+    if left < most { left } else { most }
+}
+
 /// What is known about connections that were not accepted yet. All doors share it.
 #[derive(Drop)]
 pub struct Accepts {
@@ -25,8 +35,12 @@ pub struct Accepts {
 }
 
 impl Accepts {
+    ghost use Rattle.bq_event_loop.specs.Accepting.{may_come, rests};
+
     /// Returns the state at the start, when connections may have come before anything was watched.
-    pub fn new() -> Accepts {
+    pub fn new() -> Accepts
+        ensures { may_come result ≡ true }
+    {
         Accepts {
             may_have_come: true,
             rest: Rest::None,
@@ -34,23 +48,32 @@ impl Accepts {
     }
 
     /// Returns true if a door should be checked.
-    pub fn may_come(&self) -> bool {
+    pub fn may_come(&self) -> bool
+        ensures { result ≡ may_come self.now }
+    {
         self.may_have_come && matches!(self.rest, Rest::None)
     }
 
     /// Notes that the system reported a connection.
-    pub fn one_may_have_come(&mut self) {
+    pub fn one_may_have_come(&mut self)
+        ensures { self.new ≡ record self.old { may_have_come = true } }
+    {
         self.may_have_come = true;
     }
 
     /// Notes that all connections were accepted. The system will report the next one.
-    pub fn none_there(&mut self) {
+    pub fn none_there(&mut self)
+        ensures { self.new ≡ record self.old { may_have_come = false } }
+    {
         self.may_have_come = false;
     }
 
     /// Notes that the system lacked resources for a connection. It does not report when it has them
     /// again.
-    pub fn rest<R: rt::Clock>(&mut self, rt: &R) {
+    pub fn rest<R: rt::Clock>(&mut self, rt: &R)
+        ensures rests { rests self.new.rest ≡ true }
+        ensures kept { self.new.may_have_come ≡ self.old.may_have_come }
+    {
         self.rest = match Instant::now(rt) {
             Ok(now) => match now.checked_add(Duration::from_millis(REST)) {
                 Some(until) => Rest::Until(until),
@@ -60,12 +83,16 @@ impl Accepts {
         };
     }
 
-    /// Returns how long no connection is accepted, or `None` if connections are accepted.
-    pub fn rests_for<R: rt::Clock>(&self, rt: &R) -> Option<Duration> {
+    /// Returns how long no connection is accepted, at most 100 ms, or `None` if connections are
+    /// accepted.
+    pub fn rests_for<R: rt::Clock>(&self, rt: &R) -> Option<Duration>
+        ensures none { IsNone result ↔ (rests self.now.rest ≡ false) }
+        ensures most { IfSome result (λ left. as_nanos left ≤ 100000000) }
+    {
         match self.rest {
             Rest::None => None,
             Rest::Until(until) => match Instant::now(rt) {
-                Ok(now) => Some(until.saturating_duration_since(now)),
+                Ok(now) => Some(at_most_rest(until.saturating_duration_since(now))),
                 Err(_) => Some(Duration::from_millis(REST)),
             },
             Rest::OneWait => Some(Duration::from_millis(REST)),
@@ -73,7 +100,10 @@ impl Accepts {
     }
 
     /// Notes that a wait has ended, and ends the pause if its time has passed.
-    pub fn pass<R: rt::Clock>(&mut self, rt: &R) {
+    pub fn pass<R: rt::Clock>(&mut self, rt: &R)
+        ensures ends { rests self.old.rest ≡ false → rests self.new.rest ≡ false }
+        ensures kept { self.new.may_have_come ≡ self.old.may_have_come }
+    {
         if self.is_rested(rt) {
             self.rest = Rest::None;
         }

@@ -1,0 +1,14 @@
+-- What is known about connections that were not accepted yet.
+use Rattle.std.specs.Prelude.{Bool, true, false, not, ◌&&◌}
+use Rattle.bq_event_loop.specs.declared.poller.accepts.Accepts.{Accepts}
+use Rattle.bq_event_loop.specs.declared.poller.accepts.Rest.{Rest}
+use Rattle.bq_event_loop.specs.declared.poller.accepts.Rest.TheVariants as pauses
+
+-- no connection is accepted for a while
+abbrev pub rests : Rest → Bool
+rests pauses.None = false
+rests _ = true
+
+-- A door should be checked: a connection may have come, and one would be accepted.
+abbrev pub may_come : Accepts → Bool
+may_come a = a.may_have_come && not (rests a.rest)

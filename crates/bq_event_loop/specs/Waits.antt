@@ -1,0 +1,13 @@
+-- How long an event loop waits for the system to report something.
+use Rattle.std.specs.Prelude.{ℕ, ◌≤◌, min, Option, Some, None}
+
+-- The wait has a limit, and is no longer than this.
+abbrev pub IsWaitWithin : Option ℕ → ℕ → Type 0
+IsWaitWithin None most = ⊥
+IsWaitWithin (Some wait) most = wait ≤ most
+
+-- the shorter of two waits; `None` stands for one without a limit
+abbrev pub shorter_of : Option ℕ → Option ℕ → Option ℕ
+shorter_of None other = other
+shorter_of (Some wait) None = Some wait
+shorter_of (Some wait) (Some other) = Some (min wait other)
