@@ -7,7 +7,7 @@ use Rattle.std.specs.Prelude.{◌==◌}
 use Rattle.bq_job.specs.promise.{Entry, LineHeard, LineOver, MayTellEnd, Run, answered_count, answers_to, answers_wanted}
 use Rattle.bq_job.specs.beside.{AreLinesServed, GetsAtMost, GetsClosed, GetsWhatWaits, IsLawful, owing}
 use Rattle.bq_job.specs.machine.{GivenAnswer, IsStep, Outcome, Settings, has_closed, is_connected_at, Machine.Machine}
-use Rattle.bq_job.specs.{promise.{heard, is_tick, steps_at, wanted}, Types.{Answer, Request, Step}}
+use Rattle.bq_job.specs.{promise.{heard, is_gone, is_tick, steps_at, wanted}, Types.{Answer, Request, Step}}
 use Rattle.bq_job.specs.declared.answer.Answer.TheVariants as answers
 use Rattle.bq_job.specs.declared.step.Step.TheVariants as steps
 use Rattle.bq_job.proofs.ClientStepLemmas.{asks_at_most, others_give, step_gives_client, step_settings, tick_gives_client}
@@ -218,10 +218,6 @@ connects t m last (e ∷ history) given more s free none r is =
     ]
 
 -- the steps only report that no more come
-abbrev pub is_gone : Step → Bool
-is_gone steps.Gone = true
-is_gone _ = false
-
 abbrev pub are_gone : List Step → Bool
 are_gone [] = true
 are_gone (step ∷ taken) = is_gone step && are_gone taken

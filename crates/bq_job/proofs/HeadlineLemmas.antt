@@ -1,8 +1,8 @@
 -- The headline as a whole, from a history and the laws of runs.
 use Rattle.std.proofs.{Common.{Bool, List, Option, ℕ, arith, rules, subst}, lemmas.Grind.common_steps}
-use Rattle.bq_job.specs.laws.{AreJobsServed, HeadlineHolds, LineHeadlineHolds, happenings, parts_of_run}
-use Rattle.bq_job.specs.promise.{GoesBy, IsHistoryOf, IsHistoryOfLine, LineOver, Transition}
-use Rattle.bq_job.specs.machine.{Machine.Machine, Settings, new_machine}
+use Rattle.bq_job.specs.laws.{AreJobsServed, AreJobsServedIn, HeadlineHolds, LineHeadlineHolds, happenings, parts_of_run}
+use Rattle.bq_job.specs.promise.{Entry, GoesBy, IsHistoryOf, IsHistoryOfLine, IsRun, LineOver, Transition}
+use Rattle.bq_job.specs.machine.{GivenAnswer, Machine.Machine, Settings, new_machine}
 use Rattle.bq_job.proofs.AnswerPlaces.{none_after_drain, none_after_last_id, run_deletes, run_gives_least}
 use Rattle.bq_job.proofs.{KeptJobLemmas.{accepted_is_kept, held_by_one_always}, RunLawLemmas.{at_most_once, in_order}}
 
@@ -20,6 +20,10 @@ jobs_served settings taken last goes = let first : Machine = new_machine setting
           (subst (λ (ts : List Transition). GoesBy first ts last) is goes) drains;
       last_id_given = λ early more seat is. none_after_last_id first taken last early seat more goes is;
     }
+
+pub jobs_served_in : (settings : Settings) (readings : List (Option ℕ)) (history : List Entry) (given : List GivenAnswer) (last : Machine)
+    → (run : IsRun settings readings history given last) → AreJobsServedIn run
+jobs_served_in settings readings history given last run = let r = run.runs.1 in jobs_served settings r.taken last r.goes
 
 pub headline_holds : (settings : Settings) (doors : List (List LineOver)) (control : List ℕ) (failed : Bool)
     (readings : List (Option ℕ)) (last : Machine)

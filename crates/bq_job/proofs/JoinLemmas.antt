@@ -90,7 +90,7 @@ starts_quiet : (t : ℕ) (settings : Settings) → owing t (new_machine settings
 starts_quiet t settings = let h = none_such t is_waiting (numbers 0 settings.seats) (λ n. refl) in rw h refl
 
 -- What the run gave the seat is what its lines are owed, and no answer is left.
-seat_owed : (settings : Settings) (size : ℕ) (t : ℕ) (lines : List LineOver) (own tail : List Step) (taken waiting : List Answer)
+pub seat_owed : (settings : Settings) (size : ℕ) (t : ℕ) (lines : List LineOver) (own tail : List Step) (taken waiting : List Answer)
     (history : List Entry) (all : List GivenAnswer) (last : Machine)
     → t < settings.seats → are_gone tail ≡ true → Run (new_machine settings) history all last → steps_at t history ≡ own ++ tail
     → answers_to t all ≡ taken ++ waiting → AreLinesServed size lines own taken

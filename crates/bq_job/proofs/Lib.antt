@@ -6,6 +6,7 @@ pub mod EachEvent
 pub mod EffectKinds
 pub mod WatchedLemmas
 pub mod AnswerPlaces
+pub mod BeginningLemmas
 pub mod ChangeLemmas
 pub mod ChoiceLemmas
 pub mod ComputedLemmas
@@ -25,6 +26,7 @@ pub mod NameWords
 pub mod NextDueLemmas
 pub mod OneClientLemmas
 pub mod ClientStepLemmas
+pub mod OpenRunLemmas
 pub mod OrderLemmas
 pub mod OutcomeLemmas
 pub mod OwnAnswerLemmas

@@ -8,7 +8,7 @@ pub use Happenings.{Happening, put, handed_out, reserved_by_id, expired, release
 pub use Happenings.{hand_outs, named, given_up, taken_up, removed, change, change_or_removal, changes, Part, parts_in, parts_of_run}
 pub use Happenings.{happenings}
 pub use LawsOfRuns.{IsReservedById, IsDispatchedLeast, answers_before, GivesLeast, is_inserted, has_inserted, IsKept, Holds, IsHeldByOne}
-pub use LawsOfRuns.{IsDeletion}
+pub use LawsOfRuns.{IsDeletion, RunBegins}
 pub use LeastJob.{IsLeastFor, GetsLeast}
-pub use TheHeadline.{AreJobsServed, HeadlineHolds, LineHeadlineHolds}
+pub use TheHeadline.{AreJobsServed, AreJobsServedIn, HeadlineHolds, LineHeadlineHolds}
 pub use Undisturbed.{disturbs, IsUndisturbed, is_put, is_hand_out, is_deletion, IsHandedOut, comes_first, IsPutBefore, IsHandedOutBefore}

@@ -3,9 +3,9 @@ ghost use Rattle.std.specs.Prelude.{ℕ, Bool, List, Option, [], ◌∷◌, ◌+
 ghost use Rattle.bq_job.specs.Types.{Answer, Request, Step};
 ghost use Rattle.bq_job.specs.declared.step.Step.TheVariants.{Ask};
 ghost use Rattle.bq_job.specs.machine.{GivenAnswer, IsStep, Machine.Machine, Outcome, Settings, is_connected_at};
-ghost use Rattle.bq_job.specs.promise.{Entry, IsHistoryOf, IsHistoryOfLine, LineOver, answers_to};
+ghost use Rattle.bq_job.specs.promise.{Entry, IsHistoryOf, IsHistoryOfLine, IsRun, LineOver, answers_to};
 ghost use Rattle.bq_job.specs.beside.{AreLinesServed, GetsAtMost, GetsWhatWaits, IsJoined, IsLawful, IsLineJoined, IsLineServed};
-ghost use Rattle.bq_job.specs.laws.{HeadlineHolds, LineHeadlineHolds};
+ghost use Rattle.bq_job.specs.laws.{AreJobsServedIn, HeadlineHolds, LineHeadlineHolds};
 
 /// A step at another seat gives a client at most the answer that it waits for, and nothing else.
 pub fn others_give_what_waits()
@@ -60,13 +60,15 @@ pub fn one_line_more()
 /// every client received exactly the bytes of its answers. In that run each job that is handed out
 /// is the least one that the client may have; an undisturbed job is handed out at most once and in
 /// order; no job is lost before its deletion; at most one client holds a job; and while draining no
-/// put is accepted.
+/// put is accepted. The clause `jobs` says so of the very run that it is given.
 #[tactic(auto, using(crate::proofs::HeadlineLemmas::headline_holds, crate::proofs::HeadlineLemmas::line_headline_holds))]
 pub fn the_headline()
     ensures run { (settings : Settings) (doors : List (List LineOver)) (control : List ℕ) (failed : Bool)
         (readings : List (Option ℕ)) (last : Machine)
         → IsHistoryOf settings doors control failed readings last
         → HeadlineHolds settings doors control failed readings last }
+    ensures jobs { (settings : Settings) (readings : List (Option ℕ)) (history : List Entry) (given : List GivenAnswer)
+        (last : Machine) → (run : IsRun settings readings history given last) → AreJobsServedIn run }
     ensures line { (settings : Settings) (seat : ℕ) (line : LineOver) (readings : List (Option ℕ))
         → IsHistoryOfLine settings seat line readings
         → LineHeadlineHolds settings seat line readings }

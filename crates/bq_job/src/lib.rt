@@ -20,6 +20,9 @@ pub use laws_of_machine::{
     steps_give_clients_their_answers, steps_give_few_answers, steps_have_one_result,
     steps_keep_lawful,
 };
+pub use laws_of_open_runs::{
+    all_gone_is_final, idle_doors_are_owed, runs_begin_with_runs, what_was_written_stays_right,
+};
 pub use limits::{LARGEST_BODY, MOST_SEATS, USUAL_BODY};
 pub use line_end::{LineEnd, LineFault};
 pub use refusal::Refusal;
@@ -36,6 +39,7 @@ mod job;
 mod journal;
 mod laws_of_clients;
 mod laws_of_machine;
+mod laws_of_open_runs;
 pub mod laws_of_reading;
 pub mod laws_of_replays;
 pub mod laws_of_runs;

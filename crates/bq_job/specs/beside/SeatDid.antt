@@ -2,7 +2,7 @@
 -- not refer to the core.
 use Rattle.std.specs.Prelude.{ℕ, false, ◌≡◌, List, [], ◌∷◌, ◌++◌}
 use Rattle.bq_job.specs.{declared.{answer.Answer.TheVariants.Closed, step.Step.TheVariants.Gone}, machine.has_closed}
-use Rattle.bq_job.specs.{promise.{IsLineOwed, LineOver, answers_text}, Types.{Answer, LineEnd, Step}}
+use Rattle.bq_job.specs.{promise.{LineOwed.IsLineOwed, History.LineOver, LineSteps.answers_text}, Types.{Answer, LineEnd, Step}}
 use Rattle.bq_job.specs.declared.line_end.LineEnd.TheVariants as ends
 
 -- A seat writes every answer that it takes for a line. So after a read fault, none of them was left

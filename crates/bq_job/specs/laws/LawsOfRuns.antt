@@ -1,9 +1,9 @@
 -- What holds of whole runs.
-use Rattle.std.specs.Prelude.{ℕ, Bool, true, false, ◌≡◌, ◌==◌, ◌⊎◌, IsTrue, not, List, [], ◌∷◌, ◌++◌, Contains}
+use Rattle.std.specs.Prelude.{ℕ, Bool, true, false, ◌≡◌, ◌==◌, ◌⊎◌, IsTrue, not, List, [], ◌∷◌, ◌++◌, Contains, Option}
 use Rattle.std.specs.List.{list_any}
-use Rattle.bq_job.specs.machine.{Chain, DispatchTurn, GivenAnswer, Machine.Machine, acted, addressed, after_timers, at_moment, forgetting}
+use Rattle.bq_job.specs.machine.{Chain, DispatchTurn, GivenAnswer, Machine.Machine, Settings, acted, addressed, after_timers, at_moment, forgetting}
 use Rattle.bq_job.specs.{laws.LeastJob.GetsLeast, machine.{is_connected_at, is_held_by, is_reserved}}
-use Rattle.bq_job.specs.{promise.Transition, Types.{Answer, Job}}
+use Rattle.bq_job.specs.{promise.{Entry, IsRun, Transition}, Types.{Answer, Job}}
 use Rattle.bq_job.specs.declared.answer.Answer.TheVariants as answers
 use Rattle.bq_job.specs.declared.request.Request.TheVariants as requests
 use Rattle.bq_job.specs.declared.step.Step.TheVariants as steps
@@ -73,3 +73,11 @@ pub record IsDeletion (t : Transition) (seat : ℕ) : Type 0 where
   pub id_is : job.id ≡ id
   pub free : (is_reserved job.state ≡ false) ⊎ (is_held_by seat job ≡ true)
   pub gone : (k : Job) → Contains t.parts.after.jobs k → not (k.id == id) ≡ true
+
+-- The first entries of a run are a run, which gives the first of its answers.
+pub record RunBegins (settings : Settings) (readings : List (Option ℕ)) (early : List Entry) (given : List GivenAnswer) : Type 0 where
+  pub early_given : List GivenAnswer
+  pub later_given : List GivenAnswer
+  pub machine : Machine
+  pub run : IsRun settings readings early early_given machine
+  pub given_is : given ≡ early_given ++ later_given

@@ -2,7 +2,7 @@
 -- bytes of each line, and what happened to jobs.
 use Rattle.std.specs.{List.{list_all, list_any}, Prelude.{◌++◌, ◌==◌, ◌∷◌, ◌≡◌, ◌≤◌, Bool, Contains, IsTrue, List}}
 use Rattle.std.specs.Prelude.{Option, [], ℕ, count_by, false, flat_map, length, map}
-use Rattle.bq_job.specs.promise.{AreDoorsOwed, AreLinesOwed, AreSeatsUpTo, Entry, GoesBy, IsControlDone, IsTimedBy, LineOver, Transition}
+use Rattle.bq_job.specs.promise.{AreDoorsOwed, AreLinesOwed, AreSeatsUpTo, Entry, GoesBy, IsControlDone, IsRun, IsTimedBy, LineOver, Transition}
 use Rattle.bq_job.specs.laws.Undisturbed.{IsHandedOut, IsHandedOutBefore, IsPutBefore, IsUndisturbed, is_deletion, is_hand_out}
 use Rattle.bq_job.specs.declared.{answer.Answer.TheVariants.{Deleted, Inserted}, job.Job.Job}
 use Rattle.bq_job.specs.{declared.step.Step.TheVariants.Drain, laws.Happenings.{Happening, Part, happenings}}
@@ -33,6 +33,11 @@ pub record AreJobsServed (taken : List Transition) (happened : List Happening) :
       → has_inserted (flat_map (λ (u : Transition). u.given) (t ∷ more)) ≡ false
   pub last_id_given : (early more : List GivenAnswer) (seat : ℕ)
       → flat_map (λ (u : Transition). u.given) taken ≡ early ++ (seat, Inserted last_id) ∷ more → has_inserted more ≡ false
+
+-- What happens to jobs in this very run.
+abbrev pub AreJobsServedIn : {settings : Settings} {readings : List (Option ℕ)} {history : List Entry} {given : List GivenAnswer}
+    {last : Machine} → IsRun settings readings history given last → Type 0
+AreJobsServedIn run = AreJobsServed run.runs.1.taken (happenings (parts_of_run run.runs.1.taken))
 
 -- One list of all clients' steps, and everything that is promised of it.
 pub record HeadlineHolds (settings : Settings) (doors : List (List LineOver)) (control : List ℕ) (failed : Bool)

@@ -1,0 +1,58 @@
+-- First parts of the texts of answers.
+use Rattle.std.proofs.Common.{◌≡◌, List, [], ◌∷◌, ◌++◌, ℕ, sym, ap, ◌∙◌, subst, inl, inr, append-nil, append_assoc}
+use Rattle.std.proofs.lemmas.Grind.{flat_map-append}
+use Rattle.bq_job.specs.promise.{IsBeginning, IsLineOwed, IsLineOwedSoFar, IsWritten, LineOver, LineSeen, answers_text}
+use Rattle.bq_job.specs.{texts.AnswerText.answer_text, Types.{Answer, LineEnd, Request, Step}}
+use Rattle.bq_job.specs.declared.line_end.LineEnd.TheVariants as ends
+
+pub begins_whole : (bytes text : List ℕ) → bytes ≡ text → IsBeginning bytes text
+begins_whole bytes text is = ([], sym is ∙ sym (append-nil bytes))
+
+begins_more : (bytes text more : List ℕ) → IsBeginning bytes text → IsBeginning bytes (text ++ more)
+begins_more bytes text more b = (b.0 ++ more, ap (λ (xs : List ℕ). xs ++ more) b.1 ∙ append_assoc bytes b.0 more)
+
+pub begins_in : (early bytes text : List ℕ) → IsBeginning early bytes → IsBeginning bytes text → IsBeginning early text
+begins_in early bytes text a b = subst (λ (xs : List ℕ). IsBeginning early xs) (sym b.1) (begins_more early bytes b.0 a)
+
+-- the texts of more answers
+pub texts_more : (bytes : List ℕ) (answers more : List Answer) → IsBeginning bytes (answers_text answers)
+    → IsBeginning bytes (answers_text (answers ++ more))
+texts_more bytes answers more b =
+    subst (λ (text : List ℕ). IsBeginning bytes text) (sym (flat_map-append answer_text answers more))
+    (begins_more bytes (answers_text answers) (answers_text more) b)
+
+-- all of the first answers, and a part of the next one
+pub texts_cut : (bytes cut : List ℕ) (first : List Answer) (last : Answer) → bytes ≡ answers_text first ++ cut
+    → IsBeginning cut (answer_text last) → IsBeginning bytes (answers_text (first ++ last ∷ []))
+texts_cut bytes cut first last is b = (
+  b.0,
+  flat_map-append answer_text first (last ∷ [])
+      ∙ ap (λ (xs : List ℕ). answers_text first ++ xs) (append-nil (answer_text last) ∙ b.1)
+      ∙ sym (append_assoc (answers_text first) cut b.0)
+      ∙ ap (λ (xs : List ℕ). xs ++ b.0) (sym is),
+)
+
+-- What was written to a line that has ended is a first part of its answers' texts.
+ended_begins : (over : LineEnd) (asked : List Request) (answers : List Answer) (written : List ℕ) → IsWritten over asked answers written
+    → IsBeginning written (answers_text answers)
+ended_begins ends.Quit asked answers written w = begins_whole written (answers_text answers) w
+ended_begins ends.EndOfInput asked answers written w = begins_whole written (answers_text answers) w
+ended_begins ends.ReadFault asked answers written w = elim w [
+  | inl e ↦ begins_whole written (answers_text answers) e
+  | inr u ↦ subst (λ (xs : List Answer). IsBeginning written (answers_text xs)) (sym u.answers_are)
+      (texts_more written u.first (u.last ∷ []) (begins_whole written (answers_text u.first) u.written_is))
+]
+ended_begins ends.WriteFault asked answers written w =
+    subst (λ (xs : List Answer). IsBeginning written (answers_text xs)) (sym w.answers_are)
+    (texts_cut written w.cut w.first w.last w.written_is w.is_beginning)
+
+pub line_begins : (size : ℕ) (line : LineOver) (taken : List Step) (answers : List Answer) (early : List ℕ)
+    → IsLineOwed size line taken answers → IsBeginning early line.seen.written → IsBeginning early (answers_text answers)
+line_begins size line taken answers early o b =
+    begins_in early line.seen.written (answers_text answers) b
+    (ended_begins line.over o.steps.asked answers line.seen.written o.written)
+
+pub open_line_begins : (size : ℕ) (line : LineSeen) (taken : List Step) (answers more : List Answer) (early : List ℕ)
+    → IsLineOwedSoFar size line taken answers → IsBeginning early line.written → IsBeginning early (answers_text (answers ++ more))
+open_line_begins size line taken answers more early o b =
+    texts_more early answers more (begins_in early line.written (answers_text answers) b o.written)

@@ -1,0 +1,195 @@
+-- Runs that have not ended: once all seats are gone, what is owed so far is the final promise.
+use Rattle.std.proofs.Common.{◌≡◌, ℕ, suc, zero, ◌+◌, ◌≤◌, ◌<◌, Bool, true, false, List, [], ◌∷◌, ◌++◌, Option, Some, None}
+use Rattle.std.proofs.Common.{map, length, replicate, ◌||◌, refl, sym, ap, ◌∙◌, arith, subst, inl, inr, append-nil, append_assoc}
+use Rattle.std.proofs.lemmas.{Bool.{or_from, or_parts}, List.{Folds.list_any-append, length-map, map-append}}
+use Rattle.std.specs.List.{list_any}
+use Rattle.bq_job.specs.beside.{AreLinesServed}
+use Rattle.bq_job.specs.machine.{GivenAnswer, Machine.Machine, Settings, new_machine}
+use Rattle.bq_job.specs.promise.{AreAllGone, AreDoorsOwed, AreDoorsOwedSoFar, AreLinesOwed, ArePickedFrom, DoorSoFar, Entry}
+use Rattle.bq_job.specs.promise.{IsControlDone, IsControlSoFar, IsDoorOwedSoFar, IsHistoryOf, IsHistorySoFar, IsOutOwed, IsRun}
+use Rattle.bq_job.specs.promise.{LineHeard, LineOver, LineSeen, MayTellEnd, Run, answers_to, drains, heard, is_gone, steps_at}
+use Rattle.bq_job.specs.{laws.LawsOfRuns.RunBegins, promise.moments_heard, Types.{Answer, Request, Step}}
+use Rattle.bq_job.specs.declared.step.Step.TheVariants as steps
+use Rattle.bq_job.proofs.{GivenLemmas.are_gone, JoinLemmas.seat_owed, ListLemmas.heads, RunLemmas.{run_first, run_from, run_none}}
+
+-- ---- a line never says that no more lines come
+
+asks_go_on : (asked : List Request) → list_any is_gone (map steps.Ask asked) ≡ false
+asks_go_on [] = refl
+asks_go_on (request ∷ asked) = asks_go_on asked
+
+end_goes_on : (line : LineHeard) (asked : List Request) (end_steps : List Step) → MayTellEnd line asked end_steps
+    → list_any is_gone end_steps ≡ false
+end_goes_on line asked end_steps h = elim h [
+  | inl e ↦ ap (λ (xs : List Step). list_any is_gone xs) e
+  | inr e ↦ ap (λ (xs : List Step). list_any is_gone xs) e.0
+]
+
+both_go_on : (xs ys : List Step) → list_any is_gone xs ≡ false → list_any is_gone ys ≡ false → list_any is_gone (xs ++ ys) ≡ false
+both_go_on xs ys h i = list_any-append is_gone xs ys ∙ or_from (list_any is_gone xs) (list_any is_gone ys) h i
+
+line_goes_on : (line : LineHeard) (asked : List Request) (end_steps : List Step) → MayTellEnd line asked end_steps
+    → list_any is_gone (steps.Connect ∷ [] ++ map steps.Ask asked ++ end_steps ++ steps.Close ∷ []) ≡ false
+line_goes_on line asked end_steps h =
+    both_go_on (steps.Connect ∷ [] ++ map steps.Ask asked ++ end_steps) (steps.Close ∷ [])
+    (both_go_on (steps.Connect ∷ [] ++ map steps.Ask asked) end_steps
+    (both_go_on (steps.Connect ∷ []) (map steps.Ask asked) refl (asks_go_on asked)) (end_goes_on line asked end_steps h)) refl
+
+lines_go_on : (size : ℕ) (lines : List LineOver) (own : List Step) (got : List Answer) → AreLinesServed size lines own got
+    → list_any is_gone own ≡ false
+lines_go_on size [] own got h = ap (λ (xs : List Step). list_any is_gone xs) h.0
+lines_go_on size (line ∷ lines) own got h =
+    let l = h.4.line_owed.steps in
+    ap (λ (xs : List Step). list_any is_gone xs) h.5
+    ∙ both_go_on h.0 h.1
+    (ap (λ (xs : List Step). list_any is_gone xs) l.steps_are ∙ line_goes_on (heard line.seen) l.asked l.end_steps l.ends)
+    (lines_go_on size lines h.1 h.3 h.7)
+
+-- ---- a door that is gone
+
+out_is_gone : (size : ℕ) (out : Option LineSeen) (taken : List Step) (answers : List Answer) → IsOutOwed size out taken answers
+    → list_any is_gone taken ≡ true → taken ≡ steps.Gone ∷ []
+out_is_gone size None taken answers h gone = elim h [
+  | inl e ↦ absurd (let f = ap (λ (xs : List Step). list_any is_gone xs) e in cc)
+  | inr e ↦ e
+]
+out_is_gone size (Some line) taken answers h gone =
+    let s = h.of_steps in
+    let none = or_parts (list_any is_gone taken) (list_any is_gone s.more)
+    (sym (list_any-append is_gone taken s.more) ∙ ap (λ (xs : List Step). list_any is_gone xs) (sym s.begins)
+    ∙ line_goes_on (heard line) s.asked s.end_steps s.ends) in
+    absurd (let e = none.0 in cc)
+
+current_is_gone : (size : ℕ) (door : DoorSoFar) (taken : List Step) (answers : List Answer) (d : IsDoorOwedSoFar size door taken answers)
+    → list_any is_gone taken ≡ true → d.current ≡ steps.Gone ∷ []
+current_is_gone size door taken answers d gone =
+    out_is_gone size door.out d.current d.later d.of_out
+    (behind (list_any is_gone d.own) (list_any is_gone d.current)
+    (sym (list_any-append is_gone d.own d.current) ∙ ap (λ (xs : List Step). list_any is_gone xs) (sym d.taken_is) ∙ gone)
+    (lines_go_on size door.over d.own d.got d.of_lines))
+  where
+    behind : (a b : Bool) → (a || b) ≡ true → a ≡ false → b ≡ true
+    behind true b h n = absurd cc
+    behind false b h n = h
+
+module _ (settings : Settings) (history : List Entry) (all : List GivenAnswer) (last : Machine)
+    (runs : Run (new_machine settings) history all last) where
+  -- The lines of a door without an open one are owed what the run gives the seat.
+  door_owed : (seat : ℕ) (door : DoorSoFar) → seat < settings.seats
+      → (d : IsDoorOwedSoFar settings.max_job_size door (steps_at seat history) (answers_to seat all)) → are_gone d.current ≡ true
+      → AreLinesOwed settings.max_job_size door.over d.own (answers_to seat all)
+  door_owed seat door within d gone =
+      seat_owed settings settings.max_job_size seat door.over d.own d.current d.got d.later history all last within gone runs d.taken_is
+      d.answers_are d.of_lines
+
+  pub idle_door_owed : (seat : ℕ) (door : DoorSoFar) → seat < settings.seats
+      → IsDoorOwedSoFar settings.max_job_size door (steps_at seat history) (answers_to seat all) → door.out ≡ None
+      → (own : List Step) × AreLinesOwed settings.max_job_size door.over own (answers_to seat all)
+  idle_door_owed seat door within d idle =
+      (d.own, door_owed seat door within d (is_idle door.out d.current d.later d.of_out idle))
+    where
+      is_idle : (out : Option LineSeen) (taken : List Step) (answers : List Answer) → IsOutOwed settings.max_job_size out taken answers
+          → out ≡ None → are_gone taken ≡ true
+      is_idle None taken answers h e = elim h [
+        | inl e ↦ ap are_gone e
+        | inr e ↦ ap are_gone e
+      ]
+      is_idle (Some line) taken answers h e = absurd cc
+
+  doors_final : (seat : ℕ) (doors : List DoorSoFar) → seat + length doors ≤ settings.seats
+      → AreDoorsOwedSoFar settings.max_job_size seat doors history all → AreAllGone settings.seats history
+      → AreDoorsOwed settings.max_job_size seat (map (λ (d : DoorSoFar). d.over) doors) history all
+  doors_final seat [] few h gone = tt
+  doors_final seat (door ∷ doors) few h gone =
+      let d = h.0 in
+      let is = current_is_gone settings.max_job_size door (steps_at seat history) (answers_to seat all) d (gone seat (omega arith)) in (
+        record {
+          own = d.own;
+          of_lines = door_owed seat door (omega arith) d (ap are_gone is);
+          taken_is = d.taken_is ∙ ap (λ (xs : List Step). d.own ++ xs) is;
+        },
+        doors_final (suc seat) doors (omega arith) h.1 gone,
+      )
+
+-- ---- a control line that is gone
+
+gone_is_last : (n : ℕ) (xs rest : List Step) → xs ++ rest ≡ replicate n steps.Drain ++ steps.Gone ∷ [] → list_any is_gone xs ≡ true
+    → rest ≡ []
+gone_is_last n [] rest e gone = absurd cc
+gone_is_last zero (x ∷ xs) rest e gone = nothing xs rest (heads x steps.Gone (xs ++ rest) [] e).1
+  where
+    nothing : (ys zs : List Step) → ys ++ zs ≡ [] → zs ≡ []
+    nothing [] zs e = e
+    nothing (y ∷ ys) zs e = absurd cc
+gone_is_last (suc n) (x ∷ xs) rest e gone =
+    let h = heads x steps.Drain (xs ++ rest) (replicate n steps.Drain ++ steps.Gone ∷ []) e in
+    gone_is_last n xs rest h.1 (subst (λ (step : Step). list_any is_gone (step ∷ xs) ≡ true) h.0 gone)
+
+control_final : (text : List ℕ) (failed : Bool) (submitted : List Step) → IsControlSoFar text failed submitted
+    → list_any is_gone submitted ≡ true → IsControlDone text failed submitted
+control_final text failed submitted c gone =
+    sym (append-nil submitted)
+    ∙ ap (λ (xs : List Step). submitted ++ xs) (sym (gone_is_last (drains text failed) submitted c.0 c.1 gone)) ∙ c.1
+
+-- ---- the whole
+
+pub final_once_gone : (settings : Settings) (doors : List DoorSoFar) (control : List ℕ) (failed : Bool) (readings : List (Option ℕ))
+    (last : Machine) (h : IsHistorySoFar settings doors control failed readings last) → AreAllGone settings.seats h.history
+    → IsHistoryOf settings (map (λ (d : DoorSoFar). d.over) doors) control failed readings last
+final_once_gone settings doors control failed readings last h gone = record {
+  history = h.history;
+  given = h.given;
+  run = h.run;
+  many = length-map doors (λ (d : DoorSoFar). d.over) ∙ h.many;
+  of_doors = doors_final settings h.history h.given last h.run.runs 0 doors (let a = h.many in omega arith) h.of_doors gone;
+  of_control = control_final control failed (steps_at settings.seats h.history) h.of_control (gone settings.seats (omega arith));
+  of_nobody_else = h.of_nobody_else;
+}
+
+-- ---- the first entries of a run
+
+record Cut (first : Machine) (early late : List Entry) (given : List GivenAnswer) (last : Machine) : Type 0 where
+  now : List GivenAnswer
+  later : List GivenAnswer
+  machine : Machine
+  runs : Run first early now machine
+  given_is : given ≡ now ++ later
+
+run_cut : (first last : Machine) (early late : List Entry) (given : List GivenAnswer) → Run first (early ++ late) given last
+    → Cut first early late given last
+run_cut first last [] late given r =
+    record { now = []; later = given; machine = first; runs = run_none first; given_is = refl }
+run_cut first last (e ∷ early) late given r =
+    let b = run_first first last e (early ++ late) given r in
+    let c = run_cut b.next last early late b.more b.rest in
+    record {
+      now = b.now ++ c.now;
+      later = c.later;
+      machine = c.machine;
+      runs = run_from first b.next c.machine e early b.outcome b.now c.now b.step c.runs;
+      given_is = b.given_is ∙ ap (λ (xs : List GivenAnswer). b.now ++ xs) c.given_is ∙ sym (append_assoc b.now c.now c.later);
+    }
+
+picked_first : (xs ys moments : List ℕ) → ArePickedFrom (xs ++ ys) moments → ArePickedFrom xs moments
+picked_first [] ys moments h = tt
+picked_first (x ∷ xs) ys [] h = absurd h
+picked_first (x ∷ xs) ys (moment ∷ moments) h = elim h [
+  | inl p ↦ inl (p.0, picked_first xs ys moments p.1)
+  | inr p ↦ inr (picked_first (x ∷ xs) ys moments p)
+]
+
+pub run_begins : (settings : Settings) (readings : List (Option ℕ)) (early late : List Entry) (given : List GivenAnswer) (last : Machine)
+    → IsRun settings readings (early ++ late) given last → RunBegins settings readings early given
+run_begins settings readings early late given last r =
+    let c = run_cut (new_machine settings) last early late given r.runs in
+    record {
+      early_given = c.now;
+      later_given = c.later;
+      machine = c.machine;
+      run = record {
+        runs = c.runs;
+        timed = picked_first (map (λ (e : Entry). e.moment) early) (map (λ (e : Entry). e.moment) late) (moments_heard 0 readings)
+            (subst (λ (xs : List ℕ). ArePickedFrom xs (moments_heard 0 readings)) (map-append (λ (e : Entry). e.moment) early late) r.timed);
+      };
+      given_is = c.given_is;
+    }
