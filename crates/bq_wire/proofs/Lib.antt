@@ -1,4 +1,5 @@
 pub mod HasReadLemmas
+pub mod LeadingLemmas
 pub mod LineEndLemmas
 pub mod LineReadLemmas
 pub mod NumberLemmas

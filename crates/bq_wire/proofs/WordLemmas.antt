@@ -7,7 +7,7 @@ use Rattle.bq_job.specs.reading.Words.{words}
 use Rattle.memchr.specs.Find.{IsFirstByte, is_byte}
 
 -- without a space, the line is one word
-one_word : (line : List ℕ) → ((k : ℕ) → k < length line → (get_or line k 0 == 32) ≡ true → ⊥) → words line ≡ line ∷ []
+pub one_word : (line : List ℕ) → ((k : ℕ) → k < length line → (get_or line k 0 == 32) ≡ true → ⊥) → words line ≡ line ∷ []
 one_word [] none = refl
 one_word (b ∷ line) none =
     let not_here : (b == 32) ≡ false = grind (arith, nat_tests, none 0) in
@@ -15,7 +15,7 @@ one_word (b ∷ line) none =
     rw (not_here, later)
 
 -- the first word ends at the first space
-word_before : (line : List ℕ) (k : ℕ) → k < length line → (get_or line k 0 == 32) ≡ true
+pub word_before : (line : List ℕ) (k : ℕ) → k < length line → (get_or line k 0 == 32) ≡ true
     → ((j : ℕ) → j < k → (get_or line j 0 == 32) ≡ true → ⊥)
     → words line ≡ take k line ∷ words (drop (suc k) line)
 word_before [] k low here before = absurd (omega arith)

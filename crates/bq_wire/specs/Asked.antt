@@ -1,7 +1,7 @@
 -- What a line that was read requests.
 use Rattle.std.specs.Prelude.{ℕ, ◌≡◌, List, [], ◌∷◌, Option, Some, None, option_map}
 use Rattle.bq_job.specs.reading.LineRead as spec
-use Rattle.bq_job.specs.reading.Words.{number}
+use Rattle.bq_job.specs.reading.Words.{job_id, number}
 use Rattle.bq_job.specs.declared.request.Request.{Request}
 use Rattle.bq_wire.specs.declared.line_read.LineRead.{LineRead}
 use Rattle.bq_wire.specs.declared.line_read.LineRead.TheVariants.{Whole, PutWaits}
@@ -21,7 +21,13 @@ abbrev pub asked_by : LineRead → Option Request → Option spec.LineRead
 asked_by Whole place = option_map spec.Whole place
 asked_by (PutWaits put) place = Some (spec.PutWaits (put_line_of put))
 
--- the first word is removed and is this number; or there is no word, or it is not a number
+-- the first word is removed, and this is what it denotes; or there is no word, or it denotes nothing
+abbrev pub IsNext : (List ℕ → Option ℕ) → List (List ℕ) → List (List ℕ) → Option ℕ → Type 0
+IsNext read [] new found = found ≡ None
+IsNext read (word ∷ more) new found = (new ≡ more) × (found ≡ read word)
+
 abbrev pub IsNextNumber : List (List ℕ) → List (List ℕ) → Option ℕ → Type 0
-IsNextNumber [] new found = found ≡ None
-IsNextNumber (word ∷ more) new found = (new ≡ more) × (found ≡ number word)
+IsNextNumber = IsNext number
+
+abbrev pub IsNextId : List (List ℕ) → List (List ℕ) → Option ℕ → Type 0
+IsNextId = IsNext job_id

@@ -12,7 +12,7 @@ ghost use Rattle.bq_job.specs.declared.request.Request.{Request};
 ghost use Rattle.bq_wire.specs.Asked.{asked_by, only, IsNextNumber};
 ghost use Rattle.bq_wire.specs.Named.{AsksFor, named_where};
 
-use crate::line_read::{LineRead, PutLine, Words, job_id, number};
+use crate::line_read::{LineRead, PutLine, Words};
 use bq_job::{JobId, Refusal, Request, TubeName};
 
 /// Returns what a line with this first word requests, or None if the words after it do not fit the
@@ -167,7 +167,7 @@ fn unknown(place: &mut Option<Request>) -> Option<LineRead>
 fn next_number(words: &mut Words) -> Option<u32>
     ensures { IsNextNumber words.old words.new result }
 {
-    number(words.next()?)
+    u32::try_from(words.next_id()?).ok()
 }
 
 // Returns the remaining word if there is exactly one.
@@ -183,17 +183,23 @@ fn only_word<'a>(words: &mut Words<'a>) -> Option<&'a [u8]>
 }
 
 // The job id, if it is the only remaining word.
+#[tactic(auto, using(crate::proofs::LeadingLemmas::not_only))]
 fn id_word(words: &mut Words) -> Option<JobId>
     ensures { result ≡ only spec_numbers.job_id words.old }
 {
-    job_id(only_word(words)?)
+    let id = words.next_id()?;
+    no_more(words)?;
+    Some(id)
 }
 
 // The number below 2^32, if it is the only remaining word.
+#[tactic(auto, using(crate::proofs::LeadingLemmas::not_only))]
 fn number_word(words: &mut Words) -> Option<u32>
     ensures { result ≡ only spec_numbers.number words.old }
 {
-    number(only_word(words)?)
+    let number = next_number(words)?;
+    no_more(words)?;
+    Some(number)
 }
 
 // The tube name, if it is the only remaining word.
@@ -260,7 +266,7 @@ fn release_words(words: &mut Words, place: &mut Option<Request>) -> Option<LineR
     ensures { option_map (λ read. asked_by read place.new) result
         ≡ option_map Some (spec.release_words words.old) }
 {
-    let id = job_id(words.next()?)?;
+    let id = words.next_id()?;
     let pri = next_number(words)?;
     let delay = next_number(words)?;
     no_words(words, place, Request::Release { id, pri, delay })
@@ -271,7 +277,7 @@ fn bury_words(words: &mut Words, place: &mut Option<Request>) -> Option<LineRead
     ensures { option_map (λ read. asked_by read place.new) result
         ≡ option_map Some (spec.read_words spec_words.Command.Bury words.old) }
 {
-    let id = job_id(words.next()?)?;
+    let id = words.next_id()?;
     let pri = next_number(words)?;
     no_words(words, place, Request::Bury { id, pri })
 }

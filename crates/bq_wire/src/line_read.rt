@@ -1,11 +1,12 @@
 //! Lines: where they end, their words, and what they request.
-ghost use Rattle.std.specs.Prelude.{◌≡◌, ◌<◌, ◌≤◌, ◌+◌, ◌^◌, [], ◌∷◌, IfSome, Some, None, MatchOption, length, drop, if◌then◌else◌, false};
+ghost use Rattle.std.specs.Prelude.{◌≡◌, ◌<◌, ◌≤◌, ◌+◌, ◌^◌, [], ◌∷◌, IfSome, Some, None, MatchOption, length, drop, take, if◌then◌else◌, false, true};
+ghost use Rattle.std.specs.List.{list_all};
 ghost use Rattle.std.specs.Option.{SomeIff};
 ghost use Rattle.bq_job.specs.reading.CommandWords.{command_named};
 ghost use Rattle.bq_job.specs.reading.LineRead as spec;
 ghost use Rattle.bq_job.specs.reading.Words as numbers;
 ghost use Rattle.bq_job.specs.reading.Words.{words};
-ghost use Rattle.bq_wire.specs.Asked.{asked_by};
+ghost use Rattle.bq_wire.specs.Asked.{asked_by, IsNextId};
 ghost use Rattle.bq_wire.specs.LineEnds as ends;
 ghost use Rattle.bq_wire.specs.WordsLeft.{words_left};
 
@@ -16,6 +17,9 @@ use std::marker::Model;
 
 /// The largest length of a line, in bytes, without its CR LF.
 pub const LONGEST_LINE: usize = 222;
+
+// A number up to this one fits in 64 bits with any further digit.
+const MOST_TO_EXTEND: u64 = 1_844_674_407_370_955_160;
 
 /// The numbers on the line of a put, as written.
 #[derive(Clone, Copy)]
@@ -141,6 +145,20 @@ impl<'a> Words<'a> {
         Words { rest: Some(line) }
     }
 
+    /// Removes the first of the remaining words and returns the job id that it denotes. Returns None
+    /// if there is no word, or if it is not a number below 2^64.
+    pub fn next_id(&mut self) -> Option<JobId>
+        ensures { IsNextId self.old self.new result }
+    {
+        match leading_id(self.rest?) {
+            Some((id, more)) => {
+                self.rest = more;
+                Some(id)
+            }
+            None => job_id(self.next()?),
+        }
+    }
+
     /// Removes and returns the first of the remaining words.
     pub fn next(&mut self) -> Option<&'a [u8]>
         ensures { MatchOption result ((self.old ≡ []) × (self.new ≡ []))
@@ -161,6 +179,43 @@ fn first_word(line: &[u8]) -> (&[u8], Option<&[u8]>)
         Some(space) => (&line[..space], Some(&line[space + 1..])),
         None => (line, None),
     }
+}
+
+// Returns the number that the first bytes of a line denote, and how many bytes it has. It ends before
+// the first byte that is no digit, or before a digit that might make it too large for 64 bits.
+#[tactic(auto, using(crate::proofs::LeadingLemmas::digits_more, crate::proofs::LeadingLemmas::value_more))]
+fn leading_digits(line: &[u8]) -> (u64, usize)
+    ensures within { result.1 ≤ length line.now }
+    ensures digits { list_all numbers.is_digit (take result.1 line.now) ≡ true }
+    ensures value { result.0 ≡ numbers.value_of_digits (take result.1 line.now) }
+{
+    let mut value: u64 = 0;
+    let mut digits = 0;
+    while digits < line.len() && line[digits].is_ascii_digit() && value <= MOST_TO_EXTEND {
+        value = value * 10 + u64::from(line[digits] - b'0');
+        digits += 1;
+    }
+    (value, digits)
+}
+
+// Returns the job id that the first word of a line denotes, and the rest after the space that follows
+// it. The word is read once, and not searched for its end first. Returns None if it denotes no job
+// id, or one that is nearly too large.
+#[tactic(auto, using(crate::proofs::LeadingLemmas::id_at_end, crate::proofs::LeadingLemmas::id_before_space))]
+fn leading_id(line: &[u8]) -> Option<(JobId, Option<&[u8]>)>
+    ensures { IfSome result (λ found. IsNextId (words line.now) (words_left found.1) (Some found.0)) }
+{
+    let (id, digits) = leading_digits(line);
+    if digits == 0 {
+        return None;
+    }
+    if digits == line.len() {
+        return Some((id, None));
+    }
+    if line[digits] == b' ' {
+        return Some((id, Some(&line[digits + 1..])));
+    }
+    None
 }
 
 // Returns the number with one more digit, if it fits in 64 bits.
@@ -200,12 +255,4 @@ pub fn job_id(word: &[u8]) -> Option<JobId>
     ensures { result ≡ numbers.job_id word.now }
 {
     decimal(word)
-}
-
-/// Returns the number that a word denotes, or None if it is not a number below 2^32.
-pub fn number(word: &[u8]) -> Option<u32>
-    ensures { result ≡ numbers.number word.now }
-{
-    let value = decimal(word)?;
-    u32::try_from(value).ok()
 }
