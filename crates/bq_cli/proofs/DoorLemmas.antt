@@ -8,12 +8,7 @@ use Rattle.bq_line.specs.InAll.{in_all}
 use Rattle.bq_host.proofs.ListLemmas.{first_passes, rest_passes}
 use Rattle.bq_job.specs.promise.History.{LineOver}
 use Rattle.bq_program.specs.declared.chosen.Options.{Options}
-use Rattle.bq_cli.specs.Servers.{AreServedDoors, IsDoorAt, TcpDoor}
-
--- the relation for doors over TCP
-abbrev pub IsSameDoor : {R : Type 0} → TcpDoor R → TcpDoor R → Type 0
-IsSameDoor first last = (last.listener ≡ first.listener)
-    × (in_all last.left last.is_out last.over ≡ in_all first.left first.is_out first.over)
+use Rattle.bq_cli.specs.Servers.{AreServedDoors, IsDoorAt, IsSameDoor, TcpDoor}
 
 pub as_many : {D : Type 0} (same : D → D → Type 0) (firsts lasts : List D) → AreSame same firsts lasts → length lasts ≡ length firsts
 as_many same [] [] h = refl

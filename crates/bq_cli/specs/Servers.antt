@@ -3,9 +3,14 @@ use Rattle.std.specs.Prelude.{ℕ, ◌≡◌, Bool, false, true, List, [], ◌++
 use Rattle.std.specs.Prelude.{IfErr, IfOk, if◌then◌else◌, vec_len}
 use Rattle.std.specs.List.{All, list_any}
 use Rattle.std.specs.declared.net.tcp.TcpListener.{TcpListener}
+use Rattle.std.specs.declared.net.tcp.TcpStream.{TcpStream}
 use Rattle.bq_job.specs.declared.settings.Settings.{Settings}
 use Rattle.bq_job.specs.machine.Machine.{Machine}
+use Rattle.bq_job.specs.promise.LineSteps.{LineSeen}
 use Rattle.bq_line.specs.InAll.{in_all}
+use Rattle.bq_line.specs.Tending.{IsNewDoor}
+use Rattle.bq_line.specs.declared.line.io_line.BufferedLine.{BufferedLine}
+use Rattle.bq_line.specs.declared.line.stream.Connection.{Connection}
 use Rattle.bq_line.specs.declared.door.listen_door.ListenDoor.{ListenDoor}
 use Rattle.bq_program.specs.Ranges.{IsForBqd}
 use Rattle.bq_program.specs.declared.chosen.BqdOptions.{BqdOptions}
@@ -15,7 +20,7 @@ use Rattle.bq_program.specs.Statuses.{IsStatusOfOptionFault, status_of_server}
 use Rattle.bq_program.specs.declared.chosen.Options.{Options}
 use Rattle.bq_program.specs.declared.fault.Fault.{Fault}
 use Rattle.bq_program.specs.declared.fault.Fault.TheVariants as faults
-use Rattle.bq_event_loop.specs.EventLoopRuns.{IsEventLoopRun}
+use Rattle.bq_event_loop.specs.EventLoopRuns.{IsEventLoopRun, IsEventLoopSoFar}
 use Rattle.bq_event_loop.specs.declared.run.EventLoopRun.{EventLoopRun}
 use Rattle.bq_run.specs.ThreadRuns.{IsRunOf}
 use Rattle.bq_run.specs.declared.run.Run.{Run}
@@ -25,6 +30,19 @@ use Rattle.bq_cli.specs.declared.telling_clock.TellingClock.{TellingClock}
 -- a door that accepts TCP connections
 abbrev pub TcpDoor : Type 0 → Type 0
 TcpDoor R = ListenDoor R TcpListener
+
+-- a connection of such a door
+abbrev pub TcpLine : Type 0
+TcpLine = BufferedLine (Connection TcpStream)
+
+-- what a connection reports
+abbrev pub tcp_line_seen : TcpLine → LineSeen
+tcp_line_seen line = record { read = line.line.read; written = line.line.written; ended = line.line.ended; fault = line.line.fault }
+
+-- A door at a later moment: it has the same listener, and the same number of connections in all.
+abbrev pub IsSameDoor : {R : Type 0} → TcpDoor R → TcpDoor R → Type 0
+IsSameDoor first last = (last.listener ≡ first.listener)
+    × (in_all last.left last.is_out last.over ≡ in_all first.left first.is_out first.over)
 
 -- the settings of a run by these options
 abbrev pub settings_of : Options → Settings
@@ -40,8 +58,9 @@ abbrev pub came_of_run : {D C I K : Type 0} → (D → Bool) → Result (Run D C
 came_of_run met_fault (Ok run) = came_of_doors met_fault run.doors.items
 came_of_run met_fault (Err fault) = Err fault
 
-abbrev pub came_of_loop : {D C I K : Type 0} → (D → Bool) → Result (EventLoopRun D C I K) Fault → Result (Unit {0}) Fault
-came_of_loop met_fault (Ok run) = came_of_doors met_fault run.doors.items
+-- So does a loop that was broken off.
+abbrev pub came_of_loop : {L D C I K : Type 0} → (D → Bool) → Result (EventLoopRun L D C I K) Fault → Result (Unit {0}) Fault
+came_of_loop met_fault (Ok run) = if run.is_over then came_of_doors met_fault run.doors.items else Err faults.TooManyTurns
 came_of_loop met_fault (Err fault) = Err fault
 
 -- A door of a server: it is at this listener, and accepts this number of connections in all.
@@ -69,15 +88,22 @@ pub record IsServerRun {R I K : Type 0} (left : I → Option (List ℕ)) (may_fa
   pub is_run : IsRunOf (λ before readings after. after.clock.given ≡ before.clock.given ++ readings) (λ door. door.over)
       left may_fail machine comparisons (settings_of options) clock control run
 
--- the same for a run by an event loop
+-- A run of a server by an event loop, which has ended or was broken off. It began with a new clock, with a new door at
+-- this listener for each seat, and with this control line. Until now it keeps the promise of a running server. If it has
+-- ended, it keeps the same as a run by threads.
 pub record IsServerLoop {R I K : Type 0} (left : I → Option (List ℕ)) (may_fail : I → Bool)
     (machine : K → Machine) (comparisons : K → ℕ) (options : Options) (listener : TcpListener) (control : I)
-    (run : EventLoopRun (TcpDoor R) (TellingClock R) I K) : Type 0 where
-  pub served : AreServedDoors options listener (vec_len run.doors) run.doors.items
+    (run : EventLoopRun TcpLine (TcpDoor R) (TellingClock R) I K) : Type 0 where
+  pub first : List (TcpDoor R)
+  pub new : All (λ door. IsNewDoor (record { is_out = door.is_out; is_at_end = door.is_at_end; lines_over = door.over })) first
+  pub at : All (λ door. IsDoorAt listener options.sessions door) first
   pub clock : TellingClock R
   pub new_clock : clock.clock.given ≡ []
-  pub is_run : IsEventLoopRun (λ before readings after. after.clock.given ≡ before.clock.given ++ readings) (λ door. door.over)
-      left may_fail machine comparisons (settings_of options) clock control run
+  pub so_far : IsEventLoopSoFar (λ before readings after. after.clock.given ≡ before.clock.given ++ readings) tcp_line_seen
+      (λ door. door.over) (λ door. door.is_out) IsSameDoor left may_fail machine comparisons (settings_of options) first clock control run
+  pub served : run.is_over ≡ true → AreServedDoors options listener (vec_len run.doors) run.doors.items
+  pub is_run : run.is_over ≡ true → IsEventLoopRun (λ before readings after. after.clock.given ≡ before.clock.given ++ readings)
+      (λ door. door.over) left may_fail machine comparisons (settings_of options) clock control run
 
 -- Why there may be no run: the system refused something, or the options are out of their ranges.
 abbrev pub MayRefuse : Options → Fault → Type 0
@@ -99,7 +125,7 @@ pub record IsStatusOfThreads (R : Type 0) {I K : Type 0} (left : I → Option (L
 -- the same for a server by an event loop
 pub record IsStatusOfLoop (R : Type 0) {I K : Type 0} (left : I → Option (List ℕ)) (may_fail : I → Bool)
     (machine : K → Machine) (comparisons : K → ℕ) (options : Options) (listener : TcpListener) (control : I) (status : ℕ) : Type 0 where
-  pub came : Result (EventLoopRun (TcpDoor R) (TellingClock R) I K) Fault
+  pub came : Result (EventLoopRun TcpLine (TcpDoor R) (TellingClock R) I K) Fault
   pub served : IfOk came (λ run. IsServerLoop left may_fail machine comparisons options listener control run)
   pub refused : IfErr came (λ fault. MayRefuse options fault)
   pub status_is : status ≡ status_of_server (came_of_loop (λ door. door.met_fault) came)

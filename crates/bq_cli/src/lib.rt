@@ -4,8 +4,12 @@
 pub use bq_program::{
     Fault, Need, OptionFault, Options, Program, Stop, options, tell_cannot_listen, tell_fault,
 };
+pub use ending::Ending;
 pub use program::run_bqd;
-pub use server::{serve, serve_doors, serve_doors_by_loop};
+pub use server::{
+    DoorsTell, TcpLine, run_by_threads, run_loop, serve, serve_doors, serve_doors_by_loop,
+    status_of_loop, status_of_threads,
+};
 
 mod ending;
 mod log;

@@ -6,7 +6,7 @@ ghost use Rattle.bq_program.specs.Statuses.{status_of_server};
 ghost use Rattle.bq_cli.specs.Servers.{IsDoorAt, IsServerLoop, IsServerRun, IsStatusOfLoop};
 ghost use Rattle.bq_cli.specs.Servers.{IsStatusOfServer, IsStatusOfThreads, MayRefuse};
 ghost use Rattle.bq_cli.specs.Servers.{came_of_doors, came_of_loop, came_of_run, settings_of};
-ghost use Rattle.bq_event_loop.specs.EventLoopRuns.{IsEventLoopRun};
+ghost use Rattle.bq_event_loop.specs.EventLoopRuns.{IsEventLoopRun, IsEventLoopSoFar};
 ghost use Rattle.bq_run.specs.ThreadRuns.{IsRunOf};
 ghost use Rattle.bq_core_api.specs.Limits.{are_in_range};
 
@@ -18,29 +18,33 @@ use bq_event_loop::{EventLoopRun, run_event_loop};
 use bq_host::RunFault;
 use bq_job::NoMemory;
 use bq_line::control_line::ControlReader;
-use bq_line::line::ReadBuffer;
+use bq_line::line::{BufferedLine, Connection, Line, ReadBuffer};
 use bq_line::{Door, FreeDoors, Refusals, TcpDoor, clock};
 use bq_program::{Fault, Need, Options, Program, fault_of_loop, tell_cannot_listen, tell_server};
 use bq_run::{Run, run_threads};
 use std::alloc::Global;
 use std::io;
 use std::io::{Eprint, Print};
-use std::net::{Net, TcpListener};
+use std::net::{Net, TcpListener, TcpStream};
 use std::os::fd::RawFd;
 use std::rt::Clock;
 use std::sync::Wait;
 use std::thread::Threads;
 
-// What the doors of a server report, which they share.
+/// A connection of a server.
+pub type TcpLine = BufferedLine<Connection<TcpStream>>;
+
+/// What the doors of a server report, which they share.
 #[derive(Drop)]
-struct DoorsTell<'e> {
+pub struct DoorsTell<'e> {
     refusals: Refusals,
     free: FreeDoors,
     ending: &'e Ending,
 }
 
 impl<'e> DoorsTell<'e> {
-    fn new<R: Clock>(rt: &R, seats: u16, ending: &'e Ending) -> DoorsTell<'e> {
+    /// Returns what this number of doors reports. The last one to fail is noted in `ending`.
+    pub fn new<R: Clock>(rt: &R, seats: u16, ending: &'e Ending) -> DoorsTell<'e> {
         DoorsTell {
             ending,
             refusals: Refusals::new("bqd: no connection can be accepted"),
@@ -152,7 +156,7 @@ fn serve_by_loop<R: Net + Wait + Clock + Print + Eprint, I: ControlReader + Drop
     }
     let tell = DoorsTell::new(rt, options.seats, ending);
     let came = run_loop(rt, alloc, options, listener, &tell, control, source);
-    tell_end(rt, ending, came_of_loop(&came))
+    status_of_loop(rt, ending, &came)
 }
 
 fn serve_by_threads<R: Threads + Wait + Clock + Print + Eprint + Sync, I: ControlReader + Drop>(
@@ -168,8 +172,31 @@ fn serve_by_threads<R: Threads + Wait + Clock + Print + Eprint + Sync, I: Contro
     ensures at_most { result ≤ 1 }
 {
     let tell = DoorsTell::new(rt, options.seats, ending);
-    let came = run_server(rt, alloc, options, listener, &tell, control);
-    tell_end(rt, ending, came_of(&came))
+    let came = run_by_threads(rt, alloc, options, listener, &tell, control);
+    status_of_threads(rt, ending, &came)
+}
+
+/// Reports how this run of a server by an event loop ended, unless another thread has done so.
+/// Returns the status of the program.
+pub fn status_of_loop<'l, R: Wait + Clock + Eprint, C: Drop, I: Drop>(
+    rt: &R,
+    ending: &Ending,
+    came: &Result<EventLoopRun<TcpLine, TcpDoor<'l, R>, C, I, Core>, Fault>,
+) -> u8
+    ensures { result ≡ status_of_server (came_of_loop (λ door. door.met_fault) came.now) }
+{
+    tell_end(rt, ending, came_of_loop(came))
+}
+
+/// Does the same for a run by threads.
+pub fn status_of_threads<'l, R: Wait + Clock + Eprint, C: Drop, I: Drop>(
+    rt: &R,
+    ending: &Ending,
+    came: &Result<Run<TcpDoor<'l, R>, C, I, Core>, Fault>,
+) -> u8
+    ensures { result ≡ status_of_server (came_of_run (λ door. door.met_fault) came.now) }
+{
+    tell_end(rt, ending, came_of(came))
 }
 
 // Reports how a server ended, unless another thread has done so. Returns the status.
@@ -185,8 +212,14 @@ fn tell_end<R: Eprint>(rt: &R, ending: &Ending, came: Result<(), Fault>) -> u8
     }
 }
 
-// Runs a server by threads, with a new door at this listener for each seat.
-fn run_server<'l, R: Threads + Wait + Clock + Print + Eprint + Sync, I: ControlReader + Drop>(
+/// Runs a server by threads, with a new door at this listener for each seat. Returns the run once it
+/// has ended, or why there is none: the system refused something, or the options are out of their
+/// ranges.
+pub fn run_by_threads<
+    'l,
+    R: Threads + Wait + Clock + Print + Eprint + Sync,
+    I: ControlReader + Drop,
+>(
     rt: &'l R,
     alloc: Global,
     options: &Options,
@@ -209,8 +242,9 @@ fn run_server<'l, R: Threads + Wait + Clock + Print + Eprint + Sync, I: ControlR
     }
 }
 
-// Runs a server by an event loop, in the same way.
-fn run_loop<'l, R: Net + Wait + Clock + Print + Eprint, I: ControlReader + Drop>(
+/// Runs a server by an event loop, in the same way. The listener must not block. The descriptor is
+/// that of the control line; with None it is read to its end before any door is looked at.
+pub fn run_loop<'l, R: Net + Wait + Clock + Print + Eprint, I: ControlReader + Drop>(
     rt: &'l R,
     alloc: Global,
     options: &Options,
@@ -218,7 +252,7 @@ fn run_loop<'l, R: Net + Wait + Clock + Print + Eprint, I: ControlReader + Drop>
     tell: &'l DoorsTell<'l>,
     control: I,
     source: Option<RawFd>,
-) -> Result<EventLoopRun<TcpDoor<'l, R>, TellingClock<'l, R>, I, Core>, Fault>
+) -> Result<EventLoopRun<TcpLine, TcpDoor<'l, R>, TellingClock<'l, R>, I, Core>, Fault>
     ensures served { IfOk result
         (λ run. IsServerLoop I.remaining I.may_fail ⟦<Core as QueueCore>⟧.machine ⟦<Core as QueueCore>⟧.comparisons options.now
         listener.now control run) }
@@ -282,12 +316,18 @@ pub fn serve_doors_by_loop<
     clock: C,
     control: I,
     source: Option<RawFd>,
-) -> Result<EventLoopRun<TcpDoor<'l, R>, C, I, Core>, RunFault>
+) -> Result<EventLoopRun<TcpLine, TcpDoor<'l, R>, C, I, Core>, RunFault>
     requires new { All (λ door. IsNewDoor (door_seen ⟦<TcpDoor<'l, R> as Door>⟧.is_out
         ⟦<TcpDoor<'l, R> as Door>⟧.is_at_end ⟦<TcpDoor<'l, R> as Door>⟧.lines_over door)) doors.items }
-    ensures served { IfOk result (IsEventLoopRun C.given ⟦<TcpDoor<'l, R> as Door>⟧.lines_over I.remaining I.may_fail
-        ⟦<Core as QueueCore>⟧.machine ⟦<Core as QueueCore>⟧.comparisons (settings_of options.now) clock control) }
-    ensures at_end { IfOk result (λ run. All (λ door. (⟦<TcpDoor<'l, R> as Door>⟧.is_out door ≡ false)
+    ensures served { IfOk result (λ run. run.is_over ≡ true → IsEventLoopRun C.given ⟦<TcpDoor<'l, R> as Door>⟧.lines_over
+        I.remaining I.may_fail ⟦<Core as QueueCore>⟧.machine ⟦<Core as QueueCore>⟧.comparisons (settings_of options.now)
+        clock control run) }
+    // The same so far, however the run ended. The connections that are open received a beginning of what the history
+    // prescribes for them.
+    ensures so_far { IfOk result (IsEventLoopSoFar C.given ⟦<TcpLine as Line>⟧.seen ⟦<TcpDoor<'l, R> as Door>⟧.lines_over
+        ⟦<TcpDoor<'l, R> as Door>⟧.is_out ⟦<TcpDoor<'l, R> as Door>⟧.same I.remaining I.may_fail ⟦<Core as QueueCore>⟧.machine
+        ⟦<Core as QueueCore>⟧.comparisons (settings_of options.now) doors.entry.items clock control) }
+    ensures at_end { IfOk result (λ run. run.is_over ≡ true → All (λ door. (⟦<TcpDoor<'l, R> as Door>⟧.is_out door ≡ false)
         × (⟦<TcpDoor<'l, R> as Door>⟧.is_at_end door ≡ true)) run.doors.items) }
     ensures same { IfOk result
         (λ run. AreSame ⟦<TcpDoor<'l, R> as Door>⟧.same doors.entry.items run.doors.items) }
@@ -321,14 +361,20 @@ fn came_of<'l, R: Wait + Clock + Eprint, C: Drop, I: Drop>(
     }
 }
 
-// Returns the same for an event loop.
+// Returns the same for an event loop. If it was broken off, that is a fault too.
 fn came_of_loop<'l, R: Wait + Clock + Eprint, C: Drop, I: Drop>(
-    came: &Result<EventLoopRun<TcpDoor<'l, R>, C, I, Core>, Fault>,
+    came: &Result<EventLoopRun<TcpLine, TcpDoor<'l, R>, C, I, Core>, Fault>,
 ) -> Result<(), Fault>
     ensures { result ≡ came_of_loop (λ door. door.met_fault) came.now }
 {
     match came {
-        Ok(run) => came_of_doors(run.doors.as_slice()),
+        Ok(run) => {
+            if run.is_over {
+                came_of_doors(run.doors.as_slice())
+            } else {
+                Err(Fault::TooManyTurns)
+            }
+        }
         Err(fault) => Err(*fault),
     }
 }

@@ -34,6 +34,7 @@ static FAULTS: &[(Program, Fault)] = &[
     (Program::Bqd, Fault::EpollRefused),
     (Program::Bqd, Fault::BadConfiguration),
     (Program::Bqd, Fault::NotAccepted),
+    (Program::Bqd, Fault::TooManyTurns),
 ];
 
 // The reports of these faults, one after another.
@@ -48,7 +49,8 @@ static REPORTS: &str = "bq: read failed\n\
     bqd: a thread was refused\n\
     bqd: epoll was refused\nbqd: could not watch the listener and standard input\n\
     bqd: bad configuration\n\
-    bqd: a connection could not be accepted\n";
+    bqd: a connection could not be accepted\n\
+    bqd: too many turns\n";
 
 // Returns true if exactly this text is on standard error, and nothing on standard output.
 fn has_told<R: Wait>(heard: &Heard<R>, text: &str) -> bool {

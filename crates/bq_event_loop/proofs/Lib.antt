@@ -7,4 +7,5 @@ mod MarkLemmas
 mod RowLemmas
 mod ServingLemmas
 mod SessionsLemmas
+mod SoFarLemmas
 mod WakeLemmas

@@ -60,7 +60,7 @@ StepsKeepSettings = (first last : Machine) (at seat : ℕ) (what : Step) (outcom
     → IsStep first at seat what outcome given last → last.settings ≡ first.settings
 
 -- A run does not change the settings.
-run_keeps : StepsKeepSettings → (first : Machine) (taken : List Transition) (last : Machine) → GoesBy first taken last
+pub run_keeps : StepsKeepSettings → (first : Machine) (taken : List Transition) (last : Machine) → GoesBy first taken last
     → last.settings ≡ first.settings
 run_keeps law first [] last e = ap (λ (m : Machine). m.settings) e
 run_keeps law first (t ∷ taken) last g =
@@ -68,7 +68,7 @@ run_keeps law first (t ∷ taken) last g =
     ∙ ap (λ (m : Machine). m.settings) g.0
 
 -- no step belongs to a seat above this one
-up_to : (seat : ℕ) (history : List Entry) → ((t : ℕ) → seat < t → steps_at t history ≡ [])
+pub up_to : (seat : ℕ) (history : List Entry) → ((t : ℕ) → seat < t → steps_at t history ≡ [])
     → list_all (λ (e : Entry). nat_le e.seat seat) (without_ticks history) ≡ true
 up_to seat [] h = refl
 up_to seat (e ∷ history) h =
@@ -162,10 +162,6 @@ module _ {L D : Type 0} (seen : L → LineSeen) (at : D → DoorSeen) (settings 
     -- All doors are at their end.
     pub ends_closed : All (λ (d : D). ((at d).is_out ≡ false) × ((at d).is_at_end ≡ true)) doors
     ends_closed t d below = let served = (door_done t below d).served in (served.inside, served.at_end)
-
-    pub ends_settings : StepsKeepSettings → core.core.settings ≡ settings
-    ends_settings law = run_keeps law first.core s.went.runs.1.taken core.core s.went.runs.1.goes
-        ∙ ap (λ (m : Machine). m.settings) new.core
 
     -- The parts, combined.
     pub ends_joined : (text : List ℕ) (failed : Bool) → IsControlDone text failed control

@@ -6,7 +6,9 @@ pub mod Listings
 pub mod Looking
 pub mod LoopCores
 pub mod Marks
+pub mod NewLoops
 pub mod Rows
 pub mod Serving
+pub mod SoFar
 pub mod WakeLists
 pub mod Waits

@@ -1,5 +1,5 @@
 -- Seats that are served at the core of a loop, in any order.
-use Rattle.std.specs.Prelude.{ℕ, ◌≡◌, ◌<◌, ◌≤◌, List, [], ◌++◌, length, Option, slice_index_or}
+use Rattle.std.specs.Prelude.{ℕ, ◌≡◌, ◌<◌, ◌≤◌, Bool, List, [], ◌++◌, length, Option, slice_index_or}
 use Rattle.bq_job.specs.declared.answer.Answer.{Answer}
 use Rattle.bq_job.specs.declared.step.Step.{Step}
 use Rattle.bq_job.specs.machine.Machine.{Machine}
@@ -10,9 +10,14 @@ use Rattle.bq_line.specs.GivenReadings.{GaveReadings}
 use Rattle.bq_line.specs.Tending.{AreSame, DoorSeen, IsTended}
 use Rattle.bq_line.specs.declared.attendant.Attendant.{Attendant}
 use Rattle.bq_event_loop.specs.LoopCores.{state_of}
-use Rattle.bq_host.specs.MailStates.{IsInOrder, MailState}
+use Rattle.bq_host.specs.Clocks.{Gives}
+use Rattle.bq_host.specs.MailStates.{IsInOrder, IsNewMailState, MailState}
+use Rattle.bq_line.specs.ControlSeen.{ControlSeen}
+use Rattle.bq_event_loop.specs.ControlTold.{HasTold}
+use Rattle.bq_event_loop.specs.declared.control_turns.ControlTurns.{ControlTurns}
 use Rattle.bq_host.specs.Went.{CoreWent}
 use Rattle.bq_event_loop.specs.Rows.{AreTended}
+use Rattle.bq_event_loop.specs.SoFar.{Beginning}
 use Rattle.bq_event_loop.specs.declared.loop_core.LoopCore.{LoopCore}
 use Rattle.bq_event_loop.specs.declared.row.Row.{Row}
 
@@ -65,3 +70,19 @@ abbrev pub TurnServes : {C K L D : Type 0} → (K → Machine) → (K → ℕ) �
 TurnServes machine compared given seen at same old row control new later =
     IsInOrder (state_of machine compared new) × AreTended seen at later
     × ServesOn machine compared given seen at same old row control new later
+
+-- What was served since the run began so, with a new core.
+pub record IsServing {L D C I K : Type 0} (given : Gives C) (line_seen : L → LineSeen) (at : D → DoorSeen) (same : D → D → Type 0)
+    (control_seen : I → ControlSeen) (left : I → Option (List ℕ)) (may_fail : I → Bool)
+    (machine : K → Machine) (compared : K → ℕ) (begun : Beginning D C)
+    (core : LoopCore C K) (row : Row L D) (control : ControlTurns I) : Type 0 where
+  pub first : MailState
+  pub told : List Step
+  pub readings : List (Option ℕ)
+  pub is_new : IsNewMailState begun.settings first
+  pub gave : given begun.clock readings core.timed.time.clock
+  pub submits : HasTold control_seen left may_fail begun.left begun.may_fail control told
+  pub many : length row.seats.items ≡ begun.settings.seats
+  pub served : AreServed line_seen at begun.settings.max_job_size told first readings (state_of machine compared core)
+      row.seats.items row.doors.items
+  pub same_doors : AreSame same begun.doors row.doors.items

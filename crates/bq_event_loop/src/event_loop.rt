@@ -2,8 +2,9 @@
 ghost use Rattle.std.specs.Prelude.{◌≡◌, ◌↔◌, ◌&&◌, ◌==◌, true, false, not, IfOk, IsErrOf, IsTrue, vec_len};
 ghost use Rattle.std.specs.List.{All};
 ghost use Rattle.bq_core_api.specs.Limits.{are_in_range};
+ghost use Rattle.bq_job.specs.laws.TheHeadline.{AreJobsServedIn};
 ghost use Rattle.bq_line.specs.Tending.{AreSame, IsNewDoor, door_seen};
-ghost use Rattle.bq_event_loop.specs.EventLoopRuns.{IsEventLoopRun};
+ghost use Rattle.bq_event_loop.specs.EventLoopRuns.{IsEventLoopRun, IsEventLoopSoFar};
 
 use crate::poller::Poller;
 use crate::run::{EventLoopRun, run_turns};
@@ -17,7 +18,6 @@ use std::alloc::Global;
 use std::net::Net;
 use std::os::fd::RawFd;
 use std::rt;
-use std::sync::Wait;
 
 /// Serves the lines of all doors, each door at a seat of its own, until no more lines come at any
 /// of them. The calling thread does everything, as epoll reports that lines are ready. It also
@@ -28,7 +28,7 @@ use std::sync::Wait;
 /// Doors must not block when they are checked. The errors are those of `run_turns`, and
 /// `ThreadRefused` if the system refused epoll, or refused to watch a door or the control line.
 pub fn run_event_loop<
-    R: Net + rt::Clock + Wait,
+    R: Net + rt::Clock,
     L: Line + Drop,
     D: Door<Line = L> + Drop,
     C: Clock + Drop,
@@ -42,7 +42,7 @@ pub fn run_event_loop<
     clock: C,
     control: I,
     control_source: Option<RawFd>,
-) -> Result<EventLoopRun<D, C, I, K>, RunFault>
+) -> Result<EventLoopRun<L, D, C, I, K>, RunFault>
     // No door has a line that is open or was served, and no door is at its end.
     requires new { All
         (λ door. IsNewDoor (door_seen D.is_out D.is_at_end D.lines_over door)) doors.items }
@@ -50,10 +50,22 @@ pub fn run_event_loop<
     // of a reading of the clock. The one-list machine takes this history, the core represents the
     // machine after it, and each line received exactly the bytes that the history prescribes for
     // it.
-    ensures served { IfOk result
-        (IsEventLoopRun C.given D.lines_over I.remaining I.may_fail K.machine K.comparisons config clock control) }
-    ensures at_end { IfOk result
-        (λ run. All (λ door. (D.is_out door ≡ false) × (D.is_at_end door ≡ true)) run.doors.items) }
+    ensures served { IfOk result (λ run. run.is_over ≡ true →
+        IsEventLoopRun C.given D.lines_over I.remaining I.may_fail K.machine K.comparisons config clock control run) }
+    // The same so far, however the run ended. The lines that are open were written a beginning of
+    // what the history prescribes for them.
+    ensures so_far { IfOk result
+        (IsEventLoopSoFar C.given L.seen D.lines_over D.is_out D.same I.remaining I.may_fail K.machine K.comparisons config doors.items clock control) }
+    // Along either history, each job that is handed out is the least one that the client may have. An
+    // undisturbed job is handed out at most once and in order. No job is lost before its deletion.
+    // Once draining has begun, no put is accepted.
+    ensures headline { IfOk result (λ run. (served : IsEventLoopRun C.given D.lines_over I.remaining I.may_fail K.machine K.comparisons config clock control run)
+        → AreJobsServedIn served.history.run) }
+    ensures headline_so_far { IfOk result
+        (λ run. (so_far : IsEventLoopSoFar C.given L.seen D.lines_over D.is_out D.same I.remaining I.may_fail K.machine K.comparisons config doors.items clock control run)
+        → AreJobsServedIn so_far.history.run) }
+    ensures at_end { IfOk result (λ run. run.is_over ≡ true →
+        All (λ door. (D.is_out door ≡ false) × (D.is_at_end door ≡ true)) run.doors.items) }
     // The doors are those that were passed in, in the same order.
     ensures same { IfOk result (λ run. AreSame D.same doors.items run.doors.items) }
     // The core can be used further.
@@ -62,5 +74,5 @@ pub fn run_event_loop<
         ↔ IsTrue (not (are_in_range config && vec_len doors == config.seats)) }
 {
     let turns = Poller::new(rt, alloc, config.seats, doors.as_slice(), control_source);
-    run_turns(rt, alloc, config, doors, clock, control, turns)
+    run_turns(alloc, config, doors, clock, control, turns)
 }

@@ -6,8 +6,8 @@
 pub use event_loop::run_event_loop;
 pub use poller::Poller;
 pub use row::Row;
-pub use run::{EventLoopRun, run_turns};
-pub use turns::{ControlReads, ControlStands, News, Turn, Turns, TurnsFault};
+pub use run::{EventLoop, EventLoopRun, run_turns};
+pub use turns::{Began, ControlReads, ControlStands, News, SoFar, Turn, Turns, TurnsFault};
 
 mod control_turns;
 mod event_loop;

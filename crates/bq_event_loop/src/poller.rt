@@ -18,10 +18,13 @@ ghost use Rattle.bq_event_loop.specs.Waits.{IsWaitWithin};
 
 use crate::row::Row;
 use crate::seat_queue::SeatQueue;
-use crate::turns::{ControlReads, ControlStands, News, Turn, Turns, TurnsFault};
+use crate::turns::{Began, ControlReads, ControlStands, News, SoFar, Turn, Turns, TurnsFault};
 use accepts::Accepts;
+use bq_core_api::QueueCore;
 use bq_job::Moment;
 use bq_line::attendant::{Looked, Progress};
+use bq_line::clock::Clock;
+use bq_line::control_line::ControlInput;
 use bq_line::line::{Line, ReadBuffer, Readiness};
 use bq_line::{Door, Watcher};
 use control_watch::ControlWatch;
@@ -402,11 +405,22 @@ impl<'r, R: rt::Clock> Poller<'r, R> {
 }
 
 impl<'r, R: rt::Clock> Turns for Poller<'r, R> {
-    fn next<L: Line + Drop, D: Door<Line = L>>(
+    // A poller may be used for any run.
+    ghost is_of = { λ begun. Unit {0} };
+
+    fn next<
+        L: Line + Drop,
+        D: Door<Line = L>,
+        C: Clock + Drop,
+        I: ControlInput + Drop,
+        K: QueueCore + Drop,
+    >(
         &mut self,
         alloc: Global,
         row: &mut Row<L, D>,
         news: News,
+        _began: &Began<D, C, I>,
+        _so_far: SoFar<C, I, K>,
     ) -> Turn {
         self.moment = news.moment;
         match self.stage {

@@ -2,19 +2,21 @@
 ghost use Rattle.std.specs.Prelude.{◌≡◌, ◌↔◌, ◌&&◌, ◌==◌, true, false, not, length, IfOk, IsErrOf, IsTrue, vec_len};
 ghost use Rattle.std.specs.List.{All};
 ghost use Rattle.bq_core_api.specs.Limits.{are_in_range};
+ghost use Rattle.bq_job.specs.laws.TheHeadline.{AreJobsServedIn};
 ghost use Rattle.bq_line.specs.Tending.{AreSame, IsNewDoor, IsNewSeat, door_seen};
-ghost use Rattle.bq_event_loop.specs.EventLoopRuns.{IsEventLoopRun};
+ghost use Rattle.bq_event_loop.specs.EventLoopRuns.{IsEventLoopRun, IsEventLoopSoFar};
 ghost use Rattle.bq_event_loop.specs.LoopCores.{state_of};
+ghost use Rattle.bq_event_loop.specs.SoFar.{beginning};
 ghost use Rattle.bq_host.specs.MailStates.{IsInOrder, IsNewMailState};
 
 use crate::control_turns::ControlTurns;
 use crate::loop_core::LoopCore;
 use crate::row::{Row, new_seats};
 use crate::serve::serve;
-use crate::turns::{Turns, TurnsFault};
+use crate::turns::{Began, Turns, TurnsFault};
 use bq_core_api::{Config, QueueCore};
 use bq_host::RunFault;
-use bq_job::steps_keep_settings;
+use bq_job::{steps_keep_settings, the_headline};
 use bq_line::Door;
 use bq_line::attendant::Attendant;
 use bq_line::buffers::Buffers;
@@ -22,15 +24,117 @@ use bq_line::clock::Clock;
 use bq_line::control_line::{ControlLine, ControlReader};
 use bq_line::line::Line;
 use std::alloc::Global;
-use std::sync::Wait;
+use std::snapshot::Snapshot;
 
-/// A run over doors that has ended: the doors with their lines, the clock and the control line as they were left, and the core.
+/// A run over doors that has ended or was broken off: the seats and the doors with their lines, the
+/// clock and the control line as they were left, and the core.
 #[derive(Drop)]
-pub struct EventLoopRun<D, C, I, K> {
+pub struct EventLoopRun<L, D, C, I, K> {
+    /// The seats, each with its line if that is still open.
+    pub seats: Vec<Attendant<L>, Global>,
     pub doors: Vec<D, Global>,
     pub clock: C,
     pub control: ControlLine<I>,
     pub core: K,
+    /// False if the run was broken off, because it took 2^64 - 1 turns.
+    pub is_over: bool,
+}
+
+/// An event loop that is ready to run: a new core with its clock, the seats, and the turns.
+#[derive(Drop)]
+pub struct EventLoop<T: Turns + Drop, L: Line + Drop, C: Clock + Drop, K: QueueCore + Drop> {
+    config: Config,
+    core: LoopCore<C, K>,
+    seats: Vec<Attendant<L>, Global>,
+    turns: T,
+}
+
+impl<T: Turns + Drop, L: Line + Drop, C: Clock + Drop, K: QueueCore + Drop> EventLoop<T, L, C, K> {
+    ghost use Rattle.bq_event_loop.specs.NewLoops.{IsNewLoop};
+
+    /// Prepares a run with these turns. It has no door yet, so it serves no line. All memory is
+    /// allocated here that the run needs at its start.
+    ///
+    /// The error is `BadConfiguration` if the configuration is out of its ranges. Otherwise it is
+    /// `NoMemory` if an allocation failed, or the error of the turns.
+    pub fn new(
+        alloc: Global,
+        config: Config,
+        clock: C,
+        turns: Result<T, TurnsFault>,
+    ) -> Result<EventLoop<T, L, C, K>, RunFault>
+        ensures new { IfOk result (λ ready. IsNewLoop K.machine K.comparisons ready) }
+        ensures config { IfOk result (λ ready. ready.config ≡ config) }
+        ensures clock { IfOk result (λ ready. ready.core.timed.time.clock ≡ clock) }
+        ensures bad_configuration { IsErrOf result RunFault.BadConfiguration ↔ IsTrue
+            (not (are_in_range config)) }
+    {
+        let core: LoopCore<C, K> = LoopCore::new(alloc, config, clock)?;
+        let Ok(seats) = new_seats(alloc, config.seats, config.max_job_size) else {
+            return Err(RunFault::NoMemory);
+        };
+        match turns {
+            Ok(turns) => Ok(EventLoop {
+                config,
+                core,
+                seats,
+                turns,
+            }),
+            Err(fault) => Err(fault.as_run_fault()),
+        }
+    }
+
+    /// Serves the lines of all doors, each door at a seat of its own, until no more lines come at
+    /// any of them. The calling thread does everything, in the order that the turns choose. It also
+    /// reads the control line, where each line `drain` starts draining.
+    ///
+    /// It cannot fail: what may fail was done by `new`.
+    pub fn run<D: Door<Line = L> + Drop, I: ControlReader + Drop>(
+        self,
+        doors: Vec<D, Global>,
+        control: I,
+    ) -> EventLoopRun<L, D, C, I, K>
+        requires ready { IsNewLoop K.machine K.comparisons self }
+        requires doored { length doors.items ≡ self.config.seats }
+        // No door has a line that is open or was served, and no door is at its end.
+        requires new { All
+            (λ door. IsNewDoor (door_seen D.is_out D.is_at_end D.lines_over door)) doors.items }
+        // The turns are for this run.
+        requires of_run { T.is_of (beginning self.config doors.items self.core.timed.time.clock
+            (I.remaining control) (I.may_fail control)) }
+        // There is one history of the steps of all clients and of the control line, each at the
+        // moment of a reading of the clock. The one-list machine takes this history, the core
+        // represents the machine after it, and each line received exactly the bytes that the
+        // history prescribes for it.
+        ensures served { result.is_over ≡ true → IsEventLoopRun C.given D.lines_over I.remaining I.may_fail
+            K.machine K.comparisons self.config self.core.timed.time.clock control result }
+        // The same so far, however the run ended. The lines that are open received a beginning of
+        // what the history prescribes for them.
+        ensures so_far { IsEventLoopSoFar C.given L.seen D.lines_over D.is_out D.same I.remaining I.may_fail
+            K.machine K.comparisons self.config doors.items self.core.timed.time.clock control result }
+        // Along either history, each job that is handed out is the least one that the client may
+        // have. An undisturbed job is handed out at most once and in order. No job is lost before
+        // its deletion. Once draining has begun, no put is accepted.
+        ensures headline { (served : IsEventLoopRun C.given D.lines_over I.remaining I.may_fail K.machine K.comparisons
+            self.config self.core.timed.time.clock control result) → AreJobsServedIn served.history.run }
+        ensures headline_so_far { (so_far : IsEventLoopSoFar C.given L.seen D.lines_over D.is_out D.same I.remaining I.may_fail
+            K.machine K.comparisons self.config doors.items self.core.timed.time.clock control result)
+            → AreJobsServedIn so_far.history.run }
+        ensures at_end { result.is_over ≡ true → All (λ door. (D.is_out door ≡ false) × (D.is_at_end door ≡ true)) result.doors.items }
+        // The doors are those that were passed in, in the same order.
+        ensures same { AreSame D.same doors.items result.doors.items }
+        // The core can be used further.
+        ensures settings { (K.machine result.core).settings ≡ self.config }
+    {
+        let EventLoop {
+            config,
+            core,
+            seats,
+            mut turns,
+        } = self;
+        the_headline();
+        run_at(config, core, seats, doors, control, &mut turns)
+    }
 }
 
 /// Serves the lines of all doors, each door at a seat of its own, until no more lines come at any
@@ -41,7 +145,6 @@ pub struct EventLoopRun<D, C, I, K> {
 /// is not the number of seats. Otherwise it is `NoMemory` if an allocation failed, or the error of
 /// the turns. After any error no door was opened, and the doors are dropped.
 pub fn run_turns<
-    R: Wait,
     T: Turns + Drop,
     L: Line + Drop,
     D: Door<Line = L> + Drop,
@@ -49,25 +152,38 @@ pub fn run_turns<
     I: ControlReader + Drop,
     K: QueueCore + Drop,
 >(
-    rt: &R,
     alloc: Global,
     config: Config,
     doors: Vec<D, Global>,
     clock: C,
     control: I,
     turns: Result<T, TurnsFault>,
-) -> Result<EventLoopRun<D, C, I, K>, RunFault>
+) -> Result<EventLoopRun<L, D, C, I, K>, RunFault>
     // No door has a line that is open or was served, and no door is at its end.
     requires new { All
         (λ door. IsNewDoor (door_seen D.is_out D.is_at_end D.lines_over door)) doors.items }
+    // The turns are for this run.
+    requires of_run { T.is_of (beginning config doors.items clock (I.remaining control) (I.may_fail control)) }
     // There is one history of the steps of all clients and of the control line, each at the moment
     // of a reading of the clock. The one-list machine takes this history, the core represents the
     // machine after it, and each line received exactly the bytes that the history prescribes for
     // it.
-    ensures served { IfOk result
-        (IsEventLoopRun C.given D.lines_over I.remaining I.may_fail K.machine K.comparisons config clock control) }
-    ensures at_end { IfOk result
-        (λ run. All (λ door. (D.is_out door ≡ false) × (D.is_at_end door ≡ true)) run.doors.items) }
+    ensures served { IfOk result (λ run. run.is_over ≡ true →
+        IsEventLoopRun C.given D.lines_over I.remaining I.may_fail K.machine K.comparisons config clock control run) }
+    // The same so far, however the run ended. The lines that are open were written a beginning of
+    // what the history prescribes for them.
+    ensures so_far { IfOk result
+        (IsEventLoopSoFar C.given L.seen D.lines_over D.is_out D.same I.remaining I.may_fail K.machine K.comparisons config doors.items clock control) }
+    // Along either history, each job that is handed out is the least one that the client may have. An
+    // undisturbed job is handed out at most once and in order. No job is lost before its deletion.
+    // Once draining has begun, no put is accepted.
+    ensures headline { IfOk result (λ run. (served : IsEventLoopRun C.given D.lines_over I.remaining I.may_fail K.machine K.comparisons config clock control run)
+        → AreJobsServedIn served.history.run) }
+    ensures headline_so_far { IfOk result
+        (λ run. (so_far : IsEventLoopSoFar C.given L.seen D.lines_over D.is_out D.same I.remaining I.may_fail K.machine K.comparisons config doors.items clock control run)
+        → AreJobsServedIn so_far.history.run) }
+    ensures at_end { IfOk result (λ run. run.is_over ≡ true →
+        All (λ door. (D.is_out door ≡ false) × (D.is_at_end door ≡ true)) run.doors.items) }
     // The doors are those that were passed in, in the same order.
     ensures same { IfOk result (λ run. AreSame D.same doors.items run.doors.items) }
     // The core can be used further.
@@ -78,20 +194,13 @@ pub fn run_turns<
     if doors.len() != usize::from(config.seats) {
         return Err(RunFault::BadConfiguration);
     }
-    let core: LoopCore<C, K> = LoopCore::new(alloc, config, clock)?;
-    let Ok(seats) = new_seats(alloc, config.seats, config.max_job_size) else {
-        return Err(RunFault::NoMemory);
-    };
-    let mut turns = match turns {
-        Ok(turns) => turns,
-        Err(fault) => return Err(fault.as_run_fault()),
-    };
-    Ok(run_at(rt, config, core, seats, doors, control, &mut turns))
+    let ready: EventLoop<T, L, C, K> = EventLoop::new(alloc, config, clock, turns)?;
+    the_headline();
+    Ok(ready.run(doors, control))
 }
 
 // The run, from a new core and new seats on.
 fn run_at<
-    R: Wait,
     T: Turns,
     L: Line + Drop,
     D: Door<Line = L> + Drop,
@@ -99,37 +208,70 @@ fn run_at<
     I: ControlReader + Drop,
     K: QueueCore + Drop,
 >(
-    rt: &R,
     config: Config,
     core: LoopCore<C, K>,
     seats: Vec<Attendant<L>, Global>,
     doors: Vec<D, Global>,
     control: I,
     turns: &mut T,
-) -> EventLoopRun<D, C, I, K>
+) -> EventLoopRun<L, D, C, I, K>
     requires made { IsNewMailState config (state_of K.machine K.comparisons core) }
     requires order { IsInOrder (state_of K.machine K.comparisons core) }
     requires many { length seats.items ≡ config.seats }
     requires doored { length doors.items ≡ config.seats }
+    requires of_run { T.is_of (beginning config doors.items core.timed.time.clock (I.remaining control) (I.may_fail control)) }
     requires new_seats { All (IsNewSeat config.max_job_size) seats.items }
     requires new_doors { All
         (λ door. IsNewDoor (door_seen D.is_out D.is_at_end D.lines_over door)) doors.items }
-    ensures served { IsEventLoopRun C.given D.lines_over I.remaining I.may_fail K.machine K.comparisons config core.timed.time.clock control result }
-    ensures at_end { All (λ door. (D.is_out door ≡ false) × (D.is_at_end door ≡ true)) result.doors.items }
+    ensures served { result.is_over ≡ true →
+        IsEventLoopRun C.given D.lines_over I.remaining I.may_fail K.machine K.comparisons config core.timed.time.clock control result }
+    ensures so_far { IsEventLoopSoFar C.given L.seen D.lines_over D.is_out D.same I.remaining I.may_fail K.machine K.comparisons config doors.items core.timed.time.clock control result }
+    ensures at_end { result.is_over ≡ true → All (λ door. (D.is_out door ≡ false) × (D.is_at_end door ≡ true)) result.doors.items }
     ensures same { AreSame D.same doors.items result.doors.items }
     ensures settings { (K.machine result.core).settings ≡ config }
 {
     let mut core = core;
+    let input = ControlLine::new(control);
+    let began = begin_with(&config, &doors, &core.timed.time.clock, &input);
     let mut row = Row { seats, doors };
-    let mut control = ControlTurns::new(ControlLine::new(control));
+    let mut control = ControlTurns::new(input);
     let mut buffers = Buffers::new();
-    serve(rt, turns, &mut row, &mut control, &mut core, &mut buffers);
+    let is_over = serve(
+        &began,
+        turns,
+        &mut row,
+        &mut control,
+        &mut core,
+        &mut buffers,
+    );
     steps_keep_settings();
     let timed = core.timed;
     EventLoopRun {
+        seats: row.seats,
         doors: row.doors,
         clock: timed.time.clock,
         control: control.input,
         core: timed.core,
+        is_over,
+    }
+}
+
+// What a run begins with, for the proofs.
+fn begin_with<D, C, I>(
+    config: &Config,
+    doors: &Vec<D, Global>,
+    clock: &C,
+    control: &I,
+) -> Began<D, C, I>
+    ensures config { result.config.value ≡ config.now }
+    ensures doors { result.doors.value ≡ doors.now }
+    ensures clock { result.clock.value ≡ clock.now }
+    ensures control { result.control.value ≡ control.now }
+{
+    Began {
+        config: Snapshot::of(config),
+        doors: Snapshot::of(doors),
+        clock: Snapshot::of(clock),
+        control: Snapshot::of(control),
     }
 }

@@ -6,14 +6,15 @@ ghost use Rattle.bq_event_loop.specs.ControlTold.{TellsOn};
 ghost use Rattle.bq_host.specs.MailStates.{IsInOrder};
 ghost use Rattle.bq_event_loop.specs.LoopCores.{WentAt, state_of};
 ghost use Rattle.bq_event_loop.specs.Rows.{AreDone};
-ghost use Rattle.bq_event_loop.specs.Serving.{AreReady, AreReadyFor, ServesOn, TurnServes};
+ghost use Rattle.bq_event_loop.specs.Serving.{AreReady, AreReadyFor, IsServing, ServesOn, TurnServes};
+ghost use Rattle.bq_event_loop.specs.SoFar.{beginning};
 ghost use Rattle.bq_event_loop.specs.WakeLists.{none_waits};
 ghost use Rattle.bq_event_loop.specs.declared.control_turns.Stage.TheVariants as stages;
 
 use crate::control_turns::ControlTurns;
 use crate::loop_core::{LoopCore, attend};
 use crate::row::Row;
-use crate::turns::{ControlReads, News, Turn, Turns};
+use crate::turns::{Began, ControlReads, News, SoFar, Turn, Turns};
 use bq_core_api::QueueCore;
 use bq_job::Seat;
 use bq_line::Door;
@@ -22,28 +23,34 @@ use bq_line::buffers::Buffers;
 use bq_line::clock::Clock;
 use bq_line::control_line::ControlInput;
 use bq_line::line::Line;
-use std::sync::Wait;
+use std::snapshot::Snapshot;
 
-/// Serves all seats and the control line, one turn at a time, until every seat is done and the control line is over.
+/// Serves all seats and the control line, one turn at a time, until every seat is done and the
+/// control line is over. Returns false if that was not reached within 2^64 - 1 turns, which at a
+/// million turns a second last for half a million years.
 pub fn serve<
-    R: Wait,
     T: Turns,
     L: Line + Drop,
     D: Door<Line = L>,
     C: Clock + Drop,
-    I: ControlInput,
+    I: ControlInput + Drop,
     K: QueueCore + Drop,
 >(
-    rt: &R,
+    began: &Began<D, C, I>,
     turns: &mut T,
     row: &mut Row<L, D>,
     control: &mut ControlTurns<I>,
     core: &mut LoopCore<C, K>,
     buffers: &mut Buffers,
-)
+) -> bool
     requires ready { AreReady K.machine K.comparisons L.seen (door_seen D.is_out D.is_at_end D.lines_over) core.old row.old }
-    ensures done { AreDone row.new.seats.items }
-    ensures over { control.new.stage ≡ stages.Over }
+    requires of_run { T.is_of (beginning began.now.config.value began.now.doors.value.items began.now.clock.value
+        (I.remaining began.now.control.value) (I.may_fail began.now.control.value)) }
+    requires serving { IsServing C.given L.seen (door_seen D.is_out D.is_at_end D.lines_over) D.same I.seen I.remaining I.may_fail
+        K.machine K.comparisons (beginning began.now.config.value began.now.doors.value.items began.now.clock.value
+        (I.remaining began.now.control.value) (I.may_fail began.now.control.value)) core.old row.old control.old }
+    ensures done { result ≡ true → AreDone row.new.seats.items }
+    ensures over { result ≡ true → control.new.stage ≡ stages.Over }
     ensures served { (told : List Step) × TellsOn I.seen I.remaining I.may_fail control.old told control.new
         × ServesOn K.machine K.comparisons C.given L.seen (door_seen D.is_out D.is_at_end D.lines_over) D.same
         core.old row.old told core.new row.new }
@@ -54,26 +61,37 @@ pub fn serve<
         moment: core.timed.time.moment,
         control: control.stands(),
     };
-    for _ in rt.forever() {
-        let turn = turns.next(core.timed.alloc, row, news);
-        if take_turn(rt, turn, row, control, core, buffers, &mut news) {
-            return;
+    for _ in 0..u64::MAX {
+        let turn = turns.next(core.timed.alloc, row, news, began, so_far(control, core));
+        if take_turn(turn, row, control, core, buffers, &mut news) {
+            return true;
         }
         wake_all(turns, core);
     }
-    unreachable!()
+    false
+}
+
+// The clock, the control line and the core at this turn, for the proofs.
+fn so_far<C, I, K>(control: &ControlTurns<I>, core: &LoopCore<C, K>) -> SoFar<C, I, K>
+    ensures clock { result.clock.value ≡ core.now.timed.time.clock }
+    ensures control { result.control.value ≡ control.now.input }
+    ensures core { result.core.value ≡ core.now.timed.core }
+{
+    SoFar {
+        clock: Snapshot::of(&core.timed.time.clock),
+        control: Snapshot::of(&control.input),
+        core: Snapshot::of(&core.timed.core),
+    }
 }
 
 // Does what a turn says. Returns true if the run ends here.
 fn take_turn<
-    R: Wait,
     L: Line + Drop,
     D: Door<Line = L>,
     C: Clock + Drop,
     I: ControlInput,
     K: QueueCore + Drop,
 >(
-    rt: &R,
     turn: Turn,
     row: &mut Row<L, D>,
     control: &mut ControlTurns<I>,
@@ -100,7 +118,7 @@ fn take_turn<
             false
         }
         Turn::Control(reads) => {
-            serve_control(rt, control, core, reads);
+            serve_control(control, core, reads);
             news.control = control.stands();
             false
         }
@@ -260,8 +278,7 @@ fn act<L: Line + Drop, D: Door<Line = L>, C: Clock + Drop, K: QueueCore + Drop>(
 
 // Reads the control line as far as the turn says, and submits its steps. It stops early if a step
 // is rejected.
-fn serve_control<R: Wait, C: Clock + Drop, I: ControlInput, K: QueueCore + Drop>(
-    rt: &R,
+fn serve_control<C: Clock + Drop, I: ControlInput, K: QueueCore + Drop>(
     control: &mut ControlTurns<I>,
     core: &mut LoopCore<C, K>,
     reads: ControlReads,
@@ -273,7 +290,7 @@ fn serve_control<R: Wait, C: Clock + Drop, I: ControlInput, K: QueueCore + Drop>
         × WentAt K.machine K.comparisons C.given (length core.old.mails.items) core.old told [] core.new }
 {
     let mut may_wait = reads != ControlReads::Buffered;
-    for _ in rt.forever() {
+    for _ in 0..u64::MAX {
         if !submit_owed(control, core) {
             return;
         }
@@ -283,7 +300,6 @@ fn serve_control<R: Wait, C: Clock + Drop, I: ControlInput, K: QueueCore + Drop>
         control.read();
         may_wait = reads == ControlReads::ToEnd;
     }
-    unreachable!()
 }
 
 // Returns true if the control line is not read further now.

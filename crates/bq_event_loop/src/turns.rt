@@ -2,14 +2,19 @@
 ghost use Rattle.std.specs.Prelude.{◌≡◌};
 ghost use Rattle.bq_line.specs.Tending.{door_seen};
 ghost use Rattle.bq_event_loop.specs.Rows.{AreTended, KeepsRow};
+ghost use Rattle.bq_event_loop.specs.SoFar.{IsLoopSoFar, beginning};
 
 use crate::row::Row;
+use bq_core_api::{Config, QueueCore};
 use bq_host::RunFault;
 use bq_job::Moment;
 use bq_line::Door;
 use bq_line::attendant::Progress;
+use bq_line::clock::Clock;
+use bq_line::control_line::ControlInput;
 use bq_line::line::Line;
 use std::alloc::Global;
+use std::snapshot::Snapshot;
 
 /// What the loop does next.
 #[derive(Clone, Copy)]
@@ -63,6 +68,23 @@ pub struct News {
     pub control: ControlStands,
 }
 
+/// What a run began with, for the proofs alone: it has no bytes.
+#[derive(Drop)]
+pub struct Began<D, C, I> {
+    pub config: Snapshot<Config>,
+    pub doors: Snapshot<Vec<D, Global>>,
+    pub clock: Snapshot<C>,
+    pub control: Snapshot<I>,
+}
+
+/// The clock, the control line and the core at a turn, for the proofs alone: it has no bytes.
+#[derive(Drop)]
+pub struct SoFar<C, I, K> {
+    pub clock: Snapshot<C>,
+    pub control: Snapshot<I>,
+    pub core: Snapshot<K>,
+}
+
 /// The reason why turns could not be prepared.
 #[derive(Clone, Copy)]
 pub enum TurnsFault {
@@ -88,15 +110,37 @@ impl TurnsFault {
 /// new lines at doors, and exchange read buffers. It cannot submit a step or take an answer, so
 /// nothing that it chooses or forgets makes an answer wrong.
 pub trait Turns {
+    /// What is known of the run that these turns are for, by what it began with.
+    ghost is_of: { {B : Type 0} → B → Type 0 };
+
     /// Returns the next turn. It may wait here, but for no longer than `news.due`, and only after a
     /// `Turn::Time`.
-    fn next<L: Line + Drop, D: Door<Line = L>>(
+    fn next<
+        L: Line + Drop,
+        D: Door<Line = L>,
+        C: Clock + Drop,
+        I: ControlInput + Drop,
+        K: QueueCore + Drop,
+    >(
         &mut self,
         alloc: Global,
         row: &mut Row<L, D>,
         news: News,
+        began: &Began<D, C, I>,
+        so_far: SoFar<C, I, K>,
     ) -> Turn
         requires tended { AreTended L.seen (door_seen D.is_out D.is_at_end D.lines_over) row.old }
+        // `began` is what the run of these turns began with.
+        requires of_run { is_of (beginning began.now.config.value began.now.doors.value.items began.now.clock.value
+            (I.remaining began.now.control.value) (I.may_fail began.now.control.value)) }
+        // The promise, at this moment: there is one history of all steps so far, the core represents
+        // the machine after it, and each client has received the bytes that it is owed along it. If
+        // its line is open, it has received a beginning of them.
+        requires so_far { IsLoopSoFar C.given L.seen D.lines_over D.is_out D.same K.machine K.comparisons
+            (beginning began.now.config.value began.now.doors.value.items began.now.clock.value
+            (I.remaining began.now.control.value) (I.may_fail began.now.control.value))
+            row.old.seats.items row.old.doors.items so_far.clock.value (I.seen so_far.control.value)
+            (I.remaining so_far.control.value) so_far.core.value }
         ensures keeps { KeepsRow L.seen (door_seen D.is_out D.is_at_end D.lines_over) D.same row.old row.new };
 
     /// Reports that a seat has mail, which another seat's step or a tick put there, so that the

@@ -6,7 +6,6 @@ use bq_event_loop::ControlReads;
 use bq_serve_tests::control::Gives;
 use bq_serve_tests::drains::EXAMPLES;
 use std::alloc::Global;
-use std::sync::Wait;
 
 fn at_once(drains: bool) -> &'static str {
     if drains {
@@ -26,17 +25,17 @@ fn later(drains: bool) -> &'static str {
 
 // Returns true if a put is rejected exactly if the control line drains, whether it is read to its
 // end first, or while the client waits before its put.
-fn puts<R: Wait>(rt: &R, alloc: Global, gives: &'static [Gives], drains: bool) -> bool {
+fn puts(alloc: Global, gives: &'static [Gives], drains: bool) -> bool {
     let (first, between) = (
         Series::Control(gives, ControlReads::ToEnd),
         Series::Control(gives, ControlReads::Once),
     );
-    come_out(rt, alloc, at_once(drains), first) && come_out(rt, alloc, later(drains), between)
+    come_out(alloc, at_once(drains), first) && come_out(alloc, later(drains), between)
 }
 
 #[test]
 fn control_lines(rt: HostRuntime) {
     for (gives, drains) in EXAMPLES {
-        assert!(rt; puts(&rt, rt.alloc(), gives, *drains));
+        assert!(rt; puts(rt.alloc(), gives, *drains));
     }
 }

@@ -13,8 +13,8 @@ static ALL_WRITTEN: &str = "put 0 0 9 1~x~reserve~delete 1~ > INSERTED 1~RESERVE
 
 #[test]
 fn write_fails_after_each_byte(rt: HostRuntime) {
-    assert!(rt; come_out(&rt, rt.alloc(), WRITE_FAILS, Series::WriteFails(38)));
-    assert!(rt; come_out(&rt, rt.alloc(), ALL_WRITTEN, Series::WriteAll(38)));
+    assert!(rt; come_out(rt.alloc(), WRITE_FAILS, Series::WriteFails(38)));
+    assert!(rt; come_out(rt.alloc(), ALL_WRITTEN, Series::WriteAll(38)));
 }
 
 static READ_FAILS: &str = "put 0 0 9 1~x~reserve~delete 1~ \
@@ -23,5 +23,5 @@ static READ_FAILS: &str = "put 0 0 9 1~x~reserve~delete 1~ \
 
 #[test]
 fn read_fails_after_each_byte(rt: HostRuntime) {
-    assert!(rt; come_out(&rt, rt.alloc(), READ_FAILS, Series::ReadFails(36)));
+    assert!(rt; come_out(rt.alloc(), READ_FAILS, Series::ReadFails(36)));
 }

@@ -16,7 +16,7 @@ static BODIES: &str = "put 0 0 60 200~ + times 200 x + ~reserve~ + after 230 + d
 
 #[test]
 fn answers_in_parts(rt: HostRuntime) {
-    assert!(rt; come_out(&rt, rt.alloc(), BODIES, Series::Long));
+    assert!(rt; come_out(rt.alloc(), BODIES, Series::Long));
 }
 
 // One client receives nothing until the others have received everything.
@@ -32,5 +32,5 @@ static STOPS: &str = "stops 60 + list-tube-used~use a~ > USING default~USING a~
 
 #[test]
 fn clients_that_read_nothing(rt: HostRuntime) {
-    assert!(rt; come_out(&rt, rt.alloc(), STOPS, Series::Rules));
+    assert!(rt; come_out(rt.alloc(), STOPS, Series::Rules));
 }

@@ -3,7 +3,10 @@ ghost use Rattle.bq_line.specs.Tending.{door_seen};
 ghost use Rattle.bq_event_loop.specs.Rows.{AreTended, KeepsRow};
 
 use crate::together::Together;
-use bq_event_loop::{ControlReads, News, Row, Turn, Turns};
+use bq_core_api::QueueCore;
+use bq_event_loop::{Began, ControlReads, News, Row, SoFar, Turn, Turns};
+use bq_line::clock::Clock;
+use bq_line::control_line::ControlInput;
 use bq_line::line::Line;
 use bq_line::{Door, Watcher};
 use std::alloc::Global;
@@ -191,11 +194,22 @@ impl<'t> Order<'t> {
 }
 
 impl<'t> Turns for Order<'t> {
-    fn next<L: Line + Drop, D: Door<Line = L>>(
+    // An order may be used for any run.
+    ghost is_of = { λ begun. Unit {0} };
+
+    fn next<
+        L: Line + Drop,
+        D: Door<Line = L>,
+        C: Clock + Drop,
+        I: ControlInput + Drop,
+        K: QueueCore + Drop,
+    >(
         &mut self,
         alloc: Global,
         row: &mut Row<L, D>,
         news: News,
+        _began: &Began<D, C, I>,
+        _so_far: SoFar<C, I, K>,
     ) -> Turn {
         self.note(news.progress.has_moved());
         self.count();

@@ -8,12 +8,12 @@ use crate::worked::MORE;
 // the other runs more than 85.
 #[test]
 fn cut_at_each_byte(rt: HostRuntime) {
-    assert!(rt; come_out(&rt, rt.alloc(), "examples", Series::Cut(45)));
-    assert!(rt; come_out(&rt, rt.alloc(), MORE, Series::Cut(85)));
+    assert!(rt; come_out(rt.alloc(), "examples", Series::Cut(45)));
+    assert!(rt; come_out(rt.alloc(), MORE, Series::Cut(85)));
 }
 
 #[test]
 fn few_bytes_at_a_time(rt: HostRuntime) {
-    assert!(rt; come_out(&rt, rt.alloc(), "examples", Series::Few));
-    assert!(rt; come_out(&rt, rt.alloc(), MORE, Series::Few));
+    assert!(rt; come_out(rt.alloc(), "examples", Series::Few));
+    assert!(rt; come_out(rt.alloc(), MORE, Series::Few));
 }

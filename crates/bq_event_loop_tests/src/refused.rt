@@ -10,7 +10,6 @@ use bq_host::RunFault;
 use bq_serve_tests::refused::{REFUSED, Refused, opens_of};
 use bq_serve_tests::settings::config;
 use std::alloc::Global;
-use std::sync::Wait;
 
 // The one client, at the one door. The limit of body sizes is 1.
 static ONE: &str = "put 5 0 10 3~abc~ > JOB_TOO_BIG~";
@@ -21,11 +20,11 @@ const ONE_RUN: Run = Run {
     clients: 1,
 };
 
-fn is_refused<R: Wait>(rt: &R, alloc: Global, row: &Refused, fault: Option<TurnsFault>) -> bool {
+fn is_refused(alloc: Global, row: &Refused, fault: Option<TurnsFault>) -> bool {
     let all = Together::new();
     let table = Table::of_text(alloc, ONE);
     let (config, setting) = (config(row.0, row.1), by_rule(Rule::Next));
-    let is_so = match ran_so(rt, alloc, config, &table, ONE_RUN, &setting, fault, &all) {
+    let is_so = match ran_so(alloc, config, &table, ONE_RUN, &setting, fault, &all) {
         Ok(is_so) => is_so && row.2.is_none(),
         Err(fault) => row.2 == Some(fault),
     };
@@ -35,25 +34,20 @@ fn is_refused<R: Wait>(rt: &R, alloc: Global, row: &Refused, fault: Option<Turns
 #[test]
 fn refused_runs(rt: HostRuntime) {
     for row in REFUSED {
-        assert!(rt; is_refused(&rt, rt.alloc(), row, None));
+        assert!(rt; is_refused(rt.alloc(), row, None));
     }
 }
 
 // Turns that could not be prepared. The configuration is checked first.
-fn are_refused<R: Wait>(rt: &R, alloc: Global) -> bool {
+fn are_refused(alloc: Global) -> bool {
     let no_memory = Some(TurnsFault::NoMemory);
     let refused = Some(TurnsFault::Refused);
-    is_refused(rt, alloc, &(1, 1, Some(RunFault::NoMemory)), no_memory)
-        && is_refused(rt, alloc, &(1, 1, Some(RunFault::ThreadRefused)), refused)
-        && is_refused(
-            rt,
-            alloc,
-            &(2, 1, Some(RunFault::BadConfiguration)),
-            refused,
-        )
+    is_refused(alloc, &(1, 1, Some(RunFault::NoMemory)), no_memory)
+        && is_refused(alloc, &(1, 1, Some(RunFault::ThreadRefused)), refused)
+        && is_refused(alloc, &(2, 1, Some(RunFault::BadConfiguration)), refused)
 }
 
 #[test]
 fn refused_turns(rt: HostRuntime) {
-    assert!(rt; are_refused(&rt, rt.alloc()));
+    assert!(rt; are_refused(rt.alloc()));
 }

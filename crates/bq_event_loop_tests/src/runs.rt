@@ -11,13 +11,19 @@ use bq_core_api::Config;
 use bq_event_loop::{EventLoopRun, TurnsFault, run_turns};
 use bq_host::RunFault;
 use bq_job::{Moment, USUAL_BODY};
+use bq_line::Door;
 use bq_line::clock::ScriptClock;
 use bq_serve_tests::control::{Control, control};
 use bq_serve_tests::settings::config;
 use std::alloc::Global;
-use std::sync::Wait;
 
-type Ran<'t> = EventLoopRun<ScriptDoor<'t>, ScriptClock, Control, Core>;
+type Ran<'t> = EventLoopRun<
+    <ScriptDoor<'t> as Door>::Line,
+    ScriptDoor<'t>,
+    ScriptClock,
+    Control,
+    Core,
+>;
 
 // Returns a clock that gives these readings. If an allocation fails, it lacks some of them.
 fn clock_of(alloc: Global, readings: &'static str) -> ScriptClock {
@@ -55,8 +61,7 @@ fn turns_of<'t>(
 
 /// Runs the doors of a run in a table, unless the turns have this fault. Returns true if this
 /// leaves the results at their lines that the table says. All tests use this one call.
-pub fn ran_so<R: Wait>(
-    rt: &R,
+pub fn ran_so(
     alloc: Global,
     config: Config,
     table: &Table,
@@ -71,21 +76,19 @@ pub fn ran_so<R: Wait>(
     let doors = doors_of(alloc, table, run, setting, all);
     let clock = clock_of(alloc, setting.readings);
     let turns = turns_of(setting, fault, all);
-    let ran: Result<Ran<'_>, RunFault> = run_turns(
-        rt, alloc, config, doors.all, clock, control, turns,
-    );
+    let ran: Result<Ran<'_>, RunFault> = run_turns(alloc, config, doors.all, clock, control, turns);
     match ran {
-        Ok(ran) => Ok(are_left_so(ran.doors, setting)),
+        Ok(ran) => Ok(ran.is_over && are_left_so(ran.doors, setting)),
         Err(fault) => Err(fault),
     }
 }
 
 // Returns true if a run has the results of the table, and opens each door once for each line and
 // once more.
-fn comes_out<R: Wait>(rt: &R, alloc: Global, table: &Table, run: Run, setting: &Setting) -> bool {
+fn comes_out(alloc: Global, table: &Table, run: Run, setting: &Setting) -> bool {
     let all = Together::new();
     let config = config(run.doors.min(256) as u16, USUAL_BODY);
-    match ran_so(rt, alloc, config, table, run, setting, None, &all) {
+    match ran_so(alloc, config, table, run, setting, None, &all) {
         Ok(is_so) => {
             let opens = run.clients.saturating_add(run.doors) as u64;
             is_so && !all.has_given_up() && all.opened() == opens
@@ -96,12 +99,12 @@ fn comes_out<R: Wait>(rt: &R, alloc: Global, table: &Table, run: Run, setting: &
 
 /// Returns true if each run that the text describes has the results that it says, with each setting
 /// of the series.
-pub fn come_out<R: Wait>(rt: &R, alloc: Global, text: &'static str, series: Series) -> bool {
+pub fn come_out(alloc: Global, text: &'static str, series: Series) -> bool {
     let table = Table::of_text(alloc, text);
     for number in 0..series.len() {
         let setting = series.setting(number);
         for run in &table.runs {
-            if !comes_out(rt, alloc, &table, *run, &setting) {
+            if !comes_out(alloc, &table, *run, &setting) {
                 return false;
             }
         }

@@ -22,5 +22,5 @@ static DUE: &str = "reserve-with-timeout 1~list-tube-used~ > TIMED_OUT~USING def
 
 #[test]
 fn what_is_due_comes(rt: HostRuntime) {
-    assert!(rt; come_out(&rt, rt.alloc(), DUE, Series::Timed));
+    assert!(rt; come_out(rt.alloc(), DUE, Series::Timed));
 }

@@ -35,10 +35,10 @@ pub static MORE: &str = "use b~put 0 0 9 1~p~use a~put 0 0 9 1~q~ \
 
 #[test]
 fn worked_runs(rt: HostRuntime) {
-    assert!(rt; come_out(&rt, rt.alloc(), "examples", Series::Rules));
+    assert!(rt; come_out(rt.alloc(), "examples", Series::Rules));
 }
 
 #[test]
 fn more_worked_runs(rt: HostRuntime) {
-    assert!(rt; come_out(&rt, rt.alloc(), MORE, Series::Rules));
+    assert!(rt; come_out(rt.alloc(), MORE, Series::Rules));
 }

@@ -4,6 +4,7 @@ pub mod CarriedLemmas
 pub mod ControlLemmas
 pub mod EventLemmas
 pub mod LineNumberLemmas
+pub mod LineSoFarLemmas
 pub mod PartLemmas
 pub mod ReadingsLemmas
 pub mod SeatLemmas

@@ -42,6 +42,7 @@ fault_text faults.ThreadRefused = codes "a thread was refused"
 fault_text faults.EpollRefused = codes "epoll was refused"
 fault_text faults.BadConfiguration = codes "bad configuration"
 fault_text faults.NotAccepted = codes "a connection could not be accepted"
+fault_text faults.TooManyTurns = codes "too many turns"
 
 abbrev pub need_text : Need → List ℕ
 need_text needs.Options = codes "could not allocate memory for the options"

@@ -38,6 +38,8 @@ pub enum Fault {
     BadConfiguration,
     /// Some seat ended because a connection could not be accepted.
     NotAccepted,
+    /// An event loop took 2^64 - 1 turns, which at a million a second last for half a million years.
+    TooManyTurns,
 }
 
 impl Fault {
@@ -55,6 +57,7 @@ impl Fault {
             Fault::EpollRefused => "epoll was refused",
             Fault::BadConfiguration => "bad configuration",
             Fault::NotAccepted => "a connection could not be accepted",
+            Fault::TooManyTurns => "too many turns",
         }
     }
 

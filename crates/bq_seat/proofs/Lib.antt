@@ -8,3 +8,4 @@ pub mod OrderlyLemmas
 pub mod OutstandingLemmas
 pub mod ReadingLemmas
 pub mod StepLemmas
+pub mod StepsSoFarLemmas

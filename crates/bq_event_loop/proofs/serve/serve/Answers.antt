@@ -1,8 +1,10 @@
-use Rattle.std.proofs.Common.{◌≤◌, ◌++◌, ◌∙◌, [], ap, length, refl, subst, sym}
+use Rattle.std.proofs.Common.{◌≤◌, ◌++◌, ◌∙◌, [], subst, sym}
 use Rattle.bq_line.specs.Tending.{door_seen}
+use Rattle.bq_event_loop.specs.SoFar.{beginning}
 use Rattle.bq_event_loop.proofs.ControlLemmas.{tells_none, tells_then}
 use Rattle.bq_event_loop.proofs.LoopCoreLemmas.{order_woken}
 use Rattle.bq_event_loop.proofs.RowLemmas.{rested_none}
+use Rattle.bq_event_loop.proofs.SoFarLemmas.{serving_on, serving_so_far, so_far_as}
 use Rattle.bq_event_loop.proofs.ServingLemmas.{serves_none, serves_on, serves_rested, serves_then, serves_woken}
 use Rattle.bq_event_loop.proofs.serve.serve.Goals as goal
 
@@ -10,7 +12,6 @@ pub loop-init : goal.loop-init
 loop-init g c =
     let at = door_seen g.D.Door.is_out g.D.Door.is_at_end g.D.Door.lines_over in
     record {
-      iterator = (tt, tt);
       ready = c.requires.ready;
       served = (
         [],
@@ -70,7 +71,6 @@ loop-preserved g c =
     later (i.0 ++ t.0) turned
     (serves_woken g.L.Line.seen at machine compared g.C.Clock.given g.D.Door.same core woken later same) in
     record {
-      iterator = (tt, tt);
       ready = (
         order_woken machine compared core woken same t.2.0,
         t.2.1,
@@ -83,4 +83,26 @@ loop-preserved g c =
             c.take_turn.new.control i.0 t.0 i.1 t.1,
         all,
       );
+    }
+
+pub next-turn-requires : goal.next-turn-requires
+next-turn-requires g c =
+    let l = c.loop in
+    let i = l.invariant.served in
+    let b = c.args.began.now in
+    let begun = beginning b.config.value b.doors.value.items b.clock.value (g.I.ControlInput.remaining b.control.value)
+    (g.I.ControlInput.may_fail b.control.value) in
+    let serving = serving_on g.C.Clock.given g.L.Line.seen g.D.Door.is_out g.D.Door.is_at_end g.D.Door.lines_over g.D.Door.same
+    g.I.ControlInput.seen g.I.ControlInput.remaining g.I.ControlInput.may_fail g.K.QueueCore.machine g.K.QueueCore.comparisons
+    begun c.args.core.now l.core c.args.row.now l.row c.args.control.now l.control i.0 c.requires.serving i.1 i.2 in
+    let so_far = serving_so_far g.C.Clock.given g.L.Line.seen g.D.Door.is_out g.D.Door.is_at_end g.D.Door.lines_over g.D.Door.same
+    g.I.ControlInput.seen g.I.ControlInput.remaining g.I.ControlInput.may_fail g.K.QueueCore.machine g.K.QueueCore.comparisons
+    begun l.core l.row l.control serving in
+    record {
+      tended = l.invariant.ready.1;
+      of_run = c.requires.of_run;
+      so_far = so_far_as g.C.Clock.given g.L.Line.seen g.D.Door.is_out g.D.Door.is_at_end g.D.Door.lines_over g.D.Door.same
+          g.I.ControlInput.seen g.I.ControlInput.remaining g.I.ControlInput.may_fail g.K.QueueCore.machine g.K.QueueCore.comparisons
+          begun l.row.seats.items l.row.doors.items l.core.timed.time.clock _ l.control.input _ l.core.timed.core _
+          c.so_far.ensures.clock c.so_far.ensures.control c.so_far.ensures.core so_far;
     }

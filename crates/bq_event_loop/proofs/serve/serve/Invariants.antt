@@ -7,7 +7,6 @@ use Rattle.bq_event_loop.proofs.serve.serve.Given as goal
 
 abbrev pub invariant-loop : goal.invariant-loop
 invariant-loop g l = record {
-  iterator : (goal.iterator-loop g).can_next l.iterator' × (goal.iterator-loop g).is_finite l.iterator';
   ready : AreReady g.K.QueueCore.machine g.K.QueueCore.comparisons g.L.Line.seen
       (door_seen g.D.Door.is_out g.D.Door.is_at_end g.D.Door.lines_over) l.core l.row;
   served : (told : List Step) × TellsOn g.I.ControlInput.seen g.I.ControlInput.remaining g.I.ControlInput.may_fail

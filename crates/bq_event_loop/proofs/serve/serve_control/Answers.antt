@@ -5,7 +5,6 @@ use Rattle.bq_event_loop.proofs.serve.serve_control.Goals as goal
 
 pub loop-init : goal.loop-init
 loop-init g c = record {
-  iterator = (tt, tt);
   order = c.requires.order;
   many = refl;
   served = (
@@ -42,7 +41,6 @@ loop-preserved g c =
     let i = c.loop.invariant.served in
     let s = c.submit_owed.ensures.served in
     record {
-      iterator = (tt, tt);
       order = c.submit_owed.ensures.order;
       many = c.submit_owed.ensures.many ∙ c.loop.invariant.many;
       served = (

@@ -1,4 +1,4 @@
-use Rattle.std.proofs.Common.{◌≡◌, ◌≤◌, [], List, length}
+use Rattle.std.proofs.Common.{◌≡◌, [], List, length}
 use Rattle.bq_job.specs.declared.step.Step.{Step}
 use Rattle.bq_event_loop.specs.ControlTold.{TellsOn}
 use Rattle.bq_event_loop.specs.LoopCores.{WentAt, state_of}
@@ -7,7 +7,6 @@ use Rattle.bq_event_loop.proofs.serve.serve_control.Given as goal
 
 abbrev pub invariant-loop : goal.invariant-loop
 invariant-loop g l = record {
-  iterator : (goal.iterator-loop g).can_next l.iterator' × (goal.iterator-loop g).is_finite l.iterator';
   order : IsInOrder (state_of g.K.QueueCore.machine g.K.QueueCore.comparisons l.core);
   many : length l.core.mails.items ≡ length l.fn.core.mails.items;
   served : (told : List Step) × TellsOn g.I.ControlInput.seen g.I.ControlInput.remaining g.I.ControlInput.may_fail

@@ -1,6 +1,7 @@
 use Rattle.std.proofs.Common.{◌∙◌, sym}
-use Rattle.bq_cli.proofs.DoorLemmas.{as_many, doors_served, IsSameDoor}
-use Rattle.bq_cli.proofs.server.run_server.Goals as goal
+use Rattle.bq_cli.specs.Servers.{IsSameDoor}
+use Rattle.bq_cli.proofs.DoorLemmas.{as_many, doors_served}
+use Rattle.bq_cli.proofs.server.run_by_threads.Goals as goal
 
 pub returns-in-Ok-serve_doors-clause-served : goal.returns-in-Ok-serve_doors-clause-served
 returns-in-Ok-serve_doors-clause-served g c =

@@ -1,0 +1,311 @@
+-- A run that has not ended: what was served so far, in the terms of the promise.
+use Rattle.std.proofs.Common.{◌≡◌, ℕ, suc, ◌+◌, ◌<◌, Bool, true, List, [], ◌∷◌, ◌++◌, Option, Some, None}
+use Rattle.std.proofs.Common.{map, length, replicate, refl, sym, ap, ◌∙◌, arith, subst, inl, inr, add-zero, append-nil, append_assoc, slice_index_or, is_some}
+use Rattle.std.proofs.lemmas.List.{replicate-append-replicate}
+use Rattle.std.specs.List.{All}
+use Rattle.std.specs.Io.KnownBytes.{Consumes}
+use Rattle.bq_job.specs.declared.answer.Answer.{Answer}
+use Rattle.bq_job.specs.declared.settings.Settings.{Settings}
+use Rattle.bq_job.specs.declared.step.Step.{Step}
+use Rattle.bq_job.specs.declared.step.Step.TheVariants.{Drain, Gone}
+use Rattle.bq_job.specs.machine.Dispatch.{GivenAnswer}
+use Rattle.bq_job.specs.machine.Machine.{Machine, new_machine}
+use Rattle.bq_job.specs.promise.ControlDid.{drains, drains_from, one_if}
+use Rattle.bq_job.specs.promise.History.{ArePickedFrom, LineOver, moments_heard, steps_at}
+use Rattle.bq_job.specs.promise.LineSteps.{LineSeen}
+use Rattle.bq_job.specs.promise.Runs.{Entry, Run, answers_to}
+use Rattle.bq_job.specs.promise.SoFar.{AreDoorsOwedSoFar, IsControlSoFar, IsDoorOwedSoFar, IsHistorySoFar, IsLineOwedSoFar, IsOutOwed}
+use Rattle.bq_host.specs.Clocks.{Gives}
+use Rattle.bq_host.specs.Compared.{AreCompared}
+use Rattle.bq_host.specs.MailStates.{MailState, IsNewMailState, waiting}
+use Rattle.bq_host.proofs.HasComparedLemmas.{compared_all}
+use Rattle.bq_host.proofs.WentLemmas.{none_waits}
+use Rattle.bq_line.proofs.LineSoFarLemmas.{line_so_far}
+use Rattle.bq_line.specs.ControlRead.{IsReadToEnd}
+use Rattle.bq_line.specs.ControlSeen.{ControlSeen}
+use Rattle.bq_line.specs.Attending.{IsAt}
+use Rattle.bq_line.specs.Tending.{AreSame, DoorSeen, IsNewDoor, IsNewSeat, IsPlaced, IsTended, door_seen}
+use Rattle.bq_line.specs.declared.attendant.Attendant.{Attendant}
+use Rattle.bq_line.specs.declared.attendant.LinePlace.{LinePlace}
+use Rattle.bq_line.specs.declared.attendant.LinePlace.TheVariants as places
+use Rattle.bq_seat.specs.declared.machine.SeatMachine.{SeatMachine}
+use Rattle.bq_event_loop.specs.ControlTold.{HasTold, IsAtStage, TellsOn}
+use Rattle.bq_event_loop.specs.LoopCores.{state_of}
+use Rattle.bq_event_loop.specs.Serving.{AreServed, IsServing, ServesOn}
+use Rattle.bq_event_loop.specs.declared.loop_core.LoopCore.{LoopCore}
+use Rattle.bq_event_loop.specs.declared.row.Row.{Row}
+use Rattle.bq_event_loop.specs.SoFar.{Beginning, beginning, IsLoopSoFar, doors_so_far, line_out}
+use Rattle.bq_event_loop.specs.declared.control_turns.ControlTurns.{ControlTurns}
+use Rattle.bq_event_loop.specs.declared.control_turns.Stage.{Stage}
+use Rattle.bq_event_loop.specs.declared.control_turns.Stage.TheVariants as stages
+use Rattle.bq_event_loop.proofs.SessionsLemmas.{StepsKeepSettings, begins_served, run_keeps, up_to}
+
+-- ---- the control line
+
+begun_by : (text : List ℕ) (failed : Bool) (count more : ℕ) (told : List Step) → told ≡ replicate count Drain
+    → drains text failed ≡ count + more → IsControlSoFar text failed told
+begun_by text failed count more told is total = (
+  replicate more Drain ++ Gone ∷ [],
+  ap (λ (xs : List Step). xs ++ (replicate more Drain ++ Gone ∷ [])) is
+      ∙ sym (append_assoc (replicate count Drain) (replicate more Drain) (Gone ∷ []))
+      ∙ ap (λ (xs : List Step). xs ++ Gone ∷ []) (replicate-append-replicate count more Drain)
+      ∙ ap (λ (n : ℕ). replicate n Drain ++ Gone ∷ []) (sym total),
+)
+
+read_of : (before after : Option (List ℕ)) (text : List ℕ) (failed : Bool) → IsReadToEnd before after text failed → Consumes before after text
+read_of None after text failed h = tt
+read_of (Some x) None text failed h = absurd h
+read_of (Some x) (Some y) text failed h = h.0
+
+-- What was read and submitted of a control line so far.
+pub record IsControlBegun {I : Type 0} (seen : I → ControlSeen) (left : I → Option (List ℕ)) (first : Option (List ℕ)) (may : Bool)
+    (input : I) (told : List Step) : Type 0 where
+  pub read : Consumes first (left input) (seen input).text
+  pub fault : (seen input).failed ≡ true → may ≡ true
+  pub begun : IsControlSoFar (seen input).text (seen input).failed told
+
+module _ {I : Type 0} (seen : I → ControlSeen) (left : I → Option (List ℕ)) (may_fail : I → Bool) where
+  begun_at : (stage : Stage) (input : I) (kept : List ℕ) (owed count : ℕ) (first : Option (List ℕ)) (may : Bool) (told : List Step)
+      → IsAtStage stage first (left input) may (seen input) kept owed count told → IsControlBegun seen left first may input told
+  begun_at stages.Reads input kept owed count first may told at =
+      let r = at.1 in
+      record {
+        read = r.read;
+        fault = λ f. absurd (let well = r.well in cc);
+        begun = begun_by (seen input).text (seen input).failed count (owed + drains_from kept [] (seen input).failed) told at.0
+            (ap (λ (xs : List ℕ). drains xs (seen input).failed) (sym (append-nil (seen input).text)) ∙ r.counted [] (seen input).failed
+            ∙ plus count owed (drains_from kept [] (seen input).failed));
+      }
+    where
+      plus : (a b c : ℕ) → (a + b) + c ≡ a + (b + c)
+      plus a b c = omega arith
+  begun_at stages.Ended input kept owed count first may told at =
+      let r = at.1 in
+      record {
+        read = read_of first (left input) (seen input).text (seen input).failed r.read;
+        fault = r.fault;
+        begun = begun_by (seen input).text (seen input).failed count owed told at.0 r.counted;
+      }
+  begun_at stages.Over input kept owed count first may told at =
+      let r = at.2 in
+      record {
+        read = read_of first (left input) (seen input).text (seen input).failed r.read;
+        fault = r.fault;
+        begun = (
+          [],
+          append-nil told ∙ at.1 ∙ ap (λ (n : ℕ). replicate n Drain ++ Gone ∷ []) (sym r.counted),
+        );
+      }
+
+  pub control_begun : (first : Option (List ℕ)) (may : Bool) (c : ControlTurns I) (told : List Step) → HasTold seen left may_fail first may c told
+      → IsControlBegun seen left first may c.input told
+  control_begun first may c told h = begun_at c.stage c.input c.line (one_if c.owes_drain) h.count first may told h.at_stage
+
+-- ---- the seats
+
+module _ {L : Type 0} (seen : L → LineSeen) where
+  -- the open line, or what a seat without one submitted
+  out_at : (size : ℕ) (machine : SeatMachine) (place : LinePlace L) (submitted : List Step) (taken more : List Answer)
+      → IsAt seen size machine place submitted taken → IsOutOwed size (line_out seen place) submitted (taken ++ more)
+  out_at size machine places.Between submitted taken more at = inl at.0
+  out_at size machine (places.On line action sent) submitted taken more at =
+      subst (λ (x : LineSeen). IsLineOwedSoFar size x submitted (taken ++ more)) (sym at.1)
+      (line_so_far size machine at.0 action sent submitted taken more at.2)
+  out_at size machine places.Leaving submitted taken more at = inl at.0
+  out_at size machine places.Done submitted taken more at = inr at.0
+
+  out_held : (place : LinePlace L) (door : DoorSeen) → IsPlaced place door → door.is_out ≡ is_some (line_out seen place)
+  out_held places.Between door p = p.0
+  out_held (places.On line action sent) door p = p.0
+  out_held places.Leaving door p = p.0
+  out_held places.Done door p = p.0
+
+  out_so_far : (size : ℕ) (a : Attendant L) (door : DoorSeen) (submitted : List Step) (taken more : List Answer)
+      → IsTended seen size a door submitted taken
+      → IsDoorOwedSoFar size (record { over = door.lines_over; out = line_out seen a.place; is_out = door.is_out }) submitted (taken ++ more)
+  out_so_far size a door submitted taken more t =
+      let did = t.attends in
+      record {
+        own = did.before;
+        current = did.now;
+        got = did.got;
+        later = did.getting ++ more;
+        of_lines = did.of_lines;
+        of_out = out_at size a.machine a.place did.now did.getting more did.at_place;
+        taken_is = did.submitted_is;
+        answers_are = ap (λ (xs : List Answer). xs ++ more) did.taken_is ∙ append_assoc did.got did.getting more;
+        held = out_held a.place door t.placed;
+      }
+
+-- ---- all of it
+
+module _ {L D : Type 0} (seen : L → LineSeen) (at : D → DoorSeen) (settings : Settings) (first : MailState) where
+  -- a seat with its door, and the answers that it was given
+  record IsSeatSoFar (history : List Entry) (took : ℕ → List Answer) (given : List GivenAnswer) (core : MailState) (t : ℕ)
+      (a : Attendant L) (door : DoorSeen) : Type 0 where
+    tended : IsTended seen settings.max_job_size a door (steps_at t history) (took t)
+    answers_are : answers_to t given ≡ took t ++ waiting t core
+
+  module _ (history : List Entry) (took : ℕ → List Answer) (given : List GivenAnswer) (core : MailState) where
+    seat_so_far : (t : ℕ) (a : Attendant L) (d : D) → IsSeatSoFar history took given core t a (at d)
+        → IsDoorOwedSoFar settings.max_job_size (record { over = (at d).lines_over; out = line_out seen a.place; is_out = (at d).is_out }) (steps_at t history)
+        (answers_to t given)
+    seat_so_far t a d s =
+        subst (λ (xs : List Answer). IsDoorOwedSoFar settings.max_job_size (record { over = (at d).lines_over; out = line_out seen a.place; is_out = (at d).is_out })
+        (steps_at t history) xs) (sym s.answers_are)
+        (out_so_far seen settings.max_job_size a (at d) (steps_at t history) (took t) (waiting t core) s.tended)
+
+    -- the doors from this seat on
+    doors_begun : (k : ℕ) (seats : List (Attendant L)) (doors : List D)
+        → ((j : ℕ) → j < length seats → (a : Attendant L) (d : D)
+        → IsSeatSoFar history took given core (k + j) (slice_index_or seats j a) (at (slice_index_or doors j d)))
+        → AreDoorsOwedSoFar settings.max_job_size k (doors_so_far seen (λ (d : D). (at d).lines_over) (λ (d : D). (at d).is_out) seats doors) history given
+    doors_begun k [] [] h = tt
+    doors_begun k [] (d ∷ doors) h = tt
+    doors_begun k (a ∷ seats) [] h = tt
+    doors_begun k (a ∷ seats) (d ∷ doors) h = (
+      seat_so_far k a d (subst (λ (n : ℕ). IsSeatSoFar history took given core n a (at d)) (add-zero k) (h 0 (omega arith) a d)),
+      doors_begun (suc k) seats doors (λ j below x y.
+          subst (λ (n : ℕ). IsSeatSoFar history took given core n (slice_index_or seats j x) (at (slice_index_or doors j y)))
+          (let e : k + suc j ≡ suc k + j = omega arith in e) (h (suc j) (omega (arith, below)) x y)),
+    )
+
+  many_doors : (seats : List (Attendant L)) (doors : List D) → length doors ≡ length seats
+      → length (doors_so_far seen (λ (d : D). (at d).lines_over) (λ (d : D). (at d).is_out) seats doors) ≡ length seats
+  many_doors [] [] e = refl
+  many_doors [] (d ∷ doors) e = refl
+  many_doors (a ∷ seats) [] e = e
+  many_doors (a ∷ seats) (d ∷ doors) e = ap suc (many_doors seats doors (let f : suc (length doors) ≡ suc (length seats) = e in omega arith))
+
+  module _ (control : List Step) (readings : List (Option ℕ)) (core : MailState) (seats : List (Attendant L)) (doors : List D)
+      (new : IsNewMailState settings first) (many : length seats ≡ settings.seats)
+      (s : AreServed seen at settings.max_job_size control first readings core seats doors) where
+    -- One history of everything so far, along which the core stayed within its bounds.
+    pub record IsBegunSo (text : List ℕ) (failed : Bool) : Type 0 where
+      pub history : IsHistorySoFar settings (doors_so_far seen (λ (d : D). (at d).lines_over) (λ (d : D). (at d).is_out) seats doors) text failed readings core.core
+      pub compared : AreCompared (new_machine settings) history.history history.given core.core 0 core.compared
+
+    pub served_so_far : (text : List ℕ) (failed : Bool) → IsControlSoFar text failed control → IsBegunSo text failed
+    served_so_far text failed told =
+        let control_is : steps_at settings.seats s.history ≡ control = ap (λ n. steps_at n s.history) (sym many) ∙ s.control_is in
+        record {
+          history = record {
+            history = s.history;
+            given = s.went.given;
+            run = record {
+              runs = subst (λ (m : Machine). Run m s.history s.went.given core.core) new.core s.went.runs;
+              timed = subst (λ (n : ℕ). ArePickedFrom (map (λ (e : Entry). e.moment) s.history) (moments_heard n readings)) new.heard
+                  s.went.timed.picked;
+            };
+            many = many_doors seats doors s.doored ∙ many;
+            of_doors = doors_begun s.history s.took s.went.given core 0 seats doors (λ j below a d.
+                subst (λ (n : ℕ). IsSeatSoFar s.history s.took s.went.given core n (slice_index_or seats j a) (at (slice_index_or doors j d)))
+                (let e : j ≡ 0 + j = omega arith in e) (record {
+                  tended = s.each j below a d;
+                  answers_are = ap (λ (xs : List Answer). xs ++ answers_to j s.went.given) (sym (none_waits settings first j new))
+                      ∙ s.went.tied j (let m = s.mailed in omega arith);
+                }));
+            of_control = subst (λ (xs : List Step). IsControlSoFar text failed xs) (sym control_is) told;
+            of_nobody_else = up_to settings.seats s.history (λ n above. s.nobody_else n (omega arith));
+          };
+          compared = subst (λ (m : Machine). AreCompared m s.history s.went.given core.core 0 core.compared) new.core
+              (compared_all first core s.history s.went.given new.unknown new.none_compared s.went.compared);
+        }
+
+-- ---- a run
+
+module _ {L D C I K : Type 0} (given : Gives C) (line_seen : L → LineSeen) (is_out is_at_end : D → Bool) (lines_over : D → List LineOver)
+    (same : D → D → Type 0) (control_seen : I → ControlSeen) (left : I → Option (List ℕ)) (may_fail : I → Bool)
+    (machine : K → Machine) (compared : K → ℕ) (begun : Beginning D C) where
+  abbrev Serving : LoopCore C K → Row L D → ControlTurns I → Type 0
+  Serving = IsServing given line_seen (door_seen is_out is_at_end lines_over) same control_seen left may_fail machine compared begun
+
+  -- Nothing was served yet.
+  pub serving_first : (core : LoopCore C K) (row : Row L D) (control : ControlTurns I) → begun.clock ≡ core.timed.time.clock
+      → given core.timed.time.clock [] core.timed.time.clock → IsNewMailState begun.settings (state_of machine compared core)
+      → HasTold control_seen left may_fail begun.left begun.may_fail control []
+      → length row.seats.items ≡ begun.settings.seats → length row.doors.items ≡ begun.settings.seats
+      → All (IsNewSeat begun.settings.max_job_size) row.seats.items
+      → All (λ d. IsNewDoor (door_seen is_out is_at_end lines_over d)) row.doors.items → AreSame same begun.doors row.doors.items
+      → Serving core row control
+  serving_first core row control clock_is none new submits many doored new_seats new_doors same_doors = record {
+    first = state_of machine compared core;
+    told = [];
+    readings = [];
+    is_new = new;
+    gave = subst (λ (c : C). given c [] core.timed.time.clock) (sym clock_is) none;
+    submits = submits;
+    many = many;
+    served = begins_served line_seen (door_seen is_out is_at_end lines_over) begun.settings (state_of machine compared core) row.seats.items
+        row.doors.items new many doored new_seats new_doors;
+    same_doors = same_doors;
+  }
+
+  -- The service went on.
+  pub serving_on : (old new : LoopCore C K) (row later : Row L D) (control next : ControlTurns I) (told : List Step)
+      → Serving old row control → TellsOn control_seen left may_fail control told next
+      → ServesOn machine compared given line_seen (door_seen is_out is_at_end lines_over) same old row told new later
+      → Serving new later next
+  serving_on old new row later control next told s tells on = record {
+    first = s.first;
+    told = s.told ++ told;
+    readings = s.readings ++ on.reads;
+    is_new = s.is_new;
+    gave = on.gave begun.clock s.readings s.gave;
+    submits = tells begun.left begun.may_fail s.told s.submits;
+    many = on.many ∙ s.many;
+    served = on.served begun.settings.max_job_size s.told s.first s.readings s.served;
+    same_doors = on.same_doors begun.doors s.same_doors;
+  }
+
+  -- The promise so far.
+  pub serving_so_far : (core : LoopCore C K) (row : Row L D) (control : ControlTurns I) → Serving core row control
+      → IsLoopSoFar given line_seen lines_over is_out same machine compared begun
+      row.seats.items row.doors.items core.timed.time.clock (control_seen control.input) (left control.input) core.timed.core
+  serving_so_far core row control s =
+      let b = control_begun control_seen left may_fail begun.left begun.may_fail control s.told s.submits in
+      let h = served_so_far line_seen (door_seen is_out is_at_end lines_over) begun.settings s.first s.told s.readings
+      (state_of machine compared core) row.seats.items row.doors.items s.is_new s.many s.served (control_seen control.input).text
+      (control_seen control.input).failed b.begun in
+      record {
+        readings = s.readings;
+        gave = s.gave;
+        read = b.read;
+        fault = b.fault;
+        history = h.history;
+        compared = h.compared;
+        same_doors = s.same_doors;
+      }
+
+  -- The same for values that are equal to these.
+  pub so_far_as : (seats : List (Attendant L)) (doors : List D) (clock clock' : C) (control control' : I) (core core' : K) → clock' ≡ clock
+      → control' ≡ control → core' ≡ core
+      → IsLoopSoFar given line_seen lines_over is_out same machine compared begun seats doors clock (control_seen control) (left control) core
+      → IsLoopSoFar given line_seen lines_over is_out same machine compared begun seats doors clock' (control_seen control') (left control')
+      core'
+  so_far_as seats doors clock clock' control control' core core' a b e h =
+      subst (λ (c : C). IsLoopSoFar given line_seen lines_over is_out same machine compared begun seats doors c (control_seen control')
+      (left control') core') (sym a)
+      (subst (λ (i : I). IsLoopSoFar given line_seen lines_over is_out same machine compared begun seats doors clock (control_seen i)
+      (left i) core') (sym b)
+      (subst (λ (k : K). IsLoopSoFar given line_seen lines_over is_out same machine compared begun seats doors clock (control_seen control)
+      (left control) k) (sym e) h))
+
+-- Two beginnings are the same if their parts are.
+pub same_beginning : {D C : Type 0} (settings settings' : Settings) (doors doors' : List D) (clock clock' : C)
+    (left left' : Option (List ℕ)) (may may' : Bool) → settings' ≡ settings → doors' ≡ doors → clock' ≡ clock → left' ≡ left → may' ≡ may
+    → beginning settings' doors' clock' left' may' ≡ beginning settings doors clock left may
+same_beginning settings settings' doors doors' clock clock' left left' may may' a b d e f =
+    ap (λ x. beginning x doors' clock' left' may') a ∙ ap (λ x. beginning settings x clock' left' may') b
+    ∙ ap (λ x. beginning settings doors x left' may') d ∙ ap (λ x. beginning settings doors clock x may') e
+    ∙ ap (λ x. beginning settings doors clock left x) f
+
+-- The core's settings are those that it began with.
+pub settings_so_far : {L D C K : Type 0} (given : Gives C) (line_seen : L → LineSeen) (lines_over : D → List LineOver)
+    (is_out : D → Bool) (same : D → D → Type 0) (machine : K → Machine) (comparisons : K → ℕ) (begun : Beginning D C)
+    (seats : List (Attendant L)) (doors : List D) (clock : C) (control : ControlSeen) (left : Option (List ℕ)) (core : K)
+    → StepsKeepSettings
+    → IsLoopSoFar given line_seen lines_over is_out same machine comparisons begun seats doors clock control left core
+    → (machine core).settings ≡ begun.settings
+settings_so_far given line_seen lines_over is_out same machine comparisons begun seats doors clock control left core law s =
+    let r = s.history.run.runs in run_keeps law (new_machine begun.settings) r.1.taken (machine core) r.1.goes

@@ -1,0 +1,54 @@
+-- A run of the loop that has not ended: what it began with, and what was served so far.
+use Rattle.std.specs.Prelude.{Bool, true, ◌≡◌, List, [], ◌∷◌, Option, Some, None, ℕ}
+use Rattle.std.specs.Io.KnownBytes.{Consumes}
+use Rattle.bq_job.specs.declared.settings.Settings.{Settings}
+use Rattle.bq_job.specs.machine.Machine.{Machine, new_machine}
+use Rattle.bq_job.specs.promise.History.{LineOver}
+use Rattle.bq_job.specs.promise.LineSteps.{LineSeen}
+use Rattle.bq_job.specs.promise.SoFar.{DoorSoFar, IsHistorySoFar}
+use Rattle.bq_host.specs.Clocks.{Gives}
+use Rattle.bq_host.specs.Compared.{AreCompared}
+use Rattle.bq_line.specs.ControlSeen.{ControlSeen}
+use Rattle.bq_line.specs.Tending.{AreSame}
+use Rattle.bq_line.specs.declared.attendant.Attendant.{Attendant}
+use Rattle.bq_line.specs.declared.attendant.LinePlace.{LinePlace}
+use Rattle.bq_line.specs.declared.attendant.LinePlace.TheVariants as places
+
+-- the line that a seat serves
+abbrev pub line_out : {L : Type 0} → (L → LineSeen) → LinePlace L → Option LineSeen
+line_out seen (places.On line action sent) = Some (seen line)
+line_out seen _ = None
+
+-- the lines of each seat and its door
+abbrev pub doors_so_far : {L D : Type 0} → (L → LineSeen) → (D → List LineOver) → (D → Bool) → List (Attendant L) → List D
+    → List DoorSoFar
+doors_so_far seen over is_out (seat ∷ seats) (door ∷ doors) =
+    record { over = over door; out = line_out seen seat.place; is_out = is_out door } ∷ doors_so_far seen over is_out seats doors
+doors_so_far seen over is_out _ _ = []
+
+-- what a run began with: its settings, doors and clock, the bytes of its control line, if they are
+-- known, and whether a read of them may fail
+pub record Beginning (D C : Type 0) : Type 0 where
+  pub settings : Settings
+  pub doors : List D
+  pub clock : C
+  pub left : Option (List ℕ)
+  pub may_fail : Bool
+
+abbrev pub beginning : {D C : Type 0} → Settings → List D → C → Option (List ℕ) → Bool → Beginning D C
+beginning settings doors clock left may_fail =
+    record { settings = settings; doors = doors; clock = clock; left = left; may_fail = may_fail }
+
+-- A run that began so, with these seats and doors, this clock, control line and core now. Its fields are
+-- those of `IsEventLoopRun`, and its doors are those that it began with.
+pub record IsLoopSoFar {L D C K : Type 0} (given : Gives C) (line_seen : L → LineSeen) (lines_over : D → List LineOver)
+    (is_out : D → Bool) (same : D → D → Type 0) (machine : K → Machine) (comparisons : K → ℕ) (first : Beginning D C)
+    (seats : List (Attendant L)) (doors : List D) (clock : C) (control : ControlSeen) (left : Option (List ℕ)) (core : K) : Type 0 where
+  pub readings : List (Option ℕ)
+  pub gave : given first.clock readings clock
+  pub read : Consumes first.left left control.text
+  pub fault : control.failed ≡ true → first.may_fail ≡ true
+  pub history : IsHistorySoFar first.settings (doors_so_far line_seen lines_over is_out seats doors) control.text control.failed
+      readings (machine core)
+  pub compared : AreCompared (new_machine first.settings) history.history history.given (machine core) 0 (comparisons core)
+  pub same_doors : AreSame same first.doors doors
