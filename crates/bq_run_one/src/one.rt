@@ -1,4 +1,5 @@
 ghost use Rattle.std.specs.Prelude.{◌↔◌, ◌≡◌, List, Option, ℕ, IfOk, IsErrOf, IsTrue, not};
+ghost use Rattle.bq_job.specs.laws.TheHeadline.{AreJobsServedIn};
 ghost use Rattle.bq_job.specs.promise.Headline.{IsHistoryOfLine};
 ghost use Rattle.bq_seat.specs.Past.{Awaited};
 ghost use Rattle.bq_seat.specs.SeatStands.{awaited};
@@ -12,7 +13,7 @@ use crate::desk::Desk;
 use crate::desk_seat::act;
 use bq_core::Config;
 use bq_host::RunFault;
-use bq_job::{LineEnd, Seat};
+use bq_job::{LineEnd, Seat, the_headline};
 use bq_line::attendant::Progress;
 use bq_line::buffers::Buffers;
 use bq_line::clock::Clock;
@@ -57,6 +58,11 @@ pub fn run_one<R: Wait, L: Line + Drop, C: Clock + Drop>(
     // history prescribes for it.
     ensures served { IfOk result (λ one. (readings : List (Option ℕ)) × C.given clock readings one.clock ×
         IsHistoryOfLine config 0 (record { seen = L.seen one.line; over = one.end }) readings) }
+    // Along this history, each job that is handed out is the least one that the client may have. An
+    // undisturbed job is handed out at most once and in order. No job is lost before its deletion.
+    // Once draining has begun, no put is accepted.
+    ensures headline { IfOk result (λ one. (readings : List (Option ℕ)) (served : IsHistoryOfLine config 0
+        (record { seen = L.seen one.line; over = one.end }) readings) → AreJobsServedIn served.run) }
     // It is the line that was passed in, over the same stream.
     ensures stays { IfOk result (λ one. StaysOver L.lies_over line one.line) }
     ensures bad_configuration { IsErrOf result RunFault.BadConfiguration ↔ IsTrue
@@ -70,6 +76,7 @@ pub fn run_one<R: Wait, L: Line + Drop, C: Clock + Drop>(
     let Ok(machine) = SeatMachine::new(alloc, config.max_job_size) else {
         return Err(RunFault::NoMemory);
     };
+    the_headline();
     Ok(serve_line(rt, line, desk, machine))
 }
 

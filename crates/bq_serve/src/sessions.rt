@@ -2,6 +2,7 @@
 ghost use Rattle.std.specs.Prelude.{◌≡◌, ◌↔◌, ◌&&◌, ◌==◌, false, true, not, IfOk, IsErrOf, IsTrue, vec_len};
 ghost use Rattle.std.specs.List.{All};
 ghost use Rattle.bq_core_api.specs.Limits.{are_in_range};
+ghost use Rattle.bq_job.specs.laws.TheHeadline.{AreJobsServedIn};
 ghost use Rattle.bq_line.specs.Tending.{AreSame, IsNewDoor, door_seen};
 ghost use Rattle.bq_run.specs.ThreadRuns.{IsRunOf};
 
@@ -51,6 +52,12 @@ pub fn run_sessions<
     // it. The ends of the links submitted these steps and took these answers.
     ensures served { IfOk result (IsRunOf C.given D.lines_over I.remaining I.may_fail ⟦<Core as QueueCore>⟧.machine
         ⟦<Core as QueueCore>⟧.comparisons config clock control) }
+    // Along this history, each job that is handed out is the least one that the client may have. An
+    // undisturbed job is handed out at most once and in order. No job is lost before its deletion.
+    // Once draining has begun, no put is accepted.
+    ensures headline { IfOk result (λ run. (served : IsRunOf C.given D.lines_over I.remaining I.may_fail
+        ⟦<Core as QueueCore>⟧.machine ⟦<Core as QueueCore>⟧.comparisons config clock control run)
+        → AreJobsServedIn served.history.run) }
     ensures at_end { IfOk result
         (λ run. All (λ door. (D.is_out door ≡ false) × (D.is_at_end door ≡ true)) run.doors.items) }
     // The doors are those that were passed in, in the same order.

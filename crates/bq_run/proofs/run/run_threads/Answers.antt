@@ -157,3 +157,6 @@ returns-clause-settings g c =
     ap (λ k. (g.K.QueueCore.machine k).settings) c.settled_run.ensures.rest.3
     ∙ core_keeps c.steps_keep_settings.ensures config o.readings ended.core_end (g.K.QueueCore.machine ended.core)
     (g.K.QueueCore.comparisons ended.core) o.done
+
+pub returns-clause-headline : goal.returns-clause-headline
+returns-clause-headline g c served = c.the_headline.ensures.jobs _ _ _ _ _ served.history.run

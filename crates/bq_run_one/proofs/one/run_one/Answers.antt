@@ -29,3 +29,6 @@ returns-clause-served g c =
       subst (λ (n : Settings). IsHistoryOfLine n 0 (record { seen = g.L.Line.seen one.line; over = one.end }) s.0)
           (ap (λ (m : Machine). m.settings) c.in_ok-desk.ensures.made.core) s.2,
     )
+
+pub returns-clause-headline : goal.returns-clause-headline
+returns-clause-headline g c readings served = c.the_headline.ensures.jobs _ _ _ _ _ served.run
