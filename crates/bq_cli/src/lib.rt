@@ -4,6 +4,7 @@
 pub use bq_program::{
     Fault, Need, OptionFault, Options, Program, Stop, options, tell_cannot_listen, tell_fault,
 };
+pub use descriptors::open_standard_descriptors;
 pub use ending::Ending;
 pub use program::run_bqd;
 pub use server::{
@@ -11,6 +12,7 @@ pub use server::{
     status_of_loop, status_of_threads,
 };
 
+mod descriptors;
 mod ending;
 mod log;
 mod logging;
