@@ -6,6 +6,7 @@ pub use bq_program::{
 };
 pub use descriptors::open_standard_descriptors;
 pub use ending::Ending;
+pub use foreground::ForegroundInput;
 pub use program::run_bqd;
 pub use server::{
     DoorsTell, TcpLine, run_by_threads, run_loop, serve, serve_doors, serve_doors_by_loop,
@@ -14,6 +15,7 @@ pub use server::{
 
 mod descriptors;
 mod ending;
+mod foreground;
 mod log;
 mod logging;
 mod program;
