@@ -16,6 +16,7 @@ pub use server::{
 mod descriptors;
 mod ending;
 mod foreground;
+mod listening;
 mod log;
 mod logging;
 mod program;

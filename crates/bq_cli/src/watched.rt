@@ -4,6 +4,7 @@ ghost use Rattle.bq_program.specs.Chosen.{of_bqd};
 ghost use Rattle.bq_cli.specs.Servers.{IsStatusOfListening, IsStatusOfServer};
 ghost use Rattle.bq_cli.specs.declared.logging.Logging.{Logging};
 
+use crate::listening::listen;
 use crate::logging::Logging;
 use crate::server::serve_to;
 use crate::shared::Shared;
@@ -47,7 +48,7 @@ pub(crate) fn listen_and_serve<
         ⟦<Core as QueueCore>⟧.machine ⟦<Core as QueueCore>⟧.comparisons (of_bqd options) (I.remaining input) result }
     ensures at_most { result ≤ 1 }
 {
-    let listener = match TcpListener::bind(rt, options.listen.as_str()) {
+    let listener = match listen(rt, options.listen.as_str()) {
         Ok(listener) => listener,
         Err(e) => return tell_cannot_listen(rt, Program::Bqd, options.listen.as_str(), &e),
     };
