@@ -1,7 +1,10 @@
 //! The listener of a server.
 
+use bq_program::address_to_bind;
 use libc::net;
+use std::alloc::Global;
 use std::io;
+use std::io::ErrorKind;
 use std::net::{Net, TcpListener, TcpStream};
 use std::os::fd::{AsRawFd, RawFd};
 
@@ -18,20 +21,32 @@ const KEEP_INTERVAL: i32 = 15;
 /// How many questions may stay unanswered. Then the connection is broken: a read of it fails.
 const KEEP_PROBES: i32 = 4;
 
-/// Binds the address. Connections that are accepted
+/// Binds the address, at beanstalkd's port 11300 if it names none. Connections that are accepted
 /// have keepalive set, so that a host that vanished without closing its connection does not keep a
 /// seat: the connection ends two minutes after the last byte.
 ///
-/// The error is the system's.
+/// The error is the system's, or `OutOfMemory`.
 pub(crate) fn listen<R: Net<Listener = TcpListener, Stream = TcpStream>>(
     rt: &R,
+    alloc: Global,
     address: &str,
 ) -> io::Result<TcpListener> {
-    let listener = TcpListener::bind(rt, address)?;
+    let listener = bind(rt, alloc, address)?;
     let fd = listener.as_raw_fd();
     widen_backlog(fd)?;
     keep_alive(fd)?;
     Ok(listener)
+}
+
+fn bind<R: Net<Listener = TcpListener, Stream = TcpStream>>(
+    rt: &R,
+    alloc: Global,
+    address: &str,
+) -> io::Result<TcpListener> {
+    let Ok(address) = address_to_bind(alloc, address) else {
+        return Err(io::Error::from(ErrorKind::OutOfMemory));
+    };
+    TcpListener::bind(rt, address.as_str())
 }
 
 // A second call of `listen` changes the number that the first one set.

@@ -48,7 +48,7 @@ pub(crate) fn listen_and_serve<
         ⟦<Core as QueueCore>⟧.machine ⟦<Core as QueueCore>⟧.comparisons (of_bqd options) (I.remaining input) result }
     ensures at_most { result ≤ 1 }
 {
-    let listener = match listen(rt, options.listen.as_str()) {
+    let listener = match listen(rt, alloc, options.listen.as_str()) {
         Ok(listener) => listener,
         Err(e) => return tell_cannot_listen(rt, Program::Bqd, options.listen.as_str(), &e),
     };

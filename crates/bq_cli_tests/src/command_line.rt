@@ -50,6 +50,7 @@ static CHOSEN: &str = "bq|- 1 65535 - 0 - -\n\
     bqd -V -l a|a 16 65535 - 0 - -\n\
     bqd -l a -VVV|a 16 65535 - 0 - -\n\
     bqd -V -l a -V -z 65535 -V|a 16 65535 - 0 - -\n\
+    bqd -l ::1|::1 16 65535 - 0 - -\n\
     bqd --event-loop --listen a|a 16 65535 - 0 - loop\n\
     bqd --listen a --seats 9 --event-loop|a 9 65535 - 0 - loop";
 
@@ -169,6 +170,8 @@ static BAD: &str = "bq --max-job-size 0|bad\n\
     bqd --listen a --max-jobs 4294967296|bad\n\
     bqd --listen a --requeue-delay 4294967296|bad\n\
     bqd --listen|bad\n\
+    bqd --listen 127.0.0.1:|bad the port is not a number\n\
+    bqd --listen [::1]:65536|bad the port is not a number\n\
     bq -V|bad '-V'";
 
 #[test]

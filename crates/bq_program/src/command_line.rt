@@ -1,8 +1,9 @@
 //! Reads the options of either program from the words of its command line.
-ghost use Rattle.std.specs.Prelude.{◌≡◌, ◌≤◌, ℕ, IfOk, IfSome, None, Some, string_bytes};
+ghost use Rattle.std.specs.Prelude.{◌≡◌, ◌≤◌, ℕ, IfOk, IfSome, None, Some};
 ghost use Rattle.bq_program.specs.Chosen.{AreInRange};
 ghost use Rattle.bq_program.specs.Ranges.{IsForBq, IsForBqd};
 
+use crate::address::{is_port_readable, listen_word};
 use crate::chosen::{BqOptions, BqdOptions, OptionFault, Options};
 use crate::program::Program;
 use bq_job::{LARGEST_BODY, MOST_SEATS, USUAL_BODY};
@@ -122,25 +123,6 @@ fn count(asked: Option<u32>) -> Option<u32>
     }
 }
 
-// Returns the address to bind: as it was written, or with the port if that was given by an option of its own. In that
-// case colons in the address do not begin a port.
-fn listen_word(alloc: Global, address: &str, port: Option<u16>) -> Result<String, AllocError>
-    ensures alone { port ≡ None → IfOk result (λ word. string_bytes word ≡ address.now) }
-{
-    match port {
-        None => String::from_str(alloc, address),
-        Some(port) => with_port(alloc, address, port),
-    }
-}
-
-fn with_port(alloc: Global, address: &str, port: u16) -> Result<String, AllocError> {
-    if address.contains(":") && !address.starts_with("[") {
-        format!(in alloc; "[{address}]:{port}")
-    } else {
-        format!(in alloc; "{address}:{port}")
-    }
-}
-
 fn bq_chosen(matches: &ArgMatches<'_>) -> BqOptions
     ensures { IsForBq result }
 {
@@ -156,7 +138,11 @@ fn bqd_chosen(alloc: Global, matches: &ArgMatches<'_>) -> Result<BqdOptions, Opt
 {
     // The parser rejects words without an address.
     let address = matches.get_str(LISTEN).unwrap_or("");
-    let listen = listen_word(alloc, address, matches.get_one::<u16>(PORT))?;
+    let port = matches.get_one::<u16>(PORT);
+    if port.is_none() && !is_port_readable(address) {
+        return Err(bad_address(alloc, address));
+    }
+    let listen = listen_word(alloc, address, port)?;
     Ok(BqdOptions {
         listen,
         seats: seats(matches.get_one::<u16>(SEATS)),
@@ -166,6 +152,17 @@ fn bqd_chosen(alloc: Global, matches: &ArgMatches<'_>) -> Result<BqdOptions, Opt
         sessions: count(matches.get_one::<u32>(SESSIONS)),
         event_loop: matches.get_flag(EVENT_LOOP),
     })
+}
+
+// Returns the fault of an address whose port is no number, in the words that the parser has for other values.
+fn bad_address(alloc: Global, address: &str) -> OptionFault {
+    let text = format!(in alloc;
+        "error: invalid value '{address}' for '--listen <ADDR>': the port is not a number from 0 to 65535\n\nFor more information, try '--help'.\n"
+    );
+    match text {
+        Ok(text) => OptionFault::BadOptions(text),
+        Err(_) => OptionFault::NoMemory,
+    }
 }
 
 // Returns the text of the parser: help and the version go to standard output, errors to standard error.

@@ -2,6 +2,7 @@
 //! whoever started them.
 #![tactic(auto)]
 
+pub use address::address_to_bind;
 pub use arguments::words;
 pub use chosen::{BqOptions, BqdOptions, OptionFault, Options};
 pub use command_line::{bq_options, bqd_options, options};
@@ -9,6 +10,7 @@ pub use fault::{Fault, Need, Stop, fault_of_end, fault_of_loop};
 pub use program::Program;
 pub use told::{tell_cannot_listen, tell_fault, tell_server, tell_stop};
 
+mod address;
 mod arguments;
 mod chosen;
 mod command_line;

@@ -106,7 +106,7 @@ fn listen_arg<'a>(alloc: Global) -> Arg<'a> {
         .long(LISTEN)
         .value_name("ADDR")
         .help(
-            "The address and port to listen at, such as 127.0.0.1:11300; with --port the address alone",
+            "The address to listen at, such as 127.0.0.1:11300; the port is 11300 unless it is given",
         )
         .required(true)
 }
