@@ -20,7 +20,9 @@ use bq_job::NoMemory;
 use bq_line::control_line::ControlReader;
 use bq_line::line::{BufferedLine, Connection, Line, ReadBuffer};
 use bq_line::{Door, FreeDoors, Refusals, TcpDoor, clock};
-use bq_program::{Fault, Need, Options, Program, fault_of_loop, tell_cannot_listen, tell_server};
+use bq_program::{
+    Fault, Need, Options, Program, WhenFull, fault_of_loop, tell_cannot_listen, tell_server,
+};
 use bq_run::{Run, run_threads};
 use std::alloc::Global;
 use std::io;
@@ -43,17 +45,32 @@ pub struct DoorsTell<'e> {
 }
 
 impl<'e> DoorsTell<'e> {
-    /// Returns what this number of doors reports. The last one to fail is noted in `ending`.
-    pub fn new<R: Clock>(rt: &R, seats: u16, ending: &'e Ending) -> DoorsTell<'e> {
+    /// Returns what the doors report by these options. The last one to fail is noted in `ending`.
+    pub fn new<R: Clock>(rt: &R, options: &Options, ending: &'e Ending) -> DoorsTell<'e> {
         DoorsTell {
             ending,
             refusals: Refusals::new("bqd: no connection can be accepted"),
-            free: FreeDoors::new(
-                rt,
-                u32::from(seats),
-                "bqd: all seats are taken: further connections wait",
-            ),
+            free: free_doors(rt, options),
         }
+    }
+}
+
+// Returns what the doors report while all of them are taken, and whether they close further
+// connections.
+fn free_doors<R: Clock>(rt: &R, options: &Options) -> FreeDoors {
+    let seats = u32::from(options.seats);
+    match options.when_full {
+        WhenFull::Wait => FreeDoors::new(
+            rt,
+            seats,
+            "bqd: all seats are taken: further connections wait",
+        ),
+        WhenFull::Refuse => FreeDoors::new(
+            rt,
+            seats,
+            "bqd: all seats are taken: further connections are closed",
+        )
+        .closing("bqd: connections closed because all seats were taken"),
     }
 }
 
@@ -154,7 +171,7 @@ fn serve_by_loop<R: Net + Wait + Clock + Print + Eprint, I: ControlReader + Drop
     if let Err(e) = listener.set_nonblocking(true) {
         return cannot_listen(rt, options, &e);
     }
-    let tell = DoorsTell::new(rt, options.seats, ending);
+    let tell = DoorsTell::new(rt, options, ending);
     let came = run_loop(rt, alloc, options, listener, &tell, control, source);
     status_of_loop(rt, ending, &came)
 }
@@ -171,7 +188,7 @@ fn serve_by_threads<R: Threads + Wait + Clock + Print + Eprint + Sync, I: Contro
         ⟦<Core as QueueCore>⟧.comparisons options.now listener.now control result }
     ensures at_most { result ≤ 1 }
 {
-    let tell = DoorsTell::new(rt, options.seats, ending);
+    let tell = DoorsTell::new(rt, options, ending);
     let came = run_by_threads(rt, alloc, options, listener, &tell, control);
     status_of_threads(rt, ending, &came)
 }

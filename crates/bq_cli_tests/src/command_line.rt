@@ -1,6 +1,6 @@
 //! Words of a command line, and the options or the text that they give.
 
-use bq_program::{OptionFault, Options, Program, options};
+use bq_program::{OptionFault, Options, Program, WhenFull, options};
 use std::alloc::{AllocError, Global};
 
 /// Returns the words of a line.
@@ -52,6 +52,8 @@ static CHOSEN: &str = "bq|- 1 65535 - 0 - -\n\
     bqd -V -l a -V -z 65535 -V|a 16 65535 - 0 - -\n\
     bqd -l ::1|::1 16 65535 - 0 - -\n\
     bqd --event-loop --listen a|a 16 65535 - 0 - loop\n\
+    bqd --listen a --event-loop --when-full wait|a 16 65535 - 0 - loop\n\
+    bqd --listen a --event-loop --when-full refuse|a 16 65535 - 0 - refuse\n\
     bqd --listen a --seats 9 --event-loop|a 9 65535 - 0 - loop";
 
 fn is_number(number: u32, column: &str) -> bool {
@@ -76,6 +78,9 @@ fn is_address(address: Option<&str>, column: &str) -> bool {
 }
 
 fn mark_of(options: &Options) -> &'static str {
+    if options.when_full == WhenFull::Refuse {
+        return "refuse";
+    }
     if options.still && options.event_loop {
         "both"
     } else if options.still {
@@ -170,8 +175,10 @@ static BAD: &str = "bq --max-job-size 0|bad\n\
     bqd --listen a --max-jobs 4294967296|bad\n\
     bqd --listen a --requeue-delay 4294967296|bad\n\
     bqd --listen|bad\n\
-    bqd --listen 127.0.0.1:|bad the port is not a number\n\
-    bqd --listen [::1]:65536|bad the port is not a number\n\
+    bqd --listen 127.0.0.1:|bad is not a number from 0\n\
+    bqd --listen [::1]:65536|bad is not a number from 0\n\
+    bqd --listen a --when-full refuse|bad needs '--event-loop'\n\
+    bqd --listen a --event-loop --when-full never|bad\n\
     bq -V|bad '-V'";
 
 #[test]

@@ -1,7 +1,7 @@
 //! A host whose standard error is kept, and clients that visit a server on it.
 
 use bq_cli::serve;
-use bq_program::Options;
+use bq_program::{Options, WhenFull};
 use std::alloc::Global;
 use std::fmt::Display;
 use std::io::{Eprint, ErrorKind, Print, Read, Write};
@@ -136,6 +136,7 @@ pub fn options(seats: u16, sessions: u32) -> Options {
         requeue_delay: 0,
         sessions: Some(sessions),
         event_loop: false,
+        when_full: WhenFull::Wait,
     }
 }
 

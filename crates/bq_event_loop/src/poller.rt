@@ -26,17 +26,16 @@ use bq_line::attendant::{Looked, Progress};
 use bq_line::clock::Clock;
 use bq_line::control_line::ControlInput;
 use bq_line::line::{Line, ReadBuffer, Readiness};
-use bq_line::{Door, Watcher};
+use bq_line::{Door, TurnedAway, Watcher};
 use control_watch::ControlWatch;
 use mio::event::Event;
 use mio::unix::SourceFd;
 use mio::{Events, Interest, Poll, Registry, Token};
 use std::alloc::Global;
-use std::io;
 use std::net::Net;
 use std::os::fd::RawFd;
-use std::rt;
 use std::time::Duration;
+use std::{io, rt};
 use visits::{Part, Pause, Visit};
 use waits::longest_wait;
 
@@ -53,6 +52,9 @@ const DOORS: Token = Token(usize::MAX - 1);
 
 /// The Linux error number that means that a descriptor is registered already, EEXIST.
 const IS_WATCHED: i32 = 17;
+
+/// How many connections are closed in a round while all seats are taken.
+const TURNED_AWAY: u32 = 64;
 
 /// How many events one wait takes from the system.
 const EVENTS: usize = 256;
@@ -107,6 +109,8 @@ pub struct Poller<'r, R> {
     // The current visit, if there is one.
     visit: Visit,
     is_visiting: bool,
+    // Whether more connections may wait to be closed, since all seats are taken.
+    are_more_away: bool,
 }
 
 impl<'r, R: Net + rt::Clock> Poller<'r, R> {
@@ -151,6 +155,7 @@ impl<'r, R: Net + rt::Clock> Poller<'r, R> {
             began: 0,
             visit: Visit::new(0, Part::Answers, 0, 0),
             is_visiting: false,
+            are_more_away: false,
         })
     }
 }
@@ -191,8 +196,29 @@ impl<'r, R: rt::Clock> Poller<'r, R> {
                 self.look(alloc, row, seat);
                 return NOTHING;
             }
+            self.turn_away(row);
         }
         self.begin_visits(alloc, row)
+    }
+
+    // Lets a door close the connections that wait although all seats are taken, if it does so. What
+    // is left after some of them is closed in the next round.
+    fn turn_away<L: Line + Drop, D: Door<Line = L>>(&mut self, row: &Row<L, D>) {
+        for _ in 0..TURNED_AWAY {
+            match row.turn_away() {
+                TurnedAway::Closed => {}
+                TurnedAway::Waits => return,
+                TurnedAway::NoneThere => {
+                    self.accepts.none_there();
+                    return;
+                }
+                TurnedAway::Later => {
+                    self.accepts.rest(self.rt);
+                    return;
+                }
+            }
+        }
+        self.are_more_away = true;
     }
 
     // Lets a seat check for its next line, which is watched from then on.
@@ -370,6 +396,7 @@ impl<'r, R: rt::Clock> Poller<'r, R> {
         ensures keeps { KeepsRow L.seen (door_seen D.is_out D.is_at_end D.lines_over) D.same row.old row.new }
     {
         let most = self.longest_wait(news);
+        self.are_more_away = false;
         // A failed wait reports nothing.
         let _polled = self.poll.poll(&mut self.events, most);
         self.accepts.pass(self.rt);
@@ -382,8 +409,8 @@ impl<'r, R: rt::Clock> Poller<'r, R> {
         );
     }
 
-    // Returns how long the loop may sleep: not at all if a seat is queued or the control line owes
-    // a step, and no longer than until something is due or a pause of the doors ends.
+    // Returns how long the loop may sleep: not at all if a seat is queued, the control line owes a
+    // step or connections are left to close, and no longer than until something is due or a pause of the doors ends.
     fn longest_wait(&self, news: News) -> Option<Duration>
         ensures queued { (self.now.queue.queue ≡ [] → ⊥) → option_map as_nanos result ≡ Some 0 }
         ensures owes { news.control ≡ ControlStands.Owes → option_map as_nanos result ≡ Some 0 }
@@ -394,13 +421,15 @@ impl<'r, R: rt::Clock> Poller<'r, R> {
         longest_wait(self.is_busy(news.control), news.due, rest)
     }
 
-    // Returns true if a seat is queued or the control line owes a step.
+    // Returns true if a seat is queued, the control line owes a step, or connections are left to
+    // close.
     fn is_busy(&self, control: ControlStands) -> bool
         ensures queued { (self.now.queue.queue ≡ [] → ⊥) → result ≡ true }
         ensures owes { control ≡ ControlStands.Owes → result ≡ true }
-        ensures idle { self.now.queue.queue ≡ [] → (control ≡ ControlStands.Owes → ⊥) → result ≡ false }
+        ensures idle { self.now.queue.queue ≡ [] → (control ≡ ControlStands.Owes → ⊥)
+            → self.now.are_more_away ≡ false → result ≡ false }
     {
-        !self.queue.is_empty() || control == ControlStands::Owes
+        !self.queue.is_empty() || control == ControlStands::Owes || self.are_more_away
     }
 }
 

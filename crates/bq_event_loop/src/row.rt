@@ -5,9 +5,9 @@ ghost use Rattle.bq_core_api.specs.Limits.{is_body_size};
 ghost use Rattle.bq_line.specs.Tending.{DoorSeen, IsNewSeat, IsPlaced, Tends, door_seen};
 
 use bq_job::NoMemory;
-use bq_line::{Door, Watcher};
 use bq_line::attendant::{Attendant, Looked};
 use bq_line::line::{Line, ReadBuffer, Readiness};
+use bq_line::{Door, TurnedAway, Watcher};
 use std::alloc::Global;
 
 /// The seats of a run, each with its door. The calls that this type offers without the core submit
@@ -43,6 +43,15 @@ impl<L: Line + Drop, D: Door<Line = L>> Row<L, D> {
             }
         }
         true
+    }
+
+    /// Closes a connection that waits although every door is taken, if the doors were made to do so.
+    /// No seat and no line is touched.
+    pub fn turn_away(&self) -> TurnedAway {
+        match self.doors.first() {
+            Some(door) => door.turn_away(),
+            None => TurnedAway::Waits,
+        }
     }
 
     /// Checks for the next line at a door, without waiting for it, and has it watched.

@@ -48,9 +48,9 @@ pub first_of_three : (head piece body tail : List ℕ) → IsBeginning piece bod
 first_of_three head piece body tail begins = (
   begins.0 ++ tail,
   ap (λ b. (head ++ b) ++ tail) begins.1
-  ∙ ap (λ b. b ++ tail) (sym (append_assoc head piece begins.0))
-  ∙ append_assoc (head ++ piece) begins.0 tail
-  ∙ ap (λ b. b ++ (begins.0 ++ tail)) (sym (append-nil (head ++ piece))),
+      ∙ ap (λ b. b ++ tail) (sym (append_assoc head piece begins.0))
+      ∙ append_assoc (head ++ piece) begins.0 tail
+      ∙ ap (λ b. b ++ (begins.0 ++ tail)) (sym (append-nil (head ++ piece))),
 )
 
 pub first_of_two : (piece body tail : List ℕ) → IsBeginning piece body → IsBeginning piece (body ++ tail)

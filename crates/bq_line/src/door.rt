@@ -9,6 +9,7 @@ pub use listen_door::ListenDoor;
 pub use mem_door::MemDoor;
 pub use open_doors::OpenDoors;
 pub use refusals::Refusals;
+pub use turned_away::TurnedAway;
 pub use watcher::Watcher;
 
 mod accept;
@@ -19,6 +20,7 @@ mod listen_door;
 mod mem_door;
 mod open_doors;
 mod refusals;
+mod turned_away;
 mod watcher;
 
 use crate::line::{Line, ReadBuffer};
@@ -100,6 +102,13 @@ pub trait Door {
     /// there is one.
     fn source(&self) -> Option<RawFd> {
         None
+    }
+
+    /// Closes a connection that waits although every door of its listener is taken, if the door was
+    /// made to do so. It accepts that connection for this alone, so no line of a door is touched. It
+    /// does not wait. By default connections wait for a door.
+    fn turn_away(&self) -> TurnedAway {
+        TurnedAway::Waits
     }
 
     /// Swaps the door's own read buffer with this one, and drops the bytes that the last line left

@@ -9,7 +9,7 @@
 
 pub use door::{
     Door, DoorFault, FreeDoors, Listen, ListenDoor, MemDoor, OpenDoors, Opening, Refusals, TcpDoor,
-    Watcher,
+    TurnedAway, Watcher,
 };
 
 pub mod attendant;

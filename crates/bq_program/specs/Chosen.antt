@@ -6,8 +6,9 @@ use Rattle.bq_program.specs.declared.chosen.BqdOptions.{BqdOptions}
 use Rattle.bq_program.specs.declared.program.Program.{Program}
 use Rattle.bq_program.specs.declared.program.Program.TheVariants.{Bq, Bqd}
 use Rattle.bq_program.specs.declared.chosen.Options.{Options}
+use Rattle.bq_program.specs.declared.chosen.WhenFull.TheVariants as ways
 
--- A lone client has one seat, there is no listener, and a job of a lost connection is not delayed.
+-- A lone client has one seat, there is no listener, and a job of a lost connection is not delayed. No other client waits.
 abbrev pub of_bq : BqOptions → Options
 of_bq o = record {
   listen = None;
@@ -18,6 +19,7 @@ of_bq o = record {
   requeue_delay = 0;
   sessions = None;
   event_loop = false;
+  when_full = ways.Wait;
 }
 
 -- A server listens, and its clock does not stand still.
@@ -31,6 +33,7 @@ of_bqd o = record {
   requeue_delay = o.requeue_delay;
   sessions = o.sessions;
   event_loop = o.event_loop;
+  when_full = o.when_full;
 }
 
 -- The options of this program, each in its range.

@@ -14,6 +14,15 @@ pub struct BqOptions {
     pub max_jobs: Option<u32>,
 }
 
+/// What a server does with a connection that comes while every seat is taken.
+#[derive(Clone, Copy, PartialEq, Eq)]
+pub enum WhenFull {
+    /// It leaves the connection to the system until a seat is free.
+    Wait,
+    /// It accepts the connection and closes it at once.
+    Refuse,
+}
+
 /// The options of `bqd`.
 #[derive(Drop)]
 pub struct BqdOptions {
@@ -31,6 +40,8 @@ pub struct BqdOptions {
     pub sessions: Option<u32>,
     /// True if one thread serves all seats; otherwise each seat has a thread of its own.
     pub event_loop: bool,
+    /// What an event loop does with connections beyond the seats. Threads always let them wait.
+    pub when_full: WhenFull,
 }
 
 /// The options of either program. An option that the program does not take has its default, and `bq` has one seat.
@@ -53,6 +64,8 @@ pub struct Options {
     pub sessions: Option<u32>,
     /// True if one thread serves all seats; otherwise each seat has a thread of its own.
     pub event_loop: bool,
+    /// What an event loop does with connections beyond the seats. Threads always let them wait.
+    pub when_full: WhenFull,
 }
 
 impl From<BqOptions> for Options {
@@ -68,6 +81,7 @@ impl From<BqOptions> for Options {
             requeue_delay: 0,
             sessions: None,
             event_loop: false,
+            when_full: WhenFull::Wait,
         }
     }
 }
@@ -85,6 +99,7 @@ impl From<BqdOptions> for Options {
             requeue_delay: bqd.requeue_delay,
             sessions: bqd.sessions,
             event_loop: bqd.event_loop,
+            when_full: bqd.when_full,
         }
     }
 }

@@ -4,14 +4,14 @@ ghost use Rattle.bq_program.specs.Chosen.{AreInRange};
 ghost use Rattle.bq_program.specs.Ranges.{IsForBq, IsForBqd};
 
 use crate::address::{is_port_readable, listen_word};
-use crate::chosen::{BqOptions, BqdOptions, OptionFault, Options};
+use crate::chosen::{BqOptions, BqdOptions, OptionFault, Options, WhenFull};
 use crate::program::Program;
 use bq_job::{LARGEST_BODY, MOST_SEATS, USUAL_BODY};
 use clap::error::ErrorKind;
 use clap::{ArgMatches, Command};
 use commands::{
-    EVENT_LOOP, LISTEN, MAX_JOB_SIZE, MAX_JOBS, PORT, REQUEUE_DELAY, SEATS, SESSIONS, STILL,
-    bq_command, bqd_command,
+    EVENT_LOOP, LISTEN, MAX_JOB_SIZE, MAX_JOBS, PORT, REFUSE, REQUEUE_DELAY, SEATS, SESSIONS,
+    STILL, WHEN_FULL, bq_command, bqd_command,
 };
 use std::alloc::{AllocError, Global};
 use std::convert::AsStr;
@@ -111,6 +111,14 @@ fn seats(asked: Option<u16>) -> u16
     asked.unwrap_or(USUAL_SEATS).clamp(1, MOST_SEATS)
 }
 
+// The parser rejects other words than the two.
+fn when_full(matches: &ArgMatches<'_>) -> WhenFull {
+    match matches.get_str(WHEN_FULL) {
+        Some(word) if word == REFUSE => WhenFull::Refuse,
+        _ => WhenFull::Wait,
+    }
+}
+
 // A number that may be left out: the connections of each seat, or the limit on jobs.
 fn count(asked: Option<u32>) -> Option<u32>
     ensures least { IfSome result (λ k. 1 ≤ k) }
@@ -140,7 +148,15 @@ fn bqd_chosen(alloc: Global, matches: &ArgMatches<'_>) -> Result<BqdOptions, Opt
     let address = matches.get_str(LISTEN).unwrap_or("");
     let port = matches.get_one::<u16>(PORT);
     if port.is_none() && !is_port_readable(address) {
-        return Err(bad_address(alloc, address));
+        return Err(bad_words(
+            alloc,
+            "the port of '--listen <ADDR>' is not a number from 0 to 65535",
+        ));
+    }
+    let when_full = when_full(matches);
+    let event_loop = matches.get_flag(EVENT_LOOP);
+    if when_full == WhenFull::Refuse && !event_loop {
+        return Err(bad_words(alloc, "'--when-full refuse' needs '--event-loop'"));
     }
     let listen = listen_word(alloc, address, port)?;
     Ok(BqdOptions {
@@ -150,16 +166,14 @@ fn bqd_chosen(alloc: Global, matches: &ArgMatches<'_>) -> Result<BqdOptions, Opt
         max_jobs: count(matches.get_one::<u32>(MAX_JOBS)),
         requeue_delay: matches.get_one::<u32>(REQUEUE_DELAY).unwrap_or(0),
         sessions: count(matches.get_one::<u32>(SESSIONS)),
-        event_loop: matches.get_flag(EVENT_LOOP),
+        event_loop,
+        when_full,
     })
 }
 
-// Returns the fault of an address whose port is no number, in the words that the parser has for other values.
-fn bad_address(alloc: Global, address: &str) -> OptionFault {
-    let text = format!(in alloc;
-        "error: invalid value '{address}' for '--listen <ADDR>': the port is not a number from 0 to 65535\n\nFor more information, try '--help'.\n"
-    );
-    match text {
+// Returns the fault of words that the parser takes, in the form that it has for others.
+fn bad_words(alloc: Global, why: &str) -> OptionFault {
+    match format!(in alloc; "error: {why}\n\nFor more information, try '--help'.\n") {
         Ok(text) => OptionFault::BadOptions(text),
         Err(_) => OptionFault::NoMemory,
     }

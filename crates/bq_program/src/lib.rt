@@ -4,7 +4,7 @@
 
 pub use address::address_to_bind;
 pub use arguments::words;
-pub use chosen::{BqOptions, BqdOptions, OptionFault, Options};
+pub use chosen::{BqOptions, BqdOptions, OptionFault, Options, WhenFull};
 pub use command_line::{bq_options, bqd_options, options};
 pub use fault::{Fault, Need, Stop, fault_of_end, fault_of_loop};
 pub use program::Program;

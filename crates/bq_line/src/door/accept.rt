@@ -3,7 +3,7 @@ ghost use Rattle.std.specs.Prelude.{◌≡◌, OnErr, true};
 ghost use Rattle.bq_line.specs.Accepts.{ends_listener, is_listener_fault};
 
 use super::refusals::{Met, Refusals};
-use super::{Listen, Watcher};
+use super::{Listen, TurnedAway, Watcher};
 use crate::line::{Connection, Socket};
 use std::io::{Eprint, ErrorKind};
 use std::rt::Clock;
@@ -157,6 +157,25 @@ fn watch<S: Socket, W: Watcher>(stream: &S, watcher: &W) -> io::Result<()> {
         Some(fd) => watcher.watch(fd),
         None => Err(io::Error::from(ErrorKind::Unsupported)),
     }
+}
+
+/// Accepts the next connection of a listener that does not wait, and closes it. Clients that have
+/// disconnected already are skipped.
+pub(super) fn close_next<T: Listen>(listener: &T) -> TurnedAway {
+    for _ in 0..PEERS {
+        match listener.accept() {
+            Ok(_closed) => return TurnedAway::Closed,
+            Err(e) => {
+                if e.kind() == ErrorKind::WouldBlock {
+                    return TurnedAway::NoneThere;
+                }
+                if !is_of_peer(e.kind()) {
+                    return TurnedAway::Later;
+                }
+            }
+        }
+    }
+    TurnedAway::Later
 }
 
 fn meaning_of(e: &io::Error) -> NotAccepted

@@ -15,7 +15,8 @@ const NEVER: u64 = u64::MAX;
 
 /// Reports on standard error that all doors are taken: one line when a connection takes the last
 /// free door, and no other line until a door was free for a minute. The doors of a listener share
-/// it.
+/// it. It can also let them close the connections that come meanwhile, and then reports their
+/// number: at the first one, and later at most once a minute.
 #[derive(Drop)]
 pub struct FreeDoors {
     // The line that is written.
@@ -26,6 +27,11 @@ pub struct FreeDoors {
     free: AtomicU32,
     // Since when a door has been free.
     since: AtomicU64,
+    // The text before the number of connections that were closed. `None` if they wait.
+    closing: Option<&'static str>,
+    // How many were closed and not reported yet, and when the last report was.
+    closed: AtomicU64,
+    reported: AtomicU64,
 }
 
 impl FreeDoors {
@@ -38,6 +44,37 @@ impl FreeDoors {
             start: Instant::now(rt).ok(),
             free: AtomicU32::new(doors),
             since: AtomicU64::new(0),
+            closing: None,
+            closed: AtomicU64::new(0),
+            reported: AtomicU64::new(0),
+        }
+    }
+
+    /// Returns the same record, of doors that close the connections which come while all are taken.
+    /// `text` comes before their number in a report.
+    pub fn closing(mut self, text: &'static str) -> FreeDoors
+        ensures { result.text ≡ self.text }
+    {
+        self.closing = Some(text);
+        self
+    }
+
+    /// Returns true if all doors are taken, and further connections are to be closed.
+    pub(super) fn closes_more(&self) -> bool {
+        self.closing.is_some() && self.free.load(Ordering::Relaxed) == 0
+    }
+
+    /// Records that a connection was closed because all doors are taken.
+    pub(super) fn note_closed<R: Clock + Eprint>(&self, rt: &R) {
+        self.closed.fetch_add(1, Ordering::Relaxed);
+        let now = self.moment(rt);
+        if now.saturating_sub(self.reported.load(Ordering::Relaxed)) >= MINUTE {
+            self.reported.store(now, Ordering::Relaxed);
+            let closed = self.closed.swap(0, Ordering::Relaxed);
+            if let Some(text) = self.closing {
+                // If standard error is closed, the line is lost.
+                let _told = eprintln!(rt; "{text}: {closed}");
+            }
         }
     }
 

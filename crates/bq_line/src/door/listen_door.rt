@@ -2,12 +2,12 @@ ghost use Rattle.std.specs.Prelude.{◌≡◌, ◌↔◌, [], IfOk, IsNone, IsSo
 ghost use Rattle.bq_line.specs.Doors.{IsLookedFor, IsNoMore, IsOpened, MayOpen};
 ghost use Rattle.bq_line.specs.InAll.{in_all};
 
-use super::accept::{Accepted, accept, accept_now};
+use super::accept::{Accepted, accept, accept_now, close_next};
 use super::free_doors::FreeDoors;
 use super::line_record::LineRecord;
 use super::open_doors::OpenDoors;
 use super::refusals::Refusals;
-use super::{Door, DoorFault, Listen, Opening, Watcher};
+use super::{Door, DoorFault, Listen, Opening, TurnedAway, Watcher};
 use crate::line::{BufferedLine, Connection, Line, ReadBuffer, Socket};
 use bq_job::LineEnd;
 use std::io::Eprint;
@@ -293,6 +293,21 @@ impl<'l, R: Wait + Clock + Eprint, S: Socket + Drop + Send, T: Listen<Stream = S
 
     fn source(&self) -> Option<RawFd> {
         self.listener.source()
+    }
+
+    // The listener was set not to wait.
+    fn turn_away(&self) -> TurnedAway {
+        let Some(free) = self.free else {
+            return TurnedAway::Waits;
+        };
+        if !free.closes_more() {
+            return TurnedAway::Waits;
+        }
+        let turned = close_next(self.listener);
+        if turned == TurnedAway::Closed {
+            free.note_closed(self.rt);
+        }
+        turned
     }
 
     fn exchange(&mut self, buffer: &mut ReadBuffer) {

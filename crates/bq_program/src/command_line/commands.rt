@@ -27,6 +27,15 @@ pub const SESSIONS: &str = "sessions";
 
 pub const STILL: &str = "still";
 
+pub const WHEN_FULL: &str = "when-full";
+
+/// The values of `--when-full`. The first is the default.
+pub const WAIT: &str = "wait";
+
+pub const REFUSE: &str = "refuse";
+
+static WAYS: &[&str] = &[WAIT, REFUSE];
+
 const VERBOSE: &str = "verbose";
 
 const VERSION_WORD: &str = "version";
@@ -73,6 +82,7 @@ fn bqd_args<'a>(alloc: Global) -> Result<Vec<Arg<'a>>, AllocError> {
         requeue_delay_arg(alloc),
         sessions_arg(alloc),
         event_loop_arg(alloc),
+        when_full_arg(alloc),
         verbose_arg(alloc),
         version_arg(alloc),
     ]?)
@@ -150,6 +160,14 @@ fn event_loop_arg<'a>(alloc: Global) -> Arg<'a> {
         .long(EVENT_LOOP)
         .help("One thread serves all clients; by default each seat has a thread of its own")
         .action(ArgAction::SetTrue)
+}
+
+fn when_full_arg<'a>(alloc: Global) -> Arg<'a> {
+    Arg::new(alloc, WHEN_FULL)
+        .long(WHEN_FULL)
+        .value_name("WAY")
+        .help("What an event loop does with connections beyond the seats; default wait")
+        .value_parser(ValueParser::from(WAYS))
 }
 
 fn max_job_size_arg<'a>(alloc: Global) -> Arg<'a> {
