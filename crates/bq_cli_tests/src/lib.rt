@@ -11,8 +11,6 @@ mod one_line;
 #[cfg(test)]
 mod ranges;
 #[cfg(test)]
-mod rows;
-#[cfg(test)]
 mod session;
 #[cfg(test)]
 mod told;

@@ -6,9 +6,9 @@ mod runs;
 mod scripted;
 mod worked;
 
-use crate::rows::column;
 use bq_job::USUAL_BODY;
-use bq_serve_tests::settings::config;
+use bq_scenes::rows::column;
+use bq_scenes::settings::config;
 use runs::{Client, ran_so};
 use scripted::SCRIPTED;
 use std::alloc::Global;

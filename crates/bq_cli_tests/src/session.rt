@@ -3,10 +3,10 @@ ghost use Rattle.std.specs.Prelude.{IfSome};
 ghost use Rattle.bq_program.specs.Ranges.{IsForBq};
 
 use crate::command_line::{are_so, words_of};
-use crate::rows::{column, is_end};
 use bq_job::LineEnd;
 use bq_line::clock::MachineClock;
 use bq_program::{BqOptions, Options, bq_options};
+use bq_scenes::rows::{column, is_end};
 use bq_session::{Console, serve_client};
 use std::alloc::Global;
 use std::io;

@@ -3,8 +3,8 @@
 use crate::runs::come_out;
 use crate::series::Series;
 use bq_event_loop::ControlReads;
-use bq_serve_tests::control::Gives;
-use bq_serve_tests::drains::EXAMPLES;
+use bq_scenes::control::Gives;
+use bq_scenes::drains::EXAMPLES;
 use std::alloc::Global;
 
 fn at_once(drains: bool) -> &'static str {

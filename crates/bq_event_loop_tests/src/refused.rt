@@ -7,8 +7,8 @@ use crate::together::Together;
 use crate::visits::{Run, Table};
 use bq_event_loop::TurnsFault;
 use bq_host::RunFault;
-use bq_serve_tests::refused::{REFUSED, Refused, opens_of};
-use bq_serve_tests::settings::config;
+use bq_scenes::refused::{REFUSED, Refused, opens_of};
+use bq_scenes::settings::config;
 use std::alloc::Global;
 
 // The one client, at the one door. The limit of body sizes is 1.

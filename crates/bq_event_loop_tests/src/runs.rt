@@ -13,8 +13,8 @@ use bq_host::RunFault;
 use bq_job::{Moment, USUAL_BODY};
 use bq_line::Door;
 use bq_line::clock::ScriptClock;
-use bq_serve_tests::control::{Control, control};
-use bq_serve_tests::settings::config;
+use bq_scenes::control::{Control, control};
+use bq_scenes::settings::config;
 use std::alloc::Global;
 
 type Ran<'t> = EventLoopRun<

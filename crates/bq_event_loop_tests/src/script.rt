@@ -9,7 +9,7 @@ use crate::together::Together;
 use crate::visits::Visit;
 use bq_job::LineEnd;
 use bq_line::line::Duplex;
-use bq_serve_tests::notation::bytes_of;
+use bq_scenes::notation::bytes_of;
 use std::alloc::Global;
 use std::io;
 use std::io::ErrorKind;

@@ -4,7 +4,7 @@ use crate::flow::{FREE, Pace};
 use crate::order::Rule;
 use crate::setting::{RULES, Setting, by_rule, rule_of, with_pauses};
 use bq_event_loop::ControlReads;
-use bq_serve_tests::control::Gives;
+use bq_scenes::control::Gives;
 
 /// Two readings a second, one of which fails.
 static HALVES: &str = "0 500 1000 1500 2000 2500 3000 fails 3500 4000 4500 5000 5500 6000 6500 \

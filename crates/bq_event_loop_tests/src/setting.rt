@@ -3,7 +3,7 @@
 use crate::flow::{FREE, Pace};
 use crate::order::Rule;
 use bq_event_loop::ControlReads;
-use bq_serve_tests::control::Gives;
+use bq_scenes::control::Gives;
 
 /// The settings of a run besides its clients.
 #[derive(Clone, Copy)]

@@ -1,8 +1,8 @@
 //! Tables of runs: their clients, and what has to become of these.
 
 use bq_job::LineEnd;
-use bq_serve_tests::clients::{Client, Outcome};
-use bq_serve_tests::worked::{Example, examples};
+use bq_scenes::clients::{Client, Outcome};
+use bq_scenes::worked::{Example, examples};
 use std::alloc::Global;
 
 /// Ample room for what a client receives.

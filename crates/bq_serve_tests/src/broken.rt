@@ -1,8 +1,8 @@
 //! Lines that fail while other lines are served without damage.
 
-use crate::clients::{Client, INSERTED, PUTS, RESERVED, ROOM};
 use crate::doors::{CountedDoor, is_left_so};
 use bq_job::LineEnd;
+use bq_scenes::clients::{Client, INSERTED, PUTS, RESERVED, ROOM};
 
 /// A client that waits and whose line fails, and a client that puts a job.
 pub const BROKEN: &[&[Client]] = &[&[("reserve~ + fails", ROOM)], &[(PUTS, ROOM)]];

@@ -1,14 +1,14 @@
 //! Runs over doors in memory, each with its wanted result.
 
 use crate::broken::{BROKEN, are_both_cut_off, is_other_unhurt};
-use crate::clients::{Client, Outcome, PUTS, ROOM, WAITS};
-use crate::control::Gives;
 use crate::doors::{CountedDoor, are_left_so};
-use crate::drains;
-use crate::refused::{ONE, rows};
-use crate::worked::{examples, opens_of};
 use bq_host::RunFault;
 use bq_job::USUAL_BODY;
+use bq_scenes::clients::{Client, Outcome, PUTS, ROOM, WAITS};
+use bq_scenes::control::Gives;
+use bq_scenes::drains;
+use bq_scenes::refused::{ONE, rows};
+use bq_scenes::worked::{examples, opens_of};
 
 /// The wanted result of a run.
 #[derive(Clone, Copy)]

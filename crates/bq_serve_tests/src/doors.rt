@@ -5,10 +5,10 @@ ghost use Rattle.bq_line.specs.MemDoors.{IsFresh};
 ghost use Rattle.bq_line.specs.Tending.{IsNewDoor};
 
 use crate::cases::Case;
-use crate::clients::{Client, Outcome, parts_of};
 use bq_job::{LineEnd, NoMemory};
 use bq_line::line::MemLine;
 use bq_line::{Door, DoorFault, MemDoor, Opening, Watcher};
+use bq_scenes::clients::{Client, Outcome, parts_of};
 use std::alloc::Global;
 use std::collections::VecDeque;
 use std::sync::atomic::{AtomicU64, Ordering};

@@ -1,11 +1,11 @@
 //! What a run over doors in memory works on, besides its settings.
 
 use crate::cases::Case;
-use crate::clients::{STILL, clock};
-use crate::control::{Control, control};
 use crate::doors::{NewDoors, doors};
 use bq_job::NoMemory;
 use bq_line::clock::ScriptClock;
+use bq_scenes::clients::{STILL, clock};
+use bq_scenes::control::{Control, control};
 use std::alloc::Global;
 use std::sync::atomic::AtomicU64;
 

@@ -1,9 +1,9 @@
 //! Runs of one line that are rejected.
 
 use super::runs::{Client, ran_so};
-use bq_serve_tests::clients::{PUTS, ROOM};
-use bq_serve_tests::refused::{REFUSED, Refused};
-use bq_serve_tests::settings::config;
+use bq_scenes::clients::{PUTS, ROOM};
+use bq_scenes::refused::{REFUSED, Refused};
+use bq_scenes::settings::config;
 use std::alloc::Global;
 use std::sync::Wait;
 

@@ -1,14 +1,14 @@
 //! Runs of one line.
 
-use crate::rows::{column, is_end};
 use bq_core_api::Config;
 use bq_host::RunFault;
 use bq_job::Moment;
 use bq_line::clock::ScriptClock;
 use bq_line::line::MemLine;
 use bq_run_one::{One, run_one};
-use bq_serve_tests::clients::{ROOM, parts_of};
-use bq_serve_tests::notation::bytes_of;
+use bq_scenes::clients::{ROOM, parts_of};
+use bq_scenes::notation::bytes_of;
+use bq_scenes::rows::{column, is_end};
 use std::alloc::Global;
 use std::sync::Wait;
 

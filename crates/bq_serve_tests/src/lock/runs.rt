@@ -2,12 +2,12 @@
 
 use super::journal::is_whole;
 use crate::cases::{Came, Case, Group, MOST, Wanted, run_of};
-use crate::drains::put;
 use crate::scene::Scene;
-use crate::settings::config;
 use bq_host::RunFault;
 use bq_job::{Answer, Step};
 use bq_lock::{Locked, run_locked};
+use bq_scenes::drains::put;
+use bq_scenes::settings::config;
 use std::alloc::Global;
 use std::sync::Wait;
 use std::sync::atomic::{AtomicU64, Ordering};

@@ -2,7 +2,6 @@
 ghost use Rattle.std.specs.Prelude.{◌<◌};
 
 use super::outcome::{Outcome, tells};
-use crate::settings::config;
 use bq_core::{Core, CoreFault, Outs};
 use bq_host::RunFault;
 use bq_index::Shelf;
@@ -10,6 +9,7 @@ use bq_job::{Body, Counts, Job, JobState, TubeName, USUAL_BODY};
 use bq_jobs::Jobs;
 use bq_link::{Anything, links};
 use bq_lock::Locked;
+use bq_scenes::settings::config;
 use bq_seat::SeatMachine;
 use bq_wire::RequestReader;
 use std::alloc::Global;

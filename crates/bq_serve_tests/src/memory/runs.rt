@@ -2,10 +2,10 @@
 
 use super::outcome::Outcome;
 use crate::cases::{Came, Case, Wanted};
-use crate::clients;
-use crate::clients::Client;
 use bq_host::RunFault;
 use bq_job::LineEnd;
+use bq_scenes::clients;
+use bq_scenes::clients::Client;
 
 /// What the only client sends.
 static ONE: &[&[Client]] = &[&[("put 0 0 1 1~a~reserve-with-timeout 0~quit~", 100)]];

@@ -2,10 +2,10 @@
 //! `taken` after it; then come its answers. From the first bury on, no step may allocate.
 ghost use Rattle.std.specs.Prelude.{◌≡◌, ◌<◌};
 
-use crate::settings::config;
 use crate::stepping::take;
 use bq_core::{Core, Outs};
 use bq_job::{Answer, Moment, Seat, Step, USUAL_BODY};
+use bq_scenes::settings::config;
 use bq_wire::{HeadBuf, RequestReader, answer_body, answer_head, answer_tail};
 use std::alloc::Global;
 

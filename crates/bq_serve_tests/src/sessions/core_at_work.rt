@@ -4,12 +4,12 @@ ghost use Rattle.bq_thread_work.specs.CoreWork.{IsNewRoom};
 ghost use Rattle.bq_job.specs.promise.History.{is_tick};
 ghost use Rattle.bq_link.specs.NewEnds.{IsNewCore};
 
-use crate::clients::{STILL, clock};
-use crate::settings::config;
 use bq_core::{Core, Outs};
 use bq_job::{Answer, NoMemory, Request, Step, USUAL_BODY};
 use bq_line::clock::ScriptClock;
 use bq_link::{CoreEnd, Intake, NoTicks, SeatEnd, links};
+use bq_scenes::clients::{STILL, clock};
+use bq_scenes::settings::config;
 use bq_thread_work::core_work::{CoreRoom, core_work};
 use std::alloc::Global;
 use std::sync::Wait;

@@ -10,11 +10,11 @@ mod guest;
 mod guest_control;
 mod guest_door;
 
-use crate::clients::{STILL, clock};
-use crate::settings::config;
 use awaited::Meeting;
 use bq_job::{NoMemory, USUAL_BODY};
 use bq_line::Door;
+use bq_scenes::clients::{STILL, clock};
+use bq_scenes::settings::config;
 use bq_serve::run_sessions;
 use guest::{GUESTS, Guest};
 use guest_control::GuestControl;

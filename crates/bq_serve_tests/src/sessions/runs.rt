@@ -2,13 +2,13 @@
 ghost use Rattle.std.specs.Prelude.{◌≡◌, ◌<◌};
 
 use crate::cases::{Came, Case, Group, MOST, Wanted, run_of};
-use crate::drains::put;
 use crate::scene::Scene;
-use crate::settings::config;
 use crate::stepping::take;
 use bq_core::{Core, Outs};
 use bq_host::RunFault;
 use bq_job::{Answer, Step};
+use bq_scenes::drains::put;
+use bq_scenes::settings::config;
 use bq_serve::run_sessions;
 use std::alloc::Global;
 use std::sync::Wait;
