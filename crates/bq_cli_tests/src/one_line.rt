@@ -6,6 +6,7 @@ mod runs;
 mod scripted;
 mod worked;
 
+use bq_core_api::Config;
 use bq_job::USUAL_BODY;
 use bq_scenes::rows::column;
 use bq_scenes::settings::config;
@@ -13,7 +14,7 @@ use runs::{Client, ran_so};
 use scripted::SCRIPTED;
 use std::alloc::Global;
 use std::sync::Wait;
-use worked::WORKED;
+use worked::{COMMANDS, WORKED};
 
 // Three clocks: one that stands at 0, one that always fails, and one that goes backwards.
 static CLOCKS: &str = "0;fails;9000 4000";
@@ -28,12 +29,21 @@ fn clocks_of(row: &'static str) -> &'static str {
     }
 }
 
+// Returns the configuration of a row: one seat, and the row's limits.
+fn config_of(row: &'static str) -> Config {
+    let max_job_size = column(row, 6).parse::<u32>().unwrap_or(USUAL_BODY);
+    Config {
+        max_jobs: column(row, 7).parse::<u32>().ok(),
+        ..config(1, max_job_size)
+    }
+}
+
 // Returns true if the session of a row has the result that it says.
 fn is_met<R: Wait>(rt: &R, alloc: Global, row: &'static str) -> bool {
     let client = Client::of_row(row);
     for readings in clocks_of(row).split(';') {
         if !matches!(
-            ran_so(rt, alloc, config(1, USUAL_BODY), &client, readings),
+            ran_so(rt, alloc, config_of(row), &client, readings),
             Ok(true)
         ) {
             return false;
@@ -59,4 +69,5 @@ fn scripted_sessions(rt: HostRuntime) {
 #[test]
 fn worked_sessions(rt: HostRuntime) {
     assert!(rt; are_met(&rt, rt.alloc(), WORKED));
+    assert!(rt; are_met(&rt, rt.alloc(), COMMANDS));
 }

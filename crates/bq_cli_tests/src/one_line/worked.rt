@@ -2,8 +2,8 @@
 //! No time passes in a session: a clock that fails or goes backwards counts as one that stands
 //! still.
 
-/// The worked sessions: what each shows, what the client sends, what it receives, and how its line
-/// ends.
+/// The first worked sessions: what each shows, what the client sends, what it receives, and how its
+/// line ends.
 pub static WORKED: &str = "first_cycle: a job from its put to its delete\
     |put 5 0 10 3~abc~reserve~delete 1~quit~\
     |INSERTED 1~RESERVED 1 3~abc~DELETED~|quit
@@ -86,3 +86,62 @@ pub static WORKED: &str = "first_cycle: a job from its put to its delete\
     odd_spaces_and_numbers: extra spaces, and a number that is too large\
     |~reserve ~ reserve~put 0 0 4294967296 1~\
     |UNKNOWN_COMMAND~BAD_FORMAT~UNKNOWN_COMMAND~BAD_FORMAT~|end";
+
+/// Further worked sessions, with the same columns. Then come its room and the readings of the clock,
+/// which are left out, the limit of body sizes, and the limit on jobs, if they are not the usual
+/// ones.
+pub static COMMANDS: &str =
+    "bad_end_swallowed: a body without CR LF after it, and nothing to reserve\
+    |put 0 0 1 2~abXYreserve~|EXPECTED_CRLF~TIMED_OUT~|end
+
+    delete_twice: a job can be deleted once\
+    |put 0 0 1 1~a~delete 2~delete 1~delete 1~|INSERTED 1~NOT_FOUND~DELETED~NOT_FOUND~|end
+
+    small_limit: bodies of at most two bytes\
+    |put 0 0 1 3~abc~put 0 0 1 2~ab~|JOB_TOO_BIG~INSERTED 1~|end|||2
+
+    kick_in_turns: two buried jobs, then a delayed one, then none\
+    |put 0 0 9 1~x~put 0 0 9 1~y~put 0 100 9 1~z~reserve~reserve~bury 2 0~bury 1 0~\
+    kick 5~kick 5~kick 5~\
+    |INSERTED 1~INSERTED 2~INSERTED 3~RESERVED 1 1~x~RESERVED 2 1~y~BURIED~BURIED~\
+    KICKED 2~KICKED 1~KICKED 0~|end
+
+    peek_delayed_first_due: the delayed job that is due first\
+    |put 0 9 9 1~x~put 0 5 9 1~y~peek-delayed~|INSERTED 1~INSERTED 2~FOUND 2 1~y~|end
+
+    tube_statistics: a job of priority 1023 is urgent, and one of 1024 is not\
+    |put 1023 0 9 1~x~put 1024 0 9 1~y~reserve~delete 1~stats-tube default~\
+    |INSERTED 1~INSERTED 2~RESERVED 1 1~x~DELETED~OK 265~---^name: default^\
+    current-jobs-urgent: 0^current-jobs-ready: 1^current-jobs-reserved: 0^\
+    current-jobs-delayed: 0^current-jobs-buried: 0^total-jobs: 2^current-using: 1^\
+    current-watching: 1^current-waiting: 0^cmd-delete: 1^cmd-pause-tube: 0^pause: 0^\
+    pause-time-left: 0^~|end
+
+    tube_counts_from_zero: a tube that comes back counts from 0\
+    |use t~put 0 0 9 0~~use default~delete 1~stats-tube t~use t~put 0 0 9 0~~stats-tube t~\
+    |USING t~INSERTED 1~USING default~DELETED~NOT_FOUND~USING t~INSERTED 2~OK 259~---^name: t^\
+    current-jobs-urgent: 1^current-jobs-ready: 1^current-jobs-reserved: 0^\
+    current-jobs-delayed: 0^current-jobs-buried: 0^total-jobs: 1^current-using: 1^\
+    current-watching: 0^current-waiting: 0^cmd-delete: 0^cmd-pause-tube: 0^pause: 0^\
+    pause-time-left: 0^~|end
+
+    limit_of_one: one job at most, reserved or not\
+    |put 0 0 9 1~x~put 0 0 9 1~y~reserve~put 0 0 9 1~z~delete 1~put 0 0 9 1~w~\
+    |INSERTED 1~OUT_OF_MEMORY~RESERVED 1 1~x~OUT_OF_MEMORY~DELETED~INSERTED 2~|end||||1
+
+    the tubes of a new server\
+    |list-tubes~|OK 14~---^- default^~|end
+
+    a tube of a new server\
+    |stats-tube default~\
+    |OK 265~---^name: default^current-jobs-urgent: 0^current-jobs-ready: 0^\
+    current-jobs-reserved: 0^current-jobs-delayed: 0^current-jobs-buried: 0^total-jobs: 0^\
+    current-using: 1^current-watching: 1^current-waiting: 0^cmd-delete: 0^cmd-pause-tube: 0^\
+    pause: 0^pause-time-left: 0^~|end
+
+    a new server\
+    |stats~\
+    |OK 267~---^current-jobs-urgent: 0^current-jobs-ready: 0^current-jobs-reserved: 0^\
+    current-jobs-delayed: 0^current-jobs-buried: 0^job-timeouts: 0^total-jobs: 0^\
+    max-job-size: 65535^current-tubes: 1^current-connections: 1^current-waiting: 0^\
+    total-connections: 1^draining: false^~|end";
