@@ -37,10 +37,18 @@ HELD_STEPS = [
 # How many of them come with ample memory.
 HELD_AMPLE = 7
 
+# What a call that asks for three boxes keeps if the first, the second or the third is refused.
+KEPT = [b"refused, 0 are kept", b"refused, 1 is kept", b"refused, 2 are kept"]
+
+# The runs of one line. Each is refused for one failed allocation and answers OUT_OF_MEMORY for another.
+LINES = [b"run_one " + it for it in (b"put", b"use", b"watch", b"list-tubes")]
+
 # The possible outcomes of a call in which one allocation failed, besides `made`.
 OUTCOMES = {
+    b"boxes": set(KEPT),
     **dict.fromkeys((b"shelf", b"jobs"), {b"refused", b"not begun"}),
     **dict.fromkeys((b"core", b"outs", b"links", b"reader", b"seat", b"lock"), {b"refused"}),
+    **dict.fromkeys(LINES, {b"refused", b"a command was left out", b"not begun"}),
     **dict.fromkeys((b"run_sessions", b"run_locked"), {b"refused", b"a thread was refused", b"a command was left out"}),
 }
 STEPS = b"steps: "
@@ -57,8 +65,8 @@ def parted(out):
     return dict(line.split(b": ", 1) for line in calls.splitlines()), steps
 
 
-def refused_once(program, full, nth):
-    """Makes one run whose nth allocation fails. Returns whether it failed, and what is wrong."""
+def refused_once(program, full, nth, seen):
+    """Makes one run whose nth allocation fails. Returns whether it failed, and what is wrong. Adds to `seen` what it turned."""
     status, out, complaint = program.run([], b"", at=nth)
     refused = program.host.was_refused()
     if status != 0 or complaint:
@@ -73,6 +81,8 @@ def refused_once(program, full, nth):
     for name in turned:
         if name != STEPS and calls[name] not in OUTCOMES[name]:
             return True, f"{name.decode()}: {calls[name].decode()}"
+        if name != STEPS:
+            seen.append((name, calls[name]))
     return True, None
 
 
@@ -81,7 +91,21 @@ def calls_refused(program):
     status, full, complaint = program.run([], b"")
     if status != 0 or complaint or full != TOLD:
         return 1, f"status {status} though nothing was refused, and it tells {full[-120:]!r}"
-    return each_in_turn(lambda nth: refused_once(program, full, nth))
+    seen = []
+    runs, wrong = each_in_turn(lambda nth: refused_once(program, full, nth, seen))
+    return runs, wrong or unseen(seen)
+
+
+def unseen(seen):
+    """Returns which outcome never came, of those that some allocation has to bring about, or None."""
+    kept = [outcome for name, outcome in seen if name == b"boxes"]
+    if kept != KEPT:
+        return f"boxes: {kept}"
+    for name in LINES:
+        missing = {b"refused", b"a command was left out"} - {outcome for it, outcome in seen if it == name}
+        if missing:
+            return f"{name.decode()}: never {sorted(missing)}"
+    return None
 
 
 def marked(program):

@@ -2,6 +2,7 @@
 //! a line on standard output. tests/memory_faults runs it again and again, with another allocation
 //! failing each time.
 
+mod lines;
 mod makings;
 mod outcome;
 mod runs;

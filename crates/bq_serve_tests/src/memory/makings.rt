@@ -22,6 +22,17 @@ fn made_or_refused(is_made: bool) -> Outcome {
     }
 }
 
+// A new shelf gets three boxes, one allocation each. Those before a failed one are kept.
+fn boxes(alloc: Global) -> Outcome {
+    let mut shelf: Shelf<u64, u64> = Shelf::new();
+    let is_made = shelf.reserve(alloc, 3).is_ok();
+    match (is_made, shelf.spare()) {
+        (true, 3) => Outcome::Made,
+        (true, _) => Outcome::Wrong,
+        (false, spare) => Outcome::Kept(spare),
+    }
+}
+
 // A shelf with one entry gets room for four more.
 fn shelf(alloc: Global) -> Outcome {
     let mut shelf: Shelf<u64, u64> = Shelf::new();
@@ -135,7 +146,8 @@ fn seat(alloc: Global) -> Outcome {
 
 /// Makes each of them in turn. Returns false if an outcome could not be printed.
 pub fn tells_all(rt: &HostRuntime, alloc: Global) -> bool {
-    tells(rt, "shelf", shelf(alloc))
+    tells(rt, "boxes", boxes(alloc))
+        && tells(rt, "shelf", shelf(alloc))
         && tells(rt, "jobs", jobs(alloc))
         && tells(rt, "core", core(alloc))
         && tells(rt, "outs", outs(alloc))

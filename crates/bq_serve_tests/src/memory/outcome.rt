@@ -9,6 +9,8 @@ pub enum Outcome {
     Made,
     /// An allocation failed, and nothing was changed.
     Refused,
+    /// An allocation failed after this many others of the call, whose memory is kept.
+    Kept(usize),
     /// A thread could not be started, and nothing was changed.
     ThreadRefused,
     /// A command was skipped because an allocation failed, and what came after followed from that.
@@ -24,6 +26,10 @@ impl Outcome {
         match self {
             Outcome::Made => ": made\n",
             Outcome::Refused => ": refused\n",
+            Outcome::Kept(0) => ": refused, 0 are kept\n",
+            Outcome::Kept(1) => ": refused, 1 is kept\n",
+            Outcome::Kept(2) => ": refused, 2 are kept\n",
+            Outcome::Kept(_) => ": refused, too many are kept\n",
             Outcome::ThreadRefused => ": a thread was refused\n",
             Outcome::LeftOut => ": a command was left out\n",
             Outcome::NotBegun => ": not begun\n",

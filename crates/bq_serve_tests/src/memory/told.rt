@@ -3,14 +3,18 @@
 
 use super::outcome::tells;
 use super::runs::{case, outcome};
-use super::{makings, steps};
+use super::{lines, makings, steps};
 use crate::lock::runs::around_a_lock;
 use crate::sessions::runs::by_threads;
+use bq_scenes::rows::column;
 
 #[test]
 fn all_calls(rt: HostRuntime) {
     let alloc = rt.alloc();
     assert!(rt; makings::tells_all(&rt, alloc));
+    for row in lines::LINES.split(';') {
+        assert!(rt; tells(&rt, column(row, 0), lines::ran(&rt, alloc, row)));
+    }
     let came = by_threads(&rt, alloc, &case());
     assert!(rt; tells(&rt, "run_sessions", outcome(came)));
     let came = around_a_lock(&rt, alloc, &case());
