@@ -3,39 +3,11 @@ ghost use Rattle.std.specs.Prelude.{◌≡◌};
 
 use crate::texts::{plain_step, push_text};
 use bq_core::{Config, Core, Outs};
-use bq_job::{Answer, JobId, Moment, Request, Seat, Step};
+use bq_job::{Answer, Moment, Request, Seat, Step};
 use bq_wire::RequestReader;
 use std::alloc::Global;
 use std::marker::Model;
 use std::test::Fail;
-
-/// The kind of an answer, with the id or the count in it.
-#[derive(Clone, Copy)]
-pub(crate) enum AnswerKind {
-    Inserted(JobId),
-    Reserved(JobId),
-    Found(JobId),
-    NotFound,
-    Watching(u64),
-    Deleted,
-    Buried,
-    Paused,
-    Other,
-}
-
-fn kind_of(answer: &Answer) -> AnswerKind {
-    match answer {
-        Answer::Inserted(id) => AnswerKind::Inserted(*id),
-        Answer::Reserved(id, _) => AnswerKind::Reserved(*id),
-        Answer::Found(id, _) => AnswerKind::Found(*id),
-        Answer::NotFound => AnswerKind::NotFound,
-        Answer::Watching(count) => AnswerKind::Watching(*count),
-        Answer::Deleted => AnswerKind::Deleted,
-        Answer::Buried => AnswerKind::Buried,
-        Answer::Paused => AnswerKind::Paused,
-        _ => AnswerKind::Other,
-    }
-}
 
 /// A core, its answers and the reader, and the number of comparisons when counting started.
 #[derive(Drop)]
@@ -123,14 +95,6 @@ impl Bench {
     /// Removes and returns the oldest answer of the last step.
     pub(crate) fn answer(&mut self) -> Option<(Seat, Answer)> {
         self.outs.take_first()
-    }
-
-    /// Removes the oldest answer of the last step, and returns its seat and its kind.
-    pub(crate) fn answer_kind(&mut self) -> Option<(Seat, AnswerKind)> {
-        match self.answer() {
-            Some((seat, answer)) => Some((seat, kind_of(&answer))),
-            None => None,
-        }
     }
 
     /// Returns true if nothing failed for lack of memory in the last step.

@@ -1,13 +1,8 @@
-//! Tests of shelves, and of the jobs of a queue, which are kept in shelves.
+//! Tests of shelves, and of the jobs of a queue, which are kept in shelves. That each call does what
+//! it says is proved; here are the calls that allocate, worked examples, and what no contract says.
 
-mod bodies;
 mod boxes;
-mod firsts;
-mod handles;
-mod many_jobs;
 mod named;
-mod numbers;
 mod putting;
 mod shelves;
-mod states;
 mod table;

@@ -9,8 +9,7 @@ use std::test::Fail;
 
 /// Steps and their answers, one step per row: the moment, the seat, what happens there, and after
 /// each `|` an answer with the seat that it goes to. The step must give exactly these answers. `~`
-/// is CR LF, and `/` is LF. If an answer begins with `..`, only these lines of it are compared.
-/// Some rows are not steps: `due` states the next due moment, `count` starts counting comparisons,
+/// is CR LF, and `/` is LF. Some rows are not steps: `due` states the next due moment, `count` starts counting comparisons,
 /// and `crowd of` runs a crowd. A row that begins with `#` is a comment.
 pub(crate) type Script = &'static str;
 

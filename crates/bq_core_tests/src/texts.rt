@@ -1,5 +1,5 @@
 //! Texts of steps and answers, as the scripts of the tests write them.
-use bq_job::{Answer, Refusal, Request, Step};
+use bq_job::{Answer, Step};
 use bq_wire::{HeadBuf, answer_body, answer_head, answer_tail};
 use std::alloc::Global;
 
@@ -12,7 +12,6 @@ pub(crate) fn plain_step(words: &str) -> Option<Step> {
         "drain" => Some(Step::Drain),
         "gone" => Some(Step::Gone),
         "tick" => Some(Step::Tick),
-        "no memory" => Some(Step::Ask(Request::Refused(Refusal::OutOfMemory))),
         _ => None,
     }
 }
@@ -46,35 +45,11 @@ fn push_answer(text: &mut Vec<u8>, answer: &Answer) -> bool {
         && text.extend_from_slice(answer_tail(answer)).is_ok()
 }
 
-// Returns true if the text contains these lines, one after another.
-fn has_lines(text: &[u8], lines: &[u8]) -> bool {
-    if lines.is_empty() {
-        return false;
-    }
-    for piece in text.windows(lines.len()) {
-        if piece == lines {
-            return true;
-        }
-    }
-    false
-}
-
-// Returns true if this is the text of a script, or, after `..`, has these lines in it.
-fn is_text(alloc: Global, text: &[u8], wanted: &str) -> bool {
-    let mut bytes = Vec::new(alloc);
-    match wanted.strip_prefix("..") {
-        Some(lines) => push_text(&mut bytes, lines) && has_lines(text, bytes.as_slice()),
-        None => {
-            push_text(&mut bytes, wanted)
-                && bytes.extend_from_slice(b"\r\n").is_ok()
-                && text == bytes.as_slice()
-        }
-    }
-}
-
-/// Returns true if the answer is the one that a script wants: this text or, after `..`, a text with
-/// these lines in it.
+/// Returns true if the answer has this text of a script.
 pub(crate) fn is_wanted(alloc: Global, answer: &Answer, wanted: &str) -> bool {
-    let mut text = Vec::new(alloc);
-    push_answer(&mut text, answer) && is_text(alloc, text.as_slice(), wanted)
+    let (mut text, mut bytes) = (Vec::new(alloc), Vec::new(alloc));
+    push_answer(&mut text, answer)
+        && push_text(&mut bytes, wanted)
+        && bytes.extend_from_slice(b"\r\n").is_ok()
+        && text.as_slice() == bytes.as_slice()
 }

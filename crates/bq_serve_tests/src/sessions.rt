@@ -1,6 +1,5 @@
-//! Tests of the run over doors by threads, and of the core's work in it, by public functions alone.
+//! Tests of the run over doors by threads, by public functions alone.
 
-mod core_at_work;
 mod drains;
 mod failing_lines;
 mod many_lines;

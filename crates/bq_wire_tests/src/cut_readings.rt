@@ -154,7 +154,7 @@ const HOSTILE: &str = "65535|quit^~|101;\n\
     65535|put 0 0 9 10~reserve~quit~~delete 3~|104;101;101;delete 3;\n\
     2|put 0 0 1 2~ab~put 0 0 1 3~quit~~delete 1~|put 0 0 1 of 97 98;103;101;delete 1;\n\
     65535|quit%quit~^^~%~|101;101;101;\n\
-    1|put 0 0 1 4294967295~abc|\n\
+    65535|put 0 0 1 4294967295~abc|\n\
     65535|\0\u{e9}~put 0 0 1 3~\0\u{e9}~|101;put 0 0 1 of 0 195 169;\n\
     65535|delete 0018446744073709551615~delete 0018446744073709551616~|\
     delete 18446744073709551615;102;\n\

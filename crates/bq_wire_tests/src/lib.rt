@@ -3,10 +3,6 @@
 #![tactic(auto)]
 
 #[cfg(test)]
-mod answers;
-#[cfg(test)]
-mod byte_buffer;
-#[cfg(test)]
 mod cut_readings;
 #[cfg(test)]
 mod examples;

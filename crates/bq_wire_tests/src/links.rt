@@ -4,5 +4,4 @@ mod bells;
 mod by_hand;
 mod ends;
 mod in_order;
-mod many_ends;
 mod parts;

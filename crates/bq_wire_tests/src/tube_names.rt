@@ -1,4 +1,4 @@
-//! Which bytes form the name of a tube, and how names are ordered.
+//! Which bytes form the name of a tube.
 
 use bq_job::TubeName;
 
@@ -39,37 +39,4 @@ fn tube_names(rt: HostRuntime) {
     }
     assert!(rt; is_name(&[b'a'; 200]));
     assert!(rt; TubeName::new(&[b'a'; 201]).is_none());
-}
-
-// Names that differ before, in and after their eighth byte, and names that differ in length only.
-const IN_ORDER: &[(&str, &str)] = &[
-    ("a", "b"),
-    ("B", "a"),
-    ("ab", "b"),
-    ("a", "ab"),
-    ("ab", "ba"),
-    ("worker-", "worker-1"),
-    ("worker-1", "worker-2"),
-    ("worker-1", "worker-10"),
-    ("worker-10", "worker-2"),
-    ("worker-10", "worker-11"),
-    ("reports.daily.16", "reports.daily.17"),
-    ("reports.daily.16", "reports.daily.16+"),
-];
-
-fn are_in_order(first: &str, second: &str) -> bool {
-    let Some(first) = TubeName::new(first.as_bytes()) else {
-        return false;
-    };
-    let Some(second) = TubeName::new(second.as_bytes()) else {
-        return false;
-    };
-    first < second && first.cmp(&first).is_eq()
-}
-
-#[test]
-fn order_of_tube_names(rt: HostRuntime) {
-    for (first, second) in IN_ORDER {
-        assert!(rt; are_in_order(first, second));
-    }
 }

@@ -1,27 +1,22 @@
-//! The three boxes of a job. The allocation of any of them may fail, and they return to the heap
-//! after a peak.
+//! The three boxes of a job. They return to the heap after a peak.
 
-use crate::jobs::putting::{TestJobs, has, no_jobs, put_in_room, put_new, tube};
+use crate::jobs::putting::{TestJobs, has, no_jobs, put_in_room, tube};
 use bq_index::{BoxSource, NoMemory as Refused};
 use bq_job::{JobId, JobState, TubeName};
 use std::alloc::Global;
 use std::mem::size_of_val;
 use std::process::Abort;
 
-/// A heap in which one of the allocations fails.
+/// A heap that counts the allocations.
 #[derive(Drop)]
-pub(crate) struct Refusing {
-    pub(crate) heap: Global,
-    pub(crate) asked: usize,
-    pub(crate) refused: usize,
+struct Counting {
+    heap: Global,
+    asked: usize,
 }
 
-impl BoxSource for Refusing {
+impl BoxSource for Counting {
     fn box_of<T: Drop>(&mut self, value: T) -> Result<Box<T>, Refused> {
         self.asked = self.asked.saturating_add(1);
-        if self.asked == self.refused {
-            return Err(Refused);
-        }
         self.heap.box_of(value)
     }
 }
@@ -40,60 +35,15 @@ fn fill(alloc: Global, jobs: &mut TestJobs, name: TubeName, end: JobId) -> bool 
 fn remove_all(jobs: &mut TestJobs, first: JobId, end: JobId) -> bool {
     let mut are_there = true;
     for id in first..end {
-        are_there = jobs.discard(id).is_some() && are_there;
+        are_there = jobs.discard(id) && are_there;
     }
     are_there
 }
 
-// Reserves room for a job from a heap in which one of the allocations fails. Returns true if the
-// call fails for it, and after this many allocations.
-fn fails_at(jobs: &mut TestJobs, heap: Global, refused: usize) -> bool {
-    let mut source = Refusing {
-        heap,
-        asked: 0,
-        refused,
-    };
-    jobs.reserve_one_from(&mut source).is_err() && source.asked == refused
-}
-
-// Does the same while all allocations succeed. Returns true if they are this many.
+// Reserves room for a job. Returns true if that takes this many allocations.
 fn asks_for(jobs: &mut TestJobs, heap: Global, count: usize) -> bool {
-    let mut source = Refusing {
-        heap,
-        asked: 0,
-        refused: 4,
-    };
+    let mut source = Counting { heap, asked: 0 };
     jobs.reserve_one_from(&mut source).is_ok() && source.asked == count
-}
-
-/// Whichever box fails, the others are kept for the next call, which allocates the missing ones.
-fn refuses_one(
-    alloc: Global,
-    jobs: &mut TestJobs,
-    name: TubeName,
-    refused: usize,
-    left: usize,
-) -> bool {
-    fill(alloc, jobs, name, 1)
-        && fails_at(jobs, alloc, refused)
-        && has(jobs, 1, 0)
-        && matches!(jobs.first_ready(&name), Some(0))
-        && asks_for(jobs, alloc, left)
-        && jobs.room() == 1
-        && put_new(alloc, jobs, 1, name, 0, JobState::Ready)
-}
-
-// The same in a queue of its own.
-fn refuse_anew(rt: &impl Abort, alloc: Global, refused: usize, left: usize) {
-    let name = tube(rt, "default");
-    assert!(rt; refuses_one(alloc, &mut no_jobs(rt, alloc), name, refused, left));
-}
-
-#[test]
-fn each_box_refused_in_turn(rt: HostRuntime) {
-    refuse_anew(&rt, rt.alloc(), 1, 3);
-    refuse_anew(&rt, rt.alloc(), 2, 2);
-    refuse_anew(&rt, rt.alloc(), 3, 1);
 }
 
 /// Returns all spare room to the heap, and reports for how many jobs that was.

@@ -1,13 +1,55 @@
-//! Jobs with the names of their tubes: the same as those with numbers, through the calls that a
-//! program would use.
+//! The first job of each kind, by hand: jobs with the names of their tubes.
 
-use crate::jobs::boxes::Refusing;
-use crate::jobs::firsts::{FIRSTS, JOBS, Kind};
 use crate::jobs::putting::{job, tube};
-use bq_job::{Job, JobId, JobState, Pri, TubeName};
+use bq_job::{Job, JobId, JobState, Pri, Seat, TubeName};
 use bq_jobs::Jobs;
 use std::alloc::Global;
 use std::process::Abort;
+
+const JOBS: &[(JobId, &str, Pri, JobState)] = &[
+    (1, "ab", 0, JobState::Ready),
+    (2, "a", 7, JobState::Ready),
+    (3, "a", 5, JobState::Ready),
+    (4, "a", 5, JobState::Ready),
+    (5, "ab", 0, JobState::Delayed(10)),
+    (6, "a", 9, JobState::Delayed(20)),
+    (7, "a", 0, JobState::Delayed(20)),
+    (8, "a", 0, JobState::Delayed(30)),
+    (9, "a", 0, JobState::Buried(3)),
+    (10, "a", 0, JobState::Buried(2)),
+    (11, "a", 0, JobState::Buried(2)),
+    (12, "ab", 0, JobState::Buried(1)),
+    (13, "a", 0, JobState::Reserved(1, 6)),
+    (14, "a", 0, JobState::Reserved(2, 5)),
+    (15, "ab", 0, JobState::Reserved(2, 5)),
+    (16, "ab", 0, JobState::Reserved(1, 4)),
+];
+
+/// A kind of job whose first one is queried.
+#[derive(Clone, Copy)]
+enum Kind {
+    Ready(&'static str),
+    Delayed(&'static str),
+    Buried(&'static str),
+    Due,
+    Lease,
+    Held(Seat),
+}
+
+const FIRSTS: &[(Kind, Option<JobId>)] = &[
+    (Kind::Ready("a"), Some(3)),
+    (Kind::Ready("ab"), Some(1)),
+    (Kind::Delayed("a"), Some(6)),
+    (Kind::Delayed("ab"), Some(5)),
+    (Kind::Buried("a"), Some(10)),
+    (Kind::Buried("ab"), Some(12)),
+    (Kind::Ready("abc"), None),
+    (Kind::Due, Some(5)),
+    (Kind::Lease, Some(16)),
+    (Kind::Held(1), Some(16)),
+    (Kind::Held(2), Some(14)),
+    (Kind::Held(0), None),
+];
 
 // Adds a job if there is room and no job with its id.
 fn put(jobs: &mut Jobs, job: Job) -> bool {
@@ -27,11 +69,6 @@ fn first_of(rt: &impl Abort, jobs: &mut Jobs, kind: Kind) -> Option<JobId> {
         Kind::Lease => jobs.first_lease(),
         Kind::Held(seat) => jobs.first_held(seat),
     }
-}
-
-// Returns true if there are this many jobs, and room for this many more.
-fn has(jobs: &Jobs, len: usize, room: usize) -> bool {
-    jobs.len() == len && jobs.room() == room
 }
 
 // Makes a job and adds it, as `put` does, in room that is reserved for it. Returns false if an
@@ -95,75 +132,4 @@ fn add_and_look(rt: &impl Abort, alloc: Global, jobs: &mut Jobs) {
 #[test]
 fn first_of_each_kind_by_names(rt: HostRuntime) {
     add_and_look(&rt, rt.alloc(), &mut Jobs::new());
-}
-
-// Removes a job, changes it and adds it again in the same room.
-fn change(jobs: &mut Jobs, id: JobId, state: JobState) -> bool {
-    match jobs.remove(id) {
-        None => false,
-        Some(mut job) => {
-            job.state = state;
-            put(jobs, job)
-        }
-    }
-}
-
-// Adds the job with id 1 to no others.
-fn puts_one(alloc: Global, jobs: &mut Jobs, name: TubeName) -> bool {
-    has(jobs, 0, 0)
-        && jobs.comparisons() == 0
-        && put_in_room(alloc, jobs, 1, name, 3, JobState::Ready)
-}
-
-fn changes_one(jobs: &mut Jobs, name: &TubeName) -> bool {
-    matches!(jobs.first_ready(name), Some(1))
-        && change(jobs, 1, JobState::Reserved(4, 9))
-        && jobs.first_ready(name).is_none()
-        && matches!(jobs.first_held(4), Some(1))
-        && change(jobs, 1, JobState::Buried(1))
-        && jobs.first_held(4).is_none()
-        && matches!(jobs.first_buried(name), Some(1))
-}
-
-fn removes_one(jobs: &mut Jobs) -> bool {
-    has(jobs, 1, 0) && jobs.remove(1).is_some() && jobs.remove(1).is_none() && has(jobs, 0, 1)
-}
-
-fn put_and_change(rt: &impl Abort, alloc: Global, jobs: &mut Jobs, name: TubeName) {
-    assert!(rt; puts_one(alloc, jobs, name));
-    assert!(rt; changes_one(jobs, &name));
-    assert!(rt; removes_one(jobs));
-}
-
-#[test]
-fn job_changed_in_its_room(rt: HostRuntime) {
-    let name = tube(&rt, "default");
-    put_and_change(&rt, rt.alloc(), &mut Jobs::new(), name);
-}
-
-// Whichever of the three boxes of a job fails, the next call allocates the missing ones.
-fn refuses_one(alloc: Global, jobs: &mut Jobs, refused: usize, left: usize) -> bool {
-    let mut source = Refusing {
-        heap: alloc,
-        asked: 0,
-        refused,
-    };
-    if jobs.reserve_one_from(&mut source).is_ok() || source.asked != refused || !has(jobs, 0, 0) {
-        return false;
-    }
-    source.asked = 0;
-    source.refused = 4;
-    jobs.reserve_one_from(&mut source).is_ok() && source.asked == left && jobs.room() == 1
-}
-
-// The same for jobs of their own.
-fn refuses_anew(alloc: Global, refused: usize, left: usize) -> bool {
-    refuses_one(alloc, &mut Jobs::new(), refused, left)
-}
-
-#[test]
-fn each_box_of_a_named_job_refused(rt: HostRuntime) {
-    assert!(rt; refuses_anew(rt.alloc(), 1, 3));
-    assert!(rt; refuses_anew(rt.alloc(), 2, 2));
-    assert!(rt; refuses_anew(rt.alloc(), 3, 1));
 }

@@ -1,11 +1,9 @@
 //! How the tests add and change jobs.
-ghost use Rattle.std.specs.List.{list_any};
-ghost use Rattle.std.specs.Prelude.{◌≡◌, length, true, false};
-ghost use Rattle.bq_job.specs.reading.TubeName.{is_same_name};
+ghost use Rattle.std.specs.Prelude.{◌≡◌, length, true};
 
 use bq_index::BoxSource;
-use bq_job::{Body, Counts, Job, JobId, JobState, NoMemory, Pri, Seat, TubeName};
-use bq_jobs::{JobEdit, NumberedJobs, NumberedTubes, Row, RowTest, Standing, Tube, TubeNumber};
+use bq_job::{Body, Counts, Job, JobId, JobState, NoMemory, Pri, TubeName};
+use bq_jobs::{NumberedJobs, NumberedTubes, Row, RowTest, TubeNumber};
 use std::alloc::Global;
 use std::marker::Model;
 use std::process::Abort;
@@ -40,23 +38,6 @@ impl RowTest for AnyJob {
     }
 }
 
-/// Puts a job into this state.
-#[derive(Drop)]
-struct NewState(JobState);
-
-impl JobEdit for NewState {
-    ghost edited = { λ s j. record j { state = s.0 } };
-
-    fn edit(&self, job: &mut Row) {
-        job.set_state(self.0);
-    }
-}
-
-// Returns the tube with this name, whose number is not known.
-fn unnumbered(name: &TubeName) -> Tube {
-    Tube::new(name, TubeNumber::unknown())
-}
-
 impl TestJobs {
     fn new(alloc: Global) -> Result<TestJobs, NoMemory> {
         let tubes = NumberedTubes::new(alloc);
@@ -72,10 +53,6 @@ impl TestJobs {
 
     pub fn room(&self) -> usize {
         self.jobs.room()
-    }
-
-    pub fn comparisons(&self) -> u64 {
-        self.jobs.comparisons()
     }
 
     pub fn reserve_one(&mut self, alloc: Global) -> Result<(), NoMemory> {
@@ -124,72 +101,9 @@ impl TestJobs {
         true
     }
 
-    /// Removes a job and drops it. Returns the name of its tube, as its number gives it, and its
-    /// standing.
-    pub fn discard(&mut self, id: JobId) -> Option<(TubeName, Standing)> {
-        let (number, removed) = self.jobs.discard_if(id, &AnyJob)?;
-        Some((*removed.tube.read(&self.tubes, number), removed.at))
-    }
-
-    /// Changes the state of the job with this id. Returns false if there is none.
-    pub fn change(&mut self, id: JobId, state: JobState) -> bool {
-        self.jobs.change(id, &NewState(state)).is_some()
-    }
-
-    /// Returns the state of the job with this id.
-    pub fn state_of(&mut self, id: JobId) -> Option<JobState> {
-        match self.jobs.get(id) {
-            Some(row) => Some(row.state()),
-            None => None,
-        }
-    }
-
-    /// Returns the number that the tube of the job with this id has.
-    pub fn number_of(&mut self, id: JobId) -> Option<TubeNumber> {
-        match self.jobs.get(id) {
-            Some(row) => Some(row.tube),
-            None => None,
-        }
-    }
-
-    pub fn tube_of(&mut self, id: JobId) -> Option<Tube> {
-        self.jobs.tube_of(&self.tubes, id)
-    }
-
-    pub fn share_body(&mut self, id: JobId) -> Option<Result<Body, NoMemory>> {
-        self.jobs.share_body(id)
-    }
-
-    pub fn first_ready(&mut self, name: &TubeName) -> Option<JobId> {
-        self.jobs.first_ready(&self.tubes, &unnumbered(name))
-    }
-
-    pub fn first_delayed(&mut self, name: &TubeName) -> Option<JobId> {
-        self.jobs.first_delayed(&self.tubes, &unnumbered(name))
-    }
-
-    pub fn first_buried(&mut self, name: &TubeName) -> Option<JobId> {
-        self.jobs.first_buried(&self.tubes, &unnumbered(name))
-    }
-
-    pub fn first_due(&mut self) -> Option<JobId> {
-        self.jobs.first_due()
-    }
-
-    pub fn first_lease(&mut self) -> Option<JobId> {
-        self.jobs.first_lease()
-    }
-
-    pub fn first_held(&mut self, seat: Seat) -> Option<JobId> {
-        self.jobs.first_held(seat)
-    }
-
-    /// Removes a tube that has no jobs.
-    pub fn forget(&mut self, name: &TubeName)
-        requires { list_any (λ j. is_same_name name.now j.tube) self.old.jobs ≡ false }
-    {
-        let _number = self.tubes.remove(name);
-        self.jobs.forget(&self.tubes, name);
+    /// Removes a job and drops it. Returns false if there is none.
+    pub fn discard(&mut self, id: JobId) -> bool {
+        self.jobs.discard_if(id, &AnyJob).is_some()
     }
 }
 

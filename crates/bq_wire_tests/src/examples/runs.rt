@@ -1,9 +1,9 @@
 //! Worked examples of whole runs, so that the laws of runs are not empty. Each is a clause that
 //! holds by evaluating the definitions; none runs our code.
-ghost use Rattle.bq_job.specs.declared.answer.Answer.TheVariants.{Deleted, Draining, Inserted, NotFound, Reserved};
+ghost use Rattle.bq_job.specs.declared.answer.Answer.TheVariants.{Draining, Inserted};
 ghost use Rattle.bq_job.specs.declared.request.Request.TheVariants.{Bury, Delete, Kick, PauseTube, Put, Release, Reserve, ReserveJob};
 ghost use Rattle.bq_job.specs.beside.{machine_after, transitions};
-ghost use Rattle.bq_wire_tests.specs.examples.Examples.{Plays, ask, at, close, connect, drain, server, tick, ◌gives◌};
+ghost use Rattle.bq_wire_tests.specs.examples.Examples.{ask, at, close, connect, drain, server, tick};
 ghost use Rattle.bq_job.specs.machine.{last_id};
 ghost use Rattle.bq_wire_tests.specs.examples.RunExamples.{HandsOutDisturbed, HandsOutUndisturbed, happening_in, taken};
 ghost use Rattle.bq_job.specs.laws.{Holds, IsHandedOutBefore, IsPutBefore, has_inserted, is_deletion};
@@ -77,23 +77,8 @@ fn disturbed_jobs()
         ∷ []) }
 {}
 
-/// The most urgent job, and puts around a drain.
-fn jobs_and_the_drain()
-    // The most urgent job goes first, whichever of the watched tubes it is in; of two equally urgent
-    // jobs, the one with the lower id goes first.
-    ensures least_job_first { Plays
-        (ask 0 (Put 7 0 9 (codes "x")) gives ((0, Inserted 1) ∷ [])
-        ∷ ask 0 (Put 3 0 9 (codes "y")) gives ((0, Inserted 2) ∷ [])
-        ∷ ask 0 (Put 3 0 9 (codes "z")) gives ((0, Inserted 3) ∷ [])
-        ∷ ask 1 Reserve gives ((1, Reserved 2 (codes "y")) ∷ [])
-        ∷ ask 2 Reserve gives ((2, Reserved 3 (codes "z")) ∷ [])
-        ∷ []) }
-    // A put before draining begins is accepted; a put after it is not.
-    ensures put_before_and_after_the_drain { Plays
-        (ask 0 (Put 0 0 9 (codes "x")) gives ((0, Inserted 1) ∷ [])
-        ∷ drain gives []
-        ∷ ask 0 (Put 0 0 9 (codes "y")) gives ((0, Draining) ∷ [])
-        ∷ []) }
+/// Puts around a drain.
+fn puts_and_the_drain()
     // In the steps of three connections, a put, the drain and another put, only the put before the
     // drain is answered INSERTED.
     ensures inserted_before_the_drain { map (λ t. has_inserted t.given) (taken
@@ -119,20 +104,13 @@ fn last_id_and_deletes()
         (ask 0 (Put 0 0 9 (codes "x")) ∷ ask 1 Reserve ∷ ask 0 (Delete 1) ∷ [])) ≡ false }
     ensures deletion_is_told_one { list_any (is_deletion 1) (happening_in
         (ask 0 (Put 0 0 9 (codes "x")) ∷ ask 1 Reserve ∷ ask 1 (Delete 1) ∷ [])) ≡ true }
-    // Only its holder can delete a held job.
-    ensures delete_of_a_held_job { Plays
-        (ask 0 (Put 0 0 9 (codes "x")) gives ((0, Inserted 1) ∷ [])
-        ∷ ask 1 Reserve gives ((1, Reserved 1 (codes "x")) ∷ [])
-        ∷ ask 0 (Delete 1) gives ((0, NotFound) ∷ [])
-        ∷ ask 1 (Delete 1) gives ((1, Deleted) ∷ [])
-        ∷ []) }
 {}
 
 #[test]
 fn examples_of_runs() {
     undisturbed_jobs();
     disturbed_jobs();
-    jobs_and_the_drain();
+    puts_and_the_drain();
     holder_of_a_job();
     last_id_and_deletes();
 }

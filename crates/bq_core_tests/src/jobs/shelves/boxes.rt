@@ -1,6 +1,5 @@
 //! Boxes are allocated one by one, and those before a failure are kept.
 
-use super::putting::put;
 use bq_index::{BoxSource, NoMemory, Shelf};
 use std::alloc::Global;
 use std::mem::size_of_val;
@@ -55,15 +54,6 @@ fn boxes_one_by_one(rt: HostRuntime) {
     }
 }
 
-/// The same with the heap itself, whose allocations may fail.
-#[test]
-fn boxes_of_the_heap(rt: HostRuntime) {
-    let mut shelf: Shelf<u64, u64> = Shelf::new();
-    let is_made = shelf.reserve(rt.alloc(), 3).is_ok();
-    let spare = shelf.spare();
-    assert!(rt; is_made && spare == 3 || !is_made && spare < 3);
-}
-
 /// A heap that records the size of its last box.
 #[derive(Drop)]
 struct Weighing {
@@ -99,30 +89,6 @@ fn bytes_of_an_entry(heap: Global) -> Result<usize, NoMemory> {
 fn bytes_of_a_box(rt: HostRuntime) {
     assert!(rt; matches!(bytes_of_a_key(rt.alloc()), Ok(32)));
     assert!(rt; matches!(bytes_of_an_entry(rt.alloc()), Ok(48)));
-}
-
-// Two of three spare boxes are used, and one is returned.
-fn gives_one_back(shelf: &mut Shelf<u64, u64>) -> bool {
-    if !put(shelf, 7, 70) {
-        return false;
-    }
-    shelf.give_back();
-    let is_used = shelf.spare() == 1
-        && shelf.len() == 1
-        && matches!(shelf.get(&7), Some(70))
-        && put(shelf, 8, 80)
-        && !put(shelf, 9, 90);
-    shelf.give_back();
-    is_used && shelf.spare() == 0 && shelf.len() == 2
-}
-
-/// A box that is returned to the heap is no longer available for an insertion. If none is spare,
-/// none is returned.
-#[test]
-fn one_box_given_back(rt: HostRuntime) {
-    let mut shelf = Shelf::new();
-    assert!(rt; shelf.reserve(rt.alloc(), 3).is_ok());
-    assert!(rt; gives_one_back(&mut shelf));
 }
 
 /// A chain of spare boxes that is far longer than the stack is deep is freed, one box after
