@@ -31,7 +31,7 @@ install -D -m 755 crates/bqd/out/bqd "$tree/usr/bin/bqd"
 # Not in /usr/bin, where Google's cloud client has a program of this name.
 install -D -m 755 crates/bq/out/bq "$tree/usr/lib/bqd/bq"
 strip --remove-section=.comment --remove-section=.note "$tree/usr/bin/bqd" "$tree/usr/lib/bqd/bq"
-for module in queue_client queue_control queue_web; do
+for module in queue_client queue_control queue_process queue_web; do
     install -D -m 644 -t "$tree/usr/share/bqd/$module" packaging/programs/$module/*.py
 done
 install -D -m 644 -t "$tree/usr/share/bqd" packaging/bqd-alerts.yml

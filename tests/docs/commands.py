@@ -244,7 +244,7 @@ def piped(room):
         os.unlink(pipe)
 
 
-@rule(r"(bqd-drain(?: .*)?)")
+@rule(rf"(bqd-drain(?: (?!127).*)?)(?: 127\.0\.0\.1:{OTHER})?")
 def drains(room, command):
     with piped(room) as (server, pipe):
         told = room.ends(f"{command} --control {pipe} 127.0.0.1:{server.port}")

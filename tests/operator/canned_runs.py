@@ -139,13 +139,38 @@ def run_unwritten():
 
 
 def run_drain_by_no_pipe():
-    """A control line that does not exist, has no reader, or is not a pipe; no file is created."""
+    """A control line that does not exist, has no reader, is not a pipe, or is no server's; no file is created."""
     with tempfile.TemporaryDirectory() as room:
-        pipe, file, none = (os.path.join(room, it) for it in ["pipe", "file", "none"])
+        pipe, held, file, none = (os.path.join(room, it) for it in ["pipe", "held", "file", "none"])
         os.mkfifo(pipe)
+        os.mkfifo(held)
         open(file, "wb").close()
-        for path, why in [(none, "No such file or directory"), (pipe, "nobody reads it"), (file, "it is no named pipe")]:
+        reader = os.open(held, os.O_RDWR | os.O_NONBLOCK)
+        for path, why in [
+            (none, "No such file or directory"),
+            (pipe, "nobody reads it"),
+            (file, "it is no named pipe"),
+            (held, "it is no standard input of a process that this user can see"),
+        ]:
             with Canned(statistics()) as server:
                 found = drain("--control", path, server.address)
             tells(found, "bqd-drain", f"cannot drain by {path}: {why}")
-        same((sorted(os.listdir(room)), os.path.getsize(file)), (["file", "pipe"], 0))
+        same((sorted(os.listdir(room)), os.path.getsize(file)), (["file", "held", "pipe"], 0))
+        nothing_came(reader)
+
+
+def nothing_came(reader):
+    """Checks that nothing was written to a pipe that is open for reading, and closes it."""
+    try:
+        same(os.read(reader, 100), b"")
+    except BlockingIOError:
+        pass
+    finally:
+        os.close(reader)
+
+
+def run_drain_of_beanstalkd():
+    """A server whose statistics have a process id is beanstalkd, and its control line is not looked for."""
+    with Canned(statistics(pid=1)) as server:
+        wanted = f"nothing was drained: {server.address} is beanstalkd, which drains by the signal SIGUSR1"
+        tells(drain("--control", "/nowhere", server.address), "bqd-drain", wanted)

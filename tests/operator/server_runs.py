@@ -1,8 +1,10 @@
 """Runs of bqd-top and bqd-drain with real servers."""
+import contextlib
 import json
 import os
 import pty
 import signal
+import socket
 import subprocess
 import sys
 import tempfile
@@ -11,7 +13,7 @@ import time
 
 from canned import PROGRAMS, drain, top
 from programs import Ended, same
-from servers import Server, awaits
+from servers import Server, free_port
 
 
 def each_run_jobs(start):
@@ -86,57 +88,83 @@ def bqd_run_in_place(bqd):
 
 def bqd_run_drain(bqd):
     """It drains, reports how many jobs are left, and ends when a worker has done all jobs except buried ones."""
-    with tempfile.TemporaryDirectory() as room:
-        pipe = os.path.join(room, "control")
-        os.mkfifo(pipe)
-        with Server(bqd) as server, Relay(pipe, server):
-            client = server.client()
-            client.asks(b"put 0 0 60 1\r\na\r\nput 0 0 60 1\r\nb\r\n", b"INSERTED 1\r\nINSERTED 2\r\n")
-            client.asks(b"reserve\r\nbury 1 0\r\n", b"RESERVED 1 1\r\na\r\nBURIED\r\n")
-            words = ["--control", pipe, f"127.0.0.1:{server.port}"]
-            late = drain("--limit", "0.5", *words)
-            wanted = b"bqd-drain: after 0.5 seconds there are still 1 ready, 0 reserved, 0 delayed\n"
-            same((late.status, late.errors), (1, wanted))
-            same(set(late.output.splitlines()), {b"1 ready, 0 reserved, 0 delayed"})
-            client.asks(b"put 0 0 60 1\r\nc\r\n", b"DRAINING\r\n")
-            working = subprocess.Popen([sys.executable, PROGRAMS / "bqd-drain", *words], stdout=subprocess.PIPE)
-            same(working.stdout.readline(), b"1 ready, 0 reserved, 0 delayed\n")
-            client.asks(b"reserve\r\ndelete 2\r\n", b"RESERVED 2 1\r\nb\r\nDELETED\r\n")
-            output, _ = working.communicate(timeout=20)
-            same((working.returncode, output.splitlines()[-1]), (0, b"drained; 1 buried jobs stay"))
+    with piped(bqd) as (server, pipe):
+        client = server.client()
+        client.asks(b"put 0 0 60 1\r\na\r\nput 0 0 60 1\r\nb\r\n", b"INSERTED 1\r\nINSERTED 2\r\n")
+        client.asks(b"reserve\r\nbury 1 0\r\n", b"RESERVED 1 1\r\na\r\nBURIED\r\n")
+        words = ["--control", pipe, f"127.0.0.1:{server.port}"]
+        late = drain("--limit", "0.5", *words)
+        wanted = b"bqd-drain: after 0.5 seconds there are still 1 ready, 0 reserved, 0 delayed\n"
+        same((late.status, late.errors), (1, wanted))
+        same(set(late.output.splitlines()), {b"1 ready, 0 reserved, 0 delayed"})
+        client.asks(b"put 0 0 60 1\r\nc\r\n", b"DRAINING\r\n")
+        working = subprocess.Popen([sys.executable, PROGRAMS / "bqd-drain", *words], stdout=subprocess.PIPE)
+        same(working.stdout.readline(), b"1 ready, 0 reserved, 0 delayed\n")
+        client.asks(b"reserve\r\ndelete 2\r\n", b"RESERVED 2 1\r\nb\r\nDELETED\r\n")
+        output, _ = working.communicate(timeout=20)
+        same((working.returncode, output.splitlines()[-1]), (0, b"drained; 1 buried jobs stay"))
+
+
+def bqd_run_drain_by_each_address(bqd):
+    """A server at all addresses is drained by each of them, also if the pipe has another name."""
+    for address in ["127.0.0.1", "127.0.0.2", "localhost"]:
+        with piped(bqd, listen="0.0.0.0") as (server, pipe):
+            os.symlink(pipe, pipe + "-too")
+            same(drain("--control", pipe + "-too", f"{address}:{server.port}"), Ended(0, b"drained\n", b""))
+
+
+def bqd_run_drain_by_ipv6(bqd):
+    """A server at an IPv6 address, and one at all addresses of both kinds, which sees IPv4 in its other form."""
+    if not has_ipv6():
+        return
+    for listen, address in [("[::1]", "[::1]"), ("[::]", "[::1]"), ("[::]", "127.0.0.1")]:
+        with piped(bqd, listen=listen) as (server, pipe):
+            same(drain("--control", pipe, f"{address}:{server.port}"), Ended(0, b"drained\n", b""))
 
 
 def bqd_run_drain_of_another(bqd):
-    """The control line of another server: it reports that the server doesn't drain."""
+    """The control line of another server: the fault names both, and neither server drains."""
+    with piped(bqd) as (owner, pipe), Server(bqd) as server:
+        address = f"127.0.0.1:{server.port}"
+        wanted = f"bqd-drain: nothing was drained: {pipe} is the control line of process {owner.process.pid}, and not of {address}\n"
+        same(drain("--control", pipe, address), Ended(1, b"", wanted.encode()))
+        for it in [owner, server]:
+            takes_puts(it)
+
+
+def both_run_drain_of_beanstalkd(bqd, beanstalkd):
+    """beanstalkd has no control line: the server to which the pipe belongs does not drain."""
+    with piped(bqd.args[0]) as (owner, pipe), beanstalkd() as server:
+        address = f"127.0.0.1:{server.port}"
+        wanted = f"bqd-drain: nothing was drained: {address} is beanstalkd, which drains by the signal SIGUSR1\n"
+        same(drain("--control", pipe, address), Ended(1, b"", wanted.encode()))
+        takes_puts(owner)
+
+
+def takes_puts(server):
+    """Checks that a server accepts a job, so that it does not drain."""
+    server.client().asks(b"put 0 0 60 1\r\na\r\n", b"INSERTED 1\r\n")
+
+
+def has_ipv6():
+    """Returns whether this machine has an IPv6 loopback address."""
+    try:
+        socket.create_server(("::1", 0), family=socket.AF_INET6).close()
+        return True
+    except OSError:
+        return False
+
+
+@contextlib.contextmanager
+def piped(bqd, listen="127.0.0.1"):
+    """Starts a server whose control line is a named pipe, as the service's is. Returns it with the pipe's path."""
     with tempfile.TemporaryDirectory() as room:
         pipe = os.path.join(room, "control")
         os.mkfifo(pipe)
         held = os.open(pipe, os.O_RDWR)
-        with Server(bqd) as server:
-            address = f"127.0.0.1:{server.port}"
-            wanted = f"bqd-drain: {address} does not drain: is {pipe} its control line?\n"
-            same(drain("--control", pipe, address), Ended(1, b"", wanted.encode()))
-        os.close(held)
-
-
-class Relay:
-    """Forwards what is written to a named pipe to a server's control line."""
-
-    def __init__(self, pipe, server):
-        self.held, self.server = os.open(pipe, os.O_RDWR), server
-        self.thread = threading.Thread(target=self._goes, daemon=True)
-
-    def _goes(self):
-        line = os.read(self.held, 100)
-        if line != b"over\n":
-            self.server.control(line)
-
-    def __enter__(self):
-        self.thread.start()
-        return self
-
-    def __exit__(self, *why):
-        if self.thread.is_alive():
-            os.write(self.held, b"over\n")
-        self.thread.join(10)
-        os.close(self.held)
+        port = free_port()
+        try:
+            with Server(bqd, listen=["-l", listen, "-p", str(port)], port=port, stdin=held) as server:
+                yield server, pipe
+        finally:
+            os.close(held)

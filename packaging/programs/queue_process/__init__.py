@@ -1,0 +1,1 @@
+"""Which processes of this machine listen, serve a connection, or read a control line, as /proc of Linux shows it."""
