@@ -20,6 +20,7 @@ sys.path.insert(1, str(pathlib.Path(__file__).resolve().parent.parent / "runs"))
 import browser_runs
 import canned_runs
 import ctl_runs
+import metrics_runs
 import move_runs
 import runner
 import server_runs
@@ -27,10 +28,10 @@ import web_runs
 from beanstalkd import Beanstalkd
 from servers import Server
 
-MODULES = [canned_runs, server_runs, ctl_runs, move_runs, web_runs, browser_runs]
+MODULES = [canned_runs, server_runs, ctl_runs, move_runs, web_runs, metrics_runs, browser_runs]
 
 # The runs of the gate: they neither wait for a moment nor measure how long something takes.
-GATE = re.compile(r"_(ctl|move)_(?!.*interrupted)|_move$|_drain_(by|of)|_web_(bad|labels|history|page|paths|limits|names|forged)")
+GATE = re.compile(r"_(ctl|move)_(?!.*interrupted)|_move$|_drain_(by|of)|_metrics_|_web_(bad|labels|history|page|paths|limits|names|forged)")
 
 
 def kinds(bqd, beanstalkd, chromium):

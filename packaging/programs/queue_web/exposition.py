@@ -19,6 +19,12 @@ OF_SERVER = [
     ("bqd_max_job_size_bytes", "The largest body that the server takes.", "max-job-size"),
 ]
 
+# Metrics that the server's statistics do not have. bqd-web knows them, or not.
+OF_PAGE = [
+    ("bqd_seats", "How many connections the server serves at a time.", "seats"),
+    ("bqd_started_timestamp_seconds", "When bqd-web first saw the server since it started, in Unix time.", "started"),
+]
+
 # Metrics of each tube, the same way.
 OF_TUBE = [
     ("bqd_puts_total", "Puts into the tube since it has existed.", PUTS),
@@ -41,10 +47,17 @@ def exposition(view):
         lines += family("bqd_draining", "Whether the server drains, and takes no puts: 1 or 0.", [("", int(found["draining"] == "true"))])
         lines += states("bqd_server_jobs", "Jobs of all tubes by their state.", [({}, found)])
         lines += families(OF_SERVER, [({}, found)])
+        lines += families(OF_PAGE, [({}, known_of(view))])
         tubes = [({"tube": name}, tube) for name, tube in view.later.tubes.items()]
         lines += states("bqd_jobs", "Jobs of the tube by their state.", tubes)
         lines += families(OF_TUBE, tubes)
     return "".join(it + "\n" for it in lines).encode()
+
+
+def known_of(view):
+    """Returns what bqd-web knows of the server besides its statistics, by the words of OF_PAGE."""
+    started = getattr(view, "started", None)
+    return {"seats": getattr(view, "seats", None), "started": int(started) if started is not None else None}
 
 
 def states(name, about, found):
