@@ -34,7 +34,7 @@ strip --remove-section=.comment --remove-section=.note "$tree/usr/bin/bqd" "$tre
 for module in queue_client queue_control queue_process queue_web; do
     install -D -m 644 -t "$tree/usr/share/bqd/$module" packaging/programs/$module/*.py
 done
-install -D -m 644 -t "$tree/usr/share/bqd" packaging/bqd-alerts.yml
+install -D -m 644 -t "$tree/usr/share/bqd" packaging/bqd-alerts.yml packaging/bqd-grafana.json
 install -D -m 644 -t "$tree/usr/share/bqd/queue_web/page" packaging/programs/queue_web/page/*
 for program in bqctl bqd-drain bqd-top bqd-web; do
     install -m 755 "packaging/programs/$program" "$tree/usr/share/bqd/$program"

@@ -1,4 +1,5 @@
-"""Runs of what is built on the metrics of bqd-web: the alarms."""
+"""Runs of what is built on the metrics of bqd-web: the alarms and the dashboard."""
+import json
 import pathlib
 import re
 import shutil
@@ -25,6 +26,26 @@ def all_metrics():
     later = types.SimpleNamespace(server=found, tubes={"mail": found})
     view = types.SimpleNamespace(up=True, later=later, took=0.1, seats=256, started=1.5)
     return set(re.findall(r"^# TYPE (\w+)", exposition.exposition(view).decode(), re.M))
+
+
+def expressions(part):
+    """Returns each expression of a dashboard, and each query of its variables."""
+    if isinstance(part, dict):
+        own = [it for name, it in part.items() if name in ("expr", "query") and isinstance(it, str)]
+        return own + [it for inner in part.values() for it in expressions(inner)]
+    return [it for inner in part for it in expressions(inner)] if isinstance(part, list) else []
+
+
+def run_metrics_of_dashboard():
+    """The dashboard names only metrics that bqd-web has, and each of its places is free."""
+    dashboard = json.loads((PACKAGING / "bqd-grafana.json").read_text())
+    named = {name for it in expressions(dashboard) for name in NAMED.findall(it)}
+    assert len(named) > 12, named
+    same(named - all_metrics(), set())
+    panels = dashboard["panels"]
+    same(len({it["id"] for it in panels}), len(panels))
+    cells = [(x, y) for it in panels for at in [it["gridPos"]] for x in range(at["x"], at["x"] + at["w"]) for y in range(at["y"], at["y"] + at["h"])]
+    same((len(set(cells)), max(x for x, _ in cells)), (len(cells), 23))
 
 
 def run_metrics_of_alarms():
