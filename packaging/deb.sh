@@ -31,8 +31,8 @@ install -D -m 755 crates/bqd/out/bqd "$tree/usr/bin/bqd"
 # Not in /usr/bin, where Google's cloud client has a program of this name.
 install -D -m 755 crates/bq/out/bq "$tree/usr/lib/bqd/bq"
 strip --remove-section=.comment --remove-section=.note "$tree/usr/bin/bqd" "$tree/usr/lib/bqd/bq"
-for module in queue_client queue_control queue_process queue_web; do
-    install -D -m 644 -t "$tree/usr/share/bqd/$module" packaging/programs/$module/*.py
+for module in packaging/programs/queue_*/; do
+    install -D -m 644 -t "$tree/usr/share/bqd/$(basename "$module")" "$module"*.py
 done
 install -D -m 644 -t "$tree/usr/share/bqd" packaging/bqd-alerts.yml packaging/bqd-grafana.json
 install -D -m 644 -t "$tree/usr/share/bqd/queue_web/page" packaging/programs/queue_web/page/*
@@ -40,10 +40,13 @@ for program in bqctl bqd-drain bqd-top bqd-web; do
     install -m 755 "packaging/programs/$program" "$tree/usr/share/bqd/$program"
     ln -s "../share/bqd/$program" "$tree/usr/bin/$program"
 done
+# Only the unit runs this one.
+install -m 755 packaging/programs/bqd-started "$tree/usr/share/bqd"
 install -D -m 644 -t "$tree/usr/share/bash-completion/completions" packaging/completion/bqctl
 install -D -m 644 -t "$tree/lib/systemd/system" packaging/bqd.service packaging/bqd.socket packaging/bqd-web.service
 install -D -m 644 packaging/bqd.default "$tree/etc/default/bqd"
 install -D -m 644 packaging/bqd-web.default "$tree/etc/default/bqd-web"
+install -D -m 644 packaging/needrestart.conf "$tree/etc/needrestart/conf.d/bqd.conf"
 install -D -m 644 -t "$tree/usr/share/man/man1" packaging/bqd.1 packaging/bqctl.1 packaging/bqd-drain.1 packaging/bqd-top.1 packaging/bqd-web.1
 install -D -m 644 -t "$tree/usr/share/doc/bqd" README.md docs/*.md docs/*.svg docs/*.png packaging/bq.1
 install -D -m 644 packaging/changelog "$tree/usr/share/doc/bqd/changelog"
@@ -60,7 +63,7 @@ cp packaging/changelog "$room/debian/changelog"
     dpkg-shlibdeps -T"$room/substvars" "$tree/usr/bin/bqd" "$tree/usr/lib/bqd/bq"
     dpkg-gencontrol -pbqd -P"$tree" -T"$room/substvars" -f"$room/files"
 )
-printf '%s\n' /etc/default/bqd /etc/default/bqd-web > "$tree/DEBIAN/conffiles"
+printf '%s\n' /etc/default/bqd /etc/default/bqd-web /etc/needrestart/conf.d/bqd.conf > "$tree/DEBIAN/conffiles"
 install -m 755 -t "$tree/DEBIAN" packaging/debian/postinst packaging/debian/prerm packaging/debian/postrm
 (cd "$tree" && find . -path ./DEBIAN -prune -o -type f -printf '%P\0' | LC_ALL=C sort -z | xargs -0 md5sum > DEBIAN/md5sums)
 dpkg-deb --root-owner-group --build "$tree" "$to/bqd_${version}_$(dpkg --print-architecture).deb"

@@ -25,19 +25,6 @@ import names
 import prose
 import reach
 import runner
-from pages import ROOT, codes, manual_commands, manuals, markdown, place, shell_lines
-
-
-def shown_commands():
-    """Returns each command that a page shows, with the place where it first appears."""
-    found = {}
-    for page in markdown():
-        for piece in [*shell_lines(page), *(it for it in codes(page) if commands.is_command(it.text))]:
-            found.setdefault(piece.text, place(piece))
-    for page in manuals():
-        for piece in manual_commands(page):
-            found.setdefault(piece.text, place(piece))
-    return found
 
 
 def options(programs):
@@ -58,7 +45,7 @@ def help_of(*words):
 
 def faults_of_commands(room):
     """Runs the commands and prints those that are not run. Returns how many there are, and what is wrong with each that fails."""
-    reasons, faults, shown = {}, [], shown_commands()
+    reasons, faults, shown = {}, [], commands.shown()
     for text, where in shown.items():
         try:
             for why in commands.tried(text, room):

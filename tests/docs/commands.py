@@ -16,7 +16,7 @@ import threading
 import time
 import urllib.request
 
-from pages import ROOT
+from pages import ROOT, codes, manual_commands, manuals, markdown, place, shell_lines
 from programs import PATIENCE
 from servers import Server, free_port
 
@@ -30,11 +30,14 @@ RULES = []
 # How many seconds a command of a page may take. The command that makes a package takes a while on a busy machine.
 LONGEST = 5 * PATIENCE
 
+# Most of the time that a package takes is its compression, which is not what is tried.
+QUICK_PACKAGE = {"DPKG_DEB_COMPRESSOR_TYPE": "gzip", "DPKG_DEB_COMPRESSOR_LEVEL": "1"}
+
 # The operator's programs, which the package installs next to the server.
 OPERATORS = ["bqctl", "bqd-drain", "bqd-top", "bqd-web"]
 
 # The first words of commands. A program's name on its own is not a command.
-HEADS = """rt tools/build tools/refused_by_prover.py nc telnet systemctl journalctl apt echo bqd bq bqctl bqd-top bqd-drain bqd-web prlimit ulimit
+HEADS = """rt env tools/build tools/refused_by_prover.py nc telnet systemctl journalctl apt echo bqd bq bqctl bqd-top bqd-drain bqd-web prlimit ulimit
     python3 sed printf packaging/deb.sh promtool curl ssh (cd crates/bqd/out/bqd crates/bq/out/bq bash""".split()
 
 
@@ -42,6 +45,18 @@ def is_command(text):
     """Returns true if code in a sentence is a command."""
     words = text.split()
     return text == ".ci/run" or (len(words) > 1 and words[0] in HEADS)
+
+
+def shown():
+    """Returns each command that a page shows, with the place where it first appears."""
+    found = {}
+    for page in markdown():
+        for piece in [*shell_lines(page), *(it for it in codes(page) if is_command(it.text))]:
+            found.setdefault(piece.text, place(piece))
+    for page in manuals():
+        for piece in manual_commands(page):
+            found.setdefault(piece.text, place(piece))
+    return found
 
 
 def rule(shape):
@@ -52,15 +67,26 @@ def rule(shape):
     return put
 
 
-def tried(text, room):
-    """Tries a command. Returns the reasons why parts of it weren't run; raises an exception if a part is wrong."""
-    whys = []
+def rules_of(text):
+    """Returns the function that tries each part of a command, with the match of the part."""
+    rules = []
     for step in re.split(r" && (?![^(]*\))", text):
         found = next(((function, match) for shape, function in RULES for match in [shape.fullmatch(step)] if match), None)
         if not found:
             raise AssertionError(f"no rule of tests/docs knows {step!r}")
-        whys.append(found[0](room, *found[1].groups()))
+        rules.append(found)
+    return rules
+
+
+def tried(text, room):
+    """Tries a command. Returns the reasons why parts of it weren't run; raises an exception if a part is wrong."""
+    whys = [function(room, *match.groups()) for function, match in rules_of(text)]
     return [it for it in whys if it]
+
+
+def is_for_a_machine(text):
+    """Returns true if a part of a command needs root and systemd. tests/container runs these."""
+    return any(function in (installs, services) for function, _ in rules_of(text))
 
 
 class Room:
@@ -86,7 +112,7 @@ class Room:
     def started(self, command, **more):
         """Starts the command in a shell, in a session of its own. It is ended at the end."""
         path = f"{self.folder}/bin:{os.environ['PATH']}"
-        return started(["bash", "-c", command], cwd=self.folder, env={**os.environ, "PATH": path}, **more)
+        return started(["bash", "-c", command], cwd=self.folder, env={**os.environ, **QUICK_PACKAGE, "PATH": path}, **more)
 
     def ends(self, command, sent=b"", status=0):
         """Returns the output of a command that ends by itself with this status."""
@@ -123,15 +149,28 @@ class Running(Server):
         self.process, self.port, self.clients = process, port, []
 
 
-@rule(r"((?:crates/bqd/out/)?bqd (?:-l|--listen) .*)")
-def serves(room, command):
+@rule(r"((?:crates/bqd/out/)?bqd (?:-l|--listen) .*)|(env --ignore-signal=\S+ bqd .*)")
+def serves(room, plain, ignoring):
     port = free_port()
+    command = plain or ignoring
     with room.started(command.replace(PORT, str(port)), stderr=subprocess.STDOUT) as process:
         told = process.stdout.readline().decode()
         if not re.fullmatch(rf"listening \S+:{port}\n", told):
             raise AssertionError(f"{command!r} told {told!r}")
-        session(Running(process, port))
+        server = Running(process, port)
+        session(server)
+        if ignoring:
+            outlives(server, ignoring.split("=")[1].split(" ")[0].split(","))
         process.kill()
+
+
+def outlives(server, names):
+    """Checks that signals do not end a server that a shell became, and that the service ignores the same."""
+    for it in names:
+        server.process.send_signal(getattr(signal, f"SIG{it}"))
+    server.client().asks(b"list-tube-used\r\n", b"USING default\r\n")
+    unit = (ROOT / "packaging/bqd.service").read_text()
+    assert f"env --ignore-signal={','.join(names)} /usr/bin/bqd" in unit, "the service ignores others"
 
 
 @rule(r"bqd (--[-a-z]+)(?: [A-Z]+)?")
@@ -187,7 +226,9 @@ def tidies(room, command):
         client = server.client()
         client.asks(b"put 0 0 60 1\r\na\r\nput 0 60 60 1\r\nb\r\n", b"INSERTED 1\r\nINSERTED 2\r\n")
         client.asks(b"put 0 0 60 1\r\nc\r\nreserve-job 3\r\nbury 3 0\r\n", b"INSERTED 3\r\nRESERVED 3 1\r\nc\r\nBURIED\r\n")
-        words = command.split(" ", 1)[1].replace(f"127.0.0.1:{OTHER}", f"127.0.0.1:{other.port}")
+        words = command.split(" ", 1)[1]
+        for port, running in [(OTHER, other), (PORT, server)]:
+            words = words.replace(f"127.0.0.1:{port}", f"127.0.0.1:{running.port}")
         told = f"bqctl --server 127.0.0.1:{server.port} {words}"
         if not room.ends(told, b"body"):
             raise AssertionError(f"{command!r} told nothing")
@@ -261,13 +302,13 @@ def drains_by_hand(room, command):
         assert server.process.stderr.readline() == b"bqd: draining\n"
 
 
-@rule(r"packaging/deb\.sh (\.)")
-def packs(room, folder):
+@rule(r"packaging/deb\.sh (?:\.|packaging)")
+def packs(room):
     wanted = ["strip", "dpkg-shlibdeps", "dpkg-gencontrol", "dpkg-parsechangelog", "dpkg-deb"]
     lacking = [it for it in wanted if not shutil.which(it)]
     if lacking:
         return f"there is no {lacking[0]} here"
-    room.ends(f"packaging/deb.sh {folder}")
+    room.ends("packaging/deb.sh .")
     made = [it for it in os.listdir(room.folder) if re.fullmatch(r"bqd_[0-9.]+_\w+\.deb", it)]
     if len(made) != 1:
         raise AssertionError(f"{made} was made")
@@ -277,13 +318,14 @@ def packs(room, folder):
 def installs(room, installed, gone):
     names = re.findall(r"^Package: (\S+)$", (ROOT / "packaging/debian/control").read_text(), re.M)
     assert (installed or gone) in names, f"no package {installed or gone}"
-    return "it changes the machine"
+    return "tests/container runs it"
 
 
-@rule(r"(?:systemctl (?:start|stop|restart|reload|status|enable --now)|journalctl -u) ([-\w.]+)")
+@rule(r"(?:systemctl (?:start|stop|restart|reload|status|(?:en|dis)able --now)|journalctl -u) ([-\w.]+)")
 def services(room, unit):
-    assert (ROOT / f"packaging/{unit}.service").is_file(), f"no unit {unit}"
-    return "it is for a machine with systemd and the package"
+    own = unit if "." in unit else f"{unit}.service"
+    assert unit == "beanstalkd" or (ROOT / "packaging" / own).is_file(), f"no unit {unit}"
+    return "tests/container runs it"
 
 
 @rule(r"ulimit -[nv]|prlimit --as=\d+")
@@ -308,7 +350,7 @@ def gate(room):
 def runs_from_a_clone(room, name, words):
     assert (ROOT / "crates" / name / "src/main.rt").is_file(), f"no program {name}"
     if name == "bqd":
-        serves(room, f"bqd {words}")
+        serves(room, f"bqd {words}", None)
     else:
         room.ends(f"bq {words or ''}")
 
