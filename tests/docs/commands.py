@@ -6,6 +6,7 @@ what it should, or the reason why it isn't run. A command without a rule is a fa
 """
 import contextlib
 import os
+import pathlib
 import re
 import shutil
 import signal
@@ -86,7 +87,7 @@ def tried(text, room):
 
 def is_for_a_machine(text):
     """Returns true if a part of a command needs root and systemd. tests/container runs these."""
-    return any(function in (installs, services) for function, _ in rules_of(text))
+    return any(function in (installs, services, changes_options) for function, _ in rules_of(text))
 
 
 class Room:
@@ -325,6 +326,18 @@ def installs(room, installed, gone):
 def services(room, unit):
     own = unit if "." in unit else f"{unit}.service"
     assert unit == "beanstalkd" or (ROOT / "packaging" / own).is_file(), f"no unit {unit}"
+    return "tests/container runs it"
+
+
+@rule(r"(sed -i \S+ )/etc/default/(\w+)")
+def changes_options(room, command, name):
+    """Runs the command on a copy of the options, which it has to change. A page that goes the other way comes second."""
+    copy = pathlib.Path(room.folder, f"{name}.default")
+    if not copy.exists():
+        shutil.copy(ROOT / "packaging" / f"{name}.default", copy)
+    before = copy.read_text()
+    room.ends(command + str(copy))
+    assert copy.read_text() != before, f"it does not change the options of {name}"
     return "tests/container runs it"
 
 

@@ -19,6 +19,7 @@ OTHERS = set("""
 --fail-alloc
 --pin 0
 -b DIR
+-c
 -f MS
 -F
 -s BYTES
@@ -26,6 +27,8 @@ OTHERS = set("""
 -V
 -v
 -h
+-l unix:PATH
+-n
 /opt/rattle
 /sys/kernel/mm/transparent_hugepage/enabled
 /usr/local/bin/bqd
@@ -37,6 +40,7 @@ MemoryMax
 RT_JOBS
 SIGUSR1
 always
+beanstalkd.socket
 c.f
 circular_buffer
 cmd-*
