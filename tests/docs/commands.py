@@ -384,7 +384,7 @@ def toolchain(room):
     return "it is the toolchain's"
 
 
-@rule(r"(?:python3 )?((?:tools|tests)/(?:refused_by_prover\.py|caught_by_tests|speed|model|runs|memory_faults|operator|docs))((?: .*)?)")
+@rule(r"(?:python3 )?((?:tools|tests)/(?:refused_by_prover\.py|caught_by_tests|speed|model|runs|memory_faults|operator|container|docs))((?: .*)?)")
 def own_tools(room, script, words):
     told = subprocess.run([sys.executable, ROOT / script, "--help"], capture_output=True, text=True, timeout=PATIENCE).stdout
     for option in re.findall(r"(?<=\s)--?[a-z][-\w]*", words):
