@@ -40,8 +40,8 @@ for program in bqctl bqd-drain bqd-top bqd-web; do
     install -m 755 "packaging/programs/$program" "$tree/usr/share/bqd/$program"
     ln -s "../share/bqd/$program" "$tree/usr/bin/$program"
 done
-# Only the unit runs this one.
-install -m 755 packaging/programs/bqd-started "$tree/usr/share/bqd"
+# Only the unit and a container's image run these.
+install -m 755 packaging/programs/bqd-started packaging/container-start "$tree/usr/share/bqd"
 install -D -m 644 -t "$tree/usr/share/bash-completion/completions" packaging/completion/bqctl
 install -D -m 644 -t "$tree/lib/systemd/system" packaging/bqd.service packaging/bqd.socket packaging/bqd-web.service
 install -D -m 644 packaging/bqd.default "$tree/etc/default/bqd"

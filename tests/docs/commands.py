@@ -38,7 +38,7 @@ QUICK_PACKAGE = {"DPKG_DEB_COMPRESSOR_TYPE": "gzip", "DPKG_DEB_COMPRESSOR_LEVEL"
 OPERATORS = ["bqctl", "bqd-drain", "bqd-top", "bqd-web"]
 
 # The first words of commands. A program's name on its own is not a command.
-HEADS = """rt env tools/build tools/refused_by_prover.py nc telnet systemctl journalctl apt echo bqd bq bqctl bqd-top bqd-drain bqd-web prlimit ulimit
+HEADS = """rt env docker tools/build tools/refused_by_prover.py nc telnet systemctl journalctl apt echo bqd bq bqctl bqd-top bqd-drain bqd-web prlimit ulimit
     python3 sed printf packaging/deb.sh promtool curl ssh (cd crates/bqd/out/bqd crates/bq/out/bq bash""".split()
 
 
@@ -166,12 +166,19 @@ def serves(room, plain, ignoring):
 
 
 def outlives(server, names):
-    """Checks that signals do not end a server that a shell became, and that the service ignores the same."""
+    """Checks that signals do not end a server that a shell became, and that the service and an image ignore the same."""
     for it in names:
         server.process.send_signal(getattr(signal, f"SIG{it}"))
     server.client().asks(b"list-tube-used\r\n", b"USING default\r\n")
-    unit = (ROOT / "packaging/bqd.service").read_text()
-    assert f"env --ignore-signal={','.join(names)} /usr/bin/bqd" in unit, "the service ignores others"
+    for file in ["packaging/bqd.service", "packaging/container-start"]:
+        assert f"env --ignore-signal={','.join(names)} /usr/bin/bqd" in (ROOT / file).read_text(), file
+
+
+@rule(r"docker (?:compose -f (\S+) )?(build|run|exec|stop|up|compose)(?: .*)?")
+def contains(room, compose, word):
+    for it in ["packaging/Dockerfile", compose or "packaging/compose.yml"]:
+        assert (ROOT / it).is_file(), f"no {it}"
+    return "there is no docker here; packaging/README.md says what was tried instead"
 
 
 @rule(r"bqd (--[-a-z]+)(?: [A-Z]+)?")
