@@ -15,15 +15,18 @@ cd "$(dirname "$0")/.."
 for program in bqd bq; do
     [[ -x crates/$program/out/$program ]] || fail 1 "$program is not built: run tools/build $program first"
 done
-for command in strip dpkg-shlibdeps dpkg-gencontrol dpkg-deb; do
+for command in python3 strip dpkg-shlibdeps dpkg-gencontrol dpkg-deb; do
     command -v "$command" >/dev/null || fail 1 "$command is missing: it is in Debian's dpkg-dev and binutils"
 done
 version=$(crates/bqd/out/bqd --version | awk '{print $2}')
-told=$(dpkg-parsechangelog --file packaging/changelog --show-field Version)
-[[ $version = "$told" ]] || fail 1 "bqd says it is $version, but packaging/changelog begins with $told"
 
 room=$(mktemp -d)
 trap 'rm -rf "$room"' EXIT
+mkdir "$room/debian"
+python3 packaging/changelog.py >"$room/debian/changelog"
+told=$(dpkg-parsechangelog --file "$room/debian/changelog" --show-field Version)
+[[ $version = "$told" ]] || fail 1 "bqd says it is $version, but CHANGELOG.md begins with $told"
+
 tree=$room/tree
 install -d -m 755 "$tree"
 
@@ -49,15 +52,14 @@ install -D -m 644 packaging/bqd-web.default "$tree/etc/default/bqd-web"
 install -D -m 644 packaging/needrestart.conf "$tree/etc/needrestart/conf.d/bqd.conf"
 install -D -m 644 -t "$tree/usr/share/man/man1" packaging/bqd.1 packaging/bqctl.1 packaging/bqd-drain.1 packaging/bqd-top.1 packaging/bqd-web.1
 install -D -m 644 -t "$tree/usr/share/doc/bqd" README.md docs/*.md docs/*.svg docs/*.png packaging/bq.1
-install -D -m 644 packaging/changelog "$tree/usr/share/doc/bqd/changelog"
+install -D -m 644 "$room/debian/changelog" "$tree/usr/share/doc/bqd/changelog"
 install -D -m 644 LICENSE "$tree/usr/share/doc/bqd/copyright"
 install -D -m 644 packaging/debian/lintian-overrides "$tree/usr/share/lintian/overrides/bqd"
 gzip -9n "$tree"/usr/share/man/man1/*.1 "$tree/usr/share/doc/bqd/changelog"
 
 # The package's control data, with the versions of the libraries that the programs need.
-mkdir "$room/debian" "$tree/DEBIAN"
+mkdir "$tree/DEBIAN"
 cp packaging/debian/control "$room/debian/control"
-cp packaging/changelog "$room/debian/changelog"
 (
     cd "$room"
     dpkg-shlibdeps -T"$room/substvars" "$tree/usr/bin/bqd" "$tree/usr/lib/bqd/bq"

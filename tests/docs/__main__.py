@@ -4,8 +4,8 @@
 
 Each command of README.md, docs/OPERATING.md, docs/MOVING.md and the man pages is run with the given programs, or it
 is known why it isn't; of the other pages it is known. What pages name as code or link to has to be in the tree. The
-counts of docs/HEADLINE.md have to be those of the definitions, and the diagram of docs/ARCHITECTURE.md that of
-crates.txt. Long sentences and phrases that have a plainer form are counted (prose.py). The last line is 'N passed, M
+counts of docs/HEADLINE.md have to be those of the definitions, the diagram of docs/ARCHITECTURE.md that of crates.txt,
+and the version of CHANGELOG.md that of the programs. Long sentences and phrases that have a plainer form are counted (prose.py). The last line is 'N passed, M
 failed'; status 1 if one failed.
 """
 import argparse
@@ -25,6 +25,7 @@ import names
 import prose
 import reach
 import runner
+import versions
 
 
 def options(programs):
@@ -75,6 +76,8 @@ def main():
         faults += reach.faults()
         held += 1
         faults += layers.faults()
+        held += 1
+        faults += versions.faults()
         held += len(prose.BUDGETS)
         faults += prose.faults()
     finally:

@@ -96,7 +96,7 @@ class Room:
     def __init__(self, bq, bqd):
         self.bq, self.bqd = bq, bqd
         self.folder = tempfile.mkdtemp(prefix="pages-")
-        for it in ["README.md", "LICENSE", "docs", "packaging", "tests", "tools"]:
+        for it in ["README.md", "CHANGELOG.md", "LICENSE", "docs", "packaging", "tests", "tools"]:
             os.symlink(ROOT / it, f"{self.folder}/{it}")
         for name, program in [("bq", bq), ("bqd", bqd)]:
             os.makedirs(f"{self.folder}/crates/{name}/out")
