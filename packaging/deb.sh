@@ -46,6 +46,10 @@ done
 # Only the unit and a container's image run these.
 install -m 755 packaging/programs/bqd-started packaging/container-start "$tree/usr/share/bqd"
 install -D -m 644 -t "$tree/usr/share/bash-completion/completions" packaging/completion/bqctl
+for place in zsh/vendor-completions/_bqctl fish/vendor_completions.d/bqctl.fish; do
+    [[ ! -e packaging/completion/bqctl.${place%%/*} ]] ||
+        install -D -m 644 "packaging/completion/bqctl.${place%%/*}" "$tree/usr/share/$place"
+done
 install -D -m 644 -t "$tree/lib/systemd/system" packaging/bqd.service packaging/bqd.socket packaging/bqd-web.service
 install -D -m 644 packaging/bqd.default "$tree/etc/default/bqd"
 install -D -m 644 packaging/bqd-web.default "$tree/etc/default/bqd-web"
