@@ -71,7 +71,6 @@ def run_odd_answers():
     """Answers that do not follow the protocol, or do not fit the command."""
     for answers, of in [
         ([b"HTTP/1.1 400 Bad Request\r\n"], "stats by 'HTTP/1.1 400 Bad Request'"),
-        ([b"OUT_OF_MEMORY\r\n"], "stats by 'OUT_OF_MEMORY'"),
         ([b"\xff\x00\x1b[2J\r\n"], "stats by '\ufffd\\x00\\x1b[2J'"),
         ([b"x" * 300], "stats by a line without end"),
         ([b"OK 999999999\r\n"], "stats by 'OK 999999999'"),

@@ -1,6 +1,7 @@
 """Runs of bqctl, except its moves."""
 import json
 import os
+import pty
 import signal
 import subprocess
 import sys
@@ -8,7 +9,7 @@ import tempfile
 
 from canned import PROGRAMS, Canned, ctl, ok, statistics, tube, tubes
 from jobs import Teller
-from programs import Ended, has_all, same
+from programs import Ended, ended, has_all, same
 from servers import awaits, free_port
 
 LONG = "n" * 200
@@ -45,6 +46,16 @@ def run_ctl_bad_words():
         ["peek"],
         ["peek", "mail", "reserved"],
         ["peek", "mail", "--raw"],
+        ["peek", "--raw"],
+        ["peek", "mail", "--id", "1"],
+        ["peek", "--id", "mail"],
+        ["stats", "mail", "--id", "1"],
+        ["kick"],
+        ["kick", "--id", "1", "--all"],
+        ["kick", "mail", "--id", "1"],
+        ["delete"],
+        ["delete", "mail"],
+        ["delete", "18446744073709551616"],
         ["put", "mail box"],
         ["put", "n" * 201],
         ["put", "mail", "--ttr", "0"],
@@ -80,6 +91,41 @@ def run_ctl_nobody_listens():
         fails(ctl(*words, "--server", address), f"cannot connect to {address}: Connection refused")
 
 
+def run_ctl_options_before_the_command():
+    """Options count before the command as well as after it; after it they count if both are given."""
+    with Canned(stays=True) as server:
+        for words in [["--timeout", "0.3", "tubes"], ["tubes", "--timeout", "0.3"], ["--timeout", "20", "tubes", "--timeout", "0.3"]]:
+            wanted = f"{server.address} gave no answer within 0.3 seconds; are all of its seats taken?"
+            fails(ctl("--server", server.address, *words), wanted)
+    with Canned(tubes(), tubes()) as server:
+        same(ctl("--json", "--server", server.address, "tubes"), Ended(0, b"[]\n", b""))
+
+
+def run_ctl_server_of_the_environment():
+    """$BQD_SERVER names the server of bqctl and bqd-top, unless the command line does; a malformed one is bad use."""
+    def ran(program, server, *words):
+        return ended("env", f"BQD_SERVER={server}", sys.executable, PROGRAMS / program, *words)
+
+    own, other = f"127.0.0.1:{free_port()}", f"127.0.0.1:{free_port()}"
+    refused = "cannot connect to {}: Connection refused"
+    fails(ran("bqctl", own, "tubes"), refused.format(own))
+    fails(ran("bqctl", own, "tubes", "--server", other), refused.format(other))
+    fails(ran("bqctl", "::", "tubes", "--server", other), refused.format(other))
+    same(ran("bqd-top", own).errors, f"bqd-top: {refused.format(own)}\n".encode())
+    same(ran("bqd-top", own, other).errors, f"bqd-top: {refused.format(other)}\n".encode())
+    for program, words in [("bqctl", ["tubes"]), ("bqd-top", []), ("bqd-web", [])]:
+        found = ran(program, "::", *words)
+        same((found.status, found.output), (2, b""))
+        assert found.errors.endswith(f"{program}: error: $BQD_SERVER: '::' is no address such as 127.0.0.1:11300\n".encode()), found
+
+
+def bqd_run_ctl_versions(bqd):
+    """Each program prints its name and the version of the server."""
+    _, version = ended(bqd, "--version").output.split()
+    for it in ["bqctl", "bqd-drain", "bqd-top", "bqd-web"]:
+        same(ended(sys.executable, PROGRAMS / it, "--version"), Ended(0, b"%s %s\n" % (it.encode(), version), b""))
+
+
 def run_ctl_goes_away():
     """A server that goes away in the middle: what was done until then is reported."""
     begun = [tube("mail", current_jobs_ready=3), b"USING mail\r\n", b"FOUND 1 1\r\na\r\n"]
@@ -102,7 +148,7 @@ def run_ctl_json_of_failure():
     answers = [tube("mail", current_jobs_buried=2000), b"USING mail\r\n", b"KICKED 1000\r\n", b"OUT_OF_MEMORY\r\n"]
     with Canned(*answers, stays=True) as server:
         found = ctl("--json", "kick", "mail", "--all", "--server", server.address)
-    why = f"{server.address} answered kick by 'OUT_OF_MEMORY'"
+    why = f"{server.address} refused kick: it has no memory for it"
     same((found.status, json.loads(found.output)), (1, {"tube": "mail", "kicked": 1000, "state": "buried", "failed": why}))
     same(found.errors, f"bqctl: {why}: kicked 1000 buried jobs of mail\n".encode())
 
@@ -119,7 +165,6 @@ def run_ctl_odd_answers():
         ([*begun, b"FOUND 1 9999999999\r\n"], ["peek", "mail"], "peek-ready by 'FOUND 1 9999999999'"),
         ([*begun, b"FOUND 1 1\r\nabc\r\n"], ["peek", "mail"], "peek-ready by a body without its end"),
         ([statistics()], ["put", "mail"], "stats without a number for max-job-size"),
-        ([statistics(max_job_size=9), b"USING mail\r\n", b"DRAINING\r\n"], ["put", "mail"], "put by 'DRAINING'"),
         ([*begun, b"KICKED some\r\n"], ["kick", "mail"], "kick by 'KICKED some'"),
         ([b"DONE\r\n"], ["pause", "mail", "5"], "pause-tube by 'DONE'"),
     ]:
@@ -127,6 +172,20 @@ def run_ctl_odd_answers():
             found = ctl(*words, "--server", server.address)
             errors = f"{server.address} answered {of}"
             assert found.status == 1 and found.errors.startswith(f"bqctl: {errors}".encode()), (errors, found)
+
+
+def run_ctl_refusals():
+    """A refusal is reported in plain words."""
+    begun = [statistics(max_job_size=9), b"USING mail\r\n"]
+    for answers, words, of in [
+        ([*begun, b"DRAINING\r\n"], ["put", "mail"], "put: it drains, and takes no further jobs"),
+        ([*begun, b"JOB_TOO_BIG\r\n"], ["put", "mail"], "put: the job is larger than it takes"),
+        ([*begun, b"OUT_OF_MEMORY\r\n"], ["put", "mail"], "put: it has no memory for it, or the most jobs that it may have"),
+        ([b"OUT_OF_MEMORY\r\n"], ["stats"], "stats: it has no memory for it"),
+        ([b"INTERNAL_ERROR\r\n"], ["tubes"], "list-tubes: it has an internal error"),
+    ]:
+        with Canned(*answers, stays=True) as server:
+            fails(ctl(*words, "--server", server.address), f"{server.address} refused {of}")
 
 
 def run_ctl_unwritten():
@@ -265,3 +324,66 @@ def each_run_ctl_clear_interrupted(start):
         deleted = json.loads(output)["deleted"]
         same(len(teller.jobs()), 3000 - deleted)
         same((process.returncode, deleted > 0), (1 if deleted < 3000 or b"interrupted" in output else 0, True))
+
+
+def each_run_ctl_by_id(start):
+    """Jobs are shown, kicked and deleted by their ids, whatever their tube; what cannot be done says why."""
+    with start() as server:
+        ask, teller = beside(server), Teller(server)
+        for state, delay in [("ready", 0), ("delayed", 1000), ("buried", 0), ("buried", 0), ("ready", 0)]:
+            teller.put(BYTES, pri=7, delay=delay, state=state, tube=state.encode())
+        same(teller.ask(b"reserve-job 5")[0].split()[:2], [b"RESERVED", b"5"])
+        name = f"127.0.0.1:{server.port}"
+        about = json.loads(ask("stats", "--id", "3", "--json").output)
+        same([about[it] for it in ["id", "tube", "state", "pri", "ttr"]], [3, "buried", "buried", 7, 60])
+        for job_id in ["1", "2", "3", "5"]:
+            same(ask("peek", "--id", job_id, "--raw"), Ended(0, BYTES, b""))
+        shown, = json.loads(ask("peek", "--id", "5", "--json").output)
+        same((shown["id"], shown["state"], shown["body_hex"]), (5, "reserved", BYTES.hex()))
+        tells(ask("kick", "--id", "2"), "kicked delayed job 2 of delayed")
+        same(json.loads(ask("kick", "--id", "3", "--json").output), {"id": 3, "tube": "buried", "kicked": 1, "state": "buried"})
+        same([about[1] for about in teller.jobs().values()], ["ready", "ready", "ready", "buried", "reserved"])
+        fails(ask("kick", "--id", "1"), "job 1 of ready is ready: only buried and delayed jobs are kicked")
+        for words in [["peek"], ["stats"], ["kick"]]:
+            fails(ask(*words, "--id", "9"), f"{name} has no job 9")
+        tells(ask("delete", "4", "2"), "deleted buried job 4 of buried", "deleted ready job 2 of delayed")
+        fails(ask("delete", "9", "1", "5"), f"2 jobs could not be deleted: {name} has no job 9", "job 5 of ready is reserved",
+              "deleted ready job 1 of ready")
+        same(json.loads(ask("delete", "3", "4", "--json").output), {"deleted": [3], "left": [4], "failed": "1 job could not be deleted"})
+        same(list(teller.jobs()), [5])
+
+
+def asked_on_terminal(server, answer, *words):
+    """Returns the question of a bqctl at a terminal, which gets this answer, and how it ends."""
+    own, other = pty.openpty()
+    command = [sys.executable, PROGRAMS / "bqctl", "--server", f"127.0.0.1:{server.port}", *words]
+    with subprocess.Popen(command, stdin=other, stdout=subprocess.PIPE, stderr=other) as process:
+        os.close(other)
+        told = b""
+        if answer is not None:
+            while not told.endswith(b"[y/N] "):
+                told += os.read(own, 4096)
+            if isinstance(answer, bytes):
+                os.write(own, answer)
+            else:
+                process.send_signal(answer)
+        output, _ = process.communicate(timeout=20)
+    os.close(own)
+    return told, process.returncode, output
+
+
+def each_run_ctl_clear_asks(start):
+    """On a terminal clear asks, and deletes only after a yes; with --yes it does not ask."""
+    with start() as server:
+        teller = Teller(server)
+        for _ in range(2):
+            teller.put(b"a")
+            teller.put(b"b", state="buried")
+        question = f"delete 4 jobs of mail at 127.0.0.1:{server.port}: 2 ready, 2 buried? [y/N] ".encode()
+        for answer in [b"n\n", b"\n", b"\x04", signal.SIGINT, signal.SIGTERM]:
+            same(asked_on_terminal(server, answer, "clear", "mail"), (question, 1, b""))
+            same(len(teller.jobs()), 4)
+        same(asked_on_terminal(server, None, "clear", "mail", "--dry-run")[1:], (0, b"would delete 4 jobs of mail: 2 ready, 2 buried\n"))
+        same(asked_on_terminal(server, None, "clear", "mail", "--state", "buried", "--yes")[1:], (0, b"deleted 2 jobs of mail: 2 buried\n"))
+        found = asked_on_terminal(server, b"yes\n", "clear", "mail")
+        same(found[1:], (0, b"deleted 2 jobs of mail: 2 ready\n"))

@@ -9,6 +9,7 @@ import signal
 import subprocess
 import sys
 import time
+import types
 
 from canned import PROGRAMS, Canned, ctl, ok, tube, yaml
 from ctl_runs import BYTES, beside, fails, tells
@@ -68,7 +69,7 @@ def each_run_move_words(start):
               f"moved 3 jobs of mail to post of {address(source)}: 3 buried")
         found = json.loads(ask("move", "mail", "--to", f"localhost:{source.port}/post", "--json").output)
         same(found, {"tube": "mail", "dry_run": False, "moved": 7, "ready": 5, "delayed": 0, "buried": 2, "reserved": 0,
-                     "doubled": []})
+                     "doubled": [], "refused": []})
         same(collections.Counter(it[:2] for it in here.jobs().values()), {("post", "ready"): 5, ("post", "buried"): 5})
         for to in ["/post", f"localhost:{source.port}", f"127.0.0.1:{source.port}/post"]:
             name = f"localhost:{source.port}" if "localhost" in to else address(source)
@@ -91,9 +92,56 @@ def each_run_move_refused(start):
         for state, delay in [("ready", 0), ("delayed", 1000), ("buried", 0)]:
             here.put(b"a" * 2000, pri=5, delay=delay, state=state, tube=state.encode())
             fails(beside(source)("move", state, "--to", address(target)),
-                  f"{address(target)} answered put by 'JOB_TOO_BIG': moved 0 jobs of {state} to {state} of {address(target)}")
+                  f"{address(target)} refused job {here.last()} of {address(source)}: the job is larger than it takes: "
+                  f"moved 0 jobs of {state} to {state} of {address(target)}")
         same([it[:3] for it in here.jobs().values()], [(it, it, 5) for it in ["ready", "delayed", "buried"]])
         assert 980 < here.job(2)[3] <= 1001, here.job(2)
+
+
+def each_run_move_skips_refused(start):
+    """With --skip-refused, jobs that are too large are named and stay as they were, and all others are moved."""
+    with start("-z", "2000") as source, start("-z", "1000") as target:
+        here, there = Teller(source), Teller(target)
+        for number in range(12):
+            state = ["ready", "delayed", "buried"][number % 3]
+            size = 2000 if number in (0, 1, 2, 6, 7, 8) else 10
+            # The shortest time to run ends meanwhile, unless it is renewed.
+            here.put(b"a" * size, pri=5, delay=1000 if state == "delayed" else 0, ttr=1, state=state)
+        stay = [1, 7, 2, 8, 3, 9]
+        ids = sorted(stay)
+        found = beside(source)("move", "mail", "--to", address(target), "--skip-refused")
+        lines = [f"{address(target)} refused 6 jobs: moved 6 jobs of mail to mail of {address(target)}: 2 ready, 2 delayed, 2 buried"]
+        lines += [f"job {it} of {address(source)} stays: it is larger than {address(target)} takes" for it in stay]
+        fails(found, *lines)
+        same([(it, *about[:3], about[4]) for it, about in here.jobs().items()],
+             [(it, "mail", ["ready", "delayed", "buried"][(it - 1) % 3], 5, 1) for it in ids])
+        same(collections.Counter(it[1] for it in there.jobs().values()), {"ready": 2, "delayed": 2, "buried": 2})
+        assert all(980 < here.job(it)[3] <= 1001 for it in (2, 8)), here.jobs()
+        again = beside(source)("move", "mail", "--to", address(target), "--skip-refused", "--json")
+        same((again.status, json.loads(again.output)["moved"], sorted(json.loads(again.output)["refused"])), (1, 0, ids))
+
+
+def run_move_renews_leases():
+    """A job that stays is held reserved: its lease is renewed before it ends, and it gets the rest of its delay at the end."""
+    sys.path.insert(0, str(PROGRAMS))
+    from queue_control import move
+
+    now, told = [0.0], []
+    source = types.SimpleNamespace(touch=lambda *words: told.append(("touch", *words)), release=lambda *words: told.append(("release", *words)))
+    move.time, time_before = types.SimpleNamespace(monotonic=lambda: now[0]), move.time
+    try:
+        stays = move.Stays(source)
+        stays.add("delayed", {"id": 7, "pri": 5, "ttr": 4, "time-left": 99})
+        stays.add("ready", {"id": 8, "pri": 6, "ttr": 100, "time-left": 0})
+        for now[0], wanted in [(1.9, []), (2.1, [("touch", 7)]), (4.0, []), (4.2, [("touch", 7)])]:
+            stays.renew()
+            same(told, wanted)
+            told.clear()
+        now[0] = 10.0
+        stays.end()
+        same(told, [("release", 7, 5, 90), ("release", 8, 6, 0)])
+    finally:
+        move.time = time_before
 
 
 def about(job_id, state="ready", left=0):

@@ -6,7 +6,14 @@ class Fault(Exception):
 
 
 class Refused(Fault):
-    """A command that the server rejected with a word of the protocol. The connection can still be used."""
+    """A command that the server rejected with a word of the protocol. The connection can still be used.
+
+    `word` is that word, and `why` what it means, if it has a meaning for a person.
+    """
+
+    def __init__(self, text, word=None, why=None):
+        super().__init__(text)
+        self.word, self.why = word, why
 
 
 def said(fault):

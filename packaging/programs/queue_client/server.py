@@ -19,9 +19,18 @@ LARGEST_BODY = 1 << 30
 # How many commands are sent before their answers are read: few enough that neither side's buffers fill.
 TOGETHER = 50
 
-# The words with which a server rejects a command. The next answer then belongs to the next command.
-REFUSALS = {b"OUT_OF_MEMORY", b"INTERNAL_ERROR", b"DRAINING", b"JOB_TOO_BIG", b"EXPECTED_CRLF", b"BAD_FORMAT",
-            b"UNKNOWN_COMMAND", b"NOT_FOUND"}
+# The words with which a server rejects a command, and what those mean that a correct command can get. The next answer
+# then belongs to the next command.
+REFUSALS = {
+    b"OUT_OF_MEMORY": "it has no memory for it",
+    b"INTERNAL_ERROR": "it has an internal error",
+    b"DRAINING": "it drains, and takes no further jobs",
+    b"JOB_TOO_BIG": "the job is larger than it takes",
+    **dict.fromkeys([b"EXPECTED_CRLF", b"BAD_FORMAT", b"UNKNOWN_COMMAND", b"NOT_FOUND"]),
+}
+
+# A put is also rejected if the server has as many jobs as its options allow.
+NO_ROOM = "it has no memory for it, or the most jobs that it may have"
 
 Job = collections.namedtuple("Job", "id body")
 
@@ -79,6 +88,12 @@ class Server:
         self._send(f"peek-{state}")
         return self._job(f"peek-{state}", b"FOUND")
 
+    def peek_job(self, job_id):
+        """Returns a job by its id, or None."""
+        command = f"peek {job_id}"
+        self._send(command)
+        return self._job(command, b"FOUND")
+
     def put(self, priority, delay, ttr, body):
         """Puts a job into the used tube and returns its id."""
         self.connection.send(f"put {priority} {delay} {ttr} {len(body)}\r\n".encode() + body + b"\r\n")
@@ -121,6 +136,14 @@ class Server:
         if not found:
             raise self._unwanted("kick", head)
         return int(found[1])
+
+    def kick_job(self, job_id):
+        """Kicks a job. Returns whether it existed and was buried or delayed."""
+        return self._acts(f"kick-job {job_id}", b"KICKED")
+
+    def touch(self, job_id):
+        """Starts the time to run of a reserved job again. Returns whether this connection still had it."""
+        return self._acts(f"touch {job_id}", b"TOUCHED")
 
     def pause(self, tube, seconds):
         """Pauses a tube, or ends its pause if `seconds` is 0. Returns whether the tube exists."""
@@ -176,5 +199,8 @@ class Server:
 
     def _unwanted(self, command, head):
         """Returns the fault that a command was answered with this head."""
-        fault = self.connection.odd(command, repr(head.decode("ascii", "replace")))
-        return Refused(*fault.args) if head in REFUSALS else fault
+        if head not in REFUSALS:
+            return self.connection.odd(command, repr(head.decode("ascii", "replace")))
+        why = NO_ROOM if (command, head) == ("put", b"OUT_OF_MEMORY") else REFUSALS[head]
+        text = f"{self.name} refused {command}: {why}" if why else f"{self.name} answered {command} by {head.decode()!r}"
+        return Refused(text, head, why)

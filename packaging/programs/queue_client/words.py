@@ -1,11 +1,16 @@
 """Words of a command line: addresses, tubes and numbers. Each reader reports errors as argparse expects."""
 import argparse
 import math
+import os
 import re
 
 from .texts import TUBE_NAME
+from .version import VERSION
 
 DEFAULT_PORT = 11300
+
+# The variable of the environment that names the server, and the server if neither it nor the command line does.
+VARIABLE, DEFAULT_SERVER = "BQD_SERVER", "127.0.0.1:11300"
 
 # The largest priority, delay, time to run and bound in the protocol.
 LARGEST_NUMBER = (1 << 32) - 1
@@ -55,7 +60,22 @@ def whole(least, most=LARGEST_NUMBER):
     return read
 
 
-def timeout(parser):
+def timeout(parser, default=5.0):
     """Adds the option for the time within which an answer has to arrive."""
-    parser.add_argument("--timeout", metavar="SECONDS", type=seconds(0.1, 3600), default=5.0,
+    parser.add_argument("--timeout", metavar="SECONDS", type=seconds(0.1, 3600), default=default,
                         help="how long an answer may take, 0.1 to 3600; default 5")
+
+
+def version(parser):
+    """Adds the option that prints the program's name and version."""
+    parser.add_argument("--version", action="version", version=f"{parser.prog} {VERSION}",
+                        help="print the program's version")
+
+
+def default_server(parser):
+    """Returns the address of the server if the command line names none: $BQD_SERVER, else the usual one."""
+    word = os.environ.get(VARIABLE) or DEFAULT_SERVER
+    try:
+        return address(word)
+    except argparse.ArgumentTypeError as fault:
+        return parser.error(f"${VARIABLE}: {fault}")

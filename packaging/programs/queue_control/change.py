@@ -1,10 +1,10 @@
-"""The commands that change a tube in one step: put, kick, pause and unpause."""
+"""The commands that change a tube or a job in one step: put, kick, delete, pause and unpause."""
 from queue_client import Fault, said
 from queue_client.reading import COUNTS
 
 from .progress import Progress
 from .results import Result, Unfinished, jobs
-from .show import tube_of
+from .show import job_of, tube_of
 
 # The largest number of jobs that one command kicks: the server does nothing else meanwhile.
 KICKED_TOGETHER = 1000
@@ -34,7 +34,9 @@ def body_of(server, path):
 
 
 def kick(server, asked):
-    """Makes buried jobs ready, or delayed ones if none is buried."""
+    """Makes a job ready by its id, or buried jobs of a tube, or delayed ones if none is buried."""
+    if asked.id is not None:
+        return kick_job(server, asked.id)
     found = tube_of(server, asked.tube)
     state = "buried" if found[COUNTS["buried"]] else "delayed"
     wanted = found[COUNTS[state]] if asked.all else asked.count or 1
@@ -51,6 +53,30 @@ def kick(server, asked):
     finally:
         progress.end()
     return was_kicked(asked.tube, kicked, state)
+
+
+def kick_job(server, job_id):
+    """Makes a buried or delayed job ready."""
+    before = job_of(server, job_id)
+    if not server.kick_job(job_id):
+        raise Fault(f"job {job_id} of {before['tube']} is {job_of(server, job_id)['state']}: only buried and delayed jobs are kicked")
+    record = {"id": job_id, "tube": before["tube"], "kicked": 1, "state": before["state"]}
+    return Result(record, [f"kicked {before['state']} job {job_id} of {before['tube']}"])
+
+
+def delete(server, asked):
+    """Deletes jobs by their ids. Those that cannot be deleted are named, and the others are deleted."""
+    deleted, left = {}, {}
+    for job_id in asked.ids:
+        about = server.job(job_id)
+        if about and server.delete(job_id):
+            deleted[job_id] = f"deleted {about['state']} job {job_id} of {about['tube']}"
+        else:
+            left[job_id] = f"job {job_id} of {about['tube']} is reserved" if about else f"{server.name} has no job {job_id}"
+    result = Result({"deleted": list(deleted), "left": list(left)}, [*left.values(), *deleted.values()])
+    if left:
+        raise Unfinished(f"{jobs(len(left))} could not be deleted", result)
+    return result
 
 
 def was_kicked(tube, kicked, state):

@@ -1,7 +1,9 @@
 """The command clear: deletes the jobs of a tube."""
+import sys
+
 from queue_client import Fault
 
-from .results import Unfinished
+from .results import Unfinished, by_state, jobs
 from .show import tube_of
 from .sweep import Sweep, planned, told
 
@@ -22,12 +24,26 @@ class Clear(Sweep):
         return True
 
 
+def is_sure(question, asked):
+    """Asks a person at a terminal. It is a fault if the answer is no; without a terminal, or with --yes, there is no
+    question."""
+    if asked.yes or not (sys.stdin.isatty() and sys.stderr.isatty()):
+        return
+    with asked.interrupts.at_once():
+        sys.stderr.write(f"{question} [y/N] ")
+        sys.stderr.flush()
+        answer = sys.stdin.readline()
+    if answer.strip().lower() not in ("y", "yes"):
+        raise Fault("nothing was deleted")
+
+
 def clear(server, asked):
     """Deletes the jobs of a tube that are in the given states."""
     about = tube_of(server, asked.tube)
     plan = planned(about, asked)
     if asked.dry_run:
         return told(asked, "deleted", plan, about)
+    is_sure(f"delete {jobs(sum(plan.values()))} of {asked.tube} at {server.name}: {by_state(plan) or 'none now'}?", asked)
     server.use(asked.tube)
     work = Clear(server, asked)
     try:

@@ -38,12 +38,21 @@ class Interrupts:
     SIGNALS = (signal.SIGINT, signal.SIGTERM, signal.SIGHUP)
 
     def __init__(self):
-        self.came = False
+        self.came = self.ends = False
 
     def _came(self, *_):
-        if self.came:
+        if self.came or self.ends:
             raise KeyboardInterrupt
         self.came = True
+
+    @contextlib.contextmanager
+    def at_once(self):
+        """Lets the first signal end the work too, while this is entered."""
+        self.ends = True
+        try:
+            yield
+        finally:
+            self.ends = False
 
     @contextlib.contextmanager
     def caught(self):

@@ -18,9 +18,20 @@ def tube_of(server, name):
     return numbers(server.name, f"stats-tube {name}", found, OF_TUBE)
 
 
+def job_of(server, job_id):
+    """Returns the statistics of a job; a fault if there is no such job."""
+    found = server.job(job_id)
+    if found is None:
+        raise Fault(f"{server.name} has no job {job_id}")
+    return found
+
+
 def stats(server, asked):
-    """Returns the statistics of the server or of a tube, with the protocol's keys."""
-    found = tube_of(server, asked.tube) if asked.tube else server.statistics()
+    """Returns the statistics of the server, of a tube or of a job, with the protocol's keys."""
+    if asked.id is not None:
+        found = job_of(server, asked.id)
+    else:
+        found = tube_of(server, asked.tube) if asked.tube else server.statistics()
     return Result(found, [f"{key}: {value}" for key, value in found.items()])
 
 
@@ -35,34 +46,33 @@ def tubes(server, asked):
 
 
 def peek(server, asked):
-    """Returns the first job of a state, or of each state."""
-    tube_of(server, asked.tube)
-    server.use(asked.tube)
-    found = [looked_at(server, state) for state in ([asked.state] if asked.state else STATES)]
-    shown = [it for it in found if it]
-    if asked.raw:
-        return raw(server, asked, shown)
-    if not shown:
-        return Result([], [f"no {asked.state or 'ready, delayed or buried'} job in {asked.tube}"])
-    return Result([record for record, _ in shown], "\n\n".join(lines_of(*it) for it in shown).split("\n"))
+    """Returns a job by its id, or the first job of a state of a tube, or of each state."""
+    if asked.id is not None:
+        jobs = [server.peek_job(asked.id)]
+        lacks = f"job {asked.id}"
+    else:
+        tube_of(server, asked.tube)
+        server.use(asked.tube)
+        jobs = [server.peek(state) for state in ([asked.state] if asked.state else STATES)]
+        lacks = f"{asked.state or 'ready, delayed or buried'} job in {asked.tube}"
+    found = [it for it in jobs if it]
+    if not found and (asked.raw or asked.id is not None):
+        raise Fault(f"{server.name} has no {lacks}")
+    return raw(found[0]) if asked.raw else shown(server, found, lacks)
 
 
-def raw(server, asked, shown):
-    """Writes the body of the job to standard output unchanged."""
-    if not shown:
-        raise Fault(f"{server.name} has no {asked.state} job in {asked.tube}")
-    (_, body), = shown
-    sys.stdout.buffer.write(body)
+def raw(job):
+    """Writes the body of a job to standard output unchanged."""
+    sys.stdout.buffer.write(job.body)
     return Result(None, [])
 
 
-def looked_at(server, state):
-    """Returns the first job of a state as a record, and its body; None if there is none."""
-    job = server.peek(state)
-    if not job:
-        return None
-    about = server.job(job.id) or {"id": job.id, "state": state}
-    return {**about, **body_of(job.body)}, job.body
+def shown(server, jobs, lacks):
+    """Returns jobs as records and as lines; if there are none, which jobs the server lacks."""
+    if not jobs:
+        return Result([], [f"no {lacks}"])
+    records = [{**(server.job(it.id) or {"id": it.id}), **body_of(it.body)} for it in jobs]
+    return Result(records, "\n\n".join(lines_of(*it) for it in zip(records, (job.body for job in jobs))).split("\n"))
 
 
 def body_of(body):

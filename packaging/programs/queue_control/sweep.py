@@ -2,6 +2,7 @@
 """
 from queue_client import Fault
 from queue_client.reading import COUNTS
+from queue_client.words import LARGEST_NUMBER
 
 from .progress import Progress
 from .results import Result, by_state, jobs
@@ -44,6 +45,23 @@ class Sweep:
             if self.asked.interrupts.came:
                 raise Fault("interrupted")
         return found
+
+
+def delay_of(state, about):
+    """Returns the delay for a put, so that the job is not ready too early. The server rounds `time-left` down."""
+    return min(about["time-left"] + 1, LARGEST_NUMBER) if state == "delayed" else 0
+
+
+def give_back(server, state, about, delay):
+    """Brings a job that is reserved at a server back into its state. If the connection is lost, the server makes it
+    ready."""
+    try:
+        if state == "buried":
+            server.bury(about["id"], about["pri"])
+        else:
+            server.release(about["id"], about["pri"], delay)
+    except Fault:
+        pass
 
 
 def planned(about, asked):
