@@ -24,11 +24,12 @@ import metrics_runs
 import move_runs
 import runner
 import server_runs
+import top_runs
 import web_runs
 from beanstalkd import Beanstalkd
 from servers import Server
 
-MODULES = [canned_runs, server_runs, ctl_runs, move_runs, web_runs, metrics_runs, browser_runs]
+MODULES = [canned_runs, server_runs, top_runs, ctl_runs, move_runs, web_runs, metrics_runs, browser_runs]
 
 # The runs of the gate: they neither wait for a moment nor measure how long something takes.
 GATE = re.compile(r"_(ctl|move)_(?!.*interrupted)|_move$|_drain_(of|by_no)|_metrics_|_web_(bad|labels|history|page|paths|limits|names|forged)")

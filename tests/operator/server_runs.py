@@ -2,8 +2,6 @@
 import contextlib
 import json
 import os
-import pty
-import signal
 import socket
 import subprocess
 import sys
@@ -66,24 +64,6 @@ def bqd_run_all_seats_taken(bqd):
         address = f"127.0.0.1:{server.port}"
         wanted = f"bqd-top: {address} gave no answer within 0.3 seconds; are all of its seats taken?\n"
         same(top("--once", "--timeout", "0.3", address), Ended(1, b"", wanted.encode()))
-
-
-def bqd_run_in_place(bqd):
-    """On a terminal, pictures replace each other, the first at once, until an interrupt; the status is then 0."""
-    with Server(bqd) as server:
-        own, other = pty.openpty()
-        command = [sys.executable, PROGRAMS / "bqd-top", "--interval", "0.2", f"127.0.0.1:{server.port}"]
-        with subprocess.Popen(command, stdout=other, stderr=subprocess.PIPE) as process:
-            os.close(other)
-            shown = b""
-            while shown.count(b"\033[H") < 3:
-                shown += os.read(own, 4096)
-            process.send_signal(signal.SIGINT)
-            same((process.wait(10), process.stderr.read()), (0, b""))
-        os.close(own)
-        assert shown.startswith(b"\033[2J\033[H127.0.0.1:"), shown
-        first, second = shown.split(b"\033[H")[1:3]
-        assert b"- put/s" in first and b"0.0 put/s" in second and b"default" in second, shown
 
 
 def bqd_run_drain(bqd):

@@ -1,0 +1,1 @@
+"""The parts of bqd-top that show a picture in place on a terminal."""
