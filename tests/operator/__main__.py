@@ -20,6 +20,7 @@ sys.path.insert(1, str(pathlib.Path(__file__).resolve().parent.parent / "runs"))
 import browser_runs
 import canned_runs
 import ctl_runs
+import dump_runs
 import metrics_runs
 import move_runs
 import runner
@@ -29,7 +30,7 @@ import web_runs
 from beanstalkd import Beanstalkd
 from servers import Server
 
-MODULES = [canned_runs, server_runs, top_runs, ctl_runs, move_runs, web_runs, metrics_runs, browser_runs]
+MODULES = [canned_runs, server_runs, top_runs, ctl_runs, dump_runs, move_runs, web_runs, metrics_runs, browser_runs]
 
 # The runs of the gate: they neither wait for a moment nor measure how long something takes.
 GATE = re.compile(r"_(ctl|move)_(?!.*interrupted)|_move$|_drain_(of|by_no)|_metrics_|_web_(bad|labels|history|page|paths|limits|names|forged)")

@@ -203,7 +203,7 @@ def move(source, asked):
 
 def result_of(work, counts, about, to_tube):
     """Returns what was moved or would be, which jobs may be at both places, and which were refused."""
-    record, lines = told(work.asked, "moved", counts, about, f" to {to_tube} of {work.target.name}")
+    record, lines, _ = told(work.asked, "moved", counts, about, f" to {to_tube} of {work.target.name}")
     doubled = [{"source": here, "target": there} for here, there in work.doubled]
     stay = [f"job {it} of {work.source.name} stays: it is larger than {work.target.name} takes" for it in work.stays.ids]
     return Result({**record, "doubled": doubled, "refused": work.stays.ids},

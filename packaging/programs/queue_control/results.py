@@ -1,7 +1,8 @@
 """What a command did, as a record for scripts and as lines for a person."""
 import collections
 
-Result = collections.namedtuple("Result", "record lines")
+# `aside` is true if standard output has jobs, so that the result goes to standard error.
+Result = collections.namedtuple("Result", "record lines aside", defaults=[False])
 
 
 class BadUse(Exception):

@@ -1,4 +1,5 @@
-"""Processes the jobs of a tube one after the other, until none is left or it is interrupted. clear and move share it.
+"""Processes the jobs of a tube one after the other, until none is left or it is interrupted. clear, move and dump share
+it.
 """
 from queue_client import Fault
 from queue_client.reading import COUNTS
@@ -76,7 +77,7 @@ def told(asked, word, counts, about, to=""):
     """Returns what was deleted or moved, or would be, and how many reserved jobs stay, if that is known."""
     count = sum(counts.values())
     reserved = about[COUNTS["reserved"]] if about else None
-    verb = {"deleted": "would delete", "moved": "would move"}[word] if asked.dry_run else word
+    verb = {"deleted": "would delete", "moved": "would move", "dumped": "would dump"}[word] if asked.dry_run else word
     line = f"{verb} {jobs(count)} of {asked.tube}{to}" + (f": {by_state(counts)}" if count else "")
     if reserved:
         line += f"; {jobs(reserved, 'reserved')} {'stays' if reserved == 1 else 'stay'}"
