@@ -2,6 +2,7 @@
 import collections
 import http.client
 import json
+import os
 import re
 import socket
 import subprocess
@@ -17,11 +18,12 @@ Answer = collections.namedtuple("Answer", "status headers body")
 class Web:
     """bqd-web for the server at that port, with these words. It is ended when this is left."""
 
-    def __init__(self, server_port, *words, listen=None):
+    def __init__(self, server_port, *words, listen=None, env=None):
         self.port = free_port()
         listen = listen or f"127.0.0.1:{self.port}"
         command = [sys.executable, PROGRAMS / "bqd-web", "--server", f"127.0.0.1:{server_port}", "--listen", listen, *words]
-        self.process = subprocess.Popen(command, stdout=subprocess.PIPE, stderr=subprocess.PIPE)
+        self.process = subprocess.Popen(command, stdout=subprocess.PIPE, stderr=subprocess.PIPE,
+                                        env={**os.environ, **(env or {})})
         self.told = self.process.stdout.readline()
 
     def __enter__(self):

@@ -111,6 +111,56 @@ def run_web_page_makes_no_markup():
         same([it for it in text.split('"') if it.startswith("http")], ["http://www.w3.org/2000/svg"] * text.count("http"))
 
 
+def run_web_history_of_restarts():
+    """A restart is seen by a counter that fell, by a connection that was not counted, or by beanstalkd's id."""
+    sys.path.insert(0, str(PROGRAMS))
+    from queue_web.watcher import is_restarted
+
+    before = {"total-jobs": 5, "job-timeouts": 2, "total-connections": 9}
+    for changed, is_new, wanted in [
+        ({}, False, False), ({"total-jobs": 6}, False, False), ({"total-jobs": 4}, False, True), ({"job-timeouts": 1}, False, True),
+        ({"total-connections": 10}, True, False), ({}, True, True), ({"total-connections": 8}, False, True), ({"id": "a"}, False, True),
+    ]:
+        same((changed, is_new, is_restarted(before, {**before, **changed}, is_new)), (changed, is_new, wanted))
+    same(is_restarted({**before, "id": "a"}, {**before, "id": "a"}, False), False)
+
+
+def each_run_web_restart(start):
+    """After a restart it is known when that was and how many jobs were gone; a server that was only away is none."""
+    port = free_port()
+    with Web(port, "--seats", "77") as page:
+        with start(port=port) as server:
+            same([page.is_up()[it] for it in ["restart", "seats"]], [None, 77])
+            teller = Teller(server)
+            for state in ["ready", "buried", "ready"]:
+                teller.put(b"a", state=state)
+            page.reads(lambda it: it["up"] and (it["ready"], it["buried"]) == (2, 1))
+        page.reads(lambda it: not it["up"])
+        begun = time.time()
+        with start(port=port) as server:
+            found = page.reads(lambda it: it["up"])
+            same((found["restart"]["jobs"], begun - 1 <= found["restart"]["time"] <= time.time() + 1), (3, True))
+            same({it["put_rate"] for it in found["tubes"]} <= {0, None}, True)
+            Teller(server).put(b"a")
+            page.reads(lambda it: it["up"] and it["ready"] == 1)
+        page.reads(lambda it: not it["up"])
+        with start(port=port):
+            same(page.reads(lambda it: it["up"])["restart"]["jobs"], 1)
+
+
+def bqd_run_web_seats(bqd):
+    """The number of seats comes from the option, else from the options of the server's service."""
+    with Server(bqd) as server:
+        for words, options, wanted in [
+            (["--seats", "7"], "--seats 256", 7), ([], "--listen 127.0.0.1:1 --seats 256 --event-loop", 256), ([], "--seats=12", 12),
+            ([], "--event-loop", None), ([], "--seats 256x", None), ([], "", None),
+        ]:
+            with Web(server.port, *words, env={"BQD_OPTIONS": options}) as page:
+                same((words, options, page.is_up()["seats"]), (words, options, wanted))
+    for bad in [["--seats", "0"], ["--seats", "many"]]:
+        same(web(*bad).status, 2)
+
+
 def each_run_web_shows(start):
     """The page's numbers, a tube with its first jobs, and the metrics, with jobs in each state."""
     with start() as server, Web(server.port) as page:
@@ -242,7 +292,8 @@ def bqd_run_web_paths(bqd):
             same(page.ask(path, "POST").status, 405)
             same(page.ask(path, "DELETE").status, 405)
         for path in ["/page.html", "/../bqd-web", "/..%2f..%2fetc/passwd", "/%2e%2e/", "//etc/passwd", "/etc/passwd", "/api", "/queue_web",
-                     "/page.js/", "/api/tube/../../x", "/api/kick", "/api/delete", "/api/pause", "/api/unpause"]:
+                     "/page.js/", "/api/tube/../../x", "/api/kick", "/api/delete", "/api/pause", "/api/unpause",
+                     "/api/kick-job", "/api/clear"]:
             found = page.ask(path, "POST" if path.startswith("/api/") else "GET")
             same((path, found.status, found.body), (path, 404, b"there is nothing here\n"))
             same({it: found.headers[it] for it in SECURE}, SECURE)
@@ -334,16 +385,64 @@ def each_run_web_actions(start):
             found = page.act(what, asked)
             same((found.status, json.loads(found.body)), (status, told))
         same([it[1] for it in teller.jobs().values()], ["ready", "ready"])
+        for what, asked, status, told in [
+            ("kick-job", {"tube": "mail", "id": "1"}, 409, {"failed": "job 1 of mail is not buried or delayed any more"}),
+            ("clear", {"tube": "mail", "state": "buried", "count": 9}, 200, {"done": "deleted 0 buried jobs of mail", "count": 0}),
+            ("clear", {"tube": "none", "state": "ready", "count": 9}, 409, {"failed": "there is no tube none any more"}),
+        ]:
+            found = page.act(what, asked)
+            same((found.status, json.loads(found.body)), (status, told))
         for what, asked in [("kick", {"tube": "mail"}), ("kick", {"tube": "mail", "count": 0}), ("kick", {"tube": "mail", "count": 1001}),
                             ("kick", {"tube": "mail", "count": True}), ("kick", {"tube": "a b", "count": 1}), ("kick", {"tube": 5, "count": 1}),
                             ("kick", {"tube": "mail\r\ndelete 1", "count": 1}), ("pause", {"tube": "mail", "seconds": 0}), ("unpause", {}),
-                            ("delete", {"tube": "mail", "id": "one"}), ("delete", {"tube": "mail", "id": None}), ("kick", []), ("kick", 7)]:
+                            ("kick-job", {"tube": "mail", "id": 1}), ("kick-job", {"tube": "mail"}), ("clear", {"tube": "mail", "count": 1}),
+                            ("clear", {"tube": "mail", "state": "reserved", "count": 1}), ("clear", {"tube": "mail", "state": "ready", "count": 1001}),
+                            ("clear", {"tube": "mail", "state": ["ready"], "count": 1}), ("delete", {"tube": "mail", "id": "one"}), ("delete", {"tube": "mail", "id": None}), ("kick", []), ("kick", 7)]:
             same((asked, page.act(what, asked).status), (asked, 400))
         for body in [b"", b"{", b"[" * 4000, b"\xff"]:
             found = page.ask("/api/kick", "POST", body, content_type="application/json", origin=f"http://127.0.0.1:{page.port}", x_bqd_token=page.token())
             same((body[:9], found.status), (body[:9], 400))
         same(len(teller.jobs()), 2)
-    same(page.errors, b"")
+    # One line for each action that was carried out or failed, and none for those that were malformed.
+    told = ["kicked 2 of mail", "paused mail for 600 seconds", "mail is not paused any more", "deleted job 3 of mail",
+            "delete failed: job 3 is not in mail any more, or a worker has it", "delete failed: job 1 is not in post any more, or a worker has it",
+            "kick failed: there is no tube none any more", "pause failed: there is no tube none any more",
+            "unpause failed: there is no tube none any more", "kick-job failed: job 1 of mail is not buried or delayed any more",
+            "deleted 0 buried jobs of mail", "clear failed: there is no tube none any more"]
+    same(page.errors.decode().splitlines(), [f"bqd-web: 127.0.0.1: {it}" for it in told])
+
+
+def each_run_web_buried(start):
+    """Buried jobs are listed, some ids at a time, kicked by their ids, and deleted by state, up to the number asked for."""
+    with start() as server, Web(server.port, "--allow-actions") as page:
+        teller = Teller(server)
+        # The first one to be buried has not the smallest id.
+        late = teller.put(b"late")
+        for number in range(2100):
+            teller.put(b"x", state="buried" if number in (3, 4, 2050) else "ready")
+        teller.put(b"y", tube=b"post", state="buried")
+        same([teller.ask(b"reserve-job %d" % late)[0][:8], teller.ask(b"bury %d 0" % late)[0]], [b"RESERVED", b"BURIED"])
+        page.reads(lambda it: it["up"] and it["buried"] == 5)
+
+        def found(words):
+            answer = page.json(f"/api/buried?name=mail{words}")
+            return [it["id"] for it in answer["jobs"]], answer["first"], answer["next"]
+
+        same(found(""), (["5", "6"], "5", "2005"))
+        same(found("&from=2005"), (["2052"], "2005", None))
+        same(found("&from=1&until=4"), (["1"], "1", None))
+        same(found("&from=1&until=0"), ([], "1", None))
+        job, = page.json("/api/buried?name=mail&from=1&until=1")["jobs"]
+        same([job[it] for it in ["id", "state", "text", "kind", "size"]], ["1", "buried", "late", "text", 4])
+        for words, status in [("name=none", 404), ("name=mail&from=x", 400), ("name=mail&from=-1", 400), ("name=mail&until=1e9", 400), ("", 404)]:
+            same((words, page.ask(f"/api/buried?{words}").status), (words, status))
+        same(json.loads(page.act("kick-job", {"tube": "mail", "id": "6"}).body), {"done": "kicked job 6 of mail"})
+        same(page.act("kick-job", {"tube": "post", "id": "5"}).status, 409)
+        same((teller.job(5)[1], teller.job(6)[1]), ("buried", "ready"))
+        same(json.loads(page.act("clear", {"tube": "mail", "state": "buried", "count": 2}).body), {"done": "deleted 2 buried jobs of mail", "count": 2})
+        same(json.loads(page.act("clear", {"tube": "mail", "state": "buried", "count": 2}).body), {"done": "deleted 1 buried job of mail", "count": 1})
+        same(json.loads(page.act("clear", {"tube": "mail", "state": "ready", "count": 1000}).body)["count"], 1000)
+        page.reads(lambda it: it["up"] and (it["ready"], it["buried"]) == (1098, 1))
 
 
 def bqd_run_web_forged_actions(bqd):
@@ -368,7 +467,8 @@ def bqd_run_web_forged_actions(bqd):
             ({"content_type": None}, 415),
             ({"host": "evil.example", "origin": "http://evil.example"}, 421),
         ]:
-            same((changed, page.act("delete", wanted, **changed).status), (changed, status))
+            for what, more in [("delete", {}), ("kick-job", {}), ("clear", {"state": "ready", "count": 1})]:
+                same((what, changed, page.act(what, {**wanted, **more}, **changed).status), (what, changed, status))
         same(page.ask("/api/delete").status, 404)
         same(len(teller.jobs()), 1)
         same(page.act("delete", wanted, sec_fetch_site="same-origin").status, 200)

@@ -78,6 +78,15 @@ class Server:
         self._send(command)
         return self._statistics(command, may_lack=True)
 
+    def jobs(self, ids):
+        """Returns the statistics of these jobs; None for a job that does not exist."""
+        told = []
+        for first in range(0, len(ids), TOGETHER):
+            commands = [f"stats-job {it}" for it in ids[first : first + TOGETHER]]
+            self._send(*commands)
+            told += [self._statistics(it, may_lack=True) for it in commands]
+        return told
+
     def use(self, tube):
         """Selects the tube for puts, peeks and kicks. It exists from then on."""
         self._send(f"use {tube}")

@@ -1,13 +1,17 @@
 """The paths that bqd-web serves."""
 import asyncio
+import contextlib
 import hmac
 import json
 import pathlib
+import re
 import secrets
+import sys
 
 from queue_client import Fault, STATES
 from queue_client.picture import numbers_of, picture, rates_of, RATES
 from queue_client.texts import TUBE_NAME
+from queue_client.version import VERSION
 from queue_client.words import LARGEST_NUMBER
 
 from . import history
@@ -29,8 +33,10 @@ FILES = {
 # The placeholder in the page for the token of the actions.
 TOKEN = b"@TOKEN@"
 
-# The largest number of jobs that one kick of the page makes ready.
-MOST_KICKED = 1000
+# The largest number of jobs that one action of the page kicks or deletes.
+MOST_KICKED = MOST_CLEARED = 1000
+
+LARGEST_ID = (1 << 64) - 1
 
 
 def as_json(value, status=200):
@@ -47,8 +53,10 @@ class Calls:
         self.pages = {path: Answer(200, kind, (FOLDER / name).read_bytes()) for path, (name, kind) in FILES.items()}
         self.pages["/"] = self.pages["/"]._replace(body=self.pages["/"].body.replace(TOKEN, self.token.encode()))
         self.shown = self.view = None
-        self.read = {"/metrics": self._metrics, "/api/state": self._state, "/api/sparks": self._sparks, "/api/tube": self._tube}
-        acts = {"kick": self._kick, "pause": self._pause, "unpause": self._unpause, "delete": self._delete}
+        self.read = {"/metrics": self._metrics, "/api/state": self._state, "/api/sparks": self._sparks, "/api/tube": self._tube,
+                     "/api/buried": self._buried}
+        acts = {"kick": self._kick, "pause": self._pause, "unpause": self._unpause, "delete": self._delete,
+                "kick-job": self._kick_job, "clear": self._clear}
         self.acts = {f"/api/{name}": act for name, act in acts.items()} if actions else {}
 
     async def answer(self, request):
@@ -71,7 +79,8 @@ class Calls:
         """Returns what is known of the server and its tubes. It is computed once for each reading."""
         view = self.watcher.view
         if view is not self.view:
-            known = {"server": self.server, "up": view.up, "since": round(view.since, 3), "why": view.why}
+            known = {"server": self.server, "up": view.up, "since": round(view.since, 3), "why": view.why, "version": VERSION,
+                     "seats": view.seats, "restart": view.restart and {"time": round(view.restart.time, 3), "jobs": view.restart.jobs}}
             self.shown = as_json({**known, **(picture(self.server, view.earlier, view.later) if view.up else {})})
             self.view = view
         return self.shown
@@ -94,6 +103,20 @@ class Calls:
         counts = {"puts": now["total-jobs"], "deletes": now["cmd-delete"], "pauses": now.get("cmd-pause-tube")}
         return as_json({**known, **counts, "every": history.EVERY, "points": self.watcher.points(name), "first": first})
 
+    async def _buried(self, request):
+        """Returns some of the buried jobs of a tube."""
+        name, first, until = request.words.get("name", ""), request.words.get("from"), request.words.get("until")
+        if not all(it is None or re.fullmatch("[0-9]{1,19}", it) for it in (first, until)):
+            return text(400, "the ids are malformed")
+        view = self.watcher.view
+        if not view.up or name not in view.later.tubes:
+            return as_json({"failed": view.why or f"there is no tube {name} now"}, 404 if view.up else 503)
+        try:
+            found = await asyncio.wrap_future(self.watcher.search(name, first and int(first), until and int(until)))
+        except (Fault, Busy) as fault:
+            return as_json({"failed": str(fault) or "too much is asked at once"}, 503)
+        return as_json(found or {"failed": f"there is no tube {name} any more"}, 200 if found else 404)
+
     async def _act(self, request):
         """Carries out an action if the request comes from the page that this server served."""
         refused = self._forged(request)
@@ -107,8 +130,18 @@ class Calls:
         try:
             done = await asyncio.wrap_future(self.watcher.ask(task))
         except (Fault, Busy) as fault:
-            return as_json({"failed": str(fault) or "too much is asked at once"}, 503)
+            done = {"failed": str(fault) or "too much is asked at once"}
+            self._log(request, done)
+            return as_json(done, 503)
+        self._log(request, done)
         return as_json(done, 409 if "failed" in done else 200)
+
+    @staticmethod
+    def _log(request, done):
+        """Writes what an action did, or why it failed, to the log. Behind a proxy the address is the proxy's."""
+        what = done["done"] if "done" in done else f"{request.path.rpartition('/')[2]} failed: {done['failed']}"
+        with contextlib.suppress(OSError):
+            print(f"bqd-web: {request.peer or 'unix socket'}: {what}", file=sys.stderr, flush=True)
 
     def _forged(self, request):
         """Returns the answer to a request from another site's page, or None if the request is genuine."""
@@ -149,13 +182,44 @@ class Calls:
     @staticmethod
     def _delete(asked):
         """Deletes the job that was shown, if it is still in that tube and in a state in which it can be shown."""
-        name, job_id = tube_of(asked), number_of({"id": int(asked["id"])}, "id", 1, (1 << 64) - 1)
+        name, job_id = tube_of(asked), id_of(asked)
 
         def task(server):
             about = server.job(job_id)
             if not about or about.get("tube") != name or about.get("state") not in STATES or not server.delete(job_id):
                 return {"failed": f"job {job_id} is not in {name} any more, or a worker has it"}
             return {"done": f"deleted job {job_id} of {name}"}
+        return task
+
+    @staticmethod
+    def _kick_job(asked):
+        """Kicks the job that was shown, if it is still in that tube."""
+        name, job_id = tube_of(asked), id_of(asked)
+
+        def task(server):
+            about = server.job(job_id)
+            if not about or about.get("tube") != name or not server.kick_job(job_id):
+                return {"failed": f"job {job_id} of {name} is not buried or delayed any more"}
+            return {"done": f"kicked job {job_id} of {name}"}
+        return task
+
+    @staticmethod
+    def _clear(asked):
+        """Deletes the first jobs of a state, and reports how many."""
+        name, state, count = tube_of(asked), asked["state"], number_of(asked, "count", 1, MOST_CLEARED)
+        if state not in STATES:
+            raise ValueError
+
+        def task(server):
+            if server.tube(name) is None:
+                return {"failed": f"there is no tube {name} any more"}
+            server.use(name)
+            deleted, job = 0, server.peek(state)
+            while job and deleted < count:
+                is_deleted, job = server.delete_and_peek(job.id, state)
+                deleted += is_deleted
+            server.use(DEFAULT)
+            return {"done": f"deleted {deleted} {state} {'job' if deleted == 1 else 'jobs'} of {name}", "count": deleted}
         return task
 
 
@@ -169,6 +233,13 @@ def tube_of(asked):
     if not isinstance(asked["tube"], str) or not TUBE_NAME.fullmatch(asked["tube"]):
         raise ValueError
     return asked["tube"]
+
+
+def id_of(asked):
+    """Returns the id of an action, which is text because a number of the page is not exact."""
+    if not isinstance(asked["id"], str):
+        raise ValueError
+    return number_of({"id": int(asked["id"])}, "id", 1, LARGEST_ID)
 
 
 def number_of(asked, key, least, most):

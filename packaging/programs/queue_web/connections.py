@@ -42,7 +42,8 @@ REASONS = {200: "OK", 400: "Bad Request", 403: "Forbidden", 404: "Not Found", 40
            431: "Request Header Fields Too Large", 500: "Internal Server Error", 501: "Not Implemented",
            503: "Service Unavailable"}
 
-Request = collections.namedtuple("Request", "method path words headers body")
+# `peer` is the address of the client, empty at a Unix socket.
+Request = collections.namedtuple("Request", "method path words headers body peer")
 
 Answer = collections.namedtuple("Answer", "status kind body")
 
@@ -144,7 +145,7 @@ class Connections:
         """Answers the next request. Returns whether the connection is kept."""
         request, stays = None, False
         try:
-            request, stays = await self._request(reader)
+            request, stays = await self._request(reader, writer)
             answer = await self._answered(request)
         except Bad as bad:
             answer = bad.answer
@@ -153,7 +154,7 @@ class Connections:
         self._begins(writer)
         return stays
 
-    async def _request(self, reader):
+    async def _request(self, reader, writer):
         """Reads the next request, and whether the connection is kept after it."""
         try:
             data = await asyncio.wait_for(reader.readuntil(b"\r\n\r\n"), REQUEST_WITHIN)
@@ -162,7 +163,8 @@ class Connections:
         method, target, headers, stays = head_of(data)
         size = body_size(headers)
         body = await asyncio.wait_for(reader.readexactly(size), REQUEST_WITHIN) if size else b""
-        return Request(method, *words_of(target), headers, body), stays
+        peer = writer.get_extra_info("peername")
+        return Request(method, *words_of(target), headers, body, peer[0] if isinstance(peer, tuple) else ""), stays
 
     async def _answered(self, request):
         """Returns the answer to a request. An error in this program ends neither it nor the connection."""

@@ -9,7 +9,8 @@ import traceback
 
 from queue_client import Fault, Refused, STATES, Server
 from queue_client.bodies import readable
-from queue_client.reading import Reading
+from queue_client.reading import COUNTS, PUTS, TIMEOUTS, Reading
+from queue_client.server import TOGETHER
 
 from .history import History
 
@@ -22,9 +23,16 @@ LOOK_SERVES = 0.9
 # The largest number of tasks that may wait for the connection.
 MOST_TASKS = 64
 
+# How many ids one search for buried jobs looks at, how many jobs it finds at most, and how many searches may wait.
+SEARCHED, MOST_FOUND, MOST_SEARCHES = 2000, 50, 4
+
 # What is known of the server: whether it answers, since when (by the clock) that is so, why it doesn't, and its last
-# two readings. `took` is how many seconds the last one took.
-View = collections.namedtuple("View", "up since why earlier later took")
+# two readings. `took` is how many seconds the last one took, `seats` how many seats the server has, if that is known,
+# `started` since when this run of it is known, and `restart` the last restart that was seen, if there was one.
+View = collections.namedtuple("View", "up since why earlier later took seats started restart")
+
+# A restart: when it was seen, and how many jobs the server had at the last reading before it.
+Restart = collections.namedtuple("Restart", "time jobs")
 
 # The tube that each connection starts with, and which exists as long as the connection.
 DEFAULT = "default"
@@ -37,10 +45,11 @@ class Busy(Exception):
 class Watcher:
     """Watches a server. `view` is what is known of it; a view that was read does not change any more."""
 
-    def __init__(self, host, port, patience):
+    def __init__(self, host, port, patience, seats=None):
         self.address, self.patience = (host, port), patience
-        self.server = None
-        self.view = View(False, time.time(), "the server has not been asked yet", None, None, None)
+        self.server, self.last, self.searches = None, None, 0
+        why = "the server has not been asked yet"
+        self.view = View(False, time.time(), why, None, None, None, seats, None, None)
         self.history, self.looks = History(), {}
         self.tasks = queue.Queue(MOST_TASKS)
         self.lock = threading.Lock()
@@ -62,6 +71,24 @@ class Watcher:
     def look(self, name):
         """Requests the first job of each state of a tube. Simultaneous requests share one look."""
         return self.ask(lambda server: self._looked(server, name))
+
+    def search(self, name, first, until):
+        """Requests the buried jobs of a tube, among the ids from `first` to `until`; by default among all from that of
+        the first buried job on."""
+        if self.searches >= MOST_SEARCHES:
+            raise Busy
+        self.searches += 1
+
+        def search(server):
+            try:
+                return searched(server, name, first, until)
+            finally:
+                self.searches -= 1
+        try:
+            return self.ask(search)
+        except Busy:
+            self.searches -= 1
+            raise
 
     def sparks(self):
         """Returns the sparkline of each tube."""
@@ -91,25 +118,35 @@ class Watcher:
 
     def _read(self):
         """Takes a reading. A lost connection is made anew."""
-        begun = time.monotonic()
+        begun, is_new = time.monotonic(), not self.server
         try:
             if not self.server:
                 self.server = Server(*self.address, self.patience)
             later = Reading(self.server)
-            since = self.view.since if self.view.up else time.time()
-            self.view = View(True, since, None, self.view.later if self.view.up else None, later, time.monotonic() - begun)
+            self._is_up(later, is_new, time.monotonic() - begun)
         except Fault as fault:
             self._is_down(fault)
         with self.lock:
             self.history.add(self.view.later, time.monotonic())
         self.looks = {it: look for it, look in self.looks.items() if time.monotonic() - look[0] < LOOK_SERVES}
 
+    def _is_up(self, later, is_new, took):
+        """Records a reading, over a new connection or not."""
+        view, now = self.view, time.time()
+        earlier = view.later if view.up else None
+        view = view._replace(up=True, since=view.since if view.up else now, why=None, took=took, later=later, started=view.started or now)
+        if self.last and is_restarted(self.last, later.server, is_new):
+            had = sum(self.last[it] for it in COUNTS.values())
+            # Nothing of the earlier run is compared with this one.
+            earlier, view = None, view._replace(started=now, restart=Restart(now, had))
+        self.view, self.last = view._replace(earlier=earlier), later.server
+
     def _is_down(self, fault):
         if self.server:
             self.server.close()
             self.server = None
         since = time.time() if self.view.up else self.view.since
-        self.view = View(False, since, str(fault), None, None, None)
+        self.view = self.view._replace(up=False, since=since, why=str(fault), earlier=None, later=None, took=None)
 
     def _serve(self, until):
         """Runs tasks until that moment."""
@@ -141,6 +178,39 @@ class Watcher:
         return found
 
 
+def is_restarted(before, now, is_new):
+    """Returns true if a server's statistics show that it is not the one that it was: another id, which beanstalkd has, or
+    a counter that fell. A new connection must have been counted."""
+    if before.get("id") != now.get("id"):
+        return True
+    connections = now.get("total-connections", 0) - is_new < before.get("total-connections", 0)
+    return connections or any(now[it] < before[it] for it in (PUTS, TIMEOUTS))
+
+
+def searched(server, name, first, until):
+    """Returns buried jobs of a tube, found by looking at some of the ids: the protocol shows only the first one. `next` is
+    where to go on, None if all ids were looked at."""
+    if server.tube(name) is None:
+        return None
+    last = server.statistics()[PUTS]
+    if first is None:
+        server.use(name)
+        try:
+            job = server.peek("buried")
+        finally:
+            server.use(DEFAULT)
+        first = job.id if job else last + 1
+    until = max(last, first) if until is None else until
+    found, at = [], first
+    while at <= until and at < first + SEARCHED and len(found) < MOST_FOUND:
+        ids = range(at, min(at + TOGETHER, until + 1, first + SEARCHED))
+        found += [it for it in server.jobs(ids) if it and (it.get("tube"), it.get("state")) == (name, "buried")]
+        at += len(ids)
+    jobs = [(server.peek_job(it["id"]), it) for it in found]
+    return {"first": str(first), "until": str(until), "next": str(at) if at <= until else None,
+            "jobs": [record_of(job, about) for job, about in jobs if job]}
+
+
 def looked(server, name):
     """Returns the first job of each state of a tube. This does not create a tube that has gone."""
     if server.tube(name) is None:
@@ -157,6 +227,10 @@ def first_of(server, state):
     job = server.peek(state)
     if not job:
         return None
-    about = server.job(job.id) or {"id": job.id, "state": state}
+    return record_of(job, server.job(job.id) or {"id": job.id, "state": state})
+
+
+def record_of(job, about):
+    """Returns a job as a record, with the beginning of its body."""
     body = readable(job.body, width=8)
     return {**about, "id": str(job.id), "kind": body.kind, "text": body.text, "shown": body.shown, "size": body.size}
