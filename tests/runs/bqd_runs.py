@@ -149,6 +149,25 @@ def run_words_of_beanstalkd(bqd):
         client.asks(b"put 0 0 9 3\r\nabc\r\n", b"INSERTED 1\r\n")
 
 
+# Lines to which beanstalkd answers something else, as docs/PROTOCOL.md says, or which it does not answer at all.
+OTHERS_THAN_BEANSTALKDS = [
+    (b"UNKNOWN_COMMAND\r\n", [b"quitx", b"statsx", b"reservex", b"list-tubesx", b"\0", b"\0list-tubes", b"list-tubes\0", b"quit\0"]),
+    (b"BAD_FORMAT\r\n", [b"delete", b"kick", b"kick 1x", b"kick -1", b"kick +1", b"kick  1", b"kick 1 1", b"quit 1", b"kick 4294967296"]),
+    (b"BAD_FORMAT\r\n", [b"reserve-with-timeout " + it for it in (b"-1", b"-0", b"1x", b"x1", b"", b"4294967296")]),
+    # The same as beanstalkd's.
+    (b"BAD_FORMAT\r\n", [b"kick x1", b"kick ", b"stats x", b"use a\0b", b"delete 1\0"]),
+]
+
+
+def run_lines_unlike_beanstalkds(bqd):
+    """Lines that are no command, or a command with a word that is no number, are answered as the protocol says."""
+    with Server(bqd, "--seats", "1") as server:
+        client = server.client()
+        for answer, lines in OTHERS_THAN_BEANSTALKDS:
+            for line in lines:
+                client.asks(line + b"\r\nlist-tube-used\r\n", answer + b"USING default\r\n")
+
+
 def run_numbers_at_the_ends(bqd):
     """The smallest and the largest number of each option are accepted and take effect."""
     words = ["--seats", "1", "--sessions", "1", "-z", "1", "--max-jobs", "1", "--requeue-delay", "0"]
