@@ -2,6 +2,9 @@
 
     python3 tests/runs --bq PATH --bqd PATH [--engine threads|event-loop] [--lanes N] [NAME ..]
 
+A NAME is a part of a run's name, or a whole name that begins with run_. The name run_by_hand means those that the gate
+leaves out for their time.
+
 Every text and number that is expected here comes from the documents: README.md, docs/OPERATING.md and docs/PROTOCOL.md.
 The last line is 'N passed, M failed', and the status is 1 if a run failed.
 """

@@ -9,7 +9,9 @@ import time
 
 from faults import faults
 from programs import Ended, ended, has_all, has_no_memory, limits, refuses_words, same, tells_version
+from queue_model.engines import of_loop
 from servers import TAKEN, Server, all_wait, free_port
+from waiting_runs import often, time_in_a_second
 
 LOOPBACK = "127.0.0.1"
 
@@ -228,6 +230,26 @@ def run_drain(bqd):
         same(server.end(), Ended(0, b"", b""))
 
 
+@of_loop
+def run_control_line_longer_than_a_buffer(bqd):
+    """A drain after more bytes than one read of the control line takes has its effect, and so does the end after a line.
+    """
+    with Server(bqd, "--seats", "1") as server:
+        client = server.client()
+        client.asks(b"list-tube-used\r\n", b"USING default\r\n")
+        with server.stopped():
+            server.control(b"other\n" * 3500 + b"drain\n")
+        server.tells(b"bqd: draining\n")
+    with Server(bqd, "--seats", "1", "--sessions", "1") as server:
+        client = server.client()
+        client.asks(b"list-tube-used\r\n", b"USING default\r\n")
+        with server.stopped():
+            server.control(b"other\n")
+            server.end_control()
+        client.asks(b"list-tube-used\r\nquit\r\n", b"USING default\r\n")
+        same(server.process.wait(20), 0)
+
+
 def run_ends_with_its_input(bqd):
     """It ends once all seats and standard input have ended, and not earlier."""
     with Server(bqd, "--seats", "1", "--sessions", "1") as server:
@@ -400,9 +422,7 @@ def run_rests(bqd):
         clients[0].sends(b"reserve\r\n")
         clients[1].sends(b"reserve-with-timeout 60\r\n")
         time.sleep(0.1)
-        before = server.time_worked()
-        time.sleep(1)
-        same(server.time_worked() - before < 0.2, True)
+        often(lambda: time_in_a_second(server))
 
 
 def run_seldom_wakes(bqd):
@@ -476,15 +496,21 @@ def inputs():
 
 def run_control_line_of_each_kind(bqd):
     """Whatever standard input is, a drain in it takes effect, clients are served, and its end costs no work."""
-    with inputs() as kinds:
+    with inputs() as kinds, contextlib.ExitStack() as stack:
+        servers = []
         for stdin, has_drain in kinds.values():
-            with Server(bqd, "--seats", "2", stdin=stdin) as server:
-                if has_drain:
-                    server.tells(b"bqd: draining\n")
-                server.client().asks(b"put 0 0 9 1\r\nx\r\n", b"DRAINING\r\n" if has_drain else b"INSERTED 1\r\n")
-                before = server.time_worked()
-                time.sleep(0.3)
-                same(server.time_worked() - before < 0.1, True)
+            server = stack.enter_context(Server(bqd, "--seats", "2", stdin=stdin))
+            if has_drain:
+                server.tells(b"bqd: draining\n")
+            server.client().asks(b"put 0 0 9 1\r\nx\r\n", b"DRAINING\r\n" if has_drain else b"INSERTED 1\r\n")
+            servers.append(server)
+
+        def tried():
+            before = [it.time_worked() for it in servers]
+            time.sleep(1)
+            took = [it.time_worked() - before for it, before in zip(servers, before)]
+            return dict(zip(kinds, took)) if max(took) > 0.05 else None
+        often(tried)
 
 
 def run_control_line_keeps_its_flags(bqd):
@@ -504,9 +530,7 @@ def run_descriptors_refused(bqd):
         first, second = server.client(), server.client()
         first.asks(b"list-tube-used\r\n", b"USING default\r\n")
         second.sends(b"list-tube-used\r\n")
-        before = server.time_worked()
-        time.sleep(1)
-        same(server.time_worked() - before < 0.2, True)
+        often(lambda: time_in_a_second(server))
         first.close()
         second.hears(b"USING default\r\n")
         second.close()
@@ -627,8 +651,9 @@ def run_seats_taken_are_told(bqd):
         second.asks(b"list-tube-used\r\n", b"USING default\r\n")
         server.tells(TAKEN)
         # The seat that is free in between isn't free for a minute.
-        for _ in range(3):
+        for rest in (0, 0.1, 0.5, 1.5):
             second.close()
+            time.sleep(rest)
             second = server.client()
             second.asks(b"list-tube-used\r\n", b"USING default\r\n")
         same(server.is_silent(0.3), True)

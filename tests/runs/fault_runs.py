@@ -6,9 +6,10 @@ import socket
 import time
 
 from faults import faults
-from programs import Ended, same
+from programs import Ended, limits, same
 from queue_model.engines import of_loop, of_threads
 from servers import OTHERS, TAKEN, Server, awaits, threads_with, value
+from waiting_runs import often
 
 # How long a seat sleeps that could not get a resource for a connection, in seconds.
 REST = 0.1
@@ -31,6 +32,22 @@ def run_peers_that_are_gone(bqd):
             client.asks(ASK, ANSWER)
             client.close()
             same(server.end(), Ended(0, b"", b""))
+
+
+def run_many_peers_that_are_gone(bqd):
+    """The next client is served, however many before it are gone, and at once if it is only some."""
+    for many, most in [(20, 0.5), (64, LONG), (200, LONG)]:
+        def tried():
+            with Server(bqd, "--seats", "1", env=faults(accepts=errno.ECONNABORTED, times=many, after=1)) as server:
+                # An event loop has found no client by now.
+                time.sleep(0.1)
+                begun = time.monotonic()
+                client = server.client()
+                client.stream.settimeout(2 * LONG)
+                client.asks(ASK, ANSWER)
+                took = time.monotonic() - begun
+            return None if took <= most else took
+        often(tried)
 
 
 def run_connection_that_would_hold_back(bqd):
@@ -86,6 +103,28 @@ def run_shortages(bqd):
             same(time.monotonic() - begun >= tries * REST, True)
             client.close()
             same(server.end(), Ended(0, b"", told_of(code)))
+
+
+def run_shortage_ends_beside_a_due_moment(bqd):
+    """After a shortage a connection is soon accepted, even if the next moment at which something is due is far away."""
+    with Server(bqd, "--seats", "2", before=limits(NOFILE=(5 + bqd.is_loop, 64))) as server:
+        first, second = server.client(), server.client()
+        first.sends(b"reserve-with-timeout 15\r\n")
+        server.tells(told_of(errno.EMFILE))
+        second.sends(ASK)
+        server.may_open(64)
+        second.stream.settimeout(LONG)
+        second.hears(ANSWER)
+
+
+def run_rest_that_ends_within_a_round(bqd):
+    """The sleep after a shortage ends even if its time has passed before the server waits: the clock runs 5,000 times as
+    fast."""
+    for _ in range(5):
+        with Server(bqd, "--seats", "1", env=faults(accepts=errno.EMFILE, times=3, after=1, clock=5000)) as server:
+            client = server.client()
+            client.stream.settimeout(LONG)
+            client.asks(ASK, ANSWER)
 
 
 def run_faults_of_a_listener(bqd):
@@ -256,10 +295,13 @@ def run_answers_that_nobody_reads(bqd):
 
 
 def run_time_goes_as_it_does(bqd):
-    """A lease of one second ends one second later and not earlier, even while steps are taken all the time."""
+    """A lease of one second ends one second later and not earlier, even while steps are taken all the time, whatever the
+    moment at which it begins."""
     with Server(bqd, "--seats", "3") as server:
         holds, waits, asks = server.client(), server.client(), server.client()
+        least = 3
         for number in range(1, TRIES + 1):
+            time.sleep(0.3)
             begun = time.monotonic()
             holds.asks(
                 b"put 0 0 1 1\r\nx\r\nreserve\r\n",
@@ -272,9 +314,18 @@ def run_time_goes_as_it_does(bqd):
             waits.asks(b"delete %d\r\n" % number, b"RESERVED %d 1\r\nx\r\nDELETED\r\n" % number)
             # The server counts whole milliseconds.
             same(took >= 0.999, True)
-            if took <= 1 + LATE:
+            if took <= 1 + LATE and number >= least:
                 return
     raise AssertionError("the lease was passed on late each time")
+
+
+def run_wall_clock_is_set(bqd):
+    """If the clock of the date is set an hour ahead, no lease ends."""
+    with Server(bqd, "--seats", "2", env=faults(step=3600)) as server:
+        holds, other = server.client(), server.client()
+        holds.asks(b"put 0 0 600 1\r\nx\r\nreserve\r\n", b"INSERTED 1\r\nRESERVED 1 1\r\nx\r\n")
+        time.sleep(2.1)
+        other.asks(b"reserve-with-timeout 0\r\n", b"TIMED_OUT\r\n")
 
 
 def run_serves_without_end(bqd):

@@ -1,22 +1,22 @@
-"""Runs of bqd whose standard error is not read."""
+"""Runs of bqd whose standard error is not read, and notices that are due again."""
 import errno
 import fcntl
 import os
+import pathlib
 import select
+import tempfile
 import threading
 import time
 
 from fault_runs import AT_THE_END, told_of
 from faults import faults
 from programs import PATIENCE, same
+from runner import by_hand
 from servers import TAKEN, Server
-from waiting_runs import often
-
-ASK, ANSWER = b"list-tube-used\r\n", b"USING default\r\n"
+from waiting_runs import ANSWER, ASK, PUT, often
 
 # How many lines can wait to be written (docs/OPERATING.md).
 ROOM = 64
-
 
 
 class FullPipe:
@@ -36,6 +36,14 @@ class FullPipe:
     def __exit__(self, *why):
         os.close(self.reading)
         os.close(self.writing)
+
+    def rest(self):
+        """Returns what can be read now."""
+        os.set_blocking(self.reading, False)
+        try:
+            return os.read(self.reading, 1 << 16)
+        except BlockingIOError:
+            return b""
 
     def lines(self, count):
         """Returns the next lines after those that filled the pipe."""
@@ -132,3 +140,60 @@ def run_notices_without_room(bqd):
         # It is also reported, once or more, that the only seat is taken.
         words = lines[len(notices)].split()
         same((b" ".join([*words[:1], *words[2:]]), int(words[1]) > dropped), (b"bqd: lines were dropped: standard error was blocked", True))
+
+
+def run_dropped_notices_are_told_once(bqd):
+    """That lines were dropped is reported once, and not again after each later line."""
+    failing = faults(accepts=errno.EPROTO, times=2000, each=2, clock=100)
+    with FullPipe() as pipe, Server(bqd, "--seats", "1", stderr=pipe.writing, env=failing) as server:
+        def serves(many):
+            for _ in range(many):
+                client = server.client()
+                client.asks(ASK, ANSWER)
+                client.close()
+                time.sleep(0.005)
+            server.clients.clear()
+
+        serves(100)
+        pipe.lines_until(lambda lines: any(b"dropped" in it for it in lines))
+        # Lines of notices that came meanwhile may have been dropped too.
+        time.sleep(0.2)
+        pipe.rest()
+        serves(5)
+        time.sleep(0.3)
+        same([it for it in pipe.rest().splitlines() if b"dropped" in it], [])
+
+
+def is_told_for_each_shortage(bqd, least):
+    """Checks that two shortages of memory, for requests of this many bytes or more, are reported, each once."""
+    told = b"bqd: memory was refused: clients are answered OUT_OF_MEMORY\n"
+    with tempfile.TemporaryDirectory() as folder:
+        short = pathlib.Path(folder, "short")
+        with Server(bqd, "--seats", "1", env=faults(memory=short, least=least)) as server:
+            client = server.client()
+            client.asks(ASK, ANSWER)
+            same(server.told_next(), TAKEN)
+            number = 0
+            for is_short in (True, False, False, True):
+                if is_short:
+                    short.touch()
+                    client.asks(PUT, b"OUT_OF_MEMORY\r\n")
+                    server.tells(told)
+                    short.unlink()
+                else:
+                    number += 1
+                    client.asks(PUT, b"INSERTED %d\r\n" % number)
+                # A shortage is over when a put succeeds a second after it.
+                time.sleep(1.2)
+
+
+@by_hand
+def run_second_shortage_of_memory_is_told(bqd):
+    """Each shortage of memory is reported, the second one too."""
+    is_told_for_each_shortage(bqd, 1)
+
+
+@by_hand
+def run_shortage_of_the_core_alone_is_told(bqd):
+    """A shortage in which a put gets memory for its body and none for its job is reported too."""
+    is_told_for_each_shortage(bqd, 100)

@@ -16,12 +16,24 @@ def functions(module, prefix):
 
 def add_names(parser):
     """Lets a command line choose tests by words in their names."""
-    parser.add_argument("names", metavar="NAME", nargs="*", help="the runs that have one of these words in their names; all, unless given")
+    text = "the runs that have one of these words in their names, or one that begins with run_ as their name; all, unless given"
+    parser.add_argument("names", metavar="NAME", nargs="*", help=text)
+
+
+def by_hand(run):
+    """Marks a run that the gate leaves out: it is chosen only if a command line names it as a whole."""
+    run.is_by_hand = True
+    return run
 
 
 def is_chosen(run, names):
-    """Returns true if the words of a command line choose a function."""
-    return not names or any(it in run.__name__ for it in names)
+    """Returns true if the words of a command line choose a function. One that begins with `run_` is a whole name, or
+    `run_by_hand`, which means all that the gate leaves out."""
+    is_by_hand = getattr(run, "is_by_hand", False)
+    if run.__name__ in names or (is_by_hand and "run_by_hand" in names):
+        return True
+    parts = [it for it in names if not it.startswith("run_")]
+    return not is_by_hand and (not names or any(it in run.__name__ for it in parts))
 
 
 def allow_interrupts():

@@ -1,7 +1,9 @@
 """A server that runs, and its clients."""
+import contextlib
 import os
 import resource
 import select
+import signal
 import socket
 import subprocess
 import time
@@ -141,9 +143,22 @@ class Server:
         return times
 
     def memory(self):
-        """Returns how many bytes of memory the server has written to and not returned."""
+        """Returns how many bytes of memory the server has written to and not returned, without those of its program."""
         with open(f"/proc/{self.process.pid}/status") as status:
-            return next(int(line.split()[1]) << 10 for line in status if line.startswith("VmRSS"))
+            return next(int(line.split()[1]) << 10 for line in status if line.startswith("RssAnon"))
+
+    @contextlib.contextmanager
+    def stopped(self):
+        """Stops the server by a signal, so that what is done meanwhile comes to it at one moment."""
+        self.process.send_signal(signal.SIGSTOP)
+        awaits(self.is_stopped)
+        yield
+        self.process.send_signal(signal.SIGCONT)
+
+    def end_control(self):
+        """Ends the control line. The server goes on."""
+        self.process.stdin.close()
+        self.process.stdin = None
 
     def goes_on(self, seconds):
         """Returns true if the server is still running this many seconds later."""

@@ -1,12 +1,13 @@
 """Runs of bqd in which something is due while all clients are silent, a client blocks its seat, or many make requests
 at once."""
-import signal
+import contextlib
+import socket
 import threading
 import time
 
 from programs import Ended, same
 from queue_model.engines import of_loop
-from servers import TAKEN, Server, awaits, value_told
+from servers import TAKEN, Server, value_told
 
 # Within how many seconds an answer comes after it is due, unless the machine is busy: then it is tried again.
 SOON = 0.005
@@ -197,20 +198,86 @@ def all_ask_at_one_moment(bqd, seats, number, rounds):
 def run_batch_beside_a_lone_command(bqd):
     """A client that sends many commands at once has an event loop for some 32 of them, and then another client has its
     turn."""
-    puts = 1000
+    puts, most = 1000, 40
     with Server(bqd, "--seats", "2") as server:
         many, other = server.client(), server.client()
         for client in (many, other):
             client.asks(ASK, ANSWER)
         # Both are ready when it goes on.
-        server.process.send_signal(signal.SIGSTOP)
-        awaits(server.is_stopped)
-        many.sends(PUT * puts)
-        other.sends(ASK + b"stats\r\n")
-        server.process.send_signal(signal.SIGCONT)
+        with server.stopped():
+            many.sends(PUT * puts)
+            other.sends(ASK + b"stats\r\n")
         other.hears(ANSWER)
-        same(value_told(other, b"total-jobs") < 100, True)
+        same(value_told(other, b"total-jobs") <= most, True)
         many.hears(b"".join(b"INSERTED %d\r\n" % it for it in range(1, puts + 1)))
+
+
+@of_loop
+def run_new_client_beside_two_streams(bqd):
+    """While two clients send commands without a pause and read the answers, a new client is served soon."""
+    def tried():
+        with Server(bqd, "--seats", "4") as server:
+            busy = [server.client() for _ in range(2)]
+            for it in busy:
+                it.asks(ASK, ANSWER)
+            with streaming(busy, 4):
+                time.sleep(0.5)
+                took = []
+                for _ in range(3):
+                    begun = time.monotonic()
+                    client = server.client()
+                    client.asks(ASK, ANSWER)
+                    client.close()
+                    took.append(time.monotonic() - begun)
+        return None if sorted(took)[1] <= 0.25 else took
+    often(tried)
+
+
+@contextlib.contextmanager
+def streaming(clients, seconds):
+    """These clients send commands and read the answers meanwhile, for this many seconds at most."""
+    end = time.monotonic() + seconds
+
+    def sends(client):
+        with contextlib.suppress(OSError):
+            while time.monotonic() < end:
+                client.stream.sendall(ASK * 4000)
+
+    def reads(client):
+        with contextlib.suppress(OSError):
+            while time.monotonic() < end and client.stream.recv(1 << 20):
+                pass
+
+    threads = [threading.Thread(target=work, args=[it], daemon=True) for it in clients for work in (sends, reads)]
+    for it in threads:
+        it.start()
+    yield
+    # Not at the end of their time: their connections are broken.
+    end = 0
+    for it in clients:
+        it.stream.shutdown(socket.SHUT_RDWR)
+    for it in threads:
+        it.join()
+
+
+def run_client_that_does_not_read_takes_no_time(bqd):
+    """While a client does not read its answers, the server takes no processor time."""
+    size = 60000
+    with Server(bqd, "--seats", "1") as server:
+        client = server.client()
+        client.asks(b"put 0 0 60 %d\r\n%s\r\n" % (size, b"x" * size), b"INSERTED 1\r\n")
+        client.sends(b"peek 1\r\n" * 400)
+        time.sleep(0.5)
+        often(lambda: time_in_a_second(server))
+
+
+def run_end_of_the_control_line_takes_no_time(bqd):
+    """Once the control line, a pipe, has ended, the server takes no processor time."""
+    with Server(bqd, "--seats", "2") as server:
+        server.client().asks(ASK, ANSWER)
+        server.end_control()
+        time.sleep(0.3)
+        often(lambda: time_in_a_second(server))
 
 
 @of_loop
