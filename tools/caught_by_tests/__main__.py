@@ -1,21 +1,26 @@
-"""Tries planted bugs that no contract refuses: the programs are built with one at a time, and a test has to fail for it.
+"""Tries planted bugs that no contract refuses: a test of the programs has to fail for each.
 
-    python3 tools/caught_by_tests [--only WORD] [--jobs N] [--proofs] [FILE ..]
+    python3 tools/caught_by_tests [--only WORD] [--jobs N] [--alone] [--proofs] [FILE ..]
     python3 tools/caught_by_tests --applies
 
 A planted bug is a file tools/caught_by_tests/CRATE/NAME.edit: a file of the crate, texts in it, and what replaces them,
-as in a must-fail edit. tools/caught_by_tests/ends.txt says how each one ends:
+as in a must-fail edit. A text that is in the file more than once has a line `after: TEXT` before it, a text that is there
+once. tools/caught_by_tests/ends.txt says how each bug ends:
 
-    test TRIAL PART     this part of a trial fails for it
-    clause              a contract refuses it by now
-    allowed WHY         no user and no contract is harmed
-    beyond WHY          no test can show it
-    untried TRIAL PART  this is meant to fail for it, and was not seen to fail yet
+    test TRIAL PART       this part of a trial fails for it each time
+    sometimes TRIAL PART  this part fails for it now and then
+    clause                a contract refuses it by now
+    allowed WHY           no user and no contract is harmed
+    beyond WHY            no test can show it
+    untried TRIAL PART    this is meant to fail for it, and was not seen to fail yet
 
-The programs are built without a proof (unproved.py), in some 45 seconds of a processor each. Then tests/runs, the
-tests of the crate, tests/memory_faults and a part of tests/model are run until one fails, and before them the part that
-ends.txt names. What fails is tried again, since on a busy machine tests that wait can fail. What fails without a bug
-does not count.
+Each program is built once with all bugs, and without a proof (unproved.py); each run of it chooses a bug (chosen.py). A
+bug outside of the bodies of functions gets a build of its own. With --alone each bug does, as one needs to find the bug
+that does not compile.
+
+Then tests/runs, the tests of the crate, tests/memory_faults and a part of tests/model are run until one fails, and before
+them the part that ends.txt names. A part counts if it fails each time with the bug, and never without it, in tries by
+turns: on a busy machine tests that wait can fail by themselves.
 
 With --proofs the check of its crate is asked about each bug first, over the work that is kept in out/, and only what it
 lets through is tried by tests. With FILEs these edits are tried and no others. They may be those of
@@ -32,6 +37,7 @@ import argparse
 import concurrent.futures
 import pathlib
 import shutil
+import subprocess
 import sys
 import tempfile
 import threading
@@ -40,50 +46,20 @@ import threading
 sys.dont_write_bytecode = True
 sys.path.insert(1, str(pathlib.Path(__file__).resolve().parent.parent))
 
+import chosen  # noqa: E402
 import crates  # noqa: E402
 import refused_by_prover  # noqa: E402
 import unproved  # noqa: E402
 from crates import ROOT  # noqa: E402
 from machine import PROCESSORS  # noqa: E402
+from plants import HERE, Plant, listed_ends  # noqa: E402
 from trials import tests_of, trials  # noqa: E402
 
-HERE = pathlib.Path(__file__).resolve().parent
+# How often a part that failed is tried again, with and without the bug in turn.
+TURNS = 2
 
-
-class Plant:
-    """A planted bug: an edit, with the crate that it changes and the end that ends.txt gives it."""
-
-    def __init__(self, path, ends):
-        self.edit = refused_by_prover.Edit.read(path)
-        # A crate's own edit is in crates/NAME/must-fail, or in a folder of that.
-        of_crate = path.is_relative_to(ROOT / "crates")
-        self.crate = path.relative_to(ROOT / "crates").parts[0] if of_crate else path.parent.name
-        self.name = f"{self.crate}/{path.stem}"
-        self.end = ends.get(self.name, "clause" if of_crate else "none")
-
-    def expected_trial(self):
-        """Returns the name of the trial that is expected to fail for it, and its part."""
-        kind, _, rest = self.end.partition(" ")
-        name, _, part = rest.partition(" ")
-        return (name, part) if kind in ("test", "untried") else (None, None)
-
-    def changed_in(self, root):
-        """Returns the file that it changes in a copy, and that file's text with the edit made, or None if it does not apply."""
-        path = root / "crates" / self.crate / self.edit.file
-        return path, self.edit.made(path.read_text()) if path.is_file() else None
-
-    def made_in(self, root):
-        """Makes the edit in a copy. Returns true if it applies there."""
-        path, changed = self.changed_in(root)
-        if changed is not None:
-            path.write_text(changed)
-        return changed is not None
-
-
-def listed_ends():
-    """Returns the end that ends.txt gives each bug, by the bug's name."""
-    lines = (HERE / "ends.txt").read_text().splitlines()
-    return dict(it.split(": ", 1) for it in lines if it and not it.startswith("#"))
+# How often a part that fails now and then is tried.
+SOMETIMES = 12
 
 
 def copied(to):
@@ -92,67 +68,126 @@ def copied(to):
     return to
 
 
-class Programs:
+class NotBuilt(Exception):
+    """A program with a planted bug that the toolchain did not build."""
+
+
+class NothingToJudgeBy(Exception):
+    """A program with all planted bugs that the toolchain did not build."""
+
+
+class Builds:
     """The programs of a copy, each built when it is first used."""
 
-    def __init__(self, root, folder, fault, unchanged=None, changes=lambda name: True):
-        self.root, self.folder, self.fault, self.unchanged, self.changes = root, folder, fault, unchanged, changes
+    def __init__(self, root, folder, fault, objects=()):
+        self.root, self.folder, self.fault, self.objects = root, folder, fault, objects
         self.built, self.lock = {}, threading.Lock()
 
     def __getitem__(self, name):
-        if not self.changes(name):
-            return self.unchanged[name]
         with self.lock:
             if name not in self.built:
                 to = self.folder / name
-                output = unproved.build(name, self.root, to)
+                output = unproved.build(name, self.root, to, self.objects)
                 if output is not None:
                     raise self.fault(f"{name} can't be built: {output.strip()[-300:]}")
                 self.built[name] = to
         return self.built[name]
 
 
-class NotBuilt(Exception):
-    """A program with a planted bug that the toolchain did not build."""
+class Chosen:
+    """Programs with all bugs, of which each run has the one with this number: their paths have it."""
+
+    def __init__(self, builds, number):
+        self.builds, self.folder = builds, builds.folder / f"plant-{number}"
+
+    def __getitem__(self, name):
+        built = self.builds[name]
+        with self.builds.lock:
+            self.folder.mkdir(exist_ok=True)
+            path = self.folder / name
+            if not path.exists():
+                path.hardlink_to(built)
+        return path
 
 
-class NothingToJudgeBy(Exception):
-    """A program without a planted bug that the toolchain did not build."""
+class Either:
+    """The programs that a change of a crate changes, and others in place of those that it does not."""
+
+    def __init__(self, changed, changes, unchanged):
+        self.changed, self.changes, self.unchanged = changed, changes, unchanged
+
+    def __getitem__(self, name):
+        return (self.changed if self.changes(name) else self.unchanged)[name]
 
 
 class Judge:
-    """The programs without a planted bug, beside which those with one are judged."""
+    """Programs that have all planted bugs that can be chosen. Those with a bug are judged beside those without."""
 
-    def __init__(self, folder, needs):
+    def __init__(self, folder, plants, needs):
         self.folder, self.needs = folder, needs
-        self.root = copied(folder / "none")
-        self.programs = Programs(self.root, folder, NothingToJudgeBy)
+        self.root = copied(folder / "all")
+        self.numbers = chosen.made(self.root, plants)
+        which = folder / "chosen.o"
+        subprocess.run(["cc", "-O2", "-c", "-fPIC", "-o", which, HERE / "chosen.c"], check=True)
+        self.builds = Builds(self.root, folder, NothingToJudgeBy, [which])
+        self.sound = Chosen(self.builds, 0)
 
     def found_end(self, plant):
-        """Returns how a bug ends: 'test ..', 'passes', or why it can't be tried."""
+        """Returns how a bug ends: 'test ..', 'sometimes ..', 'passes', or why it can't be tried."""
+        def changes(name):
+            return plant.crate in self.needs[name]
+
+        if plant.name in self.numbers:
+            return self.end_among(plant, self.root, Chosen(self.builds, self.numbers[plant.name]), changes)
         with tempfile.TemporaryDirectory(dir=self.folder) as folder:
             root = copied(pathlib.Path(folder) / "copy")
             if not plant.made_in(root):
                 return "does not apply"
-            programs = Programs(root, pathlib.Path(folder), NotBuilt, self.programs, lambda name: plant.crate in self.needs[name])
-            try:
-                for trial, names in in_order(plant, trials(tests_of(plant.crate, self.needs))):
-                    if not any(map(programs.changes, trial.needs)):
-                        continue
-                    failed = self.failed(trial, root, programs, names)
-                    if failed and failed >= names:
-                        return f"test {trial.name} {', '.join(sorted(failed))}"
-            except NotBuilt as it:
-                return str(it)
+            built = Builds(root, pathlib.Path(folder), NotBuilt)
+            return self.end_among(plant, root, Either(built, changes, self.sound), changes)
+
+    def end_among(self, plant, root, programs, changes):
+        """Returns how a bug ends that these programs have."""
+        try:
+            for trial, names in in_order(plant, trials(tests_of(plant.crate, self.needs))):
+                if not any(map(changes, trial.needs)):
+                    continue
+                if names and plant.fails_sometimes():
+                    if self.fails_now_and_then(trial, root, programs, names):
+                        return f"sometimes {trial.name} {', '.join(sorted(names))}"
+                    continue
+                failed = self.failed(trial, root, programs, names)
+                if failed and failed >= names:
+                    return f"test {trial.name} {', '.join(sorted(failed))}"
+        except NotBuilt as it:
+            return str(it)
         return "passes"
 
     def failed(self, trial, root, programs, names):
-        """Returns the parts that fail twice with the bug, and do not fail without it."""
-        failed = trial.failed_twice(root, programs, names)
-        known = trial.failed_twice(self.root, self.programs, failed) & failed if failed else failed
+        """Returns the parts that fail each time with the bug, and never without it."""
+        left = trial.failed(root, programs, names)
+        for _ in range(TURNS):
+            if left:
+                left -= self.fails_without(trial, left)
+            if left:
+                left &= trial.failed(root, programs, left)
+        return left
+
+    def fails_now_and_then(self, trial, root, programs, names):
+        """Returns true if these parts fail at least once with the bug, and never without it."""
+        times = 0
+        for _ in range(SOMETIMES):
+            times += trial.failed(root, programs, names) >= names
+            if self.fails_without(trial, names):
+                return False
+        return times > 0
+
+    def fails_without(self, trial, names):
+        """Returns those parts that fail with no bug."""
+        known = trial.failed(self.root, self.sound, names) & names
         for part in sorted(known):
             print(f"not counted, since it fails with no bug: {trial.name} {part}", flush=True)
-        return failed - known
+        return known
 
 
 def in_order(plant, of_crate):
@@ -164,10 +199,10 @@ def in_order(plant, of_crate):
 def is_expected(plant, found):
     """Returns true if a bug ends as ends.txt says: the same part of a trial fails, or none if it is allowed."""
     kind = plant.end.split(" ")[0]
-    if kind == "test":
+    if kind in ("test", "sometimes"):
         name, part = plant.expected_trial()
-        kind, _, parts = found.partition(f"test {name} ")
-        return not kind and part in parts.split(", ")
+        before, _, parts = found.partition(f"{kind} {name} ")
+        return not before and part in parts.split(", ")
     if kind == "clause":
         return found == "refused"
     return kind in ("allowed", "beyond") and found == "passes"
@@ -179,12 +214,12 @@ def tried_by_proof(plants, jobs):
     with concurrent.futures.ThreadPoolExecutor(jobs) as pool:
         calls = {}
         for crate in sorted({it.crate for it in plants}):
-            of_crate = [it for it in plants if it.crate == crate]
-            call = pool.submit(refused_by_prover.tried, crate, [it.edit for it in of_crate], refused_by_prover.check_of(crate, uses))
-            calls[call] = of_crate
+            edits = {it: refused_by_prover.Edit.read(it.path) for it in plants if it.crate == crate}
+            call = pool.submit(refused_by_prover.tried, crate, list(edits.values()), refused_by_prover.check_of(crate, uses))
+            calls[call] = edits
         for call in concurrent.futures.as_completed(calls):
             verdicts, _ = call.result()
-            yield from ((it, verdicts[it.edit]) for it in calls[call])
+            yield from ((it, verdicts[edit]) for it, edit in calls[call].items())
 
 
 def counted(plants_found):
@@ -214,7 +249,8 @@ def all_found(plants, words):
         return
     uses = crates.listed()
     with tempfile.TemporaryDirectory(prefix="caught-") as folder:
-        judge = Judge(pathlib.Path(folder), {name: crates.with_needs([name], uses) for name in uses})
+        needs = {name: crates.with_needs([name], uses) for name in uses}
+        judge = Judge(pathlib.Path(folder), [] if words.alone else rest, needs)
         with concurrent.futures.ThreadPoolExecutor(words.jobs) as pool:
             left = {pool.submit(judge.found_end, it): it for it in rest}
             for ended in concurrent.futures.as_completed(left):
@@ -224,7 +260,8 @@ def all_found(plants, words):
 def what_is_wrong(plants, ends):
     """Yields what is wrong with the bugs and ends.txt, as far as it shows without a build."""
     for plant in plants:
-        if plant.changed_in(ROOT)[1] is None:
+        path = plant.path_in(ROOT)
+        if not path.is_file() or plant.spans(path.read_text()) is None:
             yield f"{plant.name}: does not apply"
         if plant.end == "none":
             yield f"{plant.name}: ends.txt has no end for it"
@@ -253,6 +290,7 @@ def parsed():
     parser.add_argument("files", metavar="FILE", nargs="*", type=pathlib.Path, help="edits to try in place of those of tools/caught_by_tests")
     parser.add_argument("--only", metavar="WORD", default="", help="the bugs that have this word in their names, as bq_line/ or nodelay")
     parser.add_argument("--jobs", type=int, metavar="N", default=PROCESSORS, help="how many bugs are tried side by side")
+    parser.add_argument("--alone", action="store_true", help="build each bug by itself")
     parser.add_argument("--proofs", action="store_true", help="ask the check of its crate about each bug first, over work that is kept in out/")
     parser.add_argument("--applies", action="store_true", help="build nothing: see that each bug applies and has an end")
     words = parser.parse_args()

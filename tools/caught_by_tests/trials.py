@@ -28,18 +28,14 @@ class Trial:
 
     def failed(self, root, programs, names=()):
         """Returns the parts that fail, or the trial as a whole if it names none and does not end well."""
-        chosen = [it for it in sorted(names) if it not in WHOLE] if self.takes_names else []
+        # A whole name, and not each name that has it as a part.
+        chosen = [f"run_{it}" for it in sorted(names) if it not in WHOLE] if self.takes_names else []
         try:
             status, output = ended([*self.words(programs), *chosen], root)
         except subprocess.TimeoutExpired:
             return {DID_NOT_END}
         found = set(self.pattern.findall(output))
         return found or ({AS_A_WHOLE} if status else set())
-
-    def failed_twice(self, root, programs, names=()):
-        """Returns the parts that fail, and fail again in a second run."""
-        first = self.failed(root, programs, names)
-        return first & self.failed(root, programs, first) if first else first
 
 
 def ended(words, root):
