@@ -504,13 +504,7 @@ def run_control_line_of_each_kind(bqd):
                 server.tells(b"bqd: draining\n")
             server.client().asks(b"put 0 0 9 1\r\nx\r\n", b"DRAINING\r\n" if has_drain else b"INSERTED 1\r\n")
             servers.append(server)
-
-        def tried():
-            before = [it.time_worked() for it in servers]
-            time.sleep(1)
-            took = [it.time_worked() - before for it, before in zip(servers, before)]
-            return dict(zip(kinds, took)) if max(took) > 0.05 else None
-        often(tried)
+        often(lambda: time_in_a_second(*servers))
 
 
 def run_control_line_keeps_its_flags(bqd):

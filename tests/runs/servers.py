@@ -134,6 +134,14 @@ class Server:
             ticks = stat.read().rsplit(")", 1)[1].split()[11:13]
         return sum(map(int, ticks)) / os.sysconf("SC_CLK_TCK")
 
+    def time_wanted(self):
+        """Returns for how many seconds the server's threads have had a processor, or waited for one that was busy."""
+        nanoseconds = 0
+        for thread in os.listdir(f"/proc/{self.process.pid}/task"):
+            with open(f"/proc/{self.process.pid}/task/{thread}/schedstat") as stat:
+                nanoseconds += sum(map(int, stat.read().split()[:2]))
+        return nanoseconds / 1e9
+
     def times_woken(self):
         """Returns how often the server's threads have gone to sleep. Each was woken up as often, or still sleeps."""
         times = 0

@@ -353,12 +353,19 @@ def woken(server, seconds, most):
     return None if times <= most else times
 
 
-def time_in_a_second(server):
-    """Returns how much processor time the server takes in a second, in seconds, or None if that is at most a twentieth."""
-    before = server.time_worked()
+def time_in_a_second(*servers):
+    """Returns how much processor time the servers take in a second, and how much they want, each in seconds, or None if
+    none takes more than a twentieth or wants more than half of it.
+
+    On a busy machine a server that never sleeps may get little. It still wants all of the time.
+    """
+    def times():
+        return [(it.time_worked(), it.time_wanted()) for it in servers]
+
+    before = times()
     time.sleep(1)
-    took = server.time_worked() - before
-    return took if took > 0.05 else None
+    took = [(now[0] - then[0], now[1] - then[1]) for now, then in zip(times(), before)]
+    return None if all(worked <= 0.05 and wanted <= 0.5 for worked, wanted in took) else took
 
 
 def run_idle_server_is_not_woken(bqd):
