@@ -22,6 +22,7 @@ import bq_runs
 import bqd_runs
 import crowd_runs
 import fault_runs
+import lost_runs
 import memory_runs
 import notices_runs
 import preloaded
@@ -33,7 +34,7 @@ from queue_model import engines
 # How many runs go side by side unless chosen: most of them wait most of the time.
 LANES = 2
 
-OF_BQD = [bqd_runs, answers_runs, crowd_runs, fault_runs, memory_runs, notices_runs, rest_runs, waiting_runs]
+OF_BQD = [bqd_runs, answers_runs, crowd_runs, fault_runs, lost_runs, memory_runs, notices_runs, rest_runs, waiting_runs]
 
 
 def all_tests(bq, bqd, engine):
