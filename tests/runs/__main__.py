@@ -28,13 +28,14 @@ import notices_runs
 import preloaded
 import rest_runs
 import runner
+import started_runs
 import waiting_runs
 from queue_model import engines
 
 # How many runs go side by side unless chosen: most of them wait most of the time.
 LANES = 2
 
-OF_BQD = [bqd_runs, answers_runs, crowd_runs, fault_runs, lost_runs, memory_runs, notices_runs, rest_runs, waiting_runs]
+OF_BQD = [bqd_runs, answers_runs, crowd_runs, fault_runs, lost_runs, memory_runs, notices_runs, rest_runs, started_runs, waiting_runs]
 
 
 def all_tests(bq, bqd, engine):
