@@ -1,7 +1,9 @@
 """Runs of bqd whose memory is watched."""
 from held import Held
 from programs import same
-from servers import Server
+from queue_model.engines import of_loop
+from servers import Server, awaits
+from waiting_runs import ANSWER, ASK
 
 # How many commands are sent before their answers are read.
 AT_ONCE = 500
@@ -62,3 +64,46 @@ def run_memory_behind_a_peak(bqd):
         same(held.now() - before > JOBS * 200, True)
         in_turn(client, [(b"delete %d\r\n" % id, b"DELETED\r\n") for id in ids])
         same(held.now() - before < SPARE * OF_A_PLACE, True)
+
+
+# How many bytes of memory a connection may leave behind after its end.
+OF_A_CONNECTION = 2 << 10
+
+
+@of_loop
+def run_loop_behind_bytes_that_nobody_reads(bqd):
+    """Connections that ended with bytes that were not read leave no read buffer at their seats."""
+    many = 200
+
+    def end_all(server, more):
+        clients = [server.client() for _ in range(many)]
+        for client in clients:
+            client.asks(ASK, ANSWER)
+        for client in clients:
+            client.sends_while_read(b"quit\r\n" + more)
+        for client in clients:
+            same(client.all_that_comes(), b"")
+            client.close()
+        server.clients.clear()
+
+    with Server(bqd, "--seats", str(many)) as server:
+        end_all(server, b"")
+        before = server.memory()
+        end_all(server, b"x" * 60000)
+        same(server.memory() - before <= many * OF_A_CONNECTION, True)
+
+
+def run_bodies_that_never_come_whole(bqd):
+    """After a connection that ended within a body, the memory of that body is free again."""
+    many, size = 50, 1 << 20
+    held = Held()
+    with Server(bqd, "--seats", str(many), "--max-job-size", str(size), env=held.env) as server:
+        for client in [server.client() for _ in range(many)]:
+            client.asks(ASK, ANSWER)
+        before = held.now()
+        for client in server.clients:
+            client.sends(b"put 0 0 60 %d\r\n" % size + b"x" * (size - 1))
+        awaits(lambda: held.now() - before > many * size // 2)
+        for client in server.clients:
+            client.close()
+        awaits(lambda: held.now() - before < size)
