@@ -35,7 +35,8 @@ def run_peers_that_are_gone(bqd):
 
 
 def run_many_peers_that_are_gone(bqd):
-    """The next client is served, however many before it are gone, and at once if it is only some."""
+    """The next client is served, however many before it are gone, and at once if it is only some. An event loop reports
+    that 64 in a row were gone, after which it sleeps."""
     for many, most in [(20, 0.5), (64, LONG), (200, LONG)]:
         def tried():
             with Server(bqd, "--seats", "1", env=faults(accepts=errno.ECONNABORTED, times=many, after=1)) as server:
@@ -46,6 +47,8 @@ def run_many_peers_that_are_gone(bqd):
                 client.stream.settimeout(2 * LONG)
                 client.asks(ASK, ANSWER)
                 took = time.monotonic() - begun
+                if bqd.is_loop and many >= 64:
+                    server.tells(b"bqd: no connection can be accepted: connection aborted\n")
             return None if took <= most else took
         often(tried)
 
@@ -63,14 +66,15 @@ def run_connection_that_would_hold_back(bqd):
 
 @of_loop
 def run_connection_that_cannot_be_watched(bqd):
-    """A connection that can't be watched is closed unserved, and the next one is accepted."""
+    """A connection that can't be watched is closed unserved, which is reported once, and the next one is accepted."""
     for code in [errno.ENOSPC, errno.ENOMEM]:
-        with Server(bqd, "--seats", "1", "--sessions", "2", env=faults(watches=code, times=1)) as server:
-            server.client().hears_end()
+        with Server(bqd, "--seats", "1", "--sessions", "1", env=faults(watches=code, times=2)) as server:
+            for _ in range(2):
+                server.client().hears_end()
             client = server.client()
             client.asks(ASK, ANSWER)
             client.close()
-            same(server.end(), Ended(0, b"", b""))
+            same(server.end(), Ended(0, b"", told_of(code)))
 
 
 # The resources that a connection can lack, and the errors that Linux returns for a connection that the network or a
