@@ -72,7 +72,7 @@ OF_A_CONNECTION = 2 << 10
 
 @of_loop
 def run_loop_behind_bytes_that_nobody_reads(bqd):
-    """Connections that ended with bytes that were not read leave no read buffer at their seats."""
+    """Connections that ended, one after another, with bytes that were not read leave no read buffer at their seats."""
     many = 200
 
     def end_all(server, more):
@@ -81,7 +81,6 @@ def run_loop_behind_bytes_that_nobody_reads(bqd):
             client.asks(ASK, ANSWER)
         for client in clients:
             client.sends_while_read(b"quit\r\n" + more)
-        for client in clients:
             same(client.all_that_comes(), b"")
             client.close()
         server.clients.clear()
