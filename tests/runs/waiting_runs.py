@@ -5,6 +5,7 @@ import socket
 import threading
 import time
 
+from faults import faults
 from programs import Ended, same
 from queue_model.engines import of_loop
 from servers import TAKEN, Server, value_told
@@ -204,6 +205,23 @@ def run_batch_beside_a_lone_command(bqd):
         for client in (many, other):
             client.asks(ASK, ANSWER)
         # Both are ready when it goes on.
+        with server.stopped():
+            many.sends(PUT * puts)
+            other.sends(ASK + b"stats\r\n")
+        other.hears(ANSWER)
+        same(value_told(other, b"total-jobs") <= most, True)
+        many.hears(b"".join(b"INSERTED %d\r\n" % it for it in range(1, puts + 1)))
+
+
+@of_loop
+def run_heavy_commands_beside_a_lone_one(bqd):
+    """A client whose commands take long has an event loop for two of them, and then another client has its turn. The
+    clock runs 1,000 times as fast, so that each command takes long."""
+    puts, most = 1000, 8
+    with Server(bqd, "--seats", "2", env=faults(clock=1000)) as server:
+        many, other = server.client(), server.client()
+        for client in (many, other):
+            client.asks(ASK, ANSWER)
         with server.stopped():
             many.sends(PUT * puts)
             other.sends(ASK + b"stats\r\n")
