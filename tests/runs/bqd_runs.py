@@ -102,12 +102,22 @@ def run_cannot_listen(bqd):
         cannot_listen(bqd, taken, "Address already in use (os error 98)", "-l", LOOPBACK, "-p", str(port))
     # An address that is reserved for documentation, and belongs to no machine.
     cannot_listen(bqd, "192.0.2.1:0", "Cannot assign requested address (os error 99)", "--listen", "192.0.2.1:0")
-    for text in [LOOPBACK, "", f"{LOOPBACK}:65536"]:
-        found = ended(bqd, "--listen", text)
-        same((found.status, found.output), (1, b""))
-        first, second, last = found.errors.decode().split("\n")
-        same((first, last), ("bqd: cannot listen", ""))
-        has_all(second, [f"bqd: {text}: "])
+    found = ended(bqd, "--listen", "")
+    same((found.status, found.output), (1, b""))
+    first, second, last = found.errors.decode().split("\n")
+    same((first, last), ("bqd: cannot listen", ""))
+    has_all(second, ["bqd: : "])
+    # A port that is no number of a port is a bad option.
+    for text in [f"{LOOPBACK}:65536", f"{LOOPBACK}:many", f"{LOOPBACK}:"]:
+        refuses_words(bqd, "--listen", text)
+
+
+def run_port_of_beanstalkd(bqd):
+    """Without a port it listens at beanstalkd's, 11300."""
+    for option in ["--listen", "-l"]:
+        address = free_loopback()
+        with Server(bqd, "--seats", "1", listen=[option, address], port=11300) as server:
+            same(server.told, f"listening {address}:11300\n".encode())
 
 
 def run_one_client(bqd):
@@ -170,6 +180,11 @@ def run_lines_unlike_beanstalkds(bqd):
                 client.asks(line + b"\r\nlist-tube-used\r\n", answer + b"USING default\r\n")
 
 
+def free_loopback():
+    """Returns a loopback address at which no other process listens."""
+    return "127." + ".".join(str(random.randint(1, 254)) for _ in range(3))
+
+
 def run_numbers_at_the_ends(bqd):
     """The smallest and the largest number of each option are accepted and take effect."""
     words = ["--seats", "1", "--sessions", "1", "-z", "1", "--max-jobs", "1", "--requeue-delay", "0"]
@@ -186,8 +201,7 @@ def run_numbers_at_the_ends(bqd):
         client.asks(b"put 0 0 9 1\r\nx\r\nreserve\r\nquit\r\n", b"INSERTED 1\r\nRESERVED 1 1\r\nx\r\n")
         client.hears_end()
         server.client().asks(b"reserve-with-timeout 0\r\nkick-job 1\r\n", b"TIMED_OUT\r\nKICKED\r\n")
-    # A loopback address at which no other process listens.
-    address = "127." + ".".join(str(random.randint(1, 254)) for _ in range(3))
+    address = free_loopback()
     with Server(bqd, listen=["-l", address, "-p", "65535"]) as server:
         same(server.told, f"listening {address}:65535\n".encode())
 
