@@ -181,6 +181,11 @@ def contains(room, compose, word):
     return "there is no docker here; packaging/README.md says what was tried instead"
 
 
+@rule(r"bqd \.\. &")
+def goes_to_the_background(room):
+    return "it is a form"
+
+
 @rule(r"bqd (--[-a-z]+)(?: [A-Z]+)?")
 def is_form_of_an_option(room, option):
     assert option in room.ends("bqd --help"), f"bqd has no {option}"
@@ -234,7 +239,8 @@ def tidies(room, command):
         client = server.client()
         client.asks(b"put 0 0 60 1\r\na\r\nput 0 60 60 1\r\nb\r\n", b"INSERTED 1\r\nINSERTED 2\r\n")
         client.asks(b"put 0 0 60 1\r\nc\r\nreserve-job 3\r\nbury 3 0\r\n", b"INSERTED 3\r\nRESERVED 3 1\r\nc\r\nBURIED\r\n")
-        words = command.split(" ", 1)[1]
+        # A page's job is the buried one.
+        words = command.split(" ", 1)[1].replace("4711", "3")
         for port, running in [(OTHER, other), (PORT, server)]:
             words = words.replace(f"127.0.0.1:{port}", f"127.0.0.1:{running.port}")
         told = f"bqctl --server 127.0.0.1:{server.port} {words}"

@@ -32,6 +32,7 @@ OTHERS = set("""
 /opt/rattle
 /sys/kernel/mm/transparent_hugepage/enabled
 /usr/local/bin/bqd
+</dev/null
 #[tactic(auto, using(lemma))]
 IfOk result (IsRunOf ..)
 LimitAS
@@ -49,12 +50,14 @@ cp -a
 current-producers
 current-workers
 f-requires-clause-x
+fs.epoll.max_user_watches
 hostname
 if-c.true
 it calls f, which is not proved
 l.invariant
 logic dac8208d650f15bf
 madvise
+net.ipv4.tcp_retries2
 out/
 platform
 quitx
@@ -64,6 +67,7 @@ rusage-*
 search did not prove returns-clause-is
 sed
 spin_loop
+ss -tno
 """.strip().splitlines())
 
 
