@@ -1,4 +1,5 @@
-//! The server `bqd`, from the words of its command line to its status; and the options and the reports of both programs.
+//! The server `bqd`, from the words of its command line to its status. The options and the reports of both programs are
+//! those of `bq_program`.
 #![tactic(auto)]
 
 pub use bq_program::{

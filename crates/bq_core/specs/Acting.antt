@@ -7,7 +7,7 @@ use Rattle.bq_core_api.specs.Outbox.{Outbox}
 use Rattle.bq_core.specs.declared.acts.Reply.{Reply, TheVariants.{Deleted, Inserted, LeftOut, Silent, Told, Unshared}}
 
 -- The outcome of a request. It had this effect, with this answer; or it was skipped because an
--- allocation failed; or its answer would show a body, and a reference to it could not be allocated.
+-- allocation failed; or its answer would show a body that could not be shared.
 abbrev pub Replies : Bool → Machine → Effect → Reply → Answer → Machine → Type 0
 Replies takes m e Silent told next = e ≡ record { machine = next; answer = None }
 Replies takes m e Told told next = e ≡ record { machine = next; answer = Some told }

@@ -12,7 +12,7 @@ IsPicked m seat = (j : Job) → next_job m ≡ Some j → Some seat ≡ option_m
 abbrev pub handed_to : ℕ → ℕ → Machine → Machine
 handed_to seat id m = with_seat seat without_wait (with_job id (reserved_by m.moment seat) m)
 
--- One answer was appended, and a failed allocation of a reference is recorded.
+-- One answer was appended, and a body that could not be shared is recorded.
 pub record AddsHandOut (m : Machine) (j : Job) (s : SeatRecord) (old new : Outbox) (last : Machine) : Type 0 where
   pub given : GivenAnswer
   pub hand_out : IsHandOut m j s given last

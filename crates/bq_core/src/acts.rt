@@ -206,6 +206,6 @@ pub(crate) enum Reply {
     Deleted,
     /// An allocation failed, and nothing was changed.
     LeftOut,
-    /// A reference to a body could not be allocated, and nothing was changed.
+    /// A body could not be shared, and nothing was changed.
     Unshared,
 }

@@ -268,8 +268,7 @@ fn give(state: &mut CoreParts, outs: &mut Outs, number: Seat, id: JobId, body: B
     outs.push(number, Answer::Reserved(id, body));
 }
 
-// A reference to the body could not be allocated: the client is answered OUT_OF_MEMORY, and no
-// longer waits.
+// The body could not be shared: the client is answered OUT_OF_MEMORY, and no longer waits.
 fn refuse(state: &mut CoreParts, outs: &mut Outs, number: Seat)
     requires room { length outs.old.given < outs.old.most }
     ensures after { machine_of state.new ≡ with_seat number without_wait (machine_of state.old) }
@@ -386,7 +385,7 @@ fn may_take(state: &CoreParts, seat: Seat, what: &Step) -> bool
 
 // Returns the job that the client at the seat would be handed if it waited, and another reference to
 // its body. Returns None if there is no such job, if the client watches many tubes, or if the
-// allocation of the reference fails.
+// body cannot be shared.
 fn find_job(state: &mut CoreParts, seat: Seat) -> Option<(JobId, Body)>
     ensures job { IfSome result (λ p. AtSeat seat state.old (λ s. Some p.0
         ≡ option_map (λ r. r.1) (fold (with_offer state.old.jobs.jobs state.old.tubes.entries) None s.watched))) }

@@ -56,7 +56,7 @@ abbrev pub watched_tubes : ℕ → Machine → ℕ
 watched_tubes seat m = sum_by (tubes_watched seat) m.seats
 
 -- A step, and the comparison count before and after it. Its changes are: jobs whose timer fired;
--- jobs handed out, or not handed out because a reference to the body could not be allocated; and
+-- jobs handed out, or not handed out because the body could not be shared; and
 -- jobs that the command added, removed or changed. Only the command adds or removes jobs, so there
 -- were never more jobs than before or after the step. The count does not decrease.
 pub record IsStepWithin (first : Machine) (at seat : ℕ) (what : Step) (outcome : Outcome) (answers : List GivenAnswer)

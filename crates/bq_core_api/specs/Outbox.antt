@@ -4,7 +4,7 @@ use Rattle.bq_job.specs.machine.Dispatch.{GivenAnswer}
 use Rattle.bq_job.specs.machine.Steps.{Outcome}
 
 -- the answers so far, in order; how many there may be; whether the step's command was skipped
--- because an allocation failed; and whether a reference to a body could not be allocated
+-- because an allocation failed; and whether a body could not be shared
 pub record Outbox : Type 0 where
   pub given : List GivenAnswer
   pub most : ℕ

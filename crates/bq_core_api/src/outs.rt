@@ -70,7 +70,8 @@ impl Outs {
         self.left_out
     }
 
-    /// Returns true if a reference to a job's body could not be allocated in the last step.
+    /// Returns true if a job's body could not be shared in the last step: its references can no
+    /// longer be counted.
     pub fn unshared(&self) -> bool
         ensures { result ≡ self.now.unshared }
     {
@@ -102,7 +103,7 @@ impl Outs {
         self.left_out = true;
     }
 
-    /// Records that a reference to a job's body could not be allocated in the step.
+    /// Records that a job's body could not be shared in the step.
     pub fn set_unshared(&mut self)
         ensures { self.new ≡ record self.old { unshared = true } }
     {

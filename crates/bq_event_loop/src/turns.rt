@@ -20,7 +20,9 @@ use std::snapshot::Snapshot;
 #[derive(Clone, Copy)]
 pub enum Turn {
     /// One action of this seat. If it submits a step, the seat then checks for the answer too. If
-    /// the seat does not exist, nothing is done.
+    /// the seat does not exist, nothing is done. A seat without a line waits at its door until a
+    /// client comes, and for ever if its listener does not wait: an order over such doors lets the
+    /// seat look (`Row::look`) instead.
     Seat(usize),
     /// A command of this seat: it reads, submits a step and checks for the answer, and writes the
     /// answer. What the seat doesn't do next is skipped, and the turn ends when nothing moves. If

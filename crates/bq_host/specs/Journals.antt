@@ -8,8 +8,7 @@ pub record JournalState : Type 0 where
   pub capacity : ℕ
   pub whole : Bool
 
--- the journal with one more entry; `unshared` tells whether the allocation of a reference to a body
--- failed in the step
+-- the journal with one more entry; `unshared` tells whether a body could not be shared in the step
 abbrev pub with_entry : Entry → Bool → JournalState → JournalState
 with_entry entry unshared old = record old { entries = old.entries ++ entry ∷ []; whole = old.whole && not unshared }
 

@@ -58,8 +58,7 @@ impl Journal {
     }
 
     /// Adds the entry of a step that was taken, with this copy of the step. The journal is no
-    /// longer complete if there is no copy, or if the allocation of a reference to a body failed in
-    /// the step.
+    /// longer complete if there is no copy, or if a body could not be shared in the step.
     pub fn note(
         &mut self,
         at: Moment,
@@ -95,8 +94,7 @@ impl Journal {
         self.entries.as_slice()
     }
 
-    /// Returns true if every step has its entry, and no allocation of a reference to a body failed
-    /// in one.
+    /// Returns true if every step has its entry, and each body could be shared in it.
     pub fn whole(&self) -> bool
         ensures { result ≡ self.now.whole }
     {

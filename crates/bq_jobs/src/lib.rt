@@ -12,10 +12,13 @@
 //! both changes ([`NumberedJobs::learn`], [`NumberedJobs::forget`]). A job with a body of 64 bytes
 //! takes this much of the heap:
 //!
-//! | piece | bytes | |---|---| | its box by id | 120 | | its place in its tube or at its holder |
-//! 40 | | its place among delays and leases | 40 | | the vector of its body and the count of its
-//! owners | 48 at most | | the bytes of its body | 64 | | what a heap keeps beside each of these
-//! five pieces | 80 at most | | together | 392 at most |
+//! - its box by id: 120 bytes;
+//! - its place in its tube or at its holder: 40;
+//! - its place among delays and leases: 40;
+//! - the vector of its body and the count of its owners: at most 48;
+//! - the bytes of its body: 64;
+//! - what a heap keeps beside each of these five pieces: at most 80;
+//! - together: at most 392.
 #![tactic(auto)]
 
 pub use ghost_name::GhostName;

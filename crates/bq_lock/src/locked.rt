@@ -121,8 +121,8 @@ impl Locked {
         self.journal.entries()
     }
 
-    /// Returns true if the journal is complete: it was never full when a step was taken, and no
-    /// allocation of a reference to a body failed.
+    /// Returns true if the journal is complete: it was never full when a step was taken, and each
+    /// body could be shared.
     pub fn whole(&self) -> bool
         ensures whole { result ≡ self.now.journal.whole }
         ensures holds { IsLawfulHold self.now }

@@ -247,8 +247,8 @@ pub(crate) fn time_to_run(jobs: &mut NumberedJobs, id: JobId, seat: Seat) -> Opt
     }
 }
 
-/// Returns another reference to the body of the job with this id, or `NoMemory` if its allocation
-/// fails; None if there is no such job.
+/// Returns another reference to the body of the job with this id, or `NoMemory` if its
+/// references can no longer be counted; None if there is no such job.
 pub(crate) fn share(jobs: &mut NumberedJobs, id: JobId) -> Option<Result<Body, NoMemory>>
     ensures none { is_some result ≡ is_some (job_with id jobs.old.jobs) }
     ensures share { IfSome result (λ shared. IfOk shared (IsBodyOf (job_with id jobs.old.jobs))) }

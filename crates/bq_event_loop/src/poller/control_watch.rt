@@ -53,7 +53,8 @@ impl ControlWatch {
         }
     }
 
-    /// Returns how far the line is read in this round, if at all.
+    /// Returns how far the line is read in this round, if at all. Bytes that its reader held before
+    /// the run are read only once the system reports more, so it has to be handed in empty.
     pub fn reads(&self, stands: ControlStands) -> Option<ControlReads> {
         match *self {
             ControlWatch::Whole => Some(ControlReads::ToEnd),
