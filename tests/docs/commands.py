@@ -226,7 +226,7 @@ def watches(room, command):
         raise AssertionError(f"{command!r} told {output!r}")
 
 
-@rule(r"bqctl (clear|move)")
+@rule(r"bqctl (clear|move|dump|load)")
 def is_command_of_bqctl(room, name):
     room.ends(f"bqctl {name} --help")
     return "it is a part of a command"

@@ -111,6 +111,12 @@ class Browser:
             time.sleep(0.05)
         raise AssertionError(f"{script}: wanted {wanted!r}, found {found!r}")
 
+    def press(self, key, code):
+        """Presses a key and releases it, as a person does."""
+        for kind in ["keyDown", "keyUp"]:
+            text = {"text": "\r"} if key == "Enter" and kind == "keyDown" else {}
+            self.call("Input.dispatchKeyEvent", type=kind, key=key, code=key, windowsVirtualKeyCode=code, **text)
+
     def picture(self, path):
         """Writes a picture of the whole page."""
         size = self.call("Page.getLayoutMetrics")["cssContentSize"]

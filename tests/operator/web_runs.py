@@ -2,6 +2,7 @@
 import contextlib
 import json
 import os
+import re
 import socket
 import sys
 import tempfile
@@ -109,6 +110,29 @@ def run_web_page_makes_no_markup():
                    "javascript:", "https:", "style=", "onclick=", "onload="]:
             assert it not in text, (name, it)
         same([it for it in text.split('"') if it.startswith("http")], ["http://www.w3.org/2000/svg"] * text.count("http"))
+
+
+def run_web_page_contrast():
+    """Each colour of text has a contrast of 4.5 to what it can be on, in both modes, and each border of a field of 3."""
+    text = (PROGRAMS / "queue_web/page/page.css").read_text()
+
+    def light(colour):
+        parts = [int(colour[at: at + 2], 16) / 255 for at in (1, 3, 5)]
+        parts = [it / 12.92 if it <= 0.03928 else ((it + 0.055) / 1.055) ** 2.4 for it in parts]
+        return sum(weight * it for weight, it in zip((0.2126, 0.7152, 0.0722), parts))
+
+    modes = [dict(re.findall(r"--([a-z-]+): (#[0-9a-f]{6})", it)) for it in re.findall(r":root \{(.*?)\}", text, re.S)]
+    same(len(modes), 2)
+    for colours in modes:
+        pairs = [(it, on, 4.5) for it in ["text", "muted", "accent", "warn", "bad", "buried"] for on in ["card", "page", "hover"]]
+        pairs += [("warn", "warn-back", 4.5), ("bad", "bad-back", 4.5), ("card", "accent", 4.5), ("card", "bad", 4.5), ("card", "text", 4.5)]
+        pairs += [("edge", "card", 3), ("edge", "page", 3)]
+        for it, on, least in pairs:
+            dark, bright = sorted([light(colours[it]), light(colours[on])])
+            assert (bright + 0.05) / (dark + 0.05) >= least, (it, on, (bright + 0.05) / (dark + 0.05))
+    # No other colour is used for text.
+    used = set(re.findall(r"(?<![-a-z])color: ([^;]+);", text))
+    same(used, {"inherit", *(f"var(--{it})" for it in ["text", "muted", "accent", "warn", "bad", "buried", "card"])})
 
 
 def run_web_history_of_restarts():
@@ -434,6 +458,7 @@ def each_run_web_buried(start):
         same(found("&from=1&until=0"), ([], "1", None))
         job, = page.json("/api/buried?name=mail&from=1&until=1")["jobs"]
         same([job[it] for it in ["id", "state", "text", "kind", "size"]], ["1", "buried", "late", "text", 4])
+        same(page.json("/api/buried?name=mail&from=9")["count"], 4)
         for words, status in [("name=none", 404), ("name=mail&from=x", 400), ("name=mail&from=-1", 400), ("name=mail&until=1e9", 400), ("", 404)]:
             same((words, page.ask(f"/api/buried?{words}").status), (words, status))
         same(json.loads(page.act("kick-job", {"tube": "mail", "id": "6"}).body), {"done": "kicked job 6 of mail"})

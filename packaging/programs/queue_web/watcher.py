@@ -189,8 +189,9 @@ def is_restarted(before, now, is_new):
 
 def searched(server, name, first, until):
     """Returns buried jobs of a tube, found by looking at some of the ids: the protocol shows only the first one. `next` is
-    where to go on, None if all ids were looked at."""
-    if server.tube(name) is None:
+    where to go on, None if all ids were looked at, and `count` is how many buried jobs there are."""
+    about = server.tube(name)
+    if about is None:
         return None
     last = server.statistics()[PUTS]
     if first is None:
@@ -207,8 +208,8 @@ def searched(server, name, first, until):
         found += [it for it in server.jobs(ids) if it and (it.get("tube"), it.get("state")) == (name, "buried")]
         at += len(ids)
     jobs = [(server.peek_job(it["id"]), it) for it in found]
-    return {"first": str(first), "until": str(until), "next": str(at) if at <= until else None,
-            "jobs": [record_of(job, about) for job, about in jobs if job]}
+    return {"count": about[COUNTS["buried"]], "first": str(first), "until": str(until), "next": str(at) if at <= until else None,
+            "jobs": [record_of(job, told) for job, told in jobs if job]}
 
 
 def looked(server, name):

@@ -79,7 +79,7 @@ class Chart {
       return value;
     });
     this.plot = element("div", "plot");
-    this.svg = svgElement("svg", {"aria-hidden": "true"});
+    this.svg = svgElement("svg", {role: "img"});
     this.most = element("div", "most");
     this.cursor = element("div", "cursor");
     this.at = element("div", "at");
@@ -101,7 +101,14 @@ class Chart {
     drawLine(this.svg, drawn, most * 1.06, 600, 116);
     this.most.style.top = `${100 - 100 / 1.06}%`;
     setText(this.most, shortNumber(most));
+    this.svg.setAttribute("aria-label", `The last ten minutes: ${this.series.map((it, at) => this.told(it, drawn[at].values, now)).join("; ")}`);
     this.series.forEach((it, at) => setText(this.values[at], it.isRate ? rate(now[it.key]) : number(now[it.key])));
+  }
+
+  // Returns a series in words.
+  told(it, values, now) {
+    const show = value => it.isRate ? rate(value) : number(value), known = values.filter(value => value !== null);
+    return `${it.label} now ${show(now[it.key])}` + (known.length ? `, least ${show(Math.min(...known))}, most ${show(Math.max(...known))}` : "");
   }
 
   pointed(event) {
