@@ -5,11 +5,13 @@ import itertools
 import os
 import pathlib
 import signal
+import socket
 import termios
 import time
 
 from fault_runs import LONG
 from programs import PATIENCE, same
+from queue_model.engines import of_loop
 from servers import Server, awaits, free_port
 from waiting_runs import ANSWER, ASK
 
@@ -109,6 +111,32 @@ def run_many_wait_to_connect(bqd):
         for client in waiting:
             client.asks(ASK + b"quit\r\n", ANSWER)
             client.close()
+
+
+@of_loop
+def run_clients_beyond_the_seats_are_refused(bqd):
+    """With --when-full refuse, a connection is closed if and only if all seats are taken, and no client at a seat notices
+    it. That is reported at the first one, with their number."""
+    seats, more = 3, 100
+    with Server(bqd, "--seats", str(seats), "--when-full", "refuse") as server:
+        served = [server.client() for _ in range(seats)]
+        for client in served:
+            client.asks(ASK, ANSWER)
+        server.tells(b"bqd: all seats are taken: further connections are closed\n")
+        for _ in range(more):
+            with socket.create_connection(("127.0.0.1", server.port), PATIENCE) as refused:
+                same(refused.recv(1), b"")
+        server.tells(b"bqd: connections closed because all seats were taken: 1\n")
+        for client in served:
+            client.asks(ASK, ANSWER)
+        # Whenever a seat is free again, the next client is served, and the one after it is not.
+        for client in served:
+            client.asks(b"quit\r\n", b"")
+            client.hears_end()
+            server.client().asks(ASK, ANSWER)
+            with socket.create_connection(("127.0.0.1", server.port), PATIENCE) as refused:
+                same(refused.recv(1), b"")
+        same(server.is_silent(0.3), True)
 
 
 def timers(port):
