@@ -195,12 +195,11 @@ def all_ask_at_one_moment(bqd, seats, number, rounds):
                 client.hears(ANSWER)
 
 
-@of_loop
-def run_batch_beside_a_lone_command(bqd):
-    """A client that sends many commands at once has an event loop for some 32 of them, and then another client has its
-    turn."""
-    puts, most = 1000, 40
-    with Server(bqd, "--seats", "2") as server:
+def served_before_a_lone_command(bqd, most, **chosen):
+    """Checks that of 1,000 puts that one client sends at once, an event loop serves up to this many before the command of
+    another client."""
+    puts = 1000
+    with Server(bqd, "--seats", "2", **chosen) as server:
         many, other = server.client(), server.client()
         for client in (many, other):
             client.asks(ASK, ANSWER)
@@ -214,20 +213,17 @@ def run_batch_beside_a_lone_command(bqd):
 
 
 @of_loop
+def run_batch_beside_a_lone_command(bqd):
+    """A client that sends many commands at once has an event loop for some 32 of them, and then another client has its
+    turn."""
+    served_before_a_lone_command(bqd, 40)
+
+
+@of_loop
 def run_heavy_commands_beside_a_lone_one(bqd):
-    """A client whose commands take long has an event loop for two of them, and then another client has its turn. The
-    clock runs 1,000 times as fast, so that each command takes long."""
-    puts, most = 1000, 8
-    with Server(bqd, "--seats", "2", env=faults(clock=1000)) as server:
-        many, other = server.client(), server.client()
-        for client in (many, other):
-            client.asks(ASK, ANSWER)
-        with server.stopped():
-            many.sends(PUT * puts)
-            other.sends(ASK + b"stats\r\n")
-        other.hears(ANSWER)
-        same(value_told(other, b"total-jobs") <= most, True)
-        many.hears(b"".join(b"INSERTED %d\r\n" % it for it in range(1, puts + 1)))
+    """A client whose commands take long has an event loop for some milliseconds, and then another client has its turn.
+    The clock runs 1,000 times as fast, so that each command takes long."""
+    served_before_a_lone_command(bqd, 8, env=faults(clock=1000))
 
 
 @of_loop
