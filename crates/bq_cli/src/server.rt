@@ -23,7 +23,7 @@ use bq_line::{Door, FreeDoors, Refusals, TcpDoor, clock};
 use bq_program::{
     Fault, Need, Options, Program, WhenFull, fault_of_loop, tell_cannot_listen, tell_server,
 };
-use bq_run::{Run, run_threads};
+use bq_run::{Run, run_sessions};
 use std::alloc::Global;
 use std::io;
 use std::io::{Eprint, Print};
@@ -315,7 +315,7 @@ pub fn serve_doors<
     ensures bad_configuration { IsErrOf result RunFault.BadConfiguration
         ↔ IsTrue (not (are_in_range (settings_of options.now) && vec_len doors.entry == options.now.seats)) }
 {
-    run_threads(rt, alloc, config_of(options), doors, clock, control)
+    run_sessions(rt, alloc, config_of(options), doors, clock, control)
 }
 
 /// Does the same as `serve_doors` by the calling thread alone, in an event loop. The listeners of the doors must not

@@ -2,6 +2,6 @@
 //! links of `bq_link`. What each thread does is in `bq_thread_work`.
 #![tactic(auto)]
 
-pub use run::{Run, run_threads};
+pub use run::{Run, run_sessions};
 
 mod run;

@@ -55,7 +55,7 @@ pub struct Run<D, C, I, K> {
 /// is not the number of seats. Otherwise it is `NoMemory` if an allocation failed, or
 /// `ThreadRefused` if a thread could not be started. After any error no door was opened, and the
 /// doors are dropped.
-pub fn run_threads<
+pub fn run_sessions<
     R: Threads + Wait + Sync,
     L: Line + Drop + Send,
     D: Door<Line = L> + Drop + Send,

@@ -67,5 +67,5 @@ pub fn run_sessions<
     ensures bad_configuration { IsErrOf result RunFault.BadConfiguration
         ↔ IsTrue (not (are_in_range config && vec_len doors == config.seats)) }
 {
-    bq_run::run_threads(rt, alloc, config, doors, clock, control)
+    bq_run::run_sessions(rt, alloc, config, doors, clock, control)
 }

@@ -3,5 +3,5 @@ use denote.Param.Send.{arg_send, param_send}
 use Rattle.bq_core.proofs.SendLemmas.{core_sends}
 use Rattle.bq_cli.proofs.server.serve_doors.Goals as goal
 
-pub run_threads-requires-send-K : goal.run_threads-requires-send-K
-run_threads-requires-send-K g c κs within = param_send 5 _ (arg_send _ yes _ core_sends)
+pub run_sessions-requires-send-K : goal.run_sessions-requires-send-K
+run_sessions-requires-send-K g c κs within = param_send 5 _ (arg_send _ yes _ core_sends)

@@ -9,7 +9,7 @@ use Rattle.bq_run.specs.ThreadRuns.{IsRunOf}
 use Rattle.bq_run.proofs.LinkedLemmas.{all_at_end, all_done, core_keeps, core_over_of, run_joined, served_of, still_doored}
 use Rattle.bq_run.proofs.SettleLemmas.{same_run}
 use Rattle.bq_run.proofs.ThreadLemmas.{back_paired, no_fault, other_fault, well_configured}
-use Rattle.bq_run.proofs.run.run_threads.Goals as goal
+use Rattle.bq_run.proofs.run.run_sessions.Goals as goal
 
 pub returns-in-Err-clause-bad_configuration : goal.returns-in-Err-clause-bad_configuration
 returns-in-Err-clause-bad_configuration g c =
