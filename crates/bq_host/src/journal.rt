@@ -3,6 +3,7 @@ ghost use Rattle.std.specs.Prelude.{◌≡◌, ◌<◌, [], IfOk, IfSome, IsNone
 ghost use Rattle.bq_job.specs.beside.StepBody.{has_body};
 ghost use Rattle.bq_host.specs.Journals.{with_entry, without_entry};
 
+use bq_core_api::Outs;
 use bq_job::{Entry, Moment, NoMemory, Seat, Step};
 use std::alloc::Global;
 use std::marker::Model;
@@ -57,20 +58,15 @@ impl Journal {
         what.share().ok()
     }
 
-    /// Adds the entry of a step that was taken, with this copy of the step. The journal is no
-    /// longer complete if there is no copy, or if a body could not be shared in the step.
-    pub fn note(
-        &mut self,
-        at: Moment,
-        seat: Seat,
-        copy: Option<Step>,
-        left_out: bool,
-        unshared: bool,
-    )
+    /// Adds the entry of the step that has just been taken, with this copy of the step and with
+    /// the outcome that the core reported. The journal is no longer complete if there is no copy,
+    /// or if a body could not be shared in the step.
+    pub fn note(&mut self, at: Moment, seat: Seat, copy: Option<Step>, outs: &Outs)
         requires room { IsSome copy → length self.old.entries < self.old.capacity }
         ensures without { IsNone copy → self.new ≡ without_entry self.old }
         ensures added { IfSome copy (λ step. self.new
-            ≡ with_entry (record { moment = at; seat = seat; step = step; left_out = left_out }) unshared self.old) }
+            ≡ with_entry (record { moment = at; seat = seat; step = step; left_out = outs.now.left_out })
+            outs.now.unshared self.old) }
     {
         let Some(step) = copy else {
             self.whole = false;
@@ -81,10 +77,10 @@ impl Journal {
                 moment: at,
                 seat,
                 step,
-                left_out,
+                left_out: outs.left_out(),
             })
             .unwrap();
-        self.whole = self.whole && !unshared;
+        self.whole = self.whole && !outs.unshared();
     }
 
     /// Returns the entries so far, in the order in which their steps were taken.

@@ -68,25 +68,19 @@ ends_delivered so_far given old new seat d ends =
     ]
 
 -- The journal after a step, by whether there was a copy of the step for its entry.
-pub noted_of : (copy : Option Step) (old : JournalState) (at seat : ℕ) (what : Step) (told_left told_unshared left_out unshared : Bool)
-    (new : JournalState)
-    → told_left ≡ left_out → told_unshared ≡ unshared
+pub noted_of : (copy : Option Step) (old : JournalState) (at seat : ℕ) (what : Step) (left_out unshared : Bool) (new : JournalState)
     → IfSome copy (λ step. step ≡ what) → (IsSome copy → length old.entries < old.capacity)
     → (IsNone copy → length old.entries < old.capacity → IsTrue (has_body what))
     → (IsNone copy → new ≡ without_entry old)
-    → IfSome copy (λ step. new ≡ with_entry (record { moment = at; seat = seat; step = step; left_out = told_left }) told_unshared old)
+    → IfSome copy (λ step. new ≡ with_entry (record { moment = at; seat = seat; step = step; left_out = left_out }) unshared old)
     → IsAdded old (record { moment = at; seat = seat; step = what; left_out = left_out }) unshared new ⊎ IsLeftOut old what new
-noted_of None old at seat what told_left told_unshared left_out unshared new left shared same room refused without added =
+noted_of None old at seat what left_out unshared new same room refused without added =
     inr (record { had_body = refused refl; new_is = without refl })
-noted_of (Some step) old at seat what told_left told_unshared left_out unshared new left shared same room refused without
-    added = inl (record {
-      had_room = room refl;
-      new_is =
-          added
-          ∙ ap (λ (s : Step). with_entry (record { moment = at; seat = seat; step = s; left_out = told_left }) told_unshared old) same
-          ∙ ap (λ (b : Bool). with_entry (record { moment = at; seat = seat; step = what; left_out = b }) told_unshared old) left
-          ∙ ap (λ (b : Bool). with_entry (record { moment = at; seat = seat; step = what; left_out = left_out }) b old) shared;
-    })
+noted_of (Some step) old at seat what left_out unshared new same room refused without added = inl (record {
+  had_room = room refl;
+  new_is = added
+      ∙ ap (λ (s : Step). with_entry (record { moment = at; seat = seat; step = s; left_out = left_out }) unshared old) same;
+})
 
 -- If the journal is complete after a step, it was complete before it, and no reference to a body
 -- failed to be allocated in the step.

@@ -81,9 +81,8 @@ impl Locked {
     {
         let copy = self.journal.copy(&what);
         self.core.step(self.alloc, at, seat, what, &mut self.outs);
+        self.journal.note(at, seat, copy, &self.outs);
         self.outboxes.deliver(&mut self.outs);
-        self.journal
-            .note(at, seat, copy, self.outs.left_out(), self.outs.unshared());
     }
 
     /// Takes the oldest answer out of a seat's outbox. Returns `None` if the outbox is empty or the

@@ -7,28 +7,26 @@ use Rattle.bq_lock.specs.LockedSteps.{TakesStep}
 use Rattle.bq_lock.proofs.LockedLemmas.{hold_step, noted_of}
 use Rattle.bq_lock.proofs.locked.Locked.step.Goals as goal
 
-abbrev before : goal.After-note → LockedState
+abbrev before : goal.After-deliver → LockedState
 before c = locked_of c.self.inside.core.machine c.self.inside.outboxes.mails.items c.self.inside.outboxes.answered.items
     c.self.inside.journal
 
-abbrev after : goal.After-note → LockedState
+abbrev after : goal.After-deliver → LockedState
 after c = locked_of c.step.new.self.machine c.deliver.new.self.mails.items c.deliver.new.self.answered.items c.note.new.self
 
-abbrev taken : (c : goal.After-note) → TakesStep (before c) c.args.at c.args.seat c.args.what (after c)
+abbrev taken : (c : goal.After-deliver) → TakesStep (before c) c.args.at c.args.seat c.args.what (after c)
 taken c = record {
   outcome = record { left_out = c.step.new.outs.left_out; unshared = c.step.new.outs.unshared };
   given = c.step.new.outs.given;
   step = c.step.ensures.step;
   delivered = c.deliver.ensures.delivered;
   answered = c.deliver.ensures.answered;
-  noted = noted_of c.copy-copy.result c.self.inside.journal c.args.at c.args.seat c.args.what c.left_out.result c.unshared.result
+  noted = noted_of c.copy-copy.result c.self.inside.journal c.args.at c.args.seat c.args.what
       c.step.new.outs.left_out c.step.new.outs.unshared c.note.new.self
-      (c.left_out.ensures ∙ ap (λ (o : Outbox). o.left_out) c.deliver.ensures.taken)
-      (c.unshared.ensures ∙ ap (λ (o : Outbox). o.unshared) c.deliver.ensures.taken)
       c.copy-copy.ensures.same c.copy-copy.ensures.room c.copy-copy.ensures.refused c.note.ensures.without c.note.ensures.added;
 }
 
-abbrev holds : (c : goal.After-note) → IsLawfulHold (after c)
+abbrev holds : (c : goal.After-deliver) → IsLawfulHold (after c)
 holds c = hold_step (before c) c.args.at c.args.seat c.args.what
     (after c) c.self.invariant.0 c.step.ensures.lawful c.step.ensures.settings (taken c)
 
