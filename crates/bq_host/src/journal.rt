@@ -1,12 +1,38 @@
 //! The journal of the steps that a core took.
 ghost use Rattle.std.specs.Prelude.{◌≡◌, ◌<◌, [], IfOk, IfSome, IsNone, IsSome, IsTrue, length, true};
 ghost use Rattle.bq_job.specs.beside.StepBody.{has_body};
+ghost use Rattle.bq_job.specs.declared.step.Step.{Step};
 ghost use Rattle.bq_host.specs.Journals.{with_entry, without_entry};
 
 use bq_core_api::Outs;
 use bq_job::{Entry, Moment, NoMemory, Seat, Step};
 use std::alloc::Global;
 use std::marker::Model;
+
+/// Where the copy of a step for its entry comes from: in a run from `SharedBodies`, in a test from
+/// a source that refuses some.
+pub trait CopySource {
+    /// This source, as it was before, refused a copy of this step.
+    ghost refused: { Self → Step → Type 0 };
+
+    /// Returns a copy of the step, or `None` if it is refused.
+    fn copy_of(&mut self, what: &Step) -> Option<Step>
+        ensures same { IfSome result (λ step. step ≡ what.now) }
+        ensures refused { IsNone result → refused self.old what.now };
+}
+
+/// Copies that share the body of a put. A copy is refused only if `Arc` refuses another reference
+/// to that body.
+#[derive(Drop)]
+pub struct SharedBodies;
+
+impl CopySource for SharedBodies {
+    ghost refused = { λ source step. IsTrue (has_body step) };
+
+    fn copy_of(&mut self, what: &Step) -> Option<Step> {
+        what.share().ok()
+    }
+}
 
 /// The entries of the steps that were taken, as long as there is room for them.
 #[derive(Drop)]
@@ -44,18 +70,18 @@ impl Journal {
         })
     }
 
-    /// Returns a copy of the step, if there is room for its entry and another reference to its body
-    /// can be allocated.
-    pub fn copy(&self, what: &Step) -> Option<Step>
+    /// Returns a copy of the step from this source. Returns `None` if there is no room for its
+    /// entry, or if the source refuses the copy.
+    pub fn copy<S: CopySource>(&self, source: &mut S, what: &Step) -> Option<Step>
         ensures same { IfSome result (λ step. step ≡ what.now) }
         ensures room { IsSome result → length self.now.entries < self.now.capacity }
         ensures refused { IsNone result → length self.now.entries < self.now.capacity
-            → IsTrue (has_body what.now) }
+            → S.refused source.old what.now }
     {
         if self.entries.len() >= self.capacity {
             return None;
         }
-        what.share().ok()
+        source.copy_of(what)
     }
 
     /// Adds the entry of the step that has just been taken, with this copy of the step and with

@@ -3,7 +3,7 @@
 #![tactic(auto)]
 
 pub use fault::RunFault;
-pub use journal::Journal;
+pub use journal::{CopySource, Journal, SharedBodies};
 pub use mail::{Mail, new_mails};
 pub use notices::Notices;
 pub use start::Start;

@@ -1,7 +1,7 @@
 -- The invariant of the lock's content holds after each operation.
 use Rattle.std.proofs.Common.{◌≡◌, ℕ, ◌<◌, ◌≤◌, ◌⊎◌, Bool, true, false, not, ◌&&◌, List, [], ◌∷◌, ◌++◌}
 use Rattle.std.proofs.Common.{Option, Some, None, drop, length, refl, sym, ap, ◌∙◌, arith, subst, inl, inr, replicate}
-use Rattle.std.specs.Prelude.{◌==◌, IfSome, IsNone, IsSome, IsTrue}
+use Rattle.std.specs.Prelude.{◌==◌, IfSome, IsNone, IsSome}
 use Rattle.std.proofs.lemmas.Bool.{cases_Bool, cases_lt, eqb-true, eqb-false, false≢true}
 use Rattle.std.proofs.lemmas.List.{get_or_past, get_or-replicate, get_or-set_other, get_or-set_same}
 use Rattle.std.proofs.lemmas.List.{length-append, length-replicate, length-set, set_past}
@@ -14,7 +14,6 @@ use Rattle.bq_job.specs.beside.Lawful.{IsLawful}
 use Rattle.bq_job.specs.machine.Machine.{Machine, new_machine}
 use Rattle.bq_job.specs.beside.Replay.{Replay, outcome_of}
 use Rattle.bq_job.specs.promise.Runs.{answers_to}
-use Rattle.bq_job.specs.beside.StepBody.{has_body}
 use Rattle.bq_job.specs.machine.Steps.{IsStep, Outcome}
 use Rattle.bq_job.proofs.LawfulLemmas.{new_is_lawful}
 use Rattle.bq_job.proofs.OneClientLemmas.{answers_append}
@@ -22,7 +21,7 @@ use Rattle.bq_job.proofs.ReplayLemmas.{replay_more, replay_none}
 use Rattle.bq_host.specs.Journals.{JournalState, with_entry, without_entry}
 use Rattle.bq_host.specs.LastParts.{EndsWith, last_part}
 use Rattle.bq_lock.specs.LockedState.{IsLawfulHold, IsReplayed, LockedState, locked_of, new_locked, outbox_at, without_oldest}
-use Rattle.bq_lock.specs.LockedSteps.{AreDelivered, IsAdded, IsLeftOut, TakesStep}
+use Rattle.bq_lock.specs.LockedSteps.{AreDelivered, IsAdded, IsLeftOut, TakesStepUnless}
 use Rattle.bq_lock.proofs.DeliveryLemmas.{few_delivered, outbox_past}
 use Rattle.bq_lock.proofs.LastPartLemmas.{ends_with_drop, ends_with_last, ends_with_more, ends_with_none, ends_with_then}
 
@@ -70,17 +69,37 @@ ends_delivered so_far given old new seat d ends =
 -- The journal after a step, by whether there was a copy of the step for its entry.
 pub noted_of : (copy : Option Step) (old : JournalState) (at seat : ℕ) (what : Step) (left_out unshared : Bool) (new : JournalState)
     → IfSome copy (λ step. step ≡ what) → (IsSome copy → length old.entries < old.capacity)
-    → (IsNone copy → length old.entries < old.capacity → IsTrue (has_body what))
     → (IsNone copy → new ≡ without_entry old)
     → IfSome copy (λ step. new ≡ with_entry (record { moment = at; seat = seat; step = step; left_out = left_out }) unshared old)
-    → IsAdded old (record { moment = at; seat = seat; step = what; left_out = left_out }) unshared new ⊎ IsLeftOut old what new
-noted_of None old at seat what left_out unshared new same room refused without added =
-    inr (record { had_body = refused refl; new_is = without refl })
-noted_of (Some step) old at seat what left_out unshared new same room refused without added = inl (record {
+    → IsAdded old (record { moment = at; seat = seat; step = what; left_out = left_out }) unshared new ⊎ IsLeftOut (IsNone copy) old new
+noted_of None old at seat what left_out unshared new same room without added =
+    inr (record { was_refused = λ has_room. refl; new_is = without refl })
+noted_of (Some step) old at seat what left_out unshared new same room without added = inl (record {
   had_room = room refl;
   new_is = added
       ∙ ap (λ (s : Step). with_entry (record { moment = at; seat = seat; step = s; left_out = left_out }) unshared old) same;
 })
+
+-- If there is no copy only because it was refused, the entry was left out only for that.
+pub refused_of : {none refused : Type 0} (old : LockedState) (at seat : ℕ) (what : Step) (new : LockedState)
+    → (none → length old.journal.entries < old.journal.capacity → refused)
+    → TakesStepUnless none old at seat what new → TakesStepUnless refused old at seat what new
+refused_of {none} {refused} old at seat what new why taken = record {
+  outcome = taken.outcome;
+  given = taken.given;
+  step = taken.step;
+  delivered = taken.delivered;
+  answered = taken.answered;
+  noted = by_journal taken.noted;
+}
+  where
+    entry : Entry
+    entry = record { moment = at; seat = seat; step = what; left_out = taken.outcome.left_out }
+
+    by_journal : IsAdded old.journal entry taken.outcome.unshared new.journal ⊎ IsLeftOut none old.journal new.journal
+        → IsAdded old.journal entry taken.outcome.unshared new.journal ⊎ IsLeftOut refused old.journal new.journal
+    by_journal (inl added) = inl added
+    by_journal (inr left) = inr (record { was_refused = λ room. why (left.was_refused room) room; new_is = left.new_is })
 
 -- If the journal is complete after a step, it was complete before it, and no reference to a body
 -- failed to be allocated in the step.
@@ -119,10 +138,10 @@ step_replayed old at seat what new outcome given step delivered settings replaye
     }
 
 -- a step preserves the invariant
-pub hold_step : (old : LockedState) (at seat : ℕ) (what : Step) (new : LockedState) → IsLawfulHold old → IsLawful new.machine
-    → new.machine.settings ≡ old.machine.settings
-    → TakesStep old at seat what new → IsLawfulHold new
-hold_step old at seat what new h lawful settings taken = record {
+pub hold_step : (refused : Type 0) (old : LockedState) (at seat : ℕ) (what : Step) (new : LockedState) → IsLawfulHold old
+    → IsLawful new.machine → new.machine.settings ≡ old.machine.settings
+    → TakesStepUnless refused old at seat what new → IsLawfulHold new
+hold_step refused old at seat what new h lawful settings taken = record {
   lawful = lawful;
   many = taken.delivered.many ∙ h.many ∙ ap (λ (s : Settings). s.seats) (sym settings);
   few = few_delivered taken.given old.outboxes new.outboxes taken.delivered;
@@ -132,7 +151,7 @@ hold_step old at seat what new h lawful settings taken = record {
     entry : Entry
     entry = record { moment = at; seat = seat; step = what; left_out = taken.outcome.left_out }
 
-    by_journal : IsAdded old.journal entry taken.outcome.unshared new.journal ⊎ IsLeftOut old.journal what new.journal
+    by_journal : IsAdded old.journal entry taken.outcome.unshared new.journal ⊎ IsLeftOut refused old.journal new.journal
         → new.journal.whole ≡ true → IsReplayed new
     by_journal (inl added) whole = step_replayed old at seat what new taken.outcome taken.given taken.step taken.delivered settings
         h.replayed added whole

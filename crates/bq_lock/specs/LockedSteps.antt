@@ -21,15 +21,14 @@ pub record IsAdded (old : JournalState) (entry : Entry) (unshared : Bool) (new :
   pub had_room : length old.entries < old.capacity
   pub new_is : new ≡ with_entry entry unshared old
 
--- The entry was left out, because there was no room or another reference to the body in it could
--- not be allocated.
-pub record IsLeftOut (old : JournalState) (what : Step) (new : JournalState) : Type 0 where
-  pub had_body : length old.entries < old.capacity → IsTrue (has_body what)
+-- The entry was left out, because there was no room or because the copy of its step was refused.
+pub record IsLeftOut (refused : Type 0) (old new : JournalState) : Type 0 where
+  pub was_refused : length old.entries < old.capacity → refused
   pub new_is : new ≡ without_entry old
 
 -- The core took the step and the answers were delivered. The step's entry was added, with the
 -- outcome of the step, or it was left out.
-pub record TakesStep (old : LockedState) (at seat : ℕ) (what : Step) (new : LockedState) : Type 0 where
+pub record TakesStepUnless (refused : Type 0) (old : LockedState) (at seat : ℕ) (what : Step) (new : LockedState) : Type 0 where
   pub outcome : Outcome
   pub given : List GivenAnswer
   pub step : IsStep old.machine at seat what outcome given new.machine
@@ -37,4 +36,8 @@ pub record TakesStep (old : LockedState) (at seat : ℕ) (what : Step) (new : Lo
   pub answered : new.answered ≡ map (λ g. g.0) given
   pub noted :
       IsAdded old.journal (record { moment = at; seat = seat; step = what; left_out = outcome.left_out }) outcome.unshared new.journal
-      ⊎ IsLeftOut old.journal what new.journal
+      ⊎ IsLeftOut refused old.journal new.journal
+
+-- the same if the copy shares the step's body, which can be refused only if there is one
+abbrev pub TakesStep : LockedState → ℕ → ℕ → Step → LockedState → Type 0
+TakesStep old at seat what new = TakesStepUnless (IsTrue (has_body what)) old at seat what new

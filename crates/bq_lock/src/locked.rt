@@ -1,14 +1,14 @@
 //! The content of the one lock of a server.
-ghost use Rattle.std.specs.Prelude.{◌≡◌, ◌↔◌, IfOk, IsErrOf, IsTrue, not};
+ghost use Rattle.std.specs.Prelude.{◌≡◌, ◌↔◌, ◌<◌, IfOk, IfSome, IsErrOf, IsNone, IsSome, IsTrue, length, not};
 ghost use Rattle.bq_core_api.specs.Limits.{are_in_range};
 ghost use Rattle.bq_job.specs.beside.NextDue.{next_due};
 ghost use Rattle.bq_lock.specs.LockedState.{IsLawfulHold, new_locked, oldest_for, without_oldest};
-ghost use Rattle.bq_lock.specs.LockedSteps.{TakesStep};
+ghost use Rattle.bq_lock.specs.LockedSteps.{TakesStep, TakesStepUnless};
 
 mod outboxes;
 
 use bq_core::{Config, Core, Outs};
-use bq_host::{Journal, RunFault, new_core};
+use bq_host::{CopySource, Journal, RunFault, SharedBodies, new_core};
 use bq_job::{Answer, Entry, Moment, Seat, Step};
 use outboxes::Outboxes;
 use std::alloc::Global;
@@ -79,7 +79,26 @@ impl Locked {
         ensures taken { TakesStep self.old at seat what self.new }
         ensures holds { IsLawfulHold self.new }
     {
-        let copy = self.journal.copy(&what);
+        self.step_from(&mut SharedBodies, at, seat, what);
+    }
+
+    /// Does the same with the copy of the step from this source. With room in the journal, the
+    /// entry is left out only if the source refuses the copy.
+    pub fn step_from<S: CopySource>(&mut self, source: &mut S, at: Moment, seat: Seat, what: Step)
+        ensures taken { TakesStepUnless (S.refused source.old what) self.old at seat what self.new }
+        ensures holds { IsLawfulHold self.new }
+    {
+        let copy = self.journal.copy(source, &what);
+        self.take(at, seat, what, copy);
+    }
+
+    // Takes a step, of which there is this copy for the journal.
+    fn take(&mut self, at: Moment, seat: Seat, what: Step, copy: Option<Step>)
+        requires same { IfSome copy (λ step. step ≡ what) }
+        requires room { IsSome copy → length self.old.journal.entries < self.old.journal.capacity }
+        ensures taken { TakesStepUnless (IsNone copy) self.old at seat what self.new }
+        ensures holds { IsLawfulHold self.new }
+    {
         self.core.step(self.alloc, at, seat, what, &mut self.outs);
         self.journal.note(at, seat, copy, &self.outs);
         self.outboxes.deliver(&mut self.outs);

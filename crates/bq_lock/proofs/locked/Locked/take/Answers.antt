@@ -1,11 +1,12 @@
-use Rattle.std.proofs.Common.{◌≡◌, ap, ◌∙◌, arith, subst}
+use Rattle.std.proofs.Common.{◌≡◌, ◌<◌, length, ap, ◌∙◌, arith, subst, sym}
+use Rattle.std.specs.Prelude.{IsNone}
 use Rattle.bq_core_api.specs.Outbox.{Outbox}
 use Rattle.bq_job.specs.declared.settings.Settings.{Settings}
 use Rattle.bq_job.proofs.LawfulLemmas.{few_answers}
 use Rattle.bq_lock.specs.LockedState.{IsLawfulHold, LockedState, locked_of}
-use Rattle.bq_lock.specs.LockedSteps.{TakesStep}
+use Rattle.bq_lock.specs.LockedSteps.{TakesStepUnless}
 use Rattle.bq_lock.proofs.LockedLemmas.{hold_step, noted_of}
-use Rattle.bq_lock.proofs.locked.Locked.step.Goals as goal
+use Rattle.bq_lock.proofs.locked.Locked.take.Goals as goal
 
 abbrev before : goal.After-deliver → LockedState
 before c = locked_of c.self.inside.core.machine c.self.inside.outboxes.mails.items c.self.inside.outboxes.answered.items
@@ -14,20 +15,23 @@ before c = locked_of c.self.inside.core.machine c.self.inside.outboxes.mails.ite
 abbrev after : goal.After-deliver → LockedState
 after c = locked_of c.step.new.self.machine c.deliver.new.self.mails.items c.deliver.new.self.answered.items c.note.new.self
 
-abbrev taken : (c : goal.After-deliver) → TakesStep (before c) c.args.at c.args.seat c.args.what (after c)
+abbrev taken : (c : goal.After-deliver)
+    → TakesStepUnless (IsNone c.args.copy) (before c) c.args.at c.args.seat c.args.what (after c)
 taken c = record {
   outcome = record { left_out = c.step.new.outs.left_out; unshared = c.step.new.outs.unshared };
   given = c.step.new.outs.given;
   step = c.step.ensures.step;
   delivered = c.deliver.ensures.delivered;
   answered = c.deliver.ensures.answered;
-  noted = noted_of c.copy-copy.result c.self.inside.journal c.args.at c.args.seat c.args.what
+  noted = noted_of c.args.copy c.self.inside.journal c.args.at c.args.seat c.args.what
       c.step.new.outs.left_out c.step.new.outs.unshared c.note.new.self
-      c.copy-copy.ensures.same c.copy-copy.ensures.room c.copy-copy.ensures.refused c.note.ensures.without c.note.ensures.added;
+      c.requires.same
+      (λ some. subst (λ (l : LockedState). length l.journal.entries < l.journal.capacity) (sym c.self.view_is) (c.requires.room some))
+      c.note.ensures.without c.note.ensures.added;
 }
 
 abbrev holds : (c : goal.After-deliver) → IsLawfulHold (after c)
-holds c = hold_step (before c) c.args.at c.args.seat c.args.what
+holds c = hold_step (IsNone c.args.copy) (before c) c.args.at c.args.seat c.args.what
     (after c) c.self.invariant.0 c.step.ensures.lawful c.step.ensures.settings (taken c)
 
 pub deliver-requires-clause-room : goal.deliver-requires-clause-room
@@ -47,7 +51,8 @@ invariant_of-self c =
     (holds c, omega (arith, seats, most, outs), omega (arith, seats, room, answered))
 
 pub returns-clause-taken : goal.returns-clause-taken
-returns-clause-taken c = subst (λ (l : LockedState). TakesStep l c.args.at c.args.seat c.args.what (after c)) c.self.view_is (taken c)
+returns-clause-taken c =
+    subst (λ (l : LockedState). TakesStepUnless (IsNone c.args.copy) l c.args.at c.args.seat c.args.what (after c)) c.self.view_is (taken c)
 
 pub returns-clause-holds : goal.returns-clause-holds
 returns-clause-holds c = holds c
