@@ -229,9 +229,9 @@ fn with_digit(value: u64, digit: u8) -> Option<u64>
     shifted.checked_add(u64::from(digit - b'0'))
 }
 
-// Returns the number that a word of digits denotes, if it fits in 64 bits.
+/// Returns the job id that a word denotes, or None if it is not a number below 2^64.
 #[tactic(auto, using(crate::proofs::NumberLemmas::too_great, crate::proofs::NumberLemmas::all_digits))]
-fn decimal(word: &[u8]) -> Option<u64>
+pub fn job_id(word: &[u8]) -> Option<JobId>
     ensures { result ≡ numbers.job_id word.now }
 {
     if word.is_empty() {
@@ -248,11 +248,4 @@ fn decimal(word: &[u8]) -> Option<u64>
         value = longer;
     }
     Some(value)
-}
-
-/// Returns the job id that a word denotes, or None if it is not a number below 2^64.
-pub fn job_id(word: &[u8]) -> Option<JobId>
-    ensures { result ≡ numbers.job_id word.now }
-{
-    decimal(word)
 }

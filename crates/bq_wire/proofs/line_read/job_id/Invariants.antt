@@ -1,7 +1,7 @@
 use Rattle.std.proofs.Common.{◌≡◌, ◌<◌, ◌^◌, drop, fold}
 use Rattle.std.specs.List.{list_all}
 use Rattle.bq_job.specs.reading.Words as spec
-use Rattle.bq_wire.proofs.line_read.decimal.Given as goal
+use Rattle.bq_wire.proofs.line_read.job_id.Given as goal
 
 -- the remaining digits turn the value so far into that of the whole word
 abbrev pub invariant-loop-byte : goal.invariant-loop-byte
