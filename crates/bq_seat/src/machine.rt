@@ -8,7 +8,7 @@ use bq_wire::RequestReader;
 use std::alloc::Global;
 
 /// What happened at a connection in answer to the machine's last action.
-#[derive(Debug, Drop)]
+#[derive(Drop)]
 pub enum Event<'a> {
     /// A line was opened.
     Opened,
@@ -31,7 +31,7 @@ pub enum Event<'a> {
 }
 
 /// What to do next for a connection.
-#[derive(Debug, Drop)]
+#[derive(Drop)]
 pub enum Action {
     /// Submit this step of the line.
     Submit(Step),
