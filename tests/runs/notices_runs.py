@@ -4,12 +4,15 @@ import fcntl
 import os
 import pathlib
 import select
+import socket
+import subprocess
 import tempfile
 import threading
 import time
 
 from fault_runs import AT_THE_END, told_of
 from faults import faults
+from journal import Journal
 from programs import PATIENCE, same
 from runner import by_hand
 from servers import TAKEN, Server
@@ -162,6 +165,44 @@ def run_dropped_notices_are_told_once(bqd):
         serves(5)
         time.sleep(0.3)
         same([it for it in pipe.rest().splitlines() if b"dropped" in it], [])
+
+
+# What a server with one seat reports while a connection can't be accepted, and then draining begins: each line with its
+# priority in sd-daemon(3).
+REPORTED = [
+    (b"<4>", told_of(errno.EMFILE).rstrip()),
+    (b"<4>", TAKEN.rstrip()),
+    (b"<6>", b"bqd: draining"),
+]
+
+
+def run_priorities_of_a_journal(bqd):
+    """Lines of a server begin with their priority if JOURNAL_STREAM names the file that standard error is, and only
+    then."""
+    code = errno.EMFILE
+    for is_named in (True, False):
+        with Journal() as journal:
+            env = journal.named(0 if is_named else 1, **faults(accepts=code, times=1))
+            with Server(bqd, "--seats", "1", stderr=journal.file, env=env) as server:
+                client = server.client()
+                client.asks(ASK, ANSWER)
+                journal.lines(2)
+                server.control(b"drain\n")
+                same(journal.lines(3), [priority * is_named + text for priority, text in REPORTED])
+
+
+def run_priority_of_a_fault(bqd):
+    """A server that cannot listen, or has bad options, reports that as errors to the journal, each line by itself."""
+    with socket.create_server(("127.0.0.1", 0)) as taken:
+        address = f"127.0.0.1:{taken.getsockname()[1]}"
+        for words, status in [(["--listen", address], 1), (["--listen", address, "--seats", "none"], 2)]:
+            with Journal() as journal:
+                env = journal.named()
+                same(subprocess.run([bqd, *words], env=env, stdin=subprocess.DEVNULL, stderr=journal.file).returncode, status)
+                told = journal.lines(2)
+                same({it[:3] for it in told}, {b"<3>"})
+                plain = subprocess.run([bqd, *words], stdin=subprocess.DEVNULL, stderr=subprocess.PIPE)
+                same([it[3:] for it in told], plain.stderr.splitlines())
 
 
 def is_told_for_each_shortage(bqd, least):

@@ -1,6 +1,8 @@
 //! How the thread that started a server learns that it has ended.
+ghost use Rattle.std.specs.Prelude.{◌≡◌};
 
 use bq_line::OpenDoors;
+use bq_program::LogForm;
 use std::sync::atomic::{AtomicU64, Ordering};
 use std::sync::{Wait, WaitMethods};
 
@@ -13,16 +15,27 @@ pub struct Ending {
     is_over: AtomicU64,
     // 1 if a thread has begun to report how the server ended.
     is_reported: AtomicU64,
+    form: LogForm,
 }
 
 impl Ending {
-    /// Makes the end of a server with this number of doors.
-    pub fn new(doors: u16) -> Ending {
+    /// Makes the end of a server with this number of doors, whose reports have this form.
+    pub fn new(doors: u16, form: LogForm) -> Ending
+        ensures { result.form ≡ form }
+    {
         Ending {
             doors: OpenDoors::new(u32::from(doors)),
             is_over: AtomicU64::new(0),
             is_reported: AtomicU64::new(0),
+            form,
         }
+    }
+
+    /// Returns how the lines of reports begin.
+    pub fn form(&self) -> LogForm
+        ensures { result ≡ self.now.form }
+    {
+        self.form
     }
 
     /// Returns the doors that are still open.

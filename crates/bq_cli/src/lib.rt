@@ -3,7 +3,8 @@
 #![tactic(auto)]
 
 pub use bq_program::{
-    Fault, Need, OptionFault, Options, Program, Stop, options, tell_cannot_listen, tell_fault,
+    Fault, LogForm, Need, OptionFault, Options, Program, Stop, options, tell_cannot_listen,
+    tell_fault,
 };
 pub use descriptors::open_standard_descriptors;
 pub use ending::Ending;
@@ -17,6 +18,7 @@ pub use server::{
 mod descriptors;
 mod ending;
 mod foreground;
+mod journal;
 mod listening;
 mod log;
 mod logging;

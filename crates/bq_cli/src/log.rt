@@ -1,6 +1,7 @@
 //! Lines for standard error. A thread of its own writes them, so that no other thread waits for their reader.
 
 use arrayvec::ArrayString;
+use bq_program::{LogForm, Severity};
 use crossbeam_queue::ArrayQueue;
 use std::alloc::{AllocError, Global};
 use std::fmt::{Display, Write};
@@ -38,11 +39,12 @@ pub struct Log {
     // The thread that writes sleeps on the first, the one that closes the log on the second.
     writer: Parker,
     closer: Parker,
+    form: LogForm,
 }
 
 impl Log {
-    /// Makes an empty log, and allocates all memory that it needs.
-    pub fn new(alloc: Global) -> Result<Log, AllocError> {
+    /// Makes an empty log, and allocates all memory that it needs. What the log itself reports has this form.
+    pub fn new(alloc: Global, form: LogForm) -> Result<Log, AllocError> {
         Ok(Log {
             lines: ArrayQueue::new(alloc, ROOM)?,
             dropped: AtomicU64::new(0),
@@ -50,6 +52,7 @@ impl Log {
             is_written: AtomicU64::new(0),
             writer: Parker::new(),
             closer: Parker::new(),
+            form,
         })
     }
 
@@ -87,8 +90,9 @@ impl Log {
         }
         let dropped = self.dropped.swap(0, Ordering::SeqCst);
         if dropped > 0 {
+            let first = self.form.prefix(Severity::Warning);
             let _told = eprintln!(rt;
-                "bqd: {dropped} lines were dropped: standard error was blocked"
+                "{first}bqd: {dropped} lines were dropped: standard error was blocked"
             );
         }
     }

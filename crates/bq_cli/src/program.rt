@@ -4,11 +4,13 @@ ghost use Rattle.bq_program.specs.Ranges.{IsForBqd};
 ghost use Rattle.bq_cli.specs.Servers.{IsStatusOfProgram};
 ghost use Rattle.bq_cli.specs.declared.logging.Logging.{Logging};
 
+use crate::journal::log_form;
 use crate::watched::listen_and_serve;
 use bq_core::Core;
 use bq_core_api::QueueCore;
 use bq_line::control_line::ControlReader;
 use bq_program::{BqdOptions, OptionFault, Program, Stop, bqd_options, tell_stop, words};
+use std::fs::Files;
 use std::io::{BufReader, Eprint, Print, Read};
 use std::net::{Net, TcpListener, TcpStream};
 use std::rt::{Clock, Env};
@@ -22,6 +24,7 @@ use std::thread::Threads;
 pub fn run_bqd<
     R: AllocGlobal
         + Env
+        + Files
         + Net<Listener = TcpListener, Stream = TcpStream>
         + Threads
         + Wait
@@ -40,9 +43,10 @@ pub fn run_bqd<
         ⟦<Core as QueueCore>⟧.machine ⟦<Core as QueueCore>⟧.comparisons (I.remaining input) result }
     ensures at_most { result ≤ 2 }
 {
+    let form = log_form(rt);
     match server_options(rt) {
-        Ok(options) => listen_and_serve(rt, rt.alloc(), options, input),
-        Err(fault) => tell_stop(rt, Program::Bqd, &Stop::Options(fault)),
+        Ok(options) => listen_and_serve(rt, rt.alloc(), form, options, input),
+        Err(fault) => tell_stop(rt, Program::Bqd, form, &Stop::Options(fault)),
     }
 }
 

@@ -3,6 +3,7 @@ ghost use Rattle.std.specs.Prelude.{◌≡◌, ◌≤◌, ◌↔◌, ◌&&◌, �
 ghost use Rattle.std.specs.List.{All, list_any};
 ghost use Rattle.bq_line.specs.Tending.{AreSame, IsNewDoor, door_seen};
 ghost use Rattle.bq_program.specs.Statuses.{status_of_server};
+ghost use Rattle.bq_cli.specs.Reports.{closed_text, refused_text, taken_text};
 ghost use Rattle.bq_cli.specs.Servers.{IsDoorAt, IsServerLoop, IsServerRun, IsStatusOfLoop};
 ghost use Rattle.bq_cli.specs.Servers.{IsStatusOfServer, IsStatusOfThreads, MayRefuse};
 ghost use Rattle.bq_cli.specs.Servers.{came_of_doors, came_of_loop, came_of_run, settings_of};
@@ -21,7 +22,8 @@ use bq_line::control_line::ControlReader;
 use bq_line::line::{BufferedLine, Connection, Line, ReadBuffer};
 use bq_line::{Door, FreeDoors, Refusals, TcpDoor, clock};
 use bq_program::{
-    Fault, Need, Options, Program, WhenFull, fault_of_loop, tell_cannot_listen, tell_server,
+    Fault, LogForm, Need, Options, Program, WhenFull, fault_of_loop, tell_cannot_listen,
+    tell_server,
 };
 use bq_run::{Run, run_sessions};
 use std::alloc::Global;
@@ -46,31 +48,66 @@ pub struct DoorsTell<'e> {
 
 impl<'e> DoorsTell<'e> {
     /// Returns what the doors report by these options. The last one to fail is noted in `ending`.
-    pub fn new<R: Clock>(rt: &R, options: &Options, ending: &'e Ending) -> DoorsTell<'e> {
+    pub fn new<R: Clock>(rt: &R, options: &Options, ending: &'e Ending) -> DoorsTell<'e>
+        ensures refusals { result.refusals.text.now ≡ refused_text ending.now.form }
+        ensures free { result.free.text.now ≡ taken_text ending.now.form options.now.when_full }
+        ensures ending { result.ending ≡ ending.entry }
+    {
         DoorsTell {
             ending,
-            refusals: Refusals::new("bqd: no connection can be accepted"),
-            free: free_doors(rt, options),
+            refusals: Refusals::new(refused_text(ending.form())),
+            free: free_doors(rt, options, ending.form()),
         }
     }
 }
 
 // Returns what the doors report while all of them are taken, and whether they close further
 // connections.
-fn free_doors<R: Clock>(rt: &R, options: &Options) -> FreeDoors {
-    let seats = u32::from(options.seats);
+fn free_doors<R: Clock>(rt: &R, options: &Options, form: LogForm) -> FreeDoors
+    ensures { result.text.now ≡ taken_text form options.now.when_full }
+{
+    let text = taken_text(form, options.when_full);
+    let doors = FreeDoors::new(rt, u32::from(options.seats), text);
     match options.when_full {
-        WhenFull::Wait => FreeDoors::new(
-            rt,
-            seats,
-            "bqd: all seats are taken: further connections wait",
-        ),
-        WhenFull::Refuse => FreeDoors::new(
-            rt,
-            seats,
-            "bqd: all seats are taken: further connections are closed",
-        )
-        .closing("bqd: connections closed because all seats were taken"),
+        WhenFull::Wait => doors,
+        WhenFull::Refuse => doors.closing(closed_text(form)),
+    }
+}
+
+// The texts of warnings. They are kept for as long as the program runs, so they are written out.
+
+fn refused_text(form: LogForm) -> &'static str
+    ensures { result.now ≡ refused_text form }
+{
+    match form {
+        LogForm::Plain => "bqd: no connection can be accepted",
+        LogForm::Journal => "<4>bqd: no connection can be accepted",
+    }
+}
+
+fn taken_text(form: LogForm, when_full: WhenFull) -> &'static str
+    ensures { result.now ≡ taken_text form when_full }
+{
+    match (form, when_full) {
+        (LogForm::Plain, WhenFull::Wait) => "bqd: all seats are taken: further connections wait",
+        (LogForm::Plain, WhenFull::Refuse) => {
+            "bqd: all seats are taken: further connections are closed"
+        }
+        (LogForm::Journal, WhenFull::Wait) => {
+            "<4>bqd: all seats are taken: further connections wait"
+        }
+        (LogForm::Journal, WhenFull::Refuse) => {
+            "<4>bqd: all seats are taken: further connections are closed"
+        }
+    }
+}
+
+fn closed_text(form: LogForm) -> &'static str
+    ensures { result.now ≡ closed_text form }
+{
+    match form {
+        LogForm::Plain => "bqd: connections closed because all seats were taken",
+        LogForm::Journal => "<4>bqd: connections closed because all seats were taken",
     }
 }
 
@@ -93,7 +130,7 @@ pub fn serve<R: Net + Threads + Wait + Clock + Print + Eprint + Sync, I: Control
         ⟦<Core as QueueCore>⟧.comparisons options.now listener control result }
     ensures at_most { result ≤ 1 }
 {
-    let ending = Ending::new(options.seats);
+    let ending = Ending::new(options.seats, LogForm::Plain);
     serve_to(rt, alloc, options, listener, &ending, control, None)
 }
 
@@ -121,16 +158,16 @@ pub(crate) fn serve_to<
             let _told = println!(rt; "listening {address}");
             serve_at(rt, alloc, options, &listener, ending, control, source)
         }
-        Err(e) => cannot_listen(rt, options, &e),
+        Err(e) => cannot_listen(rt, ending.form(), options, &e),
     }
 }
 
 // Reports that the server cannot listen at the address of the options.
-fn cannot_listen<R: Eprint>(rt: &R, options: &Options, e: &io::Error) -> u8
+fn cannot_listen<R: Eprint>(rt: &R, form: LogForm, options: &Options, e: &io::Error) -> u8
     ensures { result ≡ 1 }
 {
     let address = options.listen.as_deref().unwrap_or("");
-    tell_cannot_listen(rt, Program::Bqd, address, e)
+    tell_cannot_listen(rt, Program::Bqd, form, address, e)
 }
 
 // Serves at this listener by the engine that the options choose, and reports how that ended.
@@ -169,7 +206,7 @@ fn serve_by_loop<R: Net + Wait + Clock + Print + Eprint, I: ControlReader + Drop
     ensures at_most { result ≤ 1 }
 {
     if let Err(e) = listener.set_nonblocking(true) {
-        return cannot_listen(rt, options, &e);
+        return cannot_listen(rt, ending.form(), options, &e);
     }
     let tell = DoorsTell::new(rt, options, ending);
     let came = run_loop(rt, alloc, options, listener, &tell, control, source);
@@ -221,7 +258,7 @@ fn tell_end<R: Eprint>(rt: &R, ending: &Ending, came: Result<(), Fault>) -> u8
     ensures { result ≡ status_of_server came }
 {
     if ending.is_first_to_report() {
-        return tell_server(rt, came);
+        return tell_server(rt, ending.form(), came);
     }
     match came {
         Ok(()) => 0,
@@ -252,7 +289,7 @@ pub fn run_by_threads<
     let Ok(doors) = new_doors(rt, alloc, options, listener, tell) else {
         return Err(Fault::NoMemory(Need::Doors));
     };
-    let clock = TellingClock::new(rt);
+    let clock = TellingClock::new(rt, tell.ending.form());
     match serve_doors(rt, alloc, options, doors, clock, control) {
         Ok(run) => Ok(run),
         Err(fault) => Err(Fault::from(fault)),
@@ -278,7 +315,7 @@ pub fn run_loop<'l, R: Net + Wait + Clock + Print + Eprint, I: ControlReader + D
     let Ok(doors) = new_doors(rt, alloc, options, listener, tell) else {
         return Err(Fault::NoMemory(Need::Doors));
     };
-    let clock = TellingClock::new(rt);
+    let clock = TellingClock::new(rt, tell.ending.form());
     match serve_doors_by_loop(rt, alloc, options, doors, clock, control, source) {
         Ok(run) => Ok(run),
         Err(fault) => Err(fault_of_loop(fault)),

@@ -3,6 +3,7 @@
 use crate::ending::Ending;
 use crate::log::Log;
 use bq_job::NoMemory;
+use bq_program::LogForm;
 use std::alloc::Global;
 use std::sync::Arc;
 
@@ -14,12 +15,12 @@ pub struct Shared {
 }
 
 impl Shared {
-    /// Makes what the threads of a server with this number of doors share.
-    pub fn new(alloc: Global, doors: u16) -> Result<Arc<Shared, Global>, NoMemory> {
-        let Ok(log) = Log::new(alloc) else {
+    /// Makes what the threads of a server with this number of doors share. Its reports have this form.
+    pub fn new(alloc: Global, doors: u16, form: LogForm) -> Result<Arc<Shared, Global>, NoMemory> {
+        let Ok(log) = Log::new(alloc, form) else {
             return Err(NoMemory);
         };
-        let ending = Ending::new(doors);
+        let ending = Ending::new(doors, form);
         match Arc::new(alloc, Shared { log, ending }) {
             Ok(shared) => Ok(shared),
             Err(_) => Err(NoMemory),

@@ -4,6 +4,7 @@ ghost use Rattle.std.proofs.Common.{append-nil, sym};
 
 use bq_job::Moment;
 use bq_line::clock::{Clock, MachineClock, Notice};
+use bq_program::{LogForm, Severity};
 use std::io::Eprint;
 use std::rt;
 
@@ -12,16 +13,18 @@ use std::rt;
 pub struct TellingClock<'r, R> {
     rt: &'r R,
     clock: MachineClock<&'r R>,
+    form: LogForm,
 }
 
 impl<'r, R: rt::Clock> TellingClock<'r, R> {
-    /// Makes a clock that reads 0 now.
-    pub fn new(rt: &'r R) -> TellingClock<'r, R>
+    /// Makes a clock that reads 0 now. Its notices have this form.
+    pub fn new(rt: &'r R, form: LogForm) -> TellingClock<'r, R>
         ensures { result.clock.given ≡ [] }
     {
         TellingClock {
             rt,
             clock: MachineClock::new(rt),
+            form,
         }
     }
 }
@@ -37,7 +40,15 @@ impl<'r, R: rt::Clock + Eprint> Clock for TellingClock<'r, R> {
 
     fn tell(&self, notice: Notice) {
         // If standard error is closed, there is no reader.
-        let _told = eprintln!(self.rt; "bqd: {}", text_of(notice));
+        let first = self.form.prefix(severity_of(notice));
+        let _told = eprintln!(self.rt; "{first}bqd: {}", text_of(notice));
+    }
+}
+
+fn severity_of(notice: Notice) -> Severity {
+    match notice {
+        Notice::Draining => Severity::Info,
+        Notice::MemoryRefused => Severity::Warning,
     }
 }
 

@@ -11,7 +11,9 @@ use crate::shared::Shared;
 use bq_core::Core;
 use bq_core_api::QueueCore;
 use bq_line::control_line::ControlReader;
-use bq_program::{BqdOptions, Fault, Need, Options, Program, tell_cannot_listen, tell_fault};
+use bq_program::{
+    BqdOptions, Fault, LogForm, Need, Options, Program, tell_cannot_listen, tell_fault,
+};
 use std::alloc::Global;
 use std::io::{BufReader, Eprint, Print, Read};
 use std::marker::PhantomData;
@@ -43,22 +45,22 @@ pub(crate) fn listen_and_serve<
         + Sync
         + 'static,
     I: Read + Drop + Send + 'static,
->(rt: &R, alloc: Global, options: BqdOptions, input: I) -> u8
+>(rt: &R, alloc: Global, form: LogForm, options: BqdOptions, input: I) -> u8
     ensures status { IsStatusOfListening (Logging R) ⟦<BufReader<I> as Read>⟧.remaining ⟦<BufReader<I> as ControlReader>⟧.may_fail
         ⟦<Core as QueueCore>⟧.machine ⟦<Core as QueueCore>⟧.comparisons (of_bqd options) (I.remaining input) result }
     ensures at_most { result ≤ 1 }
 {
     let listener = match listen(rt, alloc, options.listen.as_str()) {
         Ok(listener) => listener,
-        Err(e) => return tell_cannot_listen(rt, Program::Bqd, options.listen.as_str(), &e),
+        Err(e) => return tell_cannot_listen(rt, Program::Bqd, form, options.listen.as_str(), &e),
     };
     let Ok(control) = BufReader::new(alloc, input) else {
-        return tell_fault(rt, Program::Bqd, Fault::NoMemory(Need::ControlLine));
+        return tell_fault(rt, Program::Bqd, form, Fault::NoMemory(Need::ControlLine));
     };
-    match serve_watched(rt, alloc, Options::from(options), listener, control) {
+    match serve_watched(rt, alloc, form, Options::from(options), listener, control) {
         Ok(Some(status)) => status,
         Ok(None) => 1,
-        Err(fault) => tell_fault(rt, Program::Bqd, fault),
+        Err(fault) => tell_fault(rt, Program::Bqd, form, fault),
     }
 }
 
@@ -78,6 +80,7 @@ fn serve_watched<
 >(
     rt: &R,
     alloc: Global,
+    form: LogForm,
     options: Options,
     listener: TcpListener,
     control: I,
@@ -85,7 +88,7 @@ fn serve_watched<
     ensures { IfOk result (λ came. IfSome came (λ status. (IsStatusOfServer (Logging R) I.remaining I.may_fail
         ⟦<Core as QueueCore>⟧.machine ⟦<Core as QueueCore>⟧.comparisons options listener control status) × (status ≤ 1))) }
 {
-    let Ok(shared) = Shared::new(alloc, options.seats) else {
+    let Ok(shared) = Shared::new(alloc, options.seats, form) else {
         return Err(Fault::NoMemory(Need::Queue));
     };
     let (Ok(of_log), Ok(of_server)) = (Arc::try_clone(&shared), Arc::try_clone(&shared)) else {
@@ -224,7 +227,7 @@ fn came_of<R: Threads + Wait + Eprint, I: ControlReader>(
 {
     let ending = &logging.shared().ending;
     if ending.doors().have_failed() && ending.is_first_to_report() {
-        tell_fault(logging, Program::Bqd, Fault::NotAccepted);
+        tell_fault(logging, Program::Bqd, ending.form(), Fault::NotAccepted);
         return None;
     }
     Some(thread.join(rt))

@@ -7,6 +7,7 @@ pub use arguments::words;
 pub use chosen::{BqOptions, BqdOptions, OptionFault, Options, WhenFull};
 pub use command_line::{bq_options, bqd_options, options};
 pub use fault::{Fault, Need, Stop, fault_of_end, fault_of_loop};
+pub use log_form::{LogForm, Severity};
 pub use program::Program;
 pub use told::{tell_cannot_listen, tell_fault, tell_server, tell_stop};
 
@@ -15,5 +16,6 @@ mod arguments;
 mod chosen;
 mod command_line;
 mod fault;
+mod log_form;
 mod program;
 mod told;

@@ -5,7 +5,7 @@ ghost use Rattle.bq_session.specs.Clients.{IsStatusOfClient};
 
 use crate::session::Served;
 use bq_job::LineEnd;
-use bq_program::{Program, Stop, fault_of_end, tell_fault, tell_stop};
+use bq_program::{LogForm, Program, Stop, fault_of_end, tell_fault, tell_stop};
 use std::io::{Eprint, Print};
 
 // Reports the fault by which a line ended, if there is one. Returns the status.
@@ -14,7 +14,7 @@ fn tell_end<R: Eprint>(rt: &R, end: LineEnd) -> u8
 {
     match fault_of_end(end) {
         None => 0,
-        Some(fault) => tell_fault(rt, Program::Bq, fault),
+        Some(fault) => tell_fault(rt, Program::Bq, LogForm::Plain, fault),
     }
 }
 
@@ -24,6 +24,6 @@ pub(crate) fn tell_client<R: Print + Eprint, S, K>(rt: &R, came: &Result<Served<
 {
     match came {
         Ok(served) => tell_end(rt, served.end),
-        Err(stop) => tell_stop(rt, Program::Bq, stop),
+        Err(stop) => tell_stop(rt, Program::Bq, LogForm::Plain, stop),
     }
 }
