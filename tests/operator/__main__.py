@@ -34,7 +34,7 @@ MODULES = [canned_runs, server_runs, top_runs, ctl_runs, dump_runs, move_runs, w
 
 # The runs of the gate: they neither wait for a moment nor measure how long something takes, nor start a program dozens of
 # times.
-GATE = re.compile(r"_(ctl|move)_(?!.*(interrupted|asks|bad_files|environment))|_move$|_drain_(of|by_no)|_metrics_|_web_(bad|labels|history|page|paths|limits|names|forged)")
+GATE = re.compile(r"_(ctl|move)_(?!.*(interrupted|asks|bad_files|environment))|_move$|_drain_(of|by_no|priority)|_metrics_|_web_(bad|labels|history|page|paths|limits|names|forged|priorit)")
 
 
 def kinds(bqd, beanstalkd, chromium):

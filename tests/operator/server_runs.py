@@ -10,6 +10,7 @@ import threading
 import time
 
 from canned import PROGRAMS, drain, top
+from journal import Journal
 from programs import Ended, same
 from servers import Server, free_port
 
@@ -133,6 +134,17 @@ def has_ipv6():
         return True
     except OSError:
         return False
+
+
+def run_drain_priority():
+    """A fault of bqd-drain is an error for systemd's journal, and has no priority elsewhere."""
+    address = f"127.0.0.1:{free_port()}"
+    told = f"bqd-drain: cannot connect to {address}: Connection refused".encode()
+    for by, first in [(0, b"<3>"), (1, b"")]:
+        with Journal() as journal:
+            command = [sys.executable, PROGRAMS / "bqd-drain", address]
+            same(subprocess.run(command, env=journal.named(by), stderr=journal.file).returncode, 1)
+            same(journal.lines(1), [first + told])
 
 
 @contextlib.contextmanager

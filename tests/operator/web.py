@@ -18,11 +18,11 @@ Answer = collections.namedtuple("Answer", "status headers body")
 class Web:
     """bqd-web for the server at that port, with these words. It is ended when this is left."""
 
-    def __init__(self, server_port, *words, listen=None, env=None):
+    def __init__(self, server_port, *words, listen=None, env=None, stderr=subprocess.PIPE):
         self.port = free_port()
         listen = listen or f"127.0.0.1:{self.port}"
         command = [sys.executable, PROGRAMS / "bqd-web", "--server", f"127.0.0.1:{server_port}", "--listen", listen, *words]
-        self.process = subprocess.Popen(command, stdout=subprocess.PIPE, stderr=subprocess.PIPE,
+        self.process = subprocess.Popen(command, stdout=subprocess.PIPE, stderr=stderr,
                                         env={**os.environ, **(env or {})})
         self.told = self.process.stdout.readline()
 

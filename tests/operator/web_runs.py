@@ -4,6 +4,7 @@ import json
 import os
 import re
 import socket
+import subprocess
 import sys
 import tempfile
 import threading
@@ -13,6 +14,7 @@ import types
 from canned import PROGRAMS, Canned, statistics, tube, tubes
 from ctl_runs import BYTES
 from jobs import Teller
+from journal import Journal
 from programs import Ended, ended, has_all, same
 from servers import Server, awaits, free_port
 from web import Web
@@ -59,6 +61,27 @@ def run_web_cannot_listen():
         found = web("--listen", f"127.0.0.1:{port}")
         same((found.status, found.output), (1, b""))
         assert found.errors.startswith(f"bqd-web: cannot listen: http://127.0.0.1:{port}/: ".encode()), found.errors
+
+
+def run_web_priorities():
+    """Lines for systemd's journal begin with their priority, those of bad options too, and other lines don't."""
+    with socket.create_server(("127.0.0.1", 0)) as taken:
+        for words in (["--listen", f"127.0.0.1:{taken.getsockname()[1]}"], ["--seats", "none"]):
+            command = [sys.executable, PROGRAMS / "bqd-web", *words]
+            plain = subprocess.run(command, stderr=subprocess.PIPE).stderr.splitlines()
+            for by, first in [(0, b"<3>"), (1, b"")]:
+                with Journal() as journal:
+                    subprocess.run(command, env=journal.named(by), stderr=journal.file)
+                    same(journal.lines(1), [first + it for it in plain])
+
+
+def bqd_run_web_priority_of_an_action(bqd):
+    """An action is no error: its line has the priority of one for information."""
+    with Journal() as journal, Server(bqd) as server:
+        with Web(server.port, "--allow-actions", env=journal.named(), stderr=journal.file) as page:
+            page.is_up()
+            same(page.act("kick", {"tube": "default", "count": 1}).status, 200)
+            same(journal.lines(1), [b"<6>bqd-web: 127.0.0.1: kicked 0 of default"])
 
 
 def run_web_labels():

@@ -6,9 +6,9 @@ import json
 import pathlib
 import re
 import secrets
-import sys
 
 from queue_client import Fault, STATES
+from queue_client.journal import INFO, report
 from queue_client.picture import numbers_of, picture, rates_of, RATES
 from queue_client.texts import TUBE_NAME
 from queue_client.version import VERSION
@@ -141,7 +141,7 @@ class Calls:
         """Writes what an action did, or why it failed, to the log. Behind a proxy the address is the proxy's."""
         what = done["done"] if "done" in done else f"{request.path.rpartition('/')[2]} failed: {done['failed']}"
         with contextlib.suppress(OSError):
-            print(f"bqd-web: {request.peer or 'unix socket'}: {what}", file=sys.stderr, flush=True)
+            report(INFO, f"bqd-web: {request.peer or 'unix socket'}: {what}")
 
     def _forged(self, request):
         """Returns the answer to a request from another site's page, or None if the request is genuine."""

@@ -8,9 +8,10 @@ import asyncio
 import collections
 import contextlib
 import re
-import sys
 import traceback
 import urllib.parse
+
+from queue_client.journal import ERROR, report
 
 LARGEST_HEAD = 8192
 LARGEST_BODY = 4096
@@ -173,7 +174,7 @@ class Connections:
         except Bad:
             raise
         except Exception:
-            traceback.print_exc(file=sys.stderr)
+            report(ERROR, traceback.format_exc())
             return text(500, "bqd-web has a fault; its log tells more")
 
 
