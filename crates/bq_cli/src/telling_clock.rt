@@ -47,8 +47,8 @@ impl<'r, R: rt::Clock + Eprint> Clock for TellingClock<'r, R> {
 
 fn severity_of(notice: Notice) -> Severity {
     match notice {
-        Notice::Draining => Severity::Info,
-        Notice::MemoryRefused => Severity::Warning,
+        Notice::Draining | Notice::BelowJobLimit => Severity::Info,
+        Notice::MemoryRefused | Notice::JobLimitReached => Severity::Warning,
     }
 }
 
@@ -56,5 +56,9 @@ fn text_of(notice: Notice) -> &'static str {
     match notice {
         Notice::Draining => "draining",
         Notice::MemoryRefused => "memory was refused: clients are answered OUT_OF_MEMORY",
+        Notice::JobLimitReached => {
+            "the limit of --max-jobs is reached: puts are answered OUT_OF_MEMORY"
+        }
+        Notice::BelowJobLimit => "the number of jobs is below the limit of --max-jobs again",
     }
 }

@@ -148,4 +148,8 @@ pub enum Notice {
     Draining,
     /// An allocation failed, and a client was answered `OUT_OF_MEMORY`.
     MemoryRefused,
+    /// A put was answered `OUT_OF_MEMORY` because there are as many jobs as the configuration allows.
+    JobLimitReached,
+    /// A put was accepted a while after the last one that was not because of that limit.
+    BelowJobLimit,
 }
