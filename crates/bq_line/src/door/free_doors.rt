@@ -1,5 +1,5 @@
 //! Reports that all doors are taken.
-ghost use Rattle.std.specs.Prelude.{◌≡◌};
+ghost use Rattle.std.specs.Prelude.{◌≡◌, None, Some};
 
 use std::io::Eprint;
 use std::rt::Clock;
@@ -37,7 +37,8 @@ pub struct FreeDoors {
 impl FreeDoors {
     /// Returns a record of this many doors, all of them free. `text` is the line that is written.
     pub fn new<R: Clock>(rt: &R, doors: u32, text: &'static str) -> FreeDoors
-        ensures { result.text ≡ text.entry }
+        ensures text { result.text ≡ text.entry }
+        ensures waits { result.closing ≡ None }
     {
         FreeDoors {
             text,
@@ -53,7 +54,8 @@ impl FreeDoors {
     /// Returns the same record, of doors that close the connections which come while all are taken.
     /// `text` comes before their number in a report.
     pub fn closing(mut self, text: &'static str) -> FreeDoors
-        ensures { result.text ≡ self.text }
+        ensures text { result.text ≡ self.text }
+        ensures closing { result.closing ≡ Some text.entry }
     {
         self.closing = Some(text);
         self
