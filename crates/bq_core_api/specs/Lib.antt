@@ -1,3 +1,4 @@
+pub mod Answered
 pub mod Codes
 pub mod Cost
 pub mod Limits

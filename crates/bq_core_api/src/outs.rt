@@ -1,5 +1,7 @@
 ghost use Rattle.std.specs.Prelude.{◌≡◌, ◌↔◌, ◌+◌, ◌<◌, ◌++◌, ◌∷◌, [], false, true, length, IfOk, IsNone, IsTrue};
 ghost use Rattle.std.specs.Option.{option_to_list};
+ghost use Rattle.bq_core_api.specs.Answered.{has_inserted, has_out_of_memory, is_inserted};
+ghost use Rattle.bq_job.specs.machine.Steps.{is_out_of_memory};
 
 use bq_job::{Answer, NoMemory, Seat};
 use std::alloc::Global;
@@ -63,6 +65,20 @@ impl Outs {
         self.answers.is_empty()
     }
 
+    /// Returns true if one of the answers is that a job was put.
+    pub fn has_inserted(&self) -> bool
+        ensures { result ≡ has_inserted self.now.given }
+    {
+        self.answers.iter().any(|given| is_inserted(&given.1))
+    }
+
+    /// Returns true if one of the answers is `OUT_OF_MEMORY`.
+    pub fn has_out_of_memory(&self) -> bool
+        ensures { result ≡ has_out_of_memory self.now.given }
+    {
+        self.answers.iter().any(|given| is_out_of_memory(&given.1))
+    }
+
     /// Returns true if the last step skipped its command because an allocation failed.
     pub fn left_out(&self) -> bool
         ensures { result ≡ self.now.left_out }
@@ -109,4 +125,16 @@ impl Outs {
     {
         self.unshared = true;
     }
+}
+
+fn is_inserted(answer: &Answer) -> bool
+    ensures { result ≡ is_inserted answer.now }
+{
+    matches!(answer, Answer::Inserted(_))
+}
+
+fn is_out_of_memory(answer: &Answer) -> bool
+    ensures { result ≡ is_out_of_memory answer.now }
+{
+    matches!(answer, Answer::OutOfMemory)
 }

@@ -13,6 +13,8 @@ mod jobs;
 #[cfg(test)]
 mod new_core;
 #[cfg(test)]
+mod outs;
+#[cfg(test)]
 mod play;
 #[cfg(test)]
 mod statistics;
