@@ -238,3 +238,47 @@ def run_second_shortage_of_memory_is_told(bqd):
 def run_shortage_of_the_core_alone_is_told(bqd):
     """A shortage in which a put gets memory for its body and none for its job is reported too."""
     is_told_for_each_shortage(bqd, 100)
+
+
+AT_THE_LIMIT = b"bqd: the limit of --max-jobs is reached: puts are answered OUT_OF_MEMORY\n"
+BELOW_THE_LIMIT = b"bqd: the number of jobs is below the limit of --max-jobs again\n"
+
+
+def run_limit_of_jobs_is_told(bqd):
+    """That the limit on jobs is reached is reported once, and not again while puts meet it now and then."""
+    with Server(bqd, "--seats", "2", "--max-jobs", "2") as server:
+        first, second = server.client(), server.client()
+        first.asks(2 * PUT, b"INSERTED 1\r\nINSERTED 2\r\n")
+        same(server.told_next(), TAKEN)
+        same(server.is_silent(0.3), True)
+        for id, client in [(3, first), (4, second), (5, first)]:
+            client.asks(2 * PUT, 2 * b"OUT_OF_MEMORY\r\n")
+            if id == 3:
+                server.tells(AT_THE_LIMIT)
+            client.asks(b"delete %d\r\n" % (id - 1) + PUT, b"DELETED\r\nINSERTED %d\r\n" % id)
+        # Other commands that may be answered OUT_OF_MEMORY do not meet this limit.
+        first.asks(b"use a\r\n", b"USING a\r\n")
+        same(server.is_silent(0.3), True)
+
+
+def run_limit_of_jobs_is_told_again(bqd):
+    """A put that is stored a minute after the last one that met the limit is reported, once, and so is the next that meets
+    the limit. The one is a warning, and the other is none."""
+    with Journal() as journal:
+        env = journal.named(**faults(clock=100))
+        with Server(bqd, "--seats", "1", "--max-jobs", "1", stderr=journal.file, env=env) as server:
+            client = server.client()
+            client.asks(PUT, b"INSERTED 1\r\n")
+            told = [b"<4>" + TAKEN.rstrip()]
+            for id in (1, 2):
+                client.asks(2 * PUT, 2 * b"OUT_OF_MEMORY\r\n")
+                told.append(b"<4>" + AT_THE_LIMIT.rstrip())
+                same(journal.lines(len(told)), told)
+                # A hundred seconds of the server's time.
+                time.sleep(1)
+                client.asks(b"delete %d\r\n" % id + PUT, b"DELETED\r\nINSERTED %d\r\n" % (id + 1))
+                told.append(b"<6>" + BELOW_THE_LIMIT.rstrip())
+                same(journal.lines(len(told)), told)
+            client.asks(b"delete 3\r\n" + PUT, b"DELETED\r\nINSERTED 4\r\n")
+            time.sleep(0.3)
+            same(journal.now(), told)

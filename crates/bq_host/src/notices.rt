@@ -1,13 +1,19 @@
 //! What is logged about the core's steps.
-ghost use Rattle.std.specs.Prelude.{◌≡◌, None, false};
-ghost use Rattle.bq_host.specs.Told.{after_put, after_refusal, concern_of, told_after};
+ghost use Rattle.std.specs.Prelude.{◌≡◌, ◌||◌, None, false};
+ghost use Rattle.bq_host.specs.Told.{after_drain, after_full, after_put, after_refusal, after_stored};
+ghost use Rattle.bq_host.specs.Told.{calmed, concern_of, told_after};
 
+use bq_core_api::Outs;
 use bq_job::{Moment, Refusal, Request, Step};
 use bq_line::clock::Notice;
 
 /// A shortage of memory ends with a put that succeeds when no allocation has failed for this many
 /// milliseconds.
 const CALM: u64 = 1_000;
+
+/// The number of jobs counts as below its limit again with a put that succeeds when none met the
+/// limit for this many milliseconds. It is longer because the limit may be reached all day long.
+const CALM_BELOW_LIMIT: u64 = 60_000;
 
 /// The kind of a step, as far as the log is concerned.
 #[derive(Clone, Copy)]
@@ -28,37 +34,38 @@ pub struct Notices {
     is_draining: bool,
     // The moment of the latest failed allocation during a shortage of memory.
     refused: Option<Moment>,
+    // The moment of the latest put that met the limit on jobs, while the limit counts as reached.
+    full: Option<Moment>,
 }
 
 impl Notices {
     /// Returns a state in which nothing was logged.
     pub fn none() -> Notices
-        ensures { result ≡ record { is_draining = false; refused = None } }
+        ensures { result ≡ record { is_draining = false; refused = None; full = None } }
     {
         Notices {
             is_draining: false,
             refused: None,
+            full: None,
         }
     }
 
-    /// Returns what to log after a step at this moment. `is_refused` tells whether an allocation of
-    /// the step failed.
-    pub fn after(&mut self, concern: Concern, is_refused: bool, at: Moment) -> Option<Notice>
-        ensures { (result, self.new) ≡ told_after concern is_refused at self.old }
+    /// Returns what to log after a step with these answers at this moment.
+    pub fn after(&mut self, concern: Concern, outs: &Outs, at: Moment) -> Option<Notice>
+        ensures { (result, self.new) ≡ told_after concern outs.now at self.old }
     {
         match concern {
             Concern::Drain => self.after_drain(),
             Concern::Refused => self.after_refusal(at),
             Concern::Put => {
-                if is_refused {
+                if is_refused(outs) {
                     self.after_refusal(at)
                 } else {
-                    self.after_put(at);
-                    None
+                    self.after_put(outs, at)
                 }
             }
             Concern::Other => {
-                if is_refused {
+                if is_refused(outs) {
                     self.after_refusal(at)
                 } else {
                     None
@@ -68,7 +75,7 @@ impl Notices {
     }
 
     fn after_drain(&mut self) -> Option<Notice>
-        ensures { (result, self.new) ≡ told_after Concern.Drain false 0 self.old }
+        ensures { (result, self.new) ≡ after_drain self.old }
     {
         if self.is_draining {
             return None;
@@ -86,8 +93,22 @@ impl Notices {
         }
     }
 
-    fn after_put(&mut self, at: Moment)
-        ensures { self.new ≡ after_put self.old.refused at self.old }
+    // A put for which no allocation failed.
+    fn after_put(&mut self, outs: &Outs, at: Moment) -> Option<Notice>
+        ensures { (result, self.new) ≡ after_put outs.now.given at self.old }
+    {
+        self.calm(at);
+        if outs.has_inserted() {
+            self.after_stored(at)
+        } else if outs.has_out_of_memory() {
+            self.after_full(at)
+        } else {
+            None
+        }
+    }
+
+    fn calm(&mut self, at: Moment)
+        ensures { self.new ≡ calmed self.old.refused at self.old }
     {
         if let Some(last) = self.refused {
             if at.saturating_sub(last) >= CALM {
@@ -95,6 +116,33 @@ impl Notices {
             }
         }
     }
+
+    fn after_stored(&mut self, at: Moment) -> Option<Notice>
+        ensures { (result, self.new) ≡ after_stored self.old.full at self.old }
+    {
+        let last = self.full?;
+        if at.saturating_sub(last) < CALM_BELOW_LIMIT {
+            return None;
+        }
+        self.full = None;
+        Some(Notice::BelowJobLimit)
+    }
+
+    fn after_full(&mut self, at: Moment) -> Option<Notice>
+        ensures { (result, self.new) ≡ after_full self.old.full at self.old }
+    {
+        match self.full.replace(at) {
+            Some(_) => None,
+            None => Some(Notice::JobLimitReached),
+        }
+    }
+}
+
+// Returns true if an allocation of the step failed.
+fn is_refused(outs: &Outs) -> bool
+    ensures { result ≡ (outs.now.left_out || outs.now.unshared) }
+{
+    outs.left_out() || outs.unshared()
 }
 
 /// Returns the kind of a step, as far as the log is concerned.

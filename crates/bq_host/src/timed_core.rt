@@ -125,8 +125,8 @@ impl<C: Clock + Drop, K: QueueCore + Drop> TimedCore<C, K> {
         requires ready { IsReady K.machine self.old }
         ensures ready { IsReady K.machine self.new }
         ensures taken { TakesStep C.given K.machine K.comparisons self.old seat what.now self.new }
-        // What was logged before decides what is logged now, and so does whether an allocation of
-        // this step failed.
+        // What was logged before decides what is logged now, and so do the answers of this step and
+        // whether an allocation of it failed.
         ensures told { HasLogged (concern_of what.now) self.new.outs self.new.time.moment
             self.old.notices self.new.notices }
     {
@@ -154,8 +154,7 @@ impl<C: Clock + Drop, K: QueueCore + Drop> TimedCore<C, K> {
         ensures told { HasLogged concern self.old.outs self.old.time.moment
             self.old.notices self.new.notices }
     {
-        let is_refused = self.outs.left_out() || self.outs.unshared();
-        if let Some(notice) = self.notices.after(concern, is_refused, self.time.moment) {
+        if let Some(notice) = self.notices.after(concern, &self.outs, self.time.moment) {
             self.time.clock.tell(notice);
         }
     }
