@@ -9,8 +9,6 @@ from refusal import each_in_turn
 
 NEEDS = (b"the options", b"the control line", b"the buffers of the seats", b"the queue and its seats")
 NO_MEMORY = [b"bqd: no memory\nbqd: could not allocate memory for " + need + b"\n" for need in NEEDS]
-# The address is copied before it is bound.
-NO_ADDRESS = [b"bqd: cannot listen\nbqd: 127.0.0.1:0: out of memory\n"]
 NO_THREAD = [b"bqd: a thread was refused\n"]
 NOT_ACCEPTED = b"bqd: a connection could not be accepted\n"
 NO_MORE = b"bqd: no connection can be accepted: Invalid argument (os error 22)\n"
@@ -74,9 +72,9 @@ def start_refused(bqd, faults, nth):
     """Starts a server once whose nth allocation fails: it serves the clients that it accepted, or ends with a fault
     before it has answered any client.
 
-    The fault is no memory, or that the server cannot listen if it had none for its address. Later it is a thread that the
-    system's library could not start: the one that writes notices, or the one that serves. After that the program allocates, and starts threads once it has all memory. `faults` are
-    those of the starts so far.
+    The fault is no memory. Later it is a thread that the system's library could not start: the one that writes notices, or
+    the one that serves. After that the program allocates, and starts threads once it has all memory. `faults` are those of
+    the starts so far.
     """
     server, address = started(bqd, ["--seats", str(SEATS), "--sessions", "1"], at=nth)
     told = []
@@ -94,7 +92,7 @@ def start_refused(bqd, faults, nth):
     faults.append(complaint)
     kinds = [it in NO_THREAD for it in faults]
     turns = sum(kind != last for last, kind in zip(kinds, kinds[1:]))
-    if refused and status == 1 and complaint in NO_MEMORY + NO_ADDRESS + NO_THREAD and turns <= 3 and all(it == [b""] for it in told):
+    if refused and status == 1 and complaint in NO_MEMORY + NO_THREAD and turns <= 3 and all(it == [b""] for it in told):
         return refused, None
     return refused, f"status {status}, {complaint!r}, clients were told {told}"
 

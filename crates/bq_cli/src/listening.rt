@@ -1,10 +1,10 @@
 //! The listener of a server.
+ghost use Rattle.std.specs.Prelude.{◌≡◌};
 
-use bq_program::address_to_bind;
+use bq_program::{names_port, with_usual_port};
 use libc::net;
 use std::alloc::Global;
 use std::io;
-use std::io::ErrorKind;
 use std::net::{Net, TcpListener, TcpStream};
 use std::os::fd::{AsRawFd, RawFd};
 
@@ -21,16 +21,30 @@ const KEEP_INTERVAL: i32 = 15;
 /// How many questions may stay unanswered. Then the connection is broken: a read of it fails.
 const KEEP_PROBES: i32 = 4;
 
+/// Why there is no listener.
+pub(crate) enum NoListener {
+    /// The address could not be completed, because an allocation failed.
+    NoMemory,
+    /// The system refused it.
+    System(io::Error),
+}
+
+impl From<io::Error> for NoListener {
+    fn from(error: io::Error) -> NoListener
+        ensures { result ≡ NoListener.System error }
+    {
+        NoListener::System(error)
+    }
+}
+
 /// Binds the address, at beanstalkd's port 11300 if it names none. Connections that are accepted
 /// have keepalive set, so that a host that vanished without closing its connection does not keep a
 /// seat: the connection ends two minutes after the last byte.
-///
-/// The error is the system's, or `OutOfMemory`.
 pub(crate) fn listen<R: Net<Listener = TcpListener, Stream = TcpStream>>(
     rt: &R,
     alloc: Global,
     address: &str,
-) -> io::Result<TcpListener> {
+) -> Result<TcpListener, NoListener> {
     let listener = bind(rt, alloc, address)?;
     let fd = listener.as_raw_fd();
     widen_backlog(fd)?;
@@ -42,11 +56,14 @@ fn bind<R: Net<Listener = TcpListener, Stream = TcpStream>>(
     rt: &R,
     alloc: Global,
     address: &str,
-) -> io::Result<TcpListener> {
-    let Ok(address) = address_to_bind(alloc, address) else {
-        return Err(io::Error::from(ErrorKind::OutOfMemory));
-    };
-    TcpListener::bind(rt, address.as_str())
+) -> Result<TcpListener, NoListener> {
+    if names_port(address) {
+        return Ok(TcpListener::bind(rt, address)?);
+    }
+    match with_usual_port(alloc, address) {
+        Ok(address) => Ok(TcpListener::bind(rt, address.as_str())?),
+        Err(_) => Err(NoListener::NoMemory),
+    }
 }
 
 // A second call of `listen` changes the number that the first one set.

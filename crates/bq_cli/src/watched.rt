@@ -4,7 +4,7 @@ ghost use Rattle.bq_program.specs.Chosen.{of_bqd};
 ghost use Rattle.bq_cli.specs.Servers.{IsStatusOfListening, IsStatusOfServer};
 ghost use Rattle.bq_cli.specs.declared.logging.Logging.{Logging};
 
-use crate::listening::listen;
+use crate::listening::{NoListener, listen};
 use crate::logging::Logging;
 use crate::server::serve_to;
 use crate::shared::Shared;
@@ -52,7 +52,7 @@ pub(crate) fn listen_and_serve<
 {
     let listener = match listen(rt, alloc, options.listen.as_str()) {
         Ok(listener) => listener,
-        Err(e) => return tell_cannot_listen(rt, Program::Bqd, form, options.listen.as_str(), &e),
+        Err(why) => return tell_no_listener(rt, form, options.listen.as_str(), &why),
     };
     let Ok(control) = BufReader::new(alloc, input) else {
         return tell_fault(rt, Program::Bqd, form, Fault::NoMemory(Need::ControlLine));
@@ -61,6 +61,18 @@ pub(crate) fn listen_and_serve<
         Ok(Some(status)) => status,
         Ok(None) => 1,
         Err(fault) => tell_fault(rt, Program::Bqd, form, fault),
+    }
+}
+
+// Reports why the program has no listener. Returns the status, 1.
+fn tell_no_listener<R: Eprint>(rt: &R, form: LogForm, address: &str, why: &NoListener) -> u8
+    ensures { result ≡ 1 }
+{
+    match why {
+        NoListener::NoMemory => {
+            tell_fault(rt, Program::Bqd, form, Fault::NoMemory(Need::Options))
+        }
+        NoListener::System(e) => tell_cannot_listen(rt, Program::Bqd, form, address, e),
     }
 }
 

@@ -3,6 +3,8 @@
 #![tactic(auto)]
 
 #[cfg(test)]
+mod address;
+#[cfg(test)]
 mod command_line;
 #[cfg(test)]
 mod heard;

@@ -2,7 +2,7 @@
 //! whoever started them.
 #![tactic(auto)]
 
-pub use address::address_to_bind;
+pub use address::{names_port, with_usual_port};
 pub use arguments::words;
 pub use chosen::{BqOptions, BqdOptions, OptionFault, Options, WhenFull};
 pub use command_line::{bq_options, bqd_options, options};
