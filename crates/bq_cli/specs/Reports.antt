@@ -17,7 +17,12 @@ taken_text forms.Plain ways.Refuse = codes "bqd: all seats are taken: further co
 taken_text forms.Journal ways.Wait = codes "<4>bqd: all seats are taken: further connections wait"
 taken_text forms.Journal ways.Refuse = codes "<4>bqd: all seats are taken: further connections are closed"
 
--- Connections were closed because all seats are taken.
+-- Connections were closed because all seats were taken.
 abbrev pub closed_text : LogForm → List ℕ
 closed_text forms.Plain = codes "bqd: connections closed because all seats were taken"
 closed_text forms.Journal = codes "<4>bqd: connections closed because all seats were taken"
+
+-- the same where connections beyond the seats are closed, and None where they wait
+abbrev pub closing_text : LogForm → WhenFull → Option (List ℕ)
+closing_text form ways.Wait = None
+closing_text form ways.Refuse = Some (closed_text form)

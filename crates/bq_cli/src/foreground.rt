@@ -1,4 +1,5 @@
 //! The standard input of a program that may run in the background of a terminal.
+ghost use Rattle.std.specs.Prelude.{◌≡◌, false};
 
 use std::io;
 use std::io::Read;
@@ -15,7 +16,9 @@ pub struct ForegroundInput<I> {
 
 impl<I> ForegroundInput<I> {
     /// Returns the standard input, which is read through `input`.
-    pub fn new(input: I) -> ForegroundInput<I> {
+    pub fn new(input: I) -> ForegroundInput<I>
+        ensures { result ≡ record { input = input; is_over = false } }
+    {
         ForegroundInput {
             input,
             is_over: false,

@@ -1,9 +1,9 @@
 //! The server, from its options to its status.
-ghost use Rattle.std.specs.Prelude.{◌≡◌, ◌≤◌, ◌↔◌, ◌&&◌, ◌==◌, IfErr, IfOk, IsErrOf, IsTrue, false, not, true, vec_len};
+ghost use Rattle.std.specs.Prelude.{◌≡◌, ◌≤◌, ◌↔◌, ◌&&◌, ◌==◌, IfErr, IfOk, IsErrOf, IsTrue, false, not, option_map, true, vec_len};
 ghost use Rattle.std.specs.List.{All, list_any};
 ghost use Rattle.bq_line.specs.Tending.{AreSame, IsNewDoor, door_seen};
 ghost use Rattle.bq_program.specs.Statuses.{status_of_server};
-ghost use Rattle.bq_cli.specs.Reports.{closed_text, refused_text, taken_text};
+ghost use Rattle.bq_cli.specs.Reports.{closed_text, closing_text, refused_text, taken_text};
 ghost use Rattle.bq_cli.specs.Servers.{IsDoorAt, IsServerLoop, IsServerRun, IsStatusOfLoop};
 ghost use Rattle.bq_cli.specs.Servers.{IsStatusOfServer, IsStatusOfThreads, MayRefuse};
 ghost use Rattle.bq_cli.specs.Servers.{came_of_doors, came_of_loop, came_of_run, settings_of};
@@ -51,6 +51,8 @@ impl<'e> DoorsTell<'e> {
     pub fn new<R: Clock>(rt: &R, options: &Options, ending: &'e Ending) -> DoorsTell<'e>
         ensures refusals { result.refusals.text.now ≡ refused_text ending.now.form }
         ensures free { result.free.text.now ≡ taken_text ending.now.form options.now.when_full }
+        ensures closing { option_map (λ text. text.now) result.free.closing
+            ≡ closing_text ending.now.form options.now.when_full }
         ensures ending { result.ending ≡ ending.entry }
     {
         DoorsTell {
@@ -64,7 +66,9 @@ impl<'e> DoorsTell<'e> {
 // Returns what the doors report while all of them are taken, and whether they close further
 // connections.
 fn free_doors<R: Clock>(rt: &R, options: &Options, form: LogForm) -> FreeDoors
-    ensures { result.text.now ≡ taken_text form options.now.when_full }
+    ensures text { result.text.now ≡ taken_text form options.now.when_full }
+    ensures closing { option_map (λ text. text.now) result.closing
+        ≡ closing_text form options.now.when_full }
 {
     let text = taken_text(form, options.when_full);
     let doors = FreeDoors::new(rt, u32::from(options.seats), text);
