@@ -22,6 +22,7 @@ const KEEP_INTERVAL: i32 = 15;
 const KEEP_PROBES: i32 = 4;
 
 /// Why there is no listener.
+#[derive(Drop)]
 pub(crate) enum NoListener {
     /// The address could not be completed, because an allocation failed.
     NoMemory,
