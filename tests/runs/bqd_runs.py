@@ -10,7 +10,7 @@ import time
 from faults import faults
 from programs import Ended, ended, has_all, has_no_memory, limits, refuses_words, same, tells_version
 from queue_model.engines import of_loop
-from servers import TAKEN, Server, all_wait, free_port
+from servers import AT_THE_LIMIT, TAKEN, Server, all_wait, free_port
 from waiting_runs import often, time_in_a_second
 
 LOOPBACK = "127.0.0.1"
@@ -193,7 +193,7 @@ def run_numbers_at_the_ends(bqd):
         client.asks(b"put 0 0 9 2\r\nxx\r\nput 0 0 9 1\r\nx\r\n", b"JOB_TOO_BIG\r\nINSERTED 1\r\n")
         client.asks(b"put 0 0 9 1\r\nx\r\nreserve\r\nquit\r\n", b"OUT_OF_MEMORY\r\nRESERVED 1 1\r\nx\r\n")
         client.hears_end()
-        same(server.end(), Ended(0, b"", b""))
+        same(server.end(), Ended(0, b"", AT_THE_LIMIT))
     most = "4294967295"
     words = ["--seats", "256", "--sessions", most, "-z", "1048576", "--max-jobs", most, "--requeue-delay", most]
     with Server(bqd, *words) as server:

@@ -15,7 +15,7 @@ from faults import faults
 from journal import Journal
 from programs import PATIENCE, same
 from runner import by_hand
-from servers import TAKEN, Server
+from servers import AT_THE_LIMIT, TAKEN, Server
 from waiting_runs import ANSWER, ASK, PUT, often
 
 # How many lines can wait to be written (docs/OPERATING.md).
@@ -240,7 +240,6 @@ def run_shortage_of_the_core_alone_is_told(bqd):
     is_told_for_each_shortage(bqd, 100)
 
 
-AT_THE_LIMIT = b"bqd: the limit of --max-jobs is reached: puts are answered OUT_OF_MEMORY\n"
 BELOW_THE_LIMIT = b"bqd: the number of jobs is below the limit of --max-jobs again\n"
 
 

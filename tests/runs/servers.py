@@ -14,6 +14,9 @@ from programs import PATIENCE, Ended, same
 # What is reported when a connection takes the last free seat.
 TAKEN = b"bqd: all seats are taken: further connections wait\n"
 
+# What is reported when a put meets the limit on jobs.
+AT_THE_LIMIT = b"bqd: the limit of --max-jobs is reached: puts are answered OUT_OF_MEMORY\n"
+
 # How many threads a server has besides those of its seats: the first one, those of the run and of the core, and the one
 # that writes notices.
 OTHERS = 4
