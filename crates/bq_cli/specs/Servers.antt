@@ -10,7 +10,7 @@ use Rattle.bq_job.specs.promise.LineSteps.{LineSeen}
 use Rattle.bq_line.specs.InAll.{in_all}
 use Rattle.bq_line.specs.Tending.{IsNewDoor}
 use Rattle.bq_line.specs.declared.line.io_line.BufferedLine.{BufferedLine}
-use Rattle.bq_line.specs.declared.line.stream.Connection.{Connection}
+use Rattle.bq_line.specs.declared.line.connection.Connection.{Connection}
 use Rattle.bq_line.specs.declared.door.listen_door.ListenDoor.{ListenDoor}
 use Rattle.bq_program.specs.Ranges.{IsForBqd}
 use Rattle.bq_program.specs.declared.chosen.BqdOptions.{BqdOptions}

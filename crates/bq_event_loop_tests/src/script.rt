@@ -1,5 +1,5 @@
 //! A stream to a client in memory that never blocks.
-ghost use Rattle.std.specs.Prelude.{◌≤◌, IfOk, IsErr};
+ghost use Rattle.std.specs.Prelude.{◌≤◌, IfOk};
 ghost use Rattle.std.specs.Io.{ReadsAtMost};
 
 use crate::flow::Flow;
@@ -8,11 +8,9 @@ use crate::setting::{Setting, at_first};
 use crate::together::Together;
 use crate::visits::Visit;
 use bq_job::LineEnd;
-use bq_line::line::Duplex;
+use bq_line::line::{Duplex, StreamError};
 use bq_scenes::notation::bytes_of;
 use std::alloc::Global;
-use std::io;
-use std::io::ErrorKind;
 
 /// No client does more parts than this.
 const PARTS: u32 = 100;
@@ -37,18 +35,6 @@ pub struct Script<'t> {
     // It receives no bytes until all clients together have received this many.
     stops: u64,
     all: &'t Together,
-}
-
-fn would_block() -> io::Result<usize>
-    ensures { IsErr result }
-{
-    Err(io::Error::from(ErrorKind::WouldBlock))
-}
-
-fn is_broken() -> io::Result<usize>
-    ensures { IsErr result }
-{
-    Err(io::Error::from(ErrorKind::BrokenPipe))
 }
 
 impl<'t> Script<'t> {
@@ -147,25 +133,25 @@ impl<'t> Script<'t> {
     }
 
     // Reads from its part, which is not done.
-    fn read_part(&mut self, buf: &mut [u8]) -> io::Result<usize>
+    fn read_part(&mut self, buf: &mut [u8]) -> Result<usize, StreamError>
         ensures { ReadsAtMost result buf.new }
     {
         if self.sends == 0 {
-            return is_broken();
+            return Err(StreamError::Fault);
         }
         match self.part {
             Part::Bytes => self.read_bytes(buf),
-            Part::Fails => is_broken(),
+            Part::Fails => Err(StreamError::Fault),
             _ => Ok(0),
         }
     }
 
-    fn read_bytes(&mut self, buf: &mut [u8]) -> io::Result<usize>
+    fn read_bytes(&mut self, buf: &mut [u8]) -> Result<usize, StreamError>
         ensures { ReadsAtMost result buf.new }
     {
         let rest = &self.bytes[self.offset.min(self.bytes.len())..];
         let Some(count) = self.gives.take(rest.len().min(buf.len()).min(self.sends)) else {
-            return would_block();
+            return Err(StreamError::NotYet);
         };
         buf[..count].copy_from_slice(&rest[..count]);
         self.offset = self.offset.saturating_add(count);
@@ -174,18 +160,18 @@ impl<'t> Script<'t> {
     }
 
     // Returns how many of this many bytes a write takes.
-    fn takes_now(&mut self, most: usize) -> io::Result<usize>
+    fn takes_now(&mut self, most: usize) -> Result<usize, StreamError>
         ensures { IfOk result (λ count. count ≤ most) }
     {
         if self.all.has_given_up() || self.room == 0 {
-            return is_broken();
+            return Err(StreamError::Fault);
         }
         if self.all.written() < self.stops {
-            return would_block();
+            return Err(StreamError::NotYet);
         }
         match self.takes.take(most.min(self.room)) {
             Some(count) => Ok(count),
-            None => would_block(),
+            None => Err(StreamError::NotYet),
         }
     }
 
@@ -202,24 +188,29 @@ impl<'t> Script<'t> {
 }
 
 impl<'t> Duplex for Script<'t> {
-    fn read(&mut self, buf: &mut [u8]) -> io::Result<usize> {
+    fn read(&mut self, buf: &mut [u8]) -> Result<usize, StreamError> {
         if self.all.has_given_up() {
-            return is_broken();
+            return Err(StreamError::Fault);
         }
         self.pass_parts();
         if self.awaits() {
-            return would_block();
+            return Err(StreamError::NotYet);
         }
         self.read_part(buf)
     }
 
-    fn write(&mut self, buf: &[u8]) -> io::Result<usize> {
+    fn write(&mut self, buf: &[u8]) -> Result<usize, StreamError> {
         let count = self.takes_now(buf.len())?;
         self.accept(buf, count);
         Ok(count)
     }
 
-    fn write_together(&mut self, first: &[u8], second: &[u8], third: &[u8]) -> io::Result<usize> {
+    fn write_together(
+        &mut self,
+        first: &[u8],
+        second: &[u8],
+        third: &[u8],
+    ) -> Result<usize, StreamError> {
         let most = first
             .len()
             .saturating_add(second.len())
@@ -231,7 +222,7 @@ impl<'t> Duplex for Script<'t> {
         Ok(count)
     }
 
-    fn flush(&mut self) -> io::Result<()> {
+    fn flush(&mut self) -> Result<(), StreamError> {
         Ok(())
     }
 

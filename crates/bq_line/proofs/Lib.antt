@@ -9,6 +9,7 @@ pub mod PartLemmas
 pub mod ReadingsLemmas
 pub mod SeatLemmas
 pub mod SeenLemmas
+pub mod SocketLemmas
 pub mod StreamLemmas
 pub mod TailLemmas
 pub mod TendingLemmas

@@ -5,12 +5,11 @@ use Rattle.std.proofs.KnownBytes.{Appends-kept, Appends-trans, Consumes-kept, Co
 use Rattle.std.proofs.lemmas.Bool.Decides.{nat_tests}
 use Rattle.std.proofs.lemmas.List.{append_cancel_left}
 use Rattle.std.specs.Io.KnownBytes.{Appends, Consumes, IsAtEnd, Keeps, ReadConsumes, WriteAppends, prepend_known}
-use Rattle.std.specs.declared.io.Error.{Error}
-use Rattle.std.specs.IoError.{error_kind}
 use Rattle.bq_job.specs.declared.line_end.LineFault.TheVariants as faults
 use Rattle.bq_job.specs.promise.LineSteps.{LineSeen}
 use Rattle.bq_line.specs.LineCalls.{after_fill, after_read, after_write, is_nothing_yet, with_line_fault}
 use Rattle.bq_line.specs.Streams.{LiesOver, StreamSeen}
+use Rattle.bq_line.specs.declared.line.stream_error.StreamError.{StreamError}
 
 nothing_before : (bytes more : List ℕ) → [] ≡ bytes ++ more → bytes ≡ []
 nothing_before [] more none = refl
@@ -59,15 +58,15 @@ nothing_moved first old new line later left held read written ended over =
     }
 
 -- A read that failed.
-failed_on : (first old new : StreamSeen) (line : LineSeen) (e : Error)
+failed_on : (first old new : StreamSeen) (line : LineSeen) (e : StreamError)
     → Keeps old.left new.left → Keeps old.held new.held → LiesOver first line old → LiesOver first (after_fill (Err e) line) new
-failed_on first old new line e kept apart over = failed (is_nothing_yet (error_kind e))
+failed_on first old new line e kept apart over = failed (is_nothing_yet e)
   where
     failed : (yet : Bool) → LiesOver first (if yet then line else with_line_fault faults.Read line) new
     failed true = nothing_moved first old new line line kept apart refl refl refl over
     failed false = nothing_moved first old new line (with_line_fault faults.Read line) kept apart refl refl refl over
 
-read_on : (first old new : StreamSeen) (line : LineSeen) (result : Result ℕ Error) (buf : List ℕ) → 0 < length buf
+read_on : (first old new : StreamSeen) (line : LineSeen) (result : Result ℕ StreamError) (buf : List ℕ) → 0 < length buf
     → ReadConsumes old.left new.left result buf → Keeps old.held new.held → LiesOver first line old
     → LiesOver first (after_read result buf line) new
 read_on first old new line (Ok n) buf room gave apart over = read_bytes first old new line n buf room gave apart over
@@ -90,7 +89,7 @@ noted_so first gave new noted later is stays over =
     subst (LiesOver first later) (sym stays) (subst (λ seen. LiesOver first seen gave) (sym is) over)
 
 -- The line recorded the result of a read of its stream.
-pub read_noted : (first old gave new : StreamSeen) (line later : LineSeen) (result : Result ℕ Error) (buf : List ℕ) (room : ℕ)
+pub read_noted : (first old gave new : StreamSeen) (line later : LineSeen) (result : Result ℕ StreamError) (buf : List ℕ) (room : ℕ)
     → length buf ≡ room → 0 < room → ReadConsumes old.left gave.left result buf → Keeps old.held gave.held
     → later ≡ after_read result buf line → new ≡ gave → LiesOver first line old → LiesOver first later new
 read_noted first old gave new line later result buf room length_is some took apart noted stays over =
@@ -98,23 +97,23 @@ read_noted first old gave new line later result buf room length_is some took apa
     (read_on first old gave line result buf (subst (λ n. 0 < n) (sym length_is) some) took apart over)
 
 -- The line recorded that a read of its stream failed.
-pub failed_noted : (first old gave new : StreamSeen) (line later : LineSeen) (e : Error) → Keeps old.left gave.left
+pub failed_noted : (first old gave new : StreamSeen) (line later : LineSeen) (e : StreamError) → Keeps old.left gave.left
     → Keeps old.held gave.held
     → later ≡ after_fill (Err e) line → new ≡ gave → LiesOver first line old → LiesOver first later new
 failed_noted first old gave new line later e kept apart noted stays over =
     noted_so first gave new (after_fill (Err e) line) later noted stays (failed_on first old gave line e kept apart over)
 
 -- A write that failed.
-refused_on : (first old new : StreamSeen) (line : LineSeen) (e : Error)
+refused_on : (first old new : StreamSeen) (line : LineSeen) (e : StreamError)
     → Keeps old.left new.left → Keeps old.held new.held → LiesOver first line old → LiesOver first (after_write (Err e) [] line) new
-refused_on first old new line e kept apart over = refused (is_nothing_yet (error_kind e))
+refused_on first old new line e kept apart over = refused (is_nothing_yet e)
   where
     refused : (yet : Bool) → LiesOver first (if yet then line else with_line_fault faults.Write line) new
     refused true = nothing_moved first old new line line kept apart refl refl refl over
     refused false = nothing_moved first old new line (with_line_fault faults.Write line) kept apart refl refl refl over
 
 -- The line recorded that a write to its stream failed.
-pub refused_noted : (first old gave new : StreamSeen) (line later : LineSeen) (e : Error) → Keeps old.left gave.left
+pub refused_noted : (first old gave new : StreamSeen) (line later : LineSeen) (e : StreamError) → Keeps old.left gave.left
     → Keeps old.held gave.held
     → later ≡ after_write (Err e) [] line → new ≡ gave → LiesOver first line old → LiesOver first later new
 refused_noted first old gave new line later e kept apart noted stays over =
@@ -132,7 +131,7 @@ prepend_kept came (Some xs) None kept = absurd kept
 prepend_kept came (Some xs) (Some ys) kept = ap (λ l. came ++ l) kept
 
 -- The line recorded a write.
-pub wrote_noted : (first old new : StreamSeen) (line later : LineSeen) (result : Result ℕ Error) (buf : List ℕ) → Keeps old.left new.left
+pub wrote_noted : (first old new : StreamSeen) (line later : LineSeen) (result : Result ℕ StreamError) (buf : List ℕ) → Keeps old.left new.left
     → WriteAppends old.held new.held result buf
     → later ≡ after_write result buf line → LiesOver first line old → LiesOver first later new
 wrote_noted first old new line later (Err e) buf kept held noted over =

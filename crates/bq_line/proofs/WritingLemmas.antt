@@ -3,7 +3,6 @@ use Rattle.std.proofs.Common.{◌≡◌, ℕ, ◌+◌, ◌-◌, ◌≤◌, Bool,
 use Rattle.std.proofs.Common.{refl, sym, ap, subst, ◌∙◌, arith, length, take, take_all, drop, take-add, append_assoc, if◌then◌else◌}
 use Rattle.std.proofs.Common.{◌==◌, Result, Ok, Err}
 use Rattle.std.specs.Io.{WritesAtMost}
-use Rattle.std.specs.declared.io.Error.{Error}
 use Rattle.std.proofs.lemmas.Bool.Decides.{nat_tests}
 use Rattle.std.proofs.lemmas.Grind.{common_steps}
 use Rattle.std.proofs.lemmas.List.{length-append, take-append-drop, take-append-le, drop-append-le, drop_all}
@@ -13,6 +12,7 @@ use Rattle.bq_job.specs.declared.line_end.LineFault.TheVariants as faults
 use Rattle.bq_line.specs.LineCalls.{after_write, with_line_fault}
 use Rattle.bq_line.specs.declared.buffers.Wrote.{Wrote}
 use Rattle.bq_line.specs.declared.buffers.Wrote.TheVariants as wrotes
+use Rattle.bq_line.specs.declared.line.stream_error.StreamError.{StreamError}
 use Rattle.bq_line.specs.Writing.{BreaksOff, WritesOn, with_begun, with_written}
 
 -- a further part is written
@@ -30,14 +30,14 @@ written_on old mid new bytes rest done n m rest_is h =
     rw (take-add done n bytes, ← whole, ← rest_is) (written_joined old mid new (take done bytes) (take n rest) m h)
 
 -- A write that was offered a first part of a text writes a first part of the text.
-pub offered_first : (result : Result ℕ Error) (part whole : List ℕ) (old : LineSeen) → WritesAtMost result part → IsBeginning part whole
+pub offered_first : (result : Result ℕ StreamError) (part whole : List ℕ) (old : LineSeen) → WritesAtMost result part → IsBeginning part whole
     → after_write result part old ≡ after_write result whole old
 offered_first (Err e) part whole old bound begins = refl
 offered_first (Ok n) part whole old bound begins =
     let same : take n part ≡ take n whole = sym (take-append-le n part begins.0 bound) ∙ ap (take n) (sym begins.1) in
     ap (λ bytes. if n == 0 then with_line_fault faults.Write old else record old { written = old.written ++ bytes }) same
 
-pub offered_at_most : (result : Result ℕ Error) (part whole : List ℕ) → WritesAtMost result part → IsBeginning part whole
+pub offered_at_most : (result : Result ℕ StreamError) (part whole : List ℕ) → WritesAtMost result part → IsBeginning part whole
     → WritesAtMost result whole
 offered_at_most (Err e) part whole bound begins = tt
 offered_at_most (Ok n) part whole bound begins =

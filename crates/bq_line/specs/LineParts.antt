@@ -1,11 +1,10 @@
 -- The parts of a line in memory, and how far they were read.
 use Rattle.std.specs.Prelude.{ℕ, zero, suc, ◌+◌, ◌<◌, ◌≡◌, List, [], ◌∷◌, ◌++◌, take, drop, length}
 use Rattle.std.specs.Prelude.{Bool, true, false, nat_le, if◌then◌else◌, Option, Some, None, Result, Ok, Err}
-use Rattle.std.specs.declared.io.Error.{Error}
-use Rattle.std.specs.IoError.{error_kind}
 use Rattle.bq_line.specs.LineCalls.{is_nothing_yet}
 use Rattle.bq_line.specs.declared.line.mem_line.Part.{Part}
 use Rattle.bq_line.specs.declared.line.mem_line.Part.TheVariants as parts
+use Rattle.bq_line.specs.declared.line.stream_error.StreamError.{StreamError}
 
 abbrev pub part_bytes : Part → List ℕ
 part_bytes (parts.Bytes bytes) = bytes.items
@@ -41,11 +40,11 @@ open_place all place offset written = place + over_count (drop place all) offset
 
 -- The result of a read if this part comes next: bytes, no bytes yet, or a fault; after the last
 -- part, the end of the input.
-abbrev pub IsAnsweredBy : Option Part → Result ℕ Error → Type 0
+abbrev pub IsAnsweredBy : Option Part → Result ℕ StreamError → Type 0
 IsAnsweredBy None (Ok count) = count ≡ 0
 IsAnsweredBy (Some (parts.Bytes bytes)) (Ok count) = 0 < count
-IsAnsweredBy (Some (parts.AfterWritten count)) (Err e) = is_nothing_yet (error_kind e) ≡ true
-IsAnsweredBy (Some parts.Fault) (Err e) = is_nothing_yet (error_kind e) ≡ false
+IsAnsweredBy (Some (parts.AfterWritten count)) (Err e) = is_nothing_yet e ≡ true
+IsAnsweredBy (Some parts.Fault) (Err e) = is_nothing_yet e ≡ false
 IsAnsweredBy part answer = ⊥
 
 -- A part that is a fault is done once a read returned it.

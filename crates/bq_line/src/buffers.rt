@@ -2,7 +2,6 @@
 //! written, and into which the line is read.
 ghost use Rattle.std.specs.Prelude.{ℕ, List, [], ◌≡◌, ◌<◌, ◌≤◌, ◌+◌, ◌++◌, drop, length, take, false, true, if◌then◌else◌};
 ghost use Rattle.std.specs.Io.{ReadsAtMost, WritesAtMost};
-ghost use Rattle.std.specs.IoError.{error_kind};
 ghost use Rattle.bq_job.specs.promise.LineSteps.{IsBeginning, LineSeen};
 ghost use Rattle.bq_job.specs.texts.AnswerText.{answer_text};
 ghost use Rattle.bq_line.specs.LineCalls.{after_fill, after_read, after_write, is_nothing_yet};
@@ -11,12 +10,11 @@ ghost use Rattle.bq_line.specs.Carried.{Carried, ReadsLine};
 ghost use Rattle.bq_line.specs.Writing.{Resumes, WritesOn, with_written};
 
 use crate::attendant::Progress;
-use crate::line::{Line, is_nothing_yet};
+use crate::line::{Line, StreamError};
 use bq_job::Answer;
 use bq_seat::{Action, PIECE_ROOM, SeatMachine};
 use bq_wire::{HeadBuf, answer_body, answer_head, answer_tail, push_bytes};
 use std::alloc::Global;
-use std::io;
 
 /// The buffers of a seat. They are made once per run, since new ones would be filled with zeros
 /// first.
@@ -213,7 +211,7 @@ fn write_parts<L: Line>(
             }
             Err(e) => {
                 *sent = done;
-                return after_error(&e);
+                return after_error(e);
             }
         }
     }
@@ -237,7 +235,7 @@ fn write_some<L: Line>(
     body: &[u8],
     tail: &[u8],
     done: usize,
-) -> io::Result<usize>
+) -> Result<usize, StreamError>
     requires { done < length (head.now ++ body.now ++ tail.now) }
     ensures bound { WritesAtMost result (drop done (head.now ++ body.now ++ tail.now)) }
     ensures seen { L.seen line.new
@@ -252,7 +250,12 @@ fn write_some<L: Line>(
 }
 
 // Makes one write from three parts. One with a long body takes a first piece of it.
-fn write_first<L: Line>(line: &mut L, head: &[u8], body: &[u8], tail: &[u8]) -> io::Result<usize>
+fn write_first<L: Line>(
+    line: &mut L,
+    head: &[u8],
+    body: &[u8],
+    tail: &[u8],
+) -> Result<usize, StreamError>
     requires { 0 < length head.now }
     ensures bound { WritesAtMost result (head.now ++ body.now ++ tail.now) }
     ensures seen { L.seen line.new
@@ -267,7 +270,12 @@ fn write_first<L: Line>(line: &mut L, head: &[u8], body: &[u8], tail: &[u8]) -> 
 }
 
 // Makes one write from what follows the first `done` bytes of two parts.
-fn write_of_two<L: Line>(line: &mut L, body: &[u8], tail: &[u8], done: usize) -> io::Result<usize>
+fn write_of_two<L: Line>(
+    line: &mut L,
+    body: &[u8],
+    tail: &[u8],
+    done: usize,
+) -> Result<usize, StreamError>
     requires { done < length (body.now ++ tail.now) }
     ensures bound { WritesAtMost result (drop done (body.now ++ tail.now)) }
     ensures seen { L.seen line.new
@@ -282,7 +290,7 @@ fn write_of_two<L: Line>(line: &mut L, body: &[u8], tail: &[u8], done: usize) ->
 }
 
 // Makes one write from two parts. One from a long body takes a first piece of it.
-fn write_body<L: Line>(line: &mut L, body: &[u8], tail: &[u8]) -> io::Result<usize>
+fn write_body<L: Line>(line: &mut L, body: &[u8], tail: &[u8]) -> Result<usize, StreamError>
     requires { 0 < length body.now }
     ensures bound { WritesAtMost result (body.now ++ tail.now) }
     ensures seen { L.seen line.new ≡ after_write result (body.now ++ tail.now) (L.seen line.old) }
@@ -348,18 +356,17 @@ fn write_rest<L: Line>(line: &mut L, bytes: &[u8], sent: &mut usize) -> Wrote
             }
             Err(e) => {
                 *sent = done;
-                return after_error(&e);
+                return after_error(e);
             }
         }
     }
     Wrote::Whole
 }
 
-fn after_error(e: &io::Error) -> Wrote
-    ensures { result
-        ≡ (if is_nothing_yet (error_kind e.now) then Wrote.NotYet else Wrote.Fault) }
+fn after_error(e: StreamError) -> Wrote
+    ensures { result ≡ (if is_nothing_yet e then Wrote.NotYet else Wrote.Fault) }
 {
-    if is_nothing_yet(e) {
+    if e.is_nothing_yet() {
         Wrote::NotYet
     } else {
         Wrote::Fault
@@ -381,7 +388,7 @@ pub fn read<L: Line>(
 {
     match fill_line(machine, line) {
         Ok(()) => hand_on(alloc, machine, next, line, piece),
-        Err(e) => tell_error(alloc, machine, next, &e),
+        Err(e) => tell_error(alloc, machine, next, e),
     }
 }
 
@@ -424,7 +431,7 @@ fn read_piece<L: Line>(
             machine.bytes(alloc, &piece[..count], next);
             Progress::Moved
         }
-        Err(e) => tell_error(alloc, machine, next, &e),
+        Err(e) => tell_error(alloc, machine, next, e),
     }
 }
 
@@ -433,13 +440,13 @@ fn tell_error(
     alloc: Global,
     machine: &mut SeatMachine,
     next: &mut Action,
-    e: &io::Error,
+    e: StreamError,
 ) -> Progress
     ensures { (seen : LineSeen)
         → Carried result machine.old seen Action.Read machine.new
-        (after_fill (Err e.now) seen) next.new [] [] }
+        (after_fill (Err e) seen) next.new [] [] }
 {
-    if is_nothing_yet(e) {
+    if e.is_nothing_yet() {
         machine.nothing_yet(next);
         Progress::NoBytes
     } else {
@@ -449,7 +456,7 @@ fn tell_error(
 }
 
 // Reading waits only if no answer is outstanding. All answers so far are sent before.
-fn fill_line<L: Line>(machine: &SeatMachine, line: &mut L) -> io::Result<()>
+fn fill_line<L: Line>(machine: &SeatMachine, line: &mut L) -> Result<(), StreamError>
     ensures seen { L.seen line.new ≡ after_fill result (L.seen line.old) }
     ensures stays { StaysOver L.lies_over line.old line.new }
 {
@@ -460,7 +467,11 @@ fn fill_line<L: Line>(machine: &SeatMachine, line: &mut L) -> io::Result<()>
 }
 
 // Does the same for a line without a buffer of its own.
-fn read_line<L: Line>(machine: &SeatMachine, line: &mut L, piece: &mut [u8]) -> io::Result<usize>
+fn read_line<L: Line>(
+    machine: &SeatMachine,
+    line: &mut L,
+    piece: &mut [u8],
+) -> Result<usize, StreamError>
     requires { 0 < length piece.old }
     ensures bound { ReadsAtMost result piece.new }
     ensures seen { L.seen line.new ≡ after_read result piece.new (L.seen line.old) }

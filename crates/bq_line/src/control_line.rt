@@ -2,7 +2,7 @@
 ghost use Rattle.std.specs.Prelude.{◌≡◌, ℕ, Bool, Option, List, [], false, true};
 ghost use Rattle.bq_line.specs.ControlSeen.{ControlSeen, HasHeard, MayHear, after_heard};
 
-use crate::line::{ByteRecord, is_nothing_yet};
+use crate::line::{ByteRecord, StreamError};
 use std::alloc::Allocator;
 use std::io::{BufRead, BufReader, Read};
 
@@ -108,7 +108,7 @@ pub fn next_of<I: BufRead>(reader: &mut I) -> Heard
     let available = match reader.fill_buf() {
         Ok(available) => available,
         Err(e) => {
-            return if is_nothing_yet(&e) {
+            return if StreamError::of(&e).is_nothing_yet() {
                 Heard::NothingYet
             } else {
                 Heard::Fault

@@ -2,22 +2,25 @@
 //! never waits: whether a read or a write is worth a system call.
 ghost use Rattle.std.specs.Prelude.{◌≡◌, ◌≤◌, ◌<◌, ℕ, List, length, min, not, take, ◌++◌};
 ghost use Rattle.std.specs.Io.{ReadsAtMost, WritesAtMost};
-ghost use Rattle.std.specs.IoError.{error_kind};
 ghost use Rattle.bq_job.specs.promise.LineSteps.{LineSeen};
-ghost use Rattle.bq_line.specs.LineCalls.{after_fill, after_flush, after_read, after_take, after_write, first_fault, found_nothing, is_nothing_yet};
+ghost use Rattle.bq_line.specs.LineCalls.{after_fill, after_flush, after_read, after_take, after_write, first_fault, found_nothing};
 ghost use Rattle.bq_line.specs.Streams.{StaysOver, StreamSeen};
 
+pub use connection::Connection;
 pub use io_line::{BufferedLine, ByteRecord, IoLine};
 pub use mem_line::{MemLine, Part};
-pub use stream::{Connection, Duplex, READ_ROOM, ReadBuffer, Socket};
+pub use socket::Socket;
+pub use stream::{Duplex, READ_ROOM, ReadBuffer};
+pub use stream_error::{StreamError, in_brief};
 
+mod connection;
 mod io_line;
 mod mem_line;
+mod socket;
 mod stream;
+mod stream_error;
 
 use bq_job::LineFault;
-use std::io;
-use std::io::ErrorKind;
 
 /// A line to one client. It records the bytes that its reads returned and its writes took since it
 /// was made, whether its input has ended, and the first fault that a call returned.
@@ -33,17 +36,17 @@ pub trait Line {
     ghost unread: { Self → List ℕ };
 
     /// Reads at most as many bytes as the buffer has room for, as `std::io::Read` does. A result of
-    /// 0 is the end of the input. `WouldBlock`, `TimedOut` and `Interrupted` mean that there are no
-    /// bytes yet; any other error is a read fault. It may wait for bytes without limit.
-    fn read(&mut self, buf: &mut [u8]) -> io::Result<usize>
+    /// 0 is the end of the input. `NotYet` and `Interrupted` mean that there are no bytes yet; a
+    /// `Fault` is a read fault. It may wait for bytes without limit.
+    fn read(&mut self, buf: &mut [u8]) -> Result<usize, StreamError>
         requires { 0 < length buf.old }
         ensures bound { ReadsAtMost result buf.new }
         ensures seen { seen self.new ≡ after_read result buf.new (seen self.old) }
         ensures stays { StaysOver lies_over self.old self.new };
 
-    /// Reads as `read` does, but does not wait: without bytes it returns `WouldBlock`, if the line
-    /// can do that.
-    fn read_now(&mut self, buf: &mut [u8]) -> io::Result<usize>
+    /// Reads as `read` does, but does not wait: without bytes it returns `NotYet`, if the line can
+    /// do that.
+    fn read_now(&mut self, buf: &mut [u8]) -> Result<usize, StreamError>
         requires { 0 < length buf.old }
         ensures bound { ReadsAtMost result buf.new }
         ensures seen { seen self.new ≡ after_read result buf.new (seen self.old) }
@@ -52,7 +55,7 @@ pub trait Line {
     /// If the line's own buffer is empty, reads into it once; `waits` says whether that may wait. A
     /// line without a buffer does nothing. Errors are those of `read`. The bytes do not count as
     /// read yet.
-    fn fill(&mut self, waits: bool) -> io::Result<()>
+    fn fill(&mut self, waits: bool) -> Result<(), StreamError>
         ensures seen { seen self.new ≡ after_fill result (seen self.old) }
         ensures stays { StaysOver lies_over self.old self.new }
     {
@@ -70,9 +73,9 @@ pub trait Line {
         ensures stays { StaysOver lies_over self.old self.new };
 
     /// Writes a first part of the buffer and returns its length, as `std::io::Write` does.
-    /// `WouldBlock`, `TimedOut` and `Interrupted` mean that there is no room yet, and leave the
-    /// line as it was. Any other error is a write fault, and so is a write that took no bytes.
-    fn write(&mut self, buf: &[u8]) -> io::Result<usize>
+    /// `NotYet` and `Interrupted` mean that there is no room yet, and leave the line as it was. A
+    /// `Fault` is a write fault, and so is a write that took no bytes.
+    fn write(&mut self, buf: &[u8]) -> Result<usize, StreamError>
         requires { 0 < length buf.now }
         ensures bound { WritesAtMost result buf.now }
         ensures seen { seen self.new ≡ after_write result buf.now (seen self.old) }
@@ -80,7 +83,12 @@ pub trait Line {
 
     /// Writes three texts as if they were one. By default it writes from the first text only; a
     /// line that supports gathered writes does not copy them.
-    fn write_together(&mut self, first: &[u8], second: &[u8], third: &[u8]) -> io::Result<usize>
+    fn write_together(
+        &mut self,
+        first: &[u8],
+        second: &[u8],
+        third: &[u8],
+    ) -> Result<usize, StreamError>
         requires { 0 < length first.now }
         ensures bound { WritesAtMost result (first.now ++ second.now ++ third.now) }
         ensures seen { seen self.new
@@ -91,7 +99,7 @@ pub trait Line {
     }
 
     /// Sends what is held back, if anything is. An error is a write fault.
-    fn flush(&mut self) -> io::Result<()>
+    fn flush(&mut self) -> Result<(), StreamError>
         ensures seen { seen self.new ≡ after_flush result (seen self.old) }
         ensures stays { StaysOver lies_over self.old self.new };
 
@@ -168,7 +176,7 @@ impl Readiness {
     /// Returns what is known after a read into a buffer of this many bytes. A read that leaves room
     /// took all bytes that there were. A read that was interrupted took nothing, and no event
     /// follows it, so it has to be repeated.
-    pub fn after_read(self, came: &io::Result<usize>, room: usize) -> Readiness {
+    pub fn after_read(self, came: &Result<usize, StreamError>, room: usize) -> Readiness {
         let took_all = match came {
             Ok(count) => *count < room && !self.is_closing,
             Err(_) => found_nothing(came),
@@ -182,7 +190,7 @@ impl Readiness {
 
     /// Returns what is known after a write. A write that was interrupted left the room as it was,
     /// and has to be repeated.
-    pub fn after_write(self, took: &io::Result<usize>) -> Readiness
+    pub fn after_write(self, took: &Result<usize, StreamError>) -> Readiness
         ensures room { result.writes ≡ not (found_nothing took.now) }
         ensures rest { result ≡ record self { writes = result.writes } }
     {
@@ -196,26 +204,10 @@ impl Readiness {
 }
 
 // Returns true if a call found no bytes or no room.
-fn found_nothing(came: &io::Result<usize>) -> bool
+fn found_nothing(came: &Result<usize, StreamError>) -> bool
     ensures { result ≡ found_nothing came.now }
 {
-    match came {
-        Ok(_) => false,
-        Err(e) => match e.kind() {
-            ErrorKind::WouldBlock => true,
-            _ => false,
-        },
-    }
-}
-
-/// Returns true if an error means only that there are no bytes yet, or no room yet.
-pub fn is_nothing_yet(e: &io::Error) -> bool
-    ensures { result ≡ is_nothing_yet (error_kind e.now) }
-{
-    match e.kind() {
-        ErrorKind::WouldBlock | ErrorKind::TimedOut | ErrorKind::Interrupted => true,
-        _ => false,
-    }
+    matches!(came, Err(StreamError::NotYet))
 }
 
 // Records the first fault of a line; later ones are dropped.

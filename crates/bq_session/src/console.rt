@@ -1,8 +1,7 @@
 //! An input and an output as one stream.
 ghost use Rattle.std.specs.Prelude.{◌≡◌};
 
-use bq_line::line::Duplex;
-use std::io;
+use bq_line::line::{Duplex, StreamError, in_brief};
 use std::io::{Read, Write};
 
 /// An input and an output as one stream, for example the standard input and output of a program. Nothing is buffered:
@@ -38,15 +37,18 @@ impl<I: Read, O: Write> Duplex for Console<I, O> {
     ghost contents = { λ console. O.contents console.output };
 
     // The input of a program has no read that does not block.
-    fn read(&mut self, buf: &mut [u8]) -> io::Result<usize> {
-        self.input.read(buf)
+    fn read(&mut self, buf: &mut [u8]) -> Result<usize, StreamError> {
+        in_brief(self.input.read(buf))
     }
 
-    fn write(&mut self, buf: &[u8]) -> io::Result<usize> {
-        self.output.write(buf)
+    fn write(&mut self, buf: &[u8]) -> Result<usize, StreamError> {
+        in_brief(self.output.write(buf))
     }
 
-    fn flush(&mut self) -> io::Result<()> {
-        self.output.flush()
+    fn flush(&mut self) -> Result<(), StreamError> {
+        match self.output.flush() {
+            Ok(()) => Ok(()),
+            Err(e) => Err(StreamError::of(&e)),
+        }
     }
 }

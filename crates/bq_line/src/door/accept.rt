@@ -49,9 +49,9 @@ pub(super) fn accept<R: Wait + Clock + Eprint, T: Listen>(
     let mut met = Met::none(refusals);
     for _ in rt.forever() {
         match listener.accept() {
-            Ok(mut stream) => {
+            Ok((mut stream, _peer)) => {
                 // This fails if the peer has disconnected.
-                if stream.set_gathers(false).is_ok() {
+                if stream.set_nodelay(true).is_ok() {
                     met.end();
                     return Ok(Connection::new(stream));
                 }
@@ -98,9 +98,9 @@ pub(super) fn accept_now<R: Eprint, T: Listen, W: Watcher>(
     let mut met = Met::before(refusals, *is_met);
     for _ in 0..PEERS {
         match listener.accept() {
-            Ok(mut stream) => {
+            Ok((mut stream, _peer)) => {
                 // Neither can be set if the peer has disconnected.
-                if stream.set_gathers(false).is_ok() && stream.set_waits(false).is_ok() {
+                if stream.set_nodelay(true).is_ok() && stream.set_nonblocking(true).is_ok() {
                     return Ok(take_watched(rt, stream, watcher, met, is_met));
                 }
             }
@@ -137,7 +137,7 @@ fn take_watched<R: Eprint, S: Socket + Drop, W: Watcher>(
     mut met: Met<'_>,
     is_met: &mut bool,
 ) -> Accepted<S> {
-    match watch(&stream, watcher) {
+    match watcher.watch(stream.source()) {
         Ok(()) => {
             met.end();
             *is_met = false;
@@ -148,14 +148,6 @@ fn take_watched<R: Eprint, S: Socket + Drop, W: Watcher>(
             *is_met = true;
             Accepted::Short
         }
-    }
-}
-
-// A stream without a descriptor can't be watched.
-fn watch<S: Socket, W: Watcher>(stream: &S, watcher: &W) -> io::Result<()> {
-    match stream.source() {
-        Some(fd) => watcher.watch(fd),
-        None => Err(io::Error::from(ErrorKind::Unsupported)),
     }
 }
 

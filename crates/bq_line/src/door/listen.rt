@@ -4,7 +4,7 @@ ghost use Rattle.bq_line.specs.Accepts.{ends_listener};
 
 use crate::line::Socket;
 use std::io;
-use std::net::{TcpListener, TcpStream};
+use std::net::{SocketAddr, TcpListener, TcpStream};
 use std::os::fd::{AsRawFd, RawFd};
 
 /// A listener, which accepts one connection after another.
@@ -15,20 +15,18 @@ pub trait Listen {
     /// True if the listener may break.
     ghost may_fail: { Self → Bool };
 
-    /// Waits for the next connection. An error means that this connection could not be accepted, or
-    /// that the listener is broken and accepts no more (`ends_listener`). Only a listener that may
-    /// break returns an error of the second kind.
-    fn accept(&self) -> io::Result<Self::Stream>
+    /// Waits for the next connection, and returns it with its peer's address. An error means that
+    /// this connection could not be accepted, or that the listener is broken and accepts no more
+    /// (`ends_listener`). Only a listener that may break returns an error of the second kind.
+    fn accept(&self) -> io::Result<(Self::Stream, SocketAddr)>
         ensures { IfErr result (λ e. ends_listener e ≡ true → may_fail self.now ≡ true) };
 
-    /// Returns the descriptor on which the system reports that a client has connected, if there is
-    /// one.
-    fn source(&self) -> Option<RawFd> {
-        None
-    }
+    /// Returns the descriptor on which the system reports that a client has connected.
+    fn source(&self) -> RawFd;
 }
 
-/// Nothing is assumed about the system's sockets: any of them may break at once.
+/// Nothing is assumed about the system's sockets: any of them may break at once. Each function makes
+/// the call of its name with its own arguments.
 impl Listen for TcpListener {
     ghost use Rattle.std.specs.Prelude.{true};
 
@@ -36,12 +34,11 @@ impl Listen for TcpListener {
 
     ghost may_fail = { λ listener. true };
 
-    fn accept(&self) -> io::Result<TcpStream> {
-        let (stream, _peer) = self.accept()?;
-        Ok(stream)
+    fn accept(&self) -> io::Result<(TcpStream, SocketAddr)> {
+        TcpListener::accept(self)
     }
 
-    fn source(&self) -> Option<RawFd> {
-        Some(self.as_raw_fd())
+    fn source(&self) -> RawFd {
+        self.as_raw_fd()
     }
 }

@@ -292,7 +292,7 @@ impl<'l, R: Wait + Clock + Eprint, S: Socket + Drop + Send, T: Listen<Stream = S
     }
 
     fn source(&self) -> Option<RawFd> {
-        self.listener.source()
+        Some(self.listener.source())
     }
 
     // The listener was set not to wait.

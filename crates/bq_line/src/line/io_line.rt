@@ -5,11 +5,11 @@ ghost use Rattle.bq_line.specs.LineCalls.{after_fill, after_flush, after_read, a
 ghost use Rattle.bq_line.specs.Streams.{MovesNothing, ReadsFrom, StaysOver, WritesTo};
 
 use crate::line::stream::{Duplex, ReadBuffer, fill, read_by, read_through};
-use crate::line::{Line, Readiness, is_nothing_yet, note_fault};
+use crate::line::{Line, Readiness, StreamError, note_fault};
 use boxcar::tag::{Names, Tag};
 use bq_job::LineFault;
 use std::marker::Model;
-use std::{io, mem};
+use std::mem;
 
 /// A line over any stream. Besides the stream it keeps two flags, and records of the bytes that the
 /// stream's reads returned and its writes took; these records take no memory.
@@ -40,7 +40,7 @@ impl<S: Duplex> IoLine<S> {
     }
 
     // Records the result of a read.
-    fn note_read(&mut self, came: &io::Result<usize>, buf: &[u8])
+    fn note_read(&mut self, came: &Result<usize, StreamError>, buf: &[u8])
         requires { ReadsAtMost came.now buf.now }
         ensures seen { ⟦<IoLine<S> as Line>⟧.seen self.new
             ≡ after_read came.now buf.now (⟦<IoLine<S> as Line>⟧.seen self.old) }
@@ -49,34 +49,34 @@ impl<S: Duplex> IoLine<S> {
         match came {
             Ok(0) => self.ended = true,
             Ok(count) => self.read.note(&buf[..*count]),
-            Err(e) => self.note_error(e),
+            Err(e) => self.note_error(*e),
         }
     }
 
     // Records that a read failed, unless there were merely no bytes yet.
-    fn note_error(&mut self, e: &io::Error)
+    fn note_error(&mut self, e: StreamError)
         ensures seen { ⟦<IoLine<S> as Line>⟧.seen self.new
-            ≡ after_fill (Err e.now) (⟦<IoLine<S> as Line>⟧.seen self.old) }
+            ≡ after_fill (Err e) (⟦<IoLine<S> as Line>⟧.seen self.old) }
         ensures stream { self.new.stream ≡ self.old.stream }
     {
-        if !is_nothing_yet(e) {
+        if !e.is_nothing_yet() {
             note_fault(&mut self.fault, LineFault::Read);
         }
     }
 
     // Records that a write failed, unless there was merely no room yet.
-    fn note_unwritten(&mut self, e: &io::Error)
+    fn note_unwritten(&mut self, e: StreamError)
         ensures seen { ⟦<IoLine<S> as Line>⟧.seen self.new
-            ≡ after_write (Err e.now) [] (⟦<IoLine<S> as Line>⟧.seen self.old) }
+            ≡ after_write (Err e) [] (⟦<IoLine<S> as Line>⟧.seen self.old) }
         ensures stream { self.new.stream ≡ self.old.stream }
     {
-        if !is_nothing_yet(e) {
+        if !e.is_nothing_yet() {
             note_fault(&mut self.fault, LineFault::Write);
         }
     }
 
     // Reads the stream once; `waits` says whether that may wait.
-    fn read_by(&mut self, buf: &mut [u8], waits: bool) -> io::Result<usize>
+    fn read_by(&mut self, buf: &mut [u8], waits: bool) -> Result<usize, StreamError>
         requires { 0 < length buf.old }
         ensures seen { ⟦<IoLine<S> as Line>⟧.seen self.new
             ≡ after_read result buf.new (⟦<IoLine<S> as Line>⟧.seen self.old) }
@@ -115,7 +115,7 @@ impl<S: Duplex> Line for IoLine<S> {
     // It has no buffer of its own.
     ghost unread = { λ line. [] };
 
-    fn read(&mut self, buf: &mut [u8]) -> io::Result<usize>
+    fn read(&mut self, buf: &mut [u8]) -> Result<usize, StreamError>
         requires { 0 < length buf.old }
         ensures seen { ⟦<IoLine<S> as Line>⟧.seen self.new
             ≡ after_read result buf.new (⟦<IoLine<S> as Line>⟧.seen self.old) }
@@ -126,7 +126,7 @@ impl<S: Duplex> Line for IoLine<S> {
         self.read_by(buf, true)
     }
 
-    fn read_now(&mut self, buf: &mut [u8]) -> io::Result<usize>
+    fn read_now(&mut self, buf: &mut [u8]) -> Result<usize, StreamError>
         requires { 0 < length buf.old }
         ensures seen { ⟦<IoLine<S> as Line>⟧.seen self.new
             ≡ after_read result buf.new (⟦<IoLine<S> as Line>⟧.seen self.old) }
@@ -143,7 +143,7 @@ impl<S: Duplex> Line for IoLine<S> {
 
     fn take_unread(&mut self, _count: usize) {}
 
-    fn write(&mut self, buf: &[u8]) -> io::Result<usize>
+    fn write(&mut self, buf: &[u8]) -> Result<usize, StreamError>
         requires { 0 < length buf.now }
         ensures seen { ⟦<IoLine<S> as Line>⟧.seen self.new
             ≡ after_write result buf.now (⟦<IoLine<S> as Line>⟧.seen self.old) }
@@ -156,12 +156,17 @@ impl<S: Duplex> Line for IoLine<S> {
         match &result {
             Ok(0) => note_fault(&mut self.fault, LineFault::Write),
             Ok(count) => self.written.note(&buf[..*count]),
-            Err(e) => self.note_unwritten(e),
+            Err(e) => self.note_unwritten(*e),
         }
         result
     }
 
-    fn write_together(&mut self, first: &[u8], second: &[u8], third: &[u8]) -> io::Result<usize>
+    fn write_together(
+        &mut self,
+        first: &[u8],
+        second: &[u8],
+        third: &[u8],
+    ) -> Result<usize, StreamError>
         requires { 0 < length first.now }
         ensures seen { ⟦<IoLine<S> as Line>⟧.seen self.new
             ≡ after_write result (first.now ++ second.now ++ third.now) (⟦<IoLine<S> as Line>⟧.seen self.old) }
@@ -174,12 +179,12 @@ impl<S: Duplex> Line for IoLine<S> {
         match &result {
             Ok(0) => note_fault(&mut self.fault, LineFault::Write),
             Ok(count) => self.written.note_together(*count, first, second, third),
-            Err(e) => self.note_unwritten(e),
+            Err(e) => self.note_unwritten(*e),
         }
         result
     }
 
-    fn flush(&mut self) -> io::Result<()>
+    fn flush(&mut self) -> Result<(), StreamError>
         ensures seen { ⟦<IoLine<S> as Line>⟧.seen self.new
             ≡ after_flush result (⟦<IoLine<S> as Line>⟧.seen self.old) }
         ensures stream { MovesNothing S.remaining S.contents self.old.stream self.new.stream }
@@ -242,7 +247,7 @@ impl<S: Duplex> BufferedLine<S> {
     }
 
     // Reads from the buffer once or, if it is empty, from the stream.
-    fn read_by(&mut self, buf: &mut [u8], waits: bool) -> io::Result<usize>
+    fn read_by(&mut self, buf: &mut [u8], waits: bool) -> Result<usize, StreamError>
         requires { 0 < length buf.old }
         ensures bound { ReadsAtMost result buf.new }
         ensures seen { ⟦<BufferedLine<S> as Line>⟧.seen self.new
@@ -278,18 +283,18 @@ impl<S: Duplex> Line for BufferedLine<S> {
 
     ghost unread = { λ line. line.came };
 
-    fn read(&mut self, buf: &mut [u8]) -> io::Result<usize> {
+    fn read(&mut self, buf: &mut [u8]) -> Result<usize, StreamError> {
         self.read_by(buf, true)
     }
 
-    fn read_now(&mut self, buf: &mut [u8]) -> io::Result<usize> {
+    fn read_now(&mut self, buf: &mut [u8]) -> Result<usize, StreamError> {
         self.read_by(buf, false)
     }
 
-    fn fill(&mut self, waits: bool) -> io::Result<()> {
+    fn fill(&mut self, waits: bool) -> Result<(), StreamError> {
         let result = fill(&mut self.came, &mut self.line.stream, waits);
         if let Err(e) = &result {
-            self.line.note_error(e);
+            self.line.note_error(*e);
         }
         result
     }
@@ -304,15 +309,20 @@ impl<S: Duplex> Line for BufferedLine<S> {
         self.came.drop_front(count);
     }
 
-    fn write(&mut self, buf: &[u8]) -> io::Result<usize> {
+    fn write(&mut self, buf: &[u8]) -> Result<usize, StreamError> {
         self.line.write(buf)
     }
 
-    fn write_together(&mut self, first: &[u8], second: &[u8], third: &[u8]) -> io::Result<usize> {
+    fn write_together(
+        &mut self,
+        first: &[u8],
+        second: &[u8],
+        third: &[u8],
+    ) -> Result<usize, StreamError> {
         self.line.write_together(first, second, third)
     }
 
-    fn flush(&mut self) -> io::Result<()> {
+    fn flush(&mut self) -> Result<(), StreamError> {
         self.line.flush()
     }
 

@@ -5,11 +5,9 @@ ghost use Rattle.bq_line.specs.LineCalls.{after_flush, after_read, after_write, 
 ghost use Rattle.bq_line.specs.LineParts.{IsAnsweredBy, bytes_up_to, is_over, open_place, place_after};
 ghost use Rattle.bq_line.specs.Streams.{StaysOver};
 
-use super::{Line, copy_first, note_fault};
+use super::{Line, StreamError, copy_first, note_fault};
 use bq_job::{LineFault, NoMemory};
 use std::alloc::Global;
-use std::io;
-use std::io::ErrorKind;
 
 /// A part of what a client in memory does.
 #[derive(Drop)]
@@ -89,7 +87,7 @@ impl MemLine {
     }
 
     // Reads from the next part, which isn't done.
-    fn read_part(&mut self, buf: &mut [u8]) -> io::Result<usize>
+    fn read_part(&mut self, buf: &mut [u8]) -> Result<usize, StreamError>
         requires some { 0 < length buf.old }
         requires open { IfSome (slice_get self.old.parts.items self.old.place)
             (λ part. is_over self.old.offset (vec_len self.old.written) part ≡ false) }
@@ -111,12 +109,12 @@ impl MemLine {
                 self.offset += count;
                 Ok(count)
             }
-            Some(Part::AfterWritten(_)) => Err(io::Error::from(ErrorKind::WouldBlock)),
+            Some(Part::AfterWritten(_)) => Err(StreamError::NotYet),
             Some(Part::Fault) => {
                 self.place += 1;
                 self.offset = 0;
                 note_fault(&mut self.fault, LineFault::Read);
-                Err(io::Error::from(ErrorKind::BrokenPipe))
+                Err(StreamError::Fault)
             }
         }
     }
@@ -140,7 +138,7 @@ impl Line for MemLine {
     // It has no buffer of its own.
     ghost unread = { λ line. [] };
 
-    fn read(&mut self, buf: &mut [u8]) -> io::Result<usize>
+    fn read(&mut self, buf: &mut [u8]) -> Result<usize, StreamError>
         requires { 0 < length buf.old }
         ensures bound { ReadsAtMost result buf.new }
         ensures seen { ⟦<MemLine as Line>⟧.seen self.new
@@ -161,7 +159,7 @@ impl Line for MemLine {
     }
 
     // A client in memory never has to be waited for.
-    fn read_now(&mut self, buf: &mut [u8]) -> io::Result<usize>
+    fn read_now(&mut self, buf: &mut [u8]) -> Result<usize, StreamError>
         requires { 0 < length buf.old }
         ensures bound { ReadsAtMost result buf.new }
         ensures seen { ⟦<MemLine as Line>⟧.seen self.new
@@ -186,7 +184,7 @@ impl Line for MemLine {
 
     fn take_unread(&mut self, _count: usize) {}
 
-    fn write(&mut self, buf: &[u8]) -> io::Result<usize>
+    fn write(&mut self, buf: &[u8]) -> Result<usize, StreamError>
         requires { 0 < length buf.now }
         ensures bound { WritesAtMost result buf.now }
         ensures seen { ⟦<MemLine as Line>⟧.seen self.new
@@ -203,14 +201,14 @@ impl Line for MemLine {
         let count = buf.len().min(self.room);
         if count == 0 {
             note_fault(&mut self.fault, LineFault::Write);
-            return Err(io::Error::from(ErrorKind::StorageFull));
+            return Err(StreamError::Fault);
         }
         let _fits = self.written.extend_from_slice(&buf[..count]);
         self.room -= count;
         Ok(count)
     }
 
-    fn flush(&mut self) -> io::Result<()>
+    fn flush(&mut self) -> Result<(), StreamError>
         ensures seen { ⟦<MemLine as Line>⟧.seen self.new
             ≡ after_flush result (⟦<MemLine as Line>⟧.seen self.old) }
         ensures stays { StaysOver ⟦<MemLine as Line>⟧.lies_over self.old self.new }

@@ -1,4 +1,4 @@
-use Rattle.std.proofs.Common.{◌≡◌, ◌==◌, ◌≤◌, ◌++◌, false, length, arith}
+use Rattle.std.proofs.Common.{◌≡◌, ◌==◌, ◌++◌, false, arith}
 use Rattle.std.proofs.lemmas.Bool.Decides.{nat_tests}
 use Rattle.bq_line.proofs.WritingLemmas.{breaks_off, stops, take_begins, whole_on, written_from}
 use Rattle.bq_line.proofs.buffers.write_parts.Goals as goal

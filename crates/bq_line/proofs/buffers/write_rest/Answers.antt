@@ -1,4 +1,4 @@
-use Rattle.std.proofs.Common.{◌≡◌, ◌==◌, ◌≤◌, false, length, refl, rules, arith}
+use Rattle.std.proofs.Common.{◌≡◌, ◌==◌, ◌≤◌, false, length, refl, arith}
 use Rattle.std.proofs.lemmas.Bool.Decides.{nat_tests}
 use Rattle.bq_line.proofs.WritingLemmas.{breaks_off, stops, take_begins, whole_on, written_on}
 use Rattle.bq_line.proofs.buffers.write_rest.Goals as goal

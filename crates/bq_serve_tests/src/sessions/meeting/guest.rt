@@ -1,10 +1,8 @@
 //! A client that waits for others.
 
 use super::awaited::{Meeting, is_reached};
-use bq_line::line::Duplex;
+use bq_line::line::{Duplex, StreamError};
 use std::alloc::Global;
-use std::io;
-use std::io::ErrorKind;
 use std::sync::atomic::Ordering;
 
 /// The number of clients.
@@ -55,9 +53,9 @@ impl<'m> Guest<'m> {
 }
 
 impl<'m> Duplex for Guest<'m> {
-    fn read(&mut self, buf: &mut [u8]) -> io::Result<usize> {
+    fn read(&mut self, buf: &mut [u8]) -> Result<usize, StreamError> {
         if !self.begins() {
-            return Err(io::Error::from(ErrorKind::BrokenPipe));
+            return Err(StreamError::Fault);
         }
         let count = self.sends.len().min(buf.len());
         buf[..count].copy_from_slice(&self.sends[..count]);
@@ -65,9 +63,9 @@ impl<'m> Duplex for Guest<'m> {
         Ok(count)
     }
 
-    fn write(&mut self, buf: &[u8]) -> io::Result<usize> {
+    fn write(&mut self, buf: &[u8]) -> Result<usize, StreamError> {
         if self.written.extend_from_slice(buf).is_err() {
-            return Err(io::Error::from(ErrorKind::OutOfMemory));
+            return Err(StreamError::Fault);
         }
         if self.written.as_slice().ends_with(b"\r\n") {
             self.meeting.answered.fetch_add(1, Ordering::SeqCst);
@@ -75,7 +73,7 @@ impl<'m> Duplex for Guest<'m> {
         Ok(buf.len())
     }
 
-    fn flush(&mut self) -> io::Result<()> {
+    fn flush(&mut self) -> Result<(), StreamError> {
         Ok(())
     }
 }

@@ -1,8 +1,7 @@
 use Rattle.std.proofs.Common.{◌≡◌, [], refl, sym, subst, inl, inr}
 use Rattle.bq_seat.specs.declared.machine.Action.TheVariants as actions
-use Rattle.bq_line.specs.declared.attendant.LinePlace.{LinePlace}
 use Rattle.bq_line.specs.declared.attendant.LinePlace.TheVariants as places
-use Rattle.bq_line.specs.Tending.{GoesOn, MayEndAt, attendant, door_seen}
+use Rattle.bq_line.specs.Tending.{MayEndAt, door_seen}
 use Rattle.bq_line.specs.declared.attendant.Progress.TheVariants as results
 use Rattle.bq_line.proofs.CarriedLemmas.{ends_on, rests}
 use Rattle.bq_line.proofs.TendingLemmas.{from_place, tends_acted, tends_still}

@@ -24,8 +24,7 @@ pub returns-in-Some-Fault-clause-seen : goal.returns-in-Some-Fault-clause-seen
 returns-in-Some-Fault-clause-seen c =
     let found = rw c.deref.ensures.value at c.in-Some-Fault.ensures.lookup in
     let passed = passed_fault _ _ c.args.self.now.offset _ found.3.0 found.1 c.in-Some-Fault.field-0-is in
-    rw c.from-in-Some-Fault.ensures
-    (same_seen _ (with_line_fault faults.Read _) refl c.note_fault.ensures (rw (add-one c.args.self.now.place) passed) refl)
+    same_seen _ (with_line_fault faults.Read _) refl c.note_fault.ensures (rw (add-one c.args.self.now.place) passed) refl
 
 pub returns-in-Some-Bytes-clause-answered : goal.returns-in-Some-Bytes-clause-answered
 returns-in-Some-Bytes-clause-answered c =

@@ -1,0 +1,227 @@
+//! A connection: a line's stream over a socket.
+ghost use Rattle.std.specs.Prelude.{◌≡◌, Bool, None, OnErr, OnOk, ◌++◌, false, not, true};
+ghost use Rattle.std.specs.Io.KnownBytes.{Keeps};
+ghost use Rattle.bq_line.specs.Streams.{MovesNothing, ReadsFrom, WritesTo};
+
+use super::socket::{read_once, write_once, write_slices_once};
+use super::{Duplex, Readiness, Socket, StreamError};
+
+/// A connection. Its reads and writes wait as long as it takes; `read_now` doesn't wait. Writes go
+/// out at once, except that the system may gather them while more is expected. The stream is
+/// switched only if its last call was of the other kind.
+#[derive(Drop)]
+pub struct Connection<S> {
+    stream: S,
+    // True if calls of the stream wait.
+    waits: bool,
+    // True if the system may gather writes.
+    gathers: bool,
+    // For a watched connection, what its stream is ready for. None of its calls waits, and those
+    // that would be in vain make no system call.
+    ready: Option<Readiness>,
+}
+
+impl<S: Socket> Connection<S> {
+    /// Returns a connection over a stream that waits, as accepted streams do, and that gathers
+    /// nothing.
+    pub fn new(stream: S) -> Connection<S>
+        ensures { result
+            ≡ record { stream = stream; waits = true; gathers = false; ready = None } }
+    {
+        Connection {
+            stream,
+            waits: true,
+            gathers: false,
+            ready: None,
+        }
+    }
+
+    /// Returns a connection over a stream that does not wait and gathers nothing. The event loop
+    /// watches the stream, and records here what it is ready for.
+    pub fn watched(stream: S) -> Connection<S>
+        ensures stream { result.stream ≡ stream }
+        ensures gathers { result.gathers ≡ false }
+    {
+        Connection {
+            stream,
+            waits: false,
+            gathers: false,
+            ready: Some(Readiness::NEW),
+        }
+    }
+
+    // Reads the stream once if it is ready.
+    #[inline(always)]
+    fn read_ready(&mut self, buf: &mut [u8], ready: Readiness) -> Result<usize, StreamError>
+        ensures bytes { ReadsFrom (S.remaining self.old.stream) (S.remaining self.new.stream) result buf.new }
+        ensures apart { Keeps (S.contents self.old.stream) (S.contents self.new.stream) }
+    {
+        if !ready.reads {
+            return Err(StreamError::NotYet);
+        }
+        let came = read_once(&mut self.stream, buf);
+        self.ready = Some(ready.after_read(&came, buf.len()));
+        came
+    }
+
+    // Writes to the stream once if it is ready.
+    #[inline(always)]
+    fn write_ready(&mut self, buf: &[u8], ready: Readiness) -> Result<usize, StreamError>
+        ensures bytes { WritesTo (S.contents self.old.stream) (S.contents self.new.stream) result buf.now }
+        ensures apart { Keeps (S.remaining self.old.stream) (S.remaining self.new.stream) }
+    {
+        if !ready.writes {
+            return Err(StreamError::NotYet);
+        }
+        let took = write_once(&mut self.stream, buf);
+        self.ready = Some(ready.after_write(&took));
+        took
+    }
+
+    fn write_together_ready(
+        &mut self,
+        first: &[u8],
+        second: &[u8],
+        third: &[u8],
+        ready: Readiness,
+    ) -> Result<usize, StreamError>
+        ensures bytes { WritesTo (S.contents self.old.stream) (S.contents self.new.stream)
+            result (first.now ++ second.now ++ third.now) }
+        ensures apart { Keeps (S.remaining self.old.stream) (S.remaining self.new.stream) }
+    {
+        if !ready.writes {
+            return Err(StreamError::NotYet);
+        }
+        let took = write_slices_once(&mut self.stream, first, second, third);
+        self.ready = Some(ready.after_write(&took));
+        took
+    }
+
+    // Sets whether calls of the stream wait.
+    fn set_waits(&mut self, waits: bool) -> Result<(), StreamError>
+        ensures switched { OnOk result (self.new.waits ≡ waits) }
+        // Only a successful switch changes the recorded state.
+        ensures made { OnOk result ((self.old.waits ≡ waits → ⊥) → S.is_nonblocking (not waits) self.new.stream) }
+        ensures kept { OnErr result (self.new.waits ≡ self.old.waits) }
+        ensures gathers { self.new.gathers ≡ self.old.gathers }
+        ensures bytes { MovesNothing S.remaining S.contents self.old.stream self.new.stream }
+    {
+        if self.waits != waits {
+            if let Err(e) = self.stream.set_nonblocking(!waits) {
+                return Err(StreamError::of(&e));
+            }
+            self.waits = waits;
+        }
+        Ok(())
+    }
+
+    // Sets whether the stream may hold small writes back.
+    fn set_gathers(&mut self, gathers: bool) -> Result<(), StreamError>
+        ensures switched { OnOk result (self.new.gathers ≡ gathers) }
+        ensures made { OnOk result ((self.old.gathers ≡ gathers → ⊥) → S.is_nodelay (not gathers) self.new.stream) }
+        ensures kept { OnErr result (self.new.gathers ≡ self.old.gathers) }
+        ensures waits { self.new.waits ≡ self.old.waits }
+        ensures bytes { MovesNothing S.remaining S.contents self.old.stream self.new.stream }
+    {
+        if self.gathers != gathers {
+            if let Err(e) = self.stream.set_nodelay(!gathers) {
+                return Err(StreamError::of(&e));
+            }
+            self.gathers = gathers;
+        }
+        Ok(())
+    }
+}
+
+// Each successful call was made on a stream that waits, or on one that does not, as the clause
+// `waits` says.
+impl<S: Socket> Duplex for Connection<S> {
+    ghost remaining = { λ connection. S.remaining connection.stream };
+
+    ghost contents = { λ connection. S.contents connection.stream };
+
+    fn read(&mut self, buf: &mut [u8]) -> Result<usize, StreamError>
+        ensures bytes { ReadsFrom (S.remaining self.old.stream) (S.remaining self.new.stream) result buf.new }
+        ensures apart { Keeps (S.contents self.old.stream) (S.contents self.new.stream) }
+        ensures waits { self.old.ready ≡ None → OnOk result (self.new.waits ≡ true) }
+    {
+        if let Some(ready) = self.ready {
+            return self.read_ready(buf, ready);
+        }
+        self.set_waits(true)?;
+        read_once(&mut self.stream, buf)
+    }
+
+    fn read_now(&mut self, buf: &mut [u8]) -> Result<usize, StreamError>
+        ensures bytes { ReadsFrom (S.remaining self.old.stream) (S.remaining self.new.stream) result buf.new }
+        ensures apart { Keeps (S.contents self.old.stream) (S.contents self.new.stream) }
+        ensures waits { self.old.ready ≡ None → OnOk result (self.new.waits ≡ false) }
+    {
+        if let Some(ready) = self.ready {
+            return self.read_ready(buf, ready);
+        }
+        self.set_waits(false)?;
+        read_once(&mut self.stream, buf)
+    }
+
+    fn write(&mut self, buf: &[u8]) -> Result<usize, StreamError>
+        ensures bytes { WritesTo (S.contents self.old.stream) (S.contents self.new.stream) result buf.now }
+        ensures apart { Keeps (S.remaining self.old.stream) (S.remaining self.new.stream) }
+        ensures waits { self.old.ready ≡ None → OnOk result (self.new.waits ≡ true) }
+    {
+        if let Some(ready) = self.ready {
+            return self.write_ready(buf, ready);
+        }
+        // The last read may not have waited.
+        self.set_waits(true)?;
+        write_once(&mut self.stream, buf)
+    }
+
+    fn write_together(
+        &mut self,
+        first: &[u8],
+        second: &[u8],
+        third: &[u8],
+    ) -> Result<usize, StreamError>
+        ensures bytes { WritesTo (S.contents self.old.stream) (S.contents self.new.stream)
+            result (first.now ++ second.now ++ third.now) }
+        ensures apart { Keeps (S.remaining self.old.stream) (S.remaining self.new.stream) }
+        ensures waits { self.old.ready ≡ None → OnOk result (self.new.waits ≡ true) }
+    {
+        if let Some(ready) = self.ready {
+            return self.write_together_ready(first, second, third, ready);
+        }
+        self.set_waits(true)?;
+        write_slices_once(&mut self.stream, first, second, third)
+    }
+
+    // A socket has no buffer of its own.
+    fn flush(&mut self) -> Result<(), StreamError> {
+        Ok(())
+    }
+
+    fn expect_more(&mut self, more: bool) {
+        // A stream that can't be switched stays as it was, and is tried again at the next hint.
+        let _switched = self.set_gathers(more);
+    }
+
+    fn may_give(&self) -> bool {
+        match self.ready {
+            Some(ready) => ready.reads,
+            None => true,
+        }
+    }
+
+    fn may_take(&self) -> bool {
+        match self.ready {
+            Some(ready) => ready.writes,
+            None => true,
+        }
+    }
+
+    fn note_ready(&mut self, ready: Readiness) {
+        if let Some(known) = self.ready {
+            self.ready = Some(known.and(ready));
+        }
+    }
+}

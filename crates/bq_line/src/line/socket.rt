@@ -1,0 +1,131 @@
+//! The socket of a connection, and the system's TCP stream as one.
+ghost use Rattle.std.specs.Prelude.{◌≡◌, ℕ, Bool, List, None, OnOk, Option, ◌++◌};
+ghost use Rattle.std.specs.Io.{ReadsAtMost, WritesAtMost};
+ghost use Rattle.std.specs.Io.KnownBytes.{Keeps, ReadConsumes, WriteAppends};
+ghost use Rattle.std.specs.Io.Slices.{io_slices_bytes};
+ghost use Rattle.bq_line.specs.Streams.{ReadsFrom, WritesTo};
+
+use super::{StreamError, in_brief};
+use std::io;
+use std::io::{IoSlice, Read, Write};
+use std::net::TcpStream;
+use std::os::fd::{AsRawFd, RawFd};
+
+/// The socket of a connection. Each function stands for one call of the system, so it takes and
+/// returns what that call does.
+pub trait Socket {
+    /// The bytes that reads will return from here on, if they are known.
+    ghost remaining: { Self → Option (List ℕ) } = { λ _. None };
+
+    /// The bytes that were written, if they are known.
+    ghost contents: { Self → Option (List ℕ) } = { λ _. None };
+
+    /// Its calls were set to return at once, or to wait. Only a successful switch establishes this.
+    ghost is_nonblocking: { Bool → Self → Type 0 } = { λ nonblocking socket. Unit {0} };
+
+    /// It was set to send each write at once, or to hold small ones back. Only a successful switch
+    /// establishes this.
+    ghost is_nodelay: { Bool → Self → Type 0 } = { λ nodelay socket. Unit {0} };
+
+    /// Reads as `std::io::Read` does.
+    fn read(&mut self, buf: &mut [u8]) -> io::Result<usize>
+        ensures bound { ReadsAtMost result buf.new }
+        ensures bytes { ReadConsumes (remaining self.old) (remaining self.new) result buf.new }
+        ensures apart { Keeps (contents self.old) (contents self.new) };
+
+    /// Writes as `std::io::Write` does.
+    fn write(&mut self, buf: &[u8]) -> io::Result<usize>
+        ensures bound { WritesAtMost result buf.now }
+        ensures bytes { WriteAppends (contents self.old) (contents self.new) result buf.now }
+        ensures apart { Keeps (remaining self.old) (remaining self.new) };
+
+    /// Writes a first part of several texts, as `write` does for the text that they form together.
+    fn write_slices(&mut self, slices: &[IoSlice<'_>]) -> io::Result<usize>
+        ensures bound { WritesAtMost result (io_slices_bytes slices.now) }
+        ensures bytes { WriteAppends (contents self.old) (contents self.new) result (io_slices_bytes slices.now) }
+        ensures apart { Keeps (remaining self.old) (remaining self.new) };
+
+    /// Sets whether calls return `WouldBlock` in place of waiting for bytes or for room.
+    fn set_nonblocking(&mut self, nonblocking: bool) -> io::Result<()>
+        ensures switched { OnOk result (is_nonblocking nonblocking self.new) }
+        ensures remaining { Keeps (remaining self.old) (remaining self.new) }
+        ensures contents { Keeps (contents self.old) (contents self.new) };
+
+    /// Sets whether each write is sent at once. If not, small writes may be held back, so that they
+    /// go out together. Setting it sends those that are held back.
+    fn set_nodelay(&mut self, nodelay: bool) -> io::Result<()>
+        ensures switched { OnOk result (is_nodelay nodelay self.new) }
+        ensures remaining { Keeps (remaining self.old) (remaining self.new) }
+        ensures contents { Keeps (contents self.old) (contents self.new) };
+
+    /// Returns the descriptor on which the system reports that the socket is ready.
+    fn source(&self) -> RawFd;
+}
+
+/// Nothing is assumed about the bytes that go over the system's sockets, so no clause says which
+/// call a function makes, or with which arguments. Each makes the call of its name with its own
+/// arguments, which has to be read.
+impl Socket for TcpStream {
+    fn read(&mut self, buf: &mut [u8]) -> io::Result<usize> {
+        Read::read(self, buf)
+    }
+
+    fn write(&mut self, buf: &[u8]) -> io::Result<usize> {
+        Write::write(self, buf)
+    }
+
+    // The stream's own method: that of `Write` makes a call for each slice.
+    fn write_slices(&mut self, slices: &[IoSlice<'_>]) -> io::Result<usize> {
+        TcpStream::write_vectored(self, slices)
+    }
+
+    fn set_nonblocking(&mut self, nonblocking: bool) -> io::Result<()> {
+        TcpStream::set_nonblocking(self, nonblocking)
+    }
+
+    fn set_nodelay(&mut self, nodelay: bool) -> io::Result<()> {
+        TcpStream::set_nodelay(self, nodelay)
+    }
+
+    fn source(&self) -> RawFd {
+        self.as_raw_fd()
+    }
+}
+
+// Reads the socket by one call.
+#[inline(always)]
+#[tactic(auto, using(crate::proofs::SocketLemmas::read_in_brief))]
+pub(super) fn read_once<S: Socket>(socket: &mut S, buf: &mut [u8]) -> Result<usize, StreamError>
+    ensures bytes { ReadsFrom (S.remaining socket.old) (S.remaining socket.new) result buf.new }
+    ensures apart { Keeps (S.contents socket.old) (S.contents socket.new) }
+{
+    in_brief(socket.read(buf))
+}
+
+// Writes to the socket by one call.
+#[inline(always)]
+#[tactic(auto, using(crate::proofs::SocketLemmas::write_in_brief))]
+pub(super) fn write_once<S: Socket>(socket: &mut S, buf: &[u8]) -> Result<usize, StreamError>
+    ensures bytes { WritesTo (S.contents socket.old) (S.contents socket.new) result buf.now }
+    ensures apart { Keeps (S.remaining socket.old) (S.remaining socket.new) }
+{
+    in_brief(socket.write(buf))
+}
+
+// Writes three texts to the socket by one call.
+#[tactic(auto, using(crate::proofs::SocketLemmas::slices_in_brief))]
+pub(super) fn write_slices_once<S: Socket>(
+    socket: &mut S,
+    first: &[u8],
+    second: &[u8],
+    third: &[u8],
+) -> Result<usize, StreamError>
+    ensures bytes { WritesTo (S.contents socket.old) (S.contents socket.new) result (first.now ++ second.now ++ third.now) }
+    ensures apart { Keeps (S.remaining socket.old) (S.remaining socket.new) }
+{
+    in_brief(socket.write_slices(&[
+        IoSlice::new(first),
+        IoSlice::new(second),
+        IoSlice::new(third),
+    ]))
+}
