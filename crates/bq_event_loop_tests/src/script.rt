@@ -188,6 +188,10 @@ impl<'t> Script<'t> {
 }
 
 impl<'t> Duplex for Script<'t> {
+    ghost use Rattle.std.specs.Prelude.{true};
+
+    ghost may_fail = { λ _. true };
+
     fn read(&mut self, buf: &mut [u8]) -> Result<usize, StreamError> {
         if self.all.has_given_up() {
             return Err(StreamError::Fault);

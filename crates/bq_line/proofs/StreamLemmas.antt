@@ -7,9 +7,10 @@ use Rattle.std.proofs.lemmas.List.{append_cancel_left}
 use Rattle.std.specs.Io.KnownBytes.{Appends, Consumes, IsAtEnd, Keeps, ReadConsumes, WriteAppends, prepend_known}
 use Rattle.bq_job.specs.declared.line_end.LineFault.TheVariants as faults
 use Rattle.bq_job.specs.promise.LineSteps.{LineSeen}
-use Rattle.bq_line.specs.LineCalls.{after_fill, after_read, after_write, is_nothing_yet, with_line_fault}
-use Rattle.bq_line.specs.Streams.{LiesOver, StreamSeen}
+use Rattle.bq_line.specs.LineCalls.{after_fill, after_read, after_write, with_line_fault}
+use Rattle.bq_line.specs.Streams.{FailsIf, FailsToWriteIf, HasCause, LiesOver, StreamSeen}
 use Rattle.bq_line.specs.declared.line.stream_error.StreamError.{StreamError}
+use Rattle.bq_line.specs.declared.line.stream_error.StreamError.TheVariants as errors
 
 nothing_before : (bytes more : List ℕ) → [] ≡ bytes ++ more → bytes ≡ []
 nothing_before [] more none = refl
@@ -32,8 +33,8 @@ by_either false none A first second either = second either
 -- A line that read these bytes is over the stream that returned them.
 read_bytes : (first old new : StreamSeen) (line : LineSeen) (n : ℕ) (buf : List ℕ) → 0 < length buf
     → Consumes old.left new.left (take n buf) × (n ≡ 0 → 0 < length buf → IsAtEnd new.left) → Keeps old.held new.held
-    → LiesOver first line old → LiesOver first (record line { read = line.read ++ take n buf; ended = line.ended || n == 0 }) new
-read_bytes first old new line n buf room gave apart over =
+    → new.may_fail ≡ old.may_fail → LiesOver first line old → LiesOver first (record line { read = line.read ++ take n buf; ended = line.ended || n == 0 }) new
+read_bytes first old new line n buf room gave apart same over =
     let whole : Consumes first.left new.left (line.read ++ take n buf) =
     Consumes-trans first.left old.left new.left line.read (take n buf) over.read gave.0 in
     record {
@@ -44,42 +45,57 @@ read_bytes first old new line n buf room gave apart over =
           (λ is. let none : n ≡ 0 = grind (arith, nat_tests) in
           Consumes-whole first.left new.left (line.read ++ take n buf) (λ all. all ≡ line.read ++ take n buf) whole
           (gave.1 none room) refl);
+      may_fail = same ∙ over.may_fail;
+      fault = over.fault;
     }
 
 -- A call that moved no bytes.
 nothing_moved : (first old new : StreamSeen) (line later : LineSeen) → Keeps old.left new.left → Keeps old.held new.held
-    → later.read ≡ line.read → later.written ≡ line.written → later.ended ≡ line.ended → LiesOver first line old → LiesOver first later new
-nothing_moved first old new line later left held read written ended over =
+    → new.may_fail ≡ old.may_fail → (old.may_fail ≡ false → later.fault ≡ line.fault) → later.read ≡ line.read → later.written ≡ line.written → later.ended ≡ line.ended → LiesOver first line old → LiesOver first later new
+nothing_moved first old new line later left held same cause read written ended over =
     record {
       read = subst (Consumes first.left new.left) (sym read) (Consumes-kept first.left old.left new.left line.read over.read left);
       written = subst (Appends first.held new.held) (sym written)
           (Appends-kept first.held old.held new.held line.written over.written held);
       ended = λ is. subst (λ bytes. IfSome first.left (λ all. all ≡ bytes)) (sym read) (over.ended (sym ended ∙ is));
+      may_fail = same ∙ over.may_fail;
+      fault = λ sure. cause (over.may_fail ∙ sure) ∙ over.fault sure;
     }
+
+-- A stream that may fail is none that may not.
+neither : {A : Type 0} (may_fail : Bool) → may_fail ≡ true → may_fail ≡ false → A
+neither true may not = absurd cc
+neither false may not = absurd cc
 
 -- A read that failed.
 failed_on : (first old new : StreamSeen) (line : LineSeen) (e : StreamError)
-    → Keeps old.left new.left → Keeps old.held new.held → LiesOver first line old → LiesOver first (after_fill (Err e) line) new
-failed_on first old new line e kept apart over = failed (is_nothing_yet e)
-  where
-    failed : (yet : Bool) → LiesOver first (if yet then line else with_line_fault faults.Read line) new
-    failed true = nothing_moved first old new line line kept apart refl refl refl over
-    failed false = nothing_moved first old new line (with_line_fault faults.Read line) kept apart refl refl refl over
+    → Keeps old.left new.left → Keeps old.held new.held → new.may_fail ≡ old.may_fail → HasCause old.may_fail e → LiesOver first line old
+    → LiesOver first (after_fill (Err e) line) new
+failed_on first old new line errors.NotYet kept apart same cause over =
+    nothing_moved first old new line line kept apart same (λ sure. refl) refl refl refl over
+failed_on first old new line errors.Interrupted kept apart same cause over =
+    nothing_moved first old new line line kept apart same (λ sure. refl) refl refl refl over
+failed_on first old new line errors.Fault kept apart same cause over =
+    nothing_moved first old new line (with_line_fault faults.Read line) kept apart same (λ sure. neither old.may_fail cause sure) refl refl refl
+    over
 
 read_on : (first old new : StreamSeen) (line : LineSeen) (result : Result ℕ StreamError) (buf : List ℕ) → 0 < length buf
-    → ReadConsumes old.left new.left result buf → Keeps old.held new.held → LiesOver first line old
-    → LiesOver first (after_read result buf line) new
-read_on first old new line (Ok n) buf room gave apart over = read_bytes first old new line n buf room gave apart over
-read_on first old new line (Err e) buf room gave apart over = failed_on first old new line e gave apart over
+    → ReadConsumes old.left new.left result buf → Keeps old.held new.held → new.may_fail ≡ old.may_fail → FailsIf old.may_fail result
+    → LiesOver first line old → LiesOver first (after_read result buf line) new
+read_on first old new line (Ok n) buf room gave apart same cause over = read_bytes first old new line n buf room gave apart same over
+read_on first old new line (Err e) buf room gave apart same cause over = failed_on first old new line e gave apart same cause over
 
 -- A line that read these bytes, some of them from its buffer, is over the stream with what is left.
 pub read_more : (first old new : StreamSeen) (line : LineSeen) (bytes all : List ℕ) → all ≡ line.read ++ bytes
-    → Consumes old.left new.left bytes → Keeps old.held new.held → LiesOver first line old → LiesOver first (record line { read = all }) new
-read_more first old new line bytes all all_is gave apart over =
+    → Consumes old.left new.left bytes → Keeps old.held new.held → new.may_fail ≡ old.may_fail → LiesOver first line old
+    → LiesOver first (record line { read = all }) new
+read_more first old new line bytes all all_is gave apart same over =
     subst (λ read. LiesOver first (record line { read = read }) new) (sym all_is) (record {
       read = Consumes-trans first.left old.left new.left line.read bytes over.read gave;
       written = Appends-kept first.held old.held new.held line.written over.written apart;
       ended = λ is. still_all first.left old.left new.left line.read bytes over.read gave (over.ended is);
+      may_fail = same ∙ over.may_fail;
+      fault = over.fault;
     })
 
 -- what holds of a line and its stream, under equal names
@@ -91,33 +107,36 @@ noted_so first gave new noted later is stays over =
 -- The line recorded the result of a read of its stream.
 pub read_noted : (first old gave new : StreamSeen) (line later : LineSeen) (result : Result ℕ StreamError) (buf : List ℕ) (room : ℕ)
     → length buf ≡ room → 0 < room → ReadConsumes old.left gave.left result buf → Keeps old.held gave.held
-    → later ≡ after_read result buf line → new ≡ gave → LiesOver first line old → LiesOver first later new
-read_noted first old gave new line later result buf room length_is some took apart noted stays over =
+    → gave.may_fail ≡ old.may_fail → FailsIf old.may_fail result → later ≡ after_read result buf line → new ≡ gave → LiesOver first line old → LiesOver first later new
+read_noted first old gave new line later result buf room length_is some took apart same cause noted stays over =
     noted_so first gave new (after_read result buf line) later noted stays
-    (read_on first old gave line result buf (subst (λ n. 0 < n) (sym length_is) some) took apart over)
+    (read_on first old gave line result buf (subst (λ n. 0 < n) (sym length_is) some) took apart same cause over)
 
 -- The line recorded that a read of its stream failed.
 pub failed_noted : (first old gave new : StreamSeen) (line later : LineSeen) (e : StreamError) → Keeps old.left gave.left
-    → Keeps old.held gave.held
+    → Keeps old.held gave.held → gave.may_fail ≡ old.may_fail → HasCause old.may_fail e
     → later ≡ after_fill (Err e) line → new ≡ gave → LiesOver first line old → LiesOver first later new
-failed_noted first old gave new line later e kept apart noted stays over =
-    noted_so first gave new (after_fill (Err e) line) later noted stays (failed_on first old gave line e kept apart over)
+failed_noted first old gave new line later e kept apart same cause noted stays over =
+    noted_so first gave new (after_fill (Err e) line) later noted stays (failed_on first old gave line e kept apart same cause over)
 
 -- A write that failed.
 refused_on : (first old new : StreamSeen) (line : LineSeen) (e : StreamError)
-    → Keeps old.left new.left → Keeps old.held new.held → LiesOver first line old → LiesOver first (after_write (Err e) [] line) new
-refused_on first old new line e kept apart over = refused (is_nothing_yet e)
-  where
-    refused : (yet : Bool) → LiesOver first (if yet then line else with_line_fault faults.Write line) new
-    refused true = nothing_moved first old new line line kept apart refl refl refl over
-    refused false = nothing_moved first old new line (with_line_fault faults.Write line) kept apart refl refl refl over
+    → Keeps old.left new.left → Keeps old.held new.held → new.may_fail ≡ old.may_fail → HasCause old.may_fail e → LiesOver first line old
+    → LiesOver first (after_write (Err e) [] line) new
+refused_on first old new line errors.NotYet kept apart same cause over =
+    nothing_moved first old new line line kept apart same (λ sure. refl) refl refl refl over
+refused_on first old new line errors.Interrupted kept apart same cause over =
+    nothing_moved first old new line line kept apart same (λ sure. refl) refl refl refl over
+refused_on first old new line errors.Fault kept apart same cause over =
+    nothing_moved first old new line (with_line_fault faults.Write line) kept apart same (λ sure. neither old.may_fail cause sure) refl refl
+    refl over
 
 -- The line recorded that a write to its stream failed.
 pub refused_noted : (first old gave new : StreamSeen) (line later : LineSeen) (e : StreamError) → Keeps old.left gave.left
-    → Keeps old.held gave.held
+    → Keeps old.held gave.held → gave.may_fail ≡ old.may_fail → HasCause old.may_fail e
     → later ≡ after_write (Err e) [] line → new ≡ gave → LiesOver first line old → LiesOver first later new
-refused_noted first old gave new line later e kept apart noted stays over =
-    noted_so first gave new (after_write (Err e) [] line) later noted stays (refused_on first old gave line e kept apart over)
+refused_noted first old gave new line later e kept apart same cause noted stays over =
+    noted_so first gave new (after_write (Err e) [] line) later noted stays (refused_on first old gave line e kept apart same cause over)
 
 none_held : (old new : Option (List ℕ)) (buf : List ℕ) (n : ℕ) → n ≡ 0 → Appends old new (take n buf) → Keeps old new
 none_held None new buf n none held = tt
@@ -130,22 +149,25 @@ prepend_kept came None new kept = tt
 prepend_kept came (Some xs) None kept = absurd kept
 prepend_kept came (Some xs) (Some ys) kept = ap (λ l. came ++ l) kept
 
--- The line recorded a write.
-pub wrote_noted : (first old new : StreamSeen) (line later : LineSeen) (result : Result ℕ StreamError) (buf : List ℕ) → Keeps old.left new.left
-    → WriteAppends old.held new.held result buf
-    → later ≡ after_write result buf line → LiesOver first line old → LiesOver first later new
-wrote_noted first old new line later (Err e) buf kept held noted over =
-    refused_noted first old new new line later e kept held noted refl over
-wrote_noted first old new line later (Ok n) buf kept held noted over = subst (λ l. LiesOver first l new) (sym noted) (took (n == 0) refl)
+-- The line recorded a write of some bytes, the first of which are `begun`.
+pub wrote_noted : (first old new : StreamSeen) (line later : LineSeen) (result : Result ℕ StreamError) (begun buf : List ℕ)
+    → Keeps old.left new.left → WriteAppends old.held new.held result buf → 0 < length begun → new.may_fail ≡ old.may_fail
+    → FailsToWriteIf old.may_fail result begun → later ≡ after_write result buf line → LiesOver first line old → LiesOver first later new
+wrote_noted first old new line later (Err e) begun buf kept held some same cause noted over =
+    refused_noted first old new new line later e kept held same cause noted refl over
+wrote_noted first old new line later (Ok n) begun buf kept held some same cause noted over =
+    subst (λ l. LiesOver first l new) (sym noted) (took (n == 0) refl)
   where
     took : (none : Bool) → (n == 0) ≡ none → LiesOver first
         (if none then with_line_fault faults.Write line else record line { written = line.written ++ take n buf }) new
     took true e =
         let none : n ≡ 0 = grind (arith, nat_tests) in
         nothing_moved first old new line (with_line_fault faults.Write line) kept
-        (none_held old.held new.held buf n none held) refl refl refl over
+        (none_held old.held new.held buf n none held) same (λ sure. neither old.may_fail (cause none some) sure) refl refl refl over
     took false e = record {
       read = Consumes-kept first.left old.left new.left line.read over.read kept;
       written = Appends-trans first.held old.held new.held line.written (take n buf) over.written held;
       ended = over.ended;
+      may_fail = same ∙ over.may_fail;
+      fault = over.fault;
     }

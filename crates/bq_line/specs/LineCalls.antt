@@ -21,9 +21,9 @@ stream_error kinds.TimedOut = errors.Interrupted
 stream_error kinds.Interrupted = errors.Interrupted
 stream_error _ = errors.Fault
 
--- the result of a read or a write of the system, with what its error means
-abbrev pub in_brief : Result ℕ Error → Result ℕ StreamError
-in_brief (Ok n) = Ok n
+-- the result of a call of the system, with what its error means
+abbrev pub in_brief : {A : Type 0} → Result A Error → Result A StreamError
+in_brief (Ok done) = Ok done
 in_brief (Err e) = Err (stream_error (error_kind e))
 
 -- an error that means only that there are no bytes yet, or no room yet

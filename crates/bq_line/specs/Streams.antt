@@ -1,13 +1,33 @@
--- The state of a stream in both directions, and what a line over it moved.
-use Rattle.std.specs.Prelude.{ℕ, ◌≡◌, true, List, Option, Result, IfSome}
+-- The state of a stream in both directions, what a line over it moved, and why it may have failed.
+use Rattle.std.specs.Prelude.{ℕ, ◌≡◌, ◌<◌, Bool, false, true, List, length, Option, None, Result, Ok, Err, IfSome}
 use Rattle.std.specs.Io.{ReadsAtMost, WritesAtMost}
 use Rattle.std.specs.Io.KnownBytes.{Appends, Consumes, Keeps, ReadConsumes, WriteAppends}
 use Rattle.bq_job.specs.promise.LineSteps.{LineSeen}
+use Rattle.bq_line.specs.declared.line.stream_error.StreamError.{StreamError}
+use Rattle.bq_line.specs.declared.line.stream_error.StreamError.TheVariants as errors
 
--- the bytes that are left to read, and those that were written, if they are known
+-- the bytes that are left to read, and those that were written, if they are known, and whether a
+-- call may fail
 pub record StreamSeen : Type 0 where
   pub left : Option (List ℕ)
   pub held : Option (List ℕ)
+  pub may_fail : Bool
+
+-- An error is a fault only if the stream may fail.
+abbrev pub HasCause : Bool → StreamError → Type 0
+HasCause may_fail errors.NotYet = Unit {0}
+HasCause may_fail errors.Interrupted = Unit {0}
+HasCause may_fail errors.Fault = may_fail ≡ true
+
+-- A call fails only if the stream may fail.
+abbrev pub FailsIf : {A : Type 0} → Bool → Result A StreamError → Type 0
+FailsIf may_fail (Ok done) = Unit {0}
+FailsIf may_fail (Err e) = HasCause may_fail e
+
+-- The same for a write that begins with these bytes. One that takes none of some bytes has failed.
+abbrev pub FailsToWriteIf : Bool → Result ℕ StreamError → List ℕ → Type 0
+FailsToWriteIf may_fail (Ok n) buf = n ≡ 0 → 0 < length buf → may_fail ≡ true
+FailsToWriteIf may_fail (Err e) buf = HasCause may_fail e
 
 -- A read put the next bytes that the stream had left into `buf`, at most as many as fit. A read of no
 -- bytes, into a buffer with room, means that none were left. An error leaves them as they were.
@@ -25,11 +45,14 @@ MovesNothing remaining contents old new = Keeps (remaining old) (remaining new) 
 
 -- The line is over a stream that had the state `first` before the line was made, and has `last`
 -- now. The line read the bytes that the stream returned since then, and it wrote the bytes that the
--- stream took. Its input has ended only if it read everything that the stream had left at first.
+-- stream took. Its input has ended only if it read everything that the stream had left at first. A
+-- line over a stream that may not fail has met no fault.
 pub record LiesOver (first : StreamSeen) (line : LineSeen) (last : StreamSeen) : Type 0 where
   pub read : Consumes first.left last.left line.read
   pub written : Appends first.held last.held line.written
   pub ended : line.ended ≡ true → IfSome first.left (λ all. all ≡ line.read)
+  pub may_fail : last.may_fail ≡ first.may_fail
+  pub fault : first.may_fail ≡ false → line.fault ≡ None
 
 -- The line is still over the stream that it was over before.
 abbrev pub StaysOver : {L : Type 0} → (StreamSeen → L → Type 0) → L → L → Type 0

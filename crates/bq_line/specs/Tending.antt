@@ -11,6 +11,7 @@ use Rattle.bq_seat.specs.declared.machine.SeatMachine.{SeatMachine}
 use Rattle.bq_line.specs.Attending.{IsAttending}
 use Rattle.bq_line.specs.Carried.{CanEnd}
 use Rattle.bq_line.specs.Links.{Calls}
+use Rattle.bq_line.specs.Streams.{StaysOver, StreamSeen}
 use Rattle.bq_line.specs.declared.attendant.Attendant.{Attendant}
 use Rattle.bq_line.specs.declared.attendant.LinePlace.{LinePlace}
 use Rattle.bq_line.specs.declared.attendant.LinePlace.TheVariants as places
@@ -63,6 +64,12 @@ abbrev pub GoesOn : {K L : Type 0} → (K → List Step → List Answer → K �
 GoesOn went first last seen old at_old new at_new =
     (submitted : List Step) × (taken : List Answer) × Calls went first submitted taken last
     × Tends seen old at_old submitted taken new at_new
+
+-- A line that stays open stays over its stream. So if the stream may not fail, the seat meets no fault
+-- on it.
+abbrev pub StaysOpenOver : {L : Type 0} → (StreamSeen → L → Type 0) → LinePlace L → LinePlace L → Type 0
+StaysOpenOver lies_over (places.On line action sent) (places.On later next now) = StaysOver lies_over line later
+StaysOpenOver lies_over _ _ = Unit {0}
 
 -- The results that an action of a seat at this place can have.
 abbrev pub MayEndAt : {L : Type 0} → Progress → LinePlace L → Type 0

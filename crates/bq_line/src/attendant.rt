@@ -6,7 +6,7 @@ ghost use Rattle.bq_seat.specs.Past.{Awaited};
 ghost use Rattle.bq_seat.specs.SeatStands.{awaited};
 ghost use Rattle.bq_seat.specs.declared.machine.SeatMachine.{SeatMachine};
 ghost use Rattle.bq_line.specs.Doors.{MayOpen};
-ghost use Rattle.bq_line.specs.Tending.{DoorSeen, GoesOn, IsPlaced, MayEndAt, Tends, attendant, door_seen};
+ghost use Rattle.bq_line.specs.Tending.{DoorSeen, GoesOn, IsPlaced, MayEndAt, StaysOpenOver, Tends, attendant, door_seen};
 ghost use Rattle.bq_job.specs.declared.answer.Answer.{Answer};
 ghost use Rattle.bq_job.specs.declared.step.Step.{Step};
 ghost use Rattle.bq_job.specs.promise.LineSteps.{LineSeen};
@@ -287,6 +287,7 @@ impl<L: Line + Drop> Attendant<L> {
         // that it took.
         ensures went { let at = door_seen D.is_out D.is_at_end D.lines_over in
             GoesOn K.went link.old link.new L.seen self.old (at door.old) self.new (at door.new) }
+        ensures stays { StaysOpenOver L.lies_over self.old.place self.new.place }
         // The door is still the same.
         ensures same { (first : D) → D.same first door.old → D.same first door.new }
     {
@@ -357,6 +358,7 @@ fn shut_line<L: Line + Drop, D: Door<Line = L>>(
 )
     requires over { (line : L) × (sent : ℕ) × (place.old ≡ LinePlace.On line (Action.LineOver end) sent) }
     requires placed { IsPlaced place.old (door_seen D.is_out D.is_at_end D.lines_over door.old) }
+    ensures shut { place.new ≡ LinePlace.Between }
     ensures went { let at = door_seen D.is_out D.is_at_end D.lines_over in
         (machine : SeatMachine) → Tends L.seen (attendant machine place.old) (at door.old) [] [] (attendant machine place.new) (at door.new) }
     ensures same { (first : D) → D.same first door.old → D.same first door.new }

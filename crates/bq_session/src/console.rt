@@ -1,5 +1,5 @@
 //! An input and an output as one stream.
-ghost use Rattle.std.specs.Prelude.{◌≡◌};
+ghost use Rattle.std.specs.Prelude.{◌≡◌, true};
 
 use bq_line::line::{Duplex, StreamError, in_brief};
 use std::io::{Read, Write};
@@ -36,6 +36,9 @@ impl<I: Read, O: Write> Duplex for Console<I, O> {
 
     ghost contents = { λ console. O.contents console.output };
 
+    // Nothing is known of the errors of an input or an output.
+    ghost may_fail = { λ _. true };
+
     // The input of a program has no read that does not block.
     fn read(&mut self, buf: &mut [u8]) -> Result<usize, StreamError> {
         in_brief(self.input.read(buf))
@@ -46,9 +49,6 @@ impl<I: Read, O: Write> Duplex for Console<I, O> {
     }
 
     fn flush(&mut self) -> Result<(), StreamError> {
-        match self.output.flush() {
-            Ok(()) => Ok(()),
-            Err(e) => Err(StreamError::of(&e)),
-        }
+        in_brief(self.output.flush())
     }
 }

@@ -24,13 +24,14 @@ pub fn run_bq<R: AllocGlobal + Env + Wait + Clock + Print + Eprint, S: Duplex + 
     stream: S,
 ) -> u8
     // The status follows from what came of the client. A client that was served has the promise of `serve_client`, with a
-    // new clock and over this stream: its line read what the stream gave, and the stream took what the line wrote.
+    // new clock and over this stream: its line read what the stream gave, and the stream took what the line wrote. If
+    // the stream may not fail, the line met no fault.
     ensures { (clock : AClock (Bor R)) × (clock.given ≡ []) × (came : Result (Served S (Bor R)) Stop)
         × IfOk came (λ served. IsForBq served.options)
         × IfOk came (λ served. IsSession served.options clock served.clock
         (⟦<IoLine<S> as Line>⟧.seen served.line) served.end)
-        × IfOk came (λ served. ⟦<IoLine<S> as Line>⟧.lies_over (record { left = S.remaining stream; held = S.contents stream })
-        served.line)
+        × IfOk came (λ served. ⟦<IoLine<S> as Line>⟧.lies_over
+        (record { left = S.remaining stream; held = S.contents stream; may_fail = S.may_fail stream }) served.line)
         × IsStatusOfClient came result }
 {
     let clock = MachineClock::new(rt);
@@ -48,7 +49,7 @@ fn came_of_client<'r, R: AllocGlobal + Env + Wait + Clock, S: Duplex + Drop>(
         (⟦<IoLine<S> as Line>⟧.seen served.line) served.end) }
     ensures over { IfOk result
         (λ served. ⟦<IoLine<S> as Line>⟧.lies_over
-        (record { left = S.remaining stream; held = S.contents stream })
+        (record { left = S.remaining stream; held = S.contents stream; may_fail = S.may_fail stream })
         served.line) }
 {
     let words = words(rt)?;

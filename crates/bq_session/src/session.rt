@@ -42,10 +42,10 @@ pub fn serve_client<R: Wait, S: Duplex + Drop, K: rt::Clock + Drop>(
     // machine takes it. The client received exactly the bytes that this history prescribes.
     ensures served { IfOk result (λ served. IsSession options.now clock served.clock
         (⟦<IoLine<S> as Line>⟧.seen served.line) served.end) }
-    // The line is over this stream.
+    // The line is over this stream. If the stream may not fail, it met no fault.
     ensures over { IfOk result
         (λ served. ⟦<IoLine<S> as Line>⟧.lies_over
-        (record { left = S.remaining stream; held = S.contents stream })
+        (record { left = S.remaining stream; held = S.contents stream; may_fail = S.may_fail stream })
         served.line) }
     ensures fault { IfErr result (λ fault. fault ≡ Fault.NoMemory Need.Queue) }
 {

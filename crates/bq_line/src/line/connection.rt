@@ -1,10 +1,10 @@
 //! A connection: a line's stream over a socket.
 ghost use Rattle.std.specs.Prelude.{◌≡◌, Bool, None, OnErr, OnOk, ◌++◌, false, not, true};
 ghost use Rattle.std.specs.Io.KnownBytes.{Keeps};
-ghost use Rattle.bq_line.specs.Streams.{MovesNothing, ReadsFrom, WritesTo};
+ghost use Rattle.bq_line.specs.Streams.{FailsIf, FailsToWriteIf, MovesNothing, ReadsFrom, WritesTo};
 
 use super::socket::{read_once, write_once, write_slices_once};
-use super::{Duplex, Readiness, Socket, StreamError};
+use super::{Duplex, Readiness, Socket, StreamError, in_brief};
 
 /// A connection. Its reads and writes wait as long as it takes; `read_now` doesn't wait. Writes go
 /// out at once, except that the system may gather them while more is expected. The stream is
@@ -55,6 +55,8 @@ impl<S: Socket> Connection<S> {
     fn read_ready(&mut self, buf: &mut [u8], ready: Readiness) -> Result<usize, StreamError>
         ensures bytes { ReadsFrom (S.remaining self.old.stream) (S.remaining self.new.stream) result buf.new }
         ensures apart { Keeps (S.contents self.old.stream) (S.contents self.new.stream) }
+        ensures fault { FailsIf (S.may_fail self.old.stream) result }
+        ensures same { S.may_fail self.new.stream ≡ S.may_fail self.old.stream }
     {
         if !ready.reads {
             return Err(StreamError::NotYet);
@@ -69,6 +71,8 @@ impl<S: Socket> Connection<S> {
     fn write_ready(&mut self, buf: &[u8], ready: Readiness) -> Result<usize, StreamError>
         ensures bytes { WritesTo (S.contents self.old.stream) (S.contents self.new.stream) result buf.now }
         ensures apart { Keeps (S.remaining self.old.stream) (S.remaining self.new.stream) }
+        ensures fault { FailsToWriteIf (S.may_fail self.old.stream) result buf.now }
+        ensures same { S.may_fail self.new.stream ≡ S.may_fail self.old.stream }
     {
         if !ready.writes {
             return Err(StreamError::NotYet);
@@ -88,6 +92,8 @@ impl<S: Socket> Connection<S> {
         ensures bytes { WritesTo (S.contents self.old.stream) (S.contents self.new.stream)
             result (first.now ++ second.now ++ third.now) }
         ensures apart { Keeps (S.remaining self.old.stream) (S.remaining self.new.stream) }
+        ensures fault { FailsToWriteIf (S.may_fail self.old.stream) result first.now }
+        ensures same { S.may_fail self.new.stream ≡ S.may_fail self.old.stream }
     {
         if !ready.writes {
             return Err(StreamError::NotYet);
@@ -105,11 +111,11 @@ impl<S: Socket> Connection<S> {
         ensures kept { OnErr result (self.new.waits ≡ self.old.waits) }
         ensures gathers { self.new.gathers ≡ self.old.gathers }
         ensures bytes { MovesNothing S.remaining S.contents self.old.stream self.new.stream }
+        ensures fault { FailsIf (S.may_fail self.old.stream) result }
+        ensures same { S.may_fail self.new.stream ≡ S.may_fail self.old.stream }
     {
         if self.waits != waits {
-            if let Err(e) = self.stream.set_nonblocking(!waits) {
-                return Err(StreamError::of(&e));
-            }
+            in_brief(self.stream.set_nonblocking(!waits))?;
             self.waits = waits;
         }
         Ok(())
@@ -122,11 +128,10 @@ impl<S: Socket> Connection<S> {
         ensures kept { OnErr result (self.new.gathers ≡ self.old.gathers) }
         ensures waits { self.new.waits ≡ self.old.waits }
         ensures bytes { MovesNothing S.remaining S.contents self.old.stream self.new.stream }
+        ensures same { S.may_fail self.new.stream ≡ S.may_fail self.old.stream }
     {
         if self.gathers != gathers {
-            if let Err(e) = self.stream.set_nodelay(!gathers) {
-                return Err(StreamError::of(&e));
-            }
+            in_brief(self.stream.set_nodelay(!gathers))?;
             self.gathers = gathers;
         }
         Ok(())
@@ -140,10 +145,14 @@ impl<S: Socket> Duplex for Connection<S> {
 
     ghost contents = { λ connection. S.contents connection.stream };
 
+    ghost may_fail = { λ connection. S.may_fail connection.stream };
+
     fn read(&mut self, buf: &mut [u8]) -> Result<usize, StreamError>
         ensures bytes { ReadsFrom (S.remaining self.old.stream) (S.remaining self.new.stream) result buf.new }
         ensures apart { Keeps (S.contents self.old.stream) (S.contents self.new.stream) }
         ensures waits { self.old.ready ≡ None → OnOk result (self.new.waits ≡ true) }
+        ensures fault { FailsIf (S.may_fail self.old.stream) result }
+        ensures same { S.may_fail self.new.stream ≡ S.may_fail self.old.stream }
     {
         if let Some(ready) = self.ready {
             return self.read_ready(buf, ready);
@@ -156,6 +165,8 @@ impl<S: Socket> Duplex for Connection<S> {
         ensures bytes { ReadsFrom (S.remaining self.old.stream) (S.remaining self.new.stream) result buf.new }
         ensures apart { Keeps (S.contents self.old.stream) (S.contents self.new.stream) }
         ensures waits { self.old.ready ≡ None → OnOk result (self.new.waits ≡ false) }
+        ensures fault { FailsIf (S.may_fail self.old.stream) result }
+        ensures same { S.may_fail self.new.stream ≡ S.may_fail self.old.stream }
     {
         if let Some(ready) = self.ready {
             return self.read_ready(buf, ready);
@@ -168,6 +179,8 @@ impl<S: Socket> Duplex for Connection<S> {
         ensures bytes { WritesTo (S.contents self.old.stream) (S.contents self.new.stream) result buf.now }
         ensures apart { Keeps (S.remaining self.old.stream) (S.remaining self.new.stream) }
         ensures waits { self.old.ready ≡ None → OnOk result (self.new.waits ≡ true) }
+        ensures fault { FailsToWriteIf (S.may_fail self.old.stream) result buf.now }
+        ensures same { S.may_fail self.new.stream ≡ S.may_fail self.old.stream }
     {
         if let Some(ready) = self.ready {
             return self.write_ready(buf, ready);
@@ -187,6 +200,8 @@ impl<S: Socket> Duplex for Connection<S> {
             result (first.now ++ second.now ++ third.now) }
         ensures apart { Keeps (S.remaining self.old.stream) (S.remaining self.new.stream) }
         ensures waits { self.old.ready ≡ None → OnOk result (self.new.waits ≡ true) }
+        ensures fault { FailsToWriteIf (S.may_fail self.old.stream) result first.now }
+        ensures same { S.may_fail self.new.stream ≡ S.may_fail self.old.stream }
     {
         if let Some(ready) = self.ready {
             return self.write_together_ready(first, second, third, ready);

@@ -1,8 +1,8 @@
-ghost use Rattle.std.specs.Prelude.{◌≡◌, ◌<◌, [], Err, None, false, length, take, ◌++◌};
+ghost use Rattle.std.specs.Prelude.{◌≡◌, ◌<◌, [], Err, None, OnErr, false, length, take, true, ◌++◌};
 ghost use Rattle.std.specs.Io.{ReadsAtMost};
 ghost use Rattle.std.specs.Io.KnownBytes.{Keeps};
 ghost use Rattle.bq_line.specs.LineCalls.{after_fill, after_flush, after_read, after_write};
-ghost use Rattle.bq_line.specs.Streams.{MovesNothing, ReadsFrom, StaysOver, WritesTo};
+ghost use Rattle.bq_line.specs.Streams.{FailsToWriteIf, MovesNothing, ReadsFrom, StaysOver, WritesTo};
 
 use crate::line::stream::{Duplex, ReadBuffer, fill, read_by, read_through};
 use crate::line::{Line, Readiness, StreamError, note_fault};
@@ -28,7 +28,7 @@ impl<S: Duplex> IoLine<S> {
         ensures new { result
             ≡ record { stream = stream; ended = false; fault = None; read = []; written = [] } }
         ensures over { ⟦<IoLine<S> as Line>⟧.lies_over
-            (record { left = S.remaining stream; held = S.contents stream }) result }
+            (record { left = S.remaining stream; held = S.contents stream; may_fail = S.may_fail stream }) result }
     {
         IoLine {
             stream,
@@ -101,7 +101,8 @@ impl<S> IoLine<S> {
 
 // The `stream` clauses tie each call to the stream: if the stream's remaining and written bytes are
 // known, a line that returns other bytes than its stream, or does not call it, violates them. The
-// `stays` clauses tie the whole line to the stream that it was made over.
+// `stays` clauses tie the whole line to the stream that it was made over, and its fault too: a line
+// that reports one without its stream violates them.
 impl<S: Duplex> Line for IoLine<S> {
     ghost use Rattle.std.specs.Prelude.{[]};
     ghost use Rattle.bq_line.specs.Streams.{LiesOver};
@@ -110,7 +111,7 @@ impl<S: Duplex> Line for IoLine<S> {
 
     ghost lies_over = { λ first line. LiesOver first
         (record { read = line.read; written = line.written; ended = line.ended; fault = line.fault })
-        (record { left = S.remaining line.stream; held = S.contents line.stream }) };
+        (record { left = S.remaining line.stream; held = S.contents line.stream; may_fail = S.may_fail line.stream }) };
 
     // It has no buffer of its own.
     ghost unread = { λ line. [] };
@@ -150,6 +151,8 @@ impl<S: Duplex> Line for IoLine<S> {
         ensures stream { WritesTo (S.contents self.old.stream)
             (S.contents self.new.stream) result buf.now }
         ensures apart { Keeps (S.remaining self.old.stream) (S.remaining self.new.stream) }
+        ensures fault { FailsToWriteIf (S.may_fail self.old.stream) result buf.now }
+        ensures same { S.may_fail self.new.stream ≡ S.may_fail self.old.stream }
         ensures stays { StaysOver ⟦<IoLine<S> as Line>⟧.lies_over self.old self.new }
     {
         let result = self.stream.write(buf);
@@ -173,6 +176,8 @@ impl<S: Duplex> Line for IoLine<S> {
         ensures stream { WritesTo (S.contents self.old.stream)
             (S.contents self.new.stream) result (first.now ++ second.now ++ third.now) }
         ensures apart { Keeps (S.remaining self.old.stream) (S.remaining self.new.stream) }
+        ensures fault { FailsToWriteIf (S.may_fail self.old.stream) result first.now }
+        ensures same { S.may_fail self.new.stream ≡ S.may_fail self.old.stream }
         ensures stays { StaysOver ⟦<IoLine<S> as Line>⟧.lies_over self.old self.new }
     {
         let result = self.stream.write_together(first, second, third);
@@ -188,6 +193,8 @@ impl<S: Duplex> Line for IoLine<S> {
         ensures seen { ⟦<IoLine<S> as Line>⟧.seen self.new
             ≡ after_flush result (⟦<IoLine<S> as Line>⟧.seen self.old) }
         ensures stream { MovesNothing S.remaining S.contents self.old.stream self.new.stream }
+        ensures fault { OnErr result (S.may_fail self.old.stream ≡ true) }
+        ensures same { S.may_fail self.new.stream ≡ S.may_fail self.old.stream }
         ensures stays { StaysOver ⟦<IoLine<S> as Line>⟧.lies_over self.old self.new }
     {
         let result = self.stream.flush();
@@ -200,6 +207,7 @@ impl<S: Duplex> Line for IoLine<S> {
     fn expect_more(&mut self, more: bool)
         ensures seen { ⟦<IoLine<S> as Line>⟧.seen self.new ≡ ⟦<IoLine<S> as Line>⟧.seen self.old }
         ensures stream { MovesNothing S.remaining S.contents self.old.stream self.new.stream }
+        ensures same { S.may_fail self.new.stream ≡ S.may_fail self.old.stream }
         ensures stays { StaysOver ⟦<IoLine<S> as Line>⟧.lies_over self.old self.new }
     {
         self.stream.expect_more(more);
@@ -216,6 +224,7 @@ impl<S: Duplex> Line for IoLine<S> {
     fn note_ready(&mut self, ready: Readiness)
         ensures seen { ⟦<IoLine<S> as Line>⟧.seen self.new ≡ ⟦<IoLine<S> as Line>⟧.seen self.old }
         ensures stream { MovesNothing S.remaining S.contents self.old.stream self.new.stream }
+        ensures same { S.may_fail self.new.stream ≡ S.may_fail self.old.stream }
         ensures stays { StaysOver ⟦<IoLine<S> as Line>⟧.lies_over self.old self.new }
     {
         self.stream.note_ready(ready);
@@ -279,7 +288,11 @@ impl<S: Duplex> Line for BufferedLine<S> {
 
     // The buffered bytes come before those that the stream has left.
     ghost lies_over = { λ first line. LiesOver first (⟦<IoLine<S> as Line>⟧.seen line.line)
-        (record { left = prepend_known line.came (S.remaining line.line.stream); held = S.contents line.line.stream }) };
+        (record {
+          left = prepend_known line.came (S.remaining line.line.stream);
+          held = S.contents line.line.stream;
+          may_fail = S.may_fail line.line.stream;
+        }) };
 
     ghost unread = { λ line. line.came };
 

@@ -132,8 +132,9 @@ impl Line for MemLine {
       fault = line.fault;
     } };
 
-    // Its stream consists of the bytes of its parts, and nothing had been written to it.
-    ghost lies_over = { λ first line. first ≡ record { left = Some (all_bytes line.parts.items); held = Some [] } };
+    // Its stream consists of the bytes of its parts, and nothing had been written to it. A part may be
+    // a fault.
+    ghost lies_over = { λ first line. first ≡ record { left = Some (all_bytes line.parts.items); held = Some []; may_fail = true } };
 
     // It has no buffer of its own.
     ghost unread = { λ line. [] };

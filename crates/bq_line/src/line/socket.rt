@@ -3,7 +3,8 @@ ghost use Rattle.std.specs.Prelude.{◌≡◌, ℕ, Bool, List, None, OnOk, Opti
 ghost use Rattle.std.specs.Io.{ReadsAtMost, WritesAtMost};
 ghost use Rattle.std.specs.Io.KnownBytes.{Keeps, ReadConsumes, WriteAppends};
 ghost use Rattle.std.specs.Io.Slices.{io_slices_bytes};
-ghost use Rattle.bq_line.specs.Streams.{ReadsFrom, WritesTo};
+ghost use Rattle.bq_line.specs.LineCalls.{in_brief};
+ghost use Rattle.bq_line.specs.Streams.{FailsIf, FailsToWriteIf, ReadsFrom, WritesTo};
 
 use super::{StreamError, in_brief};
 use std::io;
@@ -20,6 +21,9 @@ pub trait Socket {
     /// The bytes that were written, if they are known.
     ghost contents: { Self → Option (List ℕ) } = { λ _. None };
 
+    /// Whether a call of it may fail.
+    ghost may_fail: { Self → Bool };
+
     /// Its calls were set to return at once, or to wait. Only a successful switch establishes this.
     ghost is_nonblocking: { Bool → Self → Type 0 } = { λ nonblocking socket. Unit {0} };
 
@@ -31,32 +35,41 @@ pub trait Socket {
     fn read(&mut self, buf: &mut [u8]) -> io::Result<usize>
         ensures bound { ReadsAtMost result buf.new }
         ensures bytes { ReadConsumes (remaining self.old) (remaining self.new) result buf.new }
-        ensures apart { Keeps (contents self.old) (contents self.new) };
+        ensures apart { Keeps (contents self.old) (contents self.new) }
+        ensures fault { FailsIf (may_fail self.old) (in_brief result) }
+        ensures same { may_fail self.new ≡ may_fail self.old };
 
     /// Writes as `std::io::Write` does.
     fn write(&mut self, buf: &[u8]) -> io::Result<usize>
         ensures bound { WritesAtMost result buf.now }
         ensures bytes { WriteAppends (contents self.old) (contents self.new) result buf.now }
-        ensures apart { Keeps (remaining self.old) (remaining self.new) };
+        ensures apart { Keeps (remaining self.old) (remaining self.new) }
+        ensures fault { FailsToWriteIf (may_fail self.old) (in_brief result) buf.now }
+        ensures same { may_fail self.new ≡ may_fail self.old };
 
     /// Writes a first part of several texts, as `write` does for the text that they form together.
     fn write_slices(&mut self, slices: &[IoSlice<'_>]) -> io::Result<usize>
         ensures bound { WritesAtMost result (io_slices_bytes slices.now) }
         ensures bytes { WriteAppends (contents self.old) (contents self.new) result (io_slices_bytes slices.now) }
-        ensures apart { Keeps (remaining self.old) (remaining self.new) };
+        ensures apart { Keeps (remaining self.old) (remaining self.new) }
+        ensures fault { FailsToWriteIf (may_fail self.old) (in_brief result) (io_slices_bytes slices.now) }
+        ensures same { may_fail self.new ≡ may_fail self.old };
 
     /// Sets whether calls return `WouldBlock` in place of waiting for bytes or for room.
     fn set_nonblocking(&mut self, nonblocking: bool) -> io::Result<()>
         ensures switched { OnOk result (is_nonblocking nonblocking self.new) }
         ensures remaining { Keeps (remaining self.old) (remaining self.new) }
-        ensures contents { Keeps (contents self.old) (contents self.new) };
+        ensures contents { Keeps (contents self.old) (contents self.new) }
+        ensures fault { FailsIf (may_fail self.old) (in_brief result) }
+        ensures same { may_fail self.new ≡ may_fail self.old };
 
     /// Sets whether each write is sent at once. If not, small writes may be held back, so that they
     /// go out together. Setting it sends those that are held back.
     fn set_nodelay(&mut self, nodelay: bool) -> io::Result<()>
         ensures switched { OnOk result (is_nodelay nodelay self.new) }
         ensures remaining { Keeps (remaining self.old) (remaining self.new) }
-        ensures contents { Keeps (contents self.old) (contents self.new) };
+        ensures contents { Keeps (contents self.old) (contents self.new) }
+        ensures same { may_fail self.new ≡ may_fail self.old };
 
     /// Returns the descriptor on which the system reports that the socket is ready.
     fn source(&self) -> RawFd;
@@ -66,6 +79,10 @@ pub trait Socket {
 /// call a function makes, or with which arguments. Each makes the call of its name with its own
 /// arguments, which has to be read.
 impl Socket for TcpStream {
+    ghost use Rattle.std.specs.Prelude.{true};
+
+    ghost may_fail = { λ socket. true };
+
     fn read(&mut self, buf: &mut [u8]) -> io::Result<usize> {
         Read::read(self, buf)
     }
@@ -98,6 +115,8 @@ impl Socket for TcpStream {
 pub(super) fn read_once<S: Socket>(socket: &mut S, buf: &mut [u8]) -> Result<usize, StreamError>
     ensures bytes { ReadsFrom (S.remaining socket.old) (S.remaining socket.new) result buf.new }
     ensures apart { Keeps (S.contents socket.old) (S.contents socket.new) }
+    ensures fault { FailsIf (S.may_fail socket.old) result }
+    ensures same { S.may_fail socket.new ≡ S.may_fail socket.old }
 {
     in_brief(socket.read(buf))
 }
@@ -108,6 +127,8 @@ pub(super) fn read_once<S: Socket>(socket: &mut S, buf: &mut [u8]) -> Result<usi
 pub(super) fn write_once<S: Socket>(socket: &mut S, buf: &[u8]) -> Result<usize, StreamError>
     ensures bytes { WritesTo (S.contents socket.old) (S.contents socket.new) result buf.now }
     ensures apart { Keeps (S.remaining socket.old) (S.remaining socket.new) }
+    ensures fault { FailsToWriteIf (S.may_fail socket.old) result buf.now }
+    ensures same { S.may_fail socket.new ≡ S.may_fail socket.old }
 {
     in_brief(socket.write(buf))
 }
@@ -122,6 +143,8 @@ pub(super) fn write_slices_once<S: Socket>(
 ) -> Result<usize, StreamError>
     ensures bytes { WritesTo (S.contents socket.old) (S.contents socket.new) result (first.now ++ second.now ++ third.now) }
     ensures apart { Keeps (S.remaining socket.old) (S.remaining socket.new) }
+    ensures fault { FailsToWriteIf (S.may_fail socket.old) result first.now }
+    ensures same { S.may_fail socket.new ≡ S.may_fail socket.old }
 {
     in_brief(socket.write_slices(&[
         IoSlice::new(first),

@@ -3,7 +3,7 @@ ghost use Rattle.std.specs.Prelude.{◌≡◌, ℕ, [], Bool, OnErr, OnOk, List,
 ghost use Rattle.std.specs.Prelude.{drop, false, length, min, take, true};
 ghost use Rattle.std.specs.Io.{ReadsAtMost, WritesAtMost};
 ghost use Rattle.std.specs.Io.KnownBytes.{IsAtEnd, Keeps, ReadConsumes, WriteAppends, prepend_known};
-ghost use Rattle.bq_line.specs.Streams.{MovesNothing, ReadsFrom, WritesTo};
+ghost use Rattle.bq_line.specs.Streams.{FailsIf, FailsToWriteIf, ReadsFrom};
 
 use super::{Readiness, StreamError, copy_first};
 use bq_seat::ByteBuffer;
@@ -18,11 +18,16 @@ pub trait Duplex {
     /// The bytes that were written, if they are known.
     ghost contents: { Self → Option (List ℕ) } = { λ _. None };
 
+    /// Whether a call of it may fail.
+    ghost may_fail: { Self → Bool };
+
     /// Reads as `std::io::Read` does.
     fn read(&mut self, buf: &mut [u8]) -> Result<usize, StreamError>
         ensures bound { ReadsAtMost result buf.new }
         ensures bytes { ReadConsumes (remaining self.old) (remaining self.new) result buf.new }
-        ensures apart { Keeps (contents self.old) (contents self.new) };
+        ensures apart { Keeps (contents self.old) (contents self.new) }
+        ensures fault { FailsIf (may_fail self.old) result }
+        ensures same { may_fail self.new ≡ may_fail self.old };
 
     /// Reads as `read` does, but returns `NotYet` where that would wait for bytes. A stream
     /// without such a read uses `read`, so the caller must be prepared to wait.
@@ -30,6 +35,8 @@ pub trait Duplex {
         ensures bound { ReadsAtMost result buf.new }
         ensures bytes { ReadConsumes (remaining self.old) (remaining self.new) result buf.new }
         ensures apart { Keeps (contents self.old) (contents self.new) }
+        ensures fault { FailsIf (may_fail self.old) result }
+        ensures same { may_fail self.new ≡ may_fail self.old }
     {
         self.read(buf)
     }
@@ -38,7 +45,9 @@ pub trait Duplex {
     fn write(&mut self, buf: &[u8]) -> Result<usize, StreamError>
         ensures bound { WritesAtMost result buf.now }
         ensures bytes { WriteAppends (contents self.old) (contents self.new) result buf.now }
-        ensures apart { Keeps (remaining self.old) (remaining self.new) };
+        ensures apart { Keeps (remaining self.old) (remaining self.new) }
+        ensures fault { FailsToWriteIf (may_fail self.old) result buf.now }
+        ensures same { may_fail self.new ≡ may_fail self.old };
 
     /// Writes a first part of three texts, as `write` does for the text that they form together. By
     /// default it writes from the first text only; a stream with gathered writes does not copy
@@ -53,6 +62,8 @@ pub trait Duplex {
         ensures bytes { WriteAppends (contents self.old) (contents self.new)
             result (first.now ++ second.now ++ third.now) }
         ensures apart { Keeps (remaining self.old) (remaining self.new) }
+        ensures fault { FailsToWriteIf (may_fail self.old) result first.now }
+        ensures same { may_fail self.new ≡ may_fail self.old }
     {
         self.write(first)
     }
@@ -60,13 +71,16 @@ pub trait Duplex {
     /// Sends what is held back, as `std::io::Write` does.
     fn flush(&mut self) -> Result<(), StreamError>
         ensures bytes { Keeps (contents self.old) (contents self.new) }
-        ensures apart { Keeps (remaining self.old) (remaining self.new) };
+        ensures apart { Keeps (remaining self.old) (remaining self.new) }
+        ensures fault { OnErr result (may_fail self.old ≡ true) }
+        ensures same { may_fail self.new ≡ may_fail self.old };
 
     /// A hint whether more will be written soon, so that small writes may go out together. It does
     /// not change which bytes were written, and a stream that can't use it does nothing.
     fn expect_more(&mut self, more: bool)
         ensures bytes { Keeps (contents self.old) (contents self.new) }
         ensures apart { Keeps (remaining self.old) (remaining self.new) }
+        ensures same { may_fail self.new ≡ may_fail self.old }
     {}
 
     /// Returns false if a read would only report that there are no bytes yet, as far as the stream
@@ -86,6 +100,7 @@ pub trait Duplex {
     fn note_ready(&mut self, _ready: Readiness)
         ensures bytes { Keeps (contents self.old) (contents self.new) }
         ensures apart { Keeps (remaining self.old) (remaining self.new) }
+        ensures same { may_fail self.new ≡ may_fail self.old }
     {}
 }
 
@@ -93,6 +108,8 @@ pub trait Duplex {
 pub fn read_by<S: Duplex>(stream: &mut S, buf: &mut [u8], waits: bool) -> Result<usize, StreamError>
     ensures bytes { ReadsFrom (S.remaining stream.old) (S.remaining stream.new) result buf.new }
     ensures apart { Keeps (S.contents stream.old) (S.contents stream.new) }
+    ensures fault { FailsIf (S.may_fail stream.old) result }
+    ensures same { S.may_fail stream.new ≡ S.may_fail stream.old }
 {
     if waits {
         stream.read(buf)
@@ -119,6 +136,8 @@ pub fn fill<S: Duplex>(
         (prepend_known buffer.new (S.remaining stream.new)) }
     ensures end { OnOk result (buffer.new ≡ [] → IsAtEnd (S.remaining stream.new)) }
     ensures apart { Keeps (S.contents stream.old) (S.contents stream.new) }
+    ensures fault { FailsIf (S.may_fail stream.old) result }
+    ensures same { S.may_fail stream.new ≡ S.may_fail stream.old }
 {
     if buffer.is_empty() {
         refill(buffer, stream, waits)
@@ -137,6 +156,8 @@ pub fn read_through<S: Duplex>(
     ensures bytes { ReadsFrom (prepend_known buffer.old (S.remaining stream.old)) (prepend_known buffer.new (S.remaining stream.new))
         result buf.new }
     ensures apart { Keeps (S.contents stream.old) (S.contents stream.new) }
+    ensures fault { FailsIf (S.may_fail stream.old) result }
+    ensures same { S.may_fail stream.new ≡ S.may_fail stream.old }
 {
     fill(buffer, stream, waits)?;
     Ok(give(buffer, buf))
@@ -164,6 +185,8 @@ fn refill<S: Duplex>(
         (prepend_known buffer.new (S.remaining stream.new)) }
     ensures end { OnOk result (buffer.new ≡ [] → IsAtEnd (S.remaining stream.new)) }
     ensures apart { Keeps (S.contents stream.old) (S.contents stream.new) }
+    ensures fault { FailsIf (S.may_fail stream.old) result }
+    ensures same { S.may_fail stream.new ≡ S.may_fail stream.old }
 {
     buffer.make_full();
     match read_by(stream, buffer.as_mut_slice(), waits) {

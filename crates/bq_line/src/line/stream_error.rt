@@ -41,12 +41,12 @@ impl StreamError {
     }
 }
 
-/// Returns the result of a read or a write of the system, with what its error means.
-pub fn in_brief(came: io::Result<usize>) -> Result<usize, StreamError>
+/// Returns the result of a call of the system, with what its error means.
+pub fn in_brief<A>(came: io::Result<A>) -> Result<A, StreamError>
     ensures { result ≡ in_brief came }
 {
     match came {
-        Ok(count) => Ok(count),
+        Ok(done) => Ok(done),
         Err(e) => Err(StreamError::of(&e)),
     }
 }

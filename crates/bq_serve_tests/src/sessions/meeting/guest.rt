@@ -53,6 +53,10 @@ impl<'m> Guest<'m> {
 }
 
 impl<'m> Duplex for Guest<'m> {
+    ghost use Rattle.std.specs.Prelude.{true};
+
+    ghost may_fail = { λ _. true };
+
     fn read(&mut self, buf: &mut [u8]) -> Result<usize, StreamError> {
         if !self.begins() {
             return Err(StreamError::Fault);

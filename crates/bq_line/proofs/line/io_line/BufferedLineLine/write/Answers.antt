@@ -7,7 +7,7 @@ pub returns-clause-stays : goal.returns-clause-stays
 returns-clause-stays g c first over =
     let came = c.args.self.now.came in
     let of : g.row.S.Denot → StreamSeen = λ s.
-    record { left = prepend_known came (g.S.Duplex.remaining s); held = g.S.Duplex.contents s } in
-    wrote_noted first (of c.args.self.now.line.stream) (of c.write.new.self.stream) _ _ c.write.result c.args.buf.now
+    record { left = prepend_known came (g.S.Duplex.remaining s); held = g.S.Duplex.contents s; may_fail = g.S.Duplex.may_fail s } in
+    wrote_noted first (of c.args.self.now.line.stream) (of c.write.new.self.stream) _ _ c.write.result c.args.buf.now c.args.buf.now
     (prepend_kept came _ _ c.write.ensures.apart) c.write.ensures.stream.1
-    c.write.ensures.seen over
+    c.requires c.write.ensures.same c.write.ensures.fault c.write.ensures.seen over
