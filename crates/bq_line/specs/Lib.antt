@@ -12,6 +12,7 @@ pub mod LineParts
 pub mod Links
 pub mod MemDoors
 pub mod ReadingNumbers
+pub mod Ready
 pub mod ScriptPlace
 pub mod Streams
 pub mod Tending

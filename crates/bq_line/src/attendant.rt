@@ -1,6 +1,6 @@
 //! A seat that attends to a door: it serves the door's lines one after another, one action at a
 //! time. Also its link to the core, and how one action is carried out at its line and its link.
-ghost use Rattle.std.specs.Prelude.{◌≡◌, ◌≤◌, ◌↔◌, [], true, not, IfOk, IsTrue, ◌<◌, ◌++◌, ℕ, List, length};
+ghost use Rattle.std.specs.Prelude.{◌≡◌, ◌⊎◌, ◌≤◌, ◌↔◌, [], true, not, IfOk, IsTrue, ◌<◌, ◌++◌, ℕ, List, length};
 ghost use Rattle.bq_seat.specs.Outstanding.{ReadsWith};
 ghost use Rattle.bq_seat.specs.Past.{Awaited};
 ghost use Rattle.bq_seat.specs.SeatStands.{awaited};
@@ -205,9 +205,11 @@ impl<L: Line + Drop> Attendant<L> {
         matches!(self.place, LinePlace::Between)
     }
 
-    /// Records what the system reported about the line's readiness.
+    /// Records what the system reported about the line's readiness. A seat between two lines stays
+    /// as it is.
     pub fn note_ready(&mut self, ready: Readiness)
-        ensures { (door : DoorSeen) → Tends L.seen self.old door [] [] self.new door }
+        ensures went { (door : DoorSeen) → Tends L.seen self.old door [] [] self.new door }
+        ensures between { self.old.place ≡ LinePlace.Between → self.new.place ≡ LinePlace.Between }
     {
         if let LinePlace::On(line, _, _) = &mut self.place {
             line.note_ready(ready);
@@ -246,6 +248,8 @@ impl<L: Line + Drop> Attendant<L> {
         ensures went { let at = door_seen D.is_out D.is_at_end D.lines_over in
             Tends L.seen self.old (at door.old) [] [] self.new (at door.new) }
         ensures same { (first : D) → D.same first door.old → D.same first door.new }
+        // Without a line it is still between two lines.
+        ensures none { (result ≡ Looked.NotYet) ⊎ (result ≡ Looked.Later) → self.new.place ≡ LinePlace.Between }
     {
         match door.look(may_have_come, watcher) {
             Ok(Opening::Line(line)) => {

@@ -1,6 +1,6 @@
 //! Lines of bytes, each to one client and back, and what is known of the stream of a line that
 //! never waits: whether a read or a write is worth a system call.
-ghost use Rattle.std.specs.Prelude.{◌≡◌, ◌≤◌, ◌<◌, ℕ, List, length, min, not, take, ◌++◌};
+ghost use Rattle.std.specs.Prelude.{◌≡◌, ◌≤◌, ◌<◌, ℕ, Bool, true, false, List, length, min, not, take, ◌++◌};
 ghost use Rattle.std.specs.Io.{ReadsAtMost, WritesAtMost};
 ghost use Rattle.bq_job.specs.promise.LineSteps.{LineSeen};
 ghost use Rattle.bq_line.specs.LineCalls.{after_fill, after_flush, after_read, after_take, after_write, first_fault, found_nothing};
@@ -34,6 +34,12 @@ pub trait Line {
 
     /// The bytes in the line's own buffer, which came and were not read yet.
     ghost unread: { Self → List ℕ };
+
+    /// False if a read would only report that there are no bytes yet, as far as the line knows.
+    ghost may_give: { Self → Bool } = { λ line. true };
+
+    /// False if a write would only report that there is no room yet, as far as the line knows.
+    ghost may_take: { Self → Bool } = { λ line. true };
 
     /// Reads at most as many bytes as the buffer has room for, as `std::io::Read` does. A result of
     /// 0 is the end of the input. `NotYet` and `Interrupted` mean that there are no bytes yet; a
@@ -118,13 +124,17 @@ pub trait Line {
 
     /// Returns false if a read would only report that there are no bytes yet, as far as the line
     /// knows.
-    fn may_give(&self) -> bool {
+    fn may_give(&self) -> bool
+        ensures { result ≡ false → may_give self.now ≡ false }
+    {
         true
     }
 
     /// Returns false if a write would only report that there is no room yet, as far as the line
     /// knows.
-    fn may_take(&self) -> bool {
+    fn may_take(&self) -> bool
+        ensures { result ≡ false → may_take self.now ≡ false }
+    {
         true
     }
 

@@ -141,11 +141,17 @@ impl<S: Socket> Connection<S> {
 // Each successful call was made on a stream that waits, or on one that does not, as the clause
 // `waits` says.
 impl<S: Socket> Duplex for Connection<S> {
+    ghost use Rattle.bq_line.specs.Ready.{may_give, may_take};
+
     ghost remaining = { λ connection. S.remaining connection.stream };
 
     ghost contents = { λ connection. S.contents connection.stream };
 
     ghost may_fail = { λ connection. S.may_fail connection.stream };
+
+    ghost may_give = { λ connection. may_give connection.ready };
+
+    ghost may_take = { λ connection. may_take connection.ready };
 
     fn read(&mut self, buf: &mut [u8]) -> Result<usize, StreamError>
         ensures bytes { ReadsFrom (S.remaining self.old.stream) (S.remaining self.new.stream) result buf.new }

@@ -116,6 +116,10 @@ impl<S: Duplex> Line for IoLine<S> {
     // It has no buffer of its own.
     ghost unread = { λ line. [] };
 
+    ghost may_give = { λ line. S.may_give line.stream };
+
+    ghost may_take = { λ line. S.may_take line.stream };
+
     fn read(&mut self, buf: &mut [u8]) -> Result<usize, StreamError>
         requires { 0 < length buf.old }
         ensures seen { ⟦<IoLine<S> as Line>⟧.seen self.new
@@ -281,6 +285,7 @@ impl<S> BufferedLine<S> {
 }
 
 impl<S: Duplex> Line for BufferedLine<S> {
+    ghost use Rattle.std.specs.Prelude.{◌==◌, ◌||◌, not};
     ghost use Rattle.std.specs.Io.KnownBytes.{prepend_known};
     ghost use Rattle.bq_line.specs.Streams.{LiesOver};
 
@@ -295,6 +300,10 @@ impl<S: Duplex> Line for BufferedLine<S> {
         }) };
 
     ghost unread = { λ line. line.came };
+
+    ghost may_give = { λ line. not (length line.came == 0) || S.may_give line.line.stream };
+
+    ghost may_take = { λ line. S.may_take line.line.stream };
 
     fn read(&mut self, buf: &mut [u8]) -> Result<usize, StreamError> {
         self.read_by(buf, true)

@@ -21,6 +21,12 @@ pub trait Duplex {
     /// Whether a call of it may fail.
     ghost may_fail: { Self → Bool };
 
+    /// False if a read would only report that there are no bytes yet, as far as the stream knows.
+    ghost may_give: { Self → Bool } = { λ _. true };
+
+    /// False if a write would only report that there is no room yet, as far as the stream knows.
+    ghost may_take: { Self → Bool } = { λ _. true };
+
     /// Reads as `std::io::Read` does.
     fn read(&mut self, buf: &mut [u8]) -> Result<usize, StreamError>
         ensures bound { ReadsAtMost result buf.new }
@@ -85,13 +91,17 @@ pub trait Duplex {
 
     /// Returns false if a read would only report that there are no bytes yet, as far as the stream
     /// knows.
-    fn may_give(&self) -> bool {
+    fn may_give(&self) -> bool
+        ensures { result ≡ false → may_give self.now ≡ false }
+    {
         true
     }
 
     /// Returns false if a write would only report that there is no room yet, as far as the stream
     /// knows.
-    fn may_take(&self) -> bool {
+    fn may_take(&self) -> bool
+        ensures { result ≡ false → may_take self.now ≡ false }
+    {
         true
     }
 
