@@ -1,5 +1,6 @@
 mod ControlLemmas
 mod DueLemmas
+mod KnownLemmas
 mod ListingLemmas
 mod LoopCoreLemmas
 mod LoopSeatLemmas

@@ -2,6 +2,7 @@ pub mod Accepting
 pub mod ControlTold
 pub mod DueTimes
 pub mod EventLoopRuns
+pub mod Known
 pub mod Listings
 pub mod Looking
 pub mod LoopCores
@@ -10,5 +11,6 @@ pub mod NewLoops
 pub mod Rows
 pub mod Serving
 pub mod SoFar
+pub mod Still
 pub mod WakeLists
 pub mod Waits

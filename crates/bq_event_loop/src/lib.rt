@@ -17,5 +17,6 @@ mod row;
 mod run;
 mod seat_queue;
 mod serve;
+mod still;
 mod turns;
 mod woken;

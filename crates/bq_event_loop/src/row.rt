@@ -1,11 +1,14 @@
 //! The seats of a run, each with its door.
-ghost use Rattle.std.specs.Prelude.{◌≡◌, ◌<◌, ℕ, List, [], true, length, IfOk, IsTrue, vec_len};
+ghost use Rattle.std.specs.Prelude.{◌≡◌, ◌⊎◌, ◌<◌, ℕ, List, [], true, length, IfOk, IsTrue, vec_len};
 ghost use Rattle.std.specs.List.{All};
 ghost use Rattle.bq_core_api.specs.Limits.{is_body_size};
+ghost use Rattle.bq_job.specs.declared.answer.Answer.{Answer};
+ghost use Rattle.bq_event_loop.specs.Still.{IsStill};
 ghost use Rattle.bq_line.specs.Tending.{DoorSeen, IsNewSeat, IsPlaced, Tends, door_seen};
 
+use crate::still::is_still;
 use bq_job::NoMemory;
-use bq_line::attendant::{Attendant, Looked};
+use bq_line::attendant::{Attendant, LinePlace, Looked};
 use bq_line::line::{Line, ReadBuffer, Readiness};
 use bq_line::{Door, TurnedAway, Watcher};
 use std::alloc::Global;
@@ -19,6 +22,9 @@ pub struct Row<L: Line + Drop, D: Door<Line = L>> {
 }
 
 impl<L: Line + Drop, D: Door<Line = L>> Row<L, D> {
+    ghost use Rattle.std.specs.Prelude.{◌⊎◌, slice_index_or};
+    ghost use Rattle.bq_line.specs.declared.attendant.Attendant.{Attendant};
+    ghost use Rattle.bq_event_loop.specs.Known.{ChangesOnly};
     ghost use Rattle.bq_event_loop.specs.Rows.{AreDone, AreTended, KeepsRow};
 
     /// Returns the number of seats.
@@ -66,6 +72,10 @@ impl<L: Line + Drop, D: Door<Line = L>> Row<L, D> {
     ) -> Looked
         requires tended { AreTended L.seen (door_seen D.is_out D.is_at_end D.lines_over) self.old }
         ensures keeps { KeepsRow L.seen (door_seen D.is_out D.is_at_end D.lines_over) D.same self.old self.new }
+        ensures only { ChangesOnly seat self.old.seats.items self.new.seats.items }
+        // Without a line the seat is still between two lines.
+        ensures none { (result ≡ Looked.NotYet) ⊎ (result ≡ Looked.Later) → (a : Attendant L)
+            → (slice_index_or self.new.seats.items seat a).place ≡ LinePlace.Between }
     {
         if seat >= self.seats.len() {
             return Looked::Opened;
@@ -83,6 +93,9 @@ impl<L: Line + Drop, D: Door<Line = L>> Row<L, D> {
     pub fn note_ready(&mut self, seat: usize, ready: Readiness)
         requires tended { AreTended L.seen (door_seen D.is_out D.is_at_end D.lines_over) self.old }
         ensures keeps { KeepsRow L.seen (door_seen D.is_out D.is_at_end D.lines_over) D.same self.old self.new }
+        ensures only { ChangesOnly seat self.old.seats.items self.new.seats.items }
+        ensures between { (a : Attendant L) → (slice_index_or self.old.seats.items seat a).place ≡ LinePlace.Between
+            → (slice_index_or self.new.seats.items seat a).place ≡ LinePlace.Between }
     {
         if seat < self.seats.len() {
             self.seats[seat].note_ready(ready);
@@ -94,9 +107,22 @@ impl<L: Line + Drop, D: Door<Line = L>> Row<L, D> {
     pub fn exchange(&mut self, seat: usize, buffer: &mut ReadBuffer)
         requires tended { AreTended L.seen (door_seen D.is_out D.is_at_end D.lines_over) self.old }
         ensures keeps { KeepsRow L.seen (door_seen D.is_out D.is_at_end D.lines_over) D.same self.old self.new }
+        ensures only { ChangesOnly seat self.old.seats.items self.new.seats.items }
     {
         if seat < self.seats.len() {
             exchange_at(&mut self.seats[seat], &mut self.doors[seat], buffer);
+        }
+    }
+
+    /// Returns true if nothing moves at a seat until its line is ready or it has mail; `has_none`
+    /// says that it has no mail now.
+    pub fn is_still(&self, seat: usize, has_none: bool) -> bool
+        ensures { result ≡ true → (mail : List Answer) → (has_none ≡ true → mail ≡ []) → (a : Attendant L)
+            → IsStill L.may_give L.may_take (slice_index_or self.now.seats.items seat a) mail }
+    {
+        match self.seats.get(seat) {
+            Some(seat) => is_still(seat, has_none),
+            None => false,
         }
     }
 
@@ -104,6 +130,7 @@ impl<L: Line + Drop, D: Door<Line = L>> Row<L, D> {
     pub fn hand_on(&mut self, seat: usize)
         requires tended { AreTended L.seen (door_seen D.is_out D.is_at_end D.lines_over) self.old }
         ensures keeps { KeepsRow L.seen (door_seen D.is_out D.is_at_end D.lines_over) D.same self.old self.new }
+        ensures only { ChangesOnly seat self.old.seats.items self.new.seats.items }
     {
         if seat < self.seats.len() {
             self.seats[seat].hand_on();
@@ -123,6 +150,7 @@ fn look_at<L: Line + Drop, D: Door<Line = L>, W: Watcher>(
     ensures went { let at = door_seen D.is_out D.is_at_end D.lines_over in
         Tends L.seen seat.old (at door.old) [] [] seat.new (at door.new) }
     ensures same { (first : D) → D.same first door.old → D.same first door.new }
+    ensures none { (result ≡ Looked.NotYet) ⊎ (result ≡ Looked.Later) → seat.new.place ≡ LinePlace.Between }
 {
     if !seat.is_between() {
         return Looked::Opened;

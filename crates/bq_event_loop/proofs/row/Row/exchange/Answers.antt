@@ -1,5 +1,6 @@
 use Rattle.std.proofs.Common.{arith}
 use Rattle.bq_line.specs.Tending.{door_seen}
+use Rattle.bq_event_loop.proofs.KnownLemmas.{changed_one}
 use Rattle.bq_event_loop.proofs.RowLemmas.{rested_there, tended_there}
 use Rattle.bq_event_loop.proofs.row.Row.exchange.Goals as goal
 
@@ -20,4 +21,5 @@ returns-then-seat-len g c =
             omega arith) c.requires.tended.doored c.index_mut.ensures.value c.index_mut-then-seat-len.ensures.value c.exchange_at.ensures.went
             c.exchange_at.ensures.same rests,
       );
+      only = changed_one row.seats.items c.args.seat c.exchange_at.new.seat;
     }

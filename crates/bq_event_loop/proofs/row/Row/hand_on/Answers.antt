@@ -1,5 +1,6 @@
 use Rattle.std.proofs.Common.{arith}
 use Rattle.bq_line.specs.Tending.{door_seen}
+use Rattle.bq_event_loop.proofs.KnownLemmas.{changed_one}
 use Rattle.bq_event_loop.proofs.RowLemmas.{rested_seat, tended_seat}
 use Rattle.bq_event_loop.proofs.row.Row.hand_on.Goals as goal
 
@@ -18,4 +19,5 @@ returns-then-seat-len g c =
             (let e = c.len.ensures in let b = c.if-seat-len.true in
             omega arith) c.requires.tended.doored c.index_mut.ensures.value c.hand_on.ensures rests,
       );
+      only = changed_one row.seats.items c.args.seat c.hand_on.new.self;
     }

@@ -1,5 +1,7 @@
 use Rattle.std.proofs.Common.{arith}
 use Rattle.bq_line.specs.Tending.{door_seen}
+use Rattle.bq_event_loop.proofs.KnownLemmas.{changed_one, changed_place}
+use Rattle.bq_line.specs.declared.attendant.LinePlace.TheVariants as places
 use Rattle.bq_event_loop.proofs.RowLemmas.{placed_there, rested_there, tended_there}
 use Rattle.bq_event_loop.proofs.row.Row.look.Goals as goal
 
@@ -30,4 +32,7 @@ returns g c =
             omega arith) c.requires.tended.doored c.index_mut.ensures.value c.index_mut-2.ensures.value c.look_at.ensures.went
             c.look_at.ensures.same rests,
       );
+      only = changed_one row.seats.items c.args.seat c.look_at.new.seat;
+      none = λ h a. changed_place row.seats.items c.args.seat c.look_at.new.seat a places.Between (let e = c.len.ensures in let b = c.if-seat-len.false in
+          omega arith) (c.look_at.ensures.none h);
     }

@@ -1,0 +1,539 @@
+-- Seats that the turns of a loop let act before they sleep.
+use Rattle.std.proofs.Common.{ℕ, ◌≡◌, ◌≢◌, ◌⊎◌, inl, inr, ◌+◌, ◌≤◌, ◌<◌, ◌==◌, ◌&&◌, ◌||◌, not, nat_lt, Bool, true, false, List, [], ◌∷◌, ◌++◌, length, slice_set, slice_index_or, if◌then◌else◌, Option, Some, None, refl, sym, ap, ◌∙◌, subst, arith}
+use Rattle.std.specs.Option.{option_to_list}
+use Rattle.std.proofs.lemmas.Bool.{cases_Bool, lt-ltb}
+use Rattle.std.proofs.lemmas.Bool.Decides.{eqb_tells}
+use Rattle.std.proofs.lemmas.List.{get_or-set_other, get_or-set_same, get_or_default, length-set}
+use Rattle.std.proofs.lemmas.List.Sums.{sum_by-cons}
+use Rattle.bq_job.specs.declared.answer.Answer.{Answer}
+use Rattle.bq_line.specs.declared.attendant.Attendant.{Attendant}
+use Rattle.bq_line.specs.declared.attendant.LinePlace.{LinePlace}
+use Rattle.bq_line.specs.declared.attendant.LinePlace.TheVariants as places
+use Rattle.bq_seat.specs.declared.machine.Action.{Action}
+use Rattle.bq_seat.specs.declared.machine.Action.TheVariants as actions
+use Rattle.bq_seat.specs.declared.machine.SeatMachine.{SeatMachine}
+use Rattle.bq_event_loop.proofs.MarkLemmas.{one_if, same_one, times_push}
+use Rattle.bq_event_loop.specs.Known.{AreApart, AreKnown, AreKnownTo, AreSameLists, AreStill, ChangesOnly, IsKnown, IsTaken, KeepsAll, is_listed, is_looking, is_on, is_visited}
+use Rattle.bq_event_loop.specs.Listings.{Listing, enqueued, freed, is_nowhere}
+use Rattle.bq_event_loop.specs.Marks.{times}
+use Rattle.bq_event_loop.specs.Still.{IsStill, IsStillAt, IsStillOn}
+use Rattle.bq_event_loop.specs.WakeLists.{WakeList, Wakes}
+
+-- One element of a list was changed.
+pub changed_one : {L : Type 0} (seats : List (Attendant L)) (i : ℕ) (new : Attendant L) → ChangesOnly i seats (slice_set seats i new)
+changed_one seats i new = record {
+  many = length-set seats i new;
+  others = λ t differs a. get_or-set_other seats i t new a differs;
+}
+
+-- The place of a seat that was changed.
+pub changed_place : {L : Type 0} (seats : List (Attendant L)) (i : ℕ) (new : Attendant L) (a : Attendant L) (place : LinePlace L)
+    → i < length seats → new.place ≡ place → (slice_index_or (slice_set seats i new) i a).place ≡ place
+changed_place seats i new a place below is = ap (λ z. z.place) (get_or-set_same seats i new a below) ∙ is
+
+pub changed_none : {L : Type 0} (seats : List (Attendant L)) (i : ℕ) → ChangesOnly i seats seats
+changed_none seats i = record { many = refl; others = λ t differs a. refl }
+
+pub changed_then : {L : Type 0} (i : ℕ) (a b c : List (Attendant L)) → ChangesOnly i a b → ChangesOnly i b c → ChangesOnly i a c
+changed_then i a b c h k = record {
+  many = k.many ∙ h.many;
+  others = λ t differs x. k.others t differs x ∙ h.others t differs x;
+}
+
+either : (a b : Bool) → (a || b) ≡ true → (a ≡ true) ⊎ (b ≡ true)
+either true b is = inl refl
+either false b is = inr is
+
+or_left : (a b : Bool) → a ≡ true → (a || b) ≡ true
+or_left true b is = refl
+or_left false b is = absurd cc
+
+or_right : (a b : Bool) → b ≡ true → (a || b) ≡ true
+or_right true b is = refl
+or_right false b is = is
+
+on_some : (xs : List ℕ) (i : ℕ) → is_on xs i ≡ true → 0 < times i xs
+on_some xs i is = by (eqb_tells (times i xs) 0) where
+  by : ((times i xs == 0) ≡ true) × (times i xs ≡ 0) ⊎ ((times i xs == 0) ≡ false) × (times i xs ≢ 0) → 0 < times i xs
+  by (inl (test, _)) = let e : false ≡ true = sym (ap not test) ∙ is in absurd cc
+  by (inr (_, differs)) = omega (arith, differs)
+
+some_on : (xs : List ℕ) (i : ℕ) → 0 < times i xs → is_on xs i ≡ true
+some_on xs i there = by (eqb_tells (times i xs) 0) where
+  by : ((times i xs == 0) ≡ true) × (times i xs ≡ 0) ⊎ ((times i xs == 0) ≡ false) × (times i xs ≢ 0) → is_on xs i ≡ true
+  by (inl (_, none)) = absurd (omega (arith, none, there))
+  by (inr (test, _)) = ap not test
+
+same_is : (i t : ℕ) → (i == t) ≡ true → i ≡ t
+same_is i t is = by (eqb_tells i t) where
+  by : ((i == t) ≡ true) × (i ≡ t) ⊎ ((i == t) ≡ false) × (i ≢ t) → i ≡ t
+  by (inl (_, same)) = same
+  by (inr (test, _)) = let e : false ≡ true = sym test ∙ is in absurd cc
+
+is_same : (i t : ℕ) → i ≡ t → (i == t) ≡ true
+is_same i t same = by (eqb_tells i t) where
+  by : ((i == t) ≡ true) × (i ≡ t) ⊎ ((i == t) ≡ false) × (i ≢ t) → (i == t) ≡ true
+  by (inl (test, _)) = test
+  by (inr (_, differs)) = absurd (differs same)
+
+-- Where a seat is if it is on a list with one seat more.
+on_cons : (i : ℕ) (xs : List ℕ) (t : ℕ) → is_on (i ∷ xs) t ≡ true → (is_on xs t || (i == t)) ≡ true
+on_cons i xs t is = by (eqb_tells i t) where
+  by : ((i == t) ≡ true) × (i ≡ t) ⊎ ((i == t) ≡ false) × (i ≢ t) → (is_on xs t || (i == t)) ≡ true
+  by (inl (test, _)) = or_right (is_on xs t) (i == t) test
+  by (inr (test, _)) =
+      let none : one_if (i == t) ≡ 0 = ap one_if test in
+      or_left (is_on xs t) (i == t) (some_on xs t (omega (arith, sum_by-cons (λ x. one_if (x == t)) i xs, on_some (i ∷ xs) t is, none)))
+
+on_cons_back : (i : ℕ) (xs : List ℕ) (t : ℕ) → (is_on xs t || (i == t)) ≡ true → is_on (i ∷ xs) t ≡ true
+on_cons_back i xs t is = by (either (is_on xs t) (i == t) is) where
+  by : (is_on xs t ≡ true) ⊎ ((i == t) ≡ true) → is_on (i ∷ xs) t ≡ true
+  by (inl on) = some_on (i ∷ xs) t (omega (arith, sum_by-cons (λ x. one_if (x == t)) i xs, on_some xs t on))
+  by (inr same) =
+      let one : one_if (i == t) ≡ 1 = ap one_if same in
+      some_on (i ∷ xs) t (omega (arith, sum_by-cons (λ x. one_if (x == t)) i xs, one))
+
+-- What `enqueued` does to the lists.
+abbrev put_if : Bool → ℕ → Listing → Listing
+put_if b i l = if b then record l { queue = l.queue ++ i ∷ [] } else l
+
+put_free : (b : Bool) (i : ℕ) (l : Listing) → (put_if b i l).free ≡ l.free
+put_free true i l = refl
+put_free false i l = refl
+
+put_seats : (b : Bool) (i : ℕ) (l : Listing) → (put_if b i l).seats ≡ l.seats
+put_seats true i l = refl
+put_seats false i l = refl
+
+put_keeps : (b : Bool) (i : ℕ) (l : Listing) (t : ℕ) → is_on l.queue t ≡ true → is_on (put_if b i l).queue t ≡ true
+put_keeps true i l t on = some_on (l.queue ++ i ∷ []) t (omega (arith, times_push t l.queue i, on_some l.queue t on))
+put_keeps false i l t on = on
+
+put_only : (b : Bool) (i : ℕ) (l : Listing) (t : ℕ) → is_on (put_if b i l).queue t ≡ true
+    → (is_on l.queue t ≡ true) ⊎ ((b ≡ true) × (i ≡ t))
+put_only true i l t on = by (eqb_tells i t) where
+  by : ((i == t) ≡ true) × (i ≡ t) ⊎ ((i == t) ≡ false) × (i ≢ t) → (is_on l.queue t ≡ true) ⊎ ((true ≡ true) × (i ≡ t))
+  by (inl (_, same)) = inr (refl, same)
+  by (inr (test, _)) =
+      let none : one_if (i == t) ≡ 0 = ap one_if test in
+      inl (some_on l.queue t (omega (arith, times_push t l.queue i, on_some (l.queue ++ i ∷ []) t on, none)))
+put_only false i l t on = inl on
+
+nowhere_none : (i : ℕ) (l : Listing) → is_nowhere i l ≡ true → times i l.queue + times i l.free ≡ 0
+nowhere_none i l is = by (nat_lt i l.seats) (eqb_tells (times i l.queue + times i l.free) 0) is where
+  by : (below : Bool) → ((times i l.queue + times i l.free == 0) ≡ true) × (times i l.queue + times i l.free ≡ 0)
+      ⊎ ((times i l.queue + times i l.free == 0) ≡ false) × (times i l.queue + times i l.free ≢ 0)
+      → (below && (times i l.queue + times i l.free == 0)) ≡ true → times i l.queue + times i l.free ≡ 0
+  by below (inl (_, none)) e = none
+  by true (inr (test, _)) e = let f : false ≡ true = sym test ∙ e in absurd cc
+  by false (inr (test, _)) e = absurd cc
+
+somewhere : (i : ℕ) (l : Listing) → i < l.seats → is_nowhere i l ≡ false → 0 < times i l.queue + times i l.free
+somewhere i l below is = by (nat_lt i l.seats) (lt-ltb i l.seats below) (eqb_tells (times i l.queue + times i l.free) 0) is where
+  by : (there : Bool) → there ≡ true → ((times i l.queue + times i l.free == 0) ≡ true) × (times i l.queue + times i l.free ≡ 0)
+      ⊎ ((times i l.queue + times i l.free == 0) ≡ false) × (times i l.queue + times i l.free ≢ 0)
+      → (there && (times i l.queue + times i l.free == 0)) ≡ false → 0 < times i l.queue + times i l.free
+  by true e (inl (test, _)) f = let g : true ≡ false = sym test ∙ f in absurd cc
+  by true e (inr (_, differs)) f = omega (arith, differs)
+  by false e h f = absurd cc
+
+put_lists : (b : Bool) (i : ℕ) (l : Listing) → (b ≡ false → 0 < times i l.queue) → is_on (put_if b i l).queue i ≡ true
+put_lists true i l there = some_on (l.queue ++ i ∷ []) i (omega (arith, times_push i l.queue i, same_one i))
+put_lists false i l there = some_on l.queue i (there refl)
+
+free_none : (i : ℕ) (l : Listing) → (is_on l.free i ≡ true → ⊥) → times i l.free ≡ 0
+free_none i l none = by (eqb_tells (times i l.free) 0) where
+  by : ((times i l.free == 0) ≡ true) × (times i l.free ≡ 0) ⊎ ((times i l.free == 0) ≡ false) × (times i l.free ≢ 0) → times i l.free ≡ 0
+  by (inl (_, is)) = is
+  by (inr (_, differs)) = absurd (none (some_on l.free i (omega (arith, differs))))
+
+-- A seat that does not check for a client is on the queue once it was enqueued.
+pub enqueued_lists : (i : ℕ) (l : Listing) → i < l.seats → (is_on l.free i ≡ true → ⊥) → is_on (enqueued i l).queue i ≡ true
+enqueued_lists i l below none =
+    put_lists (is_nowhere i l) i l (λ e. omega (arith, somewhere i l below e, free_none i l none))
+
+pub enqueued_keeps : (i : ℕ) (l : Listing) (t : ℕ) → is_on l.queue t ≡ true → is_on (enqueued i l).queue t ≡ true
+enqueued_keeps i l t on = put_keeps (is_nowhere i l) i l t on
+
+pub enqueued_free : (i : ℕ) (l : Listing) → (enqueued i l).free ≡ l.free
+enqueued_free i l = put_free (is_nowhere i l) i l
+
+pub enqueued_seats : (i : ℕ) (l : Listing) → (enqueued i l).seats ≡ l.seats
+enqueued_seats i l = put_seats (is_nowhere i l) i l
+
+-- Only this seat can be more on the queue, and it does not check for a client.
+enqueued_only : (i : ℕ) (l : Listing) (t : ℕ) → is_on (enqueued i l).queue t ≡ true
+    → (is_on l.queue t ≡ true) ⊎ ((i ≡ t) × (times i l.free ≡ 0))
+enqueued_only i l t on = by (put_only (is_nowhere i l) i l t on) where
+  by : (is_on l.queue t ≡ true) ⊎ ((is_nowhere i l ≡ true) × (i ≡ t)) → (is_on l.queue t ≡ true) ⊎ ((i ≡ t) × (times i l.free ≡ 0))
+  by (inl there) = inl there
+  by (inr (lost, same)) = inr (same, omega (arith, nowhere_none i l lost))
+
+-- What `freed` does to the lists.
+abbrev free_if : Bool → ℕ → Listing → Listing
+free_if b i l = if b then record l { free = l.free ++ i ∷ [] } else l
+
+freed_queue_if : (b : Bool) (i : ℕ) (l : Listing) → (free_if b i l).queue ≡ l.queue
+freed_queue_if true i l = refl
+freed_queue_if false i l = refl
+
+freed_seats_if : (b : Bool) (i : ℕ) (l : Listing) → (free_if b i l).seats ≡ l.seats
+freed_seats_if true i l = refl
+freed_seats_if false i l = refl
+
+freed_keeps_if : (b : Bool) (i : ℕ) (l : Listing) (t : ℕ) → is_on l.free t ≡ true → is_on (free_if b i l).free t ≡ true
+freed_keeps_if true i l t on = some_on (l.free ++ i ∷ []) t (omega (arith, times_push t l.free i, on_some l.free t on))
+freed_keeps_if false i l t on = on
+
+freed_only_if : (b : Bool) (i : ℕ) (l : Listing) (t : ℕ) → is_on (free_if b i l).free t ≡ true
+    → (is_on l.free t ≡ true) ⊎ ((b ≡ true) × (i ≡ t))
+freed_only_if true i l t on = by (eqb_tells i t) where
+  by : ((i == t) ≡ true) × (i ≡ t) ⊎ ((i == t) ≡ false) × (i ≢ t) → (is_on l.free t ≡ true) ⊎ ((true ≡ true) × (i ≡ t))
+  by (inl (_, same)) = inr (refl, same)
+  by (inr (test, _)) =
+      let none : one_if (i == t) ≡ 0 = ap one_if test in
+      inl (some_on l.free t (omega (arith, times_push t l.free i, on_some (l.free ++ i ∷ []) t on, none)))
+freed_only_if false i l t on = inl on
+
+freed_lists_if : (b : Bool) (i : ℕ) (l : Listing) → (b ≡ false → 0 < times i l.queue + times i l.free)
+    → (is_on l.queue i ≡ true) ⊎ (is_on (free_if b i l).free i ≡ true)
+freed_lists_if true i l there = inr (some_on (l.free ++ i ∷ []) i (omega (arith, times_push i l.free i, same_one i)))
+freed_lists_if false i l there = by (eqb_tells (times i l.queue) 0) where
+  by : ((times i l.queue == 0) ≡ true) × (times i l.queue ≡ 0) ⊎ ((times i l.queue == 0) ≡ false) × (times i l.queue ≢ 0)
+      → (is_on l.queue i ≡ true) ⊎ (is_on l.free i ≡ true)
+  by (inl (_, none)) = inr (some_on l.free i (omega (arith, there refl, none)))
+  by (inr (_, differs)) = inl (some_on l.queue i (omega (arith, differs)))
+
+on_none : (xs : List ℕ) (t : ℕ) → times t xs ≡ 0 → is_on xs t ≡ true → ⊥
+on_none xs t none on = omega (arith, none, on_some xs t on)
+
+-- The numbers that turns go by were changed, the seats and their mail were not.
+known_as : {L : Type 0} (gives takes : L → Bool) (many later_many : ℕ) (listed looks later later_looks : ℕ → Bool) (seats : List (Attendant L))
+    (mails : List (List Answer))
+    → later_many ≡ many → AreApart later later_looks
+    → ((t : ℕ) → later_looks t ≡ true → (looks t ≡ true) ⊎ ((a : Attendant L) → (slice_index_or seats t a).place ≡ places.Between))
+    → ((t : ℕ) → t < length seats → listed t ≡ true → (later t ≡ true) ⊎ (later_looks t ≡ true)
+        ⊎ ((a : Attendant L) → IsStill gives takes (slice_index_or seats t a) (slice_index_or mails t [])))
+    → ((t : ℕ) → t < length seats → looks t ≡ true → (later t ≡ true) ⊎ (later_looks t ≡ true))
+    → AreKnown gives takes many listed looks [] seats mails → AreKnown gives takes later_many later later_looks [] seats mails
+known_as {L} gives takes many later_many listed looks later later_looks seats mails same_many apart before acts checks k = record {
+  all = omega (arith, same_many, k.all);
+  apart = apart;
+  looking = λ t below is a. by t below a (before t is);
+  known = λ t below a. at t below a (k.known t below a);
+}
+  where
+    by : (t : ℕ) → t < length seats → (a : Attendant L)
+        → (looks t ≡ true) ⊎ ((a : Attendant L) → (slice_index_or seats t a).place ≡ places.Between)
+        → (slice_index_or seats t a).place ≡ places.Between
+    by t below a (inl is) = k.looking t below is a
+    by t below a (inr is) = is a
+
+    at : (t : ℕ) → t < length seats → (a : Attendant L)
+        → IsKnown (listed t) (looks t) (times t []) (IsStill gives takes (slice_index_or seats t a) (slice_index_or mails t []))
+        → IsKnown (later t) (later_looks t) (times t []) (IsStill gives takes (slice_index_or seats t a) (slice_index_or mails t []))
+    at t below a (inl is) = elim (acts t below is) [
+      | inl on ↦ inl on
+      | inr (inl on) ↦ inr (inl on)
+      | inr (inr still) ↦ inr (inr (inr (still a)))
+    ]
+    at t below a (inr (inl is)) = elim (checks t below is) [
+      | inl on ↦ inl on
+      | inr on ↦ inr (inl on)
+    ]
+    at t below a (inr (inr (inl waits))) = absurd (omega (arith, waits))
+    at t below a (inr (inr (inr still))) = inr (inr (inr still))
+
+module _ {L : Type 0} (gives takes : L → Bool) (seats : List (Attendant L)) (mails : List (List Answer)) where
+  -- The first seat of the queue is visited.
+  pub known_taken : (l later : Listing) (i : ℕ) → later.seats ≡ l.seats → l.queue ≡ i ∷ later.queue → later.free ≡ l.free
+      → AreKnownTo gives takes l None seats mails → AreKnownTo gives takes later (Some i) seats mails
+  known_taken l later i same_seats first free k =
+      known_as gives takes l.seats later.seats (is_listed l None) (is_looking l) (is_listed later (Some i)) (is_looking later) seats mails same_seats
+      (λ t looks on. k.apart t (subst (λ f. is_on f t ≡ true) free looks)
+      (or_left (is_on l.queue t) false (subst (λ q. is_on q t ≡ true) (sym first) (on_cons_back i later.queue t on))))
+      (λ t looks. inl (subst (λ f. is_on f t ≡ true) free looks))
+      (λ t below on. inl (on_cons i later.queue t (subst (λ q. is_on q t ≡ true) first (left_only (is_on l.queue t) on))))
+      (λ t below looks. inr (subst (λ f. is_on f t ≡ true) (sym free) looks))
+      k
+    where
+      left_only : (b : Bool) → (b || false) ≡ true → b ≡ true
+      left_only true e = refl
+      left_only false e = absurd cc
+
+  -- A seat of the queue is visited, and stays in the queue.
+  pub known_at : (l later : Listing) (i : ℕ) → later.seats ≡ l.seats → is_on l.queue i ≡ true → later.queue ≡ l.queue
+      → later.free ≡ l.free
+      → AreKnownTo gives takes l None seats mails → AreKnownTo gives takes later (Some i) seats mails
+  known_at l later i same_seats there queue free k =
+      known_as gives takes l.seats later.seats (is_listed l None) (is_looking l) (is_listed later (Some i)) (is_looking later) seats mails same_seats
+      (λ t looks on. k.apart t (subst (λ f. is_on f t ≡ true) free looks) (or_left (is_on l.queue t) false (at t (either _ _ on))))
+      (λ t looks. inl (subst (λ f. is_on f t ≡ true) free looks))
+      (λ t below on. inl (or_left (is_on later.queue t) (i == t) (subst (λ q. is_on q t ≡ true) (sym queue) (left_only (is_on l.queue t) on))))
+      (λ t below looks. inr (subst (λ f. is_on f t ≡ true) (sym free) looks))
+      k
+    where
+      left_only : (b : Bool) → (b || false) ≡ true → b ≡ true
+      left_only true e = refl
+      left_only false e = absurd cc
+
+      at : (t : ℕ) → (is_on later.queue t ≡ true) ⊎ ((i == t) ≡ true) → is_on l.queue t ≡ true
+      at t (inl on) = subst (λ q. is_on q t ≡ true) queue on
+      at t (inr same) = subst (λ n. is_on l.queue n ≡ true) (same_is i t same) there
+
+  -- A seat that checks for a client is taken out, as the one that is visited.
+  pub known_checks : (l later : Listing) (i : ℕ) → later.seats ≡ l.seats → l.free ≡ later.free ++ i ∷ []
+      → times i later.free ≡ 0 → later.queue ≡ l.queue
+      → AreKnownTo gives takes l None seats mails → AreKnownTo gives takes later (Some i) seats mails
+  known_checks l later i same_seats last gone queue k =
+      known_as gives takes l.seats later.seats (is_listed l None) (is_looking l) (is_listed later (Some i)) (is_looking later) seats mails same_seats
+      (λ t looks on. apart t looks (either _ _ on))
+      (λ t looks. inl (more t looks))
+      (λ t below on. inl (or_left (is_on later.queue t) (i == t) (subst (λ q. is_on q t ≡ true) (sym queue) (left_only (is_on l.queue t) on))))
+      (λ t below looks. less t looks (eqb_tells i t))
+      k
+    where
+      left_only : (b : Bool) → (b || false) ≡ true → b ≡ true
+      left_only true e = refl
+      left_only false e = absurd cc
+
+      more : (t : ℕ) → is_on later.free t ≡ true → is_on l.free t ≡ true
+      more t on = some_on l.free t (subst (λ f. 0 < times t f) (sym last) (omega (arith, times_push t later.free i, on_some later.free t on)))
+
+      apart : (t : ℕ) → is_on later.free t ≡ true → (is_on later.queue t ≡ true) ⊎ ((i == t) ≡ true) → ⊥
+      apart t looks (inl on) = k.apart t (more t looks) (or_left (is_on l.queue t) false (subst (λ q. is_on q t ≡ true) queue on))
+      apart t looks (inr same) = on_none later.free t (subst (λ n. times n later.free ≡ 0) (same_is i t same) gone) looks
+
+      less : (t : ℕ) → is_on l.free t ≡ true → ((i == t) ≡ true) × (i ≡ t) ⊎ ((i == t) ≡ false) × (i ≢ t)
+          → (is_listed later (Some i) t ≡ true) ⊎ (is_on later.free t ≡ true)
+      less t on (inl (test, _)) = inl (or_right (is_on later.queue t) (i == t) test)
+      less t on (inr (test, _)) =
+          let none : one_if (i == t) ≡ 0 = ap one_if test in
+          let there : 0 < times t (later.free ++ i ∷ []) = on_some (later.free ++ i ∷ []) t (subst (λ f. is_on f t ≡ true) last on) in
+          inr (some_on later.free t (omega (arith, times_push t later.free i, there, none)))
+
+  -- The next seat is visited.
+  pub known_next : (l later : Listing) (i : ℕ) → IsTaken i l later
+      → AreKnownTo gives takes l None seats mails → AreKnownTo gives takes later (Some i) seats mails
+  known_next l later i is k = elim is.queue [
+    | inl first ↦ known_taken l later i is.seats first is.free k
+    | inr stays ↦ known_at l later i is.seats stays.0 stays.1 is.free k
+  ]
+
+  pub known_same : (l later : Listing) (visited : Option ℕ) → AreSameLists l later
+      → AreKnownTo gives takes l visited seats mails → AreKnownTo gives takes later visited seats mails
+  known_same l later visited same k =
+      known_as gives takes l.seats later.seats (is_listed l visited) (is_looking l) (is_listed later visited) (is_looking later) seats mails
+      same.seats
+      (λ t looks on. k.apart t (subst (λ f. is_on f t ≡ true) same.free looks)
+      (subst (λ q. (is_on q t || is_visited visited t) ≡ true) same.queue on))
+      (λ t looks. inl (subst (λ f. is_on f t ≡ true) same.free looks))
+      (λ t below on. inl (subst (λ q. (is_on q t || is_visited visited t) ≡ true) (sym same.queue) on))
+      (λ t below looks. inr (subst (λ f. is_on f t ≡ true) (sym same.free) looks))
+      k
+
+  -- The visited seat goes to the queue.
+  pub known_enqueued : (l : Listing) (i : ℕ)
+      → AreKnownTo gives takes l (Some i) seats mails → AreKnownTo gives takes (enqueued i l) None seats mails
+  known_enqueued l i k =
+      known_as gives takes l.seats later.seats (is_listed l (Some i)) (is_looking l) (is_listed later None) (is_looking later) seats mails
+      same_seats
+      (λ t looks on. k.apart t (subst (λ f. is_on f t ≡ true) (enqueued_free i l) looks) (before t (enqueued_only i l t (left_only _ on))))
+      (λ t looks. inl (subst (λ f. is_on f t ≡ true) (enqueued_free i l) looks))
+      (λ t below on. inl (or_left (is_on later.queue t) false (after t below (either _ _ on))))
+      (λ t below looks. inr (subst (λ f. is_on f t ≡ true) (sym (enqueued_free i l)) looks))
+      k
+    where
+      later : Listing
+      later = enqueued i l
+
+      same_seats : later.seats ≡ l.seats
+      same_seats = enqueued_seats i l
+
+      left_only : (b : Bool) → (b || false) ≡ true → b ≡ true
+      left_only true e = refl
+      left_only false e = absurd cc
+
+      before : (t : ℕ) → (is_on l.queue t ≡ true) ⊎ ((i ≡ t) × (times i l.free ≡ 0)) → is_listed l (Some i) t ≡ true
+      before t (inl on) = or_left (is_on l.queue t) (i == t) on
+      before t (inr (same, _)) = or_right (is_on l.queue t) (i == t) (is_same i t same)
+
+      after : (t : ℕ) → t < length seats → (is_on l.queue t ≡ true) ⊎ ((i == t) ≡ true) → is_on later.queue t ≡ true
+      after t below (inl on) = enqueued_keeps i l t on
+      after t below (inr same) =
+          let is : i ≡ t = same_is i t same in
+          subst (λ n. is_on later.queue n ≡ true) is
+          (enqueued_lists i l (omega (arith, below, k.all, is)) (λ looks. k.apart i looks (or_right (is_on l.queue i) (i == i) (is_same i i refl))))
+
+  -- The visited seat found no client, and is between two lines.
+  pub known_freed : (l : Listing) (i : ℕ) → ((a : Attendant L) → (slice_index_or seats i a).place ≡ places.Between)
+      → AreKnownTo gives takes l (Some i) seats mails → AreKnownTo gives takes (freed i l) None seats mails
+  known_freed l i between k =
+      known_as gives takes l.seats later.seats (is_listed l (Some i)) (is_looking l) (is_listed later None) (is_looking later) seats mails
+      same_seats
+      (λ t looks on. apart t (subst (λ q. is_on q t ≡ true) same_queue (left_only _ on)) (freed_only_if (is_nowhere i l) i l t looks))
+      (λ t looks. looked t (freed_only_if (is_nowhere i l) i l t looks))
+      (λ t below on. after t below (either _ _ on))
+      (λ t below looks. inr (freed_keeps_if (is_nowhere i l) i l t looks))
+      k
+    where
+      later : Listing
+      later = freed i l
+
+      same_seats : later.seats ≡ l.seats
+      same_seats = freed_seats_if (is_nowhere i l) i l
+
+      same_queue : later.queue ≡ l.queue
+      same_queue = freed_queue_if (is_nowhere i l) i l
+
+      left_only : (b : Bool) → (b || false) ≡ true → b ≡ true
+      left_only true e = refl
+      left_only false e = absurd cc
+
+      apart : (t : ℕ) → is_on l.queue t ≡ true → (is_on l.free t ≡ true) ⊎ ((is_nowhere i l ≡ true) × (i ≡ t)) → ⊥
+      apart t on (inl looks) = k.apart t looks (or_left (is_on l.queue t) (i == t) on)
+      apart t on (inr (lost, same)) =
+          let there : 0 < times i l.queue = subst (λ n. 0 < times n l.queue) (sym same) (on_some l.queue t on) in
+          omega (arith, nowhere_none i l lost, there)
+
+      looked : (t : ℕ) → (is_on l.free t ≡ true) ⊎ ((is_nowhere i l ≡ true) × (i ≡ t))
+          → (is_looking l t ≡ true) ⊎ ((a : Attendant L) → (slice_index_or seats t a).place ≡ places.Between)
+      looked t (inl looks) = inl looks
+      looked t (inr (_, same)) = inr (λ a. subst (λ n. (slice_index_or seats n a).place ≡ places.Between) same (between a))
+
+      there : (t : ℕ) → i ≡ t → (is_on l.queue i ≡ true) ⊎ (is_on later.free i ≡ true)
+          → (is_listed later None t ≡ true) ⊎ (is_looking later t ≡ true)
+          ⊎ ((a : Attendant L) → IsStill gives takes (slice_index_or seats t a) (slice_index_or mails t []))
+      there t is (inl on) =
+          inl (or_left (is_on later.queue t) false (subst (λ q. is_on q t ≡ true) (sym same_queue) (subst (λ n. is_on l.queue n ≡ true) is on)))
+      there t is (inr on) = inr (inl (subst (λ n. is_on later.free n ≡ true) is on))
+
+      after : (t : ℕ) → t < length seats → (is_on l.queue t ≡ true) ⊎ ((i == t) ≡ true)
+          → (is_listed later None t ≡ true) ⊎ (is_looking later t ≡ true)
+          ⊎ ((a : Attendant L) → IsStill gives takes (slice_index_or seats t a) (slice_index_or mails t []))
+      after t below (inl on) = inl (or_left (is_on later.queue t) false (subst (λ q. is_on q t ≡ true) (sym same_queue) on))
+      after t below (inr same) =
+          let is : i ≡ t = same_is i t same in
+          there t is (freed_lists_if (is_nowhere i l) i l (λ e. somewhere i l (omega (arith, below, k.all, is)) e))
+
+  -- Nothing moves at the visited seat.
+  pub known_rests : (l : Listing) (i : ℕ)
+      → ((a : Attendant L) → IsStill gives takes (slice_index_or seats i a) (slice_index_or mails i []))
+      → AreKnownTo gives takes l (Some i) seats mails → AreKnownTo gives takes l None seats mails
+  known_rests l i still k =
+      known_as gives takes l.seats l.seats (is_listed l (Some i)) (is_looking l) (is_listed l None) (is_looking l) seats mails refl
+      (λ t looks on. k.apart t looks (or_left (is_on l.queue t) (i == t) (left_only _ on)))
+      (λ t looks. inl looks)
+      (λ t below on. after t (either _ _ on))
+      (λ t below looks. inr looks)
+      k
+    where
+      left_only : (b : Bool) → (b || false) ≡ true → b ≡ true
+      left_only true e = refl
+      left_only false e = absurd cc
+
+      after : (t : ℕ) → (is_on l.queue t ≡ true) ⊎ ((i == t) ≡ true) → (is_listed l None t ≡ true) ⊎ (is_looking l t ≡ true)
+          ⊎ ((a : Attendant L) → IsStill gives takes (slice_index_or seats t a) (slice_index_or mails t []))
+      after t (inl on) = inl (or_left (is_on l.queue t) false on)
+      after t (inr same) =
+          inr (inr (λ a. subst (λ n. IsStill gives takes (slice_index_or seats n a) (slice_index_or mails n [])) (same_is i t same) (still a)))
+
+  -- Nothing moves at any seat if no seat is on the queue, and no seat checks for a client that may
+  -- have come.
+  pub known_still : (l : Listing) (may_come : Bool) → l.queue ≡ [] → (l.free ≡ []) ⊎ (may_come ≡ false)
+      → AreKnownTo gives takes l None seats mails → AreStill gives takes may_come seats mails
+  known_still l may_come none nobody k t below a = at nobody (k.known t below a) where
+    empty : (xs : List ℕ) → xs ≡ [] → is_on xs t ≡ true → ⊥
+    empty xs e on = on_none xs t (ap (times t) e) on
+
+    left_only : (b : Bool) → (b || false) ≡ true → b ≡ true
+    left_only true e = refl
+    left_only false e = absurd cc
+
+    at : (l.free ≡ []) ⊎ (may_come ≡ false)
+        → IsKnown (is_listed l None t) (is_looking l t) (times t []) (IsStill gives takes (slice_index_or seats t a) (slice_index_or mails t []))
+        → IsStill gives takes (slice_index_or seats t a) (slice_index_or mails t [])
+        ⊎ (((slice_index_or seats t a).place ≡ places.Between) × (may_come ≡ false))
+    at any (inl on) = absurd (empty l.queue none (left_only _ on))
+    at (inl free) (inr (inl looks)) = absurd (empty l.free free looks)
+    at (inr not_now) (inr (inl looks)) = inr (k.looking t below looks a, not_now)
+    at any (inr (inr (inl waits))) = absurd (omega (arith, waits))
+    at any (inr (inr (inr still))) = inl still
+
+module _ {L : Type 0} (gives takes : L → Bool) where
+  -- A seat that the turns let act was changed.
+  pub known_changed : (many : ℕ) (listed looks : ℕ → Bool) (woken : List ℕ) (i : ℕ) (seats later : List (Attendant L))
+      (mails : List (List Answer)) → listed i ≡ true → ChangesOnly i seats later
+      → AreKnown gives takes many listed looks woken seats mails → AreKnown gives takes many listed looks woken later mails
+  known_changed many listed looks woken i seats later mails acts only k = record {
+    all = omega (arith, only.many, k.all);
+    apart = k.apart;
+    looking = λ t below is a. place t (omega (arith, only.many, below)) is a (eqb_tells t i);
+    known = λ t below a. known t (omega (arith, only.many, below)) a (eqb_tells t i);
+  }
+    where
+      place : (t : ℕ) → t < length seats → looks t ≡ true → (a : Attendant L)
+          → ((t == i) ≡ true) × (t ≡ i) ⊎ ((t == i) ≡ false) × (t ≢ i) → (slice_index_or later t a).place ≡ places.Between
+      place t below is a (inl (_, same)) = absurd (k.apart t is (subst (λ n. listed n ≡ true) (sym same) acts))
+      place t below is a (inr (_, differs)) = ap (λ z. z.place) (only.others t differs a) ∙ k.looking t below is a
+
+      known : (t : ℕ) → t < length seats → (a : Attendant L) → ((t == i) ≡ true) × (t ≡ i) ⊎ ((t == i) ≡ false) × (t ≢ i)
+          → IsKnown (listed t) (looks t) (times t woken) (IsStill gives takes (slice_index_or later t a) (slice_index_or mails t []))
+      known t below a (inl (_, same)) = inl (subst (λ n. listed n ≡ true) (sym same) acts)
+      known t below a (inr (_, differs)) =
+          subst (λ z. IsKnown (listed t) (looks t) (times t woken) (IsStill gives takes z (slice_index_or mails t [])))
+          (sym (only.others t differs a)) (k.known t below a)
+
+  -- The system reported something of a seat, which is enqueued.
+  pub known_noted : (l : Listing) (i : ℕ) (seats later : List (Attendant L)) (mails : List (List Answer)) → ChangesOnly i seats later
+      → ((a : Attendant L) → (slice_index_or seats i a).place ≡ places.Between → (slice_index_or later i a).place ≡ places.Between)
+      → AreKnownTo gives takes l None seats mails → AreKnownTo gives takes (enqueued i l) None later mails
+  known_noted l i seats later mails only between k = record {
+    all = omega (arith, only.many, k.all, enqueued_seats i l);
+    apart = λ t looks on. k.apart t (subst (λ f. is_on f t ≡ true) (enqueued_free i l) looks)
+        (or_left (is_on l.queue t) false (before t looks (enqueued_only i l t (left_only _ on))));
+    looking = λ t below is a. place t (omega (arith, only.many, below)) (subst (λ f. is_on f t ≡ true) (enqueued_free i l) is) a (eqb_tells t i);
+    known = λ t below a. known t (omega (arith, only.many, below)) a (eqb_tells t i);
+  }
+    where
+      left_only : (b : Bool) → (b || false) ≡ true → b ≡ true
+      left_only true e = refl
+      left_only false e = absurd cc
+
+      before : (t : ℕ) → is_on (enqueued i l).free t ≡ true → (is_on l.queue t ≡ true) ⊎ ((i ≡ t) × (times i l.free ≡ 0))
+          → is_on l.queue t ≡ true
+      before t looks (inl on) = on
+      before t looks (inr (same, none)) =
+          absurd (on_none l.free t (subst (λ n. times n l.free ≡ 0) same none) (subst (λ f. is_on f t ≡ true) (enqueued_free i l) looks))
+
+      place : (t : ℕ) → t < length seats → is_looking l t ≡ true → (a : Attendant L)
+          → ((t == i) ≡ true) × (t ≡ i) ⊎ ((t == i) ≡ false) × (t ≢ i) → (slice_index_or later t a).place ≡ places.Between
+      place t below is a (inl (_, same)) =
+          subst (λ n. (slice_index_or later n a).place ≡ places.Between) (sym same)
+          (between a (subst (λ n. (slice_index_or seats n a).place ≡ places.Between) same (k.looking t below is a)))
+      place t below is a (inr (_, differs)) = ap (λ z. z.place) (only.others t differs a) ∙ k.looking t below is a
+
+      mine : (t : ℕ) → t < length seats → (a : Attendant L) → t ≡ i → (is_on l.free i ≡ true) ⊎ (is_on l.free i ≡ false)
+          → IsKnown (is_listed (enqueued i l) None t) (is_looking (enqueued i l) t) (times t [])
+          (IsStill gives takes (slice_index_or later t a) (slice_index_or mails t []))
+      mine t below a same (inl looks) =
+          inr (inl (subst (λ n. is_on (enqueued i l).free n ≡ true) (sym same) (subst (λ f. is_on f i ≡ true) (sym (enqueued_free i l)) looks)))
+      mine t below a same (inr nor) =
+          inl (or_left (is_on (enqueued i l).queue t) false
+          (subst (λ n. is_on (enqueued i l).queue n ≡ true) (sym same)
+          (enqueued_lists i l (omega (arith, below, k.all, same)) (λ looks. let e : true ≡ false = sym looks ∙ nor in absurd cc))))
+
+      known : (t : ℕ) → t < length seats → (a : Attendant L) → ((t == i) ≡ true) × (t ≡ i) ⊎ ((t == i) ≡ false) × (t ≢ i)
+          → IsKnown (is_listed (enqueued i l) None t) (is_looking (enqueued i l) t) (times t [])
+          (IsStill gives takes (slice_index_or later t a) (slice_index_or mails t []))
+      known t below a (inl (_, same)) = mine t below a same (cases_Bool (is_on l.free i))
+      known t below a (inr (_, differs)) =
+          subst (λ z. IsKnown (is_listed (enqueued i l) None t) (is_looking (enqueued i l) t) (times t [])
+          (IsStill gives takes z (slice_index_or mails t []))) (sym (only.others t differs a)) (other (k.known t below a))
+        where
+          other : IsKnown (is_listed l None t) (is_looking l t) (times t []) (IsStill gives takes (slice_index_or seats t a) (slice_index_or mails t []))
+              → IsKnown (is_listed (enqueued i l) None t) (is_looking (enqueued i l) t) (times t [])
+              (IsStill gives takes (slice_index_or seats t a) (slice_index_or mails t []))
+          other (inl on) = inl (or_left (is_on (enqueued i l).queue t) false (enqueued_keeps i l t (left_only _ on)))
+          other (inr (inl looks)) = inr (inl (subst (λ f. is_on f t ≡ true) (sym (enqueued_free i l)) looks))
+          other (inr (inr rest)) = inr (inr rest)

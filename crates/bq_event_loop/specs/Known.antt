@@ -1,0 +1,91 @@
+-- The seats that the turns of a loop let act before they sleep.
+use Rattle.std.specs.Prelude.{ℕ, ◌≡◌, ◌≢◌, ◌<◌, ◌≤◌, ◌⊎◌, ◌==◌, ◌||◌, not, Bool, true, false, List, [], ◌∷◌, length, Option, Some, None, slice_index_or}
+use Rattle.bq_job.specs.declared.answer.Answer.{Answer}
+use Rattle.bq_line.specs.declared.attendant.Attendant.{Attendant}
+use Rattle.bq_line.specs.declared.attendant.LinePlace.TheVariants as places
+use Rattle.bq_event_loop.specs.Listings.{Listing}
+use Rattle.bq_event_loop.specs.Marks.{times}
+use Rattle.bq_event_loop.specs.Still.{IsStill}
+use Rattle.bq_event_loop.specs.declared.turns.Turn.{Turn}
+use Rattle.bq_event_loop.specs.declared.turns.Turn.TheVariants as turns
+
+-- The seat acts before the turns sleep, or it checks for a client before they sleep if one may have
+-- come, or it is to be woken, or nothing moves at it.
+abbrev pub IsKnown : Bool → Bool → ℕ → Type 0 → Type 0
+IsKnown listed looks waits Still = (listed ≡ true) ⊎ (looks ≡ true) ⊎ (0 < waits) ⊎ Still
+
+-- No seat that checks for a client is one that acts.
+abbrev pub AreApart : (ℕ → Bool) → (ℕ → Bool) → Type 0
+AreApart listed looks = (seat : ℕ) → looks seat ≡ true → listed seat ≡ true → ⊥
+
+-- No seat is forgotten. The turns, which know this many seats, let `listed` act, and let `looks`
+-- check for a client. These seats are to be woken.
+pub record AreKnown {L : Type 0} (gives takes : L → Bool) (many : ℕ) (listed looks : ℕ → Bool) (woken : List ℕ)
+    (seats : List (Attendant L)) (mails : List (List Answer)) : Type 0 where
+  pub all : length seats ≤ many
+  pub apart : AreApart listed looks
+  pub looking : (seat : ℕ) → seat < length seats → looks seat ≡ true → (a : Attendant L) → (slice_index_or seats seat a).place ≡ places.Between
+  pub known : (seat : ℕ) → seat < length seats → (a : Attendant L)
+      → IsKnown (listed seat) (looks seat) (times seat woken) (IsStill gives takes (slice_index_or seats seat a) (slice_index_or mails seat []))
+
+-- Nothing moves at any seat: its next action would move nothing, or it checks for a client, and none
+-- can have come.
+abbrev pub AreStill : {L : Type 0} → (L → Bool) → (L → Bool) → Bool → List (Attendant L) → List (List Answer) → Type 0
+AreStill {L} gives takes may_come seats mails = (seat : ℕ) → seat < length seats → (a : Attendant L)
+    → IsStill gives takes (slice_index_or seats seat a) (slice_index_or mails seat [])
+    ⊎ (((slice_index_or seats seat a).place ≡ places.Between) × (may_come ≡ false))
+
+-- At most this seat was changed.
+pub record ChangesOnly {L : Type 0} (one : ℕ) (old new : List (Attendant L)) : Type 0 where
+  pub many : length new ≡ length old
+  pub others : (seat : ℕ) → seat ≢ one → (a : Attendant L) → slice_index_or new seat a ≡ slice_index_or old seat a
+
+-- A seat that acts in a turn is one that the turns let act.
+abbrev pub IsListedIn : (ℕ → Bool) → Turn → Type 0
+IsListedIn listed (turns.Seat seat) = listed seat ≡ true
+IsListedIn listed (turns.Command seat) = listed seat ≡ true
+IsListedIn listed _ = Unit {0}
+
+-- All that were let act still are.
+abbrev pub KeepsAll : (ℕ → Bool) → (ℕ → Bool) → Type 0
+KeepsAll old new = (seat : ℕ) → old seat ≡ true → new seat ≡ true
+
+abbrev pub is_on : List ℕ → ℕ → Bool
+is_on xs seat = not (times seat xs == 0)
+
+abbrev pub is_visited : Option ℕ → ℕ → Bool
+is_visited None seat = false
+is_visited (Some visited) seat = visited == seat
+
+-- in the queue, or visited now
+abbrev pub is_listed : Listing → Option ℕ → ℕ → Bool
+is_listed l visited seat = is_on l.queue seat || is_visited visited seat
+
+abbrev pub is_looking : Listing → ℕ → Bool
+is_looking l seat = is_on l.free seat
+
+-- The same for a queue of seats and the seat that is visited. None is to be woken.
+abbrev pub AreKnownTo : {L : Type 0} → (L → Bool) → (L → Bool) → Listing → Option ℕ → List (Attendant L) → List (List Answer) → Type 0
+AreKnownTo gives takes l visited seats mails = AreKnown gives takes l.seats (is_listed l visited) (is_looking l) [] seats mails
+
+-- Both lists have the same seats.
+pub record AreSameLists (old new : Listing) : Type 0 where
+  pub seats : new.seats ≡ old.seats
+  pub queue : new.queue ≡ old.queue
+  pub free : new.free ≡ old.free
+
+-- A seat of the queue is the next to be visited. It is taken out, or it stays.
+pub record IsTaken (seat : ℕ) (old new : Listing) : Type 0 where
+  pub seats : new.seats ≡ old.seats
+  pub free : new.free ≡ old.free
+  pub queue : (old.queue ≡ seat ∷ new.queue) ⊎ ((is_on old.queue seat ≡ true) × (new.queue ≡ old.queue))
+
+abbrev pub IsNextOf : Option ℕ → Listing → Listing → Type 0
+IsNextOf None old new = AreSameLists old new
+IsNextOf (Some seat) old new = IsTaken seat old new
+
+-- Turns that know these seats at first: each of them acts, or checks for a client.
+pub record KnowsAll (seats many : ℕ) (listed looks : ℕ → Bool) : Type 0 where
+  pub all : seats ≤ many
+  pub apart : AreApart listed looks
+  pub each : (seat : ℕ) → seat < seats → (listed seat ≡ true) ⊎ (looks seat ≡ true)

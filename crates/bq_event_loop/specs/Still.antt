@@ -1,0 +1,29 @@
+-- Seats at which nothing moves.
+use Rattle.std.specs.Prelude.{◌≡◌, ◌⊎◌, ◌&&◌, Bool, false, List, []}
+use Rattle.bq_job.specs.declared.answer.Answer.{Answer}
+use Rattle.bq_line.specs.declared.attendant.Attendant.{Attendant}
+use Rattle.bq_line.specs.declared.attendant.LinePlace.{LinePlace}
+use Rattle.bq_line.specs.declared.attendant.LinePlace.TheVariants as places
+use Rattle.bq_seat.specs.Outstanding.{ReadsWith}
+use Rattle.bq_seat.specs.SeatParts.{would_read}
+use Rattle.bq_seat.specs.declared.machine.Action.{Action}
+use Rattle.bq_seat.specs.declared.machine.Action.TheVariants as actions
+use Rattle.bq_seat.specs.declared.machine.SeatMachine.{SeatMachine}
+
+-- This action would move nothing. The line gives bytes and takes bytes, as far as it knows, and
+-- these answers wait for the seat. A seat that polls its mail may read afterwards.
+abbrev pub IsStillOn : Action → SeatMachine → Bool → Bool → List Answer → Type 0
+IsStillOn actions.Read machine gives takes mail = (gives ≡ false) × ((mail ≡ []) ⊎ ReadsWith false machine)
+IsStillOn actions.PollMail machine gives takes mail = (mail ≡ []) × ((gives && would_read machine) ≡ false)
+IsStillOn (actions.Write answer) machine gives takes mail = takes ≡ false
+IsStillOn _ machine gives takes mail = ⊥
+
+abbrev pub IsStillAt : {L : Type 0} → (L → Bool) → (L → Bool) → SeatMachine → LinePlace L → List Answer → Type 0
+IsStillAt gives takes machine (places.On line action sent) mail = IsStillOn action machine (gives line) (takes line) mail
+IsStillAt gives takes machine places.Done mail = Unit {0}
+IsStillAt gives takes machine _ mail = ⊥
+
+-- The next action of a seat would move nothing, and so would the one after it. A seat between two
+-- lines, or one that has to submit that no more lines come, is not still.
+abbrev pub IsStill : {L : Type 0} → (L → Bool) → (L → Bool) → Attendant L → List Answer → Type 0
+IsStill gives takes a mail = IsStillAt gives takes a.machine a.place mail

@@ -1,0 +1,56 @@
+//! Whether nothing moves at a seat until its line is ready or it has mail.
+ghost use Rattle.std.specs.Prelude.{◌≡◌, ◌⊎◌, ◌&&◌, [], true, false, List};
+ghost use Rattle.bq_job.specs.declared.answer.Answer.{Answer};
+ghost use Rattle.bq_seat.specs.Outstanding.{ReadsWith};
+ghost use Rattle.bq_seat.specs.SeatParts.{would_read};
+ghost use Rattle.bq_event_loop.specs.Still.{IsStill, IsStillOn};
+
+use bq_line::attendant::{Attendant, LinePlace};
+use bq_line::line::Line;
+use bq_seat::{Action, SeatMachine};
+
+/// Returns true if the next action of a seat would move nothing, and so would the one after it.
+/// `has_none` says that it has no mail now.
+pub fn is_still<L: Line + Drop>(seat: &Attendant<L>, has_none: bool) -> bool
+    ensures { result ≡ true → (mail : List Answer) → (has_none ≡ true → mail ≡ []) → IsStill L.may_give L.may_take seat.now mail }
+{
+    match &seat.place {
+        LinePlace::On(line, action, _) => is_still_on(action, &seat.machine, line, has_none),
+        LinePlace::Done => true,
+        LinePlace::Between | LinePlace::Leaving => false,
+    }
+}
+
+fn is_still_on<L: Line>(action: &Action, machine: &SeatMachine, line: &L, has_none: bool) -> bool
+    ensures { result ≡ true → (mail : List Answer) → (has_none ≡ true → mail ≡ [])
+        → IsStillOn action.now machine.now (L.may_give line.now) (L.may_take line.now) mail }
+{
+    match action {
+        Action::Read => reads_nothing(machine, line, has_none),
+        Action::PollMail => polls_nothing(machine, line, has_none),
+        Action::Write(_) => !line.may_take(),
+        _ => false,
+    }
+}
+
+// Returns true if the line has no bytes, and no answer that a read would delay waits.
+fn reads_nothing<L: Line>(machine: &SeatMachine, line: &L, has_none: bool) -> bool
+    ensures gives { result ≡ true → L.may_give line.now ≡ false }
+    ensures mail { result ≡ true → (has_none ≡ true) ⊎ ReadsWith false machine.now }
+{
+    if line.may_give() {
+        return false;
+    }
+    has_none || !machine.has_outstanding()
+}
+
+// Returns true if there is no mail, and the read after it would find no bytes.
+fn polls_nothing<L: Line>(machine: &SeatMachine, line: &L, has_none: bool) -> bool
+    ensures none { result ≡ true → has_none ≡ true }
+    ensures reads { result ≡ true → (L.may_give line.now && would_read machine.now) ≡ false }
+{
+    if !has_none {
+        return false;
+    }
+    !line.may_give() || !machine.would_read()
+}
