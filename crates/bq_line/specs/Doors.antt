@@ -23,6 +23,14 @@ IsLookedFor seen is_out is_at_end (Ok openings.Later) = (is_out ≡ false) × (i
 IsLookedFor seen is_out is_at_end (Ok openings.NoMore) = (is_out ≡ false) × (is_at_end ≡ true)
 IsLookedFor seen is_out is_at_end (Err e) = (is_out ≡ false) × (is_at_end ≡ true)
 
+-- No line was opened, and no fault was met.
+abbrev pub IsNoneFound : {L E : Type 0} → Result (Opening L) E → Type 0
+IsNoneFound (Ok (openings.Line line)) = ⊥
+IsNoneFound (Ok openings.NotYet) = Unit {0}
+IsNoneFound (Ok openings.Later) = Unit {0}
+IsNoneFound (Ok openings.NoMore) = Unit {0}
+IsNoneFound (Err e) = ⊥
+
 -- No more lines come.
 abbrev pub IsNoMore : {L : Type 0} → Opening L → Type 0
 IsNoMore openings.NoMore = Unit {0}

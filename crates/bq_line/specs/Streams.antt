@@ -1,5 +1,5 @@
 -- The state of a stream in both directions, what a line over it moved, and why it may have failed.
-use Rattle.std.specs.Prelude.{ℕ, ◌≡◌, ◌<◌, Bool, false, true, List, length, Option, None, Result, Ok, Err, IfSome}
+use Rattle.std.specs.Prelude.{ℕ, ◌≡◌, ◌<◌, Bool, false, true, List, length, Option, None, Some, Result, Ok, Err, IfSome}
 use Rattle.std.specs.Io.{ReadsAtMost, WritesAtMost}
 use Rattle.std.specs.Io.KnownBytes.{Appends, Consumes, Keeps, ReadConsumes, WriteAppends}
 use Rattle.bq_job.specs.promise.LineSteps.{LineSeen}
@@ -38,6 +38,17 @@ ReadsFrom left later result buf = ReadsAtMost result buf × ReadConsumes left la
 -- leaves what it held as it was.
 abbrev pub WritesTo : {E : Type 0} → Option (List ℕ) → Option (List ℕ) → Result ℕ E → List ℕ → Type 0
 WritesTo held later result buf = WritesAtMost result buf × WriteAppends held later result buf
+
+-- Whether its calls wait is as before.
+abbrev pub KeepsWaits : {S : Type 0} → (Bool → S → Bool) → S → S → Type 0
+KeepsWaits is_nonblocking old new = (nonblocking : Bool) → is_nonblocking nonblocking new ≡ is_nonblocking nonblocking old
+
+-- A stream that is watched, whose readiness is known, stays watched, and whether its calls wait is as
+-- before.
+abbrev pub StaysWatched : {S A : Type 0} → (Bool → S → Bool) → Option A → S → Option A → S → Type 0
+StaysWatched is_nonblocking None old now new = Unit {0}
+StaysWatched is_nonblocking (Some known) old None new = ⊥
+StaysWatched is_nonblocking (Some known) old (Some now) new = KeepsWaits is_nonblocking old new
 
 -- No byte was read from the stream, and none was written to it.
 abbrev pub MovesNothing : {S : Type 0} → (S → Option (List ℕ)) → (S → Option (List ℕ)) → S → S → Type 0

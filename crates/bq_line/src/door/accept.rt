@@ -83,7 +83,7 @@ pub(super) enum Accepted<S> {
     Short,
 }
 
-/// Accepts the next connection of a listener that does not wait, and has it watched. `is_met` is
+/// Accepts the next connection of a listener that was set not to wait, and has it watched. `is_met` is
 /// true if an error occurred since the last connection was accepted; such an error is reported
 /// once, and so are many clients in a row that had disconnected.
 pub(super) fn accept_now<R: Eprint, T: Listen, W: Watcher>(
@@ -98,10 +98,10 @@ pub(super) fn accept_now<R: Eprint, T: Listen, W: Watcher>(
     let mut met = Met::before(refusals, *is_met);
     for _ in 0..PEERS {
         match listener.accept() {
-            Ok((mut stream, _peer)) => {
-                // Neither can be set if the peer has disconnected.
-                if stream.set_nodelay(true).is_ok() && stream.set_nonblocking(true).is_ok() {
-                    return Ok(take_watched(rt, stream, watcher, met, is_met));
+            Ok((stream, _peer)) => {
+                // It is none if the peer has disconnected.
+                if let Some(connection) = Connection::watched(stream) {
+                    return Ok(take_watched(rt, connection, watcher, met, is_met));
                 }
             }
             Err(e) => {
@@ -132,16 +132,16 @@ pub(super) fn accept_now<R: Eprint, T: Listen, W: Watcher>(
 // would never be read.
 fn take_watched<R: Eprint, S: Socket + Drop, W: Watcher>(
     rt: &R,
-    stream: S,
+    connection: Connection<S>,
     watcher: &W,
     mut met: Met<'_>,
     is_met: &mut bool,
 ) -> Accepted<S> {
-    match watcher.watch(stream.source()) {
+    match watcher.watch(connection.source()) {
         Ok(()) => {
             met.end();
             *is_met = false;
-            Accepted::Came(Connection::watched(stream))
+            Accepted::Came(connection)
         }
         Err(e) => {
             met.note(rt, &e);
@@ -151,7 +151,7 @@ fn take_watched<R: Eprint, S: Socket + Drop, W: Watcher>(
     }
 }
 
-/// Accepts the next connection of a listener that does not wait, and closes it. Clients that have
+/// Accepts the next connection of a listener that was set not to wait, and closes it. Clients that have
 /// disconnected already are skipped.
 pub(super) fn close_next<T: Listen>(listener: &T) -> TurnedAway {
     for _ in 0..PEERS {

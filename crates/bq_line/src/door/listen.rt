@@ -1,5 +1,5 @@
 //! What a door needs from a listener.
-ghost use Rattle.std.specs.Prelude.{◌≡◌, Bool, IfErr, true};
+ghost use Rattle.std.specs.Prelude.{◌≡◌, Bool, IfErr, OnOk, true};
 ghost use Rattle.bq_line.specs.Accepts.{ends_listener};
 
 use crate::line::Socket;
@@ -15,11 +15,20 @@ pub trait Listen {
     /// True if the listener may break.
     ghost may_fail: { Self → Bool };
 
-    /// Waits for the next connection, and returns it with its peer's address. An error means that
+    /// True if it was set not to wait for a connection. Only a successful switch establishes this.
+    ghost is_nonblocking: { Self → Bool };
+
+    /// Waits for the next connection, unless it was set not to, and returns the connection with its
+    /// peer's address. An error means that
     /// this connection could not be accepted, or that the listener is broken and accepts no more
     /// (`ends_listener`). Only a listener that may break returns an error of the second kind.
     fn accept(&self) -> io::Result<(Self::Stream, SocketAddr)>
         ensures { IfErr result (λ e. ends_listener e ≡ true → may_fail self.now ≡ true) };
+
+    /// Sets whether `accept` returns `WouldBlock` in place of waiting. A call that fails changes
+    /// nothing.
+    fn set_nonblocking(&self, nonblocking: bool) -> io::Result<()>
+        ensures { OnOk result (nonblocking ≡ true → is_nonblocking self.now ≡ true) };
 
     /// Returns the descriptor on which the system reports that a client has connected.
     fn source(&self) -> RawFd;
@@ -34,8 +43,14 @@ impl Listen for TcpListener {
 
     ghost may_fail = { λ listener. true };
 
+    ghost is_nonblocking = { λ listener. true };
+
     fn accept(&self) -> io::Result<(TcpStream, SocketAddr)> {
         TcpListener::accept(self)
+    }
+
+    fn set_nonblocking(&self, nonblocking: bool) -> io::Result<()> {
+        TcpListener::set_nonblocking(self, nonblocking)
     }
 
     fn source(&self) -> RawFd {

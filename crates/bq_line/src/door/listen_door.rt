@@ -1,5 +1,5 @@
 ghost use Rattle.std.specs.Prelude.{◌≡◌, ◌↔◌, [], IfOk, IsNone, IsSome, OnErr, OnOk, Some, false, true};
-ghost use Rattle.bq_line.specs.Doors.{IsLookedFor, IsNoMore, IsOpened, MayOpen};
+ghost use Rattle.bq_line.specs.Doors.{IsLookedFor, IsNoMore, IsNoneFound, IsOpened, MayOpen};
 ghost use Rattle.bq_line.specs.InAll.{in_all};
 
 use super::accept::{Accepted, accept, accept_now, close_next};
@@ -37,6 +37,8 @@ pub struct ListenDoor<'l, R, T> {
     met_fault: bool,
     // True if an accept that does not wait met a shortage since the last connection.
     met_shortage: bool,
+    // True if the listener was set not to wait, which the first look does.
+    never_waits: bool,
     // For proofs only.
     over: LineRecord,
     ghost lent: { is_out ≡ false → IsSome buffer },
@@ -76,6 +78,7 @@ impl<'l, R: Wait + Clock + Eprint, S: Socket + Drop + Send, T: Listen<Stream = S
             is_at_end: false,
             met_fault: false,
             met_shortage: false,
+            never_waits: false,
             over: LineRecord::new(),
         }
     }
@@ -176,6 +179,7 @@ impl<'l, R: Clock + Eprint, T> ListenDoor<'l, R, T> {
         ensures at_end { self.new.is_at_end ≡ self.old.is_at_end }
         ensures fault { self.new.met_fault ≡ self.old.met_fault }
         ensures over { self.new.over ≡ self.old.over }
+        ensures waits { self.new.never_waits ≡ self.old.never_waits }
     {
         self.is_out = true;
         if let Some(left) = self.left {
@@ -185,6 +189,28 @@ impl<'l, R: Clock + Eprint, T> ListenDoor<'l, R, T> {
             unreachable!()
         };
         buffer
+    }
+}
+
+impl<'l, R, T: Listen> ListenDoor<'l, R, T> {
+    // Sets the listener not to wait. Returns false if that fails.
+    fn stop_waiting(&mut self) -> bool
+        ensures set { result ≡ self.new.never_waits }
+        // Only a successful switch changes the recorded state.
+        ensures made { self.new.never_waits ≡ true → self.old.never_waits ≡ false →
+            T.is_nonblocking self.old.listener.now ≡ true }
+        ensures rest { (self.new.left ≡ self.old.left) × (self.new.is_out ≡ self.old.is_out)
+            × (self.new.is_at_end ≡ self.old.is_at_end) × (self.new.over ≡ self.old.over) }
+        ensures listener { self.new.listener ≡ self.old.listener }
+        ensures fault { self.new.met_fault ≡ self.old.met_fault }
+    {
+        if !self.never_waits {
+            if let Err(_) = self.listener.set_nonblocking(true) {
+                return false;
+            }
+            self.never_waits = true;
+        }
+        true
     }
 }
 
@@ -241,7 +267,7 @@ impl<'l, R: Wait + Clock + Eprint, S: Socket + Drop + Send, T: Listen<Stream = S
         }
     }
 
-    // The listener was set not to wait.
+    // The first look sets the listener not to wait.
     fn look<W: Watcher>(
         &mut self,
         may_have_come: bool,
@@ -253,6 +279,11 @@ impl<'l, R: Wait + Clock + Eprint, S: Socket + Drop + Send, T: Listen<Stream = S
         ensures over { self.new.over ≡ self.old.over }
         ensures same { (first : _) → ⟦<ListenDoor<'l, R, T> as Door>⟧.same first self.old →
             ⟦<ListenDoor<'l, R, T> as Door>⟧.same first self.new }
+        // Unless it is recorded that the listener was set not to wait, it is not asked. Only a
+        // successful switch records it.
+        ensures quiet { self.new.never_waits ≡ false → IsNoneFound result }
+        ensures made { self.new.never_waits ≡ true → self.old.never_waits ≡ false →
+            T.is_nonblocking self.old.listener.now ≡ true }
         ensures of_listener { OnErr result (T.may_fail self.old.listener.now ≡ true) }
         ensures fault { OnErr result (self.new.met_fault ≡ true) }
         ensures no_fault { OnOk result (self.new.met_fault ≡ self.old.met_fault) }
@@ -267,6 +298,9 @@ impl<'l, R: Wait + Clock + Eprint, S: Socket + Drop + Send, T: Listen<Stream = S
         }
         if !may_have_come {
             return Ok(Opening::NotYet);
+        }
+        if !self.stop_waiting() {
+            return Ok(Opening::Later);
         }
         match accept_now(
             self.rt,
@@ -295,8 +329,11 @@ impl<'l, R: Wait + Clock + Eprint, S: Socket + Drop + Send, T: Listen<Stream = S
         Some(self.listener.source())
     }
 
-    // The listener was set not to wait.
+    // A door that is taken has looked for its client, unless it waits for clients.
     fn turn_away(&self) -> TurnedAway {
+        if !self.never_waits {
+            return TurnedAway::Waits;
+        }
         let Some(free) = self.free else {
             return TurnedAway::Waits;
         };

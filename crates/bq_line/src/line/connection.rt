@@ -1,10 +1,11 @@
 //! A connection: a line's stream over a socket.
-ghost use Rattle.std.specs.Prelude.{◌≡◌, Bool, None, OnErr, OnOk, ◌++◌, false, not, true};
+ghost use Rattle.std.specs.Prelude.{◌≡◌, Bool, IfSome, IsSome, None, OnErr, OnOk, ◌++◌, false, not, true};
 ghost use Rattle.std.specs.Io.KnownBytes.{Keeps};
-ghost use Rattle.bq_line.specs.Streams.{FailsIf, FailsToWriteIf, MovesNothing, ReadsFrom, WritesTo};
+ghost use Rattle.bq_line.specs.Streams.{FailsIf, FailsToWriteIf, KeepsWaits, MovesNothing, ReadsFrom, StaysWatched, WritesTo};
 
 use super::socket::{read_once, write_once, write_slices_once};
 use super::{Duplex, Readiness, Socket, StreamError, in_brief};
+use std::os::fd::RawFd;
 
 /// A connection. Its reads and writes wait as long as it takes; `read_now` doesn't wait. Writes go
 /// out at once, except that the system may gather them while more is expected. The stream is
@@ -25,8 +26,10 @@ impl<S: Socket> Connection<S> {
     /// Returns a connection over a stream that waits, as accepted streams do, and that gathers
     /// nothing.
     pub fn new(stream: S) -> Connection<S>
-        ensures { result
-            ≡ record { stream = stream; waits = true; gathers = false; ready = None } }
+        ensures stream { result.stream ≡ stream }
+        ensures waits { result.waits ≡ true }
+        ensures gathers { result.gathers ≡ false }
+        ensures unwatched { result.ready ≡ None }
     {
         Connection {
             stream,
@@ -36,18 +39,36 @@ impl<S: Socket> Connection<S> {
         }
     }
 
-    /// Returns a connection over a stream that does not wait and gathers nothing. The event loop
-    /// watches the stream, and records here what it is ready for.
-    pub fn watched(stream: S) -> Connection<S>
-        ensures stream { result.stream ≡ stream }
-        ensures gathers { result.gathers ≡ false }
+    /// Sets the stream to send each write at once and not to wait, and returns a connection over it
+    /// that is watched. The event loop records here what the stream is ready for. Returns `None` if
+    /// the stream can't be set so, which happens if the peer has disconnected.
+    pub fn watched(mut stream: S) -> Option<Connection<S>>
+    where
+        S: Drop,
+        // Only a successful switch makes a watched connection.
+        ensures quiet { IfSome result (λ c. S.is_nonblocking true c.stream ≡ true) }
+        ensures watched { IfSome result (λ c. IsSome c.ready) }
+        ensures gathers { IfSome result (λ c. c.gathers ≡ false) }
+        ensures bytes { IfSome result (λ c. MovesNothing S.remaining S.contents stream c.stream) }
+        ensures same { IfSome result (λ c. S.may_fail c.stream ≡ S.may_fail stream) }
     {
-        Connection {
-            stream,
-            waits: false,
-            gathers: false,
-            ready: Some(Readiness::NEW),
+        if stream.set_nodelay(true).is_err() {
+            return None;
         }
+        match stream.set_nonblocking(true) {
+            Ok(()) => Some(Connection {
+                stream,
+                waits: false,
+                gathers: false,
+                ready: Some(Readiness::NEW),
+            }),
+            Err(_) => None,
+        }
+    }
+
+    /// Returns the descriptor on which the system reports that the connection is ready.
+    pub fn source(&self) -> RawFd {
+        self.stream.source()
     }
 
     // Reads the stream once if it is ready.
@@ -57,6 +78,8 @@ impl<S: Socket> Connection<S> {
         ensures apart { Keeps (S.contents self.old.stream) (S.contents self.new.stream) }
         ensures fault { FailsIf (S.may_fail self.old.stream) result }
         ensures same { S.may_fail self.new.stream ≡ S.may_fail self.old.stream }
+        ensures quiet { KeepsWaits S.is_nonblocking self.old.stream self.new.stream }
+        ensures watched { IsSome self.old.ready → IsSome self.new.ready }
     {
         if !ready.reads {
             return Err(StreamError::NotYet);
@@ -73,6 +96,8 @@ impl<S: Socket> Connection<S> {
         ensures apart { Keeps (S.remaining self.old.stream) (S.remaining self.new.stream) }
         ensures fault { FailsToWriteIf (S.may_fail self.old.stream) result buf.now }
         ensures same { S.may_fail self.new.stream ≡ S.may_fail self.old.stream }
+        ensures quiet { KeepsWaits S.is_nonblocking self.old.stream self.new.stream }
+        ensures watched { IsSome self.old.ready → IsSome self.new.ready }
     {
         if !ready.writes {
             return Err(StreamError::NotYet);
@@ -94,6 +119,8 @@ impl<S: Socket> Connection<S> {
         ensures apart { Keeps (S.remaining self.old.stream) (S.remaining self.new.stream) }
         ensures fault { FailsToWriteIf (S.may_fail self.old.stream) result first.now }
         ensures same { S.may_fail self.new.stream ≡ S.may_fail self.old.stream }
+        ensures quiet { KeepsWaits S.is_nonblocking self.old.stream self.new.stream }
+        ensures watched { IsSome self.old.ready → IsSome self.new.ready }
     {
         if !ready.writes {
             return Err(StreamError::NotYet);
@@ -107,7 +134,7 @@ impl<S: Socket> Connection<S> {
     fn set_waits(&mut self, waits: bool) -> Result<(), StreamError>
         ensures switched { OnOk result (self.new.waits ≡ waits) }
         // Only a successful switch changes the recorded state.
-        ensures made { OnOk result ((self.old.waits ≡ waits → ⊥) → S.is_nonblocking (not waits) self.new.stream) }
+        ensures made { OnOk result ((self.old.waits ≡ waits → ⊥) → S.is_nonblocking (not waits) self.new.stream ≡ true) }
         ensures kept { OnErr result (self.new.waits ≡ self.old.waits) }
         ensures gathers { self.new.gathers ≡ self.old.gathers }
         ensures bytes { MovesNothing S.remaining S.contents self.old.stream self.new.stream }
@@ -129,6 +156,8 @@ impl<S: Socket> Connection<S> {
         ensures waits { self.new.waits ≡ self.old.waits }
         ensures bytes { MovesNothing S.remaining S.contents self.old.stream self.new.stream }
         ensures same { S.may_fail self.new.stream ≡ S.may_fail self.old.stream }
+        ensures quiet { KeepsWaits S.is_nonblocking self.old.stream self.new.stream }
+        ensures ready { self.new.ready ≡ self.old.ready }
     {
         if self.gathers != gathers {
             in_brief(self.stream.set_nodelay(!gathers))?;
@@ -139,7 +168,8 @@ impl<S: Socket> Connection<S> {
 }
 
 // Each successful call was made on a stream that waits, or on one that does not, as the clause
-// `waits` says.
+// `waits` says. The stream of a watched connection was set not to wait, and stays so, as the clauses
+// `quiet` say.
 impl<S: Socket> Duplex for Connection<S> {
     ghost use Rattle.bq_line.specs.Ready.{may_give, may_take};
 
@@ -159,6 +189,7 @@ impl<S: Socket> Duplex for Connection<S> {
         ensures waits { self.old.ready ≡ None → OnOk result (self.new.waits ≡ true) }
         ensures fault { FailsIf (S.may_fail self.old.stream) result }
         ensures same { S.may_fail self.new.stream ≡ S.may_fail self.old.stream }
+        ensures quiet { StaysWatched S.is_nonblocking self.old.ready self.old.stream self.new.ready self.new.stream }
     {
         if let Some(ready) = self.ready {
             return self.read_ready(buf, ready);
@@ -173,6 +204,7 @@ impl<S: Socket> Duplex for Connection<S> {
         ensures waits { self.old.ready ≡ None → OnOk result (self.new.waits ≡ false) }
         ensures fault { FailsIf (S.may_fail self.old.stream) result }
         ensures same { S.may_fail self.new.stream ≡ S.may_fail self.old.stream }
+        ensures quiet { StaysWatched S.is_nonblocking self.old.ready self.old.stream self.new.ready self.new.stream }
     {
         if let Some(ready) = self.ready {
             return self.read_ready(buf, ready);
@@ -187,6 +219,7 @@ impl<S: Socket> Duplex for Connection<S> {
         ensures waits { self.old.ready ≡ None → OnOk result (self.new.waits ≡ true) }
         ensures fault { FailsToWriteIf (S.may_fail self.old.stream) result buf.now }
         ensures same { S.may_fail self.new.stream ≡ S.may_fail self.old.stream }
+        ensures quiet { StaysWatched S.is_nonblocking self.old.ready self.old.stream self.new.ready self.new.stream }
     {
         if let Some(ready) = self.ready {
             return self.write_ready(buf, ready);
@@ -208,6 +241,7 @@ impl<S: Socket> Duplex for Connection<S> {
         ensures waits { self.old.ready ≡ None → OnOk result (self.new.waits ≡ true) }
         ensures fault { FailsToWriteIf (S.may_fail self.old.stream) result first.now }
         ensures same { S.may_fail self.new.stream ≡ S.may_fail self.old.stream }
+        ensures quiet { StaysWatched S.is_nonblocking self.old.ready self.old.stream self.new.ready self.new.stream }
     {
         if let Some(ready) = self.ready {
             return self.write_together_ready(first, second, third, ready);
@@ -221,7 +255,12 @@ impl<S: Socket> Duplex for Connection<S> {
         Ok(())
     }
 
-    fn expect_more(&mut self, more: bool) {
+    fn expect_more(&mut self, more: bool)
+        ensures bytes { Keeps (S.contents self.old.stream) (S.contents self.new.stream) }
+        ensures apart { Keeps (S.remaining self.old.stream) (S.remaining self.new.stream) }
+        ensures same { S.may_fail self.new.stream ≡ S.may_fail self.old.stream }
+        ensures quiet { StaysWatched S.is_nonblocking self.old.ready self.old.stream self.new.ready self.new.stream }
+    {
         // A stream that can't be switched stays as it was, and is tried again at the next hint.
         let _switched = self.set_gathers(more);
     }
@@ -240,7 +279,12 @@ impl<S: Socket> Duplex for Connection<S> {
         }
     }
 
-    fn note_ready(&mut self, ready: Readiness) {
+    fn note_ready(&mut self, ready: Readiness)
+        ensures bytes { Keeps (S.contents self.old.stream) (S.contents self.new.stream) }
+        ensures apart { Keeps (S.remaining self.old.stream) (S.remaining self.new.stream) }
+        ensures same { S.may_fail self.new.stream ≡ S.may_fail self.old.stream }
+        ensures quiet { StaysWatched S.is_nonblocking self.old.ready self.old.stream self.new.ready self.new.stream }
+    {
         if let Some(known) = self.ready {
             self.ready = Some(known.and(ready));
         }

@@ -1,10 +1,10 @@
 //! The socket of a connection, and the system's TCP stream as one.
-ghost use Rattle.std.specs.Prelude.{◌≡◌, ℕ, Bool, List, None, OnOk, Option, ◌++◌};
+ghost use Rattle.std.specs.Prelude.{◌≡◌, ℕ, Bool, List, None, OnErr, OnOk, Option, ◌++◌, true};
 ghost use Rattle.std.specs.Io.{ReadsAtMost, WritesAtMost};
 ghost use Rattle.std.specs.Io.KnownBytes.{Keeps, ReadConsumes, WriteAppends};
 ghost use Rattle.std.specs.Io.Slices.{io_slices_bytes};
 ghost use Rattle.bq_line.specs.LineCalls.{in_brief};
-ghost use Rattle.bq_line.specs.Streams.{FailsIf, FailsToWriteIf, ReadsFrom, WritesTo};
+ghost use Rattle.bq_line.specs.Streams.{FailsIf, FailsToWriteIf, KeepsWaits, ReadsFrom, WritesTo};
 
 use super::{StreamError, in_brief};
 use std::io;
@@ -24,8 +24,9 @@ pub trait Socket {
     /// Whether a call of it may fail.
     ghost may_fail: { Self → Bool };
 
-    /// Its calls were set to return at once, or to wait. Only a successful switch establishes this.
-    ghost is_nonblocking: { Bool → Self → Type 0 } = { λ nonblocking socket. Unit {0} };
+    /// True if its calls were last set to return at once, or to wait. Only a successful switch
+    /// establishes this.
+    ghost is_nonblocking: { Bool → Self → Bool } = { λ nonblocking socket. true };
 
     /// It was set to send each write at once, or to hold small ones back. Only a successful switch
     /// establishes this.
@@ -37,6 +38,7 @@ pub trait Socket {
         ensures bytes { ReadConsumes (remaining self.old) (remaining self.new) result buf.new }
         ensures apart { Keeps (contents self.old) (contents self.new) }
         ensures fault { FailsIf (may_fail self.old) (in_brief result) }
+        ensures waits { KeepsWaits is_nonblocking self.old self.new }
         ensures same { may_fail self.new ≡ may_fail self.old };
 
     /// Writes as `std::io::Write` does.
@@ -45,6 +47,7 @@ pub trait Socket {
         ensures bytes { WriteAppends (contents self.old) (contents self.new) result buf.now }
         ensures apart { Keeps (remaining self.old) (remaining self.new) }
         ensures fault { FailsToWriteIf (may_fail self.old) (in_brief result) buf.now }
+        ensures waits { KeepsWaits is_nonblocking self.old self.new }
         ensures same { may_fail self.new ≡ may_fail self.old };
 
     /// Writes a first part of several texts, as `write` does for the text that they form together.
@@ -53,11 +56,13 @@ pub trait Socket {
         ensures bytes { WriteAppends (contents self.old) (contents self.new) result (io_slices_bytes slices.now) }
         ensures apart { Keeps (remaining self.old) (remaining self.new) }
         ensures fault { FailsToWriteIf (may_fail self.old) (in_brief result) (io_slices_bytes slices.now) }
+        ensures waits { KeepsWaits is_nonblocking self.old self.new }
         ensures same { may_fail self.new ≡ may_fail self.old };
 
     /// Sets whether calls return `WouldBlock` in place of waiting for bytes or for room.
     fn set_nonblocking(&mut self, nonblocking: bool) -> io::Result<()>
-        ensures switched { OnOk result (is_nonblocking nonblocking self.new) }
+        ensures switched { OnOk result (is_nonblocking nonblocking self.new ≡ true) }
+        ensures kept { OnErr result (KeepsWaits is_nonblocking self.old self.new) }
         ensures remaining { Keeps (remaining self.old) (remaining self.new) }
         ensures contents { Keeps (contents self.old) (contents self.new) }
         ensures fault { FailsIf (may_fail self.old) (in_brief result) }
@@ -69,6 +74,7 @@ pub trait Socket {
         ensures switched { OnOk result (is_nodelay nodelay self.new) }
         ensures remaining { Keeps (remaining self.old) (remaining self.new) }
         ensures contents { Keeps (contents self.old) (contents self.new) }
+        ensures waits { KeepsWaits is_nonblocking self.old self.new }
         ensures same { may_fail self.new ≡ may_fail self.old };
 
     /// Returns the descriptor on which the system reports that the socket is ready.
@@ -79,8 +85,6 @@ pub trait Socket {
 /// call a function makes, or with which arguments. Each makes the call of its name with its own
 /// arguments, which has to be read.
 impl Socket for TcpStream {
-    ghost use Rattle.std.specs.Prelude.{true};
-
     ghost may_fail = { λ socket. true };
 
     fn read(&mut self, buf: &mut [u8]) -> io::Result<usize> {
@@ -116,6 +120,7 @@ pub(super) fn read_once<S: Socket>(socket: &mut S, buf: &mut [u8]) -> Result<usi
     ensures bytes { ReadsFrom (S.remaining socket.old) (S.remaining socket.new) result buf.new }
     ensures apart { Keeps (S.contents socket.old) (S.contents socket.new) }
     ensures fault { FailsIf (S.may_fail socket.old) result }
+    ensures waits { KeepsWaits S.is_nonblocking socket.old socket.new }
     ensures same { S.may_fail socket.new ≡ S.may_fail socket.old }
 {
     in_brief(socket.read(buf))
@@ -128,6 +133,7 @@ pub(super) fn write_once<S: Socket>(socket: &mut S, buf: &[u8]) -> Result<usize,
     ensures bytes { WritesTo (S.contents socket.old) (S.contents socket.new) result buf.now }
     ensures apart { Keeps (S.remaining socket.old) (S.remaining socket.new) }
     ensures fault { FailsToWriteIf (S.may_fail socket.old) result buf.now }
+    ensures waits { KeepsWaits S.is_nonblocking socket.old socket.new }
     ensures same { S.may_fail socket.new ≡ S.may_fail socket.old }
 {
     in_brief(socket.write(buf))
@@ -144,6 +150,7 @@ pub(super) fn write_slices_once<S: Socket>(
     ensures bytes { WritesTo (S.contents socket.old) (S.contents socket.new) result (first.now ++ second.now ++ third.now) }
     ensures apart { Keeps (S.remaining socket.old) (S.remaining socket.new) }
     ensures fault { FailsToWriteIf (S.may_fail socket.old) result first.now }
+    ensures waits { KeepsWaits S.is_nonblocking socket.old socket.new }
     ensures same { S.may_fail socket.new ≡ S.may_fail socket.old }
 {
     in_brief(socket.write_slices(&[
