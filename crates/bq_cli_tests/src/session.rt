@@ -1,13 +1,15 @@
 //! The session of `bq` over a console in memory: from its words to the end of the client's line.
-ghost use Rattle.std.specs.Prelude.{IfSome};
+ghost use Rattle.std.specs.Prelude.{◌≡◌, IfOk, IfSome, None};
 ghost use Rattle.bq_program.specs.Ranges.{IsForBq};
 
 use crate::command_line::{are_so, words_of};
 use bq_job::LineEnd;
 use bq_line::clock::MachineClock;
-use bq_program::{BqOptions, Options, bq_options};
+use bq_line::line::{IoLine, Line};
+use bq_program::{BqOptions, Fault, Options, bq_options};
 use bq_scenes::rows::{column, is_end};
-use bq_session::{Console, serve_client};
+use bq_scenes::sure::Sure;
+use bq_session::{Console, Served, serve_client};
 use std::alloc::Global;
 use std::io;
 use std::io::{ErrorKind, Read, Write};
@@ -149,4 +151,38 @@ fn sessions_of_words(rt: HostRuntime) {
     for row in EXAMPLES.split("\n\n") {
         assert!(rt; is_met(&rt, rt.alloc(), row));
     }
+}
+
+// Serves a client whose stream never fails. Its line has met no fault.
+fn serve_surely<'r, R: Wait + Clock>(
+    rt: &'r R,
+    alloc: Global,
+    options: &BqOptions,
+    sends: &'static [u8],
+) -> Result<Served<Sure, &'r R>, Fault>
+    requires { IsForBq options.now }
+    ensures { IfOk result (λ served. (⟦<IoLine<Sure> as Line>⟧.seen served.line).fault ≡ None) }
+{
+    let client = Sure::new(alloc, sends);
+    serve_client(rt, alloc, options, client, MachineClock::new(rt))
+}
+
+// Returns true if such a client has its answer, and its line has ended with its input.
+fn is_served_surely<R: Wait + Clock>(rt: &R, alloc: Global) -> bool {
+    let Some(options) = options_of(alloc, EXAMPLES) else {
+        return false;
+    };
+    match serve_surely(rt, alloc, &options, b"put 5 0 10 3\r\nabc\r\nput") {
+        Ok(served) => {
+            served.end == LineEnd::EndOfInput
+                && served.line.into_stream().received() == b"INSERTED 1\r\n".as_slice()
+        }
+        Err(_) => false,
+    }
+}
+
+// A client over a stream that never fails is served to the end of its input.
+#[test]
+fn session_over_a_sure_stream(rt: HostRuntime) {
+    assert!(rt; is_served_surely(&rt, rt.alloc()));
 }

@@ -10,4 +10,5 @@ pub mod notation;
 pub mod refused;
 pub mod rows;
 pub mod settings;
+pub mod sure;
 pub mod worked;
