@@ -38,6 +38,10 @@ impl<'r, R: rt::Clock + Eprint> Clock for TellingClock<'r, R> {
         self.clock.now()
     }
 
+    fn elapsed(&self) -> u64 {
+        self.clock.elapsed()
+    }
+
     fn tell(&self, notice: Notice) {
         // If standard error is closed, there is no reader.
         let first = self.form.prefix(severity_of(notice));

@@ -13,6 +13,8 @@ mod one_line;
 #[cfg(test)]
 mod ranges;
 #[cfg(test)]
+mod readings;
+#[cfg(test)]
 mod session;
 #[cfg(test)]
 mod told;

@@ -27,6 +27,12 @@ pub trait Clock {
         ensures { (first : Self) (readings : List (Option ℕ)) → given first readings self.old →
             given first (readings ++ result ∷ []) self.new };
 
+    /// Returns the microseconds from the clock's start to its last reading, or 0 if the clock does
+    /// not say. It serves fairness alone: no promise depends on it.
+    fn elapsed(&self) -> u64 {
+        0
+    }
+
     /// Receives a notice from the run that reads this clock. By default it is ignored.
     fn tell(&self, _notice: Notice) {}
 
@@ -51,6 +57,8 @@ pub struct MachineClock<R> {
     rt: R,
     // `None` if the system's clock couldn't be read.
     start: Option<Instant>,
+    // The microseconds from the start to the last reading that did not fail.
+    elapsed: u64,
     given: ReadingRecord,
 }
 
@@ -64,14 +72,24 @@ impl<R: rt::Clock> MachineClock<R> {
         MachineClock {
             rt,
             start,
+            elapsed: 0,
             given: ReadingRecord::new(),
         }
     }
 
-    // Returns the milliseconds since the clock was made.
-    fn reading(&self) -> Option<Moment> {
+    // Returns the microseconds since the clock was made.
+    fn reading(&self) -> Option<u64> {
         let now = Instant::now(&self.rt).ok()?;
-        Moment::try_from(now.duration_since(self.start?).as_millis()).ok()
+        u64::try_from(now.duration_since(self.start?).as_micros()).ok()
+    }
+
+    // Reads the clock once. Returns the milliseconds since it was made, and keeps the microseconds.
+    fn read(&mut self) -> Option<Moment>
+        ensures { self.new.given ≡ self.old.given }
+    {
+        let elapsed = self.reading()?;
+        self.elapsed = elapsed;
+        Some(elapsed / 1000)
     }
 }
 
@@ -81,9 +99,13 @@ impl<R: rt::Clock> Clock for MachineClock<R> {
     ghost none_given = { λ clock. sym (append-nil clock.given) };
 
     fn now(&mut self) -> Option<Moment> {
-        let reading = self.reading();
+        let reading = self.read();
         self.given.note(reading);
         reading
+    }
+
+    fn elapsed(&self) -> u64 {
+        self.elapsed
     }
 }
 

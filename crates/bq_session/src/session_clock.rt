@@ -36,4 +36,8 @@ impl<K: rt::Clock> Clock for SessionClock<K> {
             self.machine.now()
         }
     }
+
+    fn elapsed(&self) -> u64 {
+        self.machine.elapsed()
+    }
 }
