@@ -1,6 +1,7 @@
 """Runs of bqd in which something is due while all clients are silent, a client blocks its seat, or many make requests
 at once."""
 import contextlib
+import select
 import socket
 import threading
 import time
@@ -221,9 +222,44 @@ def run_batch_beside_a_lone_command(bqd):
 
 @of_loop
 def run_heavy_commands_beside_a_lone_one(bqd):
-    """A client whose commands take long has an event loop for some milliseconds, and then another client has its turn.
-    The clock runs 1,000 times as fast, so that each command takes long."""
-    served_before_a_lone_command(bqd, 8, env=faults(clock=1000))
+    """A client whose commands take long has an event loop for one of them, or two, and then another client has its turn.
+    The other client's `stats` is its second command: three are served before it. The clock runs 200 times as fast, so
+    that each command takes long."""
+    served_before_a_lone_command(bqd, 3, env=faults(clock=200))
+
+
+@of_loop
+def run_puts_beside_heavy_commands(bqd):
+    """While a client sends many commands at once that take long, an event loop serves two of them, and then a put of
+    another client. Each of them looks at 2,000 tubes."""
+    tubes, heavy, puts = 2000, 400, 40
+
+    def tried():
+        with Server(bqd, "--seats", "2") as server:
+            many, other = server.client(), server.client()
+            many.asks(
+                b"".join(b"watch t%d\r\n" % it for it in range(tubes)),
+                b"".join(b"WATCHING %d\r\n" % (it + 2) for it in range(tubes)),
+            )
+            other.asks(b"use t\r\n", b"USING t\r\n")
+            many.sends(b"reserve-with-timeout 0\r\n" * heavy)
+            left, between = heavy, []
+            while left > 0 and len(between) < puts:
+                other.asks(PUT, b"INSERTED %d\r\n" % (len(between) + 1))
+                arrived = lines_arrived(many)
+                left -= arrived
+                between.append(arrived)
+            middle = sorted(between)[len(between) // 2]
+        return None if middle <= 3 else middle
+    often(tried)
+
+
+def lines_arrived(client):
+    """Returns how many lines have arrived at a client."""
+    lines = 0
+    while select.select([client.stream], [], [], 0)[0]:
+        lines += client.stream.recv(1 << 16).count(b"\n")
+    return lines
 
 
 @of_loop

@@ -12,5 +12,6 @@ pub mod Rows
 pub mod Serving
 pub mod SoFar
 pub mod Still
+pub mod Visits
 pub mod WakeLists
 pub mod Waits

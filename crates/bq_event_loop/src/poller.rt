@@ -4,8 +4,9 @@
 //!
 //! A round consists of the control line, the doors, visits of all seats that can act, the time, and
 //! the wait. A seat can act if its line became ready, it has mail, or its last visit was cut short.
-//! If several can, all lines are read first, then all steps are taken, and then all answers are
-//! written, so that each part finds its code and data in the processor's caches.
+//! Of the seats that came into the queue since the last wait, all lines are read first, then all
+//! steps are taken, and then all answers are written, so that each part finds its code and data in
+//! the processor's caches. Seats that were in the queue before come last.
 ghost use Rattle.std.specs.Prelude.{◌≡◌, ◌*◌, [], true, false, Some, IfSome};
 ghost use Rattle.std.specs.Option.{option_map};
 ghost use Rattle.std.specs.Duration.{as_nanos};
@@ -21,7 +22,6 @@ use crate::seat_queue::SeatQueue;
 use crate::turns::{Began, ControlReads, ControlStands, News, SoFar, Turn, Turns, TurnsFault};
 use accepts::Accepts;
 use bq_core_api::QueueCore;
-use bq_job::Moment;
 use bq_line::attendant::{Looked, Progress};
 use bq_line::clock::Clock;
 use bq_line::control_line::ControlInput;
@@ -31,16 +31,18 @@ use control_watch::ControlWatch;
 use mio::event::Event;
 use mio::unix::SourceFd;
 use mio::{Events, Interest, Poll, Registry, Token};
+use pace::Pace;
 use std::alloc::Global;
 use std::net::Net;
 use std::os::fd::RawFd;
 use std::time::Duration;
 use std::{io, rt};
-use visits::{Part, Pause, Visit};
+use visits::{Part, Pause, Share, Visit};
 use waits::longest_wait;
 
 mod accepts;
 mod control_watch;
+mod pace;
 mod visits;
 mod waits;
 
@@ -103,9 +105,13 @@ pub struct Poller<'r, R> {
     // keeps the buffer and gives its own in exchange. If the line ends, its door gives it back.
     buffer: ReadBuffer,
     stage: Stage,
-    // The core's latest moment, and what it was when the round's visits began.
-    moment: Moment,
-    began: Moment,
+    // What the core's clock showed when it was last read, and the pace of the round's visits.
+    reading: u64,
+    pace: Pace,
+    // How many seats came into the queue since the last wait, and how many were visited in this part
+    // of the round.
+    fresh: usize,
+    visited: usize,
     // The current visit, if there is one.
     visit: Visit,
     is_visiting: bool,
@@ -151,9 +157,11 @@ impl<'r, R: Net + rt::Clock> Poller<'r, R> {
             queue,
             buffer,
             stage: Stage::Control,
-            moment: 0,
-            began: 0,
-            visit: Visit::new(0, Part::Answers, 0, 0),
+            reading: 0,
+            pace: Pace::begin(0),
+            fresh: 0,
+            visited: 0,
+            visit: Visit::new(0, Part::Answers, Share::Commands),
             is_visiting: false,
             are_more_away: false,
         })
@@ -262,7 +270,9 @@ impl<'r, R: rt::Clock> Poller<'r, R> {
         }
     }
 
-    // Begins the visits of all seats that are in the queue now.
+    // Begins the visits of all seats that are in the queue now. Those that were in it before the
+    // last wait come last, so that a visit that was cut short goes on after the seats that the
+    // system reported. They have the last part only.
     fn begin_visits<L: Line + Drop, D: Door<Line = L>>(
         &mut self,
         alloc: Global,
@@ -271,11 +281,26 @@ impl<'r, R: rt::Clock> Poller<'r, R> {
         requires tended { AreTended L.seen (door_seen D.is_out D.is_at_end D.lines_over) row.old }
         ensures keeps { KeepsRow L.seen (door_seen D.is_out D.is_at_end D.lines_over) D.same row.old row.new }
     {
+        let waited = self.put_last();
         self.queue.begin_round();
-        self.began = self.moment;
-        let part = Part::first(self.queue.round());
+        self.fresh = self.queue.round().saturating_sub(waited);
+        self.visited = 0;
+        self.pace = Pace::begin(self.reading);
+        let part = Part::first(self.fresh);
         self.stage = Stage::Visits(part);
         self.begin_next(alloc, row, part)
+    }
+
+    // Puts the seats that were in the queue before the last wait at its end, in their order, and
+    // returns how many they are.
+    fn put_last(&mut self) -> usize {
+        let waited = self.queue.round();
+        for _ in 0..waited {
+            if let Some(seat) = self.queue.take_next() {
+                self.queue.enqueue(seat);
+            }
+        }
+        waited
     }
 
     // Returns the next action of the current visit, or begins the next visit.
@@ -290,7 +315,8 @@ impl<'r, R: rt::Clock> Poller<'r, R> {
         ensures keeps { KeepsRow L.seen (door_seen D.is_out D.is_at_end D.lines_over) D.same row.old row.new }
     {
         if self.is_visiting {
-            self.visit.note(progress, self.moment);
+            let took = self.pace.note(part, self.visit.seat(), self.reading);
+            self.visit.note(progress, took);
             if self.goes_on(alloc, row) {
                 return self.visit.turn();
             }
@@ -313,7 +339,8 @@ impl<'r, R: rt::Clock> Poller<'r, R> {
             return self.end_part(part);
         };
         row.exchange(seat, &mut self.buffer);
-        self.visit = Visit::new(seat, part, self.began, self.moment);
+        self.visit = Visit::new(seat, part, self.share(part));
+        self.visited = self.visited.saturating_add(1);
         self.is_visiting = true;
         if self.goes_on(alloc, row) {
             return self.visit.turn();
@@ -325,7 +352,31 @@ impl<'r, R: rt::Clock> Poller<'r, R> {
     fn next_seat(&mut self, part: Part) -> Option<usize> {
         match part {
             Part::Answers => self.queue.take_next(),
-            _ => self.queue.next_in_round(),
+            _ => {
+                if self.visited < self.fresh {
+                    self.queue.next_in_round()
+                } else {
+                    None
+                }
+            }
+        }
+    }
+
+    // Returns how much the next visit of this part may do. If a step of the round took long, each
+    // seat whose step was taken in the part before receives its answer before one of them goes on.
+    fn share(&self, part: Part) -> Share {
+        let is_first = self.fresh > 1 && self.visited < self.fresh;
+        match part {
+            Part::Answers => {
+                if is_first && (self.pace.is_held_up() || self.pace.is_late()) {
+                    Share::OneAnswer
+                } else if self.pace.is_late() {
+                    Share::OneCommand
+                } else {
+                    Share::Commands
+                }
+            }
+            Part::Reads | Part::Steps => Share::Commands,
         }
     }
 
@@ -333,6 +384,7 @@ impl<'r, R: rt::Clock> Poller<'r, R> {
         match part.next() {
             Some(next) => {
                 self.queue.begin_round();
+                self.visited = 0;
                 self.stage = Stage::Visits(next);
                 NOTHING
             }
@@ -397,6 +449,8 @@ impl<'r, R: rt::Clock> Poller<'r, R> {
     {
         let most = self.longest_wait(news);
         self.are_more_away = false;
+        // These are the seats that were in the queue before the wait.
+        self.queue.begin_round();
         // A failed wait reports nothing.
         let _polled = self.poll.poll(&mut self.events, most);
         self.accepts.pass(self.rt);
@@ -451,7 +505,7 @@ impl<'r, R: rt::Clock> Turns for Poller<'r, R> {
         _began: &Began<D, C, I>,
         _so_far: SoFar<C, I, K>,
     ) -> Turn {
-        self.moment = news.moment;
+        self.reading = news.elapsed;
         match self.stage {
             Stage::Control => self.control_turn(alloc, row, news),
             Stage::ControlRead => {

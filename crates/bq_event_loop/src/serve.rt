@@ -58,7 +58,7 @@ pub fn serve<
     let mut news = News {
         progress: Progress::NothingToDo,
         due: None,
-        moment: core.timed.time.moment,
+        elapsed: core.timed.time.clock.elapsed(),
         control: control.stands(),
     };
     for _ in 0..u64::MAX {
@@ -66,6 +66,7 @@ pub fn serve<
         if take_turn(turn, row, control, core, buffers, &mut news) {
             return true;
         }
+        news.elapsed = core.timed.time.clock.elapsed();
         wake_all(turns, core);
     }
     false
@@ -109,12 +110,10 @@ fn take_turn<
     match turn {
         Turn::Seat(seat) => {
             news.progress = serve_seat(row, core, seat, buffers, Extent::Action);
-            news.moment = core.timed.time.moment;
             false
         }
         Turn::Command(seat) => {
             news.progress = serve_seat(row, core, seat, buffers, Extent::Command);
-            news.moment = core.timed.time.moment;
             false
         }
         Turn::Control(reads) => {

@@ -7,7 +7,6 @@ ghost use Rattle.bq_event_loop.specs.SoFar.{IsLoopSoFar, beginning};
 use crate::row::Row;
 use bq_core_api::{Config, QueueCore};
 use bq_host::RunFault;
-use bq_job::Moment;
 use bq_line::Door;
 use bq_line::attendant::Progress;
 use bq_line::clock::Clock;
@@ -65,8 +64,9 @@ pub struct News {
     /// In how many milliseconds something is due, as of the last `Turn::Time`. `None` if nothing
     /// is.
     pub due: Option<u64>,
-    /// The core's latest moment, in milliseconds.
-    pub moment: Moment,
+    /// The microseconds that the core's clock showed when it was last read, or 0 if the clock does
+    /// not say.
+    pub elapsed: u64,
     pub control: ControlStands,
 }
 

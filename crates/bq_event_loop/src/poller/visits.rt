@@ -1,17 +1,20 @@
 //! The visits of a round: the actions that a visited seat does without waiting, before other seats
 //! have their turn.
+ghost use Rattle.std.specs.Prelude.{◌≡◌, ◌-◌, ◌&&◌, not, true, false, IsNone};
+ghost use Rattle.bq_event_loop.specs.Visits.{actions_of, cost_of, is_over_after, is_writing, left_after, only_writes, turn_in, turn_of};
 
 use crate::turns::Turn;
-use bq_job::Moment;
-use bq_line::attendant::{Attendant, Progress};
+use bq_line::attendant::{Attendant, LinePlace, Progress};
 use bq_line::line::Line;
+use bq_seat::Action;
 
 /// The largest number of actions in a visit.
 const MOST: u32 = 64;
 
-/// How long the visits of a round go on with further commands, in milliseconds of the core's moment.
-/// The core reads its clock when it takes a step, so this is no limit for a single step.
-const LONGEST: Moment = 2;
+/// A visit begins no further command once its commands have taken this many microseconds. How long
+/// a command takes is known when the next one takes its step, and the last one is taken to be as
+/// long as the one before it. So a visit serves at most two commands of half this time or more.
+const LONGEST: u64 = 100;
 
 /// How many actions a turn for a whole command counts as, so that a visit serves 32 commands that
 /// came together.
@@ -48,6 +51,36 @@ impl Part {
     }
 }
 
+/// How much a visit may do.
+#[derive(Clone, Copy)]
+pub enum Share {
+    /// Up to 32 commands, until they have taken long.
+    Commands,
+    /// A single command.
+    OneCommand,
+    /// The rest of an answer: no command begins.
+    OneAnswer,
+}
+
+impl Share {
+    // Returns how many actions the visit may do.
+    fn actions(self) -> u32
+        ensures { result ≡ actions_of self }
+    {
+        match self {
+            Share::OneCommand => COMMAND,
+            Share::Commands | Share::OneAnswer => MOST,
+        }
+    }
+
+    // Returns true if the visit begins no command.
+    fn only_writes(self) -> bool
+        ensures { result ≡ only_writes self }
+    {
+        matches!(self, Share::OneAnswer)
+    }
+}
+
 /// The reason why a visit pauses.
 #[derive(Clone, Copy)]
 pub enum Pause {
@@ -70,10 +103,9 @@ pub struct Visit {
     part: Part,
     // How many more actions it may do.
     left: u32,
-    // From which moment on it begins no further command.
-    ends: Moment,
-    // Whether it began after that moment, and whether its last turn ended after it.
-    is_late: bool,
+    // How many more microseconds its commands may take.
+    time: u64,
+    // Whether it begins no further command.
     is_over: bool,
     // The result of its last action, and how many of its last actions moved nothing.
     last: Progress,
@@ -81,56 +113,55 @@ pub struct Visit {
 }
 
 impl Visit {
-    /// Returns a visit that begins at the moment `now`, in a round that began at the moment
-    /// `began`.
-    pub fn new(seat: usize, part: Part, began: Moment, now: Moment) -> Visit {
-        let ends = began.saturating_add(LONGEST);
+    /// Returns a visit of this seat that begins.
+    pub fn new(seat: usize, part: Part, share: Share) -> Visit
+        ensures seat { result.seat ≡ seat }
+        ensures part { result.part ≡ part }
+        ensures left { result.left ≡ actions_of share }
+        ensures time { result.time ≡ 100 }
+        ensures over { result.is_over ≡ only_writes share }
+    {
         Visit {
             seat,
             part,
-            left: MOST,
-            ends,
-            is_late: now >= ends,
-            is_over: false,
+            left: share.actions(),
+            time: LONGEST,
+            is_over: share.only_writes(),
             last: Progress::Moved,
             unmoved: 0,
         }
     }
 
     /// Returns the seat that is visited.
-    pub fn seat(&self) -> usize {
+    pub fn seat(&self) -> usize
+        ensures { result ≡ self.now.seat }
+    {
         self.seat
     }
 
-    /// Returns the next turn of its seat. In the last part of a round it is a whole command. If the
-    /// time of the round is over, it is one action, so that after an answer is written the other
-    /// seats have their turn.
-    pub fn turn(&self) -> Turn {
-        if self.is_late {
+    /// Returns the next turn of its seat. In the last part of a round it is a whole command. If no
+    /// further command begins, it is one action, which writes the rest of an answer.
+    pub fn turn(&self) -> Turn
+        ensures { result ≡ turn_of self.now }
+    {
+        if self.is_over {
             return Turn::Seat(self.seat);
         }
-        match self.part {
-            Part::Answers => Turn::Command(self.seat),
-            Part::Reads | Part::Steps => Turn::Seat(self.seat),
-        }
+        turn_in(self.part, self.seat)
     }
 
-    // Returns how many actions its next turn counts as.
-    fn cost(&self) -> u32 {
-        match self.part {
-            Part::Answers => COMMAND,
-            Part::Reads | Part::Steps => 1,
-        }
-    }
-
-    /// Notes another turn, the result of its last action, and the core's moment after it. A part of
-    /// a long answer ends the visit.
-    pub fn note(&mut self, progress: Progress, moment: Moment) {
-        self.left = match progress {
-            Progress::Part => 0,
-            _ => self.left.saturating_sub(self.cost()),
-        };
-        self.is_over = moment >= self.ends;
+    /// Notes another turn: the result of its last action, and how many microseconds the command
+    /// before took, if that became known. A part of a long answer ends the visit.
+    pub fn note(&mut self, progress: Progress, took: u64)
+        ensures seat { self.new.seat ≡ self.old.seat }
+        ensures part { self.new.part ≡ self.old.part }
+        ensures left { self.new.left ≡ left_after progress (cost_of self.old.part) self.old.left }
+        ensures time { self.new.time ≡ self.old.time - took }
+        ensures over { self.new.is_over ≡ is_over_after took (self.old.time - took) self.old.is_over }
+    {
+        self.left = left_after(progress, self.part, self.left);
+        self.time = self.time.saturating_sub(took);
+        self.is_over = self.is_over || self.time <= took;
         self.last = progress;
         self.unmoved = if progress.has_moved() {
             0
@@ -139,15 +170,21 @@ impl Visit {
         };
     }
 
-    /// Returns the reason for a pause, or `None` if the visit goes on.
-    pub fn pause<L: Line + Drop>(&self, seat: &Attendant<L>) -> Option<Pause> {
+    /// Returns the reason for a pause, or `None` if the visit goes on: some actions are left, and in
+    /// the last part it begins no further command once it is over.
+    pub fn pause<L: Line + Drop>(&self, seat: &Attendant<L>) -> Option<Pause>
+        ensures left { IsNone result → self.now.left ≡ 0 → ⊥ }
+        ensures over { IsNone result → self.now.part ≡ Part.Answers → self.now.is_over ≡ true → is_writing seat.now.place ≡ true }
+    {
         match self.part {
             Part::Answers => self.end(seat),
             part => self.end_of_part(part, seat),
         }
     }
 
-    fn end_of_part<L: Line + Drop>(&self, part: Part, seat: &Attendant<L>) -> Option<Pause> {
+    fn end_of_part<L: Line + Drop>(&self, part: Part, seat: &Attendant<L>) -> Option<Pause>
+        ensures left { IsNone result → self.now.left ≡ 0 → ⊥ }
+    {
         if self.left == 0 || self.is_stuck() || ends_part(part, seat) {
             Some(Pause::PartDone)
         } else {
@@ -156,7 +193,10 @@ impl Visit {
     }
 
     // The same in the last part, in which the visit may do everything.
-    fn end<L: Line + Drop>(&self, seat: &Attendant<L>) -> Option<Pause> {
+    fn end<L: Line + Drop>(&self, seat: &Attendant<L>) -> Option<Pause>
+        ensures left { IsNone result → self.now.left ≡ 0 → ⊥ }
+        ensures over { IsNone result → self.now.is_over ≡ true → is_writing seat.now.place ≡ true }
+    {
         if seat.is_between() {
             Some(Pause::IsFree)
         } else if seat.is_done() {
@@ -165,17 +205,25 @@ impl Visit {
             Some(Pause::Rests)
         } else if self.is_stuck() {
             Some(self.rest(seat))
-        } else if self.left == 0 || self.ends_by_time(seat) {
+        } else if self.is_used_up(&seat.place) {
             Some(Pause::GoesOn)
         } else {
             None
         }
     }
 
-    // The time of the round is over, and the next action would begin a further command. A seat at
-    // which nothing moved rests soon.
-    fn ends_by_time<L: Line + Drop>(&self, seat: &Attendant<L>) -> bool {
-        self.is_over && self.unmoved == 0 && !seat.writes()
+    // Returns true if no action is left, or the next one would begin a command and none begins.
+    fn is_used_up<L>(&self, place: &LinePlace<L>) -> bool
+        ensures left { result ≡ false → self.now.left ≡ 0 → ⊥ }
+        ensures over { result ≡ false → self.now.is_over ≡ true → is_writing place.now ≡ true }
+    {
+        if self.left == 0 {
+            return true;
+        }
+        if self.is_over {
+            return !is_writing(place);
+        }
+        false
     }
 
     // If nothing moves, it rests, unless a step was rejected and is submitted again, or a call of
@@ -197,6 +245,43 @@ impl Visit {
             Progress::NoMail | Progress::NoBytes | Progress::NothingToDo => self.unmoved > 1,
         }
     }
+}
+
+// Returns a turn in this part of a round.
+fn turn_in(part: Part, seat: usize) -> Turn
+    ensures { result ≡ turn_in part seat }
+{
+    match part {
+        Part::Answers => Turn::Command(seat),
+        Part::Reads | Part::Steps => Turn::Seat(seat),
+    }
+}
+
+// Returns how many actions a turn counts as.
+fn cost_of(part: Part) -> u32
+    ensures { result ≡ cost_of part }
+{
+    match part {
+        Part::Answers => COMMAND,
+        Part::Reads | Part::Steps => 1,
+    }
+}
+
+// Returns how many actions are left after a turn with this result.
+fn left_after(progress: Progress, part: Part, left: u32) -> u32
+    ensures { result ≡ left_after progress (cost_of part) left }
+{
+    match progress {
+        Progress::Part => 0,
+        _ => left.saturating_sub(cost_of(part)),
+    }
+}
+
+// Returns true if the next action writes.
+fn is_writing<L>(place: &LinePlace<L>) -> bool
+    ensures { result ≡ is_writing place.now }
+{
+    matches!(place, LinePlace::On(_, Action::Write(_), _))
 }
 
 // Returns true if a part that is not the last ends before the next action.

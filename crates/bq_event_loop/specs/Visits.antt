@@ -1,0 +1,58 @@
+-- The limits of a visit, and what the clock tells of a round.
+use Rattle.std.specs.Prelude.{ℕ, ◌-◌, Bool, true, false, nat_lt, not, ◌||◌, if◌then◌else◌}
+use Rattle.bq_line.specs.declared.attendant.LinePlace.{LinePlace}
+use Rattle.bq_line.specs.declared.attendant.LinePlace.TheVariants as places
+use Rattle.bq_line.specs.declared.attendant.Progress.{Progress}
+use Rattle.bq_line.specs.declared.attendant.Progress.TheVariants as results
+use Rattle.bq_seat.specs.declared.machine.Action.TheVariants as actions
+use Rattle.bq_event_loop.specs.declared.poller.visits.Part.{Part}
+use Rattle.bq_event_loop.specs.declared.poller.visits.Part.TheVariants as parts
+use Rattle.bq_event_loop.specs.declared.poller.visits.Share.{Share}
+use Rattle.bq_event_loop.specs.declared.poller.visits.Share.TheVariants as shares
+use Rattle.bq_event_loop.specs.declared.poller.visits.Visit.{Visit}
+use Rattle.bq_event_loop.specs.declared.turns.Turn.{Turn}
+use Rattle.bq_event_loop.specs.declared.turns.Turn.TheVariants as turns
+
+-- how many actions a visit may do
+abbrev pub actions_of : Share → ℕ
+actions_of shares.Commands = 64
+actions_of shares.OneCommand = 2
+actions_of shares.OneAnswer = 64
+
+-- It begins no command.
+abbrev pub only_writes : Share → Bool
+only_writes shares.OneAnswer = true
+only_writes _ = false
+
+-- how many actions a turn counts as: a turn for a whole command counts as two
+abbrev pub cost_of : Part → ℕ
+cost_of parts.Answers = 2
+cost_of _ = 1
+
+-- How many more actions a visit may do after a turn: none after a part of a long answer.
+abbrev pub left_after : Progress → ℕ → ℕ → ℕ
+left_after results.Part cost left = 0
+left_after _ cost left = left - cost
+
+-- A visit is over if it was before, or if a further command that takes as long would be too long.
+abbrev pub is_over_after : ℕ → ℕ → Bool → Bool
+is_over_after took time was_over = was_over || not (nat_lt took time)
+
+-- a turn for a whole command in the last part of a round, and otherwise for one action
+abbrev pub turn_in : Part → ℕ → Turn
+turn_in parts.Answers seat = turns.Command seat
+turn_in _ seat = turns.Seat seat
+
+-- Once no further command begins, a turn is one action.
+abbrev pub turn_of : Visit → Turn
+turn_of v = if v.is_over then turns.Seat v.seat else turn_in v.part v.seat
+
+-- The next action of a seat writes.
+abbrev pub is_writing : {L : Type 0} → LinePlace L → Bool
+is_writing (places.On line (actions.Write answer) sent) = true
+is_writing _ = false
+
+-- A step of this part took so long that it held up the seat after it.
+abbrev pub holds_up : Part → ℕ → Bool
+holds_up parts.Steps took = not (nat_lt took 50)
+holds_up _ took = false
