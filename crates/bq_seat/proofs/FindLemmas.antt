@@ -1,7 +1,7 @@
 -- A move in terms of the machine's fields is a move: what holds in the pasts that it represents.
 use Rattle.std.proofs.Common.{◌≡◌, ◌≤◌, ◌+◌, Bool, true, false, ◌||◌, List, [], ◌∷◌, ◌++◌, Some, None, is_some}
 use Rattle.std.proofs.Common.{map, length, inl, inr, refl, sym, ap, ◌∙◌, arith, subst, append_assoc, ℕ, if◌then◌else◌}
-use Rattle.std.proofs.Math.Bool.{or-false}
+use Rattle.std.proofs.lemmas.{Bool.or_parts, Grind.common_steps, List.Folds.list_any-append}
 use Rattle.bq_job.specs.declared.answer.Answer.{Answer}
 use Rattle.bq_job.specs.declared.line_end.LineFault.{LineFault}
 use Rattle.bq_job.specs.declared.step.Step.{Step}
@@ -28,7 +28,7 @@ use Rattle.bq_seat.proofs.LooksLemmas.{wanted_open}
 -- when the mail is polled, at most one answer is outstanding
 few_at_look : (stage : Stage) (reader : ReaderState) (kept : List ℕ) (told : Bool) (p : Past) → awaited_at stage ≡ Awaited.AMail
     → StandsInStage stage reader kept told p → wanted p.steps ≤ length p.mail + 1
-few_at_look (stages.Polling waits) reader kept told p e h = let w = wanted_open reader kept told 1 p h.0 in omega arith
+few_at_look (stages.Polling waits) reader kept told p e h = let w = wanted_open h.0 in omega arith
 few_at_look (stages.Leaving end) reader kept told p e h =
     let served = h.served [] in
     let line = served.line in
@@ -39,45 +39,20 @@ few_at_look (stages.Leaving end) reader kept told p e h =
     let same = ap wanted (line.steps_are ∙ append_assoc (steps.Connect ∷ map steps.Ask line.asked) line.end_steps (steps.Close ∷ [])) in
     let joined = wanted_joined (map steps.Ask line.asked) more in
     omega arith
-few_at_look stages.Between reader kept told p e h = cc
-few_at_look stages.Connecting reader kept told p e h = cc
-few_at_look stages.Reading reader kept told p e h = cc
-few_at_look (stages.Asking waits) reader kept told p e h = cc
-few_at_look stages.ReadingOn reader kept told p e h = cc
-few_at_look stages.TellingEnd reader kept told p e h = cc
-few_at_look stages.Writing reader kept told p e h = cc
-few_at_look stages.AskingQuit reader kept told p e h = cc
-few_at_look (stages.Closing end) reader kept told p e h = cc
+few_at_look _ reader kept told p e h = cc
 
 -- when the line is read, its input has not ended
 goes_on_at_read : (stage : Stage) (reader : ReaderState) (kept : List ℕ) (told : Bool) (p : Past) → awaited_at stage ≡ Awaited.AReading
     → StandsInStage stage reader kept told p → (p.closing ≡ false) × (p.ended ≡ false) × (p.fault ≡ None)
 goes_on_at_read stages.Reading reader kept told p e h = (h.0.stepped.closing_is, h.0.stepped.ended_is ∙ h.2, h.0.handed.fault_is)
 goes_on_at_read stages.ReadingOn reader kept told p e h = (h.0.0.stepped.closing_is, h.0.0.stepped.ended_is ∙ h.2, h.0.0.handed.fault_is)
-goes_on_at_read stages.Between reader kept told p e h = cc
-goes_on_at_read stages.Connecting reader kept told p e h = cc
-goes_on_at_read (stages.Asking waits) reader kept told p e h = cc
-goes_on_at_read (stages.Polling waits) reader kept told p e h = cc
-goes_on_at_read stages.TellingEnd reader kept told p e h = cc
-goes_on_at_read stages.Writing reader kept told p e h = cc
-goes_on_at_read stages.AskingQuit reader kept told p e h = cc
-goes_on_at_read (stages.Closing end) reader kept told p e h = cc
-goes_on_at_read (stages.Leaving end) reader kept told p e h = cc
+goes_on_at_read _ reader kept told p e h = cc
 
 -- when an answer is written, nothing failed
 unbroken_at : (stage : Stage) (reader : ReaderState) (kept : List ℕ) (told : Bool) (p : Past) → awaited_at stage ≡ Awaited.AWriting
     → StandsInStage stage reader kept told p → (p.closing ≡ false) × (p.fault ≡ None)
 unbroken_at stages.Writing reader kept told p e h = (h.0.stepped.closing_is, h.0.handed.fault_is)
-unbroken_at stages.Between reader kept told p e h = cc
-unbroken_at stages.Connecting reader kept told p e h = cc
-unbroken_at stages.Reading reader kept told p e h = cc
-unbroken_at (stages.Asking waits) reader kept told p e h = cc
-unbroken_at (stages.Polling waits) reader kept told p e h = cc
-unbroken_at stages.ReadingOn reader kept told p e h = cc
-unbroken_at stages.TellingEnd reader kept told p e h = cc
-unbroken_at stages.AskingQuit reader kept told p e h = cc
-unbroken_at (stages.Closing end) reader kept told p e h = cc
-unbroken_at (stages.Leaving end) reader kept told p e h = cc
+unbroken_at _ reader kept told p e h = cc
 
 -- the past with the event justifies the action
 found : (size : ℕ) (action : Action) (new : SeatMachine) (q : Past) → awaited_by action ≡ Some (awaited new)
@@ -98,18 +73,8 @@ found size actions.Stray new q awaits stands over = tt
 
 -- pasts stay orderly
 
-none_of_both : (a b : Bool) → (a || b) ≡ false → a ≡ false
-none_of_both true b e = cc
-none_of_both false b e = refl
-
 closes_joined : (taken : List Step) (step : Step) → has_close (taken ++ step ∷ []) ≡ (has_close taken || is_close step)
-closes_joined [] step = or-false (is_close step)
-closes_joined (s ∷ taken) step = ap (λ b. is_close s || b) (closes_joined taken step)
-    ∙ or_assoc (is_close s) (has_close taken) (is_close step)
-  where
-    or_assoc : (a b c : Bool) → (a || (b || c)) ≡ ((a || b) || c)
-    or_assoc true b c = refl
-    or_assoc false b c = refl
+closes_joined taken step = grind (arith, common_steps, list_any-append)
 
 orderly_with_mail : (answer : Answer) (p : Past) → IsOrderly p → IsOrderly (with_mail answer p)
 orderly_with_mail answer p o = go p.closing refl
@@ -140,7 +105,7 @@ orderly_with_event events.WriteFault p o = orderly_with_fault _ p o
 orderly_with_action : (action : Action) (p : Past) → IsOrderly p → IsOrderly (with_action action p)
 orderly_with_action (actions.Submit step) p o = record {
   closing = ap (λ b. b || is_close step) o.closing ∙ sym (closes_joined p.steps step);
-  late = λ e. o.late (none_of_both p.closing (is_close step) e);
+  late = λ e. o.late (or_parts p.closing (is_close step) e).0;
 }
 orderly_with_action actions.Read p o = o
 orderly_with_action actions.PollMail p o = o
@@ -158,25 +123,14 @@ orderly_after event action p o = go (is_stray action)
 opens : (event : Event) (action : Action) (new : SeatMachine) → OpensLine event action new → OpensPast event action new
 unfolding StandsFor
 opens events.Opened action new h = λ e. ((h e).0, ((h e).1, record { closing = refl; late = λ f. refl }))
-opens events.Submitted action new h = tt
-opens (events.Bytes bytes) action new h = tt
-opens events.NothingYet action new h = tt
-opens events.EndOfInput action new h = tt
-opens events.ReadFault action new h = tt
-opens (events.Mail answer) action new h = tt
-opens events.WriteDone action new h = tt
-opens events.WriteFault action new h = tt
+opens _ action new h = tt
 
 over_at : (old : SeatMachine) (event : Event) (action : Action) (p : Past) → AgreesWith old p
     → IfLineOver action (λ end. (q : Past) → AgreesWith old q → (written : List ℕ)
     → IsServed old.reader.max_job_size written end (past_after event action q))
     → IfLineOver action (λ end. (written : List ℕ) → IsServed old.reader.max_job_size written end (with_event event p))
-over_at old event (actions.Submit step) p h over = tt
-over_at old event actions.Read p h over = tt
-over_at old event actions.PollMail p h over = tt
-over_at old event (actions.Write answer) p h over = tt
 over_at old event (actions.LineOver end) p h over = over p h
-over_at old event actions.Stray p h over = tt
+over_at old event _ p h over = tt
 
 pub is_move : (old : SeatMachine) (event : Event) (action : Action) (new : SeatMachine) → IsStagedMove old event action new
     → IsMove old event action new

@@ -11,13 +11,12 @@ use Rattle.bq_job.specs.declared.answer.Answer.{Answer}
 use Rattle.bq_job.specs.declared.line_end.LineEnd.TheVariants as ends
 use Rattle.bq_job.specs.promise.LineSteps.{AreAllAnswered, answered_count, wanted}
 use Rattle.bq_seat.specs.InTurn.{IsInTurn}
-use Rattle.bq_seat.proofs.StepLemmas.{answered_count-asked}
+use Rattle.bq_seat.proofs.StepLemmas.{answered_count-asked, has_quit-last, map-asked}
 use Rattle.bq_seat.specs.Past.{Awaited, Past}
 use Rattle.bq_seat.specs.SeatStands.{HasAskedQuit, StandsInStage, awaited_at, end_if, has_quit}
 use Rattle.bq_wire.specs.declared.reader.ReaderState.{ReaderState}
 use Rattle.bq_seat.specs.declared.machine.Stage.{Stage}
 use Rattle.bq_seat.specs.declared.machine.Stage.TheVariants as stages
-use Rattle.bq_seat.proofs.ReadingLemmas.{neither}
 
 -- lists with a last element
 pub last_same : {A : Type 0} (xs ys : List A) (x y : A) → xs ++ x ∷ [] ≡ ys ++ y ∷ [] → (xs ≡ ys) × (x ≡ y)
@@ -43,14 +42,6 @@ pub ends_by : (r : Request) (asked : List Request) → EndsBy (r ∷ asked)
 ends_by r [] = record { before = []; last = r; is = refl }
 ends_by r (s ∷ asked) = let more = ends_by s asked in record { before = r ∷ more.before; last = more.last; is = ap (λ xs. r ∷ xs) more.is }
 
-pub quit_before : (asked : List Request) (r : Request) → has_quit (asked ++ r ∷ []) ≡ false → has_quit asked ≡ false
-quit_before [] r e = refl
-quit_before (a ∷ asked) r e = let both = neither (_) (has_quit (asked ++ r ∷ [])) e in rw both.0 (quit_before asked r both.1)
-
-pub asks_last : (asked : List Request) (q : Request) → map steps.Ask (asked ++ q ∷ []) ≡ map steps.Ask asked ++ steps.Ask q ∷ []
-asks_last [] q = refl
-asks_last (r ∷ asked) q = ap (λ x. steps.Ask r ∷ x) (asks_last asked q)
-
 pub wanted_joined : (xs ys : List Step) → wanted (xs ++ ys) ≡ wanted xs + wanted ys
 wanted_joined [] ys = omega arith
 wanted_joined (steps.Ask r ∷ xs) ys = omega (arith, wanted_joined xs ys)
@@ -70,9 +61,9 @@ asks_at [] taken mail step e count none = absurd (omega arith)
 asks_at (r ∷ asked) taken mail step e count none =
     let ends = ends_by r asked in
     let whole : taken ++ step ∷ [] ≡ (steps.Connect ∷ map steps.Ask ends.before) ++ steps.Ask ends.last ∷ [] =
-    e ∙ ap (λ rs. steps.Connect ∷ map steps.Ask rs) ends.is ∙ ap (λ xs. steps.Connect ∷ xs) (asks_last ends.before ends.last) in
+    e ∙ ap (λ rs. steps.Connect ∷ map steps.Ask rs) ends.is ∙ ap (λ xs. steps.Connect ∷ xs) (map-asked ends.before ends.last) in
     let last = last_same taken (steps.Connect ∷ map steps.Ask ends.before) step (steps.Ask ends.last) whole in
-    let quit : has_quit ends.before ≡ false = quit_before ends.before ends.last (ap has_quit (sym ends.is) ∙ none) in
+    let quit : has_quit ends.before ≡ false = (has_quit-last ends.before ends.last (ap has_quit (sym ends.is) ∙ none)).0 in
     let long = length-append ends.before (ends.last ∷ []) in
     let same = ap length ends.is in
     in_place taken mail last.1 (ends.before, record { steps_are = last.0; no_quit = quit }, omega arith)
@@ -122,23 +113,18 @@ few_missing ends.ReadFault asked mail (inr h) = let one = h.1 in omega arith
 pub in_turn : (stage : Stage) (reader : ReaderState) (kept : List ℕ) (told : Bool) (p : Past) (taken : List Step) (step : Step)
     → awaited_at stage ≡ Awaited.ASubmission → p.steps ≡ taken ++ step ∷ [] → StandsInStage stage reader kept told p
     → IsInTurn step taken p.mail
-in_turn stages.Between reader kept told p taken step e are h = cc
 in_turn stages.Connecting reader kept told p taken step e are h = connects taken p.mail step (sym are ∙ h.2)
-in_turn stages.Reading reader kept told p taken step e are h = cc
 in_turn (stages.Asking waits) reader kept told p taken step e are h =
     let o = h.0.0 in
     asks_at o.asked taken p.mail step (sym are ∙ o.stepped.steps_are ∙ ap (λ t. (steps.Connect ∷ map steps.Ask o.asked) ++ end_if t) h.1
     ∙ append-nil (steps.Connect ∷ map steps.Ask o.asked)) o.handed.answered o.stepped.no_quit
-in_turn (stages.Polling waits) reader kept told p taken step e are h = cc
-in_turn stages.ReadingOn reader kept told p taken step e are h = cc
 in_turn stages.TellingEnd reader kept told p taken step e are h =
     let o = h.0.0 in
     tells_at o.asked taken p.mail step (sym are ∙ o.stepped.steps_are ∙ ap (λ t. (steps.Connect ∷ map steps.Ask o.asked) ++ end_if t) h.1)
     o.stepped.no_quit o.handed.answered
-in_turn stages.Writing reader kept told p taken step e are h = cc
 in_turn stages.AskingQuit reader kept told p taken step e are h = quits_at taken p step are h.2
 in_turn (stages.Closing end) reader kept told p taken step e are h =
     let line = (h.served []).line in
     closes_at line.asked line.end_steps taken p.mail step (sym are ∙ line.steps_are)
     (elim line.ends [ inl none ↦ inl none | inr one ↦ inr one.0 ]) (few_missing end line.asked p.mail (h.served []).answered)
-in_turn (stages.Leaving end) reader kept told p taken step e are h = cc
+in_turn _ reader kept told p taken step e are h = cc

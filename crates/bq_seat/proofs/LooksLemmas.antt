@@ -1,7 +1,7 @@
 -- What the steps and the mail of a line imply for the machine's next action.
-use Rattle.std.proofs.Common.{◌≡◌, ℕ, suc, ◌+◌, ◌<◌, Bool, true, false, ◌&&◌, ◌==◌, not, List, []}
-use Rattle.std.proofs.Common.{◌∷◌, ◌++◌, Some, map, length, refl, sym, ap, ◌∙◌, arith, subst, append-nil}
-use Rattle.std.proofs.lemmas.Bool.Decides.{nat_tests}
+use Rattle.std.proofs.Common.{◌≡◌, ℕ, ◌+◌, ◌<◌, Bool, true, false, ◌&&◌, ◌==◌, not, List, []}
+use Rattle.std.proofs.Common.{◌∷◌, ◌++◌, Some, map, length, refl, sym, ap, ◌∙◌, arith, subst}
+use Rattle.std.proofs.lemmas.{Bool.Decides.nat_tests, Grind.common_steps}
 use Rattle.bq_job.specs.declared.request.Request.{Request}
 use Rattle.bq_job.specs.declared.request.Request.TheVariants as requests
 use Rattle.bq_job.specs.declared.step.Step.{Step}
@@ -15,9 +15,8 @@ use Rattle.bq_seat.specs.Past.{Past}
 use Rattle.bq_seat.specs.SeatStands.{HasAskedQuit, IsClosing, IsOpen, IsWaiting, end_if, has_quit}
 use Rattle.bq_seat.specs.declared.machine.Action.{Action}
 use Rattle.bq_seat.specs.declared.machine.Action.TheVariants as actions
-use Rattle.bq_seat.proofs.InTurnLemmas.{asks_last, ends_by, wanted_joined}
-use Rattle.bq_seat.proofs.ReadingLemmas.{neither}
-use Rattle.bq_seat.proofs.StepLemmas.{answered_count-asked}
+use Rattle.bq_seat.proofs.InTurnLemmas.{ends_by, wanted_joined}
+use Rattle.bq_seat.proofs.StepLemmas.{answered_count-asked, has_quit-last, map-asked}
 
 last_step-append : (taken : List Step) (step : Step) → last_step (taken ++ step ∷ []) ≡ Some step
 last_step-append [] step = refl
@@ -39,36 +38,27 @@ no_quit_behind : (last : Request) → is_quit last ≡ false → LooksBehindStep
 no_quit_behind requests.Quit e = cc
 no_quit_behind _ e = refl
 
-last_no_quit : (before : List Request) (last : Request) → has_quit (before ++ last ∷ []) ≡ false → is_quit last ≡ false
-last_no_quit [] last e = (neither (is_quit last) false e).0
-last_no_quit (r ∷ before) last e = last_no_quit before last (neither (is_quit r) (has_quit (before ++ last ∷ [])) e).1
-
 behind_asked : (asked : List Request) (taken : List Step) → taken ≡ steps.Connect ∷ map steps.Ask asked → 0 < length asked
     → has_quit asked ≡ false → LooksBehindStep (last_step taken) actions.PollMail
 behind_asked [] taken is some none = absurd (omega arith)
 behind_asked (r ∷ asked) taken is some none =
     let ends = ends_by r asked in
     let whole : taken ≡ (steps.Connect ∷ map steps.Ask ends.before) ++ steps.Ask ends.last ∷ [] =
-    is ∙ ap (λ rs. steps.Connect ∷ map steps.Ask rs) ends.is ∙ ap (λ xs. steps.Connect ∷ xs) (asks_last ends.before ends.last) in
+    is ∙ ap (λ rs. steps.Connect ∷ map steps.Ask rs) ends.is ∙ ap (λ xs. steps.Connect ∷ xs) (map-asked ends.before ends.last) in
     let last = ap last_step whole ∙ last_step-append (steps.Connect ∷ map steps.Ask ends.before) (steps.Ask ends.last) in
     subst (λ s. LooksBehindStep s actions.PollMail) (sym last)
-    (no_quit_behind ends.last (last_no_quit ends.before ends.last (ap has_quit (sym ends.is) ∙ none)))
+    (no_quit_behind ends.last (has_quit-last ends.before ends.last (ap has_quit (sym ends.is) ∙ none)).1)
 
--- after a request that wants an answer
-pub behind_request : (r : ReaderState) (kept : List ℕ) (told : Bool) (p : Past) → IsOpen r kept told 1 p → told ≡ false
-    → LooksBehindStep (last_step p.steps) actions.PollMail
-behind_request r kept told p o untold =
-    behind_asked o.asked p.steps (o.stepped.steps_are ∙ ap (λ t. (steps.Connect ∷ map steps.Ask o.asked) ++ end_if t) untold
-    ∙ append-nil (steps.Connect ∷ map steps.Ask o.asked))
-    (let all = o.handed.answered in omega arith) o.stepped.no_quit
+module _ {r : ReaderState} {kept : List ℕ} {told : Bool} {p : Past} (o : IsOpen r kept told 1 p) where
+  -- after a request that wants an answer
+  pub behind_request : told ≡ false → LooksBehindStep (last_step p.steps) actions.PollMail
+  behind_request untold =
+      behind_asked o.asked p.steps (grind (arith, common_steps)) (let all = o.handed.answered in omega arith) o.stepped.no_quit
 
--- after the end was submitted
-pub behind_end : (r : ReaderState) (kept : List ℕ) (told : Bool) (p : Past) → IsOpen r kept told 1 p → told ≡ true
-    → LooksBehindStep (last_step p.steps) actions.PollMail
-behind_end r kept told p o was_told =
-    let is = ap last_step (o.stepped.steps_are ∙ ap (λ t. (steps.Connect ∷ map steps.Ask o.asked) ++ end_if t) was_told)
-    ∙ last_step-append (steps.Connect ∷ map steps.Ask o.asked) steps.End in
-    subst (λ s. LooksBehindStep s actions.PollMail) (sym is) refl
+  -- after the end was submitted
+  pub behind_end : told ≡ true → LooksBehindStep (last_step p.steps) actions.PollMail
+  behind_end was_told = let is = last_step-append (steps.Connect ∷ map steps.Ask o.asked) steps.End in
+      rw (o.stepped.steps_are, was_told, is) refl
 
 -- after the close
 pub behind_close : (size : ℕ) (end : LineEnd) (p : Past) → IsClosing size end p → LooksBehindStep (last_step p.steps) actions.PollMail
@@ -81,9 +71,9 @@ no_ends : (told : Bool) → wanted (end_if told) ≡ 0
 no_ends true = refl
 no_ends false = refl
 
-pub wanted_open : (r : ReaderState) (kept : List ℕ) (told : Bool) (out : ℕ) (p : Past) → IsOpen r kept told out p
+pub wanted_open : {r : ReaderState} {kept : List ℕ} {told : Bool} {out : ℕ} {p : Past} → IsOpen r kept told out p
     → wanted p.steps ≡ length p.mail + out
-wanted_open r kept told out p o =
+wanted_open {told = told} o =
     let same = ap wanted o.stepped.steps_are in
     let joined = wanted_joined (map steps.Ask o.asked) (end_if told) in
     let all = answered_count-asked o.asked o.stepped.no_quit in
@@ -91,20 +81,12 @@ wanted_open r kept told out p o =
     omega (arith, no_ends told)
 
 -- no answer is outstanding
-pub answered_all : (r : ReaderState) (kept : List ℕ) (told : Bool) (p : Past) → IsOpen r kept told 0 p → is_unanswered p ≡ false
-answered_all r kept told p o = let w = wanted_open r kept told 0 p o in at (is_unanswered p) refl w
-  where
-    at : (b : Bool) → is_unanswered p ≡ b → wanted p.steps ≡ length p.mail + 0 → b ≡ false
-    at false e w = refl
-    at true e w = absurd (grind (arith, nat_tests))
+pub answered_all : {r : ReaderState} {kept : List ℕ} {told : Bool} {p : Past} → IsOpen r kept told 0 p → is_unanswered p ≡ false
+answered_all o = let w = wanted_open o in grind (arith, nat_tests)
 
 -- an answer is outstanding
-pub one_unanswered : (r : ReaderState) (kept : List ℕ) (told : Bool) (p : Past) → IsOpen r kept told 1 p → is_unanswered p ≡ true
-one_unanswered r kept told p o = let w = wanted_open r kept told 1 p o in at (is_unanswered p) refl w
-  where
-    at : (b : Bool) → is_unanswered p ≡ b → wanted p.steps ≡ length p.mail + 1 → b ≡ true
-    at true e w = refl
-    at false e w = absurd (grind (arith, nat_tests))
+pub one_unanswered : {r : ReaderState} {kept : List ℕ} {told : Bool} {p : Past} → IsOpen r kept told 1 p → is_unanswered p ≡ true
+one_unanswered o = let w = wanted_open o in grind (arith, nat_tests)
 
 asked_in-ends : (asked : List Request) (told : Bool) → asked_in (map steps.Ask asked ++ end_if told) ≡ asked
 asked_in-ends [] true = refl
@@ -112,28 +94,10 @@ asked_in-ends [] false = refl
 asked_in-ends (r ∷ asked) told = ap (λ rs. r ∷ rs) (asked_in-ends asked told)
 
 -- whether the line is read while an answer is outstanding
-pub read_on_is : (r : ReaderState) (kept : List ℕ) (told waits : Bool) (p : Past) → IsWaiting r kept told waits p
+pub read_on_is : {r : ReaderState} {told waits : Bool} {p : Past} (kept : List ℕ) → IsWaiting r kept told waits p
     → is_read_on kept p ≡ (waits && not told && (length kept == 0))
-read_on_is r [] told waits p w =
+read_on_is {told = told} [] w =
     let o = w.0 in
     let may_wait = ap (λ s. ends_by_wait (asked_in s)) o.stepped.steps_are ∙ ap ends_by_wait (asked_in-ends o.asked told) ∙ w.1 in
-    let t = o.stepped.ended_is in
-    rw may_wait (rw t (last waits told))
-  where
-    last : (a b : Bool) → (a && not b) ≡ (a && not b && true)
-    last true true = refl
-    last true false = refl
-    last false b = refl
-read_on_is r (b ∷ kept) told waits p w = none waits told
-  where
-    some : (n : ℕ) → (suc n == 0) ≡ false
-    some n = at (suc n == 0) refl
-      where
-        at : (t : Bool) → (suc n == 0) ≡ t → t ≡ false
-        at false e = refl
-        at true e = absurd (grind (arith, nat_tests))
-
-    none : (x y : Bool) → false ≡ (x && not y && (length (b ∷ kept) == 0))
-    none true true = refl
-    none true false = sym (some (length kept))
-    none false y = refl
+    rw (may_wait, o.stepped.ended_is) (grind (arith, common_steps, nat_tests))
+read_on_is (b ∷ kept) w = grind (arith, common_steps, nat_tests)

@@ -1,5 +1,5 @@
 -- How many answers are outstanding while a line is read.
-use Rattle.std.proofs.Common.{◌≡◌, ℕ, ◌+◌, Bool, true, false, List, ◌∷◌, ◌++◌, length, map, arith, refl, ap, ◌∙◌, append-nil}
+use Rattle.std.proofs.Common.{◌≡◌, ℕ, ◌+◌, Bool, true, false, List, ◌∷◌, ◌++◌, length, map, arith, refl, ap, subst, ◌∙◌, append-nil}
 use Rattle.std.proofs.lemmas.List.{length-map}
 use Rattle.bq_job.specs.declared.step.Step.TheVariants as steps
 use Rattle.bq_wire.specs.declared.reader.ReaderState.{ReaderState}
@@ -25,34 +25,13 @@ in_stage_reads : (stage : Stage) (reader : ReaderState) (kept : List ℕ) (told 
     → StandsInStage stage reader kept told p → length p.steps ≡ length p.mail + 1
 in_stage_reads stages.Reading reader kept told p other reads s = many_steps reader kept told 0 p s.2 s.0
 in_stage_reads stages.ReadingOn reader kept told p other reads s = absurd (other refl)
-in_stage_reads stages.Between reader kept told p other reads s = absurd cc
-in_stage_reads stages.Connecting reader kept told p other reads s = absurd cc
-in_stage_reads (stages.Asking waits) reader kept told p other reads s = absurd cc
-in_stage_reads (stages.Polling waits) reader kept told p other reads s = absurd cc
-in_stage_reads stages.TellingEnd reader kept told p other reads s = absurd cc
-in_stage_reads stages.Writing reader kept told p other reads s = absurd cc
-in_stage_reads stages.AskingQuit reader kept told p other reads s = absurd cc
-in_stage_reads (stages.Closing end) reader kept told p other reads s = absurd cc
-in_stage_reads (stages.Leaving end) reader kept told p other reads s = absurd cc
+in_stage_reads _ reader kept told p other reads s = absurd cc
 
 pub reads_alone : (m : SeatMachine) → (m.stage ≡ stages.ReadingOn → ⊥) → ReadsWith false m
 unfolding StandsFor
 reads_alone m other reads p s = in_stage_reads m.stage m.reader m.kept m.end_told p other reads s.0
 
-reads_on_in : (stage : Stage) (reader : ReaderState) (kept : List ℕ) (told : Bool) (p : Past) → stage ≡ stages.ReadingOn
-    → StandsInStage stage reader kept told p → length p.steps ≡ length p.mail + 2
-reads_on_in stages.ReadingOn reader kept told p is s = many_steps reader kept told 1 p s.2 s.0.0
-reads_on_in stages.Reading reader kept told p is s = absurd cc
-reads_on_in stages.Between reader kept told p is s = absurd cc
-reads_on_in stages.Connecting reader kept told p is s = absurd cc
-reads_on_in (stages.Asking waits) reader kept told p is s = absurd cc
-reads_on_in (stages.Polling waits) reader kept told p is s = absurd cc
-reads_on_in stages.TellingEnd reader kept told p is s = absurd cc
-reads_on_in stages.Writing reader kept told p is s = absurd cc
-reads_on_in stages.AskingQuit reader kept told p is s = absurd cc
-reads_on_in (stages.Closing end) reader kept told p is s = absurd cc
-reads_on_in (stages.Leaving end) reader kept told p is s = absurd cc
-
 pub reads_with_one : (m : SeatMachine) → m.stage ≡ stages.ReadingOn → ReadsWith true m
 unfolding StandsFor
-reads_with_one m is reads p s = reads_on_in m.stage m.reader m.kept m.end_told p is s.0
+reads_with_one m is reads p s =
+    let h = subst (λ t. StandsInStage t m.reader m.kept m.end_told p) is s.0 in many_steps m.reader m.kept m.end_told 1 p h.2 h.0.0

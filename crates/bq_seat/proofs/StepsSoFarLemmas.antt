@@ -1,7 +1,8 @@
 -- An open line by its machine's stage: the steps that were submitted for it, and the answers that
 -- were given for writing.
 use Rattle.std.proofs.Common.{◌≡◌, ℕ, Bool, true, false, List, [], ◌∷◌, ◌++◌, IsTrue, not, ◌&&◌}
-use Rattle.std.proofs.Common.{refl, sym, ap, ◌∙◌, subst, inl, inr, append-nil, append_assoc}
+use Rattle.std.proofs.Common.{refl, sym, ap, ◌∙◌, ◌⊎◌, inl, inr, append-nil, append_assoc}
+use Rattle.std.proofs.lemmas.Bool.{and_parts}
 use Rattle.bq_job.specs.declared.line_end.LineEnd.{LineEnd}
 use Rattle.bq_job.specs.declared.line_end.LineEnd.TheVariants as ends
 use Rattle.bq_job.specs.declared.request.Request.{Request}
@@ -38,15 +39,11 @@ units_begin size bytes (r ∷ asked) more u =
       are_units = (u.0, b.first, refl, u.3, b.are_units);
     }
 
-and_both : (a b : Bool) → (a && b) ≡ true → (a ≡ true) × (b ≡ true)
-and_both true b e = (refl, e)
-and_both false b e = absurd cc
-
 quits_begin : (asked more : List Request) → IsTrue (quits_last (asked ++ more)) → IsTrue (quits_last asked)
 quits_begin [] more q = refl
 quits_begin (r ∷ []) more q = refl
 quits_begin (r ∷ n ∷ asked) more q =
-    let both = and_both (not (is_quit r)) (quits_last (n ∷ (asked ++ more))) q in
+    let both = and_parts (not (is_quit r)) (quits_last (n ∷ (asked ++ more))) q in
     rw both.0 (quits_begin (n ∷ asked) more both.1)
 
 -- Of the requests that were read, all were asked, or a first part.
@@ -66,12 +63,11 @@ asked_of line ends.WriteFault read asked o = record { more = o.0; read_is = o.1 
 -- ---- the steps of a line
 
 -- the steps are a beginning of those of a line that has ended
-steps_of_served : (size : ℕ) (line : LineHeard) (end : LineEnd) (all taken more : List Step) → IsStepsOfLine size line end all
-    → all ≡ taken ++ more → IsStepsSoFar size line taken
-steps_of_served size line end all taken more l is =
+steps_of_served : (size : ℕ) (line : LineHeard) (end : LineEnd) (taken more : List Step) → IsStepsOfLine size line end (taken ++ more)
+    → IsStepsSoFar size line taken
+steps_of_served size line end taken more l =
     let a = asked_of line end l.requests l.asked l.is_over in
-    let units = subst (λ (rs : List Request). AreUnits size l.reads.units rs) a.read_is l.reads.are_units in
-    let b = units_begin size l.reads.units l.asked a.more units in
+    let b = units_begin size l.reads.units l.asked a.more (rw a.read_is at l.reads.are_units) in
     record {
       first = b.first;
       rest = b.rest ++ l.rest;
@@ -83,11 +79,11 @@ steps_of_served size line end all taken more l is =
         units = b.first;
         text_is = sym (append-nil b.first);
         are_units = b.are_units;
-        last_quits = quits_begin l.asked a.more (subst (λ (rs : List Request). IsTrue (quits_last rs)) a.read_is l.reads.last_quits);
+        last_quits = quits_begin l.asked a.more (rw a.read_is at l.reads.last_quits);
         ended = inr (BeginsNoUnit-[] size);
       };
       ends = l.ends;
-      begins = sym l.steps_are ∙ is;
+      begins = sym l.steps_are;
     }
 
 ends_told : (line : LineHeard) (asked : List Request) (told : Bool)
@@ -118,48 +114,43 @@ steps_of_open reader kept told outstanding p written o =
 pub same_steps : (xs : List Step) → xs ≡ xs ++ []
 same_steps xs = sym (append-nil xs)
 
--- in each stage
-steps_in : (stage : Stage) (reader : ReaderState) (kept : List ℕ) (told : Bool) (p : Past) (written : List ℕ)
-    → StandsInStage stage reader kept told p → IsStepsSoFar reader.max_job_size (heard (seen_line written p)) p.steps
-steps_in stages.Between reader kept told p written s =
-    steps_of_served reader.max_job_size (heard (seen_line written p)) s.0 p.steps p.steps [] (s.1 written).to_close.line (same_steps p.steps)
-steps_in stages.Connecting reader kept told p written s = steps_of_open reader kept told 0 p written s.0
-steps_in stages.Reading reader kept told p written s = steps_of_open reader kept told 0 p written s.0
-steps_in (stages.Asking waits) reader kept told p written s = steps_of_open reader kept told 1 p written s.0.0
-steps_in (stages.Polling waits) reader kept told p written s = steps_of_open reader kept told 1 p written s.0
-steps_in stages.ReadingOn reader kept told p written s = steps_of_open reader kept told 1 p written s.0.0
-steps_in stages.TellingEnd reader kept told p written s = steps_of_open reader kept told 1 p written s.0.0
-steps_in stages.Writing reader kept told p written s = steps_of_open reader kept told 0 p written s.0
-steps_in stages.AskingQuit reader kept told p written s =
-    steps_of_served reader.max_job_size (heard (seen_line written p)) ends.Quit (p.steps ++ steps.Close ∷ []) p.steps (steps.Close ∷ [])
-    (s.1.served written).line refl
-steps_in (stages.Closing end) reader kept told p written s =
-    steps_of_served reader.max_job_size (heard (seen_line written p)) end p.steps p.steps [] (s.served written).line (same_steps p.steps)
-steps_in (stages.Leaving end) reader kept told p written s =
-    steps_of_served reader.max_job_size (heard (seen_line written p)) end p.steps p.steps [] (s.served written).line (same_steps p.steps)
+-- What a stage says of its line: it is open, or it was served until its close, which these steps may
+-- still lack.
+record IsServedBy (end : LineEnd) (more : List Step) (reader : ReaderState) (p : Past) : Type 0 where
+  line : (written : List ℕ) → IsStepsOfLine reader.max_job_size (heard (seen_line written p)) end (p.steps ++ more)
+  handed : p.written ≡ p.mail
 
--- ---- what was handed out
-
-handed_in : (stage : Stage) (reader : ReaderState) (kept : List ℕ) (told : Bool) (p : Past) → StandsInStage stage reader kept told p
-    → p.written ≡ p.mail
-handed_in stages.Between reader kept told p s = (s.1 []).to_close.handed_out
-handed_in stages.Connecting reader kept told p s = s.0.handed.written_is
-handed_in stages.Reading reader kept told p s = s.0.handed.written_is
-handed_in (stages.Asking waits) reader kept told p s = s.0.0.handed.written_is
-handed_in (stages.Polling waits) reader kept told p s = s.0.handed.written_is
-handed_in stages.ReadingOn reader kept told p s = s.0.0.handed.written_is
-handed_in stages.TellingEnd reader kept told p s = s.0.0.handed.written_is
-handed_in stages.Writing reader kept told p s = s.0.handed.written_is
-handed_in stages.AskingQuit reader kept told p s = (s.1.served []).handed_out
-handed_in (stages.Closing end) reader kept told p s = (s.served []).handed_out
-handed_in (stages.Leaving end) reader kept told p s = (s.served []).handed_out
+line_in : (stage : Stage) (reader : ReaderState) (kept : List ℕ) (told : Bool) (p : Past) → StandsInStage stage reader kept told p
+    → ((outstanding : ℕ) × IsOpen reader kept told outstanding p) ⊎ ((end : LineEnd) × (more : List Step) × IsServedBy end more reader p)
+line_in stages.Between reader kept told p s =
+    inr (
+      s.0,
+      [],
+      record { line = λ written. rw (append-nil p.steps) (s.1 written).to_close.line; handed = (s.1 []).to_close.handed_out },
+    )
+line_in stages.Connecting reader kept told p s = inl (0, s.0)
+line_in stages.Reading reader kept told p s = inl (0, s.0)
+line_in (stages.Asking waits) reader kept told p s = inl (1, s.0.0)
+line_in (stages.Polling waits) reader kept told p s = inl (1, s.0)
+line_in stages.ReadingOn reader kept told p s = inl (1, s.0.0)
+line_in stages.TellingEnd reader kept told p s = inl (1, s.0.0)
+line_in stages.Writing reader kept told p s = inl (0, s.0)
+line_in stages.AskingQuit reader kept told p s =
+    inr (ends.Quit, steps.Close ∷ [], record { line = λ written. (s.1.served written).line; handed = (s.1.served []).handed_out })
+line_in (stages.Closing end) reader kept told p s =
+    inr (end, [], record { line = λ written. rw (append-nil p.steps) (s.served written).line; handed = (s.served []).handed_out })
+line_in (stages.Leaving end) reader kept told p s =
+    inr (end, [], record { line = λ written. rw (append-nil p.steps) (s.served written).line; handed = (s.served []).handed_out })
 
 -- These two are what a machine's stage says, for the crates above the seat.
 pub steps_stand : (m : SeatMachine) (p : Past) (written : List ℕ) → StandsFor m p
     → IsStepsSoFar m.reader.max_job_size (heard (seen_line written p)) p.steps
 unfolding StandsFor
-steps_stand m p written s = steps_in m.stage m.reader m.kept m.end_told p written s.0
+steps_stand m p written s = elim (line_in m.stage m.reader m.kept m.end_told p s.0) [
+  | inl o ↦ steps_of_open m.reader m.kept m.end_told o.0 p written o.1
+  | inr l ↦ steps_of_served m.reader.max_job_size (heard (seen_line written p)) l.0 p.steps l.1 (l.2.line written)
+]
 
 pub handed_stand : (m : SeatMachine) (p : Past) → StandsFor m p → p.written ≡ p.mail
 unfolding StandsFor
-handed_stand m p s = handed_in m.stage m.reader m.kept m.end_told p s.0
+handed_stand m p s = elim (line_in m.stage m.reader m.kept m.end_told p s.0) [ inl o ↦ o.1.handed.written_is | inr l ↦ l.2.handed ]

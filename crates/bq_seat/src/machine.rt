@@ -149,7 +149,6 @@ impl SeatMachine {
     /// which may be the last action, is ignored.
     ///
     /// An event that does not answer the last action changes nothing, and `next` becomes `Stray`.
-    #[tactic(auto, using(crate::proofs::FindLemmas::is_move))]
     pub fn opened(&mut self, next: &mut Action)
         ensures { IsMove self.old Event.Opened next.new self.new }
     {
@@ -166,7 +165,6 @@ impl SeatMachine {
     }
 
     /// The step was submitted. Like `bytes` and `write_done` it allocates only the body of a put.
-    #[tactic(auto, using(crate::proofs::FindLemmas::is_move))]
     pub fn submitted(&mut self, alloc: Global, next: &mut Action)
         ensures { IsMove self.old Event.Submitted next.new self.new }
     {
@@ -181,7 +179,6 @@ impl SeatMachine {
     }
 
     /// These bytes were read, at most 4,096.
-    #[tactic(auto, using(crate::proofs::FindLemmas::is_move))]
     pub fn bytes(&mut self, alloc: Global, bytes: &[u8], next: &mut Action)
         requires { length bytes.now ≤ PIECE_ROOM }
         ensures { IsMove self.old (Event.Bytes bytes.entry) next.new self.new }
@@ -197,7 +194,6 @@ impl SeatMachine {
     }
 
     /// There was nothing to read, or no mail.
-    #[tactic(auto, using(crate::proofs::FindLemmas::is_move))]
     pub fn nothing_yet(&mut self, next: &mut Action)
         ensures { IsMove self.old Event.NothingYet next.new self.new }
     {
@@ -211,7 +207,6 @@ impl SeatMachine {
     }
 
     /// The client sends no more.
-    #[tactic(auto, using(crate::proofs::FindLemmas::is_move))]
     pub fn end_of_input(&mut self, next: &mut Action)
         ensures { IsMove self.old Event.EndOfInput next.new self.new }
     {
@@ -227,7 +222,6 @@ impl SeatMachine {
     }
 
     /// A read of the line failed.
-    #[tactic(auto, using(crate::proofs::FindLemmas::is_move))]
     pub fn read_fault(&mut self, next: &mut Action)
         ensures { IsMove self.old Event.ReadFault next.new self.new }
     {
@@ -240,7 +234,6 @@ impl SeatMachine {
 
     /// An answer came. It must already be in `next` as a `Write`; if it is to be written, it stays
     /// there. If it ends the line, the memory for a body that did not come whole is freed.
-    #[tactic(auto, using(crate::proofs::FindLemmas::is_move))]
     pub fn mail(&mut self, next: &mut Action)
         ensures moved { (answer : Answer) → next.old ≡ Action.Write answer
             → IsMove self.old (Event.Mail answer) next.new self.new }
@@ -255,7 +248,6 @@ impl SeatMachine {
     }
 
     /// The whole answer was written.
-    #[tactic(auto, using(crate::proofs::FindLemmas::is_move))]
     pub fn write_done(&mut self, alloc: Global, next: &mut Action)
         ensures { IsMove self.old Event.WriteDone next.new self.new }
     {
@@ -266,7 +258,6 @@ impl SeatMachine {
     }
 
     /// A write to the line failed.
-    #[tactic(auto, using(crate::proofs::FindLemmas::is_move))]
     pub fn write_fault(&mut self, next: &mut Action)
         ensures { IsMove self.old Event.WriteFault next.new self.new }
     {
