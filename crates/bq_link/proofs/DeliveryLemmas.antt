@@ -1,6 +1,7 @@
 -- Each operation on the intake keeps its rule.
-use Rattle.std.proofs.Common.{◌≡◌, ℕ, ◌<◌, true, List, [], ◌∷◌, ◌++◌, Option}
-use Rattle.std.proofs.Common.{Some, None, refl, sym, ap, ◌∙◌, subst, append_assoc, lt_of_not-le}
+use Rattle.std.proofs.Common.{◌≡◌, ℕ, ◌<◌, true, List, [], ◌∷◌, ◌++◌, Option, arith}
+use Rattle.std.proofs.Common.{Some, None, refl, sym, ap, ◌∙◌, subst, append_assoc}
+use Rattle.std.proofs.lemmas.Grind.{common_steps}
 use mathlib.Core.Option.{some, some-ne-none}
 use lib.ListN.{get_elem?}
 use Rattle.crossbeam_queue.specs.Fifo.{Pushes, Pops, Learns}
@@ -27,13 +28,7 @@ begins was start = record {
 -- the core's pass, when a step is submitted under a number that has been given
 core_grows : (core : ℕ) (owner : ℕ → Option ℕ) (history taken : List (ℕ × Step)) (t : ℕ × Step) (from j : ℕ) (u : View)
     → owner t.0 ≡ Some from → IsCorePass core owner history taken j u → IsCorePass core owner (history ++ t ∷ []) taken j u
-core_grows core owner history taken t from j u is old may = let o = old may in (
-  o.0,
-  o.1,
-  o.2,
-  below_push u.made history t o.3 (lt_of_not-le (λ le. apart owner t.0 t.0 from is (o.2 t.0 le) refl)),
-  covers_push history t u.told o.4,
-)
+core_grows core owner history taken t from j u is old may = grind (arith, common_steps, below_push, apart, covers_push)
 
 pub submits : (was : Invariant) (n pass : ℕ) (v : View) (step : Step) → v.submits ≡ true → MaySubmit was n v.number step
     → Pushes (Delivers was) n pass v (v.number, step) (λ w. w ≡ record v { submitted = v.submitted ++ step ∷ [] })
@@ -68,9 +63,7 @@ submits was n pass v step may stays items views room h at =
 pub submits_as : (was : Invariant) (n pass : ℕ) (v : View) (number : ℕ) (step : Step) → v.submits ≡ true → v.number ≡ number
     → MaySubmit was n number step → Pushes (Delivers was) n pass v (number, step)
     (λ w. w ≡ record v { submitted = v.submitted ++ step ∷ [] })
-submits_as was n pass v number step may is =
-    subst (λ k. MaySubmit was n k step → Pushes (Delivers was) n pass v (k, step)
-    (λ w. w ≡ record v { submitted = v.submitted ++ step ∷ [] })) is (submits was n pass v step may)
+submits_as was n pass v number step may is = grind (arith, common_steps, submits was n pass v step may)
 
 pub takes : (was : Invariant) (pass : ℕ) (v : View) → v.takes ≡ true → MayTake was
     → Pops (Delivers was) pass v (λ x w. (w ≡ record v { taken = v.taken ++ x ∷ [] }) × (x.0 < v.made))
@@ -111,10 +104,7 @@ real was pass v items views may h at = subst (λ l. was l items) (sym (h.takes p
 -- if the intake is empty
 pub covered : (was : Invariant) (pass : ℕ) (v : View) → v.takes ≡ true
     → Learns (Delivers was) pass v (λ items. was v.taken items × Covers (v.taken ++ items) v.told)
-covered was pass v may items views h at = (
-  real was pass v items views may h at,
-  subst (λ l. Covers l v.told) (seen was pass v items views may h at) (h.takes pass v at may).4,
-)
+covered was pass v may items views h at = grind (arith, common_steps, real, seen)
 
 pub compares : (was : Invariant) (pass : ℕ) (v : View) → v.takes ≡ true → v.submits ≡ true
     → Learns (Delivers was) pass v (λ items. was v.taken items × (steps_of v.number (v.taken ++ items) ≡ v.submitted))

@@ -1,10 +1,11 @@
 -- The ends, made one after the other.
 use Rattle.std.proofs.Common.{◌≡◌, ℕ, zero, suc, ◌+◌, ◌<◌, ◌≤◌, List, [], ◌∷◌, ◌++◌}
 use Rattle.std.proofs.Common.{Some, None, length, refl, slice_get, sym, ap, ◌∙◌, subst, arith}
+use Rattle.std.proofs.lemmas.Grind.{common_steps}
 use Rattle.std.proofs.lemmas.List.{get_or_append_left, get_or_push, length-append, replicate_more}
 use mathlib.Core.Logic.{dite}
 use native.Mathlib.Decide.{dec_le}
-use Rattle.bq_link.specs.EndStates.{CoreState, RingId, SeatState, ring_places}
+use Rattle.bq_link.specs.EndStates.{CoreState, RingId, SeatState}
 use Rattle.bq_link.specs.NewEnds.{AreNewSeats, IsNewCore, IsNewSeat, next_seat, with_ring}
 
 get_more : {X : Type 0} (xs ys : List X) (n : ℕ) (x : X) → slice_get xs n ≡ Some x → slice_get (xs ++ ys) n ≡ Some x
@@ -20,13 +21,7 @@ get_last [] x = refl
 get_last (y ∷ xs) x = get_last xs x
 
 pub core_more : (n : ℕ) (core next : CoreState) (ring : RingId) → next ≡ with_ring core ring → IsNewCore n core → IsNewCore (n + 1) next
-core_more n core next ring is new = subst (IsNewCore (n + 1)) (sym is) (record {
-  rings = length-append core.rings (ring ∷ []) ∙ ap (λ k. k + 1) new.rings;
-  taken = new.taken;
-  told = new.told;
-  sent = ap (λ l. l ++ [] ∷ []) new.sent ∙ replicate_more n [];
-  room = ap (λ l. l ++ ring_places ∷ []) new.room ∙ replicate_more n ring_places;
-})
+core_more n core next ring is new = grind (arith, common_steps, length-append, replicate_more)
 
 kept : (core next : CoreState) (ring : RingId) (place : ℕ) (seat : SeatState) → next ≡ with_ring core ring → IsNewSeat core place seat
     → IsNewSeat next place seat

@@ -2,7 +2,8 @@
 use Rattle.std.specs.Prelude.{◌↔◌, IsTrue}
 use Rattle.std.proofs.Common.{◌≡◌, ℕ, Bool, true, false, not, refl, zero, suc, ◌+◌, ◌<◌, ◌≤◌, Global, None, Some, is_some}
 use Rattle.std.proofs.Common.{slice_get, true≢false, List, [], ◌∷◌, ◌++◌, map, length, get_or, set, sym, ap, ◌∙◌, subst, arith}
-use Rattle.std.proofs.lemmas.List.{get_or-map, get_or-set_same, length-map, length-set, map-set, set-get_or}
+use Rattle.std.proofs.lemmas.Grind.{common_steps}
+use Rattle.std.proofs.lemmas.List.{get_or-map, get_or-set_same, length-append, length-map, length-set, map-set, set-get_or}
 use Rattle.std.specs.List.{AllByRecursion as All}
 use Rattle.std.specs.Vec.{with_item}
 use Rattle.bq_job.specs.declared.answer.Answer.{Answer}
@@ -15,8 +16,7 @@ use Rattle.bq_link.specs.Inside.{core_state, ring_of}
 
 -- an element's image stays
 same_image : {X Y : Type 0} (f : X → Y) (xs : List X) (n : ℕ) (d x : X) → f x ≡ f (get_or xs n d) → map f (set xs n x) ≡ map f xs
-same_image f xs n d x same = map-set f xs n x ∙ ap (set (map f xs) n) same ∙ sym (map-set f xs n (get_or xs n d))
-    ∙ ap (map f) (set-get_or xs n d)
+same_image f xs n d x same = grind (arith, common_steps, map-set f xs n x, map-set f xs n (get_or xs n d), set-get_or xs n d)
 
 -- the image of an element that was written
 image_at : {X Y : Type 0} (f : X → Y) (xs : List X) (n : ℕ) (x : X) (e : Y) → n < length xs → get_or (map f (set xs n x)) n e ≡ f x
@@ -48,9 +48,7 @@ length_rings c = length-map c.rings.items (λ (r : Ring). ring_of r)
 
 pub within_of : (c : CoreFields) (old : CoreState) (k number : ℕ) → core_state c ≡ old → k ≡ number → number < length old.rings
     → k < length c.rings.items
-within_of c old k number is at within =
-    let count : length old.rings ≡ length c.rings.items = ap (λ (s : CoreState). length s.rings) (sym is) ∙ length_rings c in
-    subst (λ (n : ℕ × ℕ). n.0 < n.1) (λ i. (sym at i, count i)) within
+within_of c old k number is at within = grind (arith, common_steps, length_rings)
 
 -- an element that was found is in the list
 pub found_within : {X : Type 0} (xs : List X) (n : ℕ) (x : X) → slice_get xs n ≡ Some x → n < length xs
@@ -63,8 +61,7 @@ found_within (y ∷ ys) (suc n) x e = let rest = found_within ys n x e in omega 
 
 -- a ring that was checked twice
 pub looked_twice : (a b c : Ring) → SameProducer a b → SameProducer b c → SameProducer a c
-looked_twice a b c first second =
-    ((second.0.0 ∙ first.0.0, second.0.1 ∙ first.0.1, second.0.2 ∙ first.0.2, second.0.3 ∙ first.0.3), second.1 ∙ first.1)
+looked_twice a b c first second = grind (arith, common_steps)
 
 -- whether a ring is full, as its end reports
 pub some_room : (free room : ℕ) (full : Bool) → (IsTrue full ↔ (free ≡ 0)) → room ≡ free → not full ≡ true → 0 < room
@@ -111,22 +108,26 @@ module _ (c : CoreFields) (old : CoreState) (k number : ℕ) (d p : Ring) (is : 
   }
 
   pub room_now : k < length c.rings.items → room_for (core_state (with_ring c k p)) number ≡ known_free p
-  room_now within = ap (λ n. get_or (map (λ (r : Ring). known_free r) (set c.rings.items k p)) n 0) (sym at)
-      ∙ image_at (λ (r : Ring). known_free r) c.rings.items k p 0 within
+  room_now within = grind (arith, common_steps, image_at)
 
   pub sent_now : k < length c.rings.items → sent_to (core_state (with_ring c k p)) number ≡ sent p
-  sent_now within = ap (λ n. get_or (map (λ (r : Ring). sent r) (set c.rings.items k p)) n []) (sym at)
-      ∙ image_at (λ (r : Ring). sent r) c.rings.items k p [] within
+  sent_now within = grind (arith, common_steps, image_at)
 
   pub room_was : k < length c.rings.items → room_for old number ≡ known_free d
-  room_was within = (λ i. get_or (sym is i).room (sym at i) 0) ∙ get_or-map (λ (r : Ring). known_free r) c.rings.items k d 0 within
-      ∙ ap (λ (r : Ring). known_free r) (sym here)
+  room_was within = grind (arith, common_steps, get_or-map)
 
   pub sent_was : k < length c.rings.items → sent_to old number ≡ sent d
-  sent_was within = (λ i. get_or (sym is i).sent (sym at i) []) ∙ get_or-map (λ (r : Ring). sent r) c.rings.items k d [] within
-      ∙ ap (λ (r : Ring). sent r) (sym here)
+  sent_was within = grind (arith, common_steps, get_or-map)
 
   pub places_of : All (λ (r : Ring). producer_capacity r ≡ ring_places) c.rings.items → k < length c.rings.items
       → producer_capacity d ≡ ring_places
-  places_of all within = ap (λ (r : Ring). producer_capacity r) here
-      ∙ all_at (λ (r : Ring). producer_capacity r ≡ ring_places) c.rings.items k d all within
+  places_of all within = grind (arith, common_steps, all_at)
+
+-- what a ring has, looked at where it lies in the core's end
+pub ruleset looked = (common_steps, within_of, found_within, room_now, sent_now, some_room, no_room, unsent)
+
+-- the room of a ring whose slots were looked at from both ends
+pub ruleset looked_at_both = (looked, places_of, looked_twice, free_or_waiting, length-append)
+
+-- what a ring has, and what it had, where an answer is sent
+pub ruleset sends = (common_steps, within_of, room_now, room_was, sent_now, sent_was, changed, unsent)

@@ -1,15 +1,14 @@
 -- The steps of one end, as the list of all steps grows.
 use Rattle.std.proofs.Common.{◌≡◌, ◌≢◌, ℕ, ◌+◌, ◌<◌, Bool, true, false, List, [], ◌∷◌, ◌++◌}
-use Rattle.std.proofs.Common.{map, cond, refl, sym, ap, ◌∙◌, eq-eqb, ne_eqb, eqb, arith, append_assoc}
+use Rattle.std.proofs.Common.{map, cond, refl, sym, ap, ◌∙◌, eqb, arith, append_assoc}
+use Rattle.std.proofs.lemmas.Grind.{common_steps}
 use Rattle.std.proofs.lemmas.List.{append-nil, map-append}
 use Rattle.std.proofs.lemmas.List.Elements.{filter-append}
-use Rattle.std.specs.List.{filter}
 use Rattle.bq_job.specs.declared.step.Step.{Step}
 use Rattle.bq_link.specs.Submissions.{AreBelow, Covers, steps_of}
 
 of_joined : (number : ℕ) (all more : List (ℕ × Step)) → steps_of number (all ++ more) ≡ steps_of number all ++ steps_of number more
-of_joined number all more = ap (map (λ t. t.1)) (filter-append (λ t. eqb t.0 number) all more)
-    ∙ map-append (λ t. t.1) (filter (λ t. eqb t.0 number) all) (filter (λ t. eqb t.0 number) more)
+of_joined number all more = grind (arith, common_steps, filter-append, map-append)
 
 of_one : (number : ℕ) (t : ℕ × Step) (b : Bool) → eqb t.0 number ≡ b → steps_of number (t ∷ []) ≡ cond b (t.1 ∷ []) []
 of_one number t b is = ap (λ c. map (λ (t : ℕ × Step). t.1) (cond c (t ∷ []) [])) is ∙ picked b
@@ -21,14 +20,12 @@ of_one number t b is = ap (λ c. map (λ (t : ℕ × Step). t.1) (cond c (t ∷ 
 -- a step of this end
 pub of_own : (number : ℕ) (step : Step) (all : List (ℕ × Step))
     → steps_of number (all ++ (number, step) ∷ []) ≡ steps_of number all ++ step ∷ []
-of_own number step all = of_joined number all ((number, step) ∷ [])
-    ∙ ap (λ l. steps_of number all ++ l) (of_one number (number, step) true (eq-eqb number number refl))
+of_own number step all = grind (arith, common_steps, of_joined, of_one)
 
 -- a step of another end
 pub of_other : (number from : ℕ) (step : Step) (all : List (ℕ × Step)) → from ≢ number
     → steps_of number (all ++ (from, step) ∷ []) ≡ steps_of number all
-of_other number from step all other = of_joined number all ((from, step) ∷ [])
-    ∙ ap (λ l. steps_of number all ++ l) (of_one number (from, step) false (ne_eqb from number other)) ∙ append-nil (steps_of number all)
+of_other number from step all other = grind (arith, common_steps, of_joined, of_one, append-nil)
 
 -- the steps taken and then those that wait
 pub of_parts : (number : ℕ) (taken items : List (ℕ × Step)) (submitted : List Step) → steps_of number (taken ++ items) ≡ submitted
@@ -38,9 +35,7 @@ of_parts number taken items submitted is = sym is ∙ of_joined number taken ite
 -- an end with a number that has not been given has no steps
 pub of_none : (number : ℕ) (all : List (ℕ × Step)) → AreBelow number all → steps_of number all ≡ []
 of_none number [] below = refl
-of_none number (t ∷ ts) below = of_joined number (t ∷ []) ts
-    ∙ ap (λ l. l ++ steps_of number ts) (of_one number t false (ne_eqb t.0 number (λ e. omega (arith, e, below.0))))
-    ∙ of_none number ts below.1
+of_none number (t ∷ ts) below = grind (arith, common_steps, of_joined, of_one, of_none number ts below.1)
 
 pub below_more : (ends : ℕ) (all : List (ℕ × Step)) → AreBelow ends all → AreBelow (ends + 1) all
 below_more ends [] below = tt
@@ -56,11 +51,8 @@ below_at ends (x ∷ xs) more t below = below_at ends xs more t below.1
 
 covered_more : (number : ℕ) (known : List Step) (all : List (ℕ × Step)) (t : ℕ × Step)
     → (more : List Step) × (steps_of number all ≡ known ++ more) → (more : List Step) × (steps_of number (all ++ t ∷ []) ≡ known ++ more)
-covered_more number known all t c = (
-  c.0 ++ steps_of number (t ∷ []),
-  of_joined number all (t ∷ [])
-      ∙ ap (λ l. l ++ steps_of number (t ∷ [])) c.1 ∙ append_assoc known c.0 (steps_of number (t ∷ [])),
-)
+covered_more number known all t c =
+    grind (arith, common_steps, of_joined number all (t ∷ []), append_assoc known c.0 (steps_of number (t ∷ [])))
 
 pub covers_push : (all : List (ℕ × Step)) (t : ℕ × Step) (known : List (ℕ × List Step)) → Covers all known → Covers (all ++ t ∷ []) known
 covers_push all t [] covers = tt

@@ -14,6 +14,7 @@ use rtrb::PushError;
 impl CoreEnd {
     /// Sends an answer to the end with this number. If its ring is full, returns the answer
     /// (refusal 402).
+    #[tactic(auto, using(crate::proofs::RingLemmas::sends))]
     pub fn send(&mut self, seat: Seat, answer: Answer) -> Result<(), Answer>
         requires { seat < length self.old.rings }
         ensures sent { OnOk result

@@ -108,6 +108,7 @@ impl CoreEnd {
 
     /// Returns true if the ring of the end with this number has room for one more answer, which
     /// `push` can then send.
+    #[tactic(auto, using(crate::proofs::RingLemmas::looked))]
     pub fn has_room(&mut self, seat: Seat) -> bool
         requires { seat < length self.old.rings }
         ensures room { result ≡ true → 0 < room_for self.new seat }
@@ -119,6 +120,7 @@ impl CoreEnd {
     }
 
     /// Sends an answer to the end with this number, whose ring is known to have room.
+    #[tactic(auto, using(crate::proofs::RingLemmas::sends))]
     pub fn push(&mut self, seat: Seat, answer: Answer)
         requires within { seat < length self.old.rings }
         requires room { 0 < room_for self.old seat }
@@ -132,6 +134,7 @@ impl CoreEnd {
 
     /// For a thread that owns both ends: returns how many answers were sent to the end and not
     /// taken. That many calls of `take_mail` return them, and the ring has room for all others.
+    #[tactic(auto, using(crate::proofs::RingLemmas::looked_at_both))]
     pub fn left(&mut self, seat: &mut SeatEnd) -> usize
         requires { IsPair self.old seat.old }
         ensures counted { result ≡ length seat.new.waiting }
