@@ -1,7 +1,7 @@
 -- What consecutive calls read.
 use Rattle.std.proofs.Common.{◌≡◌, ◌<◌, ◌≤◌, ℕ, ◌+◌, Bool, true, false, MatchBool, List, [], ◌∷◌}
 use Rattle.std.proofs.Common.{◌++◌, ◌⊎◌, inl, inr, Option, Some, None, refl, ◌∙◌, ap, arith, length}
-use Rattle.std.proofs.Common.{append_assoc, append-nil, take, drop, get_or, add-one, take-append-drop, ◌-◌, IsTrue, option_to_list}
+use Rattle.std.proofs.Common.{append_assoc, append-nil, take, drop, get_or, take-append-drop, ◌-◌, IsTrue, option_to_list}
 use Rattle.std.proofs.lemmas.Grind.{common_steps}
 use Rattle.std.proofs.lemmas.List.{drop_all}
 use Rattle.std.proofs.Math.Seq.{take-length, take-suc}
@@ -96,21 +96,13 @@ was_read s taken requests read = (read.rest, HasRead-Reads s taken requests read
 pub Reads-more : (s : ReaderState) (taken more : List ℕ) (requests : List Request) (read : HasRead s taken requests)
     → IsTrue (ends_by_quit requests)
     → Reads s.max_job_size (taken ++ more) requests (read.rest ++ more)
-Reads-more s taken more requests read quit = record {
-  units = read.units;
-  text_is = rw read.taken_is (append_assoc read.units read.rest more);
-  are_units = read.are_units;
-  last_quits = read.last_quits;
-  ended = inl quit;
-}
+Reads-more s taken more requests read quit = grind (arith, common_steps, append_assoc, quit)
 
 -- a request from the rest of a piece
 pub read_further : (old new : ReaderState) (taken piece : List ℕ) (from count : ℕ) (requests : List Request) (r : Request)
     → HasRead old (taken ++ take from piece) requests → ReadsOn old new (take (length piece - from) (drop from piece)) count (Some r)
     → HasRead new (taken ++ take (from + count) piece) (requests ++ r ∷ [])
-read_further old new taken piece from count requests r read reads =
-    rw (take_two piece from count, ← append_assoc taken (take from piece) (take count (take (length piece - from) (drop from piece))))
-    (reads (taken ++ take from piece) requests read)
+read_further old new taken piece from count requests r read reads = grind (arith, common_steps, take_two, append_assoc)
 
 -- no request from the rest of a piece
 pub read_to_end : (old new : ReaderState) (taken piece : List ℕ) (from count : ℕ) (requests : List Request) (request : Option Request)
@@ -192,10 +184,7 @@ HasReadText-Reads s text requests read = go read.all read.read.goes_on
 -- no request comes after a quit
 pub over_gives_none : (was now : ReaderState) (request : Option Request) (r : Request) → was.place ≡ Over → now ≡ was → request ≡ Some r
     → (now.place ≡ Over → request ≡ None) → ⊥
-over_gives_none was now request r e same some over =
-    let still : now.place ≡ Over = ap (λ s. s.place) same ∙ e in
-    let none : request ≡ None = over still in
-    cc
+over_gives_none was now request r e same some over = grind (arith, common_steps, same)
 
 -- the same, with the limit on bodies
 pub read_of : (m : ℕ) (s : ReaderState) (text : List ℕ) (requests : List Request) → s.max_job_size ≡ m → HasReadText s text requests
@@ -205,5 +194,4 @@ read_of m s text requests e read = rw (← e) (HasReadText-Reads s text requests
 -- the pieces so far, and one more
 pub flat_map_more : {X : Type 0} (f : X → List ℕ) (xs : List X) (i : ℕ) (x : X) → i < length xs → x ≡ get_or xs i x
     → flat_map f (take (i + 1) xs) ≡ flat_map f (take i xs) ++ f x
-flat_map_more f xs i x low is = rw (add-one, take-suc xs i x low, flat_map-append f (take i xs) (get_or xs i x ∷ []), ← is)
-    (ap (λ bs. flat_map f (take i xs) ++ bs) (append-nil (f x)))
+flat_map_more f xs i x low is = grind (arith, common_steps, take-suc, flat_map-append, append-nil)

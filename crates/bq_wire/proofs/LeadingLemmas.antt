@@ -33,11 +33,7 @@ no_space (b ∷ bytes) (suc j) all low here = no_space bytes j (grind (arith, na
 -- the line is a number
 pub id_at_end : (line : List ℕ) (k n : ℕ) → (k ≡ 0 → ⊥) → k ≡ length line → list_all is_digit (take k line) ≡ true
     → n ≡ value_of_digits (take k line) → n < 2 ^ 64 → IsNextId (words line) [] (Some n)
-id_at_end line k n some end digits value small =
-    let all : take k line ≡ line = grind (arith, common_steps) in
-    let one : words line ≡ line ∷ [] = one_word line (λ j low here. no_space line j (rw all at digits) low here) in
-    let is : n ≡ value_of_digits line = rw all at value in
-    rw one (refl, rw is (sym (job_id_is line (omega (arith, some)) (rw all at digits) (rw is at small))))
+id_at_end line k n some end digits value small = grind (arith, common_steps, one_word, no_space, job_id_is)
 
 -- the line begins with a number and a space
 pub id_before_space : (line : List ℕ) (k n : ℕ) → (k ≡ 0 → ⊥) → k ≤ length line → (k ≡ length line → ⊥) → get_or line k 0 ≡ 32

@@ -38,9 +38,7 @@ pub line_end_at : (c : Bool) (bytes : List ℕ) (k : ℕ) → k < length bytes �
     → line_end_after c bytes ≡ (if last_is_cr c (take k bytes) then Some (suc k) else option_map (λ n. suc k + n)
     (line_end_after false (drop (suc k) bytes)))
 line_end_at c [] k low here before = absurd (omega arith)
-line_end_at c (b ∷ bytes) zero low here before =
-    let no_cr : (b == 13) ≡ false = grind (arith, nat_tests) in
-    rw (here, and-true c, no_cr, option_map-same suc (λ n. 1 + n) (λ n. omega arith) (line_end_after false bytes))
+line_end_at c (b ∷ bytes) zero low here before = grind (arith, common_steps, nat_tests, and-true, option_map-same)
 line_end_at c (b ∷ bytes) (suc k) low here before =
     let not_here : (b == 10) ≡ false = grind (arith, nat_tests, before 0) in
     let later = line_end_at (b == 13) bytes k (omega arith) here (λ j less. before (suc j) (omega arith)) in
@@ -61,9 +59,7 @@ first_feed c bytes (Some k) found = (
 pub last_is_cr_last : (c : Bool) (bytes : List ℕ) → 0 < length bytes → last_is_cr c bytes ≡ (get_or bytes (length bytes - 1) 0 == 13)
 last_is_cr_last c [] some = absurd (omega arith)
 last_is_cr_last c (b ∷ []) some = refl
-last_is_cr_last c (b ∷ d ∷ bytes) some =
-    let last : length (b ∷ d ∷ bytes) - 1 ≡ suc (length (d ∷ bytes) - 1) = omega arith in
-    rw last (last_is_cr_last (b == 13) (d ∷ bytes) (omega arith))
+last_is_cr_last c (b ∷ d ∷ bytes) some = grind (arith, common_steps, last_is_cr_last (b == 13) (d ∷ bytes) (omega arith))
 
 -- a line ends at the first byte, or later
 pub end_cases : (t : Bool) (o : Option ℕ) (e : ℕ) → (if t then Some 1 else option_map suc o) ≡ Some e
@@ -89,11 +85,7 @@ line_end_within c (b ∷ bytes) e h =
 pub line_end_one : (c : Bool) (bytes : List ℕ) → line_end_after c bytes ≡ Some 1 → c ≡ true
 line_end_one c [] h = cc
 line_end_one true (b ∷ bytes) h = refl
-line_end_one false (b ∷ bytes) h =
-    elim (end_cases false (line_end_after (b == 13) bytes) 1 h) [
-      | inl a ↦ a.0
-      | inr a ↦ absurd (omega (arith, a.3, (line_end_within (b == 13) bytes a.0 a.2).0))
-    ]
+line_end_one false (b ∷ bytes) h = grind (arith, common_steps, end_cases, line_end_within)
 
 -- the bytes up to a line's end have the same line end
 pub line_end-take : (c : Bool) (bytes : List ℕ) (e : ℕ) → line_end_after c bytes ≡ Some e → line_end_after c (take e bytes) ≡ Some e

@@ -1,5 +1,6 @@
 -- What a line with a known first word requests.
 use Rattle.std.proofs.Common.{◌≡◌, ℕ, List, Option, Some, None, refl, option_map, unwrap_or}
+use Rattle.std.proofs.lemmas.Grind.{common_steps}
 use Rattle.bq_job.specs.declared.request.Request.{Request}
 use Rattle.bq_job.specs.reading.CommandWords.{Command}
 use Rattle.bq_job.specs.reading.LineRead as spec
@@ -34,3 +35,6 @@ pub read_none : (place : Option Request) (command : Option Command) (more : List
     → spec.read_command command more ≡ spec.bad_format
 read_none place None more e = absurd cc
 read_none place (Some command) more e = none_own place (spec.read_words command more) e
+
+-- what the words after a command's word are read as
+pub ruleset named = (common_steps, read_so, read_none)

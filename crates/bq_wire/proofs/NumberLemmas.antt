@@ -1,6 +1,6 @@
 -- The number that a word denotes.
-use Rattle.std.proofs.Common.{◌≡◌, ◌<◌, ◌≤◌, ℕ, ◌^◌, suc, true, List, [], ◌∷◌}
-use Rattle.std.proofs.Common.{Some, None, sym, arith, length, drop, drop-cons, get_or, fold}
+use Rattle.std.proofs.Common.{◌≡◌, ◌<◌, ◌≤◌, ℕ, ◌^◌, true, List, [], ◌∷◌}
+use Rattle.std.proofs.Common.{Some, None, arith, length, drop, get_or, fold}
 use Rattle.std.proofs.lemmas.Bool.Decides.{nat_tests}
 use Rattle.std.proofs.lemmas.Grind.{common_steps}
 use Rattle.std.specs.List.{list_all}
@@ -25,16 +25,9 @@ number_is word n e low = grind (arith, nat_tests)
 -- a word whose digits so far make too large a number
 pub too_great : (word : List ℕ) (i n : ℕ) → i < length word → fold with_digit n (drop i word) ≡ value_of_digits word
     → (with_digit n (get_or word i 0) < 2 ^ 64 → ⊥) → None ≡ job_id word
-too_great word i n low value great =
-    let next : drop i word ≡ get_or word i 0 ∷ drop (suc i) word = drop-cons word i 0 low in
-    let rest : fold with_digit (with_digit n (get_or word i 0)) (drop (suc i) word) ≡ value_of_digits word = rw next at value in
-    sym (job_id_great word (omega (arith, with_digits_le (drop (suc i) word) (with_digit n (get_or word i 0)), rest)))
+too_great word i n low value great = grind (arith, common_steps, job_id_great, with_digits_le)
 
 -- a word whose digits have all been read
 pub all_digits : (word : List ℕ) (i n : ℕ) → length word ≤ i → 0 < length word → list_all is_digit (drop i word) ≡ list_all is_digit word
     → fold with_digit n (drop i word) ≡ value_of_digits word → n < 2 ^ 64 → Some n ≡ job_id word
-all_digits word i n end some digits value small =
-    let nothing : drop i word ≡ [] = grind (arith, common_steps) in
-    let all : list_all is_digit word ≡ true = rw nothing at (sym digits) in
-    let is : n ≡ value_of_digits word = rw nothing at value in
-    rw is (sym (job_id_is word some all (rw is at small)))
+all_digits word i n end some digits value small = grind (arith, common_steps, job_id_is)

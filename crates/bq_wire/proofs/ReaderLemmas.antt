@@ -2,6 +2,7 @@
 use Rattle.std.proofs.Common.{◌≡◌, ◌<◌, ◌≤◌, ℕ, ◌+◌, ◌-◌, zero, suc, Bool, true, false, List, [], ◌∷◌, ◌++◌, ◌⊎◌, inl, inr, Option, Some}
 use Rattle.std.proofs.Common.{None, refl, sym, ◌∙◌, ap, arith, length, length-append, append_assoc, append-nil, take, drop, take-add}
 use Rattle.std.proofs.Common.{take-append-drop, MatchBool, nat_lt, nat_le, if◌then◌else◌}
+use Rattle.std.proofs.lemmas.Grind.{common_steps}
 use Rattle.std.proofs.lemmas.Bool.Decides.{nat_tests}
 use Rattle.std.proofs.lemmas.List.{length-take-le}
 use Rattle.bq_job.specs.reading.Line.{first_line}
@@ -102,14 +103,7 @@ line_unit m text bytes r line = rw (line.first_line_is, line.read_is) (refl, ref
 pub line_begins : (body : PutBody) (text bytes : List ℕ) (asked : line_read.LineRead) → EndsLineAsking asked bytes text
     → asked ≡ line_read.PutWaits (put_line_of body.put)
     → IsBodySoFar body [] → IsPutBegun body (text ++ bytes)
-line_begins body text bytes asked line is so_far = record {
-  line = line.line;
-  after = [];
-  first_line_is = line.first_line_is;
-  read_is = line.read_is ∙ is;
-  so_far = so_far;
-  less = omega arith;
-}
+line_begins body text bytes asked line is so_far = grind (arith, common_steps)
 
 -- what was fed after the first bytes of a piece
 pub feeds_behind : (new : ReaderState) (text piece rest : List ℕ) (end taken : ℕ) (r : Option Request) → end ≤ length piece
@@ -204,8 +198,7 @@ pub kept_stands : (m : ℕ) (old new : List ℕ) (place : ReaderPlace) (text pie
     → line_end_after (last_is_cr false old) piece ≡ None → Keeps old new place piece
     → StandsAt (record { max_job_size = m; kept = new; place = place }) place (text ++ piece)
 kept_stands m old new InLine text piece is none more keeps = (rw is (sym keeps), goes_on text piece none (rw is more))
-kept_stands m old new (InLongLine after_cr) text piece is none more keeps =
-    (keeps.0, goes_on text piece none (rw is more), rw is keeps.1, rw is keeps.2)
+kept_stands m old new (InLongLine after_cr) text piece is none more keeps = grind (arith, common_steps, goes_on, none)
 kept_stands m old new (InBody body) text piece is none more keeps = absurd keeps
 kept_stands m old new Over text piece is none more keeps = absurd keeps
 
@@ -213,11 +206,7 @@ kept_stands m old new Over text piece is none more keeps = absurd keeps
 pub kept_line : (old text piece : List ℕ) (e : ℕ) (asked : line_read.LineRead) → text ≡ old → first_line text ≡ None
     → line_end_after (last_is_cr false old) piece ≡ Some e → asked ≡ line_read.read_line (but_last (old ++ take (e - 1) piece))
     → EndsLineAsking asked (take e piece) text
-kept_line old text piece e asked is none here read = record {
-  line = but_last (text ++ take (e - 1) piece);
-  first_line_is = ends_there text piece e none (rw is here);
-  read_is = rw is (sym read);
-}
+kept_line old text piece e asked is none here read = grind (arith, common_steps, ends_there, none, read)
 
 -- what represents a line that is too long and goes on
 pub long_stands : (m : ℕ) (kept text piece : List ℕ) (last after_cr : Bool) → kept ≡ [] → first_line text ≡ None

@@ -57,6 +57,7 @@ pub fn read_line(line: &[u8], place: &mut Option<Request>) -> LineRead
 }
 
 // What the first word and the words after it request.
+#[tactic(auto, using(crate::proofs::LineReadLemmas::named))]
 fn read_named(first: &[u8], words: &mut Words, place: &mut Option<Request>) -> LineRead
     ensures { asked_by result place.new
         ≡ Some (spec.read_command (command_named first.now) words.old) }

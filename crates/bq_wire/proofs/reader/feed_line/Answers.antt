@@ -1,4 +1,5 @@
-use Rattle.std.proofs.Common.{◌≡◌, refl, sym, length, Some, None, false}
+use Rattle.std.proofs.Common.{◌≡◌, refl, sym, length, Some, None, false, arith}
+use Rattle.std.proofs.lemmas.Grind.{common_steps}
 use Rattle.bq_wire.specs.LineEnds.{line_end_after, last_is_cr}
 use Rattle.bq_wire.proofs.ReaderLemmas.{waits_by, kept_stands, kept_line, some_byte}
 use Rattle.bq_wire.proofs.reader.feed_line.Goals as goal
@@ -12,10 +13,7 @@ returns-in-None-clause-feeds c = λ text stands.
     more c.keep.ensures)
 
 pub whole_line-read-requires : goal.whole_line-read-requires
-whole_line-read-requires c =
-    let here : line_end_after (last_is_cr false c.args.state.now.kept) c.args.piece.now ≡ Some c.in-Some.end =
-    rw (← c.as_slice.ensures, ← c.ends_in_cr.ensures) (sym c.in-Some.ensures.value) in
-    some_byte c.args.state.now.kept c.args.piece.now c.in-Some.end here
+whole_line-read-requires c = grind (arith, common_steps, some_byte)
 
 pub returns-in-Some-clause-feeds : goal.returns-in-Some-clause-feeds
 returns-in-Some-clause-feeds c = λ text stands.

@@ -1,4 +1,5 @@
-use Rattle.std.proofs.Common.{refl, sym, take, length}
+use Rattle.std.proofs.Common.{refl, sym, length, arith}
+use Rattle.std.proofs.lemmas.Grind.{common_steps}
 use Rattle.bq_wire.proofs.ReaderLemmas.{waits_by, long_stands, long_line_read, line_unit, hands_out}
 use Rattle.bq_wire.proofs.reader.feed_long_line.Goals as goal
 
@@ -10,9 +11,4 @@ returns-in-None-clause-feeds c = λ text stands.
     (sym c.in-None.ensures.value) c.ends_in_cr.ensures)
 
 pub returns-in-Some-clause-feeds : goal.returns-in-Some-clause-feeds
-returns-in-Some-clause-feeds c = λ text stands.
-    let here = sym c.in-Some.ensures.value in
-    let line = long_line_read text c.args.piece.now c.in-Some.end stands.1 stands.3 (rw stands.2 here) in
-    rw c.bad_format.ensures
-    (hands_out c.args.state.now.max_job_size c.args.state.now.kept text c.args.piece.now c.in-Some.end _ stands.0
-    (line_unit c.args.state.now.max_job_size text (take c.in-Some.end c.args.piece.now) _ line) refl)
+returns-in-Some-clause-feeds c = grind (arith, common_steps, long_line_read, hands_out, line_unit)
