@@ -4,10 +4,10 @@ use Rattle.std.proofs.Common.{◌⊎◌, ℕ, zero, suc, ◌≡◌, ◌≤◌, �
 use Rattle.std.proofs.Common.{[], ◌∷◌, map, arith, refl, ap, ◌∙◌, inl, inr, Option, Some, None}
 use Rattle.std.proofs.lemmas.{Bool.{and_from, cases_Bool, cond_both, eqb-true, or_right}, Grind.common_steps}
 use Rattle.std.specs.{List.{AllByRecursion as All, Contains}, Prelude.{◌==◌, count_by}}
-use Rattle.bq_job.specs.machine.{Effect, Machine.Machine, SeatRecord, after_close, after_connect, after_delete, after_put, effect}
-use Rattle.bq_job.specs.{beside.waiting_count, machine.{empty_seat, is_held_by, is_waiting, new_job, numbers, raised}}
-use Rattle.bq_job.specs.machine.{reserve_effect, silent, state_once_left, telling, waiting_from, with_end, with_pause}
-use Rattle.bq_job.specs.{machine.{with_seat, with_tube}, Types.{Answer, Job, Request, Step}}
+use Rattle.bq_job.specs.machine.{Effect, Machine.Machine, SeatRecord, after_close, after_connect, after_delete, effect}
+use Rattle.bq_job.specs.{beside.waiting_count, machine.{empty_seat, is_held_by, is_waiting, numbers, raised}}
+use Rattle.bq_job.specs.machine.{reserve_effect, silent, state_once_left, telling, waiting_from, with_end}
+use Rattle.bq_job.specs.{machine.{with_seat}, Types.{Answer, Job, Request, Step}}
 use Rattle.bq_job.specs.declared.answer.Answer.TheVariants as answers
 use Rattle.bq_job.proofs.KeptLemmas.{IsMild, Keeps, has_holder, kept_of_close, kept_of_drain, kept_of_filter}
 use Rattle.bq_job.proofs.KeptLemmas.{kept_of_jobs, kept_of_push, kept_of_seat, numbers_above, only_seat}
@@ -36,8 +36,7 @@ record IsThere (m : Machine) (s : SeatRecord) : Type 0 where
 
 -- the same machine with other jobs
 leaves_jobs : (m n : Machine) (answer : Answer) → Keeps n → n.seats ≡ m.seats → Leaves m (telling answer n)
-leaves_jobs m n answer h same = leaves_telling m n answer h
-    (let e : waiting_count n ≡ waiting_count m = ap (count_by is_waiting) same in omega arith)
+leaves_jobs m n answer h same = grind (arith, common_steps, leaves_telling)
 
 -- a job that the client holds
 pub held_here : (m : Machine) (s : SeatRecord) (j : Job) → Contains m.seats s → s.connected ≡ true → is_held_by s.number j ≡ true
@@ -66,8 +65,7 @@ leaves_seat : (number : ℕ) (f : SeatRecord → SeatRecord) (m : Machine) (answ
     → ((s : SeatRecord) → (f s).number ≡ s.number) → ((s : SeatRecord) → (f s).connected ≡ s.connected)
     → ((s : SeatRecord) → (f s).wait ≡ s.wait) → Leaves m (telling answer (with_seat number f m))
 leaves_seat number f m answer h same stays waits_as =
-    leaves_telling m (with_seat number f m) answer (kept_of_quiet_seat number f m h same stays waits_as)
-    (no_more_wait number f m (λ s w. rw (waits_as s) at w))
+    grind (arith, common_steps, leaves_telling, kept_of_quiet_seat number f m h same stays waits_as, no_more_wait)
 
 at_most_one : (b : Bool) → cond b 1 0 ≤ 1
 at_most_one b = grind (arith, common_steps, cases_Bool)
@@ -114,8 +112,7 @@ leaves_kind request m s (passes none) h there c = leaves_silent m m h (omega ari
 leaves_kind request m s (tells answer one common unclosed) h there c = leaves_jobs m m answer h refl
 leaves_kind request m s (waits until one waiting) h there c = leaves_reserve until m s h there c
 leaves_kind request m s (adds pri delay ttr body one accepts free) h there c =
-    leaves_jobs m (after_put m (new_job m s pri delay ttr body)) (answers.Inserted m.next_id)
-    (kept_of_push (new_job m s pri delay ttr body) h accepts refl (free_by_delay delay m.moment)) refl
+    grind (arith, common_steps, leaves_jobs, kept_of_push, free_by_delay)
 leaves_kind request m s (deletes id j asks found free) h there c =
     leaves_jobs m (after_delete m j) answers.Deleted (kept_of_filter (λ k. not (k.id == j.id)) h) refl
 leaves_kind request m s (changes_jobs answer f burials says changes) h there c =
@@ -123,8 +120,7 @@ leaves_kind request m s (changes_jobs answer f burials says changes) h there c =
     (kept_of_jobs f h changes.same (λ j held. holder_stays m s j (f j) there.seated c (changes.holder j) held)) refl
 leaves_kind request m s (changes_seat answer f says changes) h there c =
     leaves_seat s.number f m answer h changes.number changes.connected changes.wait
-leaves_kind request m s (changes_tube tube seconds one) h there c =
-    leaves_jobs m (with_tube tube (with_pause seconds m.moment) m) answers.Paused h refl
+leaves_kind request m s (changes_tube tube seconds one) h there c = grind (arith, common_steps, leaves_jobs)
 
 leaves_connect : (m : Machine) (seat : ℕ) → Keeps m → Leaves m (silent (after_connect m seat))
 leaves_connect m seat h =

@@ -12,8 +12,9 @@ use Rattle.bq_job.specs.{promise.{GoesBy, IsTransition, Parts, Transition, parts
 use Rattle.bq_job.specs.declared.answer.Answer.TheVariants as answers
 use Rattle.bq_job.specs.declared.request.Request.TheVariants as requests
 use Rattle.bq_job.specs.declared.step.Step.TheVariants as steps
+use Rattle.bq_job.proofs.Trace.{IsTrace, of_serves, of_turns, steady}
 use Rattle.bq_job.proofs.{DispatchLemmas.{reserved_is_least, turn_of}, EffectKinds.is_common, LawfulLemmas.end_of}
-use Rattle.bq_job.proofs.{ListLemmas.{all_always, all_at, all_of_filter}, LookupLemmas.found_job, OwnAnswerLemmas.Tells}
+use Rattle.bq_job.proofs.{ListLemmas.{all_always, all_at, all_of_append, all_of_filter}, LookupLemmas.found_job, OwnAnswerLemmas.Tells}
 use Rattle.bq_job.proofs.OwnAnswerLemmas.{drains_acted, tells_acted}
 
 -- an element of two joined lists: in the first, or in the second
@@ -44,10 +45,8 @@ all_in_place {X = X} P xs early x more e h = go early (subst (All P) e h)
 abbrev AreCommon : List GivenAnswer → Type 0
 AreCommon given = All (λ g. is_common (Some g.1) ≡ true) given
 
-ends_are_common : (m : Machine) (given : List GivenAnswer) (n : Machine) → Chain WaitEndTurn m given n → AreCommon given
-ends_are_common m [] n chain = tt
-ends_are_common m (g ∷ given) n chain =
-    grind (arith, common_steps, end_of, ends_are_common chain.0 given n chain.2)
+all_trace : (P : GivenAnswer → Type 0) → IsTrace (λ m given n. All P given)
+all_trace P = record { none = λ m. tt; joins = λ a b c xs ys f g. all_of_append P xs ys f g }
 
 -- Dispatch gives only RESERVED and OUT_OF_MEMORY.
 abbrev is_of_dispatch : Answer → Bool
@@ -58,17 +57,6 @@ is_of_dispatch _ = false
 abbrev AreOfDispatch : List GivenAnswer → Type 0
 AreOfDispatch given = All (λ g. is_of_dispatch g.1 ≡ true) given
 
-turns_answer : (m : Machine) (given : List GivenAnswer) (n : Machine) → Chain DispatchTurn m given n
-    → AreOfDispatch given × (n.draining ≡ m.draining)
-turns_answer m [] n chain = (tt, ap (λ (l : Machine). l.draining) chain)
-turns_answer m (g ∷ given) n chain =
-    grind (arith, common_steps, turn_of, turns_answer chain.0 given n chain.2)
-
-ends_keep_draining : (m : Machine) (given : List GivenAnswer) (n : Machine) → Chain WaitEndTurn m given n → n.draining ≡ m.draining
-ends_keep_draining m [] n chain = ap (λ (l : Machine). l.draining) chain
-ends_keep_draining m (g ∷ given) n chain =
-    grind (arith, common_steps, end_of, ends_keep_draining chain.0 given n chain.2)
-
 -- the answers of dispatch and of the ends of waits
 record AnswersSo (first : Machine) (handed ended : List GivenAnswer) (last : Machine) : Type 0 where
   by_dispatch : AreOfDispatch handed
@@ -77,7 +65,16 @@ record AnswersSo (first : Machine) (handed ended : List GivenAnswer) (last : Mac
 
 serves_answers : (first : Machine) (handed ended : List GivenAnswer) (last : Machine) → Serves first handed ended last
     → AnswersSo first handed ended last
-serves_answers first handed ended last s = grind (arith, common_steps, turns_answer, ends_are_common, ends_keep_draining)
+serves_answers first handed ended last s =
+    let d = s.dispatches in
+    let e = s.ends_waits in
+    record {
+      by_dispatch = of_turns DispatchTurn (all_trace (λ g. is_of_dispatch g.1 ≡ true))
+          (λ m g n turn. grind (arith, common_steps, turn_of)) first handed d.end d.turns;
+      by_ends = of_turns WaitEndTurn (all_trace (λ g. is_common (Some g.1) ≡ true))
+          (λ m g n turn. grind (arith, common_steps, end_of)) s.between ended e.end e.turns;
+      draining = (of_serves steady first handed ended last s).draining;
+    }
 
 turn_in_chain : (m : Machine) (given : List GivenAnswer) (g : GivenAnswer) (more : List GivenAnswer) (n : Machine)
     → Chain DispatchTurn m (given ++ g ∷ more) n
@@ -214,13 +211,11 @@ run_gives_least first taken last t goes i = transition_gives_least t (all_at IsT
 
 none_in_dispatch : (given : List GivenAnswer) → AreOfDispatch given → has_inserted given ≡ false
 none_in_dispatch [] h = refl
-none_in_dispatch (g ∷ given) h =
-    or_from (is_inserted g.1) (has_inserted given) (grind (arith, common_steps, cases_Bool)) (none_in_dispatch given h.1)
+none_in_dispatch (g ∷ given) h = grind (arith, common_steps, or_from, cases_Bool, none_in_dispatch given h.1)
 
 none_in_ends : (given : List GivenAnswer) → AreCommon given → has_inserted given ≡ false
 none_in_ends [] h = refl
-none_in_ends (g ∷ given) h = or_from (is_inserted g.1) (has_inserted given) (grind (arith, common_steps, cases_Bool))
-    (none_in_ends given h.1)
+none_in_ends (g ∷ given) h = grind (arith, common_steps, or_from, cases_Bool, none_in_ends given h.1)
 
 none_joined : (xs ys : List GivenAnswer) → has_inserted xs ≡ false → has_inserted ys ≡ false → has_inserted (xs ++ ys) ≡ false
 none_joined xs ys h i = list_any-append (λ (g : GivenAnswer). is_inserted g.1) xs ys ∙ or_from (has_inserted xs) (has_inserted ys) h i

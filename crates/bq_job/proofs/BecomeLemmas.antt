@@ -4,17 +4,15 @@ use Rattle.std.proofs.lemmas.Bool.{and_parts, or_cases, or_left, or_right, cond_
 use Rattle.std.proofs.lemmas.Grind.{common_steps}
 use Rattle.std.specs.{List.{AllByRecursion as All, Contains, list_any}, Prelude.{◌==◌, filter, take}}
 use Rattle.bq_job.specs.machine.{delayed_by, in_order, is_buried, is_buried_before, is_buried_in, is_delayed}
-use Rattle.bq_job.specs.machine.{is_held_by, is_ready, is_reserved, job_with, kickable, kicked_first, later}
+use Rattle.bq_job.specs.machine.{is_held_by, is_ready, is_reserved, job_with, kickable, kicked_first}
 use Rattle.bq_job.specs.{beside.AreIdsWithin, laws.{change, disturbs, given_up}}
 use Rattle.bq_job.specs.{machine.put_in_order, reading.TubeName.is_same_name, Types.{Job, JobState, Step}}
-use Rattle.bq_job.specs.declared.job.JobState.TheVariants as states
 use Rattle.bq_job.proofs.{ChangeLemmas.{Becomes, becomes_itself}, ListLemmas.{all_from_members, all_of_filter}}
 use Rattle.bq_job.proofs.{ListLemmas.all_weaker, LookupLemmas.job_found}
 
 -- no client holds a job that is ready or delayed
 pub free_by_delay : (delay moment : ℕ) → is_reserved (delayed_by delay moment) ≡ false
-free_by_delay delay moment = cond_both (delay == 0) states.Ready (states.Delayed (later moment delay)) (λ s. is_reserved s ≡ false)
-    (λ e. refl) (λ e. refl)
+free_by_delay delay moment = grind (arith, common_steps, cond_both)
 
 pub held_not_ready : (seat : ℕ) (j : Job) → is_held_by seat j ≡ true → is_ready j ≡ true → ⊥
 held_not_ready seat j h i = grind (arith, common_steps)
@@ -34,9 +32,7 @@ itself_told id = or_left (id == id) false (eq-eqb id id refl)
 all_put_in_order : (P : Job → Type 0) (before : Job → Job → Bool) (j : Job) (jobs : List Job) → P j → All P jobs
     → All P (put_in_order before j jobs)
 all_put_in_order P before j [] h i = (h, tt)
-all_put_in_order P before j (k ∷ jobs) h i =
-    cond_both (before k j) (k ∷ put_in_order before j jobs) (j ∷ k ∷ jobs) (All P)
-    (λ e. (i.0, all_put_in_order P before j jobs h i.1)) (λ e. (h, i))
+all_put_in_order P before j (k ∷ jobs) h i = grind (arith, common_steps, cond_both, all_put_in_order P before j jobs h i.1)
 
 pub all_in_order : (P : Job → Type 0) (before : Job → Job → Bool) (jobs : List Job) → All P jobs → All P (in_order before jobs)
 all_in_order P before [] h = tt

@@ -1,5 +1,6 @@
 -- First parts of the texts of answers.
-use Rattle.std.proofs.Common.{◌≡◌, List, [], ◌∷◌, ◌++◌, ℕ, sym, ap, ◌∙◌, subst, inl, inr, append-nil, append_assoc}
+use Rattle.std.proofs.Common.{◌≡◌, List, [], ◌∷◌, ◌++◌, ℕ, sym, ap, ◌∙◌, subst, inl, inr, append-nil, append_assoc, arith}
+use Rattle.std.proofs.lemmas.Grind.{common_steps}
 use Rattle.std.proofs.lemmas.Grind.{flat_map-append}
 use Rattle.bq_job.specs.promise.{IsBeginning, IsLineOwed, IsLineOwedSoFar, IsWritten, LineOver, LineSeen, answers_text}
 use Rattle.bq_job.specs.{texts.AnswerText.answer_text, Types.{Answer, LineEnd, Request, Step}}
@@ -18,19 +19,12 @@ begins_in early bytes text a b = subst (λ (xs : List ℕ). IsBeginning early xs
 pub texts_more : (bytes : List ℕ) (answers more : List Answer) → IsBeginning bytes (answers_text answers)
     → IsBeginning bytes (answers_text (answers ++ more))
 texts_more bytes answers more b =
-    subst (λ (text : List ℕ). IsBeginning bytes text) (sym (flat_map-append answer_text answers more))
-    (begins_more bytes (answers_text answers) (answers_text more) b)
+    grind (arith, common_steps, flat_map-append answer_text answers more, begins_more bytes (answers_text answers) (answers_text more) b)
 
 -- all of the first answers, and a part of the next one
 pub texts_cut : (bytes cut : List ℕ) (first : List Answer) (last : Answer) → bytes ≡ answers_text first ++ cut
     → IsBeginning cut (answer_text last) → IsBeginning bytes (answers_text (first ++ last ∷ []))
-texts_cut bytes cut first last is b = (
-  b.0,
-  flat_map-append answer_text first (last ∷ [])
-      ∙ ap (λ (xs : List ℕ). answers_text first ++ xs) (append-nil (answer_text last) ∙ b.1)
-      ∙ sym (append_assoc (answers_text first) cut b.0)
-      ∙ ap (λ (xs : List ℕ). xs ++ b.0) (sym is),
-)
+texts_cut bytes cut first last is b = grind (arith, common_steps, flat_map-append, append-nil, append_assoc)
 
 -- What was written to a line that has ended is a first part of its answers' texts.
 ended_begins : (over : LineEnd) (asked : List Request) (answers : List Answer) (written : List ℕ) → IsWritten over asked answers written
@@ -42,17 +36,12 @@ ended_begins ends.ReadFault asked answers written w = elim w [
   | inr u ↦ subst (λ (xs : List Answer). IsBeginning written (answers_text xs)) (sym u.answers_are)
       (texts_more written u.first (u.last ∷ []) (begins_whole written (answers_text u.first) u.written_is))
 ]
-ended_begins ends.WriteFault asked answers written w =
-    subst (λ (xs : List Answer). IsBeginning written (answers_text xs)) (sym w.answers_are)
-    (texts_cut written w.cut w.first w.last w.written_is w.is_beginning)
+ended_begins ends.WriteFault asked answers written w = grind (arith, common_steps, texts_cut)
 
 pub line_begins : (size : ℕ) (line : LineOver) (taken : List Step) (answers : List Answer) (early : List ℕ)
     → IsLineOwed size line taken answers → IsBeginning early line.seen.written → IsBeginning early (answers_text answers)
-line_begins size line taken answers early o b =
-    begins_in early line.seen.written (answers_text answers) b
-    (ended_begins line.over o.steps.asked answers line.seen.written o.written)
+line_begins size line taken answers early o b = grind (arith, common_steps, begins_in, ended_begins)
 
 pub open_line_begins : (size : ℕ) (line : LineSeen) (taken : List Step) (answers more : List Answer) (early : List ℕ)
     → IsLineOwedSoFar size line taken answers → IsBeginning early line.written → IsBeginning early (answers_text (answers ++ more))
-open_line_begins size line taken answers more early o b =
-    texts_more early answers more (begins_in early line.written (answers_text answers) b o.written)
+open_line_begins size line taken answers more early o b = grind (arith, common_steps, texts_more, begins_in)

@@ -66,8 +66,7 @@ none_of_parts g (x ∷ xs) h = rw (h.0, none_of_parts g xs h.1) refl
 
 -- each job of the list existed before
 were_there : (jobs : List Job) (next : ℕ) → AreIdsWithin 1 jobs next → All (λ j. is_none (job_with j.id jobs) ≡ false) jobs
-were_there jobs next ids = all_from_members (λ j. is_none (job_with j.id jobs) ≡ false) jobs
-    (λ j i. ap is_none (job_found 1 next jobs j ids i).0)
+were_there jobs next ids = grind (arith, common_steps, all_from_members, job_found)
 
 -- If no job is new, only plain happenings are recorded.
 plain_changes : (what : Step) (before after : List Job) → All (λ j. is_none (job_with j.id before) ≡ false) after

@@ -1,7 +1,7 @@
 -- The first of those that pass a test: it is in the list, it passes, and no other that passes comes
 -- before it.
 use Rattle.std.proofs.Common.{◌||◌, ◌∙◌, ◌∷◌, ◌≡◌, ◌⊎◌, Bool, List, None, Option, Some, []}
-use Rattle.std.proofs.Common.{ℕ, ap, arith, false, inl, inr, refl, subst, sym, true}
+use Rattle.std.proofs.Common.{ℕ, ap, arith, false, inl, inr, refl, sym, true}
 use Rattle.std.proofs.{Common.◌==◌, lemmas.Bool.{and_parts, cases_Bool, Decides.nat_tests}}
 use Rattle.std.proofs.lemmas.{Grind.common_steps, List.Elements.{All-contains, All-from_recursion}}
 use Rattle.std.proofs.{lemmas.List.Folds.list_any-from_Any, Math.Bool.or_assoc}
@@ -26,8 +26,7 @@ IsNotAfter before (Some b) z = before b z ≡ false
 fold_is_least : {X : Type 0} (passes : X → Bool) {before : X → X → Bool} (order : IsStrictWeakOrder before) (best : Option X) (xs : List X)
     (z : X) → fold (better_of passes before) best xs ≡ Some z
     → IsNotAfter before best z × AllByRecursion (λ y. passes y ≡ true → before y z ≡ false) xs
-fold_is_least passes {before = before} order best [] z h =
-    (subst (λ b. IsNotAfter before b z) (sym h) (grind (arith, order.one_way, cases_Bool)), tt)
+fold_is_least passes {before = before} order best [] z h = grind (arith, common_steps, cases_Bool)
 fold_is_least passes {before = before} order best (x ∷ xs) z h =
     grind (arith, common_steps, fold_is_least passes order (better_of passes before best x) xs z h)
 
@@ -35,8 +34,7 @@ fold_is_least passes {before = before} order best (x ∷ xs) z h =
 pub first_of_is_least : {X : Type 0} (passes : X → Bool) {before : X → X → Bool} (order : IsStrictWeakOrder before) (xs : List X) (z y : X)
     → first_of passes before xs ≡ Some z → Contains xs y → passes y ≡ true → before y z ≡ false
 first_of_is_least passes {before = before} order xs z y h i p =
-    All-contains (λ y. passes y ≡ true → before y z ≡ false) xs y
-    (All-from_recursion (λ y. passes y ≡ true → before y z ≡ false) xs ((fold_is_least passes order None xs z h).1)) i p
+    grind (arith, common_steps, All-contains, All-from_recursion, fold_is_least passes order None xs z h)
 
 fold_passes : {X : Type 0} (passes : X → Bool) (before : X → X → Bool) (best : Option X) (xs : List X) → IfSome best (λ b. passes b ≡ true)
     → IfSome (fold (better_of passes before) best xs) (λ b. passes b ≡ true)

@@ -1,9 +1,9 @@
 -- What a step gives to one client: to the client that takes it, and to every other one.
-use Rattle.std.proofs.Common.{ℕ, ◌≡◌, ◌<◌, ◌+◌, Bool, true, false, ◌&&◌, ◌||◌, List, [], ◌∷◌, ◌++◌, map}
+use Rattle.std.proofs.Common.{ℕ, ◌≡◌, ◌<◌, Bool, true, false, ◌&&◌, ◌||◌, List, [], ◌++◌, map}
 use Rattle.std.proofs.Common.{length, length-append, append_assoc, arith, refl, sym, ap, ◌∙◌, subst, inl, inr, Option, Some, None}
 use Rattle.std.proofs.lemmas.{Bool.{and_parts, both_ways, cases_Bool, cond_both}, Grind.common_steps}
 use Rattle.std.specs.{List.AllByRecursion as All, Prelude.{◌==◌, IsTrue}}
-use Rattle.bq_job.specs.machine.{Chain, Effect, GivenAnswer, IsStep, Machine.Machine, Memory, Outcome, SeatRecord}
+use Rattle.bq_job.specs.machine.{Effect, GivenAnswer, IsStep, Machine.Machine, Memory, Outcome, SeatRecord}
 use Rattle.bq_job.specs.machine.{at_found, at_moment, effect, empty_seat, end_effect, ends_waiting}
 use Rattle.bq_job.specs.machine.{forgetting, is_connected_at, is_deadline_soon, is_possible}
 use Rattle.bq_job.specs.machine.{is_until_over, is_wait_before, is_waiting, seat_with, silent}
@@ -12,11 +12,12 @@ use Rattle.bq_job.specs.machine.{acted, addressed, after_close, after_connect, a
 use Rattle.bq_job.specs.{machine.{telling, with_end, with_seat}, promise.answers_to, Types.{Answer, Request, Step}}
 use Rattle.bq_job.specs.declared.answer.Answer.TheVariants as answers
 use Rattle.bq_job.specs.declared.step.Step.TheVariants as steps
+use Rattle.bq_job.proofs.Trace.{of_serves, steady}
 use Rattle.bq_job.proofs.ListLemmas.{all_always, all_at, all_both, all_pass, all_weaker, keys_of_map, list_any_not, none_pass}
 use Rattle.bq_job.proofs.OneClientLemmas.{Found, Passes, answers_append, changed, changed_none, changed_quiet, changed_some}
 use Rattle.bq_job.proofs.OneClientLemmas.{connected_in, ended_in, finds, one_for, passes_serves, unclosed_append, waits_in}
-use Rattle.bq_job.proofs.{ChoiceLemmas.first_of_none, DispatchLemmas.turn_of, KeptLemmas.is_open_wait}
-use Rattle.bq_job.proofs.{LawfulLemmas.{end_of, step_is_lawful}, ReplyLemmas.{replies_acted, replies_effect}}
+use Rattle.bq_job.proofs.{ChoiceLemmas.first_of_none, KeptLemmas.is_open_wait}
+use Rattle.bq_job.proofs.{LawfulLemmas.{step_is_lawful}, ReplyLemmas.{replies_acted, replies_effect}}
 use Rattle.bq_job.proofs.ReplyLemmas.{stays_acted, told, told_elsewhere}
 
 -- the parts of a step, as one client sees them
@@ -243,16 +244,9 @@ others_give first last at seat client what outcome given other step =
     let p : Parts client first last seat what given = parts_of client first last at seat what outcome given step in
     grind (arith, common_steps, stays_acted, answers_append, told_elsewhere, unclosed_append)
 
--- turns keep the settings
-chain_settings : (Turns : Machine → GivenAnswer → Machine → Type 0) (first : Machine) (given : List GivenAnswer) (last : Machine)
-    → ((m : Machine) (g : GivenAnswer) (n : Machine) → Turns m g n → n.settings ≡ m.settings) → Chain Turns first given last
-    → last.settings ≡ first.settings
-chain_settings Turns first [] last each chain = ap (λ (n : Machine). n.settings) chain
-chain_settings Turns first (g ∷ given) last each chain = chain_settings Turns chain.0 given last each chain.2 ∙ each first g chain.0 chain.1
-
 pub step_settings : (first last : Machine) (at seat : ℕ) (what : Step) (outcome : Outcome) (given : List GivenAnswer)
     → IsStep first at seat what outcome given last → last.settings ≡ first.settings
 step_settings first last at seat what outcome given s =
-    (grind (arith, common_steps, chain_settings, end_of, turn_of)) ∙ ap (λ (n : Machine). n.settings) s.acts
+    (of_serves steady s.after s.handed_then s.ended_then last s.serves_then).settings ∙ ap (λ (n : Machine). n.settings) s.acts
     ∙ (stays_acted 0 s.memory s.before seat what).settings
-    ∙ (grind (arith, common_steps, chain_settings, end_of, turn_of))
+    ∙ (of_serves steady (forgetting (after_timers (at_moment at first))) s.handed s.ended s.before s.serves).settings

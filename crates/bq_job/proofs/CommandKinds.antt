@@ -4,7 +4,7 @@ use Rattle.std.proofs.lemmas.{Bool.{and_parts, cond_both, eq-eqb}, Grind.common_
 use Rattle.std.specs.{List.list_any, Prelude.{◌==◌, filter, length, take}}
 use Rattle.bq_job.specs.machine.{is_buried, is_closed_answer, is_delayed}
 use Rattle.bq_job.specs.{beside.{has_one, is_refusal, none_twice, watches_once}, machine.Effect}
-use Rattle.bq_job.specs.machine.{SeatRecord, after_delete, asked, greatest, is_free_for}
+use Rattle.bq_job.specs.machine.{SeatRecord, asked, greatest}
 use Rattle.bq_job.specs.machine.{is_reserved, job_with, kickable, kicked, later}
 use Rattle.bq_job.specs.machine.{name_list, on_job, reserved_by, server_statistics, telling}
 use Rattle.bq_job.specs.machine.{tubes, watched_with, watching, watching_or_refused, with_job, Machine.Machine}
@@ -53,8 +53,7 @@ reserve_job_kind id m s =
     (grind (arith, common_steps, found_job, eq-eqb)))
 
 delete_kind : (id : ℕ) (m : Machine) (s : SeatRecord) → Kind m s (requests.Delete id) (asked (requests.Delete id) m s)
-delete_kind id m s = on_one (requests.Delete id) id (is_free_for s) (λ j. telling answers.Deleted (after_delete m j)) m s refl
-    (λ j e p. deletes id j refl e p)
+delete_kind id m s = grind (arith, common_steps, on_one, deletes)
 
 release_kind : (id pri delay : ℕ) (m : Machine) (s : SeatRecord)
     → Kind m s (requests.Release id pri delay) (asked (requests.Release id pri delay) m s)

@@ -2,10 +2,9 @@
 use Rattle.std.proofs.Common.{ℕ, zero, suc, ◌≡◌, ◌≤◌, ◌<◌, true, false, ◌||◌, arith, refl, Option, Some, None, append_assoc, rules}
 use Rattle.std.proofs.lemmas.{Bool.{and_left, and_parts, cases_Bool}, Grind.common_steps}
 use Rattle.std.specs.List.{Contains, list_any}
-use Rattle.bq_job.specs.declared.answer.Answer.TheVariants as answers
 use Rattle.bq_job.specs.Types.{Job, Step}
 use Rattle.bq_job.specs.machine.{Chain, DispatchTurn, Dispatches, EndsWaits, IsStep, Machine.Machine, SeatRecord, Serves, WaitEndTurn}
-use Rattle.bq_job.specs.machine.{after_hand_out, after_timers, at_moment, effect, ends_waiting, forgetting}
+use Rattle.bq_job.specs.machine.{after_timers, at_moment, effect, ends_waiting, forgetting}
 use Rattle.bq_job.specs.machine.{has_refused_share, is_deadline_soon, is_job_before, is_timed_out, is_wait_before, is_waiting}
 use Rattle.bq_job.specs.machine.{is_waiting_for, may_have, next_end, next_job, next_seat, with_seat, without_wait}
 use Rattle.bq_job.specs.beside.Computed.{Served, ample, after_dispatch, after_serving, after_wait_ends, dispatched}
@@ -56,9 +55,7 @@ handed_to_all : (rest : Machine → Served) (turns : ℕ) (m : Machine) (j : Job
     → ((n : Machine) → waiting_count n ≤ turns → next_job (rest n).machine ≡ None) → waiting_count m ≤ suc turns → next_job m ≡ Some j
     → next_seat m j ≡ o → next_job (handed_to rest m j o).machine ≡ None
 handed_to_all rest turns m j None goes w e f = let h = next_has_seat m j e in absurd (let g = h.1 in cc)
-handed_to_all rest turns m j (Some s) goes w e f =
-    let h = next_seat_waits m j s f in
-    goes (after_hand_out m j s) (omega (arith, waiting_falls m s h.0 h.1))
+handed_to_all rest turns m j (Some s) goes w e f = grind (arith, common_steps, next_seat_waits m j s f, waiting_falls)
 
 handed_out_all : (rest : Machine → Served) (turns : ℕ) (m : Machine) (o : Option Job)
     → ((n : Machine) → waiting_count n ≤ turns → next_job (rest n).machine ≡ None) → waiting_count m ≤ suc turns → next_job m ≡ o
@@ -96,9 +93,7 @@ ended_at_all : (rest : Machine → Served) (turns : ℕ) (m : Machine) (o : Opti
     → ((n : Machine) → waiting_count n ≤ turns → next_end (rest n).machine ≡ None) → waiting_count m ≤ suc turns → next_end m ≡ o
     → next_end (ended_at rest m o).machine ≡ None
 ended_at_all rest turns m None goes w e = e
-ended_at_all rest turns m (Some s) goes w e =
-    let h = next_end_waits m s e in
-    goes (with_seat s.number without_wait m) (omega (arith, waiting_falls m s h.0 h.1))
+ended_at_all rest turns m (Some s) goes w e = grind (arith, common_steps, next_end_waits m s e, waiting_falls)
 
 -- After as many turns as there are waiting clients, no further wait would end.
 pub wait_ended_all : (turns : ℕ) (m : Machine) → waiting_count m ≤ turns → next_end (wait_ended turns m).machine ≡ None

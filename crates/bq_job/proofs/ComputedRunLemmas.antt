@@ -1,11 +1,10 @@
 -- What is computed over a history is a run.
-use Rattle.std.proofs.Common.{List, [], ◌∷◌, refl}
+use Rattle.std.proofs.Common.{List, [], ◌∷◌, refl, arith}
 use Rattle.bq_job.specs.machine.{Machine.Machine, Serves, after_timers, at_moment, effect, forgetting}
 use Rattle.bq_job.specs.beside.{after_dispatch, after_wait_ends, machine_after, transition, transitions}
 use Rattle.bq_job.specs.promise.{Entry, GoesBy, IsTransition}
 use Rattle.bq_job.proofs.ComputedLemmas.{computed_dispatches, computed_ends_waits, dispatched_shared}
 use Rattle.std.proofs.lemmas.Grind.{common_steps}
-use Rattle.std.proofs.Common.{arith}
 
 serves_so : (m : Machine) → Serves m (after_dispatch m).given (after_wait_ends (after_dispatch m).machine).given
     (after_wait_ends (after_dispatch m).machine).machine

@@ -1,5 +1,5 @@
 -- Answers line by line: where a list of them is cut.
-use Rattle.std.proofs.Common.{◌++◌, ◌+◌, ◌∙◌, ◌∷◌, ◌≡◌, ◌≤◌, List, [], ℕ, ap, arith, false, length, refl, suc}
+use Rattle.std.proofs.Common.{◌++◌, ◌+◌, ◌∷◌, ◌≡◌, ◌≤◌, List, [], ℕ, ap, arith, false, length, refl, suc}
 use Rattle.std.proofs.lemmas.{Bool.or_parts, Grind.common_steps}
 use Rattle.bq_job.specs.{beside.AreLinesServed, machine.has_closed, promise.LineOver, Types.Answer}
 use Rattle.bq_job.specs.Types.{Step}
@@ -30,9 +30,7 @@ closes_unclosed (x ∷ xs) h = closes_unclosed xs h
 -- there is one `Closed` for each line, and all of them were taken
 pub parts_close : (mosts : List ℕ) (given : List Answer) → AreParts mosts given → closes given ≡ length mosts
 parts_close [] given h = ap closes h
-parts_close (most ∷ mosts) given h =
-    ap closes h.4 ∙ (let a = closes_append h.0 (answers.Closed ∷ h.1) in let b = unclosed_closes h.0 h.2 in
-    let c = parts_close mosts h.1 h.5 in omega arith)
+parts_close (most ∷ mosts) given h = grind (arith, common_steps, closes_append, unclosed_closes, parts_close mosts h.1 h.5)
 
 pub lines_close : (size : ℕ) (lines : List LineOver) (own : List Step) (taken : List Answer) (h : AreLinesServed size lines own taken)
     → length (most_of_lines size lines own taken h) ≤ closes taken

@@ -1,11 +1,11 @@
 -- A job is present from its put until its deletion, and at most one client holds it.
-use Rattle.std.proofs.Common.{◌++◌, ◌<◌, ◌∙◌, ◌∷◌, ◌≡◌, ◌⊎◌, List, Some, [], ap, arith, cond, false, inl, inr, refl, subst, sym}
+use Rattle.std.proofs.Common.{◌++◌, ◌<◌, ◌∙◌, ◌∷◌, ◌≡◌, ◌⊎◌, List, Some, [], ap, arith, false, inl, inr, refl, subst, sym}
 use Rattle.std.proofs.lemmas.Bool.{cond_both}
 use Rattle.std.proofs.lemmas.{Bool.or_parts, Grind.common_steps, List.Folds.list_any-append}
-use Rattle.std.specs.{List.{AllByRecursion as All, Contains, list_any}, Prelude.{◌==◌, option_map}}
+use Rattle.std.specs.{List.{AllByRecursion as All, Contains, list_any}}
 use Rattle.bq_job.specs.machine.{Settings, job_with, Machine.Machine}
 use Rattle.bq_job.specs.laws.{Happening, IsHeldByOne, IsKept, Part, happenings, is_deletion, parts_of_run, put}
-use Rattle.bq_job.specs.{machine.{new_machine, reserved_by}, promise.{GoesBy, Transition}, Types.Job}
+use Rattle.bq_job.specs.{machine.{new_machine}, promise.{GoesBy, Transition}, Types.Job}
 use Rattle.bq_job.proofs.{JobMoves.{Move, Moves, handing, putting, quiet}, KeptLemmas.Keeps}
 use Rattle.bq_job.proofs.{LawfulLemmas.new_is_lawful, ListLemmas.all_at, LookupLemmas.found_job}
 use Rattle.bq_job.proofs.{LookupLemmas.{job_at_end, job_found}, OrderLemmas.{put_behind, put_now_or_behind}}
@@ -25,10 +25,7 @@ there_after j m n happened (quiet q) none h = grind (arith, common_steps)
 there_after j m n happened (putting p) none h =
     let less = h.below in
     record { job = h.job; found = put_lookup j.id m n happened p less ∙ h.found; below = omega arith; tube = h.tube; body = h.body }
-there_after j m n happened (handing g) none h =
-    let seen = handed_lookup j.id m n happened g
-    ∙ ap (option_map (λ i. cond (i.id == g.job.id) (reserved_by m.moment g.seat i) i)) h.found in
-    grind (arith, common_steps, cond_both)
+there_after j m n happened (handing g) none h = grind (arith, common_steps, handed_lookup j.id m n happened g, cond_both)
 
 -- present now, or put by a move to come
 there_or_to_come : (j : Job) (m n : Machine) (happened more : List Happening) → Move m happened n
@@ -81,9 +78,7 @@ accepted_is_kept settings taken last early late p j goes split accepted none =
     }
 
 held_by_one : (m : Machine) → Keeps m → IsHeldByOne m
-held_by_one m keeps seat other id h i =
-    let b = job_found 1 m.next_id m.jobs i.0 keeps.ids i.1 in
-    grind (arith, common_steps, job_found)
+held_by_one m keeps seat other id h i = grind (arith, common_steps, job_found 1 m.next_id m.jobs i.0 keeps.ids i.1, job_found)
 
 part_keeps : (m n : Machine) (parts : List Part) → ArePartsGone m parts n → All (λ p. Keeps p.machine) parts
 part_keeps m n [] h = tt

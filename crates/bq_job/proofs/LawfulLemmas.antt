@@ -1,17 +1,18 @@
 -- A new machine is lawful and stays so after every step, and a step gives few answers.
-use Rattle.std.proofs.Common.{ℕ, zero, suc, ◌≡◌, ◌≤◌, ◌<◌, ◌+◌, true, false, ◌&&◌, not, cond, List, [], ◌∷◌}
+use Rattle.std.proofs.Common.{ℕ, zero, suc, ◌≡◌, ◌≤◌, ◌<◌, ◌+◌, true, false, cond, List, [], ◌∷◌}
 use Rattle.std.proofs.Common.{map, length, arith, refl, sym, ap, ◌∙◌, subst, inl, inr, Option, Some, None, rules}
 use Rattle.std.proofs.lemmas.{Bool.{cases_Bool, cond_both, eq-eqb, le-leb, or_left, or_right}, Grind.common_steps}
-use Rattle.std.proofs.lemmas.List.{length-map, Sums.count_by-le-length}
+use Rattle.std.proofs.lemmas.List.{length-append, length-map, Sums.count_by-le-length}
 use Rattle.std.specs.{Cmp.Lexicographic.bytes_decides, List.{Contains, list_all, list_any}, Prelude.◌==◌}
 use Rattle.bq_job.specs.machine.{Chain, DispatchTurn, Dispatches, EndsWaits, GivenAnswer, IsHandOut, IsStep, Machine.Machine, Memory}
 use Rattle.bq_job.specs.machine.{Outcome, SeatRecord, Serves, Settings, TubeRecord, WaitEndTurn, acted, addressed, after_timers, at_moment}
 use Rattle.bq_job.specs.machine.{is_waiting, is_waiting_for, job_after_timers, new_machine, next_end, next_job, next_seat}
-use Rattle.bq_job.specs.machine.{numbers, reserved_by, share_refused, watches, with_job, with_seat, with_timeout, without_wait}
+use Rattle.bq_job.specs.machine.{numbers, reserved_by, share_refused, with_job, with_seat, with_timeout, without_wait}
 use Rattle.bq_job.specs.{beside.{IsLawful, has_open_holder, waiting_count, watches_once}, machine.empty_seat}
 use Rattle.bq_job.specs.machine.{end_of_wait, forgetting, granted, growth_refused, in_state, is_paused}
-use Rattle.bq_job.specs.{machine.{is_ready, is_tube}, reading.TubeName.is_same_name, Types.{Answer, Job, Step}}
+use Rattle.bq_job.specs.{machine.{is_tube}, reading.TubeName.is_same_name, Types.{Answer, Job, Step}}
 use Rattle.bq_job.specs.declared.job.JobState.TheVariants as states
+use Rattle.bq_job.proofs.Trace.{IsTrace, of_turns}
 use Rattle.bq_job.proofs.KeptLemmas.{Keeps, has_holder, is_open_wait, kept_of_job, kept_of_jobs, kept_of_lawful, kept_of_seat, IsMild}
 use Rattle.bq_job.proofs.ListLemmas.{all_always, all_at, all_from_members, all_of_filter, all_of_map, all_weaker}
 use Rattle.bq_job.proofs.ListLemmas.{find_in_filter, list_all_from, list_any_not, list_any_with, none_pass}
@@ -90,28 +91,28 @@ pub record AreTurns (first : Machine) (given : List GivenAnswer) (last : Machine
   pub keeps : Keeps last
   pub waiting : length given + waiting_count last ≤ waiting_count first
 
-turns_of_chain : (Turns : Machine → GivenAnswer → Machine → Type 0) (first : Machine) (given : List GivenAnswer) (last : Machine)
-    → ((m : Machine) (g : GivenAnswer) (n : Machine) → Keeps m → Turns m g n → IsTurn m n) → Keeps first → Chain Turns first given last
-    → AreTurns first given last
-turns_of_chain Turns first [] last each h chain =
-    record {
-      keeps = subst Keeps (sym chain) h;
-      waiting = let e : waiting_count last ≡ waiting_count first = ap waiting_count chain in omega arith;
-    }
-turns_of_chain Turns first (g ∷ given) last each h chain =
-    grind (arith, common_steps, turns_of_chain Turns chain.0 given last each (each first g chain.0 h chain.1).keeps chain.2)
+turns_trace : IsTrace (λ m given n. Keeps m → AreTurns m given n)
+turns_trace = record {
+  none = λ m h. record { keeps = h; waiting = omega arith };
+  joins = λ a b c xs ys f g h. let one = f h in let two = g one.keeps in
+      record { keeps = two.keeps; waiting = omega (arith, length-append xs ys, one.waiting, two.waiting) };
+}
+
+one_turn : (m n : Machine) (g : GivenAnswer) → IsTurn m n → AreTurns m (g ∷ []) n
+one_turn m n g t = record { keeps = t.keeps; waiting = let w = t.waiting in omega arith }
 
 -- Dispatch keeps the invariant, and gives at most as many answers as clients stop waiting.
 pub turns_of_dispatches : (first : Machine) (given : List GivenAnswer) (last : Machine) → Keeps first → Dispatches first given last
     → AreTurns first given last
 turns_of_dispatches first given last h d =
-    let t = turns_of_chain DispatchTurn first given d.end turn_of_dispatch h d.turns in
+    let t = of_turns DispatchTurn turns_trace (λ m g n turn k. one_turn m n g (turn_of_dispatch m g n k turn)) first given d.end
+    d.turns h in
     subst (AreTurns first given) (sym d.forgets) (record { keeps = t.keeps; waiting = t.waiting })
 
 turns_of_ends : (first : Machine) (given : List GivenAnswer) (last : Machine) → Keeps first → EndsWaits first given last
     → AreTurns first given last
 turns_of_ends first given last h d =
-    let t = turns_of_chain WaitEndTurn first given d.end turn_of_wait_end h d.turns in
+    let t = of_turns WaitEndTurn turns_trace (λ m g n turn k. one_turn m n g (turn_of_wait_end m g n k turn)) first given d.end d.turns h in
     subst (AreTurns first given) (sym d.forgets) (record { keeps = t.keeps; waiting = t.waiting })
 
 -- the same of dispatch and the ends of waits together
@@ -137,8 +138,7 @@ paused_as_before m j i = grind (arith, common_steps, find_in_filter, all_always,
 
 wanted_as_before : (m : Machine) (j : Job) → Contains m.jobs j
     → list_any (is_waiting_for (forgetting m) j) m.seats ≡ list_any (is_waiting_for m j) m.seats
-wanted_as_before m j i = ap (λ b. list_any (λ s. is_waiting s && (is_ready j && watches j.tube s && not b)) m.seats)
-    (paused_as_before m j i)
+wanted_as_before m j i = grind (arith, common_steps, paused_as_before m j i)
 
 next_job_as_before : (m : Machine) → next_job (forgetting m) ≡ next_job m
 next_job_as_before m = search (rules, first_of_agrees, all_from_members, wanted_as_before)

@@ -46,3 +46,4 @@ pub mod CutLemmas
 pub mod GivenLemmas
 pub mod JoinLemmas
 pub mod FilledLemmas
+pub mod Trace

@@ -2,12 +2,12 @@
 use Rattle.std.proofs.Common.{◌∙◌, ◌∷◌, ◌≡◌, ◌≤◌, List, Some, [], ℕ, ap, arith, length, refl, subst, sym}
 use Rattle.std.proofs.lemmas.{Bool.cases_Bool, Grind.common_steps, List.length-map}
 use Rattle.std.specs.List.{AllByRecursion as All, Contains}
-use Rattle.bq_job.specs.{beside.IsLawful, laws.{Part, parts_in, parts_of_run}, machine.{Chain, Dispatches, EndsWaits}}
-use Rattle.bq_job.specs.machine.{GivenAnswer, acted, after_timers, at_moment}
+use Rattle.bq_job.specs.{beside.IsLawful, laws.{Part, parts_in, parts_of_run}}
+use Rattle.bq_job.specs.machine.{acted, after_timers, at_moment}
 use Rattle.bq_job.specs.machine.{forgetting, new_machine, Machine.Machine}
 use Rattle.bq_job.specs.{promise.{GoesBy, IsTransition, Parts, Transition}, Types.{Settings, Step}}
-use Rattle.bq_job.proofs.ActMoves.{After, after_acted}
-use Rattle.bq_job.proofs.{DispatchLemmas.turn_of, KeptLemmas.{Keeps, kept_of_lawful}, LawfulLemmas.end_of}
+use Rattle.bq_job.proofs.{ActMoves.{After, after_acted}, Trace.{IsSteady, of_dispatches, of_ends, steady}}
+use Rattle.bq_job.proofs.KeptLemmas.{Keeps, kept_of_lawful}
 use Rattle.bq_job.proofs.{LawfulLemmas.{kept_of_timers, new_is_lawful, served, step_is_lawful}, ListLemmas.all_at}
 use Rattle.bq_job.proofs.{ListLemmas.{all_of_append, filter_no_longer}, ReplyLemmas.stays_acted}
 
@@ -28,24 +28,12 @@ adds_none m n l e same jobs = record {
   fewer = let many : length n.jobs ≡ length m.jobs = ap (λ (k : Machine). length k.jobs) e ∙ jobs in omega arith;
 }
 
-then_adds_none : (m k n : Machine) → AddsNone m k → AddsNone k n → AddsNone m n
-then_adds_none m k n a b = record { same = b.same ∙ a.same; fewer = let x = a.fewer in let y = b.fewer in omega arith }
+-- serving the clients adds none
+steady_adds_none : (m n : Machine) → IsSteady m n → AddsNone m n
+steady_adds_none m n s = record { same = s.settings; fewer = let many = s.many in omega arith }
 
 within_then : (settings : Settings) (m n : Machine) → IsWithin settings m → AddsNone m n → IsWithin settings n
 within_then settings m n w a = record { chosen = a.same ∙ w.chosen; few = λ most e. let x = w.few most e in let y = a.fewer in omega arith }
-
--- one turn after another
-by_turns : (Turns : Machine → GivenAnswer → Machine → Type 0) (first : Machine) (given : List GivenAnswer) (last : Machine)
-    → ((m : Machine) (g : GivenAnswer) (n : Machine) → Turns m g n → AddsNone m n) → Chain Turns first given last → AddsNone first last
-by_turns Turns first [] last each chain = adds_none first last first chain refl refl
-by_turns Turns first (g ∷ given) last each chain =
-    then_adds_none first chain.0 last (each first g chain.0 chain.1) (by_turns Turns chain.0 given last each chain.2)
-
-by_dispatch : (m : Machine) (given : List GivenAnswer) (n : Machine) → Dispatches m given n → AddsNone m n
-by_dispatch m given n d = grind (arith, common_steps, then_adds_none, by_turns, turn_of, adds_none)
-
-by_ends : (m : Machine) (given : List GivenAnswer) (n : Machine) → EndsWaits m given n → AddsNone m n
-by_ends m given n w = grind (arith, common_steps, then_adds_none, by_turns, adds_none, end_of)
 
 -- A command adds a job only within the limit.
 by_command : (settings : Settings) (what : Step) (m n : Machine) → n.settings ≡ m.settings → After what m n → IsWithin settings m
@@ -64,15 +52,19 @@ within_parts settings t keeps is w =
     let k2 = (served timed s.handed s.ended s.before k0 s.serves).keeps in
     let done = (acted s.memory s.before t.entry.seat t.entry.what).machine in
     let w0 = within_then settings m timed w (grind (arith, common_steps, adds_none, length-map)) in
-    let w1 = within_then settings timed s.serves.between w0 (by_dispatch timed s.handed s.serves.between s.serves.dispatches) in
-    let w2 = within_then settings s.serves.between s.before w1 (by_ends s.serves.between s.ended s.before s.serves.ends_waits) in
+    let w1 = within_then settings timed s.serves.between w0
+    (steady_adds_none timed s.serves.between (of_dispatches steady timed s.handed s.serves.between s.serves.dispatches)) in
+    let w2 = within_then settings s.serves.between s.before w1
+    (steady_adds_none s.serves.between s.before (of_ends steady s.serves.between s.ended s.before s.serves.ends_waits)) in
     let a = by_command settings t.entry.what s.before done (stays_acted 0 s.memory s.before t.entry.seat t.entry.what).settings
     (after_acted s.memory s.before t.entry.seat t.entry.what k2.ids) w2 in
     let w3 = within_then settings done s.after a (adds_none done s.after (forgetting done) s.acts refl refl) in
     let w4 = within_then settings s.after s.serves_then.between w3
-    (by_dispatch s.after s.handed_then s.serves_then.between s.serves_then.dispatches) in
+    (steady_adds_none s.after s.serves_then.between
+    (of_dispatches steady s.after s.handed_then s.serves_then.between s.serves_then.dispatches)) in
     let w5 = within_then settings s.serves_then.between t.last w4
-    (by_ends s.serves_then.between s.ended_then t.last s.serves_then.ends_waits) in (
+    (steady_adds_none s.serves_then.between t.last
+    (of_ends steady s.serves_then.between s.ended_then t.last s.serves_then.ends_waits)) in (
       subst (λ (ps : Parts). All (λ p. IsWithin settings p.machine) (parts_in (record t { parts = ps }))) (sym is.parts_are)
           (w0, (w1, (w2, (w3, (w4, (w5, tt)))))),
       w5,

@@ -1,6 +1,6 @@
 -- Facts about lists of any elements: tests, changes of each element, counts.
 use Rattle.std.proofs.Common.{◌≡◌, ◌≤◌, ◌<◌, ◌+◌, Bool, true, false, ◌&&◌, not, cond, List}
-use Rattle.std.proofs.Common.{[], ◌∷◌, ◌++◌, map, arith, refl, ap, ◌∙◌, subst, inl, inr}
+use Rattle.std.proofs.Common.{[], ◌∷◌, ◌++◌, map, arith, refl, ap, ◌∙◌, subst}
 use Rattle.std.proofs.lemmas.Bool.{cases_Bool, and_parts, and_from, or_parts, or_from}
 use Rattle.std.proofs.lemmas.Bool.{or_left, or_right, or_cases, both_ways, false_from_ne_true}
 use Rattle.std.proofs.lemmas.List.Elements.{All-from_recursion, recursion_from_All, All-contains}
@@ -55,8 +55,7 @@ all_of_append P (x ∷ xs) ys h i = (h.0, all_of_append P xs ys h.1 i)
 -- what is kept by a filter passes, and what held of all holds of it
 pub all_of_filter : {X : Type 0} (P : X → Type 0) (p : X → Bool) (xs : List X) → All P xs → All (λ x. P x × (p x ≡ true)) (filter p xs)
 all_of_filter P p [] h = tt
-all_of_filter P p (x ∷ xs) h = elim (cases_Bool (p x))
-    [ inl e ↦ rw e ((h.0, e), all_of_filter P p xs h.1) | inr e ↦ rw e (all_of_filter P p xs h.1) ]
+all_of_filter P p (x ∷ xs) h = grind (arith, common_steps, cases_Bool, all_of_filter P p xs h.1)
 
 -- a test of all elements, and a test of any
 pub all_pass : {X : Type 0} (p : X → Bool) (xs : List X) → list_all p xs ≡ true → All (λ x. p x ≡ true) xs

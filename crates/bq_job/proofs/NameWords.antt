@@ -1,7 +1,7 @@
 -- The order of names, eight bytes at a time.
-use Rattle.std.proofs.Common.{◌++◌, ◌+◌, ◌*◌, ◌-◌, ◌%◌, ◌<◌, ◌≤◌, ◌^◌, ◌∙◌, ◌∷◌, ◌≡◌, ◌&&◌, Bool, List, [], ℕ}
-use Rattle.std.proofs.Common.{drop, get_or, zero, suc, ap, arith, false, inl, inr, length, refl, replicate, subst, sym, take, true}
-use Rattle.std.specs.Prelude.{nat_le}
+use Rattle.std.proofs.Common.{◌++◌, ◌+◌, ◌*◌, ◌-◌, ◌%◌, ◌<◌, ◌≤◌, ◌∙◌, ◌∷◌, ◌≡◌, ◌&&◌, Bool, List, [], ℕ}
+use Rattle.std.proofs.Common.{drop, get_or, zero, suc, ap, arith, false, length, refl, replicate, sym, take, true}
+use Rattle.std.proofs.lemmas.Grind.{common_steps}
 use Rattle.std.proofs.lemmas.{Bool.{cases_order, Decides.nat_tests}, List.take-replicate, Nat.mul-le}
 use Rattle.std.proofs.Math.Seq.{take-append-add}
 use Rattle.std.specs.Cmp.Lexicographic.{slice_cmp}
@@ -9,7 +9,7 @@ use Rattle.std.specs.Int.{from_be_bytes, w64}
 use Rattle.std.specs.List.{list_all}
 use Rattle.std.specs.Ordering.{nat_cmp, ordering_then}
 use Rattle.std.specs.declared.cmp.Ordering.{Ordering, TheVariants.{Less, Equal, Greater}}
-use Rattle.bq_job.specs.reading.TubeName.{begins_name, filled_up, is_tube_name, name_byte}
+use Rattle.bq_job.specs.reading.TubeName.{filled_up, is_tube_name, name_byte}
 
 less_is : (a b : ℕ) → a < b → nat_cmp a b ≡ Less
 less_is a b h = grind (arith, nat_tests)
@@ -22,28 +22,14 @@ same_is a = grind (arith, nat_tests)
 
 -- the same number added to both
 both_more : (k x y : ℕ) → nat_cmp (k + x) (k + y) ≡ nat_cmp x y
-both_more k x y = elim (cases_order x y) [
-  | inl e ↦ subst (λ z. nat_cmp (k + x) (k + z) ≡ nat_cmp x z) e (same_is (k + x) ∙ sym (same_is x))
-  | inr o ↦ elim o [
-    | inl below ↦ less_is (k + x) (k + y) (omega arith) ∙ sym (less_is x y below)
-    | inr above ↦ more_is (k + x) (k + y) (omega arith) ∙ sym (more_is x y above)
-  ]
-]
+both_more k x y = grind (arith, common_steps, cases_order, same_is, less_is, more_is)
 
 one_more_times : (a b p : ℕ) → a < b → a * p + p ≤ b * p
-one_more_times a b p h = let m = mul-le (a + 1) p b p (omega arith) (omega arith) in
-    let d : (a + 1) * p ≡ a * p + p = grind arith in omega (arith, m, d)
+one_more_times a b p h = grind (arith, common_steps, mul-le)
 
 -- The leading digit decides the order of two numbers; if it is equal, the rest does.
 digit : (p a b x y : ℕ) → x < p → y < p → nat_cmp (a * p + x) (b * p + y) ≡ ordering_then (nat_cmp a b) (nat_cmp x y)
-digit p a b x y small others = elim (cases_order a b) [
-  | inl e ↦ subst (λ c. nat_cmp (a * p + x) (c * p + y) ≡ ordering_then (nat_cmp a c) (nat_cmp x y)) e
-      (both_more (a * p) x y ∙ rw (same_is a) refl)
-  | inr o ↦ elim o [
-    | inl below ↦ rw (less_is a b below) (less_is (a * p + x) (b * p + y) (let m = one_more_times a b p below in omega (arith, m)))
-    | inr above ↦ rw (more_is a b above) (more_is (a * p + x) (b * p + y) (let m = one_more_times b a p above in omega (arith, m)))
-  ]
-]
+digit p a b x y small others = grind (arith, common_steps, cases_order, both_more, same_is, less_is, one_more_times, more_is)
 
 -- eight digits, one after another
 abbrev worth_of : ℕ → ℕ → ℕ → ℕ → ℕ → ℕ → ℕ → ℕ → ℕ
@@ -83,8 +69,7 @@ seam : (xs ys rest others : List ℕ) → length xs ≡ length ys
 seam [] [] rest others e = refl
 seam [] (y ∷ ys) rest others e = absurd (omega arith)
 seam (x ∷ xs) [] rest others e = absurd (omega arith)
-seam (x ∷ xs) (y ∷ ys) rest others e = ap (ordering_then (nat_cmp x y)) (seam xs ys rest others (omega arith))
-    ∙ then_assoc (nat_cmp x y) (slice_cmp nat_cmp xs ys) (slice_cmp nat_cmp rest others)
+seam (x ∷ xs) (y ∷ ys) rest others e = grind (arith, common_steps, then_assoc, seam xs ys rest others (omega arith))
 
 -- the order of two lists: by their first eight bytes as numbers, and if these are equal, by the
 -- rest
@@ -105,13 +90,7 @@ words_same : (w v : ℕ) (o : Ordering) → w ≡ v → ordering_then (nat_cmp w
 words_same w v o e = ap (λ r. ordering_then r o) (ap (nat_cmp w) (sym e) ∙ same_is w)
 
 words_differ : (w v : ℕ) (o : Ordering) → (w ≡ v → ⊥) → ordering_then (nat_cmp w v) o ≡ nat_cmp w v
-words_differ w v o apart = elim (cases_order w v) [
-  | inl e ↦ absurd (apart e)
-  | inr o ↦ elim o [
-    | inl below ↦ rw (less_is w v below) refl
-    | inr above ↦ rw (more_is w v above) refl
-  ]
-]
+words_differ w v o apart = grind (arith, common_steps, cases_order, less_is, more_is)
 
 -- the first eight bytes of a list, and the rest
 front_8 : (xs : List ℕ) → 8 ≤ length xs → xs ≡ get_or xs 0 0 ∷ get_or xs 1 0 ∷ get_or xs 2 0 ∷ get_or xs 3 0 ∷ get_or xs 4 0 ∷ get_or xs 5 0
@@ -150,15 +129,12 @@ module _ (xs ys : List ℕ) (long : 8 ≤ length xs) (other_long : 8 ≤ length 
 
   module _ (w v : ℕ) (r : Ordering) (word : w ≡ word_of xs) (other : v ≡ word_of ys) where
     words : slice_cmp nat_cmp xs ys ≡ ordering_then (nat_cmp w v) (slice_cmp nat_cmp (drop 8 xs) (drop 8 ys))
-    words = split ∙ ap (λ (o : Ordering). ordering_then o (slice_cmp nat_cmp (drop 8 xs) (drop 8 ys)))
-        (ap (λ i. nat_cmp i (word_of ys)) (sym word) ∙ ap (nat_cmp w) (sym other))
+    words = grind (arith, common_steps, split)
 
     -- if the words are equal, the rest decides,
     pub rest_decides : w ≡ v → (more others : List ℕ) → more ≡ drop 8 xs → others ≡ drop 8 ys → r ≡ slice_cmp nat_cmp more others
         → r ≡ slice_cmp nat_cmp xs ys
-    rest_decides same more others after other_after rest =
-        rest ∙ ap (λ zs. slice_cmp nat_cmp zs others) after ∙ ap (slice_cmp nat_cmp (drop 8 xs)) other_after
-        ∙ sym (words_same w v (slice_cmp nat_cmp (drop 8 xs) (drop 8 ys)) same) ∙ sym words
+    rest_decides same more others after other_after rest = grind (arith, common_steps, words_same, words)
 
     -- and otherwise they do
     pub words_decide : (w ≡ v → ⊥) → r ≡ nat_cmp w v → r ≡ slice_cmp nat_cmp xs ys
@@ -201,25 +177,17 @@ front_is name k long fits =
     ∙ ap (λ r. name ++ r) (take-replicate (k - length name) (200 - length name) 0 (omega arith))
 
 bytes_of : (name : List ℕ) → is_tube_name name ≡ true → list_all name_byte name ≡ true
-bytes_of name is =
-    (both (begins_name name && nat_le (length name) 200) (list_all name_byte name) is).1
+bytes_of name is = grind (arith, common_steps, both)
 
 -- The arrays of two names are in the order of the names,
 pub wholes_compare : (a b bytes others : List ℕ) → bytes ≡ filled_up a → others ≡ filled_up b → is_tube_name a ≡ true
     → is_tube_name b ≡ true → length a ≤ 200 → length b ≤ 200
     → slice_cmp nat_cmp bytes others ≡ slice_cmp nat_cmp a b
-wholes_compare a b bytes others is other_is named other_named long other_long =
-    ap (λ xs. slice_cmp nat_cmp xs others) is
-    ∙ ap (slice_cmp nat_cmp (filled_up a)) other_is
-    ∙ padded (200 - length a) (200 - length b) a b (omega arith) (bytes_of a named) (bytes_of b other_named)
+wholes_compare a b bytes others is other_is named other_named long other_long = grind (arith, common_steps, padded, bytes_of)
 
 -- and so are their fronts, as far as both names go.
 pub fronts_compare : (a b bytes others : List ℕ) (k : ℕ) → bytes ≡ filled_up a → others ≡ filled_up b → is_tube_name a ≡ true
     → is_tube_name b ≡ true → length a ≤ k → length b ≤ k → k ≤ 200
     → slice_cmp nat_cmp (take k bytes) (take k others) ≡ slice_cmp nat_cmp a b
 fronts_compare a b bytes others k is other_is named other_named long other_long fits =
-    ap (λ xs. slice_cmp nat_cmp (take k xs) (take k others)) is
-    ∙ ap (λ ys. slice_cmp nat_cmp (take k (filled_up a)) (take k ys)) other_is
-    ∙ ap (λ xs. slice_cmp nat_cmp xs (take k (filled_up b))) (front_is a k long fits)
-    ∙ ap (λ ys. slice_cmp nat_cmp (a ++ replicate (k - length a) 0) ys) (front_is b k other_long fits)
-    ∙ padded (k - length a) (k - length b) a b (omega arith) (bytes_of a named) (bytes_of b other_named)
+    grind (arith, common_steps, front_is, padded, bytes_of)

@@ -1,9 +1,9 @@
 -- Before the next due moment a tick changes nothing but the moment.
-use Rattle.std.proofs.Common.{◌&&◌, ◌++◌, ◌+◌, ◌<◌, ◌||◌, ◌∙◌, ◌∷◌, ◌≡◌, List, None, Option}
+use Rattle.std.proofs.Common.{◌&&◌, ◌++◌, ◌<◌, ◌||◌, ◌∙◌, ◌∷◌, ◌≡◌, List, None, Option}
 use Rattle.std.proofs.Common.{[], ℕ, ap, arith, false, inl, inr, refl, subst, true}
 use Rattle.std.proofs.lemmas.Bool.{and_from, cases_Bool, eq-eqb, le-leb, leb-true, lt-leb, or_parts}
 use Rattle.std.proofs.{lemmas.Grind.common_steps, Math.Nat.min-eq_left}
-use Rattle.std.specs.{List.{AllByRecursion as All, Contains}, Prelude.{◌-◌, ◌==◌, IsTrue, count_by, flat_map, nat_lt}}
+use Rattle.std.specs.{List.{AllByRecursion as All, Contains}, Prelude.{◌==◌, IsTrue, count_by, flat_map, nat_lt}}
 use Rattle.bq_job.specs.machine.{GivenAnswer, IsStep, Machine.Machine, Memory, Outcome, SeatRecord, Serves, Wait, acted}
 use Rattle.bq_job.specs.machine.{addressed, after_timers, at_moment, ends_waiting, forgetting, grown}
 use Rattle.bq_job.specs.machine.{is_deadline_soon, is_due, is_expired, is_possible, is_timed_out, is_until_over}
@@ -62,8 +62,7 @@ module _ (m : Machine) (at : ℕ) (h : IsLawful m) (early : IsTrue (is_before (a
       (all_parts (IsLater now) of_jobs of_tubes (all_parts (IsLater now) (of_jobs ++ of_tubes) of_seats all_later).0).1
 
   seats_later : All (λ s. All (IsLater now) (dues_of_wait s.wait)) m.seats
-  seats_later = all_of_flat_map (IsLater now) (λ s. dues_of_wait s.wait) m.seats
-      (all_parts (IsLater now) (of_jobs ++ of_tubes) of_seats all_later).1
+  seats_later = grind (arith, common_steps, all_of_flat_map, all_parts (IsLater now) (of_jobs ++ of_tubes) of_seats all_later, all_later)
 
   timeouts_same : grown (count_by (λ j. is_expired now j.state) m.jobs) m.timeouts ≡ m.timeouts
   timeouts_same =

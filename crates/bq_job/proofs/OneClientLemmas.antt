@@ -5,10 +5,11 @@ use Rattle.std.proofs.Common.{◌∷◌, ◌++◌, map, length, arith, refl, sym
 use Rattle.std.proofs.lemmas.Bool.{and_from, and_right, cases_Bool, cond_both, eq-eqb, eqb-false, eqb-true, or_from}
 use Rattle.std.proofs.lemmas.{Grind.common_steps, List.Folds.list_any-append}
 use Rattle.std.specs.{List.{AllByRecursion as All, Contains, list_any}, Prelude.◌==◌}
-use Rattle.bq_job.specs.machine.{Chain, DispatchTurn, GivenAnswer, IsHandOut, Machine.Machine, SeatRecord, Serves, WaitEndTurn, end_of_wait}
+use Rattle.bq_job.specs.machine.{DispatchTurn, GivenAnswer, IsHandOut, Machine.Machine, SeatRecord, Serves, WaitEndTurn, end_of_wait}
 use Rattle.bq_job.specs.machine.{has_closed, is_closed_answer, is_deadline_soon, is_waiting, next_seat, numbers, seat_with, without_wait}
 use Rattle.bq_job.specs.{promise.answers_to, Types.{Answer, Job}}
 use Rattle.bq_job.specs.declared.answer.Answer.TheVariants as answers
+use Rattle.bq_job.proofs.Trace.{IsServing, of_serves}
 use Rattle.bq_job.proofs.ListLemmas.{all_always, all_of_map, all_weaker, found_passes}
 use Rattle.bq_job.proofs.ListLemmas.{keys_of_map, list_any_not, list_any_of_map, list_any_with}
 use Rattle.bq_job.proofs.{ComputedLemmas.{next_end_waits, next_seat_waits}, DispatchLemmas.turn_of}
@@ -132,25 +133,21 @@ passes_wait_end seat m given next turn =
     (λ d. refl)) e.given_is
     (ap (λ (n : Machine). n.seats) e.next_is)
 
--- turns one after another
-passes_chain : (Turns : Machine → GivenAnswer → Machine → Type 0) (seat : ℕ) (first : Machine) (given : List GivenAnswer) (last : Machine)
-    → ((m : Machine) (g : GivenAnswer) (n : Machine) → Turns m g n → Passes seat m.seats n.seats (g ∷ [])) → Chain Turns first given last
-    → Passes seat first.seats last.seats given
-passes_chain Turns seat first [] last each chain =
-    subst (λ (n : Machine). Passes seat first.seats n.seats []) (sym chain) (passes_itself seat first.seats)
-passes_chain Turns seat first (g ∷ given) last each chain =
-    passes_then seat first.seats (chain.0).seats last.seats (g ∷ []) given (each first g chain.0 chain.1)
-    (passes_chain Turns seat chain.0 given last each chain.2)
+passes : (seat : ℕ) → IsServing (λ m given n. Passes seat m.seats n.seats given)
+passes seat = record {
+  trace = record {
+    none = λ m. passes_itself seat m.seats;
+    joins = λ a b c xs ys f g. passes_then seat a.seats b.seats c.seats xs ys f g;
+  };
+  dispatch = passes_dispatch seat;
+  wait_end = passes_wait_end seat;
+  forgets = λ m. passes_itself seat m.seats;
+}
 
 -- dispatch and the ends of waits
 pub passes_serves : (seat : ℕ) (first : Machine) (handed ended : List GivenAnswer) (last : Machine) → Serves first handed ended last
     → Passes seat first.seats last.seats (handed ++ ended)
-passes_serves seat first handed ended last s =
-    let d = s.dispatches in
-    let e = s.ends_waits in
-    let begin = passes_chain DispatchTurn seat first handed d.end (passes_dispatch seat) d.turns in
-    let then = passes_chain WaitEndTurn seat s.between ended e.end (passes_wait_end seat) e.turns in
-    grind (arith, common_steps, passes_then)
+passes_serves seat first handed ended last s = of_serves (passes seat) first handed ended last s
 
 -- The only seat of its number.
 pub record Found (seat : ℕ) (seats : List SeatRecord) : Type 0 where

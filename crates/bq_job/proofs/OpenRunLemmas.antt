@@ -1,13 +1,14 @@
 -- Runs that have not ended: once all seats are gone, what is owed so far is the final promise.
 use Rattle.std.proofs.Common.{◌≡◌, ℕ, suc, zero, ◌+◌, ◌≤◌, ◌<◌, Bool, true, false, List, [], ◌∷◌, ◌++◌, Option, Some, None}
 use Rattle.std.proofs.Common.{map, length, replicate, ◌||◌, refl, sym, ap, ◌∙◌, arith, subst, inl, inr, append-nil, append_assoc}
+use Rattle.std.proofs.lemmas.Grind.{common_steps}
 use Rattle.std.proofs.lemmas.{Bool.{or_from, or_parts}, List.{Folds.list_any-append, length-map, map-append}}
 use Rattle.std.specs.List.{list_any}
 use Rattle.bq_job.specs.beside.{AreLinesServed}
 use Rattle.bq_job.specs.machine.{GivenAnswer, Machine.Machine, Settings, new_machine}
 use Rattle.bq_job.specs.promise.{AreAllGone, AreDoorsOwed, AreDoorsOwedSoFar, AreLinesOwed, ArePickedFrom, DoorSoFar, Entry}
 use Rattle.bq_job.specs.promise.{IsControlDone, IsControlSoFar, IsDoorOwedSoFar, IsHistoryOf, IsHistorySoFar, IsOutOwed, IsRun}
-use Rattle.bq_job.specs.promise.{LineHeard, LineOver, LineSeen, MayTellEnd, Run, answers_to, drains, heard, is_gone, steps_at}
+use Rattle.bq_job.specs.promise.{LineHeard, LineOver, LineSeen, MayTellEnd, Run, answers_to, heard, is_gone, steps_at}
 use Rattle.bq_job.specs.{laws.LawsOfRuns.RunBegins, promise.moments_heard, Types.{Answer, Request, Step}}
 use Rattle.bq_job.specs.declared.step.Step.TheVariants as steps
 use Rattle.bq_job.proofs.{GivenLemmas.are_gone, JoinLemmas.seat_owed, ListLemmas.heads, RunLemmas.{run_first, run_from, run_none}}
@@ -20,20 +21,14 @@ asks_go_on (request ∷ asked) = asks_go_on asked
 
 end_goes_on : (line : LineHeard) (asked : List Request) (end_steps : List Step) → MayTellEnd line asked end_steps
     → list_any is_gone end_steps ≡ false
-end_goes_on line asked end_steps h = elim h [
-  | inl e ↦ ap (λ (xs : List Step). list_any is_gone xs) e
-  | inr e ↦ ap (λ (xs : List Step). list_any is_gone xs) e.0
-]
+end_goes_on line asked end_steps h = grind (arith, common_steps)
 
 both_go_on : (xs ys : List Step) → list_any is_gone xs ≡ false → list_any is_gone ys ≡ false → list_any is_gone (xs ++ ys) ≡ false
 both_go_on xs ys h i = list_any-append is_gone xs ys ∙ or_from (list_any is_gone xs) (list_any is_gone ys) h i
 
 line_goes_on : (line : LineHeard) (asked : List Request) (end_steps : List Step) → MayTellEnd line asked end_steps
     → list_any is_gone (steps.Connect ∷ [] ++ map steps.Ask asked ++ end_steps ++ steps.Close ∷ []) ≡ false
-line_goes_on line asked end_steps h =
-    both_go_on (steps.Connect ∷ [] ++ map steps.Ask asked ++ end_steps) (steps.Close ∷ [])
-    (both_go_on (steps.Connect ∷ [] ++ map steps.Ask asked) end_steps
-    (both_go_on (steps.Connect ∷ []) (map steps.Ask asked) refl (asks_go_on asked)) (end_goes_on line asked end_steps h)) refl
+line_goes_on line asked end_steps h = grind (arith, common_steps, both_go_on, asks_go_on, end_goes_on)
 
 lines_go_on : (size : ℕ) (lines : List LineOver) (own : List Step) (got : List Answer) → AreLinesServed size lines own got
     → list_any is_gone own ≡ false
@@ -49,10 +44,7 @@ lines_go_on size (line ∷ lines) own got h =
 
 out_is_gone : (size : ℕ) (out : Option LineSeen) (taken : List Step) (answers : List Answer) → IsOutOwed size out taken answers
     → list_any is_gone taken ≡ true → taken ≡ steps.Gone ∷ []
-out_is_gone size None taken answers h gone = elim h [
-  | inl e ↦ absurd (let f = ap (λ (xs : List Step). list_any is_gone xs) e in cc)
-  | inr e ↦ e
-]
+out_is_gone size None taken answers h gone = grind (arith, common_steps)
 out_is_gone size (Some line) taken answers h gone =
     let s = h.of_steps in
     let none = or_parts (list_any is_gone taken) (list_any is_gone s.more)
@@ -127,9 +119,7 @@ gone_is_last (suc n) (x ∷ xs) rest e gone =
 
 control_final : (text : List ℕ) (failed : Bool) (submitted : List Step) → IsControlSoFar text failed submitted
     → list_any is_gone submitted ≡ true → IsControlDone text failed submitted
-control_final text failed submitted c gone =
-    sym (append-nil submitted)
-    ∙ ap (λ (xs : List Step). submitted ++ xs) (sym (gone_is_last (drains text failed) submitted c.0 c.1 gone)) ∙ c.1
+control_final text failed submitted c gone = grind (arith, common_steps, append-nil, gone_is_last)
 
 -- ---- the whole
 

@@ -3,7 +3,7 @@ use Rattle.std.proofs.Common.{ℕ, ◌≡◌, ◌≤◌, ◌<◌, Bool, true, fa
 use Rattle.std.proofs.Common.{◌++◌, arith, refl, sym, ap, ◌∙◌, subst, inl, inr, ◌⊎◌, Some}
 use Rattle.std.proofs.lemmas.Bool.{both_ways, cases_Bool, eq-eqb, eqb-true, or_from, or_parts}
 use Rattle.std.proofs.lemmas.{Grind.common_steps, List.{Elements.Contains-append_cases, Folds.list_any-append}}
-use Rattle.std.specs.{List.{AllByRecursion as All, Contains, list_any}, Prelude.{◌==◌, option_map}}
+use Rattle.std.specs.{List.{AllByRecursion as All, Contains, list_any}, Prelude.{◌==◌}}
 use Rattle.bq_job.specs.{declared.job.Job.Job, laws.{Happening, Part, comes_first, disturbs, happenings, is_hand_out}}
 use Rattle.bq_job.specs.{laws.{is_put, put}, machine.{is_ready, job_with, reserved_by, Machine.Machine}}
 use Rattle.bq_job.proofs.JobMoves.{IsHandOutMove, IsPutMove, IsQuiet, Move, Moves, quiet, putting, handing, is_plain}
@@ -102,10 +102,8 @@ stands_after j m n k happened parts (putting p) moves now still (waits r) =
       tube = r.tube;
     })
 stands_after j m n k happened parts (handing h) moves now still (waits r) =
-    ready_mapped j m n (happenings parts) r h.job.id m.moment h.seat h.next
-    (handed_lookup j.id m n happened h ∙ ap (option_map (λ i. cond (i.id == h.job.id) (reserved_by m.moment h.seat i) i)) r.there)
-stands_after j m n k happened parts (quiet q) moves now still (unborn above i) =
-    unborn (omega arith) (put_behind j m n happened (happenings parts) (inl q) i)
+    grind (arith, common_steps, ready_mapped, handed_lookup j.id m n happened h)
+stands_after j m n k happened parts (quiet q) moves now still (unborn above i) = grind (arith, common_steps, unborn, put_behind)
 stands_after j m n k happened parts (handing h) moves now still (unborn above i) =
     unborn (omega arith) (put_behind j m n happened (happenings parts) (inr h) i)
 stands_after j m n k happened parts (putting p) moves now still (unborn above i) =

@@ -2,7 +2,6 @@
 use Rattle.std.proofs.Common.{ℕ, ◌≡◌, Bool, false, ◌||◌, List, [], ◌∷◌, refl, sym, ap, ◌∙◌, subst, Option, Some, None, arith}
 use Rattle.std.proofs.lemmas.{Bool.or_parts, Grind.common_steps}
 use Rattle.std.specs.List.{list_any}
-use Rattle.bq_job.specs.declared.answer.Answer.TheVariants as answers
 use Rattle.bq_job.specs.machine.{Chain, DispatchTurn, Effect, GivenAnswer, IsStep, Machine.Machine, Memory, Outcome}
 use Rattle.bq_job.specs.machine.{Serves, WaitEndTurn, acted, after_timers, at_moment, forgetting}
 use Rattle.bq_job.specs.machine.{has_refused_share, is_out_of_memory, is_share_refused, next_end}

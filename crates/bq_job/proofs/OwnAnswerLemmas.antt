@@ -35,8 +35,7 @@ tells_kind : (request : Request) (m : Machine) (seat : ℕ) (s : SeatRecord) {e 
 tells_kind request m seat s (passes none) at = commonly refl
 tells_kind request m seat s (tells answer one common unclosed) at = commonly common
 tells_kind request m seat s (waits until one waiting) at = commonly refl
-tells_kind request m seat s (adds pri delay ttr body one accepts free) at =
-    inserting refl accepts (λ last. or_right m.draining (nat_le last_id m.next_id) last)
+tells_kind request m seat s (adds pri delay ttr body one accepts free) at = grind (arith, common_steps, inserting, or_right)
 tells_kind request m seat s (deletes id j asks found free) at =
     deleting id j (ap steps.Ask asks) found (subst (λ n. (is_reserved j.state ≡ false) ⊎ (is_held_by n j ≡ true)) at
     (grind (arith, common_steps))) refl refl

@@ -1,15 +1,14 @@
 -- Parts of a step in which nothing happens.
-use Rattle.std.proofs.Common.{◌≡◌, true, List, [], ◌∷◌, refl, ap, None, arith}
+use Rattle.std.proofs.Common.{◌≡◌, true, List, [], ◌∷◌, refl, None, arith}
 use Rattle.std.proofs.lemmas.Grind.{common_steps}
 use Rattle.std.specs.List.{list_all}
-use Rattle.bq_job.specs.machine.{Chain, GivenAnswer, Machine.Machine, Serves, TubeRecord, forgetting, is_tube}
+use Rattle.bq_job.specs.machine.{Chain, GivenAnswer, Machine.Machine, Serves, forgetting, is_tube}
 use Rattle.bq_job.specs.machine.{next_end, next_job}
 use Rattle.bq_job.proofs.ListLemmas.{all_pass, filter_all}
 
 -- If no record is of a tube that does not exist, nothing is forgotten.
 pub forgets_nothing : (m : Machine) → list_all (λ t. is_tube t.name m) m.tubes ≡ true → forgetting m ≡ m
-forgets_nothing m h = ap (λ (ts : List TubeRecord). record m { tubes = ts })
-    (filter_all (λ t. is_tube t.name m) m.tubes (all_pass (λ t. is_tube t.name m) m.tubes h))
+forgets_nothing m h = grind (arith, common_steps, filter_all, all_pass)
 
 none_in_chain : (Turns : Machine → GivenAnswer → Machine → Type 0) (first : Machine) (given : List GivenAnswer) (last : Machine)
     → ((g : GivenAnswer) (n : Machine) → Turns first g n → ⊥) → Chain Turns first given last → (given ≡ []) × (last ≡ first)

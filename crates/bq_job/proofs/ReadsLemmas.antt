@@ -1,6 +1,6 @@
 -- Every text has one reading.
 use Rattle.std.proofs.Common.{◌≡◌, ℕ, zero, suc, ◌≤◌, Bool, true, false, List, [], ◌∷◌, ◌++◌, Option, Some, None}
-use Rattle.std.proofs.Common.{◌⊎◌, inl, inr, refl, sym, ap, ◌∙◌, arith, length, length-append, append_assoc, IsTrue, not, ◌&&◌}
+use Rattle.std.proofs.Common.{◌⊎◌, inl, inr, refl, sym, ap, ◌∙◌, arith, length, length-append, append_assoc, IsTrue}
 use Rattle.std.proofs.lemmas.{Bool.cases_Bool, Grind.common_steps}
 use Rattle.bq_job.specs.reading.Reading.{Reads, AreUnits, IsUnit, BeginsNoUnit, is_quit, quits_last, ends_by_quit}
 use Rattle.bq_job.specs.beside.{AreSameRequests, IsSameRequest, first_unit, onto_reading, reading, reading_within}
@@ -81,8 +81,7 @@ reading-Reads size text = reading_within-Reads (length text) size text (omega ar
 pub ruleset computed_readings = (reading-Reads)
 
 quits_later : (r s : Request) (rs : List Request) → IsTrue (quits_last (r ∷ s ∷ rs)) → IsTrue (quits_last (s ∷ rs))
-quits_later r s rs h = (elim (is_quit r) as
-    (λ t. (not t && quits_last (s ∷ rs)) ≡ true → quits_last (s ∷ rs) ≡ true) [ true ↦ λ e. cc | false ↦ λ e. e ]) h
+quits_later r s rs h = grind (arith, common_steps)
 
 abbrev IsEnded : ℕ → List Request → List ℕ → Type 0
 IsEnded size requests rest = IsTrue (ends_by_quit requests) ⊎ BeginsNoUnit size rest

@@ -3,11 +3,12 @@
 use Rattle.std.proofs.Common.{ℕ, ◌≡◌, ◌≤◌, Bool, true, cond, List, [], ◌∷◌, map, refl, sym, subst, arith, rules}
 use Rattle.std.proofs.{lemmas.{Bool.{cases_Bool, cond_both, leb-true}, Grind.common_steps}, Math.Nat.min-le_right}
 use Rattle.std.specs.{Cmp.Lexicographic.bytes_decides, List.AllByRecursion as All, Prelude.{filter, nat_le}}
-use Rattle.bq_job.specs.machine.{Chain, DispatchTurn, Effect, GivenAnswer, Machine.Machine, Memory, SeatRecord, Serves}
+use Rattle.bq_job.specs.machine.{DispatchTurn, Effect, GivenAnswer, Machine.Machine, Memory, SeatRecord, Serves}
 use Rattle.bq_job.specs.machine.{TubeRecord, WaitEndTurn, acted, after_close, after_timers, at_moment, empty_seat}
 use Rattle.bq_job.specs.{beside.{IsLawful, is_in_order, watches_once}, machine.{forgetting, greatest}}
 use Rattle.bq_job.specs.machine.{is_name_before, is_tube, with_end, with_record, with_seat}
 use Rattle.bq_job.specs.{reading.TubeName.is_same_name, Types.{Request, Step}}
+use Rattle.bq_job.proofs.Trace.{IsTrace, of_turns}
 use Rattle.bq_job.proofs.ListLemmas.{all_at, all_always, all_before_map, all_of_filter, all_of_map, all_pass, all_weaker, keys_of_map}
 use Rattle.bq_job.proofs.{CommandKinds.kind_of, EachEvent.each_acted, EffectKinds.Kind}
 use Rattle.bq_job.proofs.NameOrderLemmas.{after, first_of_order, in_order_from, rest_in_order}
@@ -98,11 +99,8 @@ booked_dispatch m given next h turn = grind (arith, common_steps, cases_Bool, bo
 booked_wait_end : (m : Machine) (given : GivenAnswer) (next : Machine) → Booked m → WaitEndTurn m given next → Booked next
 booked_wait_end m given next h turn = grind (arith, common_steps, booked_seat)
 
-booked_chain : (Turns : Machine → GivenAnswer → Machine → Type 0) (first : Machine) (given : List GivenAnswer) (last : Machine)
-    → ((m : Machine) (g : GivenAnswer) (n : Machine) → Booked m → Turns m g n → Booked n) → Booked first
-    → Chain Turns first given last → Booked last
-booked_chain Turns first [] last each h chain = subst Booked (sym chain) h
-booked_chain Turns first (g ∷ given) last each h chain = booked_chain Turns chain.0 given last each (each first g chain.0 h chain.1) chain.2
+booked_trace : IsTrace (λ m given n. Booked m → Booked n)
+booked_trace = record { none = λ m h. h; joins = λ a b c xs ys f g h. g (f h) }
 
 -- before forgetting once more
 pub booked_served : (first : Machine) (handed ended : List GivenAnswer) (last : Machine) → Booked first
@@ -110,9 +108,9 @@ pub booked_served : (first : Machine) (handed ended : List GivenAnswer) (last : 
 booked_served first handed ended last h s =
     let d = s.dispatches in
     let e = s.ends_waits in
-    let dispatched = booked_chain DispatchTurn first handed d.end booked_dispatch h d.turns in
-    booked_chain WaitEndTurn s.between ended e.end booked_wait_end
-    (subst Booked (sym d.forgets) (booked_forgetting d.end dispatched)) e.turns
+    let dispatched = of_turns DispatchTurn booked_trace (λ m g n turn b. booked_dispatch m g n b turn) first handed d.end d.turns h in
+    of_turns WaitEndTurn booked_trace (λ m g n turn b. booked_wait_end m g n b turn) s.between ended e.end e.turns
+    (subst Booked (sym d.forgets) (booked_forgetting d.end dispatched))
 
 pub booked_through : (first : Machine) (handed ended : List GivenAnswer) (last : Machine) → Booked first
     → (s : Serves first handed ended last) → Booked last

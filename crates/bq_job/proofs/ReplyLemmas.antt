@@ -1,12 +1,12 @@
 -- What the command's own effect gives to one client: the client that asks is answered or waits, and
 -- other seats stay as they were.
 use Rattle.std.proofs.Common.{ℕ, ◌≡◌, ◌+◌, Bool, true, false, not, cond, List, [], ◌∷◌}
-use Rattle.std.proofs.Common.{map, length, arith, refl, sym, ap, ◌∙◌, subst, Option, Some, None}
+use Rattle.std.proofs.Common.{length, arith, refl, sym, ap, ◌∙◌, subst, Option, Some, None}
 use Rattle.std.proofs.lemmas.{Bool.{and_from, and_parts, cases_Bool}, Grind.common_steps}
 use Rattle.std.specs.{List.Contains, Prelude.{◌==◌, IsTrue, is_some}}
-use Rattle.bq_job.specs.machine.{Effect, Machine.Machine, Memory, SeatRecord, acted, addressed, after_close, after_connect, after_delete}
-use Rattle.bq_job.specs.machine.{after_put, ask_effect, asked, at_found, effect, empty_seat, has_closed}
-use Rattle.bq_job.specs.machine.{is_closed_answer, is_possible, is_waiting, new_job, raised, reserve_effect}
+use Rattle.bq_job.specs.machine.{Effect, Machine.Machine, Memory, SeatRecord, acted, addressed, after_close, after_connect}
+use Rattle.bq_job.specs.machine.{ask_effect, asked, at_found, effect, empty_seat, has_closed}
+use Rattle.bq_job.specs.machine.{is_closed_answer, is_possible, is_waiting, raised, reserve_effect}
 use Rattle.bq_job.specs.machine.{silent, telling, waiting_from, with_end, with_seat}
 use Rattle.bq_job.specs.{promise.{answers_to, answers_wanted, is_waiting_request}, Types.{Answer, Request, Step}}
 use Rattle.bq_job.specs.declared.answer.Answer.TheVariants as answers
@@ -34,8 +34,7 @@ replies_telling seat m n answer stays w c = record { count = rw w refl; at_once 
 -- the same machine with other jobs
 replies_jobs : {b : Bool} (seat : ℕ) (m n : Machine) (answer : Answer) → waits_in seat m.seats ≡ false → is_closed_answer answer ≡ false
     → n.seats ≡ m.seats → Replies seat 1 b m.seats (telling answer n)
-replies_jobs seat m n answer w stays same =
-    replies_telling seat m n answer stays (ap (waits_in seat) same ∙ w) (ap (connected_in seat) same)
+replies_jobs seat m n answer w stays same = grind (arith, common_steps, replies_telling, waits_in, connected_in)
 
 -- A seat changes, and its client waits as before.
 replies_seat : {b : Bool} (seat number : ℕ) (f : SeatRecord → SeatRecord) (m : Machine) (answer : Answer) → waits_in seat m.seats ≡ false
@@ -65,15 +64,11 @@ replies_reserve until m s there = record {
 replies_kind : (request : Request) (m : Machine) (s : SeatRecord) {e : Effect} → Kind m s request e → Contains m.seats s
     → waits_in s.number m.seats ≡ false → Replies s.number (answers_wanted request) (is_waiting_request request) m.seats e
 replies_kind request m s (passes none) there w = record { count = rw (w, none) refl; at_once = λ e. w; unclosed = refl; connected = refl }
-replies_kind request m s (tells answer one common unclosed) there w =
-    answered request one (replies_jobs s.number m m answer w unclosed refl)
+replies_kind request m s (tells answer one common unclosed) there w = grind (arith, common_steps, answered, replies_jobs, unclosed)
 replies_kind request m s (waits until one waiting) there w = rw (one, waiting) (replies_reserve until m s there)
-replies_kind request m s (adds pri delay ttr body one accepts free) there w =
-    answered request one (replies_jobs s.number m (after_put m (new_job m s pri delay ttr body)) (answers.Inserted m.next_id) w refl refl)
-replies_kind request m s (deletes id j asks found free) there w =
-    answered request (ap answers_wanted asks) (replies_jobs s.number m (after_delete m j) answers.Deleted w refl refl)
-replies_kind request m s (changes_jobs answer f burials says changes) there w =
-    answered request says.wanted (replies_jobs s.number m (record m { jobs = map f m.jobs; burials = burials }) answer w says.unclosed refl)
+replies_kind request m s (adds pri delay ttr body one accepts free) there w = grind (arith, common_steps, answered, replies_jobs)
+replies_kind request m s (deletes id j asks found free) there w = grind (arith, common_steps, answered, replies_jobs)
+replies_kind request m s (changes_jobs answer f burials says changes) there w = grind (arith, common_steps, answered, replies_jobs)
 replies_kind request m s (changes_seat answer f says changes) there w =
     answered request says.wanted (replies_seat s.number s.number f m answer w says.unclosed changes.number changes.connected
     (λ t. ap is_some (changes.wait t)))

@@ -11,8 +11,7 @@ use Rattle.bq_job.proofs.{SpentLemmas.handed_once, StepMoves.{Goes, parts_go, ru
 -- a run from a new machine, as moves
 run_goes : (settings : Settings) (taken : List Transition) (last : Machine) → GoesBy (new_machine settings) taken last
     → Goes (new_machine settings) (happenings (parts_of_run taken)) last
-run_goes settings taken last goes = parts_go (new_machine settings) (parts_of_run taken) last
-    (run_gone (new_machine settings) taken last (new_is_lawful settings) goes)
+run_goes settings taken last goes = grind (arith, common_steps, parts_go, run_gone, new_is_lawful)
 
 still : (j : Job) (happened : List Happening) → IsUndisturbed j happened → list_any (disturbs j.id) happened ≡ false
 still j happened u = grind (arith, common_steps)

@@ -1,5 +1,5 @@
 -- A job that is held or gone is not handed out again as long as nothing disturbs it.
-use Rattle.std.proofs.Common.{ℕ, ◌≡◌, ◌≤◌, ◌<◌, ◌+◌, true, false, cond, List, [], ◌∷◌, ◌++◌}
+use Rattle.std.proofs.Common.{ℕ, ◌≡◌, ◌≤◌, ◌<◌, true, false, cond, List, [], ◌∷◌, ◌++◌}
 use Rattle.std.proofs.Common.{arith, refl, sym, ap, ◌∙◌, subst, inl, inr, Option, Some, None}
 use Rattle.std.proofs.lemmas.Bool.{cases_Bool, or_parts, or_from, both_ways, cond_both, eqb-true, eq-eqb, false_from_ne_true}
 use Rattle.std.proofs.lemmas.{Grind.common_steps, List.{Folds.list_any-append, Sums.sum_by-append}}
@@ -23,8 +23,7 @@ plain_hands_none id h e = grind (arith, common_steps, cases_Bool)
 
 pub none_handed : (id : ℕ) (happened : List Happening) → All (λ h. is_plain h ≡ true) happened → list_any (is_hand_out id) happened ≡ false
 none_handed id [] plain = refl
-none_handed id (h ∷ happened) plain = or_from (is_hand_out id h) (list_any (is_hand_out id) happened) (plain_hands_none id h plain.0)
-    (none_handed id happened plain.1)
+none_handed id (h ∷ happened) plain = grind (arith, common_steps, or_from, plain_hands_none, none_handed id happened plain.1)
 
 -- lookup after a hand-out
 pub handed_lookup : (id : ℕ) (m n : Machine) (happened : List Happening) (h : IsHandOutMove m happened n)
@@ -53,19 +52,13 @@ spent_not_handed id m n happened (handing h) spent = grind (arith, common_steps,
 
 -- Its job is spent once it is handed out.
 pub spent_by_hand_out : (m n : Machine) (happened : List Happening) (h : IsHandOutMove m happened n) → IsSpent h.job.id n
-spent_by_hand_out m n happened h = (
-  omega arith,
-  subst IsNotFree (sym (handed_lookup h.job.id m n happened h
-      ∙ ap (option_map (λ j. cond (j.id == h.job.id) (reserved_by m.moment h.seat j) j)) h.there))
-      (cond_both (h.job.id == h.job.id) (reserved_by m.moment h.seat h.job) h.job (λ k. is_reserved k.state ≡ true) (λ e. refl)
-      (λ e. absurd (both_ways (h.job.id == h.job.id) e (eq-eqb h.job.id h.job.id refl)))),
-)
+spent_by_hand_out m n happened h =
+    grind (arith, common_steps, handed_lookup h.job.id m n happened h, cond_both, both_ways, eq-eqb h.job.id h.job.id refl)
 
 -- Neither the happenings of a move nor those of the rest disturb the job.
 pub still_parts : (id : ℕ) (happened more : List Happening) → list_any (disturbs id) (happened ++ more) ≡ false
     → (list_any (disturbs id) happened ≡ false) × (list_any (disturbs id) more ≡ false)
-still_parts id happened more h = or_parts (list_any (disturbs id) happened) (list_any (disturbs id) more)
-    (sym (list_any-append (disturbs id) happened more) ∙ h)
+still_parts id happened more h = grind (arith, common_steps, or_parts, list_any-append)
 
 pub none_more : (id : ℕ) (m n : Machine) (parts : List Part) → Moves m parts n → list_any (disturbs id) (happenings parts) ≡ false
     → IsSpent id m → list_any (is_hand_out id) (happenings parts) ≡ false

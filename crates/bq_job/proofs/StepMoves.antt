@@ -3,11 +3,11 @@ use Rattle.std.proofs.Common.{◌&&◌, ◌++◌, ◌∷◌, ◌≡◌, List, No
 use Rattle.std.proofs.Common.{arith, cond, false, inl, inr, map, not, refl, subst, sym, true}
 use Rattle.std.proofs.lemmas.Bool.{cases_Bool, and_parts, and_from, or_left, or_right, both_ways, cond_both, eq-eqb}
 use Rattle.std.proofs.lemmas.Grind.{common_steps}
-use Rattle.std.specs.{List.{AllByRecursion as All, list_any}, Prelude.{◌==◌, filter, option_map}}
+use Rattle.std.specs.{List.{AllByRecursion as All, list_any}, Prelude.{◌==◌, option_map}}
 use Rattle.bq_job.specs.machine.{Chain, DispatchTurn, Dispatches, GivenAnswer, IsHandOut, Machine.Machine, SeatRecord}
 use Rattle.bq_job.specs.machine.{WaitEndTurn, acted, after_timers, at_moment, forgetting, is_due, is_expired, is_paused, is_ready}
 use Rattle.bq_job.specs.machine.{job_after_timers, job_with, next_job, next_seat, reserved_by, watches}
-use Rattle.bq_job.specs.laws.{Happening, Part, changes, disturbs, expirations, expired, hand_out, hand_outs, happenings, parts_in}
+use Rattle.bq_job.specs.laws.{Happening, Part, changes, disturbs, expirations, hand_out, hand_outs, happenings, parts_in}
 use Rattle.bq_job.specs.{beside.{AreIdsWithin, IsLawful}, laws.parts_of_run, promise.{GoesBy, IsTransition, Parts}}
 use Rattle.bq_job.specs.{promise.{Transition, parts_of}, Types.Job}
 use Rattle.bq_job.proofs.LawfulLemmas.{after_timers_is, end_of, kept_of_timers, leaves_acted, served, step_is_lawful, turns_of_dispatches}
@@ -37,19 +37,11 @@ goes_then m k n xs ys h i = grind (arith, common_steps, moves_append)
 
 -- Nothing happens to jobs.
 still_move : (m n : Machine) → n.jobs ≡ m.jobs → n.next_id ≡ m.next_id → Move m [] n
-still_move m n jobs next =
-    quiet (record {
-      next = next;
-      plain = tt;
-      fates = λ id.
-          subst (λ l. Fate id [] (job_with id m.jobs) (job_with id l)) (sym jobs) (grind (arith, common_steps, cases_Bool));
-    })
+still_move m n jobs next = grind (arith, common_steps, quiet, Fate, cases_Bool)
 
 -- timers
 plain_expirations : (moment : ℕ) (jobs : List Job) → All (λ h. is_plain h ≡ true) (expirations moment jobs)
-plain_expirations moment jobs = all_of_map (λ h. is_plain h ≡ true) (λ (j : Job). expired j.id)
-    (filter (λ j. is_expired moment j.state) jobs)
-    (all_always (λ (j : Job). is_plain (expired j.id) ≡ true) (filter (λ j. is_expired moment j.state) jobs) (λ j. refl))
+plain_expirations moment jobs = grind (arith, common_steps, all_of_map, is_plain, all_always)
 
 told_to_expire : (moment id : ℕ) (jobs : List Job) → list_any (λ j. is_expired moment j.state && j.id == id) jobs ≡ true
     → list_any (disturbs id) (expirations moment jobs) ≡ true

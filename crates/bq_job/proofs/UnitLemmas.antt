@@ -61,6 +61,4 @@ first_unit-unit size text rest r e = go (first_line text) refl e
     go (Some l) is e = grind (arith, common_steps, cases_Bool, unit_after-unit, from_line)
 
 pub no_first_unit : (size : ℕ) (text : List ℕ) → first_unit size text ≡ None → BeginsNoUnit size text
-no_first_unit size text e first more r is unit =
-    let found = first_unit-append size first more r unit in
-    grind (arith, common_steps)
+no_first_unit size text e first more r is unit = grind (arith, common_steps, first_unit-append size first more r unit)

@@ -1,10 +1,9 @@
 -- One more request after others.
-use Rattle.std.proofs.Common.{◌++◌, ◌∷◌, ◌≡◌, IsTrue, List, [], ℕ, append-nil, append_assoc, false, not, refl, sym}
+use Rattle.std.proofs.Common.{◌++◌, ◌∷◌, ◌≡◌, IsTrue, List, [], ℕ, append-nil, append_assoc, false, not, refl, sym, arith}
 use Rattle.std.proofs.lemmas.Bool.{and_parts}
 use Rattle.bq_job.specs.reading.Reading.{AreUnits, IsUnit, is_quit, quits_last, ends_by_quit}
 use Rattle.bq_job.specs.declared.request.Request.{Request}
 use Rattle.std.proofs.lemmas.Grind.{common_steps}
-use Rattle.std.proofs.Common.{arith}
 
 -- a unit after units
 pub AreUnits-append : (size : ℕ) (requests : List Request) (units unit : List ℕ) (r : Request) → AreUnits size units requests

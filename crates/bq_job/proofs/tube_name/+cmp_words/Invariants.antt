@@ -1,4 +1,4 @@
-use Rattle.std.proofs.Common.{ℕ, length}
+use Rattle.std.proofs.Common.{length}
 use Rattle.bq_job.proofs.tube_name.+cmp_words.Given as goal
 
 abbrev pub decreases-cmp_words : goal.decreases-cmp_words

@@ -1,4 +1,4 @@
-use Rattle.std.proofs.Common.{◌∙◌, arith, length, min, take}
+use Rattle.std.proofs.Common.{◌∙◌, arith, take}
 use Rattle.std.proofs.lemmas.List.{length-take}
 use Rattle.bq_job.proofs.NameWords.{wholes_compare, words_decide}
 use Rattle.bq_job.proofs.tube_name.TubeNameOrd.cmp.Goals as goal

@@ -1,0 +1,65 @@
+-- What holds of turns one after another, and of all that serves the clients, if it holds of each turn.
+use Rattle.std.proofs.Common.{◌++◌, ◌∙◌, ◌∷◌, ◌≡◌, List, [], append-nil, arith, length, refl, subst, sym}
+use Rattle.std.proofs.lemmas.{Grind.common_steps, List.length-map}
+use Rattle.bq_job.specs.machine.{Chain, DispatchTurn, Dispatches, EndsWaits, GivenAnswer, Machine.Machine, Serves, WaitEndTurn, forgetting}
+
+-- A relation between a machine, the answers that are given from there on, and the machine after
+-- them. It holds where nothing is given, and of two traces one after the other.
+pub record IsTrace (So : Machine → List GivenAnswer → Machine → Type 0) : Type 0 where
+  pub none : (m : Machine) → So m [] m
+  pub joins : (a b c : Machine) (xs ys : List GivenAnswer) → So a xs b → So b ys c → So a (xs ++ ys) c
+
+-- turns one after another
+pub of_turns : {So : Machine → List GivenAnswer → Machine → Type 0} (Turns : Machine → GivenAnswer → Machine → Type 0) → IsTrace So
+    → ((m : Machine) (g : GivenAnswer) (n : Machine) → Turns m g n → So m (g ∷ []) n)
+    → (first : Machine) (given : List GivenAnswer) (last : Machine) → Chain Turns first given last → So first given last
+of_turns {So = So} Turns t each first [] last chain = subst (So first []) (sym chain) (t.none first)
+of_turns Turns t each first (g ∷ given) last chain = t.joins first chain.0 last (g ∷ []) given (each first g chain.0 chain.1)
+    (of_turns Turns t each chain.0 given last chain.2)
+
+-- A trace that holds of each turn of dispatch, of each end of a wait, and where tubes are forgotten.
+pub record IsServing (So : Machine → List GivenAnswer → Machine → Type 0) : Type 0 where
+  pub trace : IsTrace So
+  pub dispatch : (m : Machine) (g : GivenAnswer) (n : Machine) → DispatchTurn m g n → So m (g ∷ []) n
+  pub wait_end : (m : Machine) (g : GivenAnswer) (n : Machine) → WaitEndTurn m g n → So m (g ∷ []) n
+  pub forgets : (m : Machine) → So m [] (forgetting m)
+
+module _ {So : Machine → List GivenAnswer → Machine → Type 0} (s : IsServing So) where
+  forgotten : (first end last : Machine) (given : List GivenAnswer) → So first given end → last ≡ forgetting end → So first given last
+  forgotten first end last given so is = subst (So first given) (sym is)
+      (subst (λ xs. So first xs (forgetting end)) (append-nil given)
+      (s.trace.joins first end (forgetting end) given [] so (s.forgets end)))
+
+  pub of_dispatches : (first : Machine) (given : List GivenAnswer) (last : Machine) → Dispatches first given last → So first given last
+  of_dispatches first given last d =
+      forgotten first d.end last given (of_turns DispatchTurn s.trace s.dispatch first given d.end d.turns) d.forgets
+
+  pub of_ends : (first : Machine) (given : List GivenAnswer) (last : Machine) → EndsWaits first given last → So first given last
+  of_ends first given last e =
+      forgotten first e.end last given (of_turns WaitEndTurn s.trace s.wait_end first given e.end e.turns) e.forgets
+
+  pub of_serves : (first : Machine) (handed ended : List GivenAnswer) (last : Machine) → Serves first handed ended last
+      → So first (handed ++ ended) last
+  of_serves first handed ended last v = s.trace.joins first v.between last handed ended (of_dispatches first handed v.between v.dispatches)
+      (of_ends v.between ended last v.ends_waits)
+
+-- what serving the clients leaves as it was
+pub record IsSteady (m n : Machine) : Type 0 where
+  pub settings : n.settings ≡ m.settings
+  pub draining : n.draining ≡ m.draining
+  pub many : length n.jobs ≡ length m.jobs
+
+pub steady : IsServing (λ m given n. IsSteady m n)
+steady = record {
+  trace = record {
+    none = λ m. record { settings = refl; draining = refl; many = refl };
+    joins = λ a b c xs ys f g. record {
+      settings = g.settings ∙ f.settings;
+      draining = g.draining ∙ f.draining;
+      many = g.many ∙ f.many;
+    };
+  };
+  dispatch = λ m g n turn. grind (arith, common_steps, length-map);
+  wait_end = λ m g n turn. grind (arith, common_steps, length-map);
+  forgets = λ m. record { settings = refl; draining = refl; many = refl };
+}
