@@ -18,6 +18,13 @@ PLACES = "[...document.querySelectorAll('#rows .name a')].map(it => it.textConte
 CUT = """[...document.querySelectorAll('#heads button, .tile .label, .tile .value, #rows .badge')]
     .filter(it => it.offsetParent && it.scrollWidth > it.clientWidth).map(it => it.textContent)"""
 
+# The headings that reach beyond the numbers below them.
+OVERHANGING = """[...document.querySelectorAll('#heads th:not(.name, .spark) button')].filter(it => it.offsetParent).filter((it, at) => {
+    const text = document.createRange(), number = document.createRange(), cell = document.querySelectorAll('#rows tr:last-child td.count')[at];
+    text.selectNodeContents(it); number.selectNodeContents(cell);
+    return Math.abs(text.getBoundingClientRect().right - number.getBoundingClientRect().right) > 1;
+}).map(it => it.textContent)"""
+
 
 def address(page, tube=""):
     return f"http://127.0.0.1:{page.port}/" + (f"#{urllib.parse.quote(tube, safe='')}" if tube else "")
@@ -37,7 +44,7 @@ def browser_run_list(bqd, chromium):
             # Nothing is wider than the window.
             same(browser.value("document.documentElement.scrollWidth <= window.innerWidth"), True)
         browser.awaits(PLACES, ["default"])
-        browser.awaits(text_of("empty"), "There are no jobs. To put one: echo hello | bqctl put default")
+        browser.awaits(text_of("empty"), "There are no jobs. To put one:\necho hello | bqctl put default")
         for number, name in enumerate(["a", "b", "c"]):
             for _ in range(number + 1):
                 teller.put(b"x", tube=name.encode())
@@ -80,7 +87,8 @@ def browser_run_trouble(bqd, chromium):
 
 
 def browser_run_widths(bqd, chromium):
-    """From 320 to 1280 pixels, with 0, 3 and 200 tubes, nothing is cut or wider than the window, and headings stay."""
+    """From 320 to 1280 pixels, with 0, 3 and 200 tubes, nothing is cut or wider than the window, and headings stay
+    above their numbers."""
     with Server(bqd) as server, Web(server.port, "--seats", "256") as page, Browser(chromium) as browser:
         teller = Teller(server)
         for count in [0, 3, 200]:
@@ -91,6 +99,7 @@ def browser_run_widths(bqd, chromium):
                 browser.shows(address(page), width=width)
                 browser.awaits(f"state.last && state.last.tubes.length > {count} && document.querySelectorAll('#rows tr').length > {count}", True)
                 same((count, width, browser.value(CUT)), (count, width, []))
+                same((count, width, browser.value(OVERHANGING)), (count, width, []))
                 # No badge takes the room of a name.
                 same((count, width, browser.value("Math.min(...[...document.querySelectorAll('#rows .name a')].map(it => it.offsetWidth)) > 40")), (count, width, True))
                 same((count, width, browser.value("document.documentElement.scrollWidth <= window.innerWidth")), (count, width, True))

@@ -219,7 +219,7 @@ function showList(found) {
   const isNew = found.tubes.every(isEmpty) && !found.put_rate && !state.filter;
   empty.hidden = shown.length > 0 && !further && !isNew;
   const none = state.filter ? "No tube has such a name." : "No tube has jobs.";
-  setText(empty, further ? `and ${number(further)} further tubes: filter them by name` : isNew ? "There are no jobs. To put one: echo hello | bqctl put default" : none);
+  setText(empty, further ? `and ${number(further)} further tubes: filter them by name` : isNew ? "There are no jobs. To put one:\necho hello | bqctl put default" : none);
 }
 
 function showHeads() {
