@@ -5,8 +5,8 @@
 Each command of README.md, docs/OPERATING.md, docs/MOVING.md and the man pages is run with the given programs, or it
 is known why it isn't; of the other pages it is known. What pages name as code or link to has to be in the tree. The
 counts of docs/HEADLINE.md have to be those of the definitions, the diagram of docs/ARCHITECTURE.md that of crates.txt,
-and the version of CHANGELOG.md that of the programs. Long sentences and phrases that have a plainer form are counted (prose.py). The last line is 'N passed, M
-failed'; status 1 if one failed.
+and the version of CHANGELOG.md that of the programs. Dates have to be in order. Long sentences and phrases that have a
+plainer form are counted (prose.py). The last line is 'N passed, M failed'; status 1 if one failed.
 """
 import argparse
 import os
@@ -20,6 +20,7 @@ sys.dont_write_bytecode = True
 sys.path.insert(1, str(pathlib.Path(__file__).resolve().parent.parent / "runs"))
 
 import commands
+import dates
 import layers
 import names
 import prose
@@ -78,6 +79,8 @@ def main():
         faults += layers.faults()
         held += 1
         faults += versions.faults()
+        held += 1
+        faults += dates.faults()
         held += len(prose.BUDGETS)
         faults += prose.faults()
     finally:
