@@ -4,9 +4,10 @@
 
 Each command of README.md, docs/OPERATING.md, docs/MOVING.md and the man pages is run with the given programs, or it
 is known why it isn't; of the other pages it is known. What pages name as code or link to has to be in the tree. The
-counts of docs/HEADLINE.md have to be those of the definitions, the diagram of docs/ARCHITECTURE.md that of crates.txt,
-and the version of CHANGELOG.md that of the programs. Dates have to be in order. Long sentences and phrases that have a
-plainer form are counted (prose.py). The last line is 'N passed, M failed'; status 1 if one failed.
+counts of docs/HEADLINE.md have to be those of the definitions, and those of lines and planted bugs those of the tree.
+Code that docs/PROOF.md quotes has to be in the file that it links to. The diagram of docs/ARCHITECTURE.md has to be that
+of crates.txt, and the version of CHANGELOG.md that of the programs. Dates have to be in order. Long sentences and phrases
+that have a plainer form are counted (prose.py). The last line is 'N passed, M failed'; status 1 if one failed.
 """
 import argparse
 import os
@@ -24,8 +25,10 @@ import dates
 import layers
 import names
 import prose
+import quotes
 import reach
 import runner
+import sizes
 import versions
 
 
@@ -81,6 +84,10 @@ def main():
         faults += versions.faults()
         held += 1
         faults += dates.faults()
+        held += len(sizes.wanted())
+        faults += sizes.faults()
+        held += 1
+        faults += quotes.faults()
         held += len(prose.BUDGETS)
         faults += prose.faults()
     finally:

@@ -55,6 +55,8 @@ hostname
 if-c.true
 it calls f, which is not proved
 l.invariant
+liblibc_c.a
+libos_c.a
 logic dac8208d650f15bf
 madvise
 net.ipv4.tcp_retries2

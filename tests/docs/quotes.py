@@ -1,0 +1,38 @@
+"""The code that docs/PROOF.md quotes: it has to be in the file that the page links to before it."""
+import re
+
+from pages import ROOT
+
+PAGE = ROOT / "docs/PROOF.md"
+
+# What a quotation leaves out.
+LEFT_OUT = re.compile(r"^ *// \.\. .*$")
+
+
+def quoted():
+    """Returns each quotation of a file in the tree: the file, and the lines. The prover's answer is of no file."""
+    text = PAGE.read_text()
+    for found in re.finditer(r"^```\n(.*?)^```", text, re.M | re.S):
+        links = re.findall(r"\]\(([^)#\s]+)\)", text[:found.start()])
+        if links and not found[1].startswith("./proofs/"):
+            yield (PAGE.parent / links[-1]).resolve(), found[1].splitlines()
+
+
+def is_in(lines, text):
+    """Returns true if the lines are in a text, in one piece but for what is left out."""
+    parts, part = [], []
+    for line in lines:
+        if LEFT_OUT.match(line):
+            parts.append(part)
+            part = []
+        else:
+            part.append(line)
+    return all("\n".join(it) in text for it in [*parts, part])
+
+
+def faults():
+    """Returns the quotations that are not in their files, or says that the page has none."""
+    found = [(file, lines) for file, lines in quoted() if not any(mark in "".join(lines) for mark in "─│")]
+    if not found:
+        return ["docs/PROOF.md quotes no code"]
+    return [f"docs/PROOF.md: {file.name} lacks what begins with {lines[0]!r}" for file, lines in found if not is_in(lines, file.read_text())]
