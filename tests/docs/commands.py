@@ -39,7 +39,7 @@ OPERATORS = ["bqctl", "bqd-drain", "bqd-top", "bqd-web"]
 
 # The first words of commands. A program's name on its own is not a command.
 HEADS = """rt env docker tools/build tools/refused_by_prover.py nc telnet systemctl journalctl apt echo bqd bq bqctl bqd-top bqd-drain bqd-web prlimit ulimit
-    python3 sed printf packaging/deb.sh promtool curl ssh (cd crates/bqd/out/bqd crates/bq/out/bq bash""".split()
+    python3 sed printf packaging/deb.sh promtool curl ss ssh (cd crates/bqd/out/bqd crates/bq/out/bq bash""".split()
 
 
 def is_command(text):
@@ -275,6 +275,16 @@ def checks_rules(room, path):
     if not shutil.which("promtool"):
         return "there is no promtool here"
     room.ends(f"promtool check rules {path}")
+
+
+@rule(r"(ss -tn[op](?: '.*')?)")
+def shows_connections(room, command):
+    if not shutil.which("ss"):
+        return "there is no ss here"
+    with Server(room.bqd) as server:
+        client = server.client()
+        assert f":{server.port}" in room.ends(command.replace(PORT, str(server.port))), f"{command!r} shows no connection"
+        client.asks(b"list-tube-used\r\n", b"USING default\r\n")
 
 
 @rule(r"ssh -L (\d+):127\.0\.0\.1:(\d+) \S+")
