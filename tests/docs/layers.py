@@ -1,4 +1,5 @@
-"""Checks the diagram of docs/ARCHITECTURE.md: it shows the crates as crates.txt has them, with direct edges only.
+"""Checks the diagram of docs/ARCHITECTURE.md: it shows the crates as crates.txt has them, with direct edges only. Checks
+that crates/README.md lists each crate, after those that it uses.
 
     python3 tests/docs/layers.py
 
@@ -19,6 +20,7 @@ import crates
 TOPS = ["bq", "bqd", "bq_cli", "bq_serve"]
 
 PAGE = ROOT / "docs/ARCHITECTURE.md"
+LIST = ROOT / "crates/README.md"
 
 
 def edges():
@@ -37,11 +39,22 @@ def shown_edges():
     return [edge for kind, block in blocks(PAGE) if kind == "mermaid" for edge in re.findall(r"^ *(\w+) --> (\w+)$", block.text, re.M)]
 
 
+def faults_of_list():
+    """Returns the crates that the list lacks, has without need, or has before one that they use."""
+    listed, uses = re.findall(r"\[(\w+)\]\(\1/src/\w+\.rt\)", LIST.read_text()), crates.listed()
+    found = [f"crates/README.md lists {it} {listed.count(it)} times" for it in [*uses, *set(listed) - set(uses)] if listed.count(it) != (it in uses)]
+    for name in listed:
+        later = [it for it in crates.ours(name, uses) if it in listed and listed.index(it) > listed.index(name)] if name in uses else []
+        found += [f"crates/README.md: {name} is before {it}, which it uses" for it in later]
+    return found
+
+
 def faults():
-    """Returns what the diagram lacks, and what it has although it is no direct edge."""
+    """Returns what the diagram lacks, and what it has although it is no direct edge; and the faults of the list."""
     wanted, shown = set(edges()), set(shown_edges())
     lacks = [f"docs/ARCHITECTURE.md: the diagram lacks {one} --> {other}" for one, other in sorted(wanted - shown)]
-    return lacks + [f"docs/ARCHITECTURE.md: {one} --> {other} is no direct edge" for one, other in sorted(shown - wanted)]
+    more = [f"docs/ARCHITECTURE.md: {one} --> {other} is no direct edge" for one, other in sorted(shown - wanted)]
+    return lacks + more + faults_of_list()
 
 
 if __name__ == "__main__":

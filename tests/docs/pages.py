@@ -11,7 +11,7 @@ Piece = collections.namedtuple("Piece", "page line text")
 
 def markdown():
     """The pages in Markdown."""
-    return sorted([*ROOT.glob("*.md"), *ROOT.glob("docs/*.md"), *ROOT.glob("packaging/*.md")])
+    return sorted([*ROOT.glob("*.md"), *ROOT.glob("docs/*.md"), *ROOT.glob("packaging/*.md"), *ROOT.glob("crates/*.md")])
 
 
 def manuals():
