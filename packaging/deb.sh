@@ -55,7 +55,8 @@ install -D -m 644 packaging/bqd.default "$tree/etc/default/bqd"
 install -D -m 644 packaging/bqd-web.default "$tree/etc/default/bqd-web"
 install -D -m 644 packaging/needrestart.conf "$tree/etc/needrestart/conf.d/bqd.conf"
 install -D -m 644 -t "$tree/usr/share/man/man1" packaging/bqd.1 packaging/bqctl.1 packaging/bqd-drain.1 packaging/bqd-top.1 packaging/bqd-web.1
-install -D -m 644 -t "$tree/usr/share/doc/bqd" README.md docs/*.md docs/*.svg docs/*.png packaging/bq.1
+install -D -m 644 -t "$tree/usr/share/doc/bqd" packaging/bq.1
+python3 packaging/pages.py "$tree/usr/share/doc/bqd"
 install -D -m 644 "$room/debian/changelog" "$tree/usr/share/doc/bqd/changelog"
 install -D -m 644 LICENSE "$tree/usr/share/doc/bqd/copyright"
 install -D -m 644 packaging/debian/lintian-overrides "$tree/usr/share/lintian/overrides/bqd"

@@ -1,6 +1,10 @@
 """What pages name as code (files, options, and words of the code) and what they link to. Each has to exist."""
 import functools
+import pathlib
 import re
+import subprocess
+import sys
+import tempfile
 
 from pages import ROOT, codes, manual_options, manuals, markdown, place
 
@@ -178,6 +182,17 @@ def is_linked(page, link):
     path, _, heading = link.partition("#")
     target = (page.parent / path) if path else page
     return target.exists() and (not heading or heading in anchors(target))
+
+
+def dead_links_of_the_package():
+    """Returns the links that lead nowhere from the pages as the package installs them."""
+    with tempfile.TemporaryDirectory(prefix="pages-") as folder:
+        subprocess.run([sys.executable, ROOT / "packaging/pages.py", folder], check=True)
+        pages = sorted(pathlib.Path(folder).rglob("*.md"))
+        if not pages:
+            return ["packaging/pages.py copies no page"]
+        return [f"in the package, {page.relative_to(folder)}:{number}: {link} leads nowhere"
+                for page in pages for number, link in links_in(page) if not is_linked(page, link)]
 
 
 def named(options, is_command):
