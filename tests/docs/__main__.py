@@ -88,7 +88,7 @@ def main():
         faults += versions.faults()
         held += 1
         faults += dates.faults()
-        held += len(figures.FIGURES) + 1
+        held += len(figures.FIGURES) + 2
         faults += figures.faults()
         held += len(sizes.wanted())
         faults += sizes.faults()

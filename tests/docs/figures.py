@@ -89,10 +89,21 @@ def faults_of_speed():
     """Returns the ratios of README.md that are not those of docs/SPEED.md."""
     wrong = []
     for row, measured in LOADS.items():
-        shown, whole = cells("README.md", row), [it.split(" / ")[0] for it in cells("docs/SPEED.md", measured)]
+        shown, whole = cells("README.md", row), cells("docs/SPEED.md", measured)
         if not shown or shown != whole[:len(shown)]:
             wrong.append(f"README.md: speed of {row} is {shown}, and {whole} in docs/SPEED.md")
     return wrong
+
+
+def faults_of_the_picture():
+    """Returns the first figure of docs/speed.svg that is not that of the table in docs/SPEED.md."""
+    picture, page = ((ROOT / "docs" / it).read_text() for it in ["speed.svg", "SPEED.md"])
+    drawn = re.findall(r">(\d+\.\d\d)</text>", picture)
+    servers = len(re.findall(r'y="38"', picture))
+    table = re.search(r"^\| speed \|.*\n\|---.*\n((?:\|.*\n)+)", page, re.M)
+    rows = [[it.strip() for it in line.strip("|").split("|")][1:] for line in table[1].splitlines()] if table else []
+    wanted = [it for row in rows for it in row[:servers]]
+    return [] if drawn and drawn == wanted else [f"docs/speed.svg draws {drawn}, and the table of docs/SPEED.md has {wanted}"]
 
 
 def faults():
@@ -102,4 +113,4 @@ def faults():
         values = {file: found(file, shape) for file, shape in places.items()}
         if len(set().union(*values.values())) != 1 or not all(values.values()):
             wrong.append(f"{figure}: {values}")
-    return wrong + faults_of_speed()
+    return wrong + faults_of_speed() + faults_of_the_picture()
