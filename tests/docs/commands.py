@@ -352,6 +352,12 @@ def services(room, unit):
     return "tests/container runs it"
 
 
+@rule(r"journalctl (?:-u ([-\w.]+) )?-p warning")
+def filters_the_journal(room, unit):
+    assert not unit or (ROOT / "packaging" / f"{unit}.service").is_file(), f"no unit {unit}"
+    return "it needs a journal; tests/runs checks the priorities"
+
+
 @rule(r"(sed -i \S+ )/etc/default/(\w+)")
 def changes_options(room, command, name):
     """Runs the command on a copy of the options, which it has to change. A page that goes the other way comes second."""
