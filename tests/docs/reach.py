@@ -12,7 +12,7 @@ from pages import ROOT
 # The clauses, each with its starting point: the crate, the file of its definitions, and the name.
 CLAUSES = {
     "clause `so_far` of `run_event_loop`": ("bq_event_loop", "EventLoopRuns", "IsEventLoopSoFar"),
-    "clause `served` of `run_threads`": ("bq_run", "ThreadRuns", "IsRunOf"),
+    "clause `served` of `run_sessions`": ("bq_run", "ThreadRuns", "IsRunOf"),
 }
 
 Definition = collections.namedtuple("Definition", "name lines comments")
