@@ -214,8 +214,8 @@ fn next_job(state: &mut CoreParts) -> Option<JobId>
 }
 
 // Returns the client that has waited longest for jobs of the next job's tube, and another reference
-// to the job's body, unless its allocation fails. Not inlined, because it reserves room for the
-// tube's name.
+// to the job's body, unless the body cannot be shared. Not inlined, because it reserves room for
+// the tube's name.
 #[inline(never)]
 fn pick_at_tube(state: &mut CoreParts, id: JobId) -> Option<(Seat, Result<Body, NoMemory>)>
     requires next { Some id ≡ option_map (λ j. j.id) (next_job (machine_of state.old)) }

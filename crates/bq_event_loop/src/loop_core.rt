@@ -360,8 +360,7 @@ impl<C: Clock + Drop, K: QueueCore + Drop> LoopCore<C, K> {
         }
     }
 
-    // Reads the clock if anything will ever be due. Returns true exactly if something is due by
-    // now.
+    // Reads the clock if anything will ever be due. Returns whether something is due by now.
     fn is_due(&mut self) -> bool
         requires order { IsInOrder (state_of K.machine K.comparisons self.old) }
         ensures due { result

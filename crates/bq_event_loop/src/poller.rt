@@ -325,7 +325,7 @@ impl<'r, R: rt::Clock> Poller<'r, R> {
     }
 
     // Returns the first action of the next visit of this part. After the last one the next part
-    // begins, or it is time to pass time.
+    // begins, or the core's time passes.
     fn begin_next<L: Line + Drop, D: Door<Line = L>>(
         &mut self,
         alloc: Global,

@@ -9,8 +9,8 @@ use bq_job::{Entry, Moment, NoMemory, Seat, Step};
 use std::alloc::Global;
 use std::marker::Model;
 
-/// Where the copy of a step for its entry comes from: in a run from `SharedBodies`, in a test from
-/// a source that refuses some.
+/// The source of the copy of a step for its entry: `SharedBodies` in a run, in a test a source that
+/// refuses some.
 pub trait CopySource {
     /// This source, as it was before, refused a copy of this step.
     ghost refused: { Self → Step → Type 0 };

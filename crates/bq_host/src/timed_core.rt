@@ -159,7 +159,7 @@ impl<C: Clock + Drop, K: QueueCore + Drop> TimedCore<C, K> {
         }
     }
 
-    /// Takes a tick if something is due by now, and returns true exactly then. The clock is read
+    /// Takes a tick if something is due by now, and returns whether it did. The clock is read
     /// once, unless nothing will ever be due; the tick is taken at the moment of that reading.
     pub fn tick_if_due(&mut self, seat: Seat) -> bool
         requires ready { IsReady K.machine self.old }
@@ -197,7 +197,7 @@ impl<C: Clock + Drop, K: QueueCore + Drop> TimedCore<C, K> {
         );
     }
 
-    /// Returns true exactly if something is due by now. The clock is read once, unless nothing will
+    /// Returns whether something is due by now. The clock is read once, unless nothing will
     /// ever be due.
     pub fn is_due(&mut self) -> bool
         requires ready { IsReady K.machine self.old }

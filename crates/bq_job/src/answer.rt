@@ -44,7 +44,7 @@ pub enum Answer {
     OutOfMemory,
     /// `TIMED_OUT`: the wait ended without a job.
     TimedOut,
-    /// `DEADLINE_SOON`: a job that the client holds has less than a second of its time to run left.
+    /// `DEADLINE_SOON`: a job that the client holds has at most a second of its time to run left.
     DeadlineSoon,
     /// `UNKNOWN_COMMAND`: the first word of the line names no command.
     UnknownCommand,

@@ -19,7 +19,7 @@ pub fn reserved_jobs_are_least()
         → GoesBy first taken last → Contains taken t → GivesLeast t }
 {}
 
-/// An undisturbed job that was put without a delay is handed out at most once.
+/// An undisturbed job is handed out at most once.
 pub fn undisturbed_jobs_are_handed_out_once()
     ensures { (settings : Settings) (taken : List Transition) (last : Machine) (j : Job)
         → GoesBy (new_machine settings) taken last

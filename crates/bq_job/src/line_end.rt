@@ -1,21 +1,21 @@
-/// How a client's line ended.
+/// How a client's connection ended.
 #[derive(Clone, Copy, Debug, PartialEq, Eq)]
 pub enum LineEnd {
     /// The client sent `quit`.
     Quit,
-    /// The client sent no more, and everything that it had sent was answered.
+    /// The client's input ended, and everything that it had sent was answered.
     EndOfInput,
-    /// A read of the line failed.
+    /// A read of the connection failed.
     ReadFault,
-    /// A write to the line failed.
+    /// A write to the connection failed.
     WriteFault,
 }
 
-/// The first fault of a line.
+/// The first fault of a connection.
 #[derive(Clone, Copy, Debug, PartialEq, Eq)]
 pub enum LineFault {
-    /// A read of the line failed.
+    /// A read of the connection failed.
     Read,
-    /// A write to the line failed.
+    /// A write to the connection failed.
     Write,
 }

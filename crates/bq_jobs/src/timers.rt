@@ -212,7 +212,7 @@ fn is_known_first(lease: &FirstLease, place: &ShelfPlace<Timer>) -> bool
     }
 }
 
-// Returns true if two leases are one.
+// Returns true if two leases are the same.
 fn is_same(lease: (Moment, JobId), other: (Moment, JobId)) -> bool
     ensures { result ≡ (other.0 == lease.0 && other.1 == lease.1) }
 {

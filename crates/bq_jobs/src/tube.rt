@@ -7,7 +7,7 @@ use std::marker::Model;
 
 /// A tube as a client or a report knows it: by its name, and by the number that it had when it was
 /// last looked up. A contract sees the name alone. The number says where to look first: whoever
-/// looks there compares the name, so a number that outlived its tube does no harm.
+/// looks there compares the name, so a number that is out of date does no harm.
 #[derive(Drop)]
 pub struct Tube {
     name: TubeName,

@@ -180,7 +180,7 @@ fn is_named(slots: &[Slot], number: u32, name: &TubeName) -> bool
     }
 }
 
-// Changes the slot of a number. Returns what the slot had as the next free number.
+// Changes the slot of a number. Returns the next free number that the slot named before.
 fn change(slots: &mut Vec<Slot, Global>, number: u32, slot: Slot) -> u32
     requires { number < length slots.old.items }
     ensures items { slots.new.items ≡ put_at slots.old.items number slot }

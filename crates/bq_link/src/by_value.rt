@@ -1,6 +1,6 @@
-//! The calls of the ends that return an answer, or its absence, as a value. The specification names
-//! this form. A server looks first and then calls `CoreEnd::push` or `SeatEnd::take_mail`, since an
-//! answer in a `Result` or an `Option` is copied more often.
+//! The calls of the ends that return an answer, or its absence, as a value. A server looks first
+//! and then calls `CoreEnd::push` or `SeatEnd::take_mail`, since an answer in a `Result` or an
+//! `Option` is copied more often.
 ghost use Rattle.std.specs.Prelude.{◌≡◌, ◌+◌, ◌<◌, ◌≤◌, ◌∷◌, ◌++◌, [], length};
 ghost use Rattle.std.specs.Prelude.{IfErr, IfNone, IfSome, IsOk, OnErr, OnOk};
 ghost use Rattle.bq_link.specs.EndChanges.{with_room, with_sent};

@@ -98,8 +98,8 @@ impl<'a, R: Wait, K: SharedDesk> SharedSeat<'a, R, K> {
         look
     }
 
-    // Sleeps for up to this many milliseconds and returns how many of them count. If the bell was
-    // rung this is one, since the seat then sleeps again.
+    // Sleeps for up to this many milliseconds. Returns how many to deduct from the remaining time:
+    // one if the bell ended the sleep early, because the seat then sleeps again.
     fn rest(&self, most: u64) -> u64
         requires { 1 ≤ most }
         ensures some { 1 ≤ result }

@@ -108,7 +108,7 @@ pub fn fault_of_loop(fault: RunFault) -> Fault
     }
 }
 
-/// Returns the fault that the end of a client's line is, or None if the line ended well.
+/// Returns the fault by which a client's connection ended, or None if it ended well.
 pub fn fault_of_end(end: LineEnd) -> Option<Fault>
     ensures { result ≡ fault_of_end end }
 {

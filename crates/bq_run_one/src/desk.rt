@@ -96,8 +96,8 @@ impl<C: Clock + Drop> Desk<C> {
         }
     }
 
-    // Reads the clock if anything will ever be due, and takes a tick exactly if something is due by
-    // then.
+    // Reads the clock if anything will ever be due, and takes a tick if something is due by
+    // then, and only then.
     fn tick_if_due(&mut self, seat: Seat)
         requires order { IsInOrder (state_of self.old) }
         requires empty { (state_of self.old).pending ≡ [] }

@@ -1,5 +1,5 @@
-//! The machine's call that takes an event and returns an action, both as values. The specification
-//! names this form. A server calls the method of the event, which copies no request and no answer.
+//! The machine's call that takes an event and returns an action, both as values. A server calls the
+//! method of the event instead, which copies no request and no answer.
 use crate::machine::{Action, Event, SeatMachine};
 use std::alloc::Global;
 

@@ -105,8 +105,8 @@ impl Known {
         self.warns.warn_holder_if(moved.to.state, waits);
     }
 
-    /// A seat, if there is one, is about to change, and its tubes no longer count it for what the
-    /// change touches.
+    /// Notes that a seat, if there is one, is about to change. Its tubes have stopped counting it,
+    /// as far as the change touches them.
     pub(crate) fn leave(
         &mut self,
         client: Option<&SeatRecord>,

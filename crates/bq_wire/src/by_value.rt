@@ -1,5 +1,5 @@
-//! The reader's call that returns the request as a value. The specification names this form. A
-//! server uses `RequestReader::take`, which copies no request.
+//! The reader's call that returns the request as a value. A server uses `RequestReader::take`
+//! instead, which copies no request.
 ghost use Rattle.std.specs.Prelude.{◌≡◌, ◌≤◌, ◌<◌, ℕ, List, None, IfSome, length};
 ghost use Rattle.bq_wire.specs.HasRead.{ReadsOn};
 ghost use Rattle.bq_wire.specs.Standing.{HandsRequest, IsOver, Stands, Waits};

@@ -7,7 +7,7 @@ use Rattle.bq_job.specs.{machine.{new_machine, Machine.Machine}, promise.{Entry,
 abbrev pub entry_of : JournalEntry → Entry
 entry_of e = record { moment = e.moment; seat = e.seat; what = e.step }
 
--- the outcome that the entry records: every reference to a body was allocated
+-- the outcome that the entry records: each body could be shared
 abbrev pub outcome_of : JournalEntry → Outcome
 outcome_of e = record { left_out = e.left_out; unshared = false }
 

@@ -49,8 +49,8 @@ reserved_by moment seat j = record j { state = states.Reserved seat (later momen
 abbrev pub after_hand_out : Machine → Job → SeatRecord → Machine
 after_hand_out m j s = with_seat s.number without_wait (with_job j.id (reserved_by m.moment s.number) m)
 
--- The client gets the job. If a reference to its body could not be allocated, the client is
--- answered OUT_OF_MEMORY and no longer waits, and the job stays as it was.
+-- The client gets the job. If its body could not be shared, the client is answered OUT_OF_MEMORY
+-- and no longer waits, and the job stays as it was.
 abbrev pub IsHandOut : Machine → Job → SeatRecord → GivenAnswer → Machine → Type 0
 IsHandOut m j s given next =
     ((given ≡ (s.number, answers.Reserved j.id j.body)) × (next ≡ after_hand_out m j s))

@@ -8,8 +8,8 @@ use Rattle.bq_job.specs.declared.answer.Answer.TheVariants as answers
 use Rattle.bq_job.specs.declared.request.Request.TheVariants as requests
 use Rattle.bq_job.specs.declared.step.Step.TheVariants as steps
 
--- whether a command got the memory that it needed: yes; an allocation failed; or a reference to a
--- body could not be allocated
+-- whether a command got the memory that it needed: yes; an allocation failed; or a body could not
+-- be shared
 pub data Memory : Type 0 where
   granted growth_refused share_refused : Memory
 
@@ -98,7 +98,7 @@ is_share_refused share_refused = true
 is_share_refused _ = false
 
 -- the outcome of a step: whether its command was skipped because an allocation failed, and whether
--- a reference to a body could not be allocated
+-- a body could not be shared
 pub record Outcome : Type 0 where
   pub left_out : Bool
   pub unshared : Bool

@@ -94,8 +94,8 @@ impl MaybeGone {
         }
     }
 
-    /// Of the tubes that a seat uses and watches, if `what` affects either, those may have gone whose
-    /// counts, which no longer include the seat, do not show that they exist.
+    /// Marks each tube as possibly gone that the seat used or watched, and whose counts, without
+    /// this seat, show no job and no client. Only the shares that `what` names matter.
     pub(crate) fn leave(&mut self, tubes: &Tubes, client: Option<&SeatRecord>, what: Share)
         ensures { self.new ≡ gone_of what tubes.now (option_copied client.entry) self.old }
     {

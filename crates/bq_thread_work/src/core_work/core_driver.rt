@@ -253,7 +253,7 @@ impl<C: Clock + Drop, K: QueueCore + Drop> CoreDriver<C, K> {
         self.timed.take_step(seat, what);
     }
 
-    // Takes a tick exactly if something is due by now, and returns whether it did.
+    // Takes a tick if something is due by now, and returns whether it did.
     fn tick_if_due(&mut self) -> bool
         requires order { IsInOrder K.machine self.old }
         requires none { self.old.timed.outs.given ≡ [] }
