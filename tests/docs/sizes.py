@@ -73,7 +73,7 @@ def wanted():
     """Returns the texts that pages have to have, each with its page."""
     edits, in_gate, by_hand, for_tests = bugs()
     return [
-        ("README.md", f"has to refuse {tens(edits + in_gate)} planted bugs in the gate, and {tens(by_hand)} by hand"),
+        ("README.md", f"prover has to refuse {tens(edits + in_gate)} planted bugs in the gate, and {tens(by_hand)} by hand"),
         ("README.md", f"have to find {tens(for_tests)} planted bugs that no contract sees"),
         ("docs/PROOF.md", f"| code with its contracts | {thousands('code')} |"),
         ("docs/PROOF.md", f"| definitions, with those that a reader needs not | {thousands('definitions')} |"),
