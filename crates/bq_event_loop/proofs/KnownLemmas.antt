@@ -1,6 +1,7 @@
 -- Seats that the turns of a loop let act before they sleep.
-use Rattle.std.proofs.Common.{ℕ, ◌≡◌, ◌≢◌, ◌⊎◌, inl, inr, ◌+◌, ◌≤◌, ◌<◌, ◌==◌, ◌&&◌, ◌||◌, not, nat_lt, Bool, true, false, List, [], ◌∷◌, ◌++◌, length, slice_set, slice_index_or, if◌then◌else◌, Option, Some, None, refl, sym, ap, ◌∙◌, subst, arith}
+use Rattle.std.proofs.Common.{ℕ, zero, suc, ◌≡◌, ◌≢◌, ◌⊎◌, inl, inr, ◌+◌, ◌≤◌, ◌<◌, ◌==◌, ◌&&◌, ◌||◌, not, nat_lt, Bool, true, false, List, [], ◌∷◌, ◌++◌, length, slice_set, slice_index_or, if◌then◌else◌, Option, Some, None, refl, sym, ap, ◌∙◌, subst, arith, append-nil}
 use Rattle.std.specs.Option.{option_to_list}
+use Rattle.std.specs.Prelude.{slice_get}
 use Rattle.std.proofs.lemmas.Bool.{cases_Bool, lt-ltb}
 use Rattle.std.proofs.lemmas.Bool.Decides.{eqb_tells}
 use Rattle.std.proofs.lemmas.List.{get_or-set_other, get_or-set_same, get_or_default, length-set}
@@ -8,16 +9,28 @@ use Rattle.std.proofs.lemmas.List.Sums.{sum_by-cons}
 use Rattle.bq_job.specs.declared.answer.Answer.{Answer}
 use Rattle.bq_line.specs.declared.attendant.Attendant.{Attendant}
 use Rattle.bq_line.specs.declared.attendant.LinePlace.{LinePlace}
+use Rattle.bq_line.specs.declared.attendant.Looked.{Looked}
+use Rattle.bq_line.specs.declared.attendant.Looked.TheVariants as looks
+use Rattle.bq_line.specs.Tending.{IsNewSeat}
+use Rattle.bq_event_loop.specs.Looking.{listed_after}
+use Rattle.bq_event_loop.proofs.ListingLemmas.{falls_once}
+use Rattle.std.specs.List.{All}
 use Rattle.bq_line.specs.declared.attendant.LinePlace.TheVariants as places
 use Rattle.bq_seat.specs.declared.machine.Action.{Action}
 use Rattle.bq_seat.specs.declared.machine.Action.TheVariants as actions
 use Rattle.bq_seat.specs.declared.machine.SeatMachine.{SeatMachine}
 use Rattle.bq_event_loop.proofs.MarkLemmas.{one_if, same_one, times_push}
-use Rattle.bq_event_loop.specs.Known.{AreApart, AreKnown, AreKnownTo, AreSameLists, AreStill, ChangesOnly, IsKnown, IsTaken, KeepsAll, is_listed, is_looking, is_on, is_visited}
-use Rattle.bq_event_loop.specs.Listings.{Listing, enqueued, freed, is_nowhere}
+use Rattle.bq_event_loop.specs.Known.{AreApart, AreKnown, AreKnownTo, AreSameLists, AreStill, ChangesOnly, ChangesOnlyIn, IsKnown, IsListedIn, IsNextOf, IsTaken, KeepsAll, KnowsAll, is_listed, is_looking, is_on, is_visited}
+use Rattle.bq_event_loop.specs.Listings.{Listing, all_free, enqueued, falling, freed, is_nowhere}
 use Rattle.bq_event_loop.specs.Marks.{times}
 use Rattle.bq_event_loop.specs.Still.{IsStill, IsStillAt, IsStillOn}
-use Rattle.bq_event_loop.specs.WakeLists.{WakeList, Wakes}
+use Rattle.bq_event_loop.specs.Visits.{turn_in, turn_of}
+use Rattle.bq_event_loop.specs.declared.poller.visits.Part.{Part}
+use Rattle.bq_event_loop.specs.declared.poller.visits.Part.TheVariants as parts
+use Rattle.bq_event_loop.specs.declared.poller.visits.Visit.{Visit}
+use Rattle.bq_event_loop.specs.declared.turns.Turn.{Turn}
+use Rattle.bq_event_loop.specs.declared.turns.Turn.TheVariants as turns
+use Rattle.bq_event_loop.specs.WakeLists.{WakeList, Wakes, none_waits}
 
 -- One element of a list was changed.
 pub changed_one : {L : Type 0} (seats : List (Attendant L)) (i : ℕ) (new : Attendant L) → ChangesOnly i seats (slice_set seats i new)
@@ -213,7 +226,7 @@ known_as : {L : Type 0} (gives takes : L → Bool) (many later_many : ℕ) (list
     → later_many ≡ many → AreApart later later_looks
     → ((t : ℕ) → later_looks t ≡ true → (looks t ≡ true) ⊎ ((a : Attendant L) → (slice_index_or seats t a).place ≡ places.Between))
     → ((t : ℕ) → t < length seats → listed t ≡ true → (later t ≡ true) ⊎ (later_looks t ≡ true)
-        ⊎ ((a : Attendant L) → IsStill gives takes (slice_index_or seats t a) (slice_index_or mails t [])))
+    ⊎ ((a : Attendant L) → IsStill gives takes (slice_index_or seats t a) (slice_index_or mails t [])))
     → ((t : ℕ) → t < length seats → looks t ≡ true → (later t ≡ true) ⊎ (later_looks t ≡ true))
     → AreKnown gives takes many listed looks [] seats mails → AreKnown gives takes later_many later later_looks [] seats mails
 known_as {L} gives takes many later_many listed looks later later_looks seats mails same_many apart before acts checks k = record {
@@ -537,3 +550,213 @@ module _ {L : Type 0} (gives takes : L → Bool) where
           other (inl on) = inl (or_left (is_on (enqueued i l).queue t) false (enqueued_keeps i l t (left_only _ on)))
           other (inr (inl looks)) = inr (inl (subst (λ f. is_on f t ≡ true) (sym (enqueued_free i l)) looks))
           other (inr (inr rest)) = inr (inr rest)
+
+-- A seat at a place of the queue is on it.
+got_on : (xs : List ℕ) (n i : ℕ) → Some i ≡ slice_get xs n → is_on xs i ≡ true
+got_on [] n i is = absurd cc
+got_on (x ∷ xs) zero i is =
+    let same : i ≡ x = some_is i x is in
+    let one : one_if (x == i) ≡ 1 = ap one_if (is_same x i (sym same)) in
+    some_on (x ∷ xs) i (omega (arith, sum_by-cons (λ y. one_if (y == i)) x xs, one))
+  where
+    some_is : (a b : ℕ) → Some a ≡ Some b → a ≡ b
+    some_is a b e = cc
+got_on (x ∷ xs) (suc n) i is =
+    some_on (x ∷ xs) i (omega (arith, sum_by-cons (λ y. one_if (y == i)) x xs, on_some xs i (got_on xs n i is)))
+
+pub next_in_round_is : (l later : Listing) (result : Option ℕ) → result ≡ (if nat_lt l.at l.round then slice_get l.queue l.at else None)
+    → later ≡ record l { at = l.at + length (option_to_list result) } → IsNextOf result l later
+next_in_round_is l later None is same = record { seats = ap (λ z. z.seats) same; queue = ap (λ z. z.queue) same; free = ap (λ z. z.free) same }
+next_in_round_is l later (Some i) is same = record {
+  seats = ap (λ z. z.seats) same;
+  free = ap (λ z. z.free) same;
+  queue = inr (got_on l.queue l.at i (chosen (nat_lt l.at l.round) is), ap (λ z. z.queue) same);
+}
+  where
+    chosen : (b : Bool) → Some i ≡ (if b then slice_get l.queue l.at else None) → Some i ≡ slice_get l.queue l.at
+    chosen true e = e
+    chosen false e = absurd cc
+
+listed_self : (l : Listing) (i : ℕ) → is_listed l (Some i) i ≡ true
+listed_self l i = or_right (is_on l.queue i) (i == i) (is_same i i refl)
+
+module _ {L : Type 0} (gives takes : L → Bool) where
+  -- The visited seat was changed.
+  pub known_acted : (l : Listing) (i : ℕ) (seats later : List (Attendant L)) (mails : List (List Answer)) → ChangesOnly i seats later
+      → AreKnownTo gives takes l (Some i) seats mails → AreKnownTo gives takes l (Some i) later mails
+  known_acted l i seats later mails only k =
+      known_changed gives takes l.seats (is_listed l (Some i)) (is_looking l) [] i seats later mails (listed_self l i) only k
+
+  -- The visited seat checked for a client.
+  pub known_looked : (l later : Listing) (i : ℕ) (looked : Looked) (seats after : List (Attendant L)) (mails : List (List Answer))
+      → later ≡ listed_after looked i l → ChangesOnly i seats after
+      → ((looked ≡ looks.NotYet) ⊎ (looked ≡ looks.Later) → (a : Attendant L) → (slice_index_or after i a).place ≡ places.Between)
+      → AreKnownTo gives takes l (Some i) seats mails → AreKnownTo gives takes later None after mails
+  known_looked l later i looked seats after mails is only none k =
+      subst (λ z. AreKnownTo gives takes z None after mails) (sym is) (by looked none)
+    where
+      acted : AreKnownTo gives takes l (Some i) after mails
+      acted = known_acted l i seats after mails only k
+
+      by : (x : Looked) → ((x ≡ looks.NotYet) ⊎ (x ≡ looks.Later) → (a : Attendant L) → (slice_index_or after i a).place ≡ places.Between)
+          → AreKnownTo gives takes (listed_after x i l) None after mails
+      by looks.Opened h = known_enqueued gives takes after mails l i acted
+      by looks.NoMore h = known_enqueued gives takes after mails l i acted
+      by looks.NotYet h = known_freed gives takes after mails l i (h (inl refl)) acted
+      by looks.Later h = known_freed gives takes after mails l i (h (inr refl)) acted
+
+-- Seats that all check for a client are known.
+pub all_known : (seats : ℕ) (l : Listing) → l ≡ all_free seats → KnowsAll seats l.seats (is_listed l None) (is_looking l)
+all_known seats l is = subst (λ z. KnowsAll seats z.seats (is_listed z None) (is_looking z)) (sym is) (record {
+  all = omega arith;
+  apart = λ t looks on. absurd cc;
+  each = λ t below. inr (some_on (falling seats) t (omega (arith, falls_once seats t below)));
+})
+
+-- New seats are known by turns that know all seats.
+pub known_at_first : {L : Type 0} (gives takes : L → Bool) (many seats : ℕ) (listed looks : ℕ → Bool) (all : List (Attendant L))
+    (mails : List (List Answer)) (size : ℕ) → length all ≡ seats → KnowsAll seats many listed looks → All (IsNewSeat size) all
+    → AreKnown gives takes many listed looks [] all mails
+known_at_first gives takes many seats listed looks all mails size same knows new = record {
+  all = omega (arith, same, knows.all);
+  apart = knows.apart;
+  looking = λ t below is a. let n = new t a below in n.place;
+  known = λ t below a. elim (knows.each t (omega (arith, same, below))) [
+    | inl acts ↦ inl acts
+    | inr checks ↦ inr (inl checks)
+  ];
+}
+
+-- The core of a loop moved on, while no seat was changed: each seat that got mail is to be woken.
+module _ {L : Type 0} (gives takes : L → Bool) (many : ℕ) (listed looks : ℕ → Bool) (seats : List (Attendant L)) where
+  still_or_woken : (a : Attendant L) (mail later : List Answer) (waits : ℕ) → (mail ≡ [] → (later ≡ []) ⊎ (0 < waits))
+      → IsStill gives takes a mail → (0 < waits) ⊎ IsStill gives takes a later
+  still_or_woken a mail later waits got still = at a.place still where
+    none : mail ≡ [] → (0 < waits) ⊎ (later ≡ [])
+    none e = elim (got e) [
+      | inl empty ↦ inr empty
+      | inr woken ↦ inl woken
+    ]
+
+    on : (action : Action) (line : L) → IsStillOn action a.machine (gives line) (takes line) mail
+        → (0 < waits) ⊎ IsStillOn action a.machine (gives line) (takes line) later
+    on actions.Read line s = elim s.1 [
+      | inl empty ↦ elim (none empty) [
+        | inl woken ↦ inl woken
+        | inr e ↦ inr (s.0, inl e)
+      ]
+      | inr reads ↦ inr (s.0, inr reads)
+    ]
+    on actions.PollMail line s = elim (none s.0) [
+      | inl woken ↦ inl woken
+      | inr e ↦ inr (e, s.1)
+    ]
+    on (actions.Write answer) line s = inr s
+    on (actions.Submit step) line s = absurd s
+    on (actions.LineOver end) line s = absurd s
+    on actions.Stray line s = absurd s
+
+    at : (place : LinePlace L) → IsStillAt gives takes a.machine place mail → (0 < waits) ⊎ IsStillAt gives takes a.machine place later
+    at (places.On line action sent) s = on action line s
+    at places.Done s = inr s
+    at places.Between s = absurd s
+    at places.Leaving s = absurd s
+
+  pub known_woken : (mails later : List (List Answer)) (old new : WakeList) → length seats ≤ old.seats → Wakes mails later old new
+      → AreKnown gives takes many listed looks old.waiting seats mails → AreKnown gives takes many listed looks new.waiting seats later
+  known_woken mails later old new within wakes k = record {
+    all = k.all;
+    apart = k.apart;
+    looking = k.looking;
+    known = λ t below a. at t below a (k.known t below a);
+  }
+    where
+      at : (t : ℕ) → t < length seats → (a : Attendant L)
+          → IsKnown (listed t) (looks t) (times t old.waiting) (IsStill gives takes (slice_index_or seats t a) (slice_index_or mails t []))
+          → IsKnown (listed t) (looks t) (times t new.waiting) (IsStill gives takes (slice_index_or seats t a) (slice_index_or later t []))
+      at t below a (inl acts) = inl acts
+      at t below a (inr (inl checks)) = inr (inl checks)
+      at t below a (inr (inr (inl waits))) = inr (inr (inl (omega (arith, waits, wakes.kept t))))
+      at t below a (inr (inr (inr still))) =
+          inr (inr (still_or_woken (slice_index_or seats t a) (slice_index_or mails t []) (slice_index_or later t []) (times t new.waiting)
+          (wakes.mail t (omega (arith, below, within))) still))
+
+-- The turns were told of the first seat that is to be woken.
+pub known_told : {L : Type 0} (gives takes : L → Bool) (many later_many : ℕ) (listed looks later later_looks : ℕ → Bool) (i : ℕ)
+    (woken : List ℕ) (seats : List (Attendant L)) (mails : List (List Answer))
+    → later_many ≡ many → (i < many → (looks i ≡ true → ⊥) → later i ≡ true) → KeepsAll listed later
+    → ((t : ℕ) → later_looks t ≡ looks t) → (AreApart listed looks → AreApart later later_looks)
+    → AreKnown gives takes many listed looks (i ∷ woken) seats mails → AreKnown gives takes later_many later later_looks woken seats mails
+known_told {L} gives takes many later_many listed looks later later_looks i woken seats mails same told keeps checks apart k = record {
+  all = omega (arith, same, k.all);
+  apart = apart k.apart;
+  looking = λ t below is a. k.looking t below (sym (checks t) ∙ is) a;
+  known = λ t below a. at t below a (k.known t below a);
+}
+  where
+    mine : (t : ℕ) → t < length seats → (a : Attendant L) → i ≡ t → (looks t ≡ true) ⊎ (looks t ≡ false)
+        → IsKnown (later t) (later_looks t) (times t woken) (IsStill gives takes (slice_index_or seats t a) (slice_index_or mails t []))
+    mine t below a is (inl looking) = inr (inl (checks t ∙ looking))
+    mine t below a is (inr nor) =
+        inl (subst (λ n. later n ≡ true) is (told (omega (arith, below, k.all, is))
+        (λ e. let f : true ≡ false = sym e ∙ ap looks is ∙ nor in absurd cc)))
+
+    at : (t : ℕ) → t < length seats → (a : Attendant L)
+        → IsKnown (listed t) (looks t) (times t (i ∷ woken)) (IsStill gives takes (slice_index_or seats t a) (slice_index_or mails t []))
+        → IsKnown (later t) (later_looks t) (times t woken) (IsStill gives takes (slice_index_or seats t a) (slice_index_or mails t []))
+    at t below a (inl acts) = inl (keeps t acts)
+    at t below a (inr (inl looking)) = inr (inl (checks t ∙ looking))
+    at t below a (inr (inr (inl waits))) = elim (eqb_tells i t) [
+      | inl is ↦ mine t below a is.1 (cases_Bool (looks t))
+      | inr differs ↦
+          let none : one_if (i == t) ≡ 0 = ap one_if differs.0 in
+          inr (inr (inl (omega (arith, sum_by-cons (λ x. one_if (x == t)) i woken, waits, none))))
+    ]
+    at t below a (inr (inr (inr still))) = inr (inr (inr still))
+
+-- No seat checks for a client.
+pub all_checked : (l later : Listing) → later ≡ record l { free = later.free } → l.free ≡ later.free ++ [] → AreSameLists l later
+all_checked l later rest taken = record {
+  seats = ap (λ z. z.seats) rest;
+  queue = ap (λ z. z.queue) rest;
+  free = sym (taken ∙ append-nil later.free);
+}
+
+-- A turn was taken. Each seat that got mail is to be woken.
+module _ {L : Type 0} (gives takes : L → Bool) (many : ℕ) (listed looks : ℕ → Bool) where
+  known_turned : (turn : Turn) (woken : List ℕ) (seats later : List (Attendant L)) (mails : List (List Answer))
+      → IsListedIn listed turn → ChangesOnlyIn turn seats later
+      → AreKnown gives takes many listed looks woken seats mails → AreKnown gives takes many listed looks woken later mails
+  known_turned (turns.Seat i) woken seats later mails acts only k = known_changed gives takes many listed looks woken i seats later mails acts only k
+  known_turned (turns.Command i) woken seats later mails acts only k = known_changed gives takes many listed looks woken i seats later mails acts only k
+  known_turned turns.Nothing woken seats later mails acts only k = subst (λ z. AreKnown gives takes many listed looks woken z mails) (sym only) k
+  known_turned (turns.Control reads) woken seats later mails acts only k = subst (λ z. AreKnown gives takes many listed looks woken z mails) (sym only) k
+  known_turned turns.Time woken seats later mails acts only k = subst (λ z. AreKnown gives takes many listed looks woken z mails) (sym only) k
+
+  pub known_after : (turn : Turn) (seats later : List (Attendant L)) (mails after : List (List Answer)) (old new : WakeList)
+      → old ≡ none_waits (length mails) → length later ≤ length mails → Wakes mails after old new
+      → IsListedIn listed turn → ChangesOnlyIn turn seats later
+      → AreKnown gives takes many listed looks [] seats mails → AreKnown gives takes many listed looks new.waiting later after
+  known_after turn seats later mails after old new none within wakes acts only k =
+      known_woken gives takes many listed looks later mails after old new (let e = ap (λ w. w.seats) none in omega (arith, within, e)) wakes
+      (subst (λ xs. AreKnown gives takes many listed looks xs later mails) (sym (ap (λ w. w.waiting) none))
+      (known_turned turn [] seats later mails acts only k))
+
+-- A turn of the visited seat.
+pub listed_turn : (listed : ℕ → Bool) (v : Visit) → listed v.seat ≡ true → IsListedIn listed (turn_of v)
+listed_turn listed v acts = by v.is_over v.part where
+  in_part : (part : Part) → IsListedIn listed (turn_in part v.seat)
+  in_part parts.Answers = acts
+  in_part parts.Reads = acts
+  in_part parts.Steps = acts
+
+  by : (over : Bool) (part : Part) → IsListedIn listed (if over then turns.Seat v.seat else turn_in part v.seat)
+  by true part = acts
+  by false part = in_part part
+
+-- The turn of a visit is one of a seat that is let act.
+pub listed_by : (l : Listing) (visited : Option ℕ) (v : Visit) (turn : Turn) → turn ≡ turn_of v → visited ≡ Some v.seat
+    → IsListedIn (is_listed l visited) turn
+listed_by l visited v turn is same =
+    subst (λ t. IsListedIn (is_listed l visited) t) (sym is)
+    (subst (λ o. IsListedIn (is_listed l o) (turn_of v)) (sym same) (listed_turn (is_listed l (Some v.seat)) v (listed_self l v.seat)))

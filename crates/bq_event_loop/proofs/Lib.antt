@@ -8,5 +8,6 @@ mod MarkLemmas
 mod RowLemmas
 mod ServingLemmas
 mod SessionsLemmas
+mod SleepingLemmas
 mod SoFarLemmas
 mod WakeLemmas

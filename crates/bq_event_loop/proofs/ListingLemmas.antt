@@ -98,7 +98,7 @@ falls_never (suc n) t past = by (falls_never n t (omega (arith, past))) (eqb_tel
       let none : one_if (n == t) ≡ 0 = ap one_if test in
       omega (arith, head, none, never)
 
-falls_once : (n t : ℕ) → t < n → times t (falling n) ≡ 1
+pub falls_once : (n t : ℕ) → t < n → times t (falling n) ≡ 1
 falls_once zero t below = absurd (omega (arith, below))
 falls_once (suc n) t below = by (falls_once n t) (eqb_tells n t) where
   by : (t < n → times t (falling n) ≡ 1) → ((n == t) ≡ true) × (n ≡ t) ⊎ ((n == t) ≡ false) × (n ≢ t) → times t (falling (suc n)) ≡ 1

@@ -11,7 +11,7 @@ use Rattle.bq_core_api.specs.Outbox.{Outbox}
 use Rattle.bq_host.specs.Timed.{IsReady, PassesOver}
 use Rattle.bq_host.specs.declared.timed_core.TimedCore.{TimedCore}
 use Rattle.std.specs.Prelude.{slice_index_or}
-use Rattle.bq_line.specs.Links.{TakesInPlace}
+use Rattle.bq_line.specs.Links.{Calls, TakesInPlace}
 use Rattle.bq_seat.specs.declared.machine.Action.{Action}
 use Rattle.bq_event_loop.specs.LoopCores.{WentAt, state_of}
 use Rattle.bq_line.specs.GivenReadings.{GaveReadings}
@@ -132,3 +132,12 @@ takes_on machine compared given seat first next last place after true still take
     (takes.0, takes.1, went_then machine compared given seat seat first next last [] [] [] (takes.0 ∷ []) refl still takes.2)
 takes_on machine compared given seat first next last place after false still takes =
     (takes.0, went_then machine compared given seat seat first next last [] [] [] [] refl still takes.1)
+
+-- Each seat that got mail is to be woken, whether the link was used or not.
+pub wakes_called : {C K : Type 0} (machine : K → Machine) (compared : K → ℕ) (given : C → List (Option ℕ) → C → Type 0) (seat : ℕ)
+    (first last : LoopCore C K) (submitted : List Step) (taken : List Answer)
+    → Calls (WentAt machine compared given seat) first submitted taken last
+    → Wakes first.mails.items last.mails.items first.woken last.woken
+wakes_called machine compared given seat first last submitted taken (inl went) = went.1
+wakes_called machine compared given seat first last submitted taken (inr none) =
+    wakes_same first.mails.items last.mails.items first.woken last.woken (ap (λ z. z.mails.items) none.0) (ap (λ z. z.woken) none.0)

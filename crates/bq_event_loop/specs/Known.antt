@@ -40,6 +40,12 @@ pub record ChangesOnly {L : Type 0} (one : ℕ) (old new : List (Attendant L)) :
   pub many : length new ≡ length old
   pub others : (seat : ℕ) → seat ≢ one → (a : Attendant L) → slice_index_or new seat a ≡ slice_index_or old seat a
 
+-- At most the seat of this turn was changed.
+abbrev pub ChangesOnlyIn : {L : Type 0} → Turn → List (Attendant L) → List (Attendant L) → Type 0
+ChangesOnlyIn (turns.Seat seat) old new = ChangesOnly seat old new
+ChangesOnlyIn (turns.Command seat) old new = ChangesOnly seat old new
+ChangesOnlyIn _ old new = new ≡ old
+
 -- A seat that acts in a turn is one that the turns let act.
 abbrev pub IsListedIn : (ℕ → Bool) → Turn → Type 0
 IsListedIn listed (turns.Seat seat) = listed seat ≡ true

@@ -10,6 +10,7 @@ pub mod Marks
 pub mod NewLoops
 pub mod Rows
 pub mod Serving
+pub mod Sleeping
 pub mod SoFar
 pub mod Still
 pub mod Visits

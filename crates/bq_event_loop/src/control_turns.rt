@@ -3,6 +3,7 @@ ghost use Rattle.std.specs.Prelude.{◌≡◌, ◌↔◌, IsTrue, [], false};
 ghost use Rattle.std.specs.Option.{option_to_list};
 ghost use Rattle.bq_line.specs.ControlSeen.{new_control};
 ghost use Rattle.bq_event_loop.specs.ControlTold.{HasTold, TellsOn, owed_by};
+ghost use Rattle.bq_event_loop.specs.Sleeping.{stands_of};
 ghost use Rattle.bq_event_loop.specs.declared.control_turns.Stage.TheVariants as stages;
 
 use crate::turns::ControlStands;
@@ -54,7 +55,9 @@ impl<I: ControlInput> ControlTurns<I> {
     }
 
     /// Returns the state of the control line.
-    pub fn stands(&self) -> ControlStands {
+    pub fn stands(&self) -> ControlStands
+        ensures { result ≡ stands_of self.now.owes_drain self.now.stage }
+    {
         if self.is_over() {
             ControlStands::Over
         } else if self.owed().is_some() {

@@ -7,21 +7,23 @@
 //! Of the seats that came into the queue since the last wait, all lines are read first, then all
 //! steps are taken, and then all answers are written, so that each part finds its code and data in
 //! the processor's caches. Seats that were in the queue before come last.
-ghost use Rattle.std.specs.Prelude.{◌≡◌, ◌*◌, [], true, false, Some, IfSome};
+ghost use Rattle.std.specs.Prelude.{◌≡◌, ◌⊎◌, [], true, false, None, Some, IfOk, if◌then◌else◌};
 ghost use Rattle.std.specs.Option.{option_map};
 ghost use Rattle.std.specs.Duration.{as_nanos};
 ghost use Rattle.bq_line.specs.Tending.{door_seen};
-ghost use Rattle.bq_event_loop.specs.Accepting.{rests};
-ghost use Rattle.bq_event_loop.specs.Listings.{enqueued};
+ghost use Rattle.bq_event_loop.specs.Accepting.{may_come, rests};
+ghost use Rattle.bq_event_loop.specs.Known.{AreKnownTo, AreSameLists, AreStill, IsListedIn, IsNextOf, KnowsAll, is_listed, is_looking};
 ghost use Rattle.bq_event_loop.specs.Looking.{listed_after};
 ghost use Rattle.bq_event_loop.specs.Rows.{AreTended, KeepsRow};
-ghost use Rattle.bq_event_loop.specs.Waits.{IsWaitWithin};
+ghost use Rattle.bq_event_loop.specs.Sleeping.{IsAtTurn, IsControlStill, IsNoLonger, MayWait, stands_of, visited_by};
 
 use crate::row::Row;
 use crate::seat_queue::SeatQueue;
-use crate::turns::{Began, ControlReads, ControlStands, News, SoFar, Turn, Turns, TurnsFault};
+use crate::still::has_no_mail;
+use crate::turns::{Began, News, SoFar, Turn, Turns, TurnsFault};
 use accepts::Accepts;
 use bq_core_api::QueueCore;
+use bq_host::Mail;
 use bq_line::attendant::{Looked, Progress};
 use bq_line::clock::Clock;
 use bq_line::control_line::ControlInput;
@@ -61,9 +63,6 @@ const TURNED_AWAY: u32 = 64;
 /// How many events one wait takes from the system.
 const EVENTS: usize = 256;
 
-/// The turn in which nothing is done: no seat has this number.
-const NOTHING: Turn = Turn::Seat(usize::MAX);
-
 /// The next part of a round.
 #[derive(Clone, Copy)]
 enum Stage {
@@ -71,7 +70,10 @@ enum Stage {
     /// The control line was read.
     ControlRead,
     Doors,
+    /// The next visit begins.
     Visits(Part),
+    /// A visit is under way.
+    Visit(Part),
     /// Time has passed.
     Wait,
 }
@@ -112,9 +114,8 @@ pub struct Poller<'r, R> {
     // of the round.
     fresh: usize,
     visited: usize,
-    // The current visit, if there is one.
+    // The current visit or, if the stage does not say that one is under way, the last one.
     visit: Visit,
-    is_visiting: bool,
     // Whether more connections may wait to be closed, since all seats are taken.
     are_more_away: bool,
 }
@@ -133,7 +134,11 @@ impl<'r, R: Net + rt::Clock> Poller<'r, R> {
         seats: u16,
         doors: &[D],
         control: Option<RawFd>,
-    ) -> Result<Poller<'r, R>, TurnsFault> {
+    ) -> Result<Poller<'r, R>, TurnsFault>
+        // It knows each seat.
+        ensures knows { IfOk result (λ poller. KnowsAll seats poller.queue.seats
+            (is_listed poller.queue (visited_by poller.stage poller.visit)) (is_looking poller.queue)) }
+    {
         let Ok(queue) = SeatQueue::new(alloc, usize::from(seats)) else {
             return Err(TurnsFault::NoMemory);
         };
@@ -162,7 +167,6 @@ impl<'r, R: Net + rt::Clock> Poller<'r, R> {
             fresh: 0,
             visited: 0,
             visit: Visit::new(0, Part::Answers, Share::Commands),
-            is_visiting: false,
             are_more_away: false,
         })
     }
@@ -175,17 +179,22 @@ impl<'r, R: rt::Clock> Poller<'r, R> {
         &mut self,
         alloc: Global,
         row: &mut Row<L, D>,
+        mails: &Vec<Mail, Global>,
         news: News,
     ) -> Turn
         requires tended { AreTended L.seen (door_seen D.is_out D.is_at_end D.lines_over) row.old }
+        requires known { AreKnownTo L.may_give L.may_take self.old.queue None row.old.seats.items mails.now.items }
         ensures keeps { KeepsRow L.seen (door_seen D.is_out D.is_at_end D.lines_over) D.same row.old row.new }
+        ensures known { AreKnownTo L.may_give L.may_take self.new.queue (visited_by self.new.stage self.new.visit) row.new.seats.items mails.now.items }
+        ensures acts { IsListedIn (is_listed self.new.queue (visited_by self.new.stage self.new.visit)) result }
+        ensures seats { self.new.queue.seats ≡ self.old.queue.seats }
     {
         match self.control.reads(news.control) {
             Some(reads) => {
                 self.stage = Stage::ControlRead;
                 Turn::Control(reads)
             }
-            None => self.look_at_next(alloc, row),
+            None => self.look_at_next(alloc, row, mails),
         }
     }
 
@@ -194,24 +203,32 @@ impl<'r, R: rt::Clock> Poller<'r, R> {
         &mut self,
         alloc: Global,
         row: &mut Row<L, D>,
+        mails: &Vec<Mail, Global>,
     ) -> Turn
         requires tended { AreTended L.seen (door_seen D.is_out D.is_at_end D.lines_over) row.old }
+        requires known { AreKnownTo L.may_give L.may_take self.old.queue None row.old.seats.items mails.now.items }
         ensures keeps { KeepsRow L.seen (door_seen D.is_out D.is_at_end D.lines_over) D.same row.old row.new }
+        ensures known { AreKnownTo L.may_give L.may_take self.new.queue (visited_by self.new.stage self.new.visit) row.new.seats.items mails.now.items }
+        ensures acts { IsListedIn (is_listed self.new.queue (visited_by self.new.stage self.new.visit)) result }
+        ensures seats { self.new.queue.seats ≡ self.old.queue.seats }
     {
-        if self.accepts.may_come() {
-            if let Some(seat) = self.queue.next_free() {
-                self.stage = Stage::Doors;
-                self.look(alloc, row, seat);
-                return NOTHING;
-            }
-            self.turn_away(row);
+        if !self.accepts.may_come() {
+            return self.begin_visits(alloc, row, mails);
         }
-        self.begin_visits(alloc, row)
+        let Some(seat) = self.queue.next_free() else {
+            self.turn_away(row);
+            return self.begin_visits(alloc, row, mails);
+        };
+        self.look(alloc, row, mails, seat);
+        self.stage = Stage::Doors;
+        Turn::Nothing
     }
 
     // Lets a door close the connections that wait although all seats are taken, if it does so. What
     // is left after some of them is closed in the next round.
-    fn turn_away<L: Line + Drop, D: Door<Line = L>>(&mut self, row: &Row<L, D>) {
+    fn turn_away<L: Line + Drop, D: Door<Line = L>>(&mut self, row: &Row<L, D>)
+        ensures queue { self.new.queue ≡ self.old.queue }
+    {
         for _ in 0..TURNED_AWAY {
             match row.turn_away() {
                 TurnedAway::Closed => {}
@@ -234,10 +251,15 @@ impl<'r, R: rt::Clock> Poller<'r, R> {
         &mut self,
         alloc: Global,
         row: &mut Row<L, D>,
+        mails: &Vec<Mail, Global>,
         seat: usize,
     )
         requires tended { AreTended L.seen (door_seen D.is_out D.is_at_end D.lines_over) row.old }
+        requires known { AreKnownTo L.may_give L.may_take self.old.queue (Some seat) row.old.seats.items mails.now.items }
         ensures keeps { KeepsRow L.seen (door_seen D.is_out D.is_at_end D.lines_over) D.same row.old row.new }
+        ensures known { AreKnownTo L.may_give L.may_take self.new.queue None row.new.seats.items mails.now.items }
+        ensures visit { self.new.visit ≡ self.old.visit }
+        ensures seats { self.new.queue.seats ≡ self.old.queue.seats }
     {
         let may_have_come = self.accepts.may_come();
         let watcher = LineWatcher {
@@ -252,6 +274,7 @@ impl<'r, R: rt::Clock> Poller<'r, R> {
     // may have come.
     fn note_looked(&mut self, seat: usize, may_have_come: bool, looked: Looked)
         ensures queue { self.new.queue ≡ listed_after looked seat self.old.queue }
+        ensures visit { self.new.visit ≡ self.old.visit }
         ensures seen { (looked ≡ Looked.NotYet → ⊥) → self.new.accepts.may_have_come ≡ self.old.accepts.may_have_come }
         ensures rests { looked ≡ Looked.Later → rests self.new.accepts.rest ≡ true }
     {
@@ -277,30 +300,55 @@ impl<'r, R: rt::Clock> Poller<'r, R> {
         &mut self,
         alloc: Global,
         row: &mut Row<L, D>,
+        mails: &Vec<Mail, Global>,
     ) -> Turn
         requires tended { AreTended L.seen (door_seen D.is_out D.is_at_end D.lines_over) row.old }
+        requires known { AreKnownTo L.may_give L.may_take self.old.queue None row.old.seats.items mails.now.items }
         ensures keeps { KeepsRow L.seen (door_seen D.is_out D.is_at_end D.lines_over) D.same row.old row.new }
+        ensures known { AreKnownTo L.may_give L.may_take self.new.queue (visited_by self.new.stage self.new.visit) row.new.seats.items mails.now.items }
+        ensures acts { IsListedIn (is_listed self.new.queue (visited_by self.new.stage self.new.visit)) result }
+        ensures seats { self.new.queue.seats ≡ self.old.queue.seats }
     {
-        let waited = self.put_last();
+        let waited = self.put_last(row, mails);
         self.queue.begin_round();
         self.fresh = self.queue.round().saturating_sub(waited);
         self.visited = 0;
         self.pace = Pace::begin(self.reading);
         let part = Part::first(self.fresh);
-        self.stage = Stage::Visits(part);
-        self.begin_next(alloc, row, part)
+        self.begin_next(alloc, row, mails, part)
     }
 
     // Puts the seats that were in the queue before the last wait at its end, in their order, and
-    // returns how many they are.
-    fn put_last(&mut self) -> usize {
+    // returns how many they are. The row and the mails are passed for the contract alone.
+    fn put_last<L: Line + Drop, D: Door<Line = L>>(
+        &mut self,
+        row: &Row<L, D>,
+        mails: &Vec<Mail, Global>,
+    ) -> usize
+        requires known { AreKnownTo L.may_give L.may_take self.old.queue None row.now.seats.items mails.now.items }
+        ensures known { AreKnownTo L.may_give L.may_take self.new.queue None row.now.seats.items mails.now.items }
+        ensures seats { self.new.queue.seats ≡ self.old.queue.seats }
+    {
         let waited = self.queue.round();
         for _ in 0..waited {
-            if let Some(seat) = self.queue.take_next() {
-                self.queue.enqueue(seat);
-            }
+            self.put_first_last(row, mails);
         }
         waited
+    }
+
+    // Puts the first seat of the queue at its end.
+    fn put_first_last<L: Line + Drop, D: Door<Line = L>>(
+        &mut self,
+        row: &Row<L, D>,
+        mails: &Vec<Mail, Global>,
+    )
+        requires known { AreKnownTo L.may_give L.may_take self.old.queue None row.now.seats.items mails.now.items }
+        ensures known { AreKnownTo L.may_give L.may_take self.new.queue None row.now.seats.items mails.now.items }
+        ensures seats { self.new.queue.seats ≡ self.old.queue.seats }
+    {
+        if let Some(seat) = self.queue.take_next() {
+            self.queue.enqueue(seat);
+        }
     }
 
     // Returns the next action of the current visit, or begins the next visit.
@@ -308,20 +356,23 @@ impl<'r, R: rt::Clock> Poller<'r, R> {
         &mut self,
         alloc: Global,
         row: &mut Row<L, D>,
+        mails: &Vec<Mail, Global>,
         part: Part,
         progress: Progress,
     ) -> Turn
         requires tended { AreTended L.seen (door_seen D.is_out D.is_at_end D.lines_over) row.old }
+        requires known { AreKnownTo L.may_give L.may_take self.old.queue (Some self.old.visit.seat) row.old.seats.items mails.now.items }
         ensures keeps { KeepsRow L.seen (door_seen D.is_out D.is_at_end D.lines_over) D.same row.old row.new }
+        ensures known { AreKnownTo L.may_give L.may_take self.new.queue (visited_by self.new.stage self.new.visit) row.new.seats.items mails.now.items }
+        ensures acts { IsListedIn (is_listed self.new.queue (visited_by self.new.stage self.new.visit)) result }
+        ensures seats { self.new.queue.seats ≡ self.old.queue.seats }
     {
-        if self.is_visiting {
-            let took = self.pace.note(part, self.visit.seat(), self.reading);
-            self.visit.note(progress, took);
-            if self.goes_on(alloc, row) {
-                return self.visit.turn();
-            }
+        let took = self.pace.note(part, self.visit.seat(), self.reading);
+        self.visit.note(progress, took);
+        if self.goes_on(alloc, row, mails, part) {
+            return self.visit.turn();
         }
-        self.begin_next(alloc, row, part)
+        self.begin_next(alloc, row, mails, part)
     }
 
     // Returns the first action of the next visit of this part. After the last one the next part
@@ -330,10 +381,15 @@ impl<'r, R: rt::Clock> Poller<'r, R> {
         &mut self,
         alloc: Global,
         row: &mut Row<L, D>,
+        mails: &Vec<Mail, Global>,
         part: Part,
     ) -> Turn
         requires tended { AreTended L.seen (door_seen D.is_out D.is_at_end D.lines_over) row.old }
+        requires known { AreKnownTo L.may_give L.may_take self.old.queue None row.old.seats.items mails.now.items }
         ensures keeps { KeepsRow L.seen (door_seen D.is_out D.is_at_end D.lines_over) D.same row.old row.new }
+        ensures known { AreKnownTo L.may_give L.may_take self.new.queue (visited_by self.new.stage self.new.visit) row.new.seats.items mails.now.items }
+        ensures acts { IsListedIn (is_listed self.new.queue (visited_by self.new.stage self.new.visit)) result }
+        ensures seats { self.new.queue.seats ≡ self.old.queue.seats }
     {
         let Some(seat) = self.next_seat(part) else {
             return self.end_part(part);
@@ -341,15 +397,16 @@ impl<'r, R: rt::Clock> Poller<'r, R> {
         row.exchange(seat, &mut self.buffer);
         self.visit = Visit::new(seat, part, self.share(part));
         self.visited = self.visited.saturating_add(1);
-        self.is_visiting = true;
-        if self.goes_on(alloc, row) {
+        if self.goes_on(alloc, row, mails, part) {
             return self.visit.turn();
         }
-        NOTHING
+        Turn::Nothing
     }
 
     // Returns the next seat of this part.
-    fn next_seat(&mut self, part: Part) -> Option<usize> {
+    fn next_seat(&mut self, part: Part) -> Option<usize>
+        ensures { IsNextOf result self.old.queue self.new.queue }
+    {
         match part {
             Part::Answers => self.queue.take_next(),
             _ => {
@@ -380,13 +437,18 @@ impl<'r, R: rt::Clock> Poller<'r, R> {
         }
     }
 
-    fn end_part(&mut self, part: Part) -> Turn {
+    // Begins the next part of the round, or the time passes.
+    fn end_part(&mut self, part: Part) -> Turn
+        ensures lists { AreSameLists self.old.queue self.new.queue }
+        ensures idle { visited_by self.new.stage self.new.visit ≡ None }
+        ensures turn { (result ≡ Turn.Nothing) ⊎ (result ≡ Turn.Time) }
+    {
         match part.next() {
             Some(next) => {
                 self.queue.begin_round();
                 self.visited = 0;
                 self.stage = Stage::Visits(next);
-                NOTHING
+                Turn::Nothing
             }
             None => {
                 self.stage = Stage::Wait;
@@ -395,67 +457,119 @@ impl<'r, R: rt::Clock> Poller<'r, R> {
         }
     }
 
-    // Returns true if the visit has another action. Otherwise it pauses here.
+    // Returns true if the visit has another action. Otherwise it ends here.
     fn goes_on<L: Line + Drop, D: Door<Line = L>>(
         &mut self,
         alloc: Global,
         row: &mut Row<L, D>,
+        mails: &Vec<Mail, Global>,
+        part: Part,
     ) -> bool
         requires tended { AreTended L.seen (door_seen D.is_out D.is_at_end D.lines_over) row.old }
+        requires known { AreKnownTo L.may_give L.may_take self.old.queue (Some self.old.visit.seat) row.old.seats.items mails.now.items }
         ensures keeps { KeepsRow L.seen (door_seen D.is_out D.is_at_end D.lines_over) D.same row.old row.new }
+        ensures known { AreKnownTo L.may_give L.may_take self.new.queue (if result then Some self.old.visit.seat else None) row.new.seats.items mails.now.items }
+        ensures visited { visited_by self.new.stage self.new.visit ≡ (if result then Some self.old.visit.seat else None) }
+        ensures seat { self.new.visit.seat ≡ self.old.visit.seat }
+        ensures seats { self.new.queue.seats ≡ self.old.queue.seats }
     {
         let visit = self.visit;
         match pause_of(&visit, row) {
-            None => true,
+            None => {
+                self.stage = Stage::Visit(part);
+                true
+            }
             Some(pause) => {
-                self.is_visiting = false;
-                // The line or, if it has ended, its door gives the shared buffer back.
-                row.exchange(visit.seat(), &mut self.buffer);
-                self.pause(alloc, row, visit.seat(), pause);
+                self.end_visit(alloc, row, mails, visit.seat(), pause);
+                self.stage = Stage::Visits(part);
                 false
             }
         }
     }
 
-    // Handles the pause of a visit.
-    fn pause<L: Line + Drop, D: Door<Line = L>>(
+    // Ends the visit of a seat.
+    fn end_visit<L: Line + Drop, D: Door<Line = L>>(
         &mut self,
         alloc: Global,
         row: &mut Row<L, D>,
+        mails: &Vec<Mail, Global>,
         seat: usize,
         pause: Pause,
     )
         requires tended { AreTended L.seen (door_seen D.is_out D.is_at_end D.lines_over) row.old }
+        requires known { AreKnownTo L.may_give L.may_take self.old.queue (Some seat) row.old.seats.items mails.now.items }
         ensures keeps { KeepsRow L.seen (door_seen D.is_out D.is_at_end D.lines_over) D.same row.old row.new }
+        ensures known { AreKnownTo L.may_give L.may_take self.new.queue None row.new.seats.items mails.now.items }
+        ensures visit { self.new.visit ≡ self.old.visit }
+        ensures seats { self.new.queue.seats ≡ self.old.queue.seats }
     {
+        // The line or, if it has ended, its door gives the shared buffer back.
+        row.exchange(seat, &mut self.buffer);
         match pause {
-            Pause::PartDone | Pause::IsDone => {}
+            Pause::PartDone => self.queue.enqueue(seat),
             // Answers that are held back for further ones would wait for the visits of all others.
             Pause::GoesOn => {
-                self.queue.enqueue(seat);
                 row.hand_on(seat);
+                self.queue.enqueue(seat);
             }
             // Otherwise the last answers of a batch would wait for the client's acknowledgement.
-            Pause::Rests => row.hand_on(seat),
-            Pause::IsFree => self.look(alloc, row, seat),
+            Pause::Rests => {
+                row.hand_on(seat);
+                self.let_rest(row, mails, seat);
+            }
+            Pause::IsDone => self.let_rest(row, mails, seat),
+            Pause::IsFree => self.look(alloc, row, mails, seat),
         }
     }
 
-    // Sleeps until the system reports something, or something is due. If a seat can act, it does
-    // not sleep and only polls the system.
-    fn wait<L: Line + Drop, D: Door<Line = L>>(&mut self, row: &mut Row<L, D>, news: News)
-        requires tended { AreTended L.seen (door_seen D.is_out D.is_at_end D.lines_over) row.old }
-        ensures keeps { KeepsRow L.seen (door_seen D.is_out D.is_at_end D.lines_over) D.same row.old row.new }
+    // Lets a seat rest if nothing moves at it. Otherwise it is visited again.
+    fn let_rest<L: Line + Drop, D: Door<Line = L>>(
+        &mut self,
+        row: &Row<L, D>,
+        mails: &Vec<Mail, Global>,
+        seat: usize,
+    )
+        requires known { AreKnownTo L.may_give L.may_take self.old.queue (Some seat) row.now.seats.items mails.now.items }
+        ensures known { AreKnownTo L.may_give L.may_take self.new.queue None row.now.seats.items mails.now.items }
+        ensures visit { self.new.visit ≡ self.old.visit }
+        ensures seats { self.new.queue.seats ≡ self.old.queue.seats }
     {
-        let most = self.longest_wait(news);
+        if !row.is_still(seat, has_no_mail(mails, seat)) {
+            self.queue.enqueue(seat);
+        }
+    }
+
+    // Waits until the system reports something, or something is due. If the loop has something to
+    // do, it only asks the system.
+    fn wait<
+        L: Line + Drop,
+        D: Door<Line = L>,
+        C: Clock + Drop,
+        I: ControlInput + Drop,
+        K: QueueCore + Drop,
+    >(
+        &mut self,
+        row: &mut Row<L, D>,
+        mails: &Vec<Mail, Global>,
+        news: News,
+        so_far: &SoFar<C, I, K>,
+    )
+        requires tended { AreTended L.seen (door_seen D.is_out D.is_at_end D.lines_over) row.old }
+        requires turn { IsAtTurn L.may_give L.may_take K.machine K.comparisons self.old.queue.seats (is_listed self.old.queue None)
+            (is_looking self.old.queue) row.old.seats.items mails.now.items news.due news.control so_far.now.whole_core.value
+            so_far.now.whole_control.value }
+        ensures keeps { KeepsRow L.seen (door_seen D.is_out D.is_at_end D.lines_over) D.same row.old row.new }
+        ensures known { AreKnownTo L.may_give L.may_take self.new.queue None row.new.seats.items mails.now.items }
+        ensures seats { self.new.queue.seats ≡ self.old.queue.seats }
+    {
+        self.sleep_or_ask(row, mails, news, so_far);
         self.are_more_away = false;
         // These are the seats that were in the queue before the wait.
         self.queue.begin_round();
-        // A failed wait reports nothing.
-        let _polled = self.poll.poll(&mut self.events, most);
         self.accepts.pass(self.rt);
         note_events(
             row,
+            mails,
             &self.events,
             &mut self.queue,
             &mut self.accepts,
@@ -463,31 +577,111 @@ impl<'r, R: rt::Clock> Poller<'r, R> {
         );
     }
 
-    // Returns how long the loop may sleep: not at all if a seat is queued, the control line owes a
-    // step or connections are left to close, and no longer than until something is due or a pause of the doors ends.
-    fn longest_wait(&self, news: News) -> Option<Duration>
-        ensures queued { (self.now.queue.queue ≡ [] → ⊥) → option_map as_nanos result ≡ Some 0 }
-        ensures owes { news.control ≡ ControlStands.Owes → option_map as_nanos result ≡ Some 0 }
-        ensures due { IfSome news.due (λ ms. IsWaitWithin (option_map as_nanos result) (ms * 1000000)) }
-        ensures rest { rests self.now.accepts.rest ≡ true → IsWaitWithin (option_map as_nanos result) 100000000 }
+    // Waits until the system reports something, or only asks it if the loop has something to do.
+    fn sleep_or_ask<
+        L: Line + Drop,
+        D: Door<Line = L>,
+        C: Clock + Drop,
+        I: ControlInput + Drop,
+        K: QueueCore + Drop,
+    >(&mut self, row: &Row<L, D>, mails: &Vec<Mail, Global>, news: News, so_far: &SoFar<C, I, K>)
+        requires turn { IsAtTurn L.may_give L.may_take K.machine K.comparisons self.old.queue.seats (is_listed self.old.queue None)
+            (is_looking self.old.queue) row.now.seats.items mails.now.items news.due news.control so_far.now.whole_core.value
+            so_far.now.whole_control.value }
+        ensures { self.new.queue ≡ self.old.queue }
     {
-        let rest = self.accepts.rests_for(self.rt);
-        longest_wait(self.is_busy(news.control), news.due, rest)
+        if self.is_busy(news) {
+            self.ask();
+            return;
+        }
+        let most = self.longest_wait(news);
+        self.sleep(row, mails, news, so_far, most);
     }
 
-    // Returns true if a seat is queued, the control line owes a step, or connections are left to
-    // close.
-    fn is_busy(&self, control: ControlStands) -> bool
-        ensures queued { (self.now.queue.queue ≡ [] → ⊥) → result ≡ true }
-        ensures owes { control ≡ ControlStands.Owes → result ≡ true }
-        ensures idle { self.now.queue.queue ≡ [] → (control ≡ ControlStands.Owes → ⊥)
-            → self.now.are_more_away ≡ false → result ≡ false }
+    // Waits until the system reports something, at most this long. All but `most` is passed for the
+    // contract alone. Nothing else in the event loop waits for the system.
+    fn sleep<
+        L: Line + Drop,
+        D: Door<Line = L>,
+        C: Clock + Drop,
+        I: ControlInput + Drop,
+        K: QueueCore + Drop,
+    >(
+        &mut self,
+        row: &Row<L, D>,
+        mails: &Vec<Mail, Global>,
+        news: News,
+        so_far: &SoFar<C, I, K>,
+        most: Option<Duration>,
+    )
+        // Nothing moves at any seat: its next action would move nothing, or it checks for a client,
+        // and none can have come.
+        requires seats { AreStill L.may_give L.may_take (may_come self.old.accepts) row.now.seats.items mails.now.items }
+        requires mails { mails.now.items ≡ so_far.now.whole_core.value.mails.items }
+        // No seat is left to be visited, and no connection is left to be closed.
+        requires unvisited { self.old.queue.queue ≡ [] }
+        requires away { self.old.are_more_away ≡ false }
+        // No seat has mail for which it was not woken.
+        requires woken { so_far.now.whole_core.value.woken.waiting ≡ [] }
+        // All answers are in the mail of their seats, and the next due moment is not missed.
+        requires due { MayWait K.machine K.comparisons news.due so_far.now.whole_core.value }
+        requires limit { IsNoLonger (option_map as_nanos most) news.due }
+        requires rest { rests self.old.accepts.rest ≡ true → IsNoLonger (option_map as_nanos most) (Some 100) }
+        // The control line owes nothing, and the system reports when there is more of it.
+        requires control { IsControlStill self.old.control
+            (stands_of so_far.now.whole_control.value.owes_drain so_far.now.whole_control.value.stage) }
+        ensures queue { self.new.queue ≡ self.old.queue }
     {
-        !self.queue.is_empty() || control == ControlStands::Owes || self.are_more_away
+        // A failed wait reports nothing.
+        let _polled = self.poll.poll(&mut self.events, most);
+    }
+
+    // Asks the system what it has to report, without waiting.
+    fn ask(&mut self)
+        ensures queue { self.new.queue ≡ self.old.queue }
+    {
+        let _polled = self.poll.poll(&mut self.events, Some(Duration::ZERO));
+    }
+
+    // Returns how long the loop may sleep: no longer than until something is due or a pause of the
+    // doors ends. `None` is a wait without a limit.
+    fn longest_wait(&self, news: News) -> Option<Duration>
+        ensures due { IsNoLonger (option_map as_nanos result) news.due }
+        ensures rest { rests self.now.accepts.rest ≡ true → IsNoLonger (option_map as_nanos result) (Some 100) }
+    {
+        longest_wait(news.due, self.accepts.rests_for(self.rt))
+    }
+
+    // Returns true if the loop must not sleep: a seat is queued, or checks for a client that may have
+    // come, the control line is read or owes a step, connections are left to close, or something is
+    // due now.
+    fn is_busy(&self, news: News) -> bool
+        ensures queue { result ≡ false → self.now.queue.queue ≡ [] }
+        ensures doors { result ≡ false → (self.now.queue.free ≡ []) ⊎ (may_come self.now.accepts ≡ false) }
+        ensures control { result ≡ false → IsControlStill self.now.control news.control }
+        ensures away { result ≡ false → self.now.are_more_away ≡ false }
+        ensures due { result ≡ false → news.due ≡ Some 0 → ⊥ }
+    {
+        if !self.queue.is_empty() || self.are_more_away {
+            return true;
+        }
+        if self.accepts.may_come() && !self.queue.is_none_free() {
+            return true;
+        }
+        if let Some(0) = news.due {
+            return true;
+        }
+        self.control.reads(news.control).is_some()
     }
 }
 
 impl<'r, R: rt::Clock> Turns for Poller<'r, R> {
+    ghost seats = { λ poller. poller.queue.seats };
+
+    ghost listed = { λ poller. is_listed poller.queue (visited_by poller.stage poller.visit) };
+
+    ghost looks = { λ poller. is_looking poller.queue };
+
     // A poller may be used for any run.
     ghost is_of = { λ begun. Unit {0} };
 
@@ -501,29 +695,29 @@ impl<'r, R: rt::Clock> Turns for Poller<'r, R> {
         &mut self,
         alloc: Global,
         row: &mut Row<L, D>,
+        mails: &Vec<Mail, Global>,
         news: News,
         _began: &Began<D, C, I>,
-        _so_far: SoFar<C, I, K>,
+        so_far: SoFar<C, I, K>,
     ) -> Turn {
         self.reading = news.elapsed;
         match self.stage {
-            Stage::Control => self.control_turn(alloc, row, news),
+            Stage::Control => self.control_turn(alloc, row, mails, news),
             Stage::ControlRead => {
                 self.control.watch_on(self.poll.registry(), news.control);
-                self.look_at_next(alloc, row)
+                self.look_at_next(alloc, row, mails)
             }
-            Stage::Doors => self.look_at_next(alloc, row),
-            Stage::Visits(part) => self.go_on(alloc, row, part, news.progress),
+            Stage::Doors => self.look_at_next(alloc, row, mails),
+            Stage::Visits(part) => self.begin_next(alloc, row, mails, part),
+            Stage::Visit(part) => self.go_on(alloc, row, mails, part, news.progress),
             Stage::Wait => {
-                self.wait(row, news);
-                self.control_turn(alloc, row, news)
+                self.wait(row, mails, news, &so_far);
+                self.control_turn(alloc, row, mails, news)
             }
         }
     }
 
-    fn wake(&mut self, seat: usize)
-        ensures { self.new.queue ≡ enqueued seat self.old.queue }
-    {
+    fn wake(&mut self, seat: usize) {
         self.queue.enqueue(seat);
     }
 }
@@ -568,28 +762,36 @@ fn pause_of<L: Line + Drop, D: Door<Line = L>>(visit: &Visit, row: &Row<L, D>) -
 // read of the control line.
 fn note_events<L: Line + Drop, D: Door<Line = L>>(
     row: &mut Row<L, D>,
+    mails: &Vec<Mail, Global>,
     events: &Events,
     queue: &mut SeatQueue,
     accepts: &mut Accepts,
     control: &mut ControlWatch,
 )
     requires tended { AreTended L.seen (door_seen D.is_out D.is_at_end D.lines_over) row.old }
+    requires known { AreKnownTo L.may_give L.may_take queue.old None row.old.seats.items mails.now.items }
     ensures keeps { KeepsRow L.seen (door_seen D.is_out D.is_at_end D.lines_over) D.same row.old row.new }
+    ensures known { AreKnownTo L.may_give L.may_take queue.new None row.new.seats.items mails.now.items }
+    ensures seats { queue.new.seats ≡ queue.old.seats }
 {
     for event in events.iter() {
-        note_event(row, event, queue, accepts, control);
+        note_event(row, mails, event, queue, accepts, control);
     }
 }
 
 fn note_event<L: Line + Drop, D: Door<Line = L>>(
     row: &mut Row<L, D>,
+    mails: &Vec<Mail, Global>,
     event: &Event,
     queue: &mut SeatQueue,
     accepts: &mut Accepts,
     control: &mut ControlWatch,
 )
     requires tended { AreTended L.seen (door_seen D.is_out D.is_at_end D.lines_over) row.old }
+    requires known { AreKnownTo L.may_give L.may_take queue.old None row.old.seats.items mails.now.items }
     ensures keeps { KeepsRow L.seen (door_seen D.is_out D.is_at_end D.lines_over) D.same row.old row.new }
+    ensures known { AreKnownTo L.may_give L.may_take queue.new None row.new.seats.items mails.now.items }
+    ensures seats { queue.new.seats ≡ queue.old.seats }
 {
     let token = event.token();
     if token == DOORS {

@@ -1,12 +1,14 @@
 //! The run of many doors by one thread that owns the core.
-ghost use Rattle.std.specs.Prelude.{◌≡◌, ◌↔◌, ◌&&◌, ◌==◌, true, false, not, length, IfOk, IsErrOf, IsTrue, vec_len};
+ghost use Rattle.std.specs.Prelude.{◌≡◌, ◌↔◌, ◌&&◌, ◌==◌, true, false, not, length, Ok, IfOk, IsErrOf, IsTrue, vec_len};
 ghost use Rattle.std.specs.List.{All};
 ghost use Rattle.bq_core_api.specs.Limits.{are_in_range};
 ghost use Rattle.bq_job.specs.laws.TheHeadline.{AreJobsServedIn};
 ghost use Rattle.bq_line.specs.Tending.{AreSame, IsNewDoor, IsNewSeat, door_seen};
 ghost use Rattle.bq_event_loop.specs.EventLoopRuns.{IsEventLoopRun, IsEventLoopSoFar};
+ghost use Rattle.bq_event_loop.specs.Known.{KnowsAll};
 ghost use Rattle.bq_event_loop.specs.LoopCores.{state_of};
 ghost use Rattle.bq_event_loop.specs.SoFar.{beginning};
+ghost use Rattle.bq_event_loop.specs.WakeLists.{none_waits};
 ghost use Rattle.bq_host.specs.MailStates.{IsInOrder, IsNewMailState};
 
 use crate::control_turns::ControlTurns;
@@ -66,6 +68,7 @@ impl<T: Turns + Drop, L: Line + Drop, C: Clock + Drop, K: QueueCore + Drop> Even
         ensures new { IfOk result (λ ready. IsNewLoop K.machine K.comparisons ready) }
         ensures config { IfOk result (λ ready. ready.config ≡ config) }
         ensures clock { IfOk result (λ ready. ready.core.timed.time.clock ≡ clock) }
+        ensures turns { IfOk result (λ ready. turns ≡ Ok ready.turns) }
         ensures bad_configuration { IsErrOf result RunFault.BadConfiguration ↔ IsTrue
             (not (are_in_range config)) }
     {
@@ -102,6 +105,8 @@ impl<T: Turns + Drop, L: Line + Drop, C: Clock + Drop, K: QueueCore + Drop> Even
         // The turns are for this run.
         requires of_run { T.is_of (beginning self.config doors.items self.core.timed.time.clock
             (I.remaining control) (I.may_fail control)) }
+        // They know each seat.
+        requires knows { KnowsAll self.config.seats (T.seats self.turns) (T.listed self.turns) (T.looks self.turns) }
         // There is one history of the steps of all clients and of the control line, each at the
         // moment of a reading of the clock. The one-list machine takes this history, the core
         // represents the machine after it, and each line received exactly the bytes that the
@@ -164,6 +169,8 @@ pub fn run_turns<
         (λ door. IsNewDoor (door_seen D.is_out D.is_at_end D.lines_over door)) doors.items }
     // The turns are for this run.
     requires of_run { T.is_of (beginning config doors.items clock (I.remaining control) (I.may_fail control)) }
+    // They know each seat.
+    requires knows { IfOk turns (λ t. KnowsAll config.seats (T.seats t) (T.listed t) (T.looks t)) }
     // There is one history of the steps of all clients and of the control line, each at the moment
     // of a reading of the clock. The one-list machine takes this history, the core represents the
     // machine after it, and each line received exactly the bytes that the history prescribes for
@@ -220,6 +227,8 @@ fn run_at<
     requires many { length seats.items ≡ config.seats }
     requires doored { length doors.items ≡ config.seats }
     requires of_run { T.is_of (beginning config doors.items core.timed.time.clock (I.remaining control) (I.may_fail control)) }
+    requires knows { KnowsAll config.seats (T.seats turns.old) (T.listed turns.old) (T.looks turns.old) }
+    requires woken { core.woken ≡ none_waits (length core.mails.items) }
     requires new_seats { All (IsNewSeat config.max_job_size) seats.items }
     requires new_doors { All
         (λ door. IsNewDoor (door_seen D.is_out D.is_at_end D.lines_over door)) doors.items }

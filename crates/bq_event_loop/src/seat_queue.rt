@@ -141,6 +141,13 @@ impl SeatQueue {
         self.queue.is_empty()
     }
 
+    /// Returns true if no seat checks for a connection.
+    pub fn is_none_free(&self) -> bool
+        ensures { IsTrue result ↔ (self.now.free ≡ []) }
+    {
+        self.free.is_empty()
+    }
+
     /// Begins a part of a round, which visits all seats that are in the queue now.
     pub fn begin_round(&mut self)
         ensures { self.new ≡ record self.old { round = length self.old.queue; at = 0 } }

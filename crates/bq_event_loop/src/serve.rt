@@ -1,14 +1,16 @@
 //! Many seats, which one thread serves in any order.
-ghost use Rattle.std.specs.Prelude.{◌≡◌, ◌≤◌, true, [], List, length, slice_index_or};
+ghost use Rattle.std.specs.Prelude.{◌≡◌, ◌≤◌, true, false, [], List, length, slice_index_or};
 ghost use Rattle.bq_job.specs.declared.step.Step.{Step};
 ghost use Rattle.bq_line.specs.Tending.{door_seen};
 ghost use Rattle.bq_event_loop.specs.ControlTold.{TellsOn};
 ghost use Rattle.bq_host.specs.MailStates.{IsInOrder};
-ghost use Rattle.bq_event_loop.specs.LoopCores.{WentAt, state_of};
+ghost use Rattle.bq_event_loop.specs.Known.{AreKnown, ChangesOnly, ChangesOnlyIn};
+ghost use Rattle.bq_event_loop.specs.LoopCores.{WentAt, WentInOrder, state_of};
 ghost use Rattle.bq_event_loop.specs.Rows.{AreDone};
 ghost use Rattle.bq_event_loop.specs.Serving.{AreReady, AreReadyFor, IsServing, ServesOn, TurnServes};
 ghost use Rattle.bq_event_loop.specs.SoFar.{beginning};
-ghost use Rattle.bq_event_loop.specs.WakeLists.{none_waits};
+ghost use Rattle.bq_event_loop.specs.Sleeping.{IsWaitFor, stands_of};
+ghost use Rattle.bq_event_loop.specs.WakeLists.{Wakes, none_waits};
 ghost use Rattle.bq_event_loop.specs.declared.control_turns.Stage.TheVariants as stages;
 
 use crate::control_turns::ControlTurns;
@@ -49,6 +51,9 @@ pub fn serve<
     requires serving { IsServing C.given L.seen (door_seen D.is_out D.is_at_end D.lines_over) D.same I.seen I.remaining I.may_fail
         K.machine K.comparisons (beginning began.now.config.value began.now.doors.value.items began.now.clock.value
         (I.remaining began.now.control.value) (I.may_fail began.now.control.value)) core.old row.old control.old }
+    requires known { AreKnown L.may_give L.may_take (T.seats turns.old) (T.listed turns.old) (T.looks turns.old) []
+        row.old.seats.items core.old.mails.items }
+    requires woken { core.old.woken ≡ none_waits (length core.old.mails.items) }
     ensures done { result ≡ true → AreDone row.new.seats.items }
     ensures over { result ≡ true → control.new.stage ≡ stages.Over }
     ensures served { (told : List Step) × TellsOn I.seen I.remaining I.may_fail control.old told control.new
@@ -57,17 +62,24 @@ pub fn serve<
 {
     let mut news = News {
         progress: Progress::NothingToDo,
-        due: None,
+        due: Some(0),
         elapsed: core.timed.time.clock.elapsed(),
         control: control.stands(),
     };
     for _ in 0..u64::MAX {
-        let turn = turns.next(core.timed.alloc, row, news, began, so_far(control, core));
+        let turn = turns.next(
+            core.timed.alloc,
+            row,
+            &core.mails,
+            news,
+            began,
+            so_far(control, core),
+        );
         if take_turn(turn, row, control, core, buffers, &mut news) {
             return true;
         }
         news.elapsed = core.timed.time.clock.elapsed();
-        wake_all(turns, core);
+        wake_all(turns, row, core);
     }
     false
 }
@@ -77,11 +89,15 @@ fn so_far<C, I, K>(control: &ControlTurns<I>, core: &LoopCore<C, K>) -> SoFar<C,
     ensures clock { result.clock.value ≡ core.now.timed.time.clock }
     ensures control { result.control.value ≡ control.now.input }
     ensures core { result.core.value ≡ core.now.timed.core }
+    ensures whole_core { result.whole_core.value ≡ core.now }
+    ensures whole_control { result.whole_control.value ≡ control.now }
 {
     SoFar {
         clock: Snapshot::of(&core.timed.time.clock),
         control: Snapshot::of(&control.input),
         core: Snapshot::of(&core.timed.core),
+        whole_core: Snapshot::of(core),
+        whole_control: Snapshot::of(control),
     }
 }
 
@@ -106,29 +122,50 @@ fn take_turn<
     ensures served { (told : List Step) × TellsOn I.seen I.remaining I.may_fail control.old told control.new
         × TurnServes K.machine K.comparisons C.given L.seen (door_seen D.is_out D.is_at_end D.lines_over) D.same
         core.old row.old told core.new row.new }
+    ensures only { ChangesOnlyIn turn row.old.seats.items row.new.seats.items }
+    ensures wakes { Wakes core.old.mails.items core.new.mails.items core.old.woken core.new.woken }
+    ensures due { result ≡ false → IsWaitFor K.machine K.comparisons news.old.due core.old
+        → IsWaitFor K.machine K.comparisons news.new.due core.new }
+    ensures stands { news.old.control ≡ stands_of control.old.owes_drain control.old.stage
+        → news.new.control ≡ stands_of control.new.owes_drain control.new.stage }
 {
     match turn {
+        Turn::Nothing => false,
         Turn::Seat(seat) => {
             news.progress = serve_seat(row, core, seat, buffers, Extent::Action);
+            news.due = Some(0);
             false
         }
         Turn::Command(seat) => {
             news.progress = serve_seat(row, core, seat, buffers, Extent::Command);
+            news.due = Some(0);
             false
         }
         Turn::Control(reads) => {
             serve_control(control, core, reads);
             news.control = control.stands();
+            news.due = Some(0);
             false
         }
         Turn::Time => {
             if is_over(row, control) {
                 return true;
             }
-            news.due = core.pass_time();
+            news.due = pass_time(core);
             false
         }
     }
+}
+
+// Passes time. Returns how long the loop may wait, in milliseconds: not at all if an answer is left to
+// be sorted.
+fn pass_time<C: Clock + Drop, K: QueueCore + Drop>(core: &mut LoopCore<C, K>) -> Option<u64>
+    requires order { IsInOrder (state_of K.machine K.comparisons core.old) }
+    ensures went { WentInOrder K.machine K.comparisons C.given 0 core.old [] [] core.new }
+    ensures due { IsWaitFor K.machine K.comparisons result core.new }
+{
+    let due = core.pass_time();
+    if core.is_sorted { due } else { Some(0) }
 }
 
 fn is_over<L: Line + Drop, D: Door<Line = L>, I: ControlInput>(
@@ -141,11 +178,17 @@ fn is_over<L: Line + Drop, D: Door<Line = L>, I: ControlInput>(
     control.is_over() && row.are_done()
 }
 
-// Reports to the turns each seat that has mail. No seat is then left to be woken.
-fn wake_all<T: Turns, C: Clock + Drop, K: QueueCore + Drop>(
+// Reports to the turns each seat that has mail. No seat is then left to be woken. The row is passed
+// for the contract alone.
+fn wake_all<T: Turns, L: Line + Drop, D: Door<Line = L>, C: Clock + Drop, K: QueueCore + Drop>(
     turns: &mut T,
+    row: &Row<L, D>,
     core: &mut LoopCore<C, K>,
 )
+    requires known { AreKnown L.may_give L.may_take (T.seats turns.old) (T.listed turns.old) (T.looks turns.old)
+        core.old.woken.waiting row.now.seats.items core.old.mails.items }
+    ensures known { AreKnown L.may_give L.may_take (T.seats turns.new) (T.listed turns.new) (T.looks turns.new) []
+        row.now.seats.items core.new.mails.items }
     ensures none { core.new.woken ≡ none_waits core.old.woken.seats }
     ensures rest { core.new ≡ record core.old { woken = core.new.woken } }
 {
@@ -173,6 +216,8 @@ fn serve_seat<L: Line + Drop, D: Door<Line = L>, C: Clock + Drop, K: QueueCore +
     requires ready { AreReady K.machine K.comparisons L.seen (door_seen D.is_out D.is_at_end D.lines_over) core.old row.old }
     ensures served { TurnServes K.machine K.comparisons C.given L.seen (door_seen D.is_out D.is_at_end D.lines_over) D.same
         core.old row.old [] core.new row.new }
+    ensures only { ChangesOnly seat row.old.seats.items row.new.seats.items }
+    ensures wakes { Wakes core.old.mails.items core.new.mails.items core.old.woken core.new.woken }
 {
     if seat >= row.seats.len() {
         return Progress::NothingToDo;
@@ -195,6 +240,8 @@ fn act_to_extent<L: Line + Drop, D: Door<Line = L>, C: Clock + Drop, K: QueueCor
     requires ready { AreReadyFor K.machine K.comparisons L.seen (door_seen D.is_out D.is_at_end D.lines_over) seat core.old row.old }
     ensures served { TurnServes K.machine K.comparisons C.given L.seen (door_seen D.is_out D.is_at_end D.lines_over) D.same
         core.old row.old [] core.new row.new }
+    ensures only { ChangesOnly seat row.old.seats.items row.new.seats.items }
+    ensures wakes { Wakes core.old.mails.items core.new.mails.items core.old.woken core.new.woken }
 {
     match extent {
         Extent::Action => act_and_poll(row, core, seat, buffers),
@@ -212,6 +259,8 @@ fn do_command<L: Line + Drop, D: Door<Line = L>, C: Clock + Drop, K: QueueCore +
     requires ready { AreReadyFor K.machine K.comparisons L.seen (door_seen D.is_out D.is_at_end D.lines_over) seat core.old row.old }
     ensures served { TurnServes K.machine K.comparisons C.given L.seen (door_seen D.is_out D.is_at_end D.lines_over) D.same
         core.old row.old [] core.new row.new }
+    ensures only { ChangesOnly seat row.old.seats.items row.new.seats.items }
+    ensures wakes { Wakes core.old.mails.items core.new.mails.items core.old.woken core.new.woken }
 {
     let progress = read_and_ask(row, core, seat, buffers);
     if progress.has_moved() && row.seats[seat].writes() {
@@ -230,6 +279,8 @@ fn read_and_ask<L: Line + Drop, D: Door<Line = L>, C: Clock + Drop, K: QueueCore
     requires ready { AreReadyFor K.machine K.comparisons L.seen (door_seen D.is_out D.is_at_end D.lines_over) seat core.old row.old }
     ensures served { TurnServes K.machine K.comparisons C.given L.seen (door_seen D.is_out D.is_at_end D.lines_over) D.same
         core.old row.old [] core.new row.new }
+    ensures only { ChangesOnly seat row.old.seats.items row.new.seats.items }
+    ensures wakes { Wakes core.old.mails.items core.new.mails.items core.old.woken core.new.woken }
 {
     let progress = act_and_poll(row, core, seat, buffers);
     if progress.has_moved() && row.seats[seat].submits() {
@@ -248,6 +299,8 @@ fn act_and_poll<L: Line + Drop, D: Door<Line = L>, C: Clock + Drop, K: QueueCore
     requires ready { AreReadyFor K.machine K.comparisons L.seen (door_seen D.is_out D.is_at_end D.lines_over) seat core.old row.old }
     ensures served { TurnServes K.machine K.comparisons C.given L.seen (door_seen D.is_out D.is_at_end D.lines_over) D.same
         core.old row.old [] core.new row.new }
+    ensures only { ChangesOnly seat row.old.seats.items row.new.seats.items }
+    ensures wakes { Wakes core.old.mails.items core.new.mails.items core.old.woken core.new.woken }
 {
     let progress = act(row, core, seat, buffers);
     if progress.has_moved() && row.seats[seat].polls_mail() {
@@ -265,6 +318,8 @@ fn act<L: Line + Drop, D: Door<Line = L>, C: Clock + Drop, K: QueueCore + Drop>(
     requires ready { AreReadyFor K.machine K.comparisons L.seen (door_seen D.is_out D.is_at_end D.lines_over) seat core.old row.old }
     ensures served { TurnServes K.machine K.comparisons C.given L.seen (door_seen D.is_out D.is_at_end D.lines_over) D.same
         core.old row.old [] core.new row.new }
+    ensures only { ChangesOnly seat row.old.seats.items row.new.seats.items }
+    ensures wakes { Wakes core.old.mails.items core.new.mails.items core.old.woken core.new.woken }
 {
     attend(
         &mut row.seats[seat],

@@ -1,13 +1,15 @@
 //! Whether nothing moves at a seat until its line is ready or it has mail.
-ghost use Rattle.std.specs.Prelude.{◌≡◌, ◌⊎◌, ◌&&◌, [], true, false, List};
+ghost use Rattle.std.specs.Prelude.{◌≡◌, ◌⊎◌, ◌&&◌, [], true, false, List, slice_index_or};
 ghost use Rattle.bq_job.specs.declared.answer.Answer.{Answer};
 ghost use Rattle.bq_seat.specs.Outstanding.{ReadsWith};
 ghost use Rattle.bq_seat.specs.SeatParts.{would_read};
 ghost use Rattle.bq_event_loop.specs.Still.{IsStill, IsStillOn};
 
+use bq_host::Mail;
 use bq_line::attendant::{Attendant, LinePlace};
 use bq_line::line::Line;
 use bq_seat::{Action, SeatMachine};
+use std::alloc::Global;
 
 /// Returns true if the next action of a seat would move nothing, and so would the one after it.
 /// `has_none` says that it has no mail now.
@@ -53,4 +55,14 @@ fn polls_nothing<L: Line>(machine: &SeatMachine, line: &L, has_none: bool) -> bo
         return false;
     }
     !line.may_give() || !machine.would_read()
+}
+
+/// Returns true if this seat has no mail.
+pub fn has_no_mail(mails: &Vec<Mail, Global>, seat: usize) -> bool
+    ensures { result ≡ true → slice_index_or mails.now.items seat [] ≡ [] }
+{
+    match mails.get(seat) {
+        Some(mail) => mail.is_empty(),
+        None => false,
+    }
 }

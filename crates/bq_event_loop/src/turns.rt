@@ -1,12 +1,16 @@
 //! The choice of the next action.
-ghost use Rattle.std.specs.Prelude.{◌≡◌};
+ghost use Rattle.std.specs.Prelude.{ℕ, ◌≡◌, ◌<◌, [], Bool, true};
 ghost use Rattle.bq_line.specs.Tending.{door_seen};
+ghost use Rattle.bq_event_loop.specs.Known.{AreApart, AreKnown, IsListedIn, KeepsAll};
 ghost use Rattle.bq_event_loop.specs.Rows.{AreTended, KeepsRow};
+ghost use Rattle.bq_event_loop.specs.Sleeping.{IsAtTurn};
 ghost use Rattle.bq_event_loop.specs.SoFar.{IsLoopSoFar, beginning};
 
+use crate::control_turns::ControlTurns;
+use crate::loop_core::LoopCore;
 use crate::row::Row;
 use bq_core_api::{Config, QueueCore};
-use bq_host::RunFault;
+use bq_host::{Mail, RunFault};
 use bq_line::Door;
 use bq_line::attendant::Progress;
 use bq_line::clock::Clock;
@@ -18,6 +22,8 @@ use std::snapshot::Snapshot;
 /// What the loop does next.
 #[derive(Clone, Copy)]
 pub enum Turn {
+    /// Nothing is done.
+    Nothing,
     /// One action of this seat. If it submits a step, the seat then checks for the answer too. If
     /// the seat does not exist, nothing is done. A seat without a line waits at its door until a
     /// client comes, and for ever if its listener does not wait: an order over such doors lets the
@@ -85,6 +91,10 @@ pub struct SoFar<C, I, K> {
     pub clock: Snapshot<C>,
     pub control: Snapshot<I>,
     pub core: Snapshot<K>,
+    /// The core with the answers that no seat has taken, and the control line with the steps that
+    /// it owes.
+    pub whole_core: Snapshot<LoopCore<C, K>>,
+    pub whole_control: Snapshot<ControlTurns<I>>,
 }
 
 /// The reason why turns could not be prepared.
@@ -112,11 +122,20 @@ impl TurnsFault {
 /// new lines at doors, and exchange read buffers. It cannot submit a step or take an answer, so
 /// nothing that it chooses or forgets makes an answer wrong.
 pub trait Turns {
+    /// How many seats they know.
+    ghost seats: { Self → ℕ };
+
+    /// The seats that they let act before they sleep.
+    ghost listed: { Self → ℕ → Bool };
+
+    /// The seats that they let check for a client before they sleep, if one may have come.
+    ghost looks: { Self → ℕ → Bool };
+
     /// What is known of the run that these turns are for, by what it began with.
     ghost is_of: { {B : Type 0} → B → Type 0 };
 
     /// Returns the next turn. It may wait here, but for no longer than `news.due`, and only after a
-    /// `Turn::Time`.
+    /// `Turn::Time`. `mails` are the answers that wait for each seat.
     fn next<
         L: Line + Drop,
         D: Door<Line = L>,
@@ -127,6 +146,7 @@ pub trait Turns {
         &mut self,
         alloc: Global,
         row: &mut Row<L, D>,
+        mails: &Vec<Mail, Global>,
         news: News,
         began: &Began<D, C, I>,
         so_far: SoFar<C, I, K>,
@@ -143,9 +163,23 @@ pub trait Turns {
             (I.remaining began.now.control.value) (I.may_fail began.now.control.value))
             row.old.seats.items row.old.doors.items so_far.clock.value (I.seen so_far.control.value)
             (I.remaining so_far.control.value) so_far.core.value }
-        ensures keeps { KeepsRow L.seen (door_seen D.is_out D.is_at_end D.lines_over) D.same row.old row.new };
+        // No seat is forgotten: it acts, or it checks for a client, or nothing moves at it. Each seat
+        // that has mail was woken for it. A wait of `news.due` ends in time.
+        requires turn { IsAtTurn L.may_give L.may_take K.machine K.comparisons (seats self.old) (listed self.old) (looks self.old)
+            row.old.seats.items mails.now.items news.due news.control so_far.whole_core.value so_far.whole_control.value }
+        ensures keeps { KeepsRow L.seen (door_seen D.is_out D.is_at_end D.lines_over) D.same row.old row.new }
+        ensures seats { seats self.new ≡ seats self.old }
+        ensures known { AreKnown L.may_give L.may_take (seats self.new) (listed self.new) (looks self.new) []
+            row.new.seats.items mails.now.items }
+        // Only a seat that is let act does.
+        ensures acts { IsListedIn (listed self.new) result };
 
     /// Reports that a seat has mail, which another seat's step or a tick put there, so that the
-    /// seat can act.
-    fn wake(&mut self, seat: usize);
+    /// seat can act. It is let act then, unless it checks for a client.
+    fn wake(&mut self, seat: usize)
+        ensures seats { seats self.new ≡ seats self.old }
+        ensures woken { seat < seats self.old → (looks self.old seat ≡ true → ⊥) → listed self.new seat ≡ true }
+        ensures keeps { KeepsAll (listed self.old) (listed self.new) }
+        ensures looking { (other : ℕ) → looks self.new other ≡ looks self.old other }
+        ensures apart { AreApart (listed self.old) (looks self.old) → AreApart (listed self.new) (looks self.new) };
 }

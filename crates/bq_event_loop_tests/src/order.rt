@@ -1,10 +1,12 @@
 //! Orders in which the seats of a run act.
+ghost use Rattle.std.specs.Prelude.{◌≡◌, true, false, length};
 ghost use Rattle.bq_line.specs.Tending.{door_seen};
 ghost use Rattle.bq_event_loop.specs.Rows.{AreTended, KeepsRow};
 
 use crate::together::Together;
 use bq_core_api::QueueCore;
 use bq_event_loop::{Began, ControlReads, News, Row, SoFar, Turn, Turns};
+use bq_host::Mail;
 use bq_line::clock::Clock;
 use bq_line::control_line::ControlInput;
 use bq_line::line::Line;
@@ -169,8 +171,7 @@ impl<'t> Order<'t> {
             }
             (Stage::Seats, None) => {
                 self.stage = Stage::Time;
-                // There is no such seat.
-                Turn::Seat(MOST)
+                Turn::Nothing
             }
             (Stage::Time, _) => {
                 self.stage = Stage::Control;
@@ -194,6 +195,13 @@ impl<'t> Order<'t> {
 }
 
 impl<'t> Turns for Order<'t> {
+    // It never sleeps, so each seat acts before it does.
+    ghost seats = { λ order. 65535 };
+
+    ghost listed = { λ order seat. true };
+
+    ghost looks = { λ order seat. false };
+
     // An order may be used for any run.
     ghost is_of = { λ begun. Unit {0} };
 
@@ -207,6 +215,7 @@ impl<'t> Turns for Order<'t> {
         &mut self,
         alloc: Global,
         row: &mut Row<L, D>,
+        _mails: &Vec<Mail, Global>,
         news: News,
         _began: &Began<D, C, I>,
         _so_far: SoFar<C, I, K>,
@@ -250,6 +259,7 @@ fn look_if_free<L: Line + Drop, D: Door<Line = L>>(
 )
     requires tended { AreTended L.seen (door_seen D.is_out D.is_at_end D.lines_over) row.old }
     ensures keeps { KeepsRow L.seen (door_seen D.is_out D.is_at_end D.lines_over) D.same row.old row.new }
+    ensures many { length row.new.seats.items ≡ length row.old.seats.items }
 {
     if matches!(rule, Rule::Next | Rule::Woken) {
         let _looked = row.look(alloc, seat, true, &Nobody);

@@ -188,9 +188,14 @@ impl<'t> Script<'t> {
 }
 
 impl<'t> Duplex for Script<'t> {
-    ghost use Rattle.std.specs.Prelude.{true};
+    ghost use Rattle.std.specs.Prelude.{false, true};
 
     ghost may_fail = { λ _. true };
+
+    // What it gives and takes depends on the other scripts, so nothing is said of it here.
+    ghost may_give = { λ script. false };
+
+    ghost may_take = { λ script. false };
 
     fn read(&mut self, buf: &mut [u8]) -> Result<usize, StreamError> {
         if self.all.has_given_up() {

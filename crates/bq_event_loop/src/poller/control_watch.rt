@@ -1,4 +1,5 @@
 //! When the control line is read, and how far.
+ghost use Rattle.std.specs.Prelude.{◌≡◌, None};
 
 use super::CONTROL;
 use crate::turns::{ControlReads, ControlStands, TurnsFault};
@@ -23,6 +24,8 @@ pub enum ControlWatch {
 }
 
 impl ControlWatch {
+    ghost use Rattle.bq_event_loop.specs.Sleeping.{IsControlStill};
+
     /// Registers the descriptor, and returns the initial state. Without a descriptor, or with one
     /// of a file, the line cannot be watched. Any other error is returned as `Refused`: a pipe that
     /// was taken for a file would be read until its other end is closed, before any client is
@@ -55,7 +58,9 @@ impl ControlWatch {
 
     /// Returns how far the line is read in this round, if at all. Bytes that its reader held before
     /// the run are read only once the system reports more, so it has to be handed in empty.
-    pub fn reads(&self, stands: ControlStands) -> Option<ControlReads> {
+    pub fn reads(&self, stands: ControlStands) -> Option<ControlReads>
+        ensures { result ≡ None → IsControlStill self.now stands }
+    {
         match *self {
             ControlWatch::Whole => Some(ControlReads::ToEnd),
             ControlWatch::Watched { has_come, .. } => {
@@ -67,7 +72,7 @@ impl ControlWatch {
                     None
                 }
             }
-            _ => None,
+            ControlWatch::Over => None,
         }
     }
 

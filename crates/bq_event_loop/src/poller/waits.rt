@@ -1,20 +1,17 @@
 //! How long the loop waits for the system to report something.
-ghost use Rattle.std.specs.Prelude.{◌≡◌, ◌*◌, min, Some, if◌then◌else◌};
+ghost use Rattle.std.specs.Prelude.{◌≡◌, ◌*◌, min, Some};
 ghost use Rattle.std.specs.Option.{option_map};
 ghost use Rattle.std.specs.Duration.{as_nanos};
 ghost use Rattle.bq_event_loop.specs.Waits.{shorter_of};
 
 use std::time::Duration;
 
-/// Returns the longest wait: none if the loop has something to do, and otherwise until something is
-/// due, in milliseconds, or a pause ends, whichever is first. `None` is a wait without a limit.
-pub fn longest_wait(is_busy: bool, due: Option<u64>, rest: Option<Duration>) -> Option<Duration>
+/// Returns the longest wait: until something is due, in milliseconds, or a pause ends, whichever is
+/// first. `None` is a wait without a limit.
+pub fn longest_wait(due: Option<u64>, rest: Option<Duration>) -> Option<Duration>
     ensures { option_map as_nanos result
-        ≡ (if is_busy then Some 0 else shorter_of (option_map (λ ms. ms * 1000000) due) (option_map as_nanos rest)) }
+        ≡ shorter_of (option_map (λ ms. ms * 1000000) due) (option_map as_nanos rest) }
 {
-    if is_busy {
-        return Some(Duration::ZERO);
-    }
     match due {
         Some(ms) => Some(until(Duration::from_millis(ms), rest)),
         None => rest,

@@ -13,6 +13,7 @@ use Rattle.bq_event_loop.proofs.ControlLemmas.{told_all}
 use Rattle.bq_event_loop.proofs.RowLemmas.{same_selves, tended_at_first}
 use Rattle.bq_event_loop.proofs.SessionsLemmas.{begins_served, ends_closed, ends_history}
 use Rattle.bq_event_loop.proofs.SoFarLemmas.{same_beginning, serving_first, serving_on, serving_so_far, settings_so_far}
+use Rattle.bq_event_loop.proofs.KnownLemmas.{known_at_first}
 use Rattle.bq_event_loop.proofs.run.run_at.Goals as goal
 
 -- The control line, as it is seen.
@@ -58,6 +59,10 @@ serve-is_over-requires g c =
           (λ (line : ControlLine g.row.I.Denot). g.I.ControlReader.may_fail line.reader)
           g.K.QueueCore.machine g.K.QueueCore.comparisons x c.args.core (record { seats = c.args.seats; doors = c.args.doors })
           c.new-control.result) (sym begun_is) first;
+      known = known_at_first g.L.Line.may_give g.L.Line.may_take (g.T.Turns.seats c.args.turns.now) c.args.config.seats
+          (g.T.Turns.listed c.args.turns.now) (g.T.Turns.looks c.args.turns.now) c.args.seats.items c.args.core.mails.items
+          c.args.config.max_job_size c.requires.many c.requires.knows c.requires.new_seats;
+      woken = c.requires.woken;
     }
 
 pub returns-clause-served : goal.returns-clause-served

@@ -3,6 +3,8 @@ use Rattle.std.proofs.lemmas.Bool.{cases_Bool, eq-eqb}
 use Rattle.bq_core_api.specs.Limits.{are_in_range}
 use Rattle.bq_job.specs.declared.settings.Settings.{Settings}
 use Rattle.bq_event_loop.specs.EventLoopRuns.{IsEventLoopRun, IsEventLoopSoFar}
+use Rattle.std.specs.Prelude.{IfOk}
+use Rattle.bq_event_loop.specs.Known.{KnowsAll}
 use Rattle.bq_event_loop.specs.SoFar.{beginning}
 use Rattle.bq_event_loop.proofs.run.run_turns.Goals as goal
 
@@ -23,6 +25,10 @@ run-requires g c =
       of_run = by_parts (λ (s : Settings) (k : g.row.C.Denot). g.T.Turns.is_of (beginning s c.args.doors.items k
           (g.I.Read.remaining c.args.control) (g.I.ControlReader.may_fail c.args.control))) _ _ _ _ (sym e.config) (sym e.clock)
           c.requires.of_run;
+      knows = subst (λ (s : Settings). KnowsAll s.seats (g.T.Turns.seats c.in_ok-ready.ready.turns)
+          (g.T.Turns.listed c.in_ok-ready.ready.turns) (g.T.Turns.looks c.in_ok-ready.ready.turns)) (sym e.config)
+          (subst (λ r. IfOk r (λ t. KnowsAll c.args.config.seats (g.T.Turns.seats t) (g.T.Turns.listed t) (g.T.Turns.looks t))) e.turns
+          c.requires.knows);
     }
 
 pub returns-clause-served : goal.returns-clause-served

@@ -1,6 +1,10 @@
-use Rattle.std.proofs.Common.{◌≤◌, ◌++◌, ◌∙◌, [], subst, sym}
+use Rattle.std.proofs.Common.{◌≤◌, ◌++◌, ◌∙◌, [], ap, arith, inl, length, refl, subst, sym}
 use Rattle.bq_line.specs.Tending.{door_seen}
+use Rattle.bq_event_loop.specs.Sleeping.{IsWaitFor, stands_of}
 use Rattle.bq_event_loop.specs.SoFar.{beginning}
+use Rattle.bq_event_loop.specs.WakeLists.{none_waits}
+use Rattle.bq_event_loop.proofs.KnownLemmas.{known_after}
+use Rattle.bq_event_loop.proofs.SleepingLemmas.{wait_woken}
 use Rattle.bq_event_loop.proofs.ControlLemmas.{tells_none, tells_then}
 use Rattle.bq_event_loop.proofs.LoopCoreLemmas.{order_woken}
 use Rattle.bq_event_loop.proofs.RowLemmas.{rested_none}
@@ -19,6 +23,10 @@ loop-init g c =
         serves_none g.L.Line.seen at g.K.QueueCore.machine g.K.QueueCore.comparisons g.C.Clock.given g.D.Door.same
             c.args.core.now c.args.row.now,
       );
+      known = c.requires.known;
+      woken = c.requires.woken;
+      due = inl refl;
+      stands = c.stands.ensures;
     }
 
 pub take_turn-requires : goal.take_turn-requires
@@ -83,6 +91,30 @@ loop-preserved g c =
             c.take_turn.new.control i.0 t.0 i.1 t.1,
         all,
       );
+      known = c.wake_all.ensures.known;
+      woken = c.wake_all.ensures.none
+          ∙ ap none_waits (c.take_turn.ensures.wakes.seats ∙ ap (λ w. w.seats) c.loop.invariant.woken ∙ sym t.2.2.mailed
+          ∙ sym (ap (λ z. length z.mails.items) same));
+      due = subst (λ z. IsWaitFor machine compared c.take_turn.new.news.due z) (sym same)
+          (wait_woken machine compared c.take_turn.new.news.due core woken.woken
+          (c.take_turn.ensures.due c.if-take_turn.false c.loop.invariant.due));
+      stands = c.take_turn.ensures.stands c.loop.invariant.stands;
+    }
+
+pub wake_all-requires : goal.wake_all-requires
+wake_all-requires g c =
+    let row = c.loop.row in
+    let rests = c.next-turn.ensures.keeps.1 row (rested_none g.L.Line.seen
+    (door_seen g.D.Door.is_out g.D.Door.is_at_end g.D.Door.lines_over) g.D.Door.same row.seats.items row.doors.items) in
+    let turned = c.take_turn.ensures.served.2.2 in
+    let same = c.loop.invariant.ready.2 in
+    let next = c.next-turn.new.self in
+    record {
+      known = known_after g.L.Line.may_give g.L.Line.may_take (g.T.Turns.seats next) (g.T.Turns.listed next) (g.T.Turns.looks next)
+          c.next-turn.result c.next-turn.new.row.seats.items c.take_turn.new.row.seats.items c.loop.core.mails.items
+          c.take_turn.new.core.mails.items c.loop.core.woken c.take_turn.new.core.woken c.loop.invariant.woken
+          (omega (arith, turned.many, rests.many, same)) c.take_turn.ensures.wakes c.next-turn.ensures.acts c.take_turn.ensures.only
+          c.next-turn.ensures.known;
     }
 
 pub next-turn-requires : goal.next-turn-requires
@@ -105,4 +137,12 @@ next-turn-requires g c =
           g.I.ControlInput.seen g.I.ControlInput.remaining g.I.ControlInput.may_fail g.K.QueueCore.machine g.K.QueueCore.comparisons
           begun l.row.seats.items l.row.doors.items l.core.timed.time.clock _ l.control.input _ l.core.timed.core _
           c.so_far.ensures.clock c.so_far.ensures.control c.so_far.ensures.core so_far;
+      turn = record {
+        known = l.invariant.known;
+        mails_are = sym (ap (λ z. z.mails.items) c.so_far.ensures.whole_core);
+        woken = ap (λ z. z.woken.waiting) c.so_far.ensures.whole_core ∙ ap (λ w. w.waiting) l.invariant.woken;
+        in_time = subst (λ z. IsWaitFor g.K.QueueCore.machine g.K.QueueCore.comparisons l.news.due z) (sym c.so_far.ensures.whole_core)
+            l.invariant.due;
+        stands = l.invariant.stands ∙ sym (ap (λ z. stands_of z.owes_drain z.stage) c.so_far.ensures.whole_control);
+      };
     }

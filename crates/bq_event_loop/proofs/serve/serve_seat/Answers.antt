@@ -1,6 +1,8 @@
 use Rattle.std.proofs.Common.{[]}
 use Rattle.bq_line.specs.Tending.{door_seen}
+use Rattle.bq_event_loop.proofs.KnownLemmas.{changed_none}
 use Rattle.bq_event_loop.proofs.ServingLemmas.{serves_none, serves_on, serves_time}
+use Rattle.bq_event_loop.proofs.WakeLemmas.{wakes_none, wakes_then}
 use Rattle.bq_event_loop.proofs.serve.serve_seat.Goals as goal
 
 pub returns-then-seat-len : goal.returns-then-seat-len
@@ -13,6 +15,8 @@ returns-then-seat-len g c =
         serves_none g.L.Line.seen at g.K.QueueCore.machine g.K.QueueCore.comparisons g.C.Clock.given g.D.Door.same c.args.core.now
             c.args.row.now,
       );
+      only = changed_none c.args.row.now.seats.items c.args.seat;
+      wakes = wakes_none c.args.core.now.mails.items c.args.core.now.woken;
     }
 
 pub sort-all-requires : goal.sort-all-requires
@@ -32,4 +36,7 @@ returns-then-not-polls_mail g c =
             (serves_time g.L.Line.seen at g.K.QueueCore.machine g.K.QueueCore.comparisons g.C.Clock.given g.D.Door.same new.core
             c.sort-all.new.self new.row 0 c.sort-all.ensures.went.1),
       );
+      only = c.act_to_extent-progress.ensures.only;
+      wakes = wakes_then c.args.core.now.mails.items new.core.mails.items c.sort-all.new.self.mails.items c.args.core.now.woken
+          new.core.woken c.sort-all.new.self.woken c.act_to_extent-progress.ensures.wakes c.sort-all.ensures.went.1.1;
     }

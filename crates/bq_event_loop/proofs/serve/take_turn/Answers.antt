@@ -4,6 +4,19 @@ use Rattle.bq_event_loop.proofs.ControlLemmas.{tells_none}
 use Rattle.bq_event_loop.proofs.ServingLemmas.{serves_control, serves_none, serves_time}
 use Rattle.bq_event_loop.proofs.serve.take_turn.Goals as goal
 
+pub returns-in-Nothing-clause-served : goal.returns-in-Nothing-clause-served
+returns-in-Nothing-clause-served g c =
+    let at = door_seen g.D.Door.is_out g.D.Door.is_at_end g.D.Door.lines_over in (
+      [],
+      tells_none g.I.ControlInput.seen g.I.ControlInput.remaining g.I.ControlInput.may_fail c.args.control.now,
+      (
+        c.requires.ready.0,
+        c.requires.ready.1,
+        serves_none g.L.Line.seen at g.K.QueueCore.machine g.K.QueueCore.comparisons g.C.Clock.given g.D.Door.same
+            c.args.core.now c.args.row.now,
+      ),
+    )
+
 pub returns-then-is_over-clause-served : goal.returns-then-is_over-clause-served
 returns-then-is_over-clause-served g c =
     let at = door_seen g.D.Door.is_out g.D.Door.is_at_end g.D.Door.lines_over in (
@@ -57,6 +70,6 @@ returns-else-is_over-clause-served g c =
         c.pass_time-news.ensures.went.0,
         c.requires.ready.1,
         serves_time g.L.Line.seen at g.K.QueueCore.machine g.K.QueueCore.comparisons g.C.Clock.given g.D.Door.same c.args.core.now
-            c.pass_time-news.new.self c.args.row.now 0 c.pass_time-news.ensures.went.1,
+            c.pass_time-news.new.core c.args.row.now 0 c.pass_time-news.ensures.went.1,
       ),
     )

@@ -1,0 +1,66 @@
+-- What holds when an event loop waits for the system.
+use Rattle.std.specs.Prelude.{ℕ, ◌≡◌, ◌≤◌, ◌*◌, ◌⊎◌, Bool, true, false, List, [], Option, Some, None}
+use Rattle.bq_job.specs.beside.NextDue.{next_due}
+use Rattle.bq_job.specs.declared.answer.Answer.{Answer}
+use Rattle.bq_job.specs.machine.Machine.{Machine}
+use Rattle.bq_line.specs.declared.attendant.Attendant.{Attendant}
+use Rattle.bq_event_loop.specs.DueTimes.{IsWithinDue}
+use Rattle.bq_event_loop.specs.Known.{AreKnown}
+use Rattle.bq_event_loop.specs.LoopCores.{state_of}
+use Rattle.bq_event_loop.specs.declared.control_turns.ControlTurns.{ControlTurns}
+use Rattle.bq_event_loop.specs.declared.control_turns.Stage.{Stage}
+use Rattle.bq_event_loop.specs.declared.control_turns.Stage.TheVariants as stages
+use Rattle.bq_event_loop.specs.declared.loop_core.LoopCore.{LoopCore}
+use Rattle.bq_event_loop.specs.declared.poller.Stage.{Stage as Part}
+use Rattle.bq_event_loop.specs.declared.poller.Stage.TheVariants as parts
+use Rattle.bq_event_loop.specs.declared.poller.control_watch.ControlWatch.{ControlWatch}
+use Rattle.bq_event_loop.specs.declared.poller.control_watch.ControlWatch.TheVariants as watches
+use Rattle.bq_event_loop.specs.declared.poller.visits.Visit.{Visit}
+use Rattle.bq_event_loop.specs.declared.turns.ControlStands.{ControlStands}
+use Rattle.bq_event_loop.specs.declared.turns.ControlStands.TheVariants as stands
+
+-- the seat of the visit that is under way
+abbrev pub visited_by : Part → Visit → Option ℕ
+visited_by (parts.Visit part) visit = Some visit.seat
+visited_by _ visit = None
+
+-- the state of a control line
+abbrev pub stands_of : Bool → Stage → ControlStands
+stands_of owes stages.Over = stands.Over
+stands_of true _ = stands.Owes
+stands_of false stages.Ended = stands.Owes
+stands_of false stages.Reads = stands.Reads
+
+-- The control line was read to its end. Or it owes no step, and the system will report more of it.
+abbrev pub IsControlStill : ControlWatch → ControlStands → Type 0
+IsControlStill watches.Over standing = Unit {0}
+IsControlStill (watches.Watched fd false) stands.Owes = ⊥
+IsControlStill (watches.Watched fd false) _ = Unit {0}
+IsControlStill _ standing = ⊥
+
+-- The core has sorted all answers into the mail of their seats, and a wait of at most this many
+-- milliseconds ends no later than what is due.
+pub record MayWait {C K : Type 0} (machine : K → Machine) (compared : K → ℕ) (most : Option ℕ) (core : LoopCore C K) : Type 0 where
+  pub sorted : (state_of machine compared core).pending ≡ []
+  pub in_time : IsWithinDue most (next_due (machine core.timed.core)) core.timed.time.moment
+
+-- The same, or there is to be no wait at all.
+abbrev pub IsWaitFor : {C K : Type 0} → (K → Machine) → (K → ℕ) → Option ℕ → LoopCore C K → Type 0
+IsWaitFor machine compared most core = (most ≡ Some 0) ⊎ MayWait machine compared most core
+
+-- What holds between two turns. No seat is forgotten, and each seat that has mail was woken for it.
+-- A wait of `due` milliseconds ends in time. The control line stands so.
+pub record IsAtTurn {L C I K : Type 0} (gives takes : L → Bool) (machine : K → Machine) (compared : K → ℕ) (many : ℕ)
+    (listed looks : ℕ → Bool) (seats : List (Attendant L)) (mails : List (List Answer)) (due : Option ℕ) (standing : ControlStands)
+    (core : LoopCore C K) (control : ControlTurns I) : Type 0 where
+  pub known : AreKnown gives takes many listed looks [] seats mails
+  pub mails_are : mails ≡ core.mails.items
+  pub woken : core.woken.waiting ≡ []
+  pub in_time : IsWaitFor machine compared due core
+  pub stands : standing ≡ stands_of control.owes_drain control.stage
+
+-- A wait, in nanoseconds, that is no longer than this limit in milliseconds.
+abbrev pub IsNoLonger : Option ℕ → Option ℕ → Type 0
+IsNoLonger wait None = Unit {0}
+IsNoLonger None (Some most) = ⊥
+IsNoLonger (Some wait) (Some most) = wait ≤ most * 1000000
