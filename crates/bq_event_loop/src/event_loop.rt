@@ -25,8 +25,9 @@ use std::rt;
 /// `control_source`, its descriptor, as ready. If there is no descriptor, or it is that of a file,
 /// the control line is read to its end before any door is checked.
 ///
-/// Doors must not block when they are checked, and share one listener. The errors are those of `run_turns`, and
-/// `ThreadRefused` if the system refused epoll, or refused to watch a door or the control line.
+/// Doors must not block when they are checked, and share one listener. The errors are those of
+/// `run_turns`, and `ThreadRefused` if the doors have several listeners, or the system refused epoll
+/// or to watch the listener or the control line.
 pub fn run_event_loop<
     R: Net + rt::Clock,
     L: Line + Drop,

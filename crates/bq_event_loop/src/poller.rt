@@ -7,7 +7,7 @@
 //! Of the seats that came into the queue since the last wait, all lines are read first, then all
 //! steps are taken, and then all answers are written, so that each part finds its code and data in
 //! the processor's caches. Seats that were in the queue before come last.
-ghost use Rattle.std.specs.Prelude.{◌≡◌, ◌⊎◌, [], true, false, None, Some, IfOk, if◌then◌else◌};
+ghost use Rattle.std.specs.Prelude.{◌≡◌, ◌⊎◌, [], true, false, None, Some, IfOk, IfSome, if◌then◌else◌};
 ghost use Rattle.std.specs.Option.{option_map};
 ghost use Rattle.std.specs.Duration.{as_nanos};
 ghost use Rattle.bq_line.specs.Tending.{door_seen};
@@ -53,9 +53,6 @@ const CONTROL: Token = Token(usize::MAX);
 
 /// The token of the doors.
 const DOORS: Token = Token(usize::MAX - 1);
-
-/// The Linux error number that means that a descriptor is registered already, EEXIST.
-const IS_WATCHED: i32 = 17;
 
 /// How many connections are closed in a round while all seats are taken.
 const TURNED_AWAY: u32 = 64;
@@ -127,7 +124,8 @@ impl<'r, R: Net + rt::Clock> Poller<'r, R> {
     /// checked.
     ///
     /// Returns `NoMemory` if an allocation failed. Returns `Refused` if the system refused epoll or
-    /// does not report a door or the control line, since that would never be looked at.
+    /// does not report a door or the control line, since that would never be looked at, and if the
+    /// doors have more than one listener.
     pub fn new<L: Line + Drop, D: Door<Line = L>>(
         rt: &'r R,
         alloc: Global,
@@ -722,31 +720,37 @@ impl<'r, R: rt::Clock> Turns for Poller<'r, R> {
     }
 }
 
-// Registers the listener of each door.
+// Registers the listener of the doors. They have to share it: what is known of connections that wait
+// is known of one listener.
 fn watch_doors<L: Line + Drop, D: Door<Line = L>>(
     registry: &Registry,
     doors: &[D],
 ) -> Result<(), TurnsFault> {
+    let mut watched = None;
     for door in doors {
         if let Some(fd) = door.source() {
-            watch_door(registry, fd)?;
+            watch_listener(registry, watched, fd)?;
+            watched = Some(fd);
         }
     }
     Ok(())
 }
 
-// Most doors share a listener, which is registered once: the system rejects the other
-// registrations.
-fn watch_door(registry: &Registry, fd: RawFd) -> Result<(), TurnsFault> {
+// Registers the listener of a door, unless it is the one that is registered. Another one is
+// refused.
+fn watch_listener(registry: &Registry, watched: Option<RawFd>, fd: RawFd) -> Result<(), TurnsFault>
+    ensures one { IfOk result (λ done. IfSome watched (λ first. fd ≡ first)) }
+{
+    if let Some(first) = watched {
+        return if fd == first {
+            Ok(())
+        } else {
+            Err(TurnsFault::Refused)
+        };
+    }
     match registry.register(&mut SourceFd(&fd), DOORS, Interest::READABLE) {
         Ok(()) => Ok(()),
-        Err(e) => {
-            if e.raw_os_error() == Some(IS_WATCHED) {
-                Ok(())
-            } else {
-                Err(TurnsFault::Refused)
-            }
-        }
+        Err(_) => Err(TurnsFault::Refused),
     }
 }
 
