@@ -23,6 +23,14 @@ IsLookedFor seen is_out is_at_end (Ok openings.Later) = (is_out ≡ false) × (i
 IsLookedFor seen is_out is_at_end (Ok openings.NoMore) = (is_out ≡ false) × (is_at_end ≡ true)
 IsLookedFor seen is_out is_at_end (Err e) = (is_out ≡ false) × (is_at_end ≡ true)
 
+-- If a line was opened, this holds of it.
+abbrev pub IfLine : {L E : Type 0} → Result (Opening L) E → (L → Type 0) → Type 0
+IfLine (Ok (openings.Line line)) P = P line
+IfLine (Ok openings.NotYet) P = Unit {0}
+IfLine (Ok openings.Later) P = Unit {0}
+IfLine (Ok openings.NoMore) P = Unit {0}
+IfLine (Err e) P = Unit {0}
+
 -- No line was opened, and no fault was met.
 abbrev pub IsNoneFound : {L E : Type 0} → Result (Opening L) E → Type 0
 IsNoneFound (Ok (openings.Line line)) = ⊥

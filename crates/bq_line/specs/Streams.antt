@@ -1,5 +1,5 @@
 -- The state of a stream in both directions, what a line over it moved, and why it may have failed.
-use Rattle.std.specs.Prelude.{ℕ, ◌≡◌, ◌<◌, Bool, false, true, List, length, Option, None, Some, Result, Ok, Err, IfSome}
+use Rattle.std.specs.Prelude.{ℕ, ◌≡◌, ◌<◌, Bool, false, true, List, length, Option, None, Some, Result, Ok, Err, IfSome, IsSome}
 use Rattle.std.specs.Io.{ReadsAtMost, WritesAtMost}
 use Rattle.std.specs.Io.KnownBytes.{Appends, Consumes, Keeps, ReadConsumes, WriteAppends}
 use Rattle.bq_job.specs.promise.LineSteps.{LineSeen}
@@ -49,6 +49,10 @@ abbrev pub StaysWatched : {S A : Type 0} → (Bool → S → Bool) → Option A 
 StaysWatched is_nonblocking None old now new = Unit {0}
 StaysWatched is_nonblocking (Some known) old None new = ⊥
 StaysWatched is_nonblocking (Some known) old (Some now) new = KeepsWaits is_nonblocking old new
+
+-- A stream is watched, and was set not to wait.
+abbrev pub IsWatched : {S A : Type 0} → (Bool → S → Bool) → Option A → S → Type 0
+IsWatched is_nonblocking ready stream = IsSome ready × (is_nonblocking true stream ≡ true)
 
 -- No byte was read from the stream, and none was written to it.
 abbrev pub MovesNothing : {S : Type 0} → (S → Option (List ℕ)) → (S → Option (List ℕ)) → S → S → Type 0

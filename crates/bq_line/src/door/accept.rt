@@ -1,6 +1,7 @@
 //! Accepts the next connection of a listener.
-ghost use Rattle.std.specs.Prelude.{◌≡◌, OnErr, true};
-ghost use Rattle.bq_line.specs.Accepts.{ends_listener, is_listener_fault};
+ghost use Rattle.std.specs.Prelude.{◌≡◌, IfOk, OnErr, true};
+ghost use Rattle.bq_line.specs.Accepts.{IfCame, ends_listener, is_listener_fault};
+ghost use Rattle.bq_line.specs.Streams.{IsWatched};
 
 use super::refusals::{Met, Refusals};
 use super::{Listen, TurnedAway, Watcher};
@@ -83,8 +84,8 @@ pub(super) enum Accepted<S> {
     Short,
 }
 
-/// Accepts the next connection of a listener that was set not to wait, and has it watched. `is_met` is
-/// true if an error occurred since the last connection was accepted; such an error is reported
+/// Accepts the next connection of a listener that was set not to wait, and has it watched. `is_met`
+/// is true if an error occurred since the last connection was accepted; such an error is reported
 /// once, and so are many clients in a row that had disconnected.
 pub(super) fn accept_now<R: Eprint, T: Listen, W: Watcher>(
     rt: &R,
@@ -93,7 +94,8 @@ pub(super) fn accept_now<R: Eprint, T: Listen, W: Watcher>(
     is_met: &mut bool,
     watcher: &W,
 ) -> io::Result<Accepted<T::Stream>>
-    ensures { OnErr result (T.may_fail listener.now ≡ true) }
+    ensures fault { OnErr result (T.may_fail listener.now ≡ true) }
+    ensures watched { IfOk result (λ a. IfCame a (λ c. IsWatched T.Stream.is_nonblocking c.ready c.stream)) }
 {
     let mut met = Met::before(refusals, *is_met);
     for _ in 0..PEERS {
@@ -136,7 +138,10 @@ fn take_watched<R: Eprint, S: Socket + Drop, W: Watcher>(
     watcher: &W,
     mut met: Met<'_>,
     is_met: &mut bool,
-) -> Accepted<S> {
+) -> Accepted<S>
+    requires watched { IsWatched S.is_nonblocking connection.ready connection.stream }
+    ensures watched { IfCame result (λ c. IsWatched S.is_nonblocking c.ready c.stream) }
+{
     match watcher.watch(connection.source()) {
         Ok(()) => {
             met.end();
@@ -151,8 +156,8 @@ fn take_watched<R: Eprint, S: Socket + Drop, W: Watcher>(
     }
 }
 
-/// Accepts the next connection of a listener that was set not to wait, and closes it. Clients that have
-/// disconnected already are skipped.
+/// Accepts the next connection of a listener that was set not to wait, and closes it. Clients that
+/// have disconnected already are skipped.
 pub(super) fn close_next<T: Listen>(listener: &T) -> TurnedAway {
     for _ in 0..PEERS {
         match listener.accept() {

@@ -19,9 +19,9 @@ pub trait Listen {
     ghost is_nonblocking: { Self → Bool };
 
     /// Waits for the next connection, unless it was set not to, and returns the connection with its
-    /// peer's address. An error means that
-    /// this connection could not be accepted, or that the listener is broken and accepts no more
-    /// (`ends_listener`). Only a listener that may break returns an error of the second kind.
+    /// peer's address. An error means that this connection could not be accepted, or that the
+    /// listener is broken and accepts no more (`ends_listener`). Only a listener that may break
+    /// returns an error of the second kind.
     fn accept(&self) -> io::Result<(Self::Stream, SocketAddr)>
         ensures { IfErr result (λ e. ends_listener e ≡ true → may_fail self.now ≡ true) };
 

@@ -1,6 +1,7 @@
 ghost use Rattle.std.specs.Prelude.{◌≡◌, ◌↔◌, [], IfOk, IsNone, IsSome, OnErr, OnOk, Some, false, true};
-ghost use Rattle.bq_line.specs.Doors.{IsLookedFor, IsNoMore, IsNoneFound, IsOpened, MayOpen};
+ghost use Rattle.bq_line.specs.Doors.{IfLine, IsLookedFor, IsNoMore, IsNoneFound, IsOpened, MayOpen};
 ghost use Rattle.bq_line.specs.InAll.{in_all};
+ghost use Rattle.bq_line.specs.Streams.{IsWatched};
 
 use super::accept::{Accepted, accept, accept_now, close_next};
 use super::free_doors::FreeDoors;
@@ -279,6 +280,8 @@ impl<'l, R: Wait + Clock + Eprint, S: Socket + Drop + Send, T: Listen<Stream = S
         ensures over { self.new.over ≡ self.old.over }
         ensures same { (first : _) → ⟦<ListenDoor<'l, R, T> as Door>⟧.same first self.old →
             ⟦<ListenDoor<'l, R, T> as Door>⟧.same first self.new }
+        // No call on the line waits.
+        ensures watched { IfLine result (λ line. IsWatched S.is_nonblocking line.line.stream.ready line.line.stream.stream) }
         // Unless it is recorded that the listener was set not to wait, it is not asked. Only a
         // successful switch records it.
         ensures quiet { self.new.never_waits ≡ false → IsNoneFound result }

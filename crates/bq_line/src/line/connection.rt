@@ -1,7 +1,7 @@
 //! A connection: a line's stream over a socket.
 ghost use Rattle.std.specs.Prelude.{◌≡◌, Bool, IfSome, IsSome, None, OnErr, OnOk, ◌++◌, false, not, true};
 ghost use Rattle.std.specs.Io.KnownBytes.{Keeps};
-ghost use Rattle.bq_line.specs.Streams.{FailsIf, FailsToWriteIf, KeepsWaits, MovesNothing, ReadsFrom, StaysWatched, WritesTo};
+ghost use Rattle.bq_line.specs.Streams.{FailsIf, FailsToWriteIf, IsWatched, KeepsWaits, MovesNothing, ReadsFrom, StaysWatched, WritesTo};
 
 use super::socket::{read_once, write_once, write_slices_once};
 use super::{Duplex, Readiness, Socket, StreamError, in_brief};
@@ -26,10 +26,8 @@ impl<S: Socket> Connection<S> {
     /// Returns a connection over a stream that waits, as accepted streams do, and that gathers
     /// nothing.
     pub fn new(stream: S) -> Connection<S>
-        ensures stream { result.stream ≡ stream }
-        ensures waits { result.waits ≡ true }
-        ensures gathers { result.gathers ≡ false }
-        ensures unwatched { result.ready ≡ None }
+        ensures { result
+            ≡ record { stream = stream; waits = true; gathers = false; ready = None } }
     {
         Connection {
             stream,
@@ -46,8 +44,7 @@ impl<S: Socket> Connection<S> {
     where
         S: Drop,
         // Only a successful switch makes a watched connection.
-        ensures quiet { IfSome result (λ c. S.is_nonblocking true c.stream ≡ true) }
-        ensures watched { IfSome result (λ c. IsSome c.ready) }
+        ensures watched { IfSome result (λ c. IsWatched S.is_nonblocking c.ready c.stream) }
         ensures gathers { IfSome result (λ c. c.gathers ≡ false) }
         ensures bytes { IfSome result (λ c. MovesNothing S.remaining S.contents stream c.stream) }
         ensures same { IfSome result (λ c. S.may_fail c.stream ≡ S.may_fail stream) }
