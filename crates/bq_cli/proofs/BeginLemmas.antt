@@ -1,5 +1,6 @@
 -- How a server begins: a new control line over an input has the bytes that the input has left.
-use Rattle.std.proofs.Common.{◌≡◌, ◌∙◌, ℕ, ◌==◌, Bool, List, [], Option, None, Some, IfSome, Err, ap, refl, subst, if◌then◌else◌}
+use Rattle.std.proofs.Common.{◌≡◌, ◌∙◌, ◌≤◌, ℕ, ◌==◌, Bool, List, [], Option, None, Some, IfOk, IfSome, Result, Ok, Err, ap, refl, subst, sym}
+use Rattle.std.proofs.Common.{if◌then◌else◌}
 use Rattle.std.proofs.KnownBytes.{prepend_known-nil}
 use Rattle.std.specs.Io.Buffered.{reader_buffer, reader_capacity, reader_inner, reader_remaining}
 use Rattle.std.specs.Io.KnownBytes.{prepend_known}
@@ -7,8 +8,9 @@ use Rattle.std.specs.declared.io.buffered.BufReader.{BufReader}
 use Rattle.std.specs.declared.net.tcp.TcpListener.{TcpListener}
 use Rattle.bq_job.specs.machine.Machine.{Machine}
 use Rattle.bq_program.specs.declared.chosen.Options.{Options}
+use Rattle.bq_program.specs.declared.fault.Fault.{Fault}
 use Rattle.bq_program.specs.declared.fault.Fault.TheVariants.{CannotListen}
-use Rattle.bq_cli.specs.Servers.{IsStatusOfServer}
+use Rattle.bq_cli.specs.Servers.{IsStatusFrom, IsStatusOfListening, IsStatusOfServer}
 
 by_parts : (capacity : ℕ) (buffer : List ℕ) (left : Option (List ℕ)) → capacity ≡ 8192 → buffer ≡ []
     → (if capacity == 0 then None else prepend_known buffer left) ≡ left
@@ -27,9 +29,21 @@ pub status_by : {R I K : Type 0} {left : I → Option (List ℕ)} {may_fail : I 
 status_by {R} {I} {K} {left} {may_fail} {machine} {comparisons} {chosen} {same} {listener} {control} {status} e s =
     subst (λ (o : Options). IsStatusOfServer R left may_fail machine comparisons o listener control status) e s
 
--- the promise for a value of an option
-pub of_some : (P : ℕ → Type 0) (came : Option ℕ) (status : ℕ) → came ≡ Some status → IfSome came P → P status
-of_some P came status is h = subst (λ (o : Option ℕ). IfSome o P) is h
+-- The status of a program follows from what came of its server: the status of that, or none.
+pub status_from : {R I K : Type 0} {left : I → Option (List ℕ)} {may_fail : I → Bool} {machine : K → Machine} {comparisons : K → ℕ}
+    {chosen same : Options} {input : Option (List ℕ)} {status : ℕ} (listener : TcpListener) (control : I)
+    (came : Result (Option ℕ) Fault) → chosen ≡ same → left control ≡ input
+    → IfOk came (λ o. IfSome o (λ s. IsStatusOfServer R left may_fail machine comparisons chosen listener control s × (s ≤ 1)))
+    → IsStatusFrom came status → IsStatusOfListening R left may_fail machine comparisons same input status
+status_from {R} {I} {K} {left} {may_fail} {machine} {comparisons} {chosen} {same} {input} {status} listener control (Ok (Some s)) e l h is = (
+  Some (listener, control),
+  (
+    l,
+    subst (λ n. IsStatusOfServer R left may_fail machine comparisons same listener control n) (sym is) (status_by e h.0),
+  ),
+)
+status_from {R} {I} {K} {left} {may_fail} {machine} {comparisons} {chosen} {same} {input} {status} listener control (Ok None) e l h is = (None, is)
+status_from {R} {I} {K} {left} {may_fail} {machine} {comparisons} {chosen} {same} {input} {status} listener control (Err fault) e l h is = (None, is)
 
 -- The program cannot listen, whichever engine was chosen.
 pub cannot_begin : {R I K : Type 0} {left : I → Option (List ℕ)} {may_fail : I → Bool} {machine : K → Machine} {comparisons : K → ℕ}

@@ -151,6 +151,12 @@ abbrev pub IsStatusOfListening : (R : Type 0) {I K : Type 0} → (I → Option (
 IsStatusOfListening R {I} left may_fail machine comparisons options input status =
     (begun : Option (TcpListener × I)) × IsStatusOfBegun R left may_fail machine comparisons options input begun status
 
+-- The status of a server, if there is one, and otherwise 1.
+abbrev pub IsStatusFrom : Result (Option ℕ) Fault → ℕ → Type 0
+IsStatusFrom (Ok (Some came)) status = status ≡ came
+IsStatusFrom (Ok None) status = status ≡ 1
+IsStatusFrom (Err fault) status = status ≡ 1
+
 -- Words with no options are a fault. Otherwise the program listens and serves by their options.
 abbrev pub IsStatusOfWords : (R : Type 0) {I K : Type 0} → (I → Option (List ℕ)) → (I → Bool) → (K → Machine) → (K → ℕ)
     → Option (List ℕ) → Result BqdOptions OptionFault → ℕ → Type 0

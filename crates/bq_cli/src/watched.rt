@@ -1,7 +1,7 @@
 //! A server in a thread that the calling one watches.
 ghost use Rattle.std.specs.Prelude.{◌≡◌, ◌≤◌, IfOk, IfSome};
 ghost use Rattle.bq_program.specs.Chosen.{of_bqd};
-ghost use Rattle.bq_cli.specs.Servers.{IsStatusOfListening, IsStatusOfServer};
+ghost use Rattle.bq_cli.specs.Servers.{IsStatusFrom, IsStatusOfListening, IsStatusOfServer};
 ghost use Rattle.bq_cli.specs.declared.logging.Logging.{Logging};
 
 use crate::listening::{NoListener, listen};
@@ -57,7 +57,15 @@ pub(crate) fn listen_and_serve<
     let Ok(control) = BufReader::new(alloc, input) else {
         return tell_fault(rt, Program::Bqd, form, Fault::NoMemory(Need::ControlLine));
     };
-    match serve_watched(rt, alloc, form, Options::from(options), listener, control) {
+    let came = serve_watched(rt, alloc, form, Options::from(options), listener, control);
+    status_of(rt, form, came)
+}
+
+// Returns the status of a server, or 1 if it did not serve or its last door failed. That it did not serve is reported.
+fn status_of<R: Eprint>(rt: &R, form: LogForm, came: Result<Option<u8>, Fault>) -> u8
+    ensures { IsStatusFrom came result }
+{
+    match came {
         Ok(Some(status)) => status,
         Ok(None) => 1,
         Err(fault) => tell_fault(rt, Program::Bqd, form, fault),
