@@ -345,6 +345,20 @@ module _ {L : Type 0} (gives takes : L → Bool) (seats : List (Attendant L)) (m
       (λ t below looks. inr (subst (λ f. is_on f t ≡ true) (sym same.free) looks))
       k
 
+  -- Seats changed places in the queue.
+  pub known_moved : (l later : Listing) → later.seats ≡ l.seats → later.free ≡ l.free
+      → ((t : ℕ) → times t later.queue ≡ times t l.queue)
+      → AreKnownTo gives takes l None seats mails → AreKnownTo gives takes later None seats mails
+  known_moved l later same free moved k =
+      known_as gives takes l.seats later.seats (is_listed l None) (is_looking l) (is_listed later None) (is_looking later) seats mails
+      same
+      (λ t looks on. k.apart t (subst (λ f. is_on f t ≡ true) free looks)
+      (subst (λ n. (not (n == 0) || false) ≡ true) (moved t) on))
+      (λ t looks. inl (subst (λ f. is_on f t ≡ true) free looks))
+      (λ t below on. inl (subst (λ n. (not (n == 0) || false) ≡ true) (sym (moved t)) on))
+      (λ t below looks. inr (subst (λ f. is_on f t ≡ true) (sym free) looks))
+      k
+
   -- The visited seat goes to the queue.
   pub known_enqueued : (l : Listing) (i : ℕ)
       → AreKnownTo gives takes l (Some i) seats mails → AreKnownTo gives takes (enqueued i l) None seats mails

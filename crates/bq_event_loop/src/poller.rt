@@ -307,46 +307,14 @@ impl<'r, R: rt::Clock> Poller<'r, R> {
         ensures acts { IsListedIn (is_listed self.new.queue (visited_by self.new.stage self.new.visit)) result }
         ensures seats { self.new.queue.seats ≡ self.old.queue.seats }
     {
-        let waited = self.put_last(row, mails);
+        let waited = self.queue.round();
+        self.queue.put_last(waited);
         self.queue.begin_round();
         self.fresh = self.queue.round().saturating_sub(waited);
         self.visited = 0;
         self.pace = Pace::begin(self.reading);
         let part = Part::first(self.fresh);
         self.begin_next(alloc, row, mails, part)
-    }
-
-    // Puts the seats that were in the queue before the last wait at its end, in their order, and
-    // returns how many they are. The row and the mails are passed for the contract alone.
-    fn put_last<L: Line + Drop, D: Door<Line = L>>(
-        &mut self,
-        row: &Row<L, D>,
-        mails: &Vec<Mail, Global>,
-    ) -> usize
-        requires known { AreKnownTo L.may_give L.may_take self.old.queue None row.now.seats.items mails.now.items }
-        ensures known { AreKnownTo L.may_give L.may_take self.new.queue None row.now.seats.items mails.now.items }
-        ensures seats { self.new.queue.seats ≡ self.old.queue.seats }
-    {
-        let waited = self.queue.round();
-        for _ in 0..waited {
-            self.put_first_last(row, mails);
-        }
-        waited
-    }
-
-    // Puts the first seat of the queue at its end.
-    fn put_first_last<L: Line + Drop, D: Door<Line = L>>(
-        &mut self,
-        row: &Row<L, D>,
-        mails: &Vec<Mail, Global>,
-    )
-        requires known { AreKnownTo L.may_give L.may_take self.old.queue None row.now.seats.items mails.now.items }
-        ensures known { AreKnownTo L.may_give L.may_take self.new.queue None row.now.seats.items mails.now.items }
-        ensures seats { self.new.queue.seats ≡ self.old.queue.seats }
-    {
-        if let Some(seat) = self.queue.take_next() {
-            self.queue.enqueue(seat);
-        }
     }
 
     // Returns the next action of the current visit, or begins the next visit.

@@ -1,5 +1,5 @@
 //! Which seats can act, in the order of their visits, and which of them check for a connection.
-ghost use Rattle.std.specs.Prelude.{◌≡◌, ◌<◌, ◌≤◌, ◌+◌, ◌++◌, [], length, true, false, nat_lt, slice_get, slice_index_or, slice_set, vec_capacity, IfOk, IfSome, IsNone, IsTrue, None, ◌↔◌, if◌then◌else◌};
+ghost use Rattle.std.specs.Prelude.{◌≡◌, ◌<◌, ◌≤◌, ◌+◌, ◌++◌, [], take, drop, ℕ, length, true, false, nat_lt, slice_get, slice_index_or, slice_set, vec_capacity, IfOk, IfSome, IsNone, IsTrue, None, ◌↔◌, if◌then◌else◌};
 ghost use Rattle.std.specs.Option.{option_to_list};
 ghost use Rattle.bq_event_loop.specs.Listings.{falling};
 
@@ -146,6 +146,17 @@ impl SeatQueue {
         ensures { IsTrue result ↔ (self.now.free ≡ []) }
     {
         self.free.is_empty()
+    }
+
+    /// Puts this many seats at the front of the queue at its end, in their order. If it has no more
+    /// than these, it stays as it is.
+    pub fn put_last(&mut self, many: usize)
+        ensures queue { self.new ≡ record self.old { queue = drop many self.old.queue ++ take many self.old.queue } }
+        ensures same { (seat : ℕ) → times seat self.new.queue ≡ times seat self.old.queue }
+    {
+        if many < self.queue.len() {
+            self.queue.rotate_left(many);
+        }
     }
 
     /// Begins a part of a round, which visits all seats that are in the queue now.
