@@ -184,6 +184,18 @@ def is_linked(page, link):
     return target.exists() and (not heading or heading in anchors(target))
 
 
+def misplaced():
+    """Returns names in code that the file does not have to which the link leads that they are the text of, or are `in`."""
+    names, found = r"((?:`[\w:]+`(?:, | and )?)+)", []
+    for page in markdown():
+        for shape in [rf"\[{names}\]\(([^)#\s]+)\)", rf"{names} in \[[^\]]*\]\(([^)#\s]+)\)"]:
+            for codes_of, link in re.findall(shape, page.read_text()):
+                file = page.parent / link
+                text = file.read_text() + file.stem if file.is_file() else ""
+                found += [f"{page.relative_to(ROOT)}: {it} is not in {link}" for it in re.findall(r"`([\w:]+)`", codes_of) if it.split("::")[-1] not in text]
+    return found
+
+
 def dead_links_of_the_package():
     """Returns the links that lead nowhere from the pages as the package installs them."""
     with tempfile.TemporaryDirectory(prefix="pages-") as folder:
