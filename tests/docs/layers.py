@@ -42,7 +42,8 @@ def shown_edges():
 def faults_of_list():
     """Returns the crates that the list lacks, has without need, or has before one that they use."""
     listed, uses = re.findall(r"\[(\w+)\]\(\1/src/\w+\.rt\)", LIST.read_text()), crates.listed()
-    found = [f"crates/README.md lists {it} {listed.count(it)} times" for it in [*uses, *set(listed) - set(uses)] if listed.count(it) != (it in uses)]
+    found = [f"crates/README.md lists {it} {listed.count(it)} times"
+             for it in sorted({*uses, *listed}) if listed.count(it) != (it in uses)]
     for name in listed:
         later = [it for it in crates.ours(name, uses) if it in listed and listed.index(it) > listed.index(name)] if name in uses else []
         found += [f"crates/README.md: {name} is before {it}, which it uses" for it in later]

@@ -192,7 +192,8 @@ def misplaced():
             for codes_of, link in re.findall(shape, page.read_text()):
                 file = page.parent / link
                 text = file.read_text() + file.stem if file.is_file() else ""
-                found += [f"{page.relative_to(ROOT)}: {it} is not in {link}" for it in re.findall(r"`([\w:]+)`", codes_of) if it.split("::")[-1] not in text]
+                absent = [it for it in re.findall(r"`([\w:]+)`", codes_of) if it.split("::")[-1] not in text]
+                found += [f"{page.relative_to(ROOT)}: {it} is not in {link}" for it in absent]
     return found
 
 

@@ -35,4 +35,5 @@ def faults():
     found = [(file, lines) for file, lines in quoted() if not any(mark in "".join(lines) for mark in "─│")]
     if not found:
         return ["docs/PROOF.md quotes no code"]
-    return [f"docs/PROOF.md: {file.name} lacks what begins with {lines[0]!r}" for file, lines in found if not is_in(lines, file.read_text())]
+    wrong = [(file, lines) for file, lines in found if not is_in(lines, file.read_text())]
+    return [f"docs/PROOF.md: {file.name} lacks what begins with {lines[0]!r}" for file, lines in wrong]

@@ -79,7 +79,8 @@ def wanted():
         ("docs/PROOF.md", f"| definitions, with those that a reader needs not | {thousands('definitions')} |"),
         ("docs/PROOF.md", f"| proofs, which the kernel checks | {thousands('proofs')} |"),
         ("docs/PROOF.md", f"| tests in Rattle; in Python and C | {thousands('tests')}; {thousands('tools')} |"),
-        ("docs/PROOF.md", f"| planted bugs that the prover has to refuse: in the gate; by hand | {tens(edits + in_gate)}; {tens(by_hand)} |"),
+        ("docs/PROOF.md", "| planted bugs that the prover has to refuse: in the gate; by hand | "
+                          f"{tens(edits + in_gate)}; {tens(by_hand)} |"),
         ("docs/PROOF.md", f"| planted bugs that tests have to find | {tens(for_tests)} |"),
         *(("docs/PROOF.md", it) for it in reach.rows()),
     ]
