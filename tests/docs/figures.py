@@ -25,7 +25,7 @@ FIGURES = {
     "GB of a check": {
         "README.md": r"\| build it[^|]*\|[^|]*\| (\d+) GB for each processor",
         "CONTRIBUTING.md": r"a check takes up to (\d+) GB",
-        ".ci/run": r"up to (\d+) GB each",
+        ".ci/run": r"up to (\d+) GB,",
     },
     "the most seats": {
         "README.md": r"[Aa]t most (\d+) clients at a time",
