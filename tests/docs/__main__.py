@@ -84,6 +84,8 @@ def main():
         held += 1
         faults += names.misplaced()
         held += 1
+        faults += commands.left_to_nobody()
+        held += 1
         faults += reach.faults()
         held += 1
         faults += layers.faults()

@@ -90,6 +90,12 @@ def is_for_a_machine(text):
     return any(function in (installs, services, changes_options) for function, _ in rules_of(text))
 
 
+def left_to_nobody():
+    """Returns the commands that need root and systemd and that tests/container does not have."""
+    text = (ROOT / "tests/container/inside.py").read_text()
+    return [f"{where}: tests/container does not run `{it}`" for it, where in shown().items() if is_for_a_machine(it) and it not in text]
+
+
 class Room:
     """A folder like a clone with built programs, and a folder of programs as the package installs them."""
 
