@@ -695,7 +695,7 @@ module _ {L : Type 0} (gives takes : L → Bool) (many : ℕ) (listed looks : �
           inr (inr (still_or_woken (slice_index_or seats t a) (slice_index_or mails t []) (slice_index_or later t []) (times t new.waiting)
           (wakes.mail t (omega (arith, below, within))) still))
 
--- The turns were told of the first seat that is to be woken.
+-- The first seat that is to be woken was reported to the turns.
 pub known_told : {L : Type 0} (gives takes : L → Bool) (many later_many : ℕ) (listed looks later later_looks : ℕ → Bool) (i : ℕ)
     (woken : List ℕ) (seats : List (Attendant L)) (mails : List (List Answer))
     → later_many ≡ many → (i < many → (looks i ≡ true → ⊥) → later i ≡ true) → KeepsAll listed later

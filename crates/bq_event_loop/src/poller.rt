@@ -386,7 +386,7 @@ impl<'r, R: rt::Clock> Poller<'r, R> {
     }
 
     // Returns how much the next visit of this part may do. If a step of the round took long, each
-    // seat whose step was taken in the part before receives its answer before one of them goes on.
+    // seat whose step was taken in the part before receives its answer before any goes on.
     fn share(&self, part: Part) -> Share {
         let is_first = self.fresh > 1 && self.visited < self.fresh;
         match part {
