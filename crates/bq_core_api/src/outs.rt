@@ -69,6 +69,24 @@ impl Outs {
     pub fn has_inserted(&self) -> bool
         ensures { result ≡ has_inserted self.now.given }
     {
+        // It is nearly always the first.
+        self.is_first_inserted() || self.is_any_inserted()
+    }
+
+    // Returns true if the first answer is that a job was put.
+    fn is_first_inserted(&self) -> bool
+        ensures { result ≡ true → has_inserted self.now.given ≡ true }
+    {
+        match self.answers.front() {
+            Some(given) => is_inserted(&given.1),
+            None => false,
+        }
+    }
+
+    #[inline(never)]
+    fn is_any_inserted(&self) -> bool
+        ensures { result ≡ has_inserted self.now.given }
+    {
         self.answers.iter().any(|given| is_inserted(&given.1))
     }
 
